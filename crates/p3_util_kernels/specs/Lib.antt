@@ -1,0 +1,5 @@
+pub mod Digits
+pub mod Rearranged
+pub mod Reversal
+pub mod Steps
+pub mod Transpose

@@ -1,0 +1,15 @@
+-- One counted step. A counter is a holder and a count, which stays at the largest u128 once it is there.
+use Rattle.std.specs.Prelude.{ℕ, ◌≡◌, ◌+◌, ◌-◌, ◌^◌, ◌≤◌, min}
+
+-- what a contract sees of a counter
+pub record Counted (S : Type 0) : Type 0 where
+  pub holder : S
+  pub count : ℕ
+
+-- the count c after s more steps
+unfoldable pub counted : (c s : ℕ) → ℕ
+counted c s = min (2 ^ 128 - 1) (c + s)
+
+-- the count rose by some number of steps that is at most `most`
+abbrev pub RoseByAtMost : (old new most : ℕ) → Type 0
+RoseByAtMost old new most = (s : ℕ) × (new ≡ counted old s) × (s ≤ most)

@@ -1,0 +1,7 @@
+-- The transpose of a matrix in row-major order. From the documentation of `transpose` of p3-util 0.8.0.
+use Rattle.std.specs.Prelude.{ℕ, ◌≡◌, ◌+◌, ◌*◌, ◌<◌, List, length, slice_get}
+
+-- `old` has `height` rows of `width` items; `new` is its transpose, `width` rows of `height` items
+pub record IsTranspose {A : Type 0} (width height : ℕ) (old new : List A) : Type 0 where
+  pub same_length : length new ≡ width * height
+  pub places : (x y : ℕ) → x < width → y < height → slice_get new (x * height + y) ≡ slice_get old (y * width + x)

@@ -1,0 +1,4 @@
+//! Bit reversal and transposes of large slices, and the counted traits that their kernels are written over.
+#![tactic(auto)]
+
+pub mod places;
