@@ -7,7 +7,7 @@ pub record Counted (S : Type 0) : Type 0 where
   pub count : ℕ
 
 -- the count c after s more steps
-unfoldable pub counted : (c s : ℕ) → ℕ
+abbrev pub counted : (c s : ℕ) → ℕ
 counted c s = min (2 ^ 128 - 1) (c + s)
 
 -- the count rose by some number of steps that is at most `most`
