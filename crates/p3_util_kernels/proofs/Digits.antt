@@ -1,9 +1,9 @@
 -- Laws of binary digits, of sums over places, and of the reversal of digits.
-use Rattle.std.proofs.Common.{◌≡◌, ℕ, zero, suc, ◌+◌, ◌-◌, ◌*◌, ◌/◌, ◌%◌, ◌^◌, ◌<◌, refl, sym, ◌∙◌, ap, arith}
+use Rattle.std.proofs.Common.{◌≡◌, ℕ, zero, suc, ◌+◌, ◌-◌, ◌*◌, ◌/◌, ◌%◌, ◌^◌, ◌<◌, ◌≤◌, refl, sym, ◌∙◌, ap, arith, bit_and, bit_or}
 use Rattle.std.proofs.Math.Nat.{pow-suc, div-one, mod-eq_of_lt}
-use Rattle.std.proofs.lemmas.Nat.{pow_pos, shr_split, shr-shr, mod_below, div-mul-add}
+use Rattle.std.proofs.lemmas.Nat.{pow_pos, shr_split, shr-shr, mod_below, div-mul-add, and_mask, shl_whole, or_shifted}
 use Rattle.std.proofs.lemmas.Nat.Bits.{bit_at-suc, bit_at_cat_low, same_from_bits_below}
-use Rattle.p3_util_kernels.specs.Digits.{bit, sum_below, rev}
+use Rattle.p3_util_kernels.specs.Digits.{bit, sum_below, rev, rev_word}
 
 -- a digit is 0 or 1
 pub bit-lt : (x i : ℕ) → bit x i < 2
@@ -120,3 +120,32 @@ rev-add (suc j) k x =
 -- the reversal of the k low digits is the high end of that of more digits
 pub rev-shr : (j k x : ℕ) → rev (j + k) x / 2 ^ j ≡ rev k x
 rev-shr j k x = rw (rev-add j k x) (div-mul-add (rev k x) (2 ^ j) (rev j (x / 2 ^ k)) (rev-lt j (x / 2 ^ k)))
+
+-- The digits of a word of two halves, reversed: the reversed halves in the other order, put together as code does.
+pub rev-halves : (k x : ℕ) → x < 2 ^ (k + k)
+    → bit_or (rev k (bit_and x (2 ^ k - 1)) * 2 ^ k % 2 ^ (k + k)) (rev k (x / 2 ^ k)) ≡ rev (k + k) x
+rev-halves k x h =
+    let low : rev k (x % 2 ^ k) ≡ rev k x = rev-mod k x in
+    rw (
+      and_mask x k,
+      low,
+      shl_whole (rev k x) k k (k + k) (rev-lt k x) (omega arith),
+      or_shifted (rev k x) k (rev k (x / 2 ^ k)) (rev-lt k (x / 2 ^ k)),
+    )
+    (sym (rev-add k k x))
+
+-- what the whole word and a part of it are, reversed
+pub rev_word-zero : (x : ℕ) → rev_word 0 x ≡ rev 64 x
+unfolding rev_word
+rev_word-zero x = refl
+
+pub rev_word-above : (k x : ℕ) → 0 < k → rev_word k x ≡ rev k x
+unfolding rev_word
+rev_word-above zero x h = absurd (omega arith)
+rev_word-above (suc k) x h = refl
+
+-- the k low digits reversed are the high end of the reversed word
+pub rev-word-shr : (k x : ℕ) → k ≤ 64 → rev 64 x / 2 ^ (64 - k) ≡ rev k x
+rev-word-shr k x h =
+    let e : (64 - k) + k ≡ 64 = omega arith in
+    sym (ap (λ w. rev w x / 2 ^ (64 - k)) e) ∙ rev-shr (64 - k) k x
