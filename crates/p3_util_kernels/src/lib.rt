@@ -3,3 +3,4 @@
 
 pub mod bits;
 pub mod places;
+pub mod reverse;
