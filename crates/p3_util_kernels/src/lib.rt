@@ -3,3 +3,5 @@
 
 pub mod bits;
 pub mod places;
+pub mod reverse;
+pub mod transpose;
