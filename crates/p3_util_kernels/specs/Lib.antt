@@ -1,4 +1,5 @@
 pub mod Digits
+pub mod Names
 pub mod Powers
 pub mod Rearranged
 pub mod Reversal

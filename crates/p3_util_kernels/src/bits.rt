@@ -1,9 +1,12 @@
 //! Arithmetic on single words: logarithms, powers and the reversal of binary digits; and the short names of types.
 
-ghost use Rattle.std.specs.Prelude.{◌≡◌, ℕ, ◌+◌, ◌*◌, ◌^◌, ◌<◌, ◌≤◌, ◌%◌, ◌↔◌, IsTrue, SomeIff, length, slice_index};
+ghost use Rattle.std.specs.Prelude.{◌≡◌, ℕ, ◌+◌, ◌*◌, ◌^◌, ◌<◌, ◌≤◌, ◌%◌, ◌↔◌, IsTrue, SomeIff, IfSome, IfOk, length, slice_index, position, string_bytes};
 ghost use Rattle.std.specs.Int.{IsPowerOfTwo};
 ghost use Rattle.p3_util_kernels.specs.Powers.{IsPowerOfThree};
 ghost use Rattle.p3_util_kernels.specs.Digits.{rev, rev_word};
+ghost use Rattle.p3_util_kernels.specs.Names.{is_mark, last_part, short_name};
+
+use std::alloc::{AllocError, Global};
 
 /// Each byte with its binary digits in reversed order.
 static REVERSED_BYTES: [u8; 256] = [
@@ -187,6 +190,46 @@ pub fn branch_hint() {}
 
 /// Does nothing. A call shows that `T` is `Clone`.
 pub fn assert_clone<T: Clone>() {}
+
+/// The short name of a type: `name` without the paths before its parts. The name is cut after each `<`, `>` and `,`, and of
+/// each piece what follows its last `::` is kept, where `::` is looked for from left to right.
+///
+/// # Errors
+///
+/// `AllocError` where there is no room for as many bytes as `name` has. Nothing else is asked for.
+pub fn pretty_name(alloc: Global, name: &str) -> Result<String, AllocError>
+    ensures { IfOk result (λ s. string_bytes s ≡ short_name name.now) }
+{
+    let mut short = String::with_capacity(alloc, name.len())?;
+    let mut rest = name;
+    while let Some(end) = first_mark(rest) {
+        let (piece, after) = rest.split_at(end + 1);
+        short.push_str(last_part(piece))?;
+        rest = after;
+    }
+    short.push_str(last_part(rest))?;
+    Ok(short)
+}
+
+// The place of the first `<`, `>` or `,`.
+fn first_mark(name: &str) -> Option<usize>
+    ensures place { result ≡ position is_mark name.now }
+    ensures fits { IfSome result (λ i. i + 1 < 2 ^ 64) }
+{
+    name.bytes()
+        .position(|b| b == b'<' || b == b'>' || b == b',')
+}
+
+// What follows the last `::`, or all of the text.
+fn last_part(text: &str) -> &str
+    ensures { result.now ≡ last_part text.now }
+{
+    let mut part = text;
+    while let Some((_, after)) = part.split_once("::") {
+        part = after;
+    }
+    part
+}
 
 /// Reverses as many low digits of `x` as `n`, a power of two, has below its set digit: `reverse_bits_len(x, log2 n)`.
 pub fn reverse_bits(x: usize, n: usize) -> usize
