@@ -1,23 +1,11 @@
 -- Bit reversal as a rearrangement.
-use Rattle.std.proofs.Common.{◌≡◌, ℕ, ◌+◌, ◌*◌, ◌^◌, ◌<◌, ◌≤◌, List, length, slice_get, inl, inr, zero, suc, refl, sym, ap, ◌∙◌, arith}
-use Rattle.std.proofs.lemmas.Bool.{cases_order}
-use Rattle.std.proofs.lemmas.Nat.{pow_below, pow_pos}
+use Rattle.std.proofs.Common.{◌≡◌, ℕ, ◌^◌, ◌<◌, ◌≤◌, List, length, slice_get, zero, suc, refl, sym, ap, ◌∙◌, arith}
 use Rattle.p3_util_kernels.specs.Digits.{rev, rev_word}
 use Rattle.p3_util_kernels.specs.Rearranged.{IsRearranged}
 use Rattle.p3_util_kernels.specs.Reversal.{IsReversal}
 use Rattle.p3_util_kernels.proofs.Digits.{rev-lt, rev-rev-below}
 use Rattle.p3_util_kernels.proofs.Halfway.{IsInvolution}
-
--- a power of two has one exponent
-pub exponent_unique : (j k : ℕ) → 2 ^ j ≡ 2 ^ k → j ≡ k
-exponent_unique j k e =
-    elim (cases_order j k) [
-      | inl same ↦ same
-      | inr apart ↦ elim apart [
-        | inl less ↦ absurd (omega (arith, pow_below j k less))
-        | inr more ↦ absurd (omega (arith, pow_below k j more))
-      ]
-    ]
+use Rattle.p3_util_kernels.proofs.Powers.{exponent-same}
 
 -- for at least one digit the word is not reversed whole
 pub rev_word-positive : (k x : ℕ) → 1 ≤ k → rev_word k x ≡ rev k x
@@ -41,7 +29,7 @@ pub IsReversal-from_rearranged : {A : Type 0} (k : ℕ) (old new : List A) → l
 IsReversal-from_rearranged k old new e at = record {
   same_length = at.same_length;
   places = λ j i ej h.
-      let same : j ≡ k = exponent_unique j k (sym ej ∙ e) in
+      let same : j ≡ k = exponent-same j k (sym ej ∙ e) in
       at.places i (omega arith) ∙ ap (λ b. slice_get old (rev b i)) (sym same);
 }
 

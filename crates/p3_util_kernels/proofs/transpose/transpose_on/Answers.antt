@@ -1,4 +1,4 @@
-use Rattle.std.proofs.Common.{◌≡◌, ℕ, ◌+◌, ◌*◌, ◌<◌, ◌^◌, length, sym, zero-mul, arith}
+use Rattle.std.proofs.Common.{◌≡◌, ◌+◌, ◌*◌, sym, zero-mul, arith}
 use Rattle.p3_util_kernels.proofs.Filled.{IsFilled-start, IsTranspose-from_filled}
 use Rattle.p3_util_kernels.proofs.Steps.{counted-zero, counted-lt, counted-more}
 use Rattle.p3_util_kernels.proofs.transpose.transpose_on.Goals as goal

@@ -1,0 +1,9 @@
+//! Worked examples and outside vectors for the crates of this workspace, as tests.
+#![tactic(auto)]
+
+#[cfg(test)]
+mod oracle;
+#[cfg(test)]
+mod reverse;
+#[cfg(test)]
+mod transpose;
