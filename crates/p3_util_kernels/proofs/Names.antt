@@ -192,3 +192,20 @@ pub cut_after_mark : (t : List ℕ) (i : ℕ) → IsUtf8 t → Some i ≡ positi
 cut_after_mark t i text e =
     let (less, here, before) = position-Some is_mark t i 0 (sym e) in
     (less, IsCharBoundary-after_ascii t i text less (mark_ascii (get_or t i 0) here))
+
+-- the last part is no longer than the text
+within_le_by : (n : ℕ) (t : List ℕ) (o : Option (List ℕ)) → after_colons t ≡ o
+    → ((rest : List ℕ) → length (last_within n rest) ≤ length rest)
+    → length (last_within (suc n) t) ≤ length t
+within_le_by n t None e rests = rw (within_next n t None e) (omega arith)
+within_le_by n t (Some rest) e rests =
+    rw (within_next n t (Some rest) e) (let less = shorter t rest e in omega (arith, rests rest))
+
+within_le : (n : ℕ) (t : List ℕ) → length (last_within n t) ≤ length t
+unfolding last_within
+within_le zero t = omega arith
+within_le (suc n) t = within_le_by n t (after_colons t) refl (within_le n)
+
+pub length-last_part : (t : List ℕ) → length (last_part t) ≤ length t
+unfolding last_part
+length-last_part t = within_le (length t) t

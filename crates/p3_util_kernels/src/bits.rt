@@ -1,6 +1,6 @@
 //! Arithmetic on single words: logarithms, powers and the reversal of binary digits; and the short names of types.
 
-ghost use Rattle.std.specs.Prelude.{◌≡◌, ℕ, ◌+◌, ◌*◌, ◌^◌, ◌<◌, ◌≤◌, ◌%◌, ◌↔◌, IsTrue, SomeIff, IfSome, IfOk, length, slice_index, position, string_bytes};
+ghost use Rattle.std.specs.Prelude.{◌≡◌, ℕ, ◌+◌, ◌*◌, ◌^◌, ◌<◌, ◌≤◌, ◌%◌, ◌↔◌, IsTrue, SomeIff, IfSome, IfOk, OnErr, length, slice_index, position, string_bytes};
 ghost use Rattle.std.specs.Int.{IsPowerOfTwo};
 ghost use Rattle.p3_util_kernels.specs.Powers.{IsPowerOfThree};
 ghost use Rattle.p3_util_kernels.specs.Digits.{rev, rev_word};
@@ -136,7 +136,8 @@ pub fn log2_strict_usize(n: usize) -> usize
     ensures power { n ≡ 2 ^ result }
     ensures bound { result < 64 }
 {
-    n.ilog2() as usize
+    let exponent = n.ilog2();
+    exponent as usize
 }
 
 /// The logarithm to base 3 of a power of three. [`is_power_of_three`] tells whether `n` is one.
@@ -145,7 +146,8 @@ pub fn log3_strict_usize(n: usize) -> usize
     ensures power { n ≡ 3 ^ result }
     ensures bound { result < 41 }
 {
-    exponent_of_three(n.ilog2() as usize)
+    let top = n.ilog2();
+    exponent_of_three(top as usize)
 }
 
 /// Whether some `e` has `n = 3^e`.
@@ -196,9 +198,11 @@ pub fn assert_clone<T: Clone>() {}
 ///
 /// # Errors
 ///
-/// `AllocError` where there is no room for as many bytes as `name` has. Nothing else is asked for.
+/// `AllocError` where there is no room for as many bytes as `name` has, which is all that is asked for. An empty name is
+/// never refused.
 pub fn pretty_name(alloc: Global, name: &str) -> Result<String, AllocError>
-    ensures { IfOk result (λ s. string_bytes s ≡ short_name name.now) }
+    ensures short { IfOk result (λ s. string_bytes s ≡ short_name name.now) }
+    ensures refused { OnErr result (0 < length name.now) }
 {
     let mut short = String::with_capacity(alloc, name.len())?;
     let mut rest = name;
