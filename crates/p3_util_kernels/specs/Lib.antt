@@ -1,4 +1,6 @@
 pub mod Digits
+pub mod Names
+pub mod Powers
 pub mod Rearranged
 pub mod Reversal
 pub mod Steps
