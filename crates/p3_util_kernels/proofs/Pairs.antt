@@ -1,5 +1,5 @@
 -- How many pairs of places blocks and squares exchange.
-use Rattle.std.proofs.Common.{◌≡◌, ℕ, zero, suc, ◌+◌, ◌-◌, ◌*◌, ◌/◌, ◌≤◌, arith, refl}
+use Rattle.std.proofs.Common.{◌≡◌, ℕ, zero, suc, ◌+◌, ◌-◌, ◌*◌, ◌/◌, arith}
 
 mul-pred : (n : ℕ) → n * (n - 1) + n ≡ n * n
 mul-pred zero = omega arith

@@ -1,7 +1,7 @@
-//! The transpose of a square of items in place, by halves.
+//! The transpose of a square of items in place.
 //!
-//! Row `a` and column `b` of the square is the place `base + a * stride + b` of the list, so a row begins `stride` places
-//! after the row before. Each exchange is of two places that the diagonal mirrors, and each such pair comes up once.
+//! Row `a` and column `b` of the square stand at place `base + a * stride + b` of the list. Each exchange is of two places
+//! that mirror one another across the diagonal, and each such pair is exchanged once.
 
 ghost use Rattle.std.specs.Prelude.{◌≡◌, ℕ, ◌+◌, ◌-◌, ◌*◌, ◌/◌, ◌^◌, ◌<◌, ◌≤◌, length};
 ghost use Rattle.p3_util_kernels.specs.Diagonal.{SwapsAcross};
@@ -10,26 +10,27 @@ ghost use Rattle.p3_util_kernels.specs.Steps.{counted};
 
 use crate::places::{Places, Swaps};
 
-/// Transposes in place the square of `2^log_size` rows and columns whose first place is `base` and whose rows begin
-/// `2^log_stride` places apart. All other places stay.
+/// Transposes in place the square of `s = 2^log_size` rows and columns whose first place is `base` and whose rows begin
+/// `2^log_stride` places apart, by `s * (s - 1) / 2` exchanges. All other places stay.
 pub fn transpose_square_on<S: Places>(
     m: &mut Swaps<S>,
     base: usize,
     log_stride: usize,
     log_size: usize,
 )
-    requires size { log_size ≤ log_stride }
-    requires stride { log_stride < 64 }
-    requires room { let s = 2 ^ log_size in base + (s - 1) * 2 ^ log_stride + s - 1 < length (S.items m.old.holder) }
+    requires rows_apart { log_size ≤ log_stride }
+    requires stride_fits { log_stride < 64 }
+    requires room { let s = 2 ^ log_size in base + (s - 1) * 2 ^ log_stride + (s - 1) < length (S.items m.old.holder) }
     ensures transposed { IsSquareTransposed base log_stride log_size (S.items m.old.holder) (S.items m.new.holder) }
     ensures count { let s = 2 ^ log_size in m.new.count ≡ counted m.old.count (s * (s - 1) / 2) }
     ensures holder { S.same_holder m.old.holder m.new.holder }
 {
-    let _length = m.len();
+    // Tells that the length is a usize and the count a u128.
+    let _ = m.len();
     transpose_part(m, base, 1 << log_stride, 0, 1 << log_size);
 }
 
-// Transposes the square of `size` rows and columns from row and column `start` on.
+// Transposes the `size` rows and columns from row and column `start` on, by quadrants while there are more than 8.
 fn transpose_part<S: Places>(
     m: &mut Swaps<S>,
     base: usize,
@@ -55,7 +56,7 @@ fn transpose_part<S: Places>(
     }
 }
 
-// The same, line by line.
+// Transposes the `size` rows and columns from row and column `start` on, line by line.
 fn transpose_small<S: Places>(
     m: &mut Swaps<S>,
     base: usize,
@@ -76,8 +77,8 @@ fn transpose_small<S: Places>(
     }
 }
 
-// Exchanges the block of `rows` from `row` on and `cols` from `col` on, which lies above the diagonal, with its mirror
-// image below.
+// Exchanges a block above the diagonal, `rows` rows from `row` on and `cols` columns from `col` on, with its mirror image
+// below. Its longer side is halved while it has 64 items or more.
 fn swap_block<S: Places>(
     m: &mut Swaps<S>,
     base: usize,
@@ -109,7 +110,7 @@ fn swap_block<S: Places>(
     }
 }
 
-// The same, line by line.
+// Exchanges a block above the diagonal with its mirror image below, line by line.
 fn swap_small_block<S: Places>(
     m: &mut Swaps<S>,
     base: usize,
@@ -133,7 +134,7 @@ fn swap_small_block<S: Places>(
     }
 }
 
-// Exchanges `len` items of the row `line`, from column `start` on, with those of the column `line`.
+// Exchanges the `len` items of row `line` from column `start` on with those of column `line` from row `start` on.
 fn swap_line<S: Places>(
     m: &mut Swaps<S>,
     base: usize,

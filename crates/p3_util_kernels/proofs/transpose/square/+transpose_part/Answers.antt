@@ -1,4 +1,4 @@
-use Rattle.std.proofs.Common.{◌≡◌, ◌+◌, ◌-◌, ◌*◌, ◌/◌, ◌<◌, arith}
+use Rattle.std.proofs.Common.{◌≡◌, ◌+◌, ◌-◌, ◌/◌, arith}
 use Rattle.p3_util_kernels.proofs.Diagonal.{SwapsAcross-quadrants}
 use Rattle.p3_util_kernels.proofs.Pairs.{pairs-add}
 use Rattle.p3_util_kernels.proofs.transpose.square.+transpose_part.Goals as goal
@@ -7,7 +7,10 @@ pub returns-else-size-le8-clause-swapped : goal.returns-else-size-le8-clause-swa
 returns-else-size-le8-clause-swapped g t c =
     let half = c.args.size / 2 in
     let end : c.args.start + half + (c.args.size - half) ≡ c.args.start + c.args.size = omega arith in
-    SwapsAcross-quadrants c.args.base c.args.stride c.args.start (c.args.start + half) (c.args.start + c.args.size) _ _ _ _ (omega arith) (omega arith)
+    SwapsAcross-quadrants c.args.base c.args.stride c.args.start (c.args.start + half) (c.args.start + c.args.size)
+    (g.S.Places.items c.args.m.now.holder) (g.S.Places.items c.transpose_part.new.m.holder)
+    (g.S.Places.items c.swap_block.new.m.holder) (g.S.Places.items c.transpose_part-else-size-le8.new.m.holder)
+    (omega arith) (omega arith)
     c.transpose_part.ensures.swapped
     (rw end at c.swap_block.ensures.swapped)
     (rw end at c.transpose_part-else-size-le8.ensures.swapped)

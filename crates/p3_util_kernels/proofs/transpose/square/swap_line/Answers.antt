@@ -1,8 +1,6 @@
-use Rattle.std.proofs.Common.{◌≡◌, ◌+◌, ◌*◌, ◌<◌, length, refl, ap, ◌∙◌, arith}
-use Rattle.std.specs.List.{swap}
+use Rattle.std.proofs.Common.{◌≡◌, ◌+◌, ◌*◌, ◌<◌, length, arith}
 use Rattle.p3_util_kernels.specs.Diagonal.{SwapsAcross}
 use Rattle.p3_util_kernels.proofs.Diagonal.{SwapsAcross-none, SwapsAcross-swap, SwapsAcross-rows}
-use Rattle.p3_util_kernels.proofs.Steps.{counted-zero, counted-counted}
 use Rattle.p3_util_kernels.proofs.transpose.square.swap_line.Goals as goal
 
 pub loop-i-init : goal.loop-i-init

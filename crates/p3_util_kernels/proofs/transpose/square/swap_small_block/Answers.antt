@@ -1,4 +1,4 @@
-use Rattle.std.proofs.Common.{◌≡◌, ◌+◌, ◌-◌, ◌*◌, ◌<◌, arith}
+use Rattle.std.proofs.Common.{◌≡◌, ◌+◌, ◌-◌, arith}
 use Rattle.p3_util_kernels.proofs.Diagonal.{SwapsAcross-cols}
 use Rattle.p3_util_kernels.proofs.transpose.square.swap_small_block.Goals as goal
 

@@ -1,4 +1,4 @@
-use Rattle.std.proofs.Common.{◌≡◌, ◌+◌, ◌-◌, ◌*◌, ◌/◌, ◌<◌, arith}
+use Rattle.std.proofs.Common.{◌≡◌, ◌+◌, ◌-◌, arith}
 use Rattle.p3_util_kernels.proofs.Diagonal.{SwapsAcross-line}
 use Rattle.p3_util_kernels.proofs.Pairs.{pairs-add}
 use Rattle.p3_util_kernels.proofs.transpose.square.transpose_small.Goals as goal

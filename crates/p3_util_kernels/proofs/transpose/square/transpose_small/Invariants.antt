@@ -1,4 +1,4 @@
-use Rattle.std.proofs.Common.{◌≡◌, ◌+◌, ◌-◌, ◌*◌, ◌/◌}
+use Rattle.std.proofs.Common.{◌≡◌, ◌-◌, ◌*◌, ◌/◌}
 use Rattle.p3_util_kernels.specs.Diagonal.{SwapsAcross}
 use Rattle.p3_util_kernels.specs.Steps.{counted}
 use Rattle.p3_util_kernels.proofs.transpose.square.transpose_small.Given as goal
