@@ -1,7 +1,13 @@
-//! Worked examples and outside vectors for the crates of this repository. It holds tests alone.
+//! Worked examples and outside vectors for the crates of this workspace, as tests.
 #![tactic(auto)]
 
 #[cfg(test)]
 mod noted;
 #[cfg(test)]
+mod oracle;
+#[cfg(test)]
+mod reverse;
+#[cfg(test)]
 mod square;
+#[cfg(test)]
+mod transpose;

@@ -10,6 +10,12 @@ ghost use Rattle.p3_util_kernels.specs.Steps.{counted};
 
 use crate::places::{Places, Swaps};
 
+/// The greatest side of a square that is transposed line by line.
+const SMALL_SIDE: usize = 8;
+
+/// The number of items from which on a block is halved.
+const LARGE_BLOCK: usize = 64;
+
 /// Transposes in place the square of `s = 2^log_size` rows and columns whose first place is `base` and whose rows begin
 /// `2^log_stride` places apart, by `s * (s - 1) / 2` exchanges. All other places stay.
 pub fn transpose_square_on<S: Places>(
@@ -20,7 +26,8 @@ pub fn transpose_square_on<S: Places>(
 )
     requires rows_apart { log_size ≤ log_stride }
     requires stride_fits { log_stride < 64 }
-    requires room { let s = 2 ^ log_size in base + (s - 1) * 2 ^ log_stride + (s - 1) < length (S.items m.old.holder) }
+    requires room { let s = 2 ^ log_size in
+        base + (s - 1) * 2 ^ log_stride + (s - 1) < length (S.items m.old.holder) }
     ensures transposed { IsSquareTransposed base log_stride log_size (S.items m.old.holder) (S.items m.new.holder) }
     ensures count { let s = 2 ^ log_size in m.new.count ≡ counted m.old.count (s * (s - 1) / 2) }
     ensures holder { S.same_holder m.old.holder m.new.holder }
@@ -30,7 +37,7 @@ pub fn transpose_square_on<S: Places>(
     transpose_part(m, base, 1 << log_stride, 0, 1 << log_size);
 }
 
-// Transposes the `size` rows and columns from row and column `start` on, by quadrants while there are more than 8.
+/// Transposes the `size` rows and columns from row and column `start` on, by quadrants where there are many.
 fn transpose_part<S: Places>(
     m: &mut Swaps<S>,
     base: usize,
@@ -42,11 +49,12 @@ fn transpose_part<S: Places>(
     requires room { base + (start + size - 1) * stride + (start + size - 1) < length (S.items m.old.holder) }
     requires length_fits { length (S.items m.old.holder) < 2 ^ 64 }
     requires count_fits { m.old.count < 2 ^ 128 }
-    ensures swapped { SwapsAcross base stride start (start + size) start (start + size) (S.items m.old.holder) (S.items m.new.holder) }
+    ensures swapped { SwapsAcross base stride start (start + size) start (start + size)
+        (S.items m.old.holder) (S.items m.new.holder) }
     ensures count { m.new.count ≡ counted m.old.count (size * (size - 1) / 2) }
     ensures holder { S.same_holder m.old.holder m.new.holder }
 {
-    if size <= 8 {
+    if size <= SMALL_SIDE {
         transpose_small(m, base, stride, start, size);
     } else {
         let half = size / 2;
@@ -56,7 +64,7 @@ fn transpose_part<S: Places>(
     }
 }
 
-// Transposes the `size` rows and columns from row and column `start` on, line by line.
+/// Transposes the `size` rows and columns from row and column `start` on, line by line.
 fn transpose_small<S: Places>(
     m: &mut Swaps<S>,
     base: usize,
@@ -68,7 +76,8 @@ fn transpose_small<S: Places>(
     requires room { base + (start + size - 1) * stride + (start + size - 1) < length (S.items m.old.holder) }
     requires length_fits { length (S.items m.old.holder) < 2 ^ 64 }
     requires count_fits { m.old.count < 2 ^ 128 }
-    ensures swapped { SwapsAcross base stride start (start + size) start (start + size) (S.items m.old.holder) (S.items m.new.holder) }
+    ensures swapped { SwapsAcross base stride start (start + size) start (start + size)
+        (S.items m.old.holder) (S.items m.new.holder) }
     ensures count { m.new.count ≡ counted m.old.count (size * (size - 1) / 2) }
     ensures holder { S.same_holder m.old.holder m.new.holder }
 {
@@ -77,8 +86,8 @@ fn transpose_small<S: Places>(
     }
 }
 
-// Exchanges a block above the diagonal, `rows` rows from `row` on and `cols` columns from `col` on, with its mirror image
-// below. Its longer side is halved while it has 64 items or more.
+/// Exchanges a block above the diagonal, `rows` rows from `row` on and `cols` columns from `col` on, with its mirror image
+/// below. The longer side of a large block is halved.
 fn swap_block<S: Places>(
     m: &mut Swaps<S>,
     base: usize,
@@ -93,11 +102,12 @@ fn swap_block<S: Places>(
     requires room { base + (col + cols - 1) * stride + (col + cols - 1) < length (S.items m.old.holder) }
     requires length_fits { length (S.items m.old.holder) < 2 ^ 64 }
     requires count_fits { m.old.count < 2 ^ 128 }
-    ensures swapped { SwapsAcross base stride row (row + rows) col (col + cols) (S.items m.old.holder) (S.items m.new.holder) }
+    ensures swapped { SwapsAcross base stride row (row + rows) col (col + cols)
+        (S.items m.old.holder) (S.items m.new.holder) }
     ensures count { m.new.count ≡ counted m.old.count (rows * cols) }
     ensures holder { S.same_holder m.old.holder m.new.holder }
 {
-    if rows * cols < 64 {
+    if rows * cols < LARGE_BLOCK {
         swap_small_block(m, base, stride, row, rows, col, cols);
     } else if rows > cols {
         let half = rows / 2;
@@ -110,7 +120,8 @@ fn swap_block<S: Places>(
     }
 }
 
-// Exchanges a block above the diagonal with its mirror image below, line by line.
+/// Exchanges a block above the diagonal, `rows` rows from `row` on and `cols` columns from `col` on, with its mirror image
+/// below, line by line.
 fn swap_small_block<S: Places>(
     m: &mut Swaps<S>,
     base: usize,
@@ -125,7 +136,8 @@ fn swap_small_block<S: Places>(
     requires room { base + (col + cols - 1) * stride + (col + cols - 1) < length (S.items m.old.holder) }
     requires length_fits { length (S.items m.old.holder) < 2 ^ 64 }
     requires count_fits { m.old.count < 2 ^ 128 }
-    ensures swapped { SwapsAcross base stride row (row + rows) col (col + cols) (S.items m.old.holder) (S.items m.new.holder) }
+    ensures swapped { SwapsAcross base stride row (row + rows) col (col + cols)
+        (S.items m.old.holder) (S.items m.new.holder) }
     ensures count { m.new.count ≡ counted m.old.count (rows * cols) }
     ensures holder { S.same_holder m.old.holder m.new.holder }
 {
@@ -134,7 +146,7 @@ fn swap_small_block<S: Places>(
     }
 }
 
-// Exchanges the `len` items of row `line` from column `start` on with those of column `line` from row `start` on.
+/// Exchanges the `len` items of row `line` from column `start` on with those of column `line` from row `start` on.
 fn swap_line<S: Places>(
     m: &mut Swaps<S>,
     base: usize,
@@ -148,7 +160,8 @@ fn swap_line<S: Places>(
     requires room { base + line * stride + line < length (S.items m.old.holder) }
     requires length_fits { length (S.items m.old.holder) < 2 ^ 64 }
     requires count_fits { m.old.count < 2 ^ 128 }
-    ensures swapped { SwapsAcross base stride start (start + len) line (line + 1) (S.items m.old.holder) (S.items m.new.holder) }
+    ensures swapped { SwapsAcross base stride start (start + len) line (line + 1)
+        (S.items m.old.holder) (S.items m.new.holder) }
     ensures count { m.new.count ≡ counted m.old.count len }
     ensures holder { S.same_holder m.old.holder m.new.holder }
 {
