@@ -2,8 +2,12 @@
 #![tactic(auto)]
 
 #[cfg(test)]
+mod noted;
+#[cfg(test)]
 mod oracle;
 #[cfg(test)]
 mod reverse;
+#[cfg(test)]
+mod square;
 #[cfg(test)]
 mod transpose;
