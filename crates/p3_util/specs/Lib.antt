@@ -1,0 +1,2 @@
+pub mod JsonArray
+pub mod JsonElements
