@@ -1,0 +1,5 @@
+//! Worked examples and test vectors of `p3_util`.
+#![tactic(auto)]
+
+#[cfg(test)]
+mod array_serialization;
