@@ -7,7 +7,7 @@ ghost use Rattle.p3_util.specs.declared.array_serialization.ArrayError.{ArrayErr
 ghost use Rattle.p3_util.specs.JsonArray.{Refusal, IsElementAnswer, IsArrayAnswer, IsSameOrMemory};
 ghost use Rattle.p3_util.specs.JsonElements.{whole_number, u32_reading, u64_reading, i64_reading, bool_reading};
 
-use serde_json::Value;
+use serde_json::{Number, Value};
 use std::alloc::{AllocError, Global};
 
 /// Why one item of a list is not read as an element.
@@ -139,7 +139,7 @@ impl ArrayElement for u32 {
     ghost wants_memory = { false };
 
     fn to_value(&self, _alloc: Global) -> Result<Value, AllocError> {
-        Ok(Value::from(*self))
+        Ok(Value::from(u64::from(*self)))
     }
 
     fn from_value(_alloc: Global, v: &Value) -> Result<u32, ElementError> {
@@ -171,7 +171,7 @@ impl ArrayElement for i64 {
     ghost wants_memory = { false };
 
     fn to_value(&self, _alloc: Global) -> Result<Value, AllocError> {
-        Ok(Value::from(*self))
+        Ok(Value::Number(Number::from(*self)))
     }
 
     fn from_value(_alloc: Global, v: &Value) -> Result<i64, ElementError> {
@@ -187,7 +187,7 @@ impl ArrayElement for bool {
     ghost wants_memory = { false };
 
     fn to_value(&self, _alloc: Global) -> Result<Value, AllocError> {
-        Ok(Value::from(*self))
+        Ok(Value::Bool(*self))
     }
 
     fn from_value(_alloc: Global, v: &Value) -> Result<bool, ElementError> {
