@@ -22,7 +22,7 @@ pub slice_get-view : (vs : List Value) (i : ℕ) (v : Value) → i < length vs �
 slice_get-view vs i v within here = rw (slice_get-map view vs i, slice_get_read vs (length vs) i v refl within here)
 
 -- lists of `Ok` agree only where their elements do
-same_elements : {T : Type 0} (xs ys : List T) → map {B = Result T Refusal} Ok xs ≡ map Ok ys → xs ≡ ys
+pub same_elements : {T : Type 0} (xs ys : List T) → map {B = Result T Refusal} Ok xs ≡ map Ok ys → xs ≡ ys
 same_elements [] [] e = refl
 same_elements [] (y ∷ ys) e = cc
 same_elements (x ∷ xs) [] e = cc
@@ -46,7 +46,7 @@ module _ {T : Type 0} (reading : Data → Result T Refusal) where
   AreReadAs-whole ds xs i all_items all_places h = let items = take_all i ds all_items in let places = take_all i xs all_places in cc
 
   -- an item that is among those that are read
-  read_at : (ds : List Data) (xs : List T) (i : ℕ) (d : Data) → AreReadAs reading ds xs → slice_get ds i ≡ Some d → (x : T) × (reading d ≡ Ok x)
+  pub read_at : (ds : List Data) (xs : List T) (i : ℕ) (d : Data) → AreReadAs reading ds xs → slice_get ds i ≡ Some d → (x : T) × (reading d ≡ Ok x)
   read_at [] xs i d all here = absurd cc
   read_at (e ∷ ds) [] i d all here = absurd cc
   read_at (e ∷ ds) (x ∷ xs) zero d all here = (x, cc)

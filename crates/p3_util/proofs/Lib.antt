@@ -1,1 +1,2 @@
 pub mod JsonLists
+pub mod OneAnswer

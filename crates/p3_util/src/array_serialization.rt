@@ -103,7 +103,11 @@ pub fn deserialize<T: ArrayElement + Drop, const N: usize>(
     alloc: Global,
     v: &Value,
 ) -> Result<[T; N], ArrayError>
-    ensures { IsArrayAnswer T.reading T.wants_memory N (view v.now) result }
+    ensures answer { IsArrayAnswer T.reading T.wants_memory N (view v.now) result }
+
+    // Where the element's type never wants memory, no other answer may be given.
+    ensures only { ¬ IsTrue T.wants_memory → (r : Result (List T) ArrayError)
+        → IsArrayAnswer T.reading T.wants_memory N (view v.now) r → r ≡ result }
 {
     let Some(list) = v.as_array() else {
         return Err(ArrayError::NotArray);
