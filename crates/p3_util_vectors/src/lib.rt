@@ -2,6 +2,8 @@
 #![tactic(auto)]
 
 #[cfg(test)]
+mod array_serialization;
+#[cfg(test)]
 mod noted;
 #[cfg(test)]
 mod oracle;
