@@ -5,6 +5,7 @@
 mod array_serialization;
 #[cfg(test)]
 mod noted;
+mod bits;
 #[cfg(test)]
 mod oracle;
 #[cfg(test)]
