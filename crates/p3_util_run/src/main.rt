@@ -3,6 +3,9 @@
 //! The array is read from standard input and its rearrangement is written to standard output, with a line feed.
 #![tactic(auto)]
 
+pub mod arrays;
+pub mod fault;
 pub mod watched;
+pub mod words;
 
 fn main() {}
