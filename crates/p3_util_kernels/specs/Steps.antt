@@ -7,9 +7,11 @@ pub record Counted (S : Type 0) : Type 0 where
   pub count : ℕ
 
 -- the count c after s more steps
-unfoldable pub counted : (c s : ℕ) → ℕ
+abbrev pub counted : (c s : ℕ) → ℕ
 counted c s = min (2 ^ 128 - 1) (c + s)
 
 -- the count rose by some number of steps that is at most `most`
-abbrev pub RoseByAtMost : (old new most : ℕ) → Type 0
-RoseByAtMost old new most = (s : ℕ) × (new ≡ counted old s) × (s ≤ most)
+pub record RoseByAtMost (old new most : ℕ) : Type 0 where
+  pub steps : ℕ
+  pub count : new ≡ counted old steps
+  pub bound : steps ≤ most
