@@ -6,9 +6,17 @@ use Rattle.p3_util_kernels.specs.Steps.{counted, RoseByAtMost}
 pub counted-zero : (c : ℕ) → c < 2 ^ 128 → counted c 0 ≡ c
 counted-zero c fits = omega arith
 
+-- a count fits a u128
+pub counted-lt : (c s : ℕ) → counted c s < 2 ^ 128
+counted-lt c s = omega arith
+
 -- counts add up
 pub counted-counted : (c a b : ℕ) → counted (counted c a) b ≡ counted c (a + b)
 counted-counted c a b = omega arith
+
+-- as many steps and a few more
+pub counted-more : (old now new a b : ℕ) → now ≡ counted old a → new ≡ counted now b → new ≡ counted old (a + b)
+counted-more old now new a b e f = f ∙ ap (λ c. counted c b) e ∙ counted-counted old a b
 
 -- no step so far
 pub RoseByAtMost-none : (c : ℕ) → c < 2 ^ 128 → RoseByAtMost c c 0
@@ -18,7 +26,7 @@ RoseByAtMost-none c fits = record { steps = 0; count = sym (counted-zero c fits)
 pub RoseByAtMost-more : (old now new most : ℕ) → RoseByAtMost old now most → new ≡ counted now 1 → RoseByAtMost old new (most + 1)
 RoseByAtMost-more old now new most rose e = record {
   steps = rose.steps + 1;
-  count = e ∙ ap (λ c. counted c 1) rose.count ∙ counted-counted old rose.steps 1;
+  count = counted-more old now new rose.steps 1 rose.count e;
   bound = omega (arith, rose.bound);
 }
 

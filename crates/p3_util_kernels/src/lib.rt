@@ -4,3 +4,4 @@
 pub mod bits;
 pub mod places;
 pub mod reverse;
+pub mod transpose;
