@@ -1,0 +1,71 @@
+-- What the program does: the text that it writes for its words and its input, and why it ends without one.
+use Rattle.std.specs.Prelude.{ℕ, ◌≡◌, ◌≢◌, ◌⊎◌, ◌*◌, List, length, map, String, string_bytes, Option, Result, Ok, Err, IsSomeAnd, MatchOption, ⊤}
+use Rattle.std.specs.declared.alloc.Global.{Global}
+use Rattle.std.specs.Io.KnownBytes.{Consumes, IsAtEnd}
+use Rattle.p3_util_kernels.specs.Reversal.{IsReversal, IsZeroOrPowerOfTwo}
+use Rattle.p3_util_kernels.specs.Transpose.{IsTranspose}
+use Rattle.p3_util_run.specs.Arrays.{IsArrayOf, line_of}
+use Rattle.p3_util_run.specs.Words.{command_of}
+use Rattle.p3_util_run.specs.declared.fault.RunFault.{RunFault}
+use Rattle.p3_util_run.specs.declared.fault.RunFault.TheVariants.{UnknownCommand, Read, NotAnArray, BadLength, NotTheLength, Memory, Write}
+use Rattle.p3_util_run.specs.declared.words.Command.{Command}
+use Rattle.p3_util_run.specs.declared.words.Command.TheVariants.{Revbits, Transpose}
+
+-- the old list is of a length that the command takes, and the new one is its rearrangement
+abbrev pub Rearranges : Command → List ℕ → List ℕ → Type 0
+Rearranges Revbits old new = IsZeroOrPowerOfTwo (length old) × IsReversal old new
+Rearranges (Transpose width height) old new = (length old ≡ width * height) × IsTranspose width height old new
+
+-- the input is the array of some list, and the text is the line of its rearrangement
+abbrev pub Answers : Command → List ℕ → List ℕ → Type 0
+Answers command input text = (old new : List ℕ) × IsArrayOf input old × Rearranges command old new × (text ≡ line_of new)
+
+-- why a list of this length is not rearranged
+abbrev pub Misfits : Command → ℕ → RunFault → Type 0
+Misfits Revbits len fault = (fault ≡ BadLength len) × ¬ IsZeroOrPowerOfTwo len
+Misfits (Transpose width height) len fault = (fault ≡ NotTheLength width height len) × (len ≢ width * height)
+
+-- why a command has no answer to an input
+abbrev pub Refuses : Command → List ℕ → RunFault → Type 0
+Refuses command input fault = ((fault ≡ NotAnArray) × ((xs : List ℕ) → ¬ IsArrayOf input xs)) ⊎ ((xs : List ℕ) × IsArrayOf input xs × Misfits command (length xs) fault)
+
+-- the text that the program writes
+abbrev pub Out : (words : List (List ℕ)) (input text : List ℕ) → Type 0
+Out words input text = IsSomeAnd (command_of words) (λ command. Answers command input text)
+
+-- the fault that it ends with where there is no such text
+abbrev pub Fault : (words : List (List ℕ)) (input : List ℕ) → RunFault → Type 0
+Fault words input fault = MatchOption (command_of words) (fault ≡ UnknownCommand) (λ command. Refuses command input fault)
+
+-- there is a text to write
+abbrev pub IsDefined : (words : List (List ℕ)) (input : List ℕ) → Type 0
+IsDefined words input = (text : List ℕ) × Out words input text
+
+-- a fault that the bytes of the input decide
+abbrev pub IsOfInput : RunFault → Type 0
+IsOfInput UnknownCommand = ⊥
+IsOfInput Read = ⊥
+IsOfInput NotAnArray = ⊤
+IsOfInput (BadLength len) = ⊤
+IsOfInput (NotTheLength width height len) = ⊤
+IsOfInput Memory = ⊥
+IsOfInput Write = ⊥
+
+-- neither the reader nor memory nor the writer failed
+abbrev pub IsSettled : {T : Type 0} → Result T RunFault → Type 0
+IsSettled (Ok _) = ⊤
+IsSettled (Err UnknownCommand) = ⊤
+IsSettled (Err Read) = ⊥
+IsSettled (Err NotAnArray) = ⊤
+IsSettled (Err (BadLength len)) = ⊤
+IsSettled (Err (NotTheLength width height len)) = ⊤
+IsSettled (Err Memory) = ⊥
+IsSettled (Err Write) = ⊥
+
+-- the bytes that a reader had left, where they are known, are these, and none is left
+abbrev pub ReadsAll : Option (List ℕ) → Option (List ℕ) → List ℕ → Type 0
+ReadsAll old new input = Consumes old new input × IsAtEnd new
+
+-- the bytes of each word
+abbrev pub texts_of : List (String Global) → List (List ℕ)
+texts_of words = map string_bytes words
