@@ -5,12 +5,11 @@ use Rattle.std.specs.Io.KnownBytes.{Appends}
 use Rattle.std.proofs.KnownBytes.{Consumes-whole}
 use Rattle.p3_util_run.proofs.NumberLists.{array_of_injective}
 use Rattle.p3_util_run.specs.Arrays.{IsArrayOf, array_of}
-use Rattle.p3_util_run.specs.Program.{Answers, Fault, IsDefined, IsSettled, Misfits, Out, ReadsAll, Rearranges, Refuses}
+use Rattle.p3_util_run.specs.Program.{Answers, Fault, Fits, HasAnswer, IsDefined, IsSettled, misfit, Out, ReadsAll, Refuses}
 use Rattle.p3_util_run.specs.Words.{command_of}
 use Rattle.p3_util_run.specs.declared.fault.RunFault.{RunFault}
 use Rattle.p3_util_run.specs.declared.fault.RunFault.TheVariants.{Memory, Write, UnknownCommand}
 use Rattle.p3_util_run.specs.declared.words.Command.{Command}
-use Rattle.p3_util_run.specs.declared.words.Command.TheVariants.{Revbits, Transpose}
 
 -- an input is the array of one list at most
 same_list : (input xs ys : List ℕ) → IsArrayOf input xs → IsArrayOf input ys → xs ≡ ys
@@ -19,29 +18,20 @@ same_list input xs ys first second =
     let arrays : array_of xs ≡ array_of ys = cc in
     array_of_injective xs ys arrays
 
-fits_or_not : (command : Command) (xs new : List ℕ) (fault : RunFault) → Rearranges command xs new → Misfits command (length xs) fault → ⊥
-fits_or_not Revbits xs new fault fits unfit = unfit.1 fits.0
-fits_or_not (Transpose width height) xs new fault fits unfit = unfit.1 fits.0
-
-one_misfit : (command : Command) (len : ℕ) (f g : RunFault) → Misfits command len f → Misfits command len g → f ≡ g
-one_misfit Revbits len f g p q = p.0 ∙ sym q.0
-one_misfit (Transpose width height) len f g p q = p.0 ∙ sym q.0
-
-exclusive : (command : Command) (input text : List ℕ) (fault : RunFault) → Answers command input text → Refuses command input fault → ⊥
-exclusive command input text fault answer (inl none) = none.1 answer.0 answer.2
-exclusive command input text fault answer (inr misfit) =
-    let same : answer.0 ≡ misfit.0 = same_list input answer.0 misfit.0 answer.2 misfit.1 in
-    let fits : List ℕ → Type 0 = λ xs. Rearranges command xs answer.1 in
-    fits_or_not command misfit.0 answer.1 fault (subst fits same answer.3) misfit.2
+answered_or_refused : (command : Command) (input : List ℕ) (fault : RunFault) → HasAnswer command input → Refuses command input fault → ⊥
+answered_or_refused command input fault answer (inl none) = none.1 answer.0 answer.1
+answered_or_refused command input fault answer (inr unfit) =
+    let same : answer.0 ≡ unfit.0 = same_list input answer.0 unfit.0 answer.1 unfit.1 in
+    let fits : List ℕ → Type 0 = λ xs. Fits command (length xs) in
+    unfit.2 (subst fits same answer.2)
 
 one_refusal : (command : Command) (input : List ℕ) (f g : RunFault) → Refuses command input f → Refuses command input g → f ≡ g
 one_refusal command input f g (inl none) (inl none') = none.0 ∙ sym none'.0
-one_refusal command input f g (inl none) (inr misfit) = absurd (none.1 misfit.0 misfit.1)
-one_refusal command input f g (inr misfit) (inl none) = absurd (none.1 misfit.0 misfit.1)
-one_refusal command input f g (inr misfit) (inr misfit') =
-    let same : misfit'.0 ≡ misfit.0 = same_list input misfit'.0 misfit.0 misfit'.1 misfit.1 in
-    let unfit : List ℕ → Type 0 = λ xs. Misfits command (length xs) g in
-    one_misfit command (length misfit.0) f g misfit.2 (subst unfit same misfit'.2)
+one_refusal command input f g (inl none) (inr unfit) = absurd (none.1 unfit.0 unfit.1)
+one_refusal command input f g (inr unfit) (inl none) = absurd (none.1 unfit.0 unfit.1)
+one_refusal command input f g (inr unfit) (inr unfit') =
+    let same : unfit.0 ≡ unfit'.0 = same_list input unfit.0 unfit'.0 unfit.1 unfit'.1 in
+    unfit.3 ∙ (ap (λ xs. misfit command (length xs)) same ∙ sym unfit'.3)
 
 -- what a command answers is what its words answer
 out_from_answers : (words : List (List ℕ)) (command : Command) (input text : List ℕ) → Some command ≡ command_of words → Answers command input text
@@ -49,10 +39,15 @@ out_from_answers : (words : List (List ℕ)) (command : Command) (input text : L
 out_from_answers words command input text named answer =
     let P : Option Command → Type 0 = λ o. IsSomeAnd o (λ k. Answers k input text) in subst P named answer
 
-answers_from_out : (words : List (List ℕ)) (command : Command) (input text : List ℕ) → Some command ≡ command_of words → Out words input text
-    → Answers command input text
-answers_from_out words command input text named out =
-    let P : Option Command → Type 0 = λ o. IsSomeAnd o (λ k. Answers k input text) in subst P (sym named) out
+defined_from_answer : (words : List (List ℕ)) (command : Command) (input : List ℕ) → Some command ≡ command_of words → HasAnswer command input
+    → IsDefined words input
+defined_from_answer words command input named answer =
+    let P : Option Command → Type 0 = λ o. IsSomeAnd o (λ k. HasAnswer k input) in subst P named answer
+
+answer_from_defined : (words : List (List ℕ)) (command : Command) (input : List ℕ) → Some command ≡ command_of words → IsDefined words input
+    → HasAnswer command input
+answer_from_defined words command input named defined =
+    let P : Option Command → Type 0 = λ o. IsSomeAnd o (λ k. HasAnswer k input) in subst P (sym named) defined
 
 fault_from_refuses : (words : List (List ℕ)) (command : Command) (input : List ℕ) (fault : RunFault) → Some command ≡ command_of words
     → Refuses command input fault → Fault words input fault
@@ -87,17 +82,23 @@ wrote words command a b x y input text (Ok v) named all answer appended =
     (input, text, all, out_from_answers words command input text named answer, appended)
 wrote words command a b x y input text (Err fault) named all answer appended = tt
 
+-- an answer leaves off its text
+short : (command : Command) (input text : List ℕ) → Answers command input text → HasAnswer command input
+short command input text answer = (answer.0, answer.2, answer.3)
+
 answers_both_ways : {T : Type 0} → (words : List (List ℕ)) (command : Command) (input : List ℕ) (r : Result T RunFault) → Some command ≡ command_of words
     → Ends command input r → IsSettled r → IsOk r ↔ IsDefined words input
 answers_both_ways words command input (Ok v) named ends settled =
-    (λ _. (ends.0, out_from_answers words command input ends.0 named ends.1), λ _. refl)
+    (λ _. defined_from_answer words command input named (short command input ends.0 ends.1), λ _. refl)
 answers_both_ways words command input (Err fault) named ends settled =
-    (λ ok. absurd cc, λ out. absurd (exclusive command input out.0 fault (answers_from_out words command input out.0 named out.1) (ends settled)))
+    (λ ok. absurd cc, λ defined. absurd (answered_or_refused command input fault (answer_from_defined words command input named defined) (ends settled)))
 
 refuses_both_ways : {T : Type 0} → (words : List (List ℕ)) (command : Command) (input : List ℕ) (r : Result T RunFault) → Some command ≡ command_of words
     → Ends command input r → IsSettled r → (fault : RunFault) → (r ≡ Err fault) ↔ Fault words input fault
-refuses_both_ways words command input (Ok v) named ends settled fault =
-    (λ is. absurd cc, λ told. absurd (exclusive command input ends.0 fault ends.1 (refuses_from_fault words command input fault named told)))
+refuses_both_ways words command input (Ok v) named ends settled fault = (
+  λ is. absurd cc,
+  λ told. absurd (answered_or_refused command input fault (short command input ends.0 ends.1) (refuses_from_fault words command input fault named told)),
+)
 refuses_both_ways words command input (Err f) named ends settled fault = (
   λ is. let same : f ≡ fault = cc in subst (Fault words input) same (fault_from_refuses words command input f named (ends settled)),
   λ told. ap Err (one_refusal command input f fault (ends settled) (refuses_from_fault words command input fault named told)),

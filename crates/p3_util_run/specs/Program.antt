@@ -1,5 +1,5 @@
 -- What the program does: the text that it writes for its words and its input, and why it ends without one.
-use Rattle.std.specs.Prelude.{ℕ, ◌≡◌, ◌≢◌, ◌⊎◌, ◌*◌, List, length, map, String, string_bytes, Option, Result, Ok, Err, IsSomeAnd, MatchOption, ⊤}
+use Rattle.std.specs.Prelude.{ℕ, ◌≡◌, ◌⊎◌, ◌*◌, List, length, map, String, string_bytes, Option, Result, Ok, Err, IsSomeAnd, MatchOption, ⊤}
 use Rattle.std.specs.declared.alloc.Global.{Global}
 use Rattle.std.specs.Io.KnownBytes.{Consumes, IsAtEnd}
 use Rattle.p3_util_kernels.specs.Reversal.{IsReversal, IsZeroOrPowerOfTwo}
@@ -11,23 +11,33 @@ use Rattle.p3_util_run.specs.declared.fault.RunFault.TheVariants.{UnknownCommand
 use Rattle.p3_util_run.specs.declared.words.Command.{Command}
 use Rattle.p3_util_run.specs.declared.words.Command.TheVariants.{Revbits, Transpose}
 
--- the old list is of a length that the command takes, and the new one is its rearrangement
-abbrev pub Rearranges : Command → List ℕ → List ℕ → Type 0
-Rearranges Revbits old new = IsZeroOrPowerOfTwo (length old) × IsReversal old new
-Rearranges (Transpose width height) old new = (length old ≡ width * height) × IsTranspose width height old new
+-- a list of this length can be rearranged
+abbrev pub Fits : Command → ℕ → Type 0
+Fits Revbits len = IsZeroOrPowerOfTwo len
+Fits (Transpose width height) len = len ≡ width * height
 
--- the input is the array of some list, and the text is the line of its rearrangement
-abbrev pub Answers : Command → List ℕ → List ℕ → Type 0
-Answers command input text = (old new : List ℕ) × IsArrayOf input old × Rearranges command old new × (text ≡ line_of new)
+-- the new list is the old one as the command rearranges it
+abbrev pub IsRearranged : Command → (old new : List ℕ) → Type 0
+IsRearranged Revbits old new = IsReversal old new
+IsRearranged (Transpose width height) old new = IsTranspose width height old new
 
--- why a list of this length is not rearranged
-abbrev pub Misfits : Command → ℕ → RunFault → Type 0
-Misfits Revbits len fault = (fault ≡ BadLength len) × ¬ IsZeroOrPowerOfTwo len
-Misfits (Transpose width height) len fault = (fault ≡ NotTheLength width height len) × (len ≢ width * height)
+-- the fault of a list of this length, where it cannot be rearranged
+abbrev pub misfit : Command → ℕ → RunFault
+misfit Revbits len = BadLength len
+misfit (Transpose width height) len = NotTheLength width height len
+
+-- the input is the array of a list that can be rearranged, and the text is the line of what it becomes
+abbrev pub Answers : Command → (input text : List ℕ) → Type 0
+Answers command input text = (old new : List ℕ) × IsArrayOf input old × Fits command (length old) × IsRearranged command old new × (text ≡ line_of new)
+
+-- the input is the array of a list that can be rearranged
+abbrev pub HasAnswer : Command → List ℕ → Type 0
+HasAnswer command input = (xs : List ℕ) × IsArrayOf input xs × Fits command (length xs)
 
 -- why a command has no answer to an input
 abbrev pub Refuses : Command → List ℕ → RunFault → Type 0
-Refuses command input fault = ((fault ≡ NotAnArray) × ((xs : List ℕ) → ¬ IsArrayOf input xs)) ⊎ ((xs : List ℕ) × IsArrayOf input xs × Misfits command (length xs) fault)
+Refuses command input fault = ((fault ≡ NotAnArray) × ((xs : List ℕ) → ¬ IsArrayOf input xs))
+    ⊎ ((xs : List ℕ) × IsArrayOf input xs × ¬ Fits command (length xs) × (fault ≡ misfit command (length xs)))
 
 -- the text that the program writes
 abbrev pub Out : (words : List (List ℕ)) (input text : List ℕ) → Type 0
@@ -39,7 +49,7 @@ Fault words input fault = MatchOption (command_of words) (fault ≡ UnknownComma
 
 -- there is a text to write
 abbrev pub IsDefined : (words : List (List ℕ)) (input : List ℕ) → Type 0
-IsDefined words input = (text : List ℕ) × Out words input text
+IsDefined words input = IsSomeAnd (command_of words) (λ command. HasAnswer command input)
 
 -- a fault that the bytes of the input decide
 abbrev pub IsOfInput : RunFault → Type 0

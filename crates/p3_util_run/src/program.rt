@@ -4,7 +4,7 @@ ghost use Rattle.std.specs.Prelude.{◌≡◌, ◌≢◌, ◌<◌, ◌*◌, ◌�
 ghost use Rattle.std.specs.Io.KnownBytes.{Appends};
 ghost use Rattle.p3_util_kernels.specs.Reversal.{IsReversal, IsZeroOrPowerOfTwo};
 ghost use Rattle.p3_util_kernels.specs.Transpose.{IsTranspose};
-ghost use Rattle.p3_util_run.specs.Program.{Answers, Fault, IsDefined, IsOfInput, IsSettled, Misfits, Out, ReadsAll, Rearranges, Refuses, texts_of};
+ghost use Rattle.p3_util_run.specs.Program.{Answers, Fault, IsDefined, IsOfInput, IsSettled, Fits, IsRearranged, misfit, Out, ReadsAll, Refuses, texts_of};
 ghost use Rattle.p3_util_run.specs.Watch.{HasFailed, noted};
 ghost use Rattle.p3_util_run.specs.Words.{command_of};
 ghost use Rattle.p3_util_run.specs.declared.fault.RunFault.{RunFault};
@@ -91,8 +91,10 @@ fn answer(alloc: Global, command: &Command, input: &[u8]) -> Result<String, RunF
 
 /// The list as the command rearranges it.
 fn rearrange(alloc: Global, command: &Command, numbers: Vec<u64>) -> Result<Vec<u64>, RunFault>
-    ensures ok { IfOk result (λ v. Rearranges command.now numbers.items v.items) }
-    ensures err { IfErr result (λ fault. (fault ≡ RunFault.Memory) ⊎ Misfits command.now (length numbers.items) fault) }
+    ensures ok { IfOk result (λ v. Fits command.now (length numbers.items)
+        × IsRearranged command.now numbers.items v.items) }
+    ensures err { IfErr result (λ fault. (fault ≡ RunFault.Memory) ⊎ (¬ Fits command.now (length numbers.items)
+        × (fault ≡ misfit command.now (length numbers.items)))) }
 {
     match command {
         Command::Revbits => reversed(numbers),
@@ -151,8 +153,8 @@ fn write_all<W: Write>(writer: &mut Watched<W>, text: &[u8]) -> Result<(), RunFa
 /// The list by reversed index bits. `RunFault::BadLength` where its length is neither zero nor a power of two.
 fn reversed(mut numbers: Vec<u64>) -> Result<Vec<u64>, RunFault>
     ensures ok { IfOk result (λ v. IsZeroOrPowerOfTwo (length numbers.items) × IsReversal numbers.items v.items) }
-    ensures err { IfErr result (λ e. (e ≡ RunFault.BadLength (length numbers.items))
-        × ¬ IsZeroOrPowerOfTwo (length numbers.items)) }
+    ensures err { IfErr result (λ e. ¬ IsZeroOrPowerOfTwo (length numbers.items)
+        × (e ≡ RunFault.BadLength (length numbers.items))) }
 {
     let len = numbers.len();
     if is_zero_or_power_of_two(len) {
@@ -178,8 +180,8 @@ fn transposed(
     height: usize,
 ) -> Result<Vec<u64>, RunFault>
     ensures ok { IfOk result (λ v. (length numbers.now ≡ width * height) × IsTranspose width height numbers.now v.items) }
-    ensures err { IfErr result (λ e. (e ≡ RunFault.Memory)
-        ⊎ ((e ≡ RunFault.NotTheLength width height (length numbers.now)) × (length numbers.now ≢ width * height))) }
+    ensures err { IfErr result (λ e. (e ≡ RunFault.Memory) ⊎ ((length numbers.now ≢ width * height)
+        × (e ≡ RunFault.NotTheLength width height (length numbers.now)))) }
 {
     let len = numbers.len();
     if !fits_matrix(len, len, width, height) {
