@@ -46,3 +46,6 @@ fn main(rt: HostRuntime) -> ExitCode {
         }
     }
 }
+
+#[cfg(test)]
+mod tests;
