@@ -4,8 +4,9 @@
 #[cfg(test)]
 mod array_serialization;
 #[cfg(test)]
-mod noted;
 mod bits;
+#[cfg(test)]
+mod noted;
 #[cfg(test)]
 mod oracle;
 #[cfg(test)]
