@@ -175,6 +175,56 @@ fn exponent_of_three(top: usize) -> usize
     usize::from(EXPONENTS_OF_THREE[top])
 }
 
+/// Reverses as many low digits of `x` as `n`, a power of two, has below its set digit: `reverse_bits_len(x, log2 n)`.
+pub fn reverse_bits(x: usize, n: usize) -> usize
+    requires { IsPowerOfTwo n }
+    ensures { (k : ℕ) → n ≡ 2 ^ k → result ≡ rev_word k x }
+{
+    reverse_bits_len(x, log2_strict_usize(n))
+}
+
+/// Reverses the `bit_len` low binary digits of `x` and drops the others. For a `bit_len` of 0 it reverses the whole word
+/// of 64 digits.
+pub fn reverse_bits_len(x: usize, bit_len: usize) -> usize
+    requires { bit_len ≤ 64 }
+    ensures reversed { result ≡ rev_word bit_len x }
+    ensures below { 1 ≤ bit_len → result < 2 ^ bit_len }
+    ensures inverse { 1 ≤ bit_len → rev bit_len result ≡ x % 2 ^ bit_len }
+    ensures twice { x < 2 ^ bit_len → rev_word bit_len result ≡ x }
+{
+    let reversed = reverse_u64(x as u64) as usize;
+    if bit_len == 0 {
+        reversed
+    } else {
+        reversed >> (64 - bit_len)
+    }
+}
+
+fn reverse_u64(x: u64) -> u64
+    ensures { result ≡ rev 64 x }
+{
+    (u64::from(reverse_u32((x & 0xffff_ffff) as u32)) << 32)
+        | u64::from(reverse_u32((x >> 32) as u32))
+}
+
+fn reverse_u32(x: u32) -> u32
+    ensures { result ≡ rev 32 x }
+{
+    (u32::from(reverse_u16((x & 0xffff) as u16)) << 16) | u32::from(reverse_u16((x >> 16) as u16))
+}
+
+fn reverse_u16(x: u16) -> u16
+    ensures { result ≡ rev 16 x }
+{
+    (u16::from(reverse_u8((x & 0xff) as u8)) << 8) | u16::from(reverse_u8((x >> 8) as u8))
+}
+
+fn reverse_u8(x: u8) -> u8
+    ensures { result ≡ rev 8 x }
+{
+    REVERSED_BYTES[x as usize]
+}
+
 /// The array of its own indices: `[0, 1, .., N - 1]`.
 pub fn indices_arr<const N: usize>() -> [usize; N]
     ensures len { length result ≡ N }
@@ -193,8 +243,10 @@ pub fn branch_hint() {}
 /// Does nothing. A call shows that `T` is `Clone`.
 pub fn assert_clone<T: Clone>() {}
 
-/// The short name of a type: `name` without the paths before its parts. The name is cut after each `<`, `>` and `,`, and of
-/// each piece what follows its last `::` is kept, where `::` is looked for from left to right.
+/// The short name of a type: `alloc::vec::Vec<core::option::Option<u32>>` becomes `Vec<Option<u32>>`.
+///
+/// The name is cut after each `<`, `>` and `,`, and of each piece what follows its last `::` is kept, where `::` is looked
+/// for from left to right. So a bracket or a `&` before a path is lost with it, and `a:::b` becomes `:b`.
 ///
 /// # Errors
 ///
@@ -233,53 +285,4 @@ fn last_part(text: &str) -> &str
         part = after;
     }
     part
-}
-
-/// Reverses as many low digits of `x` as `n`, a power of two, has below its set digit: `reverse_bits_len(x, log2 n)`.
-pub fn reverse_bits(x: usize, n: usize) -> usize
-    requires { IsPowerOfTwo n }
-    ensures { (k : ℕ) → n ≡ 2 ^ k → result ≡ rev_word k x }
-{
-    reverse_bits_len(x, log2_strict_usize(n))
-}
-
-/// Reverses the `bit_len` low binary digits of `x` and drops the others. For a `bit_len` of 0 the whole word of 64 digits
-/// is reversed.
-pub fn reverse_bits_len(x: usize, bit_len: usize) -> usize
-    requires { bit_len ≤ 64 }
-    ensures reversed { result ≡ rev_word bit_len x }
-    ensures below { 1 ≤ bit_len → result < 2 ^ bit_len }
-    ensures inverse { 1 ≤ bit_len → rev bit_len result ≡ x % 2 ^ bit_len }
-{
-    let reversed = reverse_u64(x as u64) as usize;
-    if bit_len == 0 {
-        reversed
-    } else {
-        reversed >> (64 - bit_len)
-    }
-}
-
-fn reverse_u64(x: u64) -> u64
-    ensures { result ≡ rev 64 x }
-{
-    (u64::from(reverse_u32((x & 0xffff_ffff) as u32)) << 32)
-        | u64::from(reverse_u32((x >> 32) as u32))
-}
-
-fn reverse_u32(x: u32) -> u32
-    ensures { result ≡ rev 32 x }
-{
-    (u32::from(reverse_u16((x & 0xffff) as u16)) << 16) | u32::from(reverse_u16((x >> 16) as u16))
-}
-
-fn reverse_u16(x: u16) -> u16
-    ensures { result ≡ rev 16 x }
-{
-    (u16::from(reverse_u8((x & 0xff) as u8)) << 8) | u16::from(reverse_u8((x >> 8) as u8))
-}
-
-fn reverse_u8(x: u8) -> u8
-    ensures { result ≡ rev 8 x }
-{
-    REVERSED_BYTES[x as usize]
 }
