@@ -1,1 +1,10 @@
 pub mod Flat
+pub mod JsonArray
+pub mod JsonElements
+pub use Rattle.p3_util_kernels.specs.Digits
+pub use Rattle.p3_util_kernels.specs.Names
+pub use Rattle.p3_util_kernels.specs.Powers
+pub use Rattle.p3_util_kernels.specs.Reversal
+pub use Rattle.p3_util_kernels.specs.Square
+pub use Rattle.p3_util_kernels.specs.Steps
+pub use Rattle.p3_util_kernels.specs.Transpose

@@ -1,10 +1,11 @@
 -- Bit reversal of a list. From the comment above the bit reversal kernels of p3-util 0.8.0.
 use Rattle.std.specs.Prelude.{ℕ, ◌≡◌, ◌+◌, ◌*◌, ◌^◌, ◌<◌, ◌⊎◌, List, length, slice_get}
+use Rattle.std.specs.Int.{IsPowerOfTwo}
 use Rattle.p3_util_kernels.specs.Digits.{rev}
 
 -- n is zero or a power of two
 abbrev pub IsZeroOrPowerOfTwo : ℕ → Type 0
-IsZeroOrPowerOfTwo n = (n ≡ 0) ⊎ ((k : ℕ) × (n ≡ 2 ^ k))
+IsZeroOrPowerOfTwo n = (n ≡ 0) ⊎ IsPowerOfTwo n
 
 -- The rows of width w of `new` are those of `old` in bit-reversed order: with 2 ^ k rows, row r of `new` is row
 -- rev k r of `old`. Nothing is said of the places of a list whose length is no width times a power of two.

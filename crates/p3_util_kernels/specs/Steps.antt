@@ -11,5 +11,7 @@ abbrev pub counted : (c s : ℕ) → ℕ
 counted c s = min (2 ^ 128 - 1) (c + s)
 
 -- the count rose by some number of steps that is at most `most`
-abbrev pub RoseByAtMost : (old new most : ℕ) → Type 0
-RoseByAtMost old new most = (s : ℕ) × (new ≡ counted old s) × (s ≤ most)
+pub record RoseByAtMost (old new most : ℕ) : Type 0 where
+  pub steps : ℕ
+  pub count : new ≡ counted old steps
+  pub bound : steps ≤ most

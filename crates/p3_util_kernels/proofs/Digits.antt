@@ -1,0 +1,170 @@
+-- Laws of binary digits, of sums over places, and of the reversal of digits.
+use Rattle.std.proofs.Common.{◌≡◌, ℕ, zero, suc, ◌+◌, ◌-◌, ◌*◌, ◌/◌, ◌%◌, ◌^◌, ◌<◌, ◌≤◌, refl, sym, ◌∙◌, ap, arith, bit_and, bit_or}
+use Rattle.std.proofs.Math.Nat.{pow-suc, div-one, mod-eq_of_lt}
+use Rattle.std.proofs.lemmas.Nat.{pow_pos, shr_split, shr-shr, mod_below, div-mul-add, and_mask, shl_whole, or_shifted}
+use Rattle.std.proofs.lemmas.Nat.Bits.{bit_at-suc, bit_at-zero, bit_at_cat_low, same_from_bits_below}
+use Rattle.p3_util_kernels.specs.Digits.{bit, sum_below, rev, rev_word}
+
+-- a digit is 0 or 1
+pub bit-lt : (x i : ℕ) → bit x i < 2
+bit-lt x i = mod_below (x / 2 ^ i) 2 (omega arith)
+
+-- the digits below place k are those of the remainder by 2 ^ k
+pub bit-mod : (x k i : ℕ) → i < k → bit (x % 2 ^ k) i ≡ bit x i
+bit-mod x k i h =
+    let e : bit (x / 2 ^ k * 2 ^ k + x % 2 ^ k) i ≡ bit (x % 2 ^ k) i = bit_at_cat_low (x / 2 ^ k) k (x % 2 ^ k) i h in
+    sym e ∙ ap (λ n. bit n i) (shr_split x k)
+
+-- digit i of the quotient by 2 ^ k is digit k + i
+pub bit-shr : (x k i : ℕ) → bit (x / 2 ^ k) i ≡ bit x (k + i)
+bit-shr x k i = ap (λ n. n % 2) (shr-shr x k i)
+
+-- sums of equal terms are equal
+pub sum_below-same : (n : ℕ) (f g : ℕ → ℕ) → ((i : ℕ) → i < n → f i ≡ g i) → sum_below n f ≡ sum_below n g
+unfolding sum_below
+sum_below-same zero f g h = refl
+sum_below-same (suc n) f g h =
+    let below : sum_below n f ≡ sum_below n g = sum_below-same n f g (λ i less. h i (omega arith)) in
+    let last : f n ≡ g n = h n (omega arith) in
+    cc
+
+-- a common factor stands before the sum
+pub sum_below-scale : (c n : ℕ) (f : ℕ → ℕ) → sum_below n (λ i. c * f i) ≡ c * sum_below n f
+unfolding sum_below
+sum_below-scale c zero f = omega arith
+sum_below-scale c (suc n) f =
+    let below : sum_below n (λ i. c * f i) ≡ c * sum_below n f = sum_below-scale c n f in
+    rw below (grind arith)
+
+-- no digits, no number
+pub rev-zero : (x : ℕ) → rev zero x ≡ 0
+unfolding rev sum_below
+rev-zero x = refl
+
+-- The places of a sum from below, for k places of which the last is place k - 1
+pub place_above : (k i : ℕ) → i < k → 2 ^ (suc k - 1 - i) ≡ 2 * 2 ^ (k - 1 - i)
+place_above k i h =
+    let e : suc k - 1 - i ≡ suc (k - 1 - i) = omega arith in
+    rw e (rw pow-suc (omega arith))
+
+-- one digit more is put below the others
+pub rev-suc : (k x : ℕ) → rev (suc k) x ≡ 2 * rev k x + bit x k
+unfolding rev sum_below
+rev-suc k x =
+    let shorter : ℕ → ℕ = λ i. bit x i * 2 ^ (k - 1 - i) in
+    let longer : ℕ → ℕ = λ i. bit x i * 2 ^ (suc k - 1 - i) in
+    let same : (i : ℕ) → i < k → longer i ≡ 2 * shorter i =
+    λ i h. rw (place_above k i h) (grind arith) in
+    let below : sum_below k longer ≡ 2 * sum_below k shorter =
+    sum_below-same k longer (λ i. 2 * shorter i) same ∙ sum_below-scale 2 k shorter in
+    let e : suc k - 1 - k ≡ 0 = omega arith in
+    let last : longer k ≡ bit x k = rw e (omega arith) in
+    cc
+
+-- a number of k digits stays one
+pub rev-lt : (k x : ℕ) → rev k x < 2 ^ k
+rev-lt zero x = rw (rev-zero x) (omega arith)
+rev-lt (suc k) x =
+    rw (rev-suc k x) (rw pow-suc (omega (arith, rev-lt k x, bit-lt x k)))
+
+-- only the k low digits are read
+pub rev-same : (k x y : ℕ) → ((i : ℕ) → i < k → bit x i ≡ bit y i) → rev k x ≡ rev k y
+unfolding rev
+rev-same k x y h =
+    sum_below-same k (λ i. bit x i * 2 ^ (k - 1 - i)) (λ i. bit y i * 2 ^ (k - 1 - i))
+    (λ i less. ap (λ b. b * 2 ^ (k - 1 - i)) (h i less))
+
+pub rev-mod : (k x : ℕ) → rev k (x % 2 ^ k) ≡ rev k x
+rev-mod k x = rev-same k (x % 2 ^ k) x (bit-mod x k)
+
+-- the lowest digit below the others, and the others above it
+double_bit : (r b : ℕ) → b < 2 → bit (2 * r + b) 0 ≡ b
+double_bit r b h = rw (div-one (2 * r + b)) (omega arith)
+
+double_bits : (r b i : ℕ) → b < 2 → bit (2 * r + b) (suc i) ≡ bit r i
+double_bits r b i h =
+    let half : (2 * r + b) / 2 ≡ r = omega arith in
+    bit_at-suc (2 * r + b) i ∙ ap (λ n. bit n i) half
+
+-- digit i of the reversed number is digit k - 1 - i of the number
+pub bit-rev : (k x i : ℕ) → i < k → bit (rev k x) i ≡ bit x (k - 1 - i)
+bit-rev zero x i h = absurd (omega arith)
+bit-rev (suc k) x zero h = rw (rev-suc k x) (double_bit (rev k x) (bit x k) (bit-lt x k) ∙ ap (λ j. bit x j) (omega arith))
+bit-rev (suc k) x (suc i) h =
+    rw (rev-suc k x) (double_bits (rev k x) (bit x k) i (bit-lt x k) ∙ bit-rev k x i (omega arith) ∙ ap (λ j. bit x j) (omega arith))
+
+-- reversed twice, the k low digits are as they were
+pub rev-rev : (k x : ℕ) → rev k (rev k x) ≡ x % 2 ^ k
+rev-rev k x =
+    same_from_bits_below k (rev k (rev k x)) (x % 2 ^ k) (rev-lt k (rev k x)) (mod_below x (2 ^ k) (pow_pos k))
+    (λ i h.
+    bit-rev k (rev k x) i h ∙ bit-rev k x (k - 1 - i) (omega arith)
+    ∙ ap (λ j. bit x j) (omega arith) ∙ sym (bit-mod x k i h))
+
+-- of a number of k digits, reversal is its own inverse
+pub rev-rev-below : (k x : ℕ) → x < 2 ^ k → rev k (rev k x) ≡ x
+rev-rev-below k x h = rev-rev k x ∙ mod-eq_of_lt h
+
+-- the low digits come first, the high digits after them
+pub rev-add : (j k x : ℕ) → rev (j + k) x ≡ rev k x * 2 ^ j + rev j (x / 2 ^ k)
+rev-add zero k x =
+    let e : 0 + k ≡ k = omega arith in
+    rw (e, rev-zero (x / 2 ^ k)) (omega arith)
+rev-add (suc j) k x =
+    let e : suc j + k ≡ suc (j + k) = omega arith in
+    let d : bit x (j + k) ≡ bit (x / 2 ^ k) j = ap (λ i. bit x i) (omega arith) ∙ sym (bit-shr x k j) in
+    let low : rev (j + k) x ≡ rev k x * 2 ^ j + rev j (x / 2 ^ k) = rev-add j k x in
+    let p : 2 ^ suc j ≡ 2 ^ j * 2 = pow-suc 2 j in
+    rw (e, rev-suc (j + k) x, rev-suc j (x / 2 ^ k), p, d, low) (grind arith)
+
+-- the reversal of the k low digits is the high end of that of more digits
+pub rev-shr : (j k x : ℕ) → rev (j + k) x / 2 ^ j ≡ rev k x
+rev-shr j k x = rw (rev-add j k x) (div-mul-add (rev k x) (2 ^ j) (rev j (x / 2 ^ k)) (rev-lt j (x / 2 ^ k)))
+
+-- The digits of a word of two halves, reversed: the reversed halves in the other order, put together as code does.
+pub rev-halves : (k x : ℕ) → x < 2 ^ (k + k)
+    → bit_or (rev k (bit_and x (2 ^ k - 1)) * 2 ^ k % 2 ^ (k + k)) (rev k (x / 2 ^ k)) ≡ rev (k + k) x
+rev-halves k x h =
+    let low : rev k (x % 2 ^ k) ≡ rev k x = rev-mod k x in
+    rw (
+      and_mask x k,
+      low,
+      shl_whole (rev k x) k k (k + k) (rev-lt k x) (omega arith),
+      or_shifted (rev k x) k (rev k (x / 2 ^ k)) (rev-lt k (x / 2 ^ k)),
+    )
+    (sym (rev-add k k x))
+
+-- what the whole word and a part of it are, reversed
+pub rev_word-zero : (x : ℕ) → rev_word 0 x ≡ rev 64 x
+unfolding rev_word
+rev_word-zero x = refl
+
+pub rev_word-above : (k x : ℕ) → 0 < k → rev_word k x ≡ rev k x
+unfolding rev_word
+rev_word-above zero x h = absurd (omega arith)
+rev_word-above (suc k) x h = refl
+
+-- the k low digits reversed are the high end of the reversed word
+pub rev-word-shr : (k x : ℕ) → k ≤ 64 → rev 64 x / 2 ^ (64 - k) ≡ rev k x
+rev-word-shr k x h =
+    let e : (64 - k) + k ≡ 64 = omega arith in
+    sym (ap (λ w. rev w x / 2 ^ (64 - k)) e) ∙ rev-shr (64 - k) k x
+
+-- the number 0 is its own reverse
+pub rev-of-zero : (k : ℕ) → rev k 0 ≡ 0
+rev-of-zero zero = rev-zero 0
+rev-of-zero (suc k) =
+    let shorter : rev k 0 ≡ 0 = rev-of-zero k in
+    let digit : bit 0 k ≡ 0 = bit_at-zero k in
+    rw (rev-suc k 0, shorter, digit) refl
+
+-- a number of k digits, reversed twice
+pub rev_word-twice : (k x r : ℕ) → r ≡ rev_word k x → x < 2 ^ k → rev_word k r ≡ x
+rev_word-twice zero x r e h =
+    let none : x ≡ 0 = omega arith in
+    let whole : r ≡ 0 = e ∙ rev_word-zero x ∙ ap (rev 64) none ∙ rev-of-zero 64 in
+    rev_word-zero r ∙ ap (rev 64) whole ∙ rev-of-zero 64 ∙ sym none
+rev_word-twice (suc k) x r e h =
+    let some : 0 < suc k = omega arith in
+    let once : r ≡ rev (suc k) x = e ∙ rev_word-above (suc k) x some in
+    rev_word-above (suc k) r some ∙ ap (rev (suc k)) once ∙ rev-rev-below (suc k) x h

@@ -1,0 +1,43 @@
+-- Bit reversal as a rearrangement.
+use Rattle.std.proofs.Common.{◌≡◌, ℕ, ◌^◌, ◌<◌, ◌≤◌, List, length, slice_get, zero, suc, refl, sym, ap, ◌∙◌, arith}
+use Rattle.p3_util_kernels.specs.Digits.{rev, rev_word}
+use Rattle.p3_util_kernels.specs.Rearranged.{IsRearranged}
+use Rattle.p3_util_kernels.specs.Reversal.{IsReversal}
+use Rattle.p3_util_kernels.proofs.Digits.{rev-lt, rev-rev-below}
+use Rattle.p3_util_kernels.proofs.Halfway.{IsInvolution}
+use Rattle.p3_util_kernels.proofs.Powers.{exponent-same}
+
+-- for at least one digit the word is not reversed whole
+pub rev_word-positive : (k x : ℕ) → 1 ≤ k → rev_word k x ≡ rev k x
+unfolding rev_word
+rev_word-positive zero x h = absurd (omega arith)
+rev_word-positive (suc k) x h = refl
+
+-- a power of two above 1 has a positive exponent
+pub exponent-positive : (n k : ℕ) → n ≡ 2 ^ k → 2 ≤ n → 1 ≤ k
+exponent-positive n zero e h = omega arith
+exponent-positive n (suc k) e h = omega arith
+
+-- reversing k digits is its own inverse on the numbers below 2 ^ k
+pub IsInvolution-rev : (n k : ℕ) → n ≡ 2 ^ k → IsInvolution n (rev k)
+IsInvolution-rev n k e = record {
+  below = λ p h. rw e (rev-lt k p);
+  twice = λ p h. rev-rev-below k p (rw e at h);
+}
+
+pub IsReversal-from_rearranged : {A : Type 0} (k : ℕ) (old new : List A) → length old ≡ 2 ^ k → IsRearranged (rev k) old new → IsReversal old new
+IsReversal-from_rearranged k old new e at = record {
+  same_length = at.same_length;
+  places = λ j i ej h.
+      let same : j ≡ k = exponent-same j k (sym ej ∙ e) in
+      at.places i (omega arith) ∙ ap (λ b. slice_get old (rev b i)) (sym same);
+}
+
+-- a list of at most one item is its own reversal
+pub IsReversal-short : {A : Type 0} (old : List A) → length old < 2 → IsReversal old old
+IsReversal-short old h = record {
+  same_length = refl;
+  places = λ k i e less.
+      let below : rev k i < 2 ^ k = rev-lt k i in
+      ap (slice_get old) (omega arith);
+}

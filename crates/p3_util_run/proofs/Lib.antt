@@ -1,0 +1,5 @@
+pub mod Endings
+pub mod NumberLists
+pub mod Pieces
+pub mod PowersOfTwo
+pub mod Sides

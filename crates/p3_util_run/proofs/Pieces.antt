@@ -1,0 +1,18 @@
+-- What is written in pieces is what was to be written.
+use Rattle.std.proofs.Common.{◌≡◌, ℕ, ◌-◌, List, ◌++◌, length, take, drop, Option, ap, ◌∙◌, append_assoc, take-append-drop}
+use Rattle.std.proofs.KnownBytes.{Appends-trans}
+use Rattle.std.proofs.lemmas.List.{take_rest}
+use Rattle.std.specs.Io.KnownBytes.{Appends}
+
+-- the bytes that are known to have been written, with those that are still to be written
+abbrev pub IsPartOf : Option (List ℕ) → Option (List ℕ) → (rest text : List ℕ) → Type 0
+IsPartOf old new rest text = (done : List ℕ) × Appends old new done × (done ++ rest ≡ text)
+
+-- n further bytes
+pub part_more : (old mid new : Option (List ℕ)) (rest text : List ℕ) (n : ℕ) → IsPartOf old mid rest text → Appends mid new (take n rest)
+    → IsPartOf old new (take (length rest - n) (drop n rest)) text
+part_more old mid new rest text n part more = (
+  part.0 ++ take n rest,
+  Appends-trans old mid new part.0 (take n rest) part.1 more,
+  rw take_rest (append_assoc part.0 (take n rest) (drop n rest) ∙ (ap (λ l. part.0 ++ l) (take-append-drop n rest) ∙ part.2)),
+)

@@ -1,0 +1,4 @@
+pub mod Arrays
+pub mod Program
+pub mod Watch
+pub mod Words

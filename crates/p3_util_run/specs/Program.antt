@@ -1,0 +1,81 @@
+-- What the program does: the text that it writes for its words and its input, and why it ends without one.
+use Rattle.std.specs.Prelude.{ℕ, ◌≡◌, ◌⊎◌, ◌*◌, List, length, map, String, string_bytes, Option, Result, Ok, Err, IsSomeAnd, MatchOption, ⊤}
+use Rattle.std.specs.declared.alloc.Global.{Global}
+use Rattle.std.specs.Io.KnownBytes.{Consumes, IsAtEnd}
+use Rattle.p3_util_kernels.specs.Reversal.{IsReversal, IsZeroOrPowerOfTwo}
+use Rattle.p3_util_kernels.specs.Transpose.{IsTranspose}
+use Rattle.p3_util_run.specs.Arrays.{IsArrayOf, line_of}
+use Rattle.p3_util_run.specs.Words.{command_of}
+use Rattle.p3_util_run.specs.declared.fault.RunFault.{RunFault}
+use Rattle.p3_util_run.specs.declared.fault.RunFault.TheVariants.{UnknownCommand, Read, NotAnArray, BadLength, NotTheLength, Memory, Write}
+use Rattle.p3_util_run.specs.declared.words.Command.{Command}
+use Rattle.p3_util_run.specs.declared.words.Command.TheVariants.{Revbits, Transpose}
+
+-- a list of this length can be rearranged
+abbrev pub Fits : Command → ℕ → Type 0
+Fits Revbits len = IsZeroOrPowerOfTwo len
+Fits (Transpose width height) len = len ≡ width * height
+
+-- the new list is the old one as the command rearranges it
+abbrev pub IsRearranged : Command → (old new : List ℕ) → Type 0
+IsRearranged Revbits old new = IsReversal old new
+IsRearranged (Transpose width height) old new = IsTranspose width height old new
+
+-- the fault of a list of this length, where it cannot be rearranged
+abbrev pub misfit : Command → ℕ → RunFault
+misfit Revbits len = BadLength len
+misfit (Transpose width height) len = NotTheLength width height len
+
+-- the input is the array of a list that can be rearranged, and the text is the line of what it becomes
+abbrev pub Answers : Command → (input text : List ℕ) → Type 0
+Answers command input text = (old new : List ℕ) × IsArrayOf input old × Fits command (length old) × IsRearranged command old new × (text ≡ line_of new)
+
+-- the input is the array of a list that can be rearranged
+abbrev pub HasAnswer : Command → List ℕ → Type 0
+HasAnswer command input = (xs : List ℕ) × IsArrayOf input xs × Fits command (length xs)
+
+-- why a command has no answer to an input
+abbrev pub Refuses : Command → List ℕ → RunFault → Type 0
+Refuses command input fault = ((fault ≡ NotAnArray) × ((xs : List ℕ) → ¬ IsArrayOf input xs))
+    ⊎ ((xs : List ℕ) × IsArrayOf input xs × ¬ Fits command (length xs) × (fault ≡ misfit command (length xs)))
+
+-- the text that the program writes
+abbrev pub Out : (words : List (List ℕ)) (input text : List ℕ) → Type 0
+Out words input text = IsSomeAnd (command_of words) (λ command. Answers command input text)
+
+-- the fault that it ends with where there is no such text
+abbrev pub Fault : (words : List (List ℕ)) (input : List ℕ) → RunFault → Type 0
+Fault words input fault = MatchOption (command_of words) (fault ≡ UnknownCommand) (λ command. Refuses command input fault)
+
+-- there is a text to write
+abbrev pub IsDefined : (words : List (List ℕ)) (input : List ℕ) → Type 0
+IsDefined words input = IsSomeAnd (command_of words) (λ command. HasAnswer command input)
+
+-- a fault that the bytes of the input decide
+abbrev pub IsOfInput : RunFault → Type 0
+IsOfInput UnknownCommand = ⊥
+IsOfInput Read = ⊥
+IsOfInput NotAnArray = ⊤
+IsOfInput (BadLength len) = ⊤
+IsOfInput (NotTheLength width height len) = ⊤
+IsOfInput Memory = ⊥
+IsOfInput Write = ⊥
+
+-- neither the reader nor memory nor the writer failed
+abbrev pub IsSettled : {T : Type 0} → Result T RunFault → Type 0
+IsSettled (Ok _) = ⊤
+IsSettled (Err UnknownCommand) = ⊤
+IsSettled (Err Read) = ⊥
+IsSettled (Err NotAnArray) = ⊤
+IsSettled (Err (BadLength len)) = ⊤
+IsSettled (Err (NotTheLength width height len)) = ⊤
+IsSettled (Err Memory) = ⊥
+IsSettled (Err Write) = ⊥
+
+-- the bytes that a reader had left, where they are known, are these, and none is left
+abbrev pub ReadsAll : Option (List ℕ) → Option (List ℕ) → List ℕ → Type 0
+ReadsAll old new input = Consumes old new input × IsAtEnd new
+
+-- the bytes of each word
+abbrev pub texts_of : List (String Global) → List (List ℕ)
+texts_of words = map string_bytes words

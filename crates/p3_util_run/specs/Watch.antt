@@ -1,0 +1,25 @@
+-- A reader or a writer whose failures are counted. The count stays at the largest u64 once it is there.
+use Rattle.std.specs.Prelude.{ℕ, ◌≡◌, ◌+◌, ◌-◌, ◌^◌, ◌<◌, ◌⊎◌, min, List, length, Result, Ok, Err, nat_lt, ◌&&◌, ◌==◌, if◌then◌else◌}
+
+-- what a contract sees of a watched reader or writer
+pub record Watch (T : Type 0) : Type 0 where
+  pub inner : T
+  pub failures : ℕ
+
+-- the count after one more failure
+abbrev pub noted : ℕ → ℕ
+noted count = min (2 ^ 64 - 1) (count + 1)
+
+-- the count after a call that fails where it answers an error
+abbrev pub count_after_call : {T E : Type 0} → Result T E → ℕ → ℕ
+count_after_call (Ok _) count = count
+count_after_call (Err _) count = noted count
+
+-- the count after a write of these bytes, which also fails where it takes none of some
+abbrev pub count_after_write : {E : Type 0} → Result ℕ E → List ℕ → ℕ → ℕ
+count_after_write (Ok n) bytes count = if n == 0 && nat_lt 0 (length bytes) then noted count else count
+count_after_write (Err _) bytes count = noted count
+
+-- it failed since: the count rose, or it stands at its greatest
+abbrev pub HasFailed : {T : Type 0} → Watch T → Watch T → Type 0
+HasFailed old new = (old.failures < new.failures) ⊎ (new.failures ≡ 2 ^ 64 - 1)

@@ -1,0 +1,59 @@
+//! Lists of numbers as JSON text.
+
+ghost use Rattle.std.specs.Prelude.{◌≡◌, ℕ, ◌++◌, ◌⊎◌, List, map, IfOk, IfErr, string_bytes};
+ghost use Rattle.serde_json.specs.View.{view};
+ghost use Rattle.p3_util_run.specs.Arrays.{IsArrayOf, array_of, number_of, line_of};
+
+use crate::fault::RunFault;
+use serde_json::Value;
+use std::alloc::{AllocError, Global};
+
+/// The numbers of a JSON array.
+///
+/// `RunFault::NotAnArray` where the bytes are none of numbers of 64 bits without a sign, and `RunFault::Memory`.
+pub fn read_array(alloc: Global, bytes: &[u8]) -> Result<Vec<u64>, RunFault>
+    ensures read { IfOk result (λ v. IsArrayOf bytes.now v.items) }
+    ensures kind { IfErr result (λ e. (e ≡ RunFault.NotAnArray) ⊎ (e ≡ RunFault.Memory)) }
+    ensures refused { result ≡ Err RunFault.NotAnArray → (xs : List ℕ) → ¬ IsArrayOf bytes.now xs }
+{
+    let value = match Value::from_slice(alloc, bytes) {
+        Ok(value) => value,
+        Err(e) if e.is_memory() => return Err(RunFault::Memory),
+        Err(_) => return Err(RunFault::NotAnArray),
+    };
+    match value.as_array() {
+        Some(items) => read_numbers(alloc, items.as_slice()),
+        None => Err(RunFault::NotAnArray),
+    }
+}
+
+fn read_numbers(alloc: Global, items: &[Value]) -> Result<Vec<u64>, RunFault>
+    ensures read { IfOk result (λ v. map view items.now ≡ map number_of v.items) }
+    ensures kind { IfErr result (λ e. (e ≡ RunFault.NotAnArray) ⊎ (e ≡ RunFault.Memory)) }
+    ensures refused { result ≡ Err RunFault.NotAnArray → (xs : List ℕ)
+        → ¬ (map view items.now ≡ map number_of xs) }
+{
+    let mut numbers = Vec::new(alloc);
+    for item in items {
+        let Some(number) = item.as_u64() else {
+            return Err(RunFault::NotAnArray);
+        };
+        if numbers.push(number).is_err() {
+            return Err(RunFault::Memory);
+        }
+    }
+    Ok(numbers)
+}
+
+/// The text of a JSON array of the numbers, with no space, and a line feed.
+pub fn line(alloc: Global, numbers: &[u64]) -> Result<String, AllocError>
+    ensures { IfOk result (λ text. string_bytes text ≡ line_of numbers.now) }
+{
+    let mut items = Vec::new(alloc);
+    for number in numbers {
+        items.push(Value::from(*number))?;
+    }
+    let mut text = Value::from(items).to_string(alloc)?;
+    text.push_str("\n")?;
+    Ok(text)
+}

@@ -1,0 +1,62 @@
+//! Why the program stops without a result.
+
+ghost use Rattle.std.specs.Prelude.{◌≡◌, ◌≢◌};
+
+use std::fmt;
+
+/// Why a run of the program ended without a result.
+#[derive(Debug, PartialEq, Eq, Drop)]
+pub enum RunFault {
+    /// The words name no command.
+    UnknownCommand,
+    /// The reader failed.
+    Read,
+    /// The input is no JSON array of numbers of 64 bits without a sign.
+    NotAnArray,
+    /// The array's length `len` is neither zero nor a power of two.
+    BadLength {
+        len: usize,
+    },
+    /// `width` times `height` is not the array's length `len`.
+    NotTheLength {
+        width: usize,
+        height: usize,
+        len: usize,
+    },
+    /// Memory was refused.
+    Memory,
+    /// The writer failed, or took none of what it was given.
+    Write,
+}
+
+impl RunFault {
+    /// The status that the program ends with.
+    pub fn status(&self) -> u8
+        ensures memory { self.now ≡ RunFault.Memory → result ≡ 3 }
+        ensures other { self.now ≢ RunFault.Memory → result ≡ 2 }
+    {
+        match self {
+            RunFault::Memory => 3,
+            _ => 2,
+        }
+    }
+}
+
+impl fmt::Display for RunFault {
+    fn fmt<W: fmt::Write>(&self, f: &mut fmt::Formatter<W>) -> fmt::Result {
+        f.write_str("error: ")?;
+        match self {
+            RunFault::UnknownCommand => f.write_str("unknown command"),
+            RunFault::Read => f.write_str("input cannot be read"),
+            RunFault::NotAnArray => f.write_str("input is not a JSON array of u64"),
+            RunFault::BadLength { len } => {
+                write!(f, "length {len} is neither zero nor a power of two")
+            }
+            RunFault::NotTheLength { width, height, len } => {
+                write!(f, "{width} by {height} is not the length {len}")
+            }
+            RunFault::Memory => f.write_str("out of memory"),
+            RunFault::Write => f.write_str("output cannot be written"),
+        }
+    }
+}

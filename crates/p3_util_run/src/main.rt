@@ -1,0 +1,51 @@
+//! Rearranges a JSON array of numbers: `revbits` orders it by reversed index bits, and `transpose W H` transposes it as a
+//! matrix of `H` rows of `W` items.
+//!
+//! The array is read from standard input. Its rearrangement is written to standard output, with a line feed.
+#![tactic(auto)]
+
+pub mod arrays;
+pub mod fault;
+pub mod program;
+pub mod watched;
+pub mod words;
+
+use fault::RunFault;
+use std::env;
+use std::io::ErrorKind;
+use std::process::ExitCode;
+use watched::Watched;
+
+/// The words that follow the program's name. `RunFault::UnknownCommand` where they are no text, and `RunFault::Memory`.
+fn given_words(rt: &HostRuntime) -> Result<Vec<String>, RunFault> {
+    match env::args(rt) {
+        Ok(words) => match words.skip(1).collect(rt.alloc()) {
+            Ok(words) => Ok(words),
+            Err(_) => Err(RunFault::Memory),
+        },
+        Err(e) if e.kind() == ErrorKind::OutOfMemory => Err(RunFault::Memory),
+        Err(_) => Err(RunFault::UnknownCommand),
+    }
+}
+
+/// Runs the program on the words, the standard input and the standard output of the process.
+fn run_here(rt: &HostRuntime) -> Result<(), RunFault> {
+    let words = given_words(rt)?;
+    let mut reader = Watched::new(rt.stdin());
+    let mut writer = Watched::new(rt.stdout());
+    program::run(rt.alloc(), words.as_slice(), &mut reader, &mut writer)
+}
+
+fn main(rt: HostRuntime) -> ExitCode {
+    match run_here(&rt) {
+        Ok(()) => ExitCode::SUCCESS,
+        Err(fault) => {
+            let status = fault.status();
+            let _ = eprintln!(rt; "{fault}");
+            ExitCode::from(status)
+        }
+    }
+}
+
+#[cfg(test)]
+mod tests;

@@ -1,0 +1,196 @@
+//! The program over any reader and any writer.
+
+ghost use Rattle.std.specs.Prelude.{◌≡◌, ◌≢◌, ◌<◌, ◌*◌, ◌↔◌, ◌⊎◌, ℕ, List, length, IsOk, OnOk, IfOk, OnErr, IfErr, IfSome, IsTrue, string_bytes};
+ghost use Rattle.std.specs.Io.KnownBytes.{Appends};
+ghost use Rattle.p3_util_kernels.specs.Reversal.{IsReversal, IsZeroOrPowerOfTwo};
+ghost use Rattle.p3_util_kernels.specs.Transpose.{IsTranspose};
+ghost use Rattle.p3_util_run.specs.Program.{Answers, Fault, IsDefined, IsOfInput, IsSettled, Fits, IsRearranged, misfit, Out, ReadsAll, Refuses, texts_of};
+ghost use Rattle.p3_util_run.specs.Watch.{HasFailed, noted};
+ghost use Rattle.p3_util_run.specs.Words.{command_of};
+ghost use Rattle.p3_util_run.specs.declared.fault.RunFault.{RunFault};
+
+use crate::arrays::{line, read_array};
+use crate::fault::RunFault;
+use crate::watched::Watched;
+use crate::words::Command;
+use p3_util_kernels::reverse::reverse_slice_index_bits;
+use p3_util_kernels::transpose::{fits_matrix, transpose};
+use std::alloc::Global;
+use std::io::{Read, Write};
+
+const CHUNK: usize = 8192;
+
+/// Runs the program on its words, a reader of the input and a writer of the output.
+///
+/// The faults are told in this order: `RunFault::UnknownCommand`, with nothing read; `RunFault::Read`, at the reader's
+/// first failure; `RunFault::NotAnArray`; `RunFault::BadLength` or `RunFault::NotTheLength`; `RunFault::Memory`, wherever
+/// room is asked for; `RunFault::Write`, at the writer's first failure. Nothing is written before the whole text is
+/// there. How much a failed writer took is left open.
+pub fn run<R: Read, W: Write>(
+    alloc: Global,
+    words: &[String],
+    reader: &mut Watched<R>,
+    writer: &mut Watched<W>,
+) -> Result<(), RunFault>
+    // All input was read, and its answer was written, and nothing else.
+    ensures ok { OnOk result ((input text : List ℕ)
+        × ReadsAll (R.remaining reader.old.inner) (R.remaining reader.new.inner) input
+        × Out (texts_of words.now) input text
+        × Appends (W.contents writer.old.inner) (W.contents writer.new.inner) text) }
+    // All input was read, and there is no answer.
+    ensures refused { IfErr result (λ fault. IsOfInput fault → (input : List ℕ)
+        × ReadsAll (R.remaining reader.old.inner) (R.remaining reader.new.inner) input
+        × Fault (texts_of words.now) input fault) }
+    // The converse of both.
+    ensures answers { IfSome (R.remaining reader.old.inner) (λ input. IsSettled result
+        → (IsOk result ↔ IsDefined (texts_of words.now) input)) }
+    ensures refuses { IfSome (R.remaining reader.old.inner) (λ input. IsSettled result
+        → (fault : RunFault) → (result ≡ Err fault) ↔ Fault (texts_of words.now) input fault) }
+
+    // Bad words alone are told so, and nothing is read then.
+    ensures unknown { (result ≡ Err RunFault.UnknownCommand) ↔ (command_of (texts_of words.now) ≡ None) }
+    ensures unread { result ≡ Err RunFault.UnknownCommand → reader.new ≡ reader.old }
+    ensures unwritten { IfErr result (λ fault. fault ≢ RunFault.Write → writer.new ≡ writer.old) }
+
+    // A part that failed is told, and the answer tells of no failure that was none.
+    ensures reader_failed { result ≡ Err RunFault.Read → HasFailed reader.old reader.new }
+    ensures reader_told { reader.old.failures < reader.new.failures → result ≡ Err RunFault.Read }
+    ensures writer_failed { result ≡ Err RunFault.Write → HasFailed writer.old writer.new }
+    ensures writer_told { writer.old.failures < writer.new.failures → result ≡ Err RunFault.Write }
+
+    // The first failure ends the run, so one is counted.
+    ensures reader_once { (result ≡ Err RunFault.Read → reader.new.failures ≡ noted reader.old.failures)
+        × (result ≢ Err RunFault.Read → reader.new.failures ≡ reader.old.failures) }
+    ensures writer_once { (result ≡ Err RunFault.Write → writer.new.failures ≡ noted writer.old.failures)
+        × (result ≢ Err RunFault.Write → writer.new.failures ≡ writer.old.failures) }
+{
+    let Some(command) = Command::from_words(words) else {
+        return Err(RunFault::UnknownCommand);
+    };
+    let input = read_all(alloc, reader)?;
+    match answer(alloc, &command, input.as_slice()) {
+        Ok(text) => write_all(writer, text.as_bytes()),
+        Err(fault) => Err(fault),
+    }
+}
+
+/// The text that answers an input.
+///
+/// `RunFault::NotAnArray`, `RunFault::BadLength` or `RunFault::NotTheLength` where there is none, and `RunFault::Memory`.
+fn answer(alloc: Global, command: &Command, input: &[u8]) -> Result<String, RunFault>
+    ensures ok { IfOk result (λ text. Answers command.now input.now (string_bytes text)) }
+    ensures err { IfErr result (λ fault. (fault ≡ RunFault.Memory) ⊎ Refuses command.now input.now fault) }
+{
+    let numbers = read_array(alloc, input)?;
+    let rearranged = rearrange(alloc, command, numbers)?;
+    match line(alloc, rearranged.as_slice()) {
+        Ok(text) => Ok(text),
+        Err(_) => Err(RunFault::Memory),
+    }
+}
+
+/// The list as the command rearranges it.
+fn rearrange(alloc: Global, command: &Command, numbers: Vec<u64>) -> Result<Vec<u64>, RunFault>
+    ensures ok { IfOk result (λ v. Fits command.now (length numbers.items)
+        × IsRearranged command.now numbers.items v.items) }
+    ensures err { IfErr result (λ fault. (fault ≡ RunFault.Memory) ⊎ (¬ Fits command.now (length numbers.items)
+        × (fault ≡ misfit command.now (length numbers.items)))) }
+{
+    match command {
+        Command::Revbits => reversed(numbers),
+        Command::Transpose { width, height } => {
+            transposed(alloc, numbers.as_slice(), *width, *height)
+        }
+    }
+}
+
+/// Reads to the end of the input.
+///
+/// `RunFault::Read` at the reader's first failure, and `RunFault::Memory`.
+fn read_all<R: Read>(alloc: Global, reader: &mut Watched<R>) -> Result<Vec<u8>, RunFault>
+    ensures read { IfOk result (λ v. ReadsAll (R.remaining reader.old.inner) (R.remaining reader.new.inner) v.items) }
+    ensures kind { IfErr result (λ e. (e ≡ RunFault.Read) ⊎ (e ≡ RunFault.Memory)) }
+    ensures failed { result ≡ Err RunFault.Read → reader.new.failures ≡ noted reader.old.failures }
+    ensures good { result ≢ Err RunFault.Read → reader.new.failures ≡ reader.old.failures }
+{
+    let mut input = Vec::new(alloc);
+    let mut chunk = [0u8; CHUNK];
+    loop {
+        match reader.read(&mut chunk) {
+            Ok(0) => return Ok(input),
+            Ok(n) => {
+                if input.extend_from_slice(&chunk[..n]).is_err() {
+                    return Err(RunFault::Memory);
+                }
+            }
+            Err(_) => return Err(RunFault::Read),
+        }
+    }
+}
+
+/// Writes all of `text` and flushes. `RunFault::Write` at the writer's first failure.
+fn write_all<W: Write>(writer: &mut Watched<W>, text: &[u8]) -> Result<(), RunFault>
+    ensures written { OnOk result
+        (Appends (W.contents writer.old.inner) (W.contents writer.new.inner) text.now) }
+    ensures kind { IfErr result (λ e. e ≡ RunFault.Write) }
+    ensures failed { OnErr result (writer.new.failures ≡ noted writer.old.failures) }
+    ensures good { OnOk result (writer.new.failures ≡ writer.old.failures) }
+{
+    let mut rest = text;
+    while !rest.is_empty() {
+        match writer.write(rest) {
+            Ok(0) => return Err(RunFault::Write),
+            Ok(n) => rest = &rest[n..],
+            Err(_) => return Err(RunFault::Write),
+        }
+    }
+    if writer.flush().is_err() {
+        return Err(RunFault::Write);
+    }
+    Ok(())
+}
+
+/// The list by reversed index bits. `RunFault::BadLength` where its length is neither zero nor a power of two.
+fn reversed(mut numbers: Vec<u64>) -> Result<Vec<u64>, RunFault>
+    ensures ok { IfOk result (λ v. IsZeroOrPowerOfTwo (length numbers.items) × IsReversal numbers.items v.items) }
+    ensures err { IfErr result (λ e. ¬ IsZeroOrPowerOfTwo (length numbers.items)
+        × (e ≡ RunFault.BadLength (length numbers.items))) }
+{
+    let len = numbers.len();
+    if is_zero_or_power_of_two(len) {
+        reverse_slice_index_bits(numbers.as_mut_slice());
+        Ok(numbers)
+    } else {
+        Err(RunFault::BadLength { len })
+    }
+}
+
+fn is_zero_or_power_of_two(len: usize) -> bool
+    ensures { IsTrue result ↔ IsZeroOrPowerOfTwo len }
+{
+    len == 0 || len.is_power_of_two()
+}
+
+/// The transpose of a matrix of `height` rows of `width` items. `RunFault::NotTheLength` where that is not the list's
+/// length, and `RunFault::Memory`.
+fn transposed(
+    alloc: Global,
+    numbers: &[u64],
+    width: usize,
+    height: usize,
+) -> Result<Vec<u64>, RunFault>
+    ensures ok { IfOk result (λ v. (length numbers.now ≡ width * height) × IsTranspose width height numbers.now v.items) }
+    ensures err { IfErr result (λ e. (e ≡ RunFault.Memory) ⊎ ((length numbers.now ≢ width * height)
+        × (e ≡ RunFault.NotTheLength width height (length numbers.now)))) }
+{
+    let len = numbers.len();
+    if !fits_matrix(len, len, width, height) {
+        return Err(RunFault::NotTheLength { width, height, len });
+    }
+    let mut output = Vec::new(alloc);
+    if output.resize(len, 0).is_err() {
+        return Err(RunFault::Memory);
+    }
+    transpose(numbers, output.as_mut_slice(), width, height);
+    Ok(output)
+}

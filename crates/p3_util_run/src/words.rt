@@ -1,0 +1,48 @@
+//! The words that the program is called with.
+
+ghost use Rattle.std.specs.Prelude.{◌≡◌, map, string_bytes};
+ghost use Rattle.std.specs.List.{list_all};
+ghost use Rattle.std.specs.Char.{is_ascii_digit};
+ghost use Rattle.p3_util_run.specs.Words.{command_of, side_of};
+
+/// What the program is told to do with its list.
+#[derive(Drop)]
+pub enum Command {
+    /// Order it by reversed index bits.
+    Revbits,
+    /// Transpose it, a matrix of `height` rows of `width` items.
+    Transpose { width: usize, height: usize },
+}
+
+impl Command {
+    /// The command that the words name.
+    pub fn from_words(words: &[String]) -> Option<Command>
+        ensures { result ≡ command_of (map string_bytes words.now) }
+    {
+        match words {
+            [name] if name.as_str() == "revbits" => Some(Command::Revbits),
+            [name, width, height] if name.as_str() == "transpose" => Some(Command::Transpose {
+                width: side(width.as_str())?,
+                height: side(height.as_str())?,
+            }),
+            _ => None,
+        }
+    }
+}
+
+/// The number that a word of decimal digits writes, where it fits 64 bits.
+fn side(word: &str) -> Option<usize>
+    ensures { result ≡ side_of word.now }
+{
+    if is_all_digits(word) {
+        word.parse::<usize>().ok()
+    } else {
+        None
+    }
+}
+
+fn is_all_digits(word: &str) -> bool
+    ensures { result ≡ list_all is_ascii_digit word.now }
+{
+    word.bytes().all(|byte| byte.is_ascii_digit())
+}
