@@ -1,3 +1,4 @@
 pub mod Flat
 pub mod JsonLists
+pub mod Moved
 pub mod OneAnswer

@@ -1,7 +1,3 @@
-//! Views of arrays as one slice, and vectors of arrays moved to and from vectors of items.
-#![tactic(auto)]
-
-pub mod views;
 //! The small calls at the bottom of a proof system: bit reversal, transposes, logarithms, chunks, flattened views, a map
 //! in insertion order, a zip of equal lengths, and arrays as JSON.
 //!
@@ -9,6 +5,7 @@ pub mod views;
 #![tactic(auto)]
 
 pub mod array_serialization;
+pub mod views;
 
 pub use p3_util_kernels::bits;
 pub use p3_util_kernels::bits::{
@@ -22,3 +19,13 @@ pub use p3_util_kernels::reverse::{
     reverse_index_bits_on, reverse_index_bits_short, reverse_slice_index_bits,
 };
 pub use p3_util_kernels::transpose;
+pub use views::{
+    BaseIter, BaseSlice, BaseSliceMut, as_base_slice, as_base_slice_mut, flat_len, flatten_to_base,
+    reconstitute_from_base,
+};
+
+/// A refusal for want of memory, with what the refused call was given, unchanged.
+#[derive(Debug, Drop)]
+pub struct NoRoom<G> {
+    pub given: G,
+}

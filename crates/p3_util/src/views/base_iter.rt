@@ -1,22 +1,29 @@
 //! The items of a view, one after another.
 
-ghost use Rattle.std.specs.Prelude.{◌≡◌, length, Some, IfSome};
+ghost use Rattle.std.specs.Prelude.{◌≡◌, List, length, Some, IfSome};
 ghost use Rattle.std.specs.Iterator.{YieldsFirstRef, item_count, UpTo};
 ghost use Rattle.std.specs.Iterator.SizeHint.{IsWithinCount};
 ghost use Rattle.std.specs.Slice.Iter.{iter_rest};
 
+use std::marker::Model;
 use std::slice::Iter;
 
-/// References to the items of a view, in order.
+/// References to the items of a view, in order. Contracts see the list of the items that are left.
 #[derive(Drop)]
 pub struct BaseIter<'a, Base> {
     rest: Iter<'a, Base>,
 }
 
+impl<'a, Base> Model for BaseIter<'a, Base> {
+    ghost Value = { List Base };
+
+    ghost view = { λ s. iter_rest s.rest };
+}
+
 impl<'a, Base> BaseIter<'a, Base> {
     /// The items of `items`, in order.
     pub(super) fn new(items: &'a [Base]) -> Self
-        ensures { iter_rest result.rest ≡ items.now }
+        ensures { result ≡ items.now }
     {
         BaseIter { rest: items.iter() }
     }
@@ -25,9 +32,9 @@ impl<'a, Base> BaseIter<'a, Base> {
 impl<'a, Base> Iterator for BaseIter<'a, Base> {
     type Item = &'a Base;
 
-    ghost next_gives = { YieldsFirstRef (λ s. iter_rest s.rest) };
+    ghost next_gives = { YieldsFirstRef (λ s. s) };
 
-    ghost remaining = { item_count (λ s. iter_rest s.rest) };
+    ghost remaining = { item_count (λ s. s) };
 
     fn next(&mut self) -> Option<&'a Base> {
         self.rest.next()
@@ -35,9 +42,9 @@ impl<'a, Base> Iterator for BaseIter<'a, Base> {
 
     /// The number of items left, twice.
     fn size_hint(&self) -> (usize, Option<usize>)
-        ensures lower { IsWithinCount result.0 (item_count (λ s. iter_rest s.rest) self.now) }
-        ensures upper { IfSome result.1 (UpTo (item_count (λ s. iter_rest s.rest) self.now)) }
-        ensures left { result.0 ≡ length (iter_rest self.now.rest) }
+        ensures lower { IsWithinCount result.0 (item_count (λ s. s) self.now) }
+        ensures upper { IfSome result.1 (UpTo (item_count (λ s. s) self.now)) }
+        ensures left { result.0 ≡ length (self.now) }
         ensures twice { result.1 ≡ Some result.0 }
     {
         let left = self.rest.len();

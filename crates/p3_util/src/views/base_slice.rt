@@ -2,7 +2,6 @@
 
 ghost use Rattle.std.specs.Prelude.{◌≡◌, ◌==◌, ◌*◌, ◌^◌, ◌<◌, ◌≤◌, List, length, slice_get};
 ghost use Rattle.std.specs.Option.{option_copied};
-ghost use Rattle.std.specs.Slice.Iter.{iter_rest};
 ghost use Rattle.p3_util.specs.Flat.{flat};
 
 use super::BaseIter;
@@ -59,7 +58,7 @@ impl<'a, Base, const N: usize> BaseSlice<'a, Base, N> {
 
     /// The items, in order.
     pub fn iter(&self) -> BaseIter<'a, Base>
-        ensures { iter_rest result.rest ≡ self.now }
+        ensures { result ≡ self.now }
     {
         BaseIter::new(self.items)
     }

@@ -3,7 +3,6 @@
 ghost use Rattle.std.specs.Prelude.{◌≡◌, ◌==◌, ◌*◌, ◌^◌, ◌<◌, ◌≤◌, List, length, slice_get};
 ghost use Rattle.std.proofs.Common.{refl, ◌∙◌};
 ghost use Rattle.std.specs.Option.{option_copied};
-ghost use Rattle.std.specs.Slice.Iter.{iter_rest};
 
 use super::BaseIter;
 use super::rows::Row;
@@ -14,7 +13,8 @@ use p3_util_kernels::places::{Cells, Places};
 /// What the view holds stands in the rows when the borrow ends. Contracts see the list as `R.items` of `rows`.
 #[derive(Drop)]
 pub struct RowsMut<'a, R: Row> {
-    rows: &'a mut [R],
+    /// The rows.
+    pub rows: &'a mut [R],
     len: usize,
     ghost len_counts_items: { len ≡ length (R.items rows.now) },
     ghost len_counts_rows: { len ≡ length rows.now * R.width },
@@ -59,7 +59,7 @@ impl<'a, R: Row> RowsMut<'a, R> {
 
     /// The items, in order.
     pub fn iter(&self) -> BaseIter<'_, R::Item>
-        ensures { iter_rest result.rest ≡ R.items self.now.rows.now }
+        ensures { result ≡ R.items self.now.rows.now }
     {
         BaseIter::new(R::items_of(self.rows))
     }
