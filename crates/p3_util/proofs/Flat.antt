@@ -1,12 +1,17 @@
 -- What a write or an exchange in the rows does to the list of their items.
-use Rattle.std.proofs.Common.{ℕ, zero, suc, ◌≡◌, ◌+◌, ◌-◌, ◌*◌, ◌<◌, ◌≤◌, ◌≢◌, List, [], ◌∷◌, ◌++◌, length, get_or, set, take, drop, refl, sym, ap, ◌∙◌, arith, length-append, get_or-set_other, get_or-set_same, zero-add, add_assoc}
+use Rattle.std.proofs.Common.{ℕ, zero, suc, ◌≡◌, ◌+◌, ◌-◌, ◌*◌, ◌<◌, ◌≤◌, ◌≢◌, List, [], ◌∷◌, ◌++◌, length, get_or, set, take, drop, refl, sym, ap, ◌∙◌, arith, length-append, get_or-set_other, get_or-set_same, zero-add, add_assoc, ◌^◌, ◌/◌, max}
+use Rattle.std.proofs.lemmas.Nat.{le-div}
 use Rattle.std.proofs.Math.Nat.{mul-le-mul_right}
 use Rattle.std.proofs.Math.Seq.{take-set-lt}
 use Rattle.std.specs.List.{swap}
-use Rattle.std.proofs.lemmas.List.{length-set, set-append_left, set-append_right, set-set, set_comm, take-set, drop-set-add, drop-set-lt, take-append-drop, get_or-take, get_or-drop}
+use Rattle.std.proofs.lemmas.List.{length-set, set-append_left, set-append_right, set-set, set_comm, take-set, drop-set-add, drop-set-lt, take-append-drop, get_or-take, get_or_default, length-take, take_all, get_or-drop}
 use Rattle.std.proofs.lemmas.List.Edits.{swap_is}
 use Rattle.std.proofs.lemmas.List.Concat.{get_or-flat_map}
-use Rattle.p3_util.specs.Flat.{flat}
+use Rattle.p3_util.specs.Flat.{counted_rows, flat}
+
+counts_all : (l n : ℕ) → l < 2 ^ 64 → l * n < 2 ^ 64 → l * max n 1 ≤ 2 ^ 64 - 1
+counts_all l zero few fits = omega arith
+counts_all l (suc n) few fits = let same : max (suc n) 1 ≡ suc n = omega arith in rw same (omega arith)
 
 module _ {A : Type 0} where
   -- where row r begins
@@ -158,3 +163,27 @@ module _ {A : Type 0} where
       let times : r * n ≡ s * n = ap (λ k. k * n) same in
       let place' : start rows r + d ≡ j = omega arith in
       ap (λ l. flat (set rows r l)) is ∙ flat-swap rows r c d lr ic id ∙ ap (λ k. swap (flat rows) k (start rows r + d)) place ∙ ap (λ k. swap (flat rows) i k) place'
+
+  -- an item, where row r begins at place r * n
+  pub item-at : (rows : List (List A)) (r c n i : ℕ) (y : List A) (d : A) → r < length rows → c < n → length y ≡ n → y ≡ get_or rows r y → start rows r ≡ r * n
+      → i ≡ r * n + c → get_or (flat rows) i d ≡ get_or y c d
+  item-at rows r c n i y d lr lc len row begins at =
+      let same : get_or rows r [] ≡ y = sym (get_or_default rows r y [] lr) ∙ sym row in
+      let inside : c < length (get_or rows r []) = rw same (omega arith) in
+      let place : i ≡ start rows r + c = omega arith in
+      ap (λ k. get_or (flat rows) k d) place ∙ get_or-flat rows r c d lr inside ∙ ap (λ l. get_or l c d) same
+
+  -- the same of the rows whose items a usize can count
+  pub item-at-counted : (rows seen : List (List A)) (r c n i : ℕ) (y : List A) (d : A) → seen ≡ counted_rows n rows → r < length seen → c < n → length y ≡ n
+      → y ≡ get_or rows r y → start seen r ≡ r * n → i ≡ r * n + c → get_or (flat (counted_rows n rows)) i d ≡ get_or y c d
+  item-at-counted rows seen r c n i y d is lr lc len row begins at =
+      let count = (2 ^ 64 - 1) / max n 1 in
+      let lr' : r < length (take count rows) = rw is at lr in
+      let inside : r < count = omega (arith, length-take count rows) in
+      let row' : y ≡ get_or seen r y = row ∙ sym (get_or-take count rows r y inside) ∙ ap (λ l. get_or l r y) (sym is) in
+      ap (λ l. get_or (flat l) i d) (sym is) ∙ item-at seen r c n i y d lr lc len row' begins at
+
+  -- a usize can count the items of all the rows
+  pub counted-all : (n : ℕ) (rows : List (List A)) → length rows < 2 ^ 64 → length rows * n < 2 ^ 64 → counted_rows n rows ≡ rows
+  counted-all n rows few fits =
+      take_all ((2 ^ 64 - 1) / max n 1) rows (le-div (length rows) (2 ^ 64 - 1) (max n 1) (omega arith) (counts_all (length rows) n few fits))

@@ -1,6 +1,5 @@
 -- Items are moved out of a list one after another: those before place k are gone, those from place k on are as they were.
 use Rattle.std.proofs.Common.{ℕ, ◌≡◌, ◌+◌, ◌<◌, List, [], ◌∷◌, ◌++◌, length, get_or, set, take, drop, sym, ap, ◌∙◌, arith, append_assoc}
-use Rattle.std.specs.List.{flat_map}
 use Rattle.std.proofs.lemmas.List.{drop-drop, drop-set-lt, flat_map_more, get_or-drop, take_more}
 use Rattle.p3_util.specs.Flat.{flat}
 

@@ -2,7 +2,8 @@
 
 ghost use Rattle.std.specs.Prelude.{◌≡◌, ◌==◌, ◌*◌, ◌^◌, ◌<◌, ◌≤◌, List, length, slice_get};
 ghost use Rattle.std.proofs.Common.{refl, ◌∙◌};
-ghost use Rattle.std.specs.Option.{option_copied};
+ghost use Rattle.p3_util.specs.Flat.{counted_rows, flat};
+ghost use Rattle.std.specs.Option.{option_copied, option_copied_mut};
 
 use super::BaseIter;
 use super::rows::Row;
@@ -12,13 +13,9 @@ use p3_util_kernels::places::{Cells, Places};
 ///
 /// What the view holds stands in the rows when the borrow ends. Contracts see the list as `R.items` of `rows`.
 #[derive(Drop)]
-pub struct RowsMut<'a, R: Row> {
+pub struct RowsMut<'a, R> {
     /// The rows.
     pub rows: &'a mut [R],
-    len: usize,
-    ghost len_counts_items: { len ≡ length (R.items rows.now) },
-    ghost len_counts_rows: { len ≡ length rows.now * R.width },
-    ghost fits: { length rows.now * R.width < 2 ^ 64 },
 }
 
 /// A mutable slice of arrays of `N` items, seen as the list of their items, array after array. For `N` = 0 it is empty.
@@ -29,10 +26,10 @@ pub type BaseSliceMut<'a, Base, const N: usize> = RowsMut<'a, [Base; N]>;
 /// Whether the number of items fits a `usize`, [`flat_len`](super::flat_len) tells.
 pub fn as_base_slice_mut<Base, const N: usize>(buf: &mut [[Base; N]]) -> BaseSliceMut<'_, Base, N>
     requires { length buf.old * N < 2 ^ 64 }
-    ensures { result.rows ≡ buf.entry }
+    ensures rows { result.rows ≡ buf.entry }
+    ensures items { flat (counted_rows N result.rows.now) ≡ flat buf.old }
 {
-    let len = buf.as_flattened().len();
-    RowsMut { rows: buf, len }
+    RowsMut { rows: buf }
 }
 
 impl<'a, R: Row> RowsMut<'a, R> {
@@ -40,14 +37,14 @@ impl<'a, R: Row> RowsMut<'a, R> {
     pub fn len(&self) -> usize
         ensures { result ≡ length (R.items self.now.rows.now) }
     {
-        self.len
+        R::items_of(self.rows).len()
     }
 
     /// Whether there is no item.
     pub fn is_empty(&self) -> bool
         ensures { result ≡ (length (R.items self.now.rows.now) == 0) }
     {
-        self.len == 0
+        R::items_of(self.rows).is_empty()
     }
 
     /// Item `i`, or `None` where there are no more than `i` items.
@@ -55,6 +52,17 @@ impl<'a, R: Row> RowsMut<'a, R> {
         ensures { option_copied result ≡ slice_get (R.items self.now.rows.now) i }
     {
         R::items_of(self.rows).get(i)
+    }
+
+    /// Item `i`, to be written, or `None` where there are no more than `i` items.
+    pub fn get_mut(&mut self, i: usize) -> Option<&mut R::Item>
+        ensures { option_copied_mut result ≡ slice_get (R.items self.old.rows.now) i }
+    {
+        if i < self.len() {
+            Some(R::item_mut(self.rows, i))
+        } else {
+            None
+        }
     }
 
     /// The items, in order.
@@ -73,7 +81,7 @@ impl<'a, R: Row> Places for RowsMut<'a, R> {
     ghost same_holder = { λ a b. a.rows.ghost_name ≡ b.rows.ghost_name };
 
     fn len(&self) -> usize {
-        self.len
+        R::items_of(self.rows).len()
     }
 
     fn exchange(&mut self, i: usize, j: usize) {
@@ -96,7 +104,7 @@ where
     ghost same_holder = { λ a b. a.rows.ghost_name ≡ b.rows.ghost_name };
 
     fn len(&self) -> usize {
-        self.len
+        R::items_of(self.rows).len()
     }
 
     fn put(&mut self, i: usize, v: R::Item) {

@@ -4,12 +4,10 @@ ghost use Rattle.std.specs.Prelude.{◌≡◌, ◌+◌, ◌*◌, ◌%◌, ◌/�
 ghost use Rattle.std.specs.Vec.Iter.{into_iter_items};
 ghost use Rattle.p3_util.specs.Flat.{flat};
 
-use std::alloc::Global;
-use std::array;
-use std::mem;
-use std::vec::IntoIter;
-
 use crate::NoRoom;
+use std::alloc::Global;
+use std::vec::IntoIter;
+use std::{array, mem};
 
 /// The items of the arrays in `vec`, array after array, each moved once.
 ///

@@ -1,4 +1,4 @@
-use Rattle.std.proofs.Common.{◌≡◌, ◌*◌, ◌++◌, take, drop, vec_len, vec_capacity}
+use Rattle.std.proofs.Common.{◌≡◌, ◌*◌, take, drop, vec_len, vec_capacity}
 use Rattle.p3_util.specs.Flat.{flat}
 use Rattle.p3_util.proofs.views.vectors.flatten_to_base.Given as goal
 

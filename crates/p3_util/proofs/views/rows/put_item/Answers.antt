@@ -1,5 +1,5 @@
 use Rattle.p3_util.proofs.Flat.{put-at}
-use Rattle.p3_util.proofs.views.rows.ArrayRow.put.Goals as goal
+use Rattle.p3_util.proofs.views.rows.put_item.Goals as goal
 
 pub returns : goal.returns
 returns g c =

@@ -1,5 +1,5 @@
 use Rattle.p3_util.proofs.Flat.{swap-at, later-first}
-use Rattle.p3_util.proofs.views.rows.ArrayRow.exchange.Goals as goal
+use Rattle.p3_util.proofs.views.rows.exchange_items.Goals as goal
 
 pub returns-then-r-s : goal.returns-then-r-s
 returns-then-r-s g c =
