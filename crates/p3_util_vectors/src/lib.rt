@@ -15,3 +15,5 @@ mod reverse;
 mod square;
 #[cfg(test)]
 mod transpose;
+#[cfg(test)]
+mod views;

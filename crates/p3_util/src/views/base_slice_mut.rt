@@ -81,7 +81,7 @@ impl<'a, R: Row> Places for RowsMut<'a, R> {
     ghost same_holder = { λ a b. a.rows.ghost_name ≡ b.rows.ghost_name };
 
     fn len(&self) -> usize {
-        R::items_of(self.rows).len()
+        RowsMut::len(self)
     }
 
     fn exchange(&mut self, i: usize, j: usize) {
@@ -104,7 +104,7 @@ where
     ghost same_holder = { λ a b. a.rows.ghost_name ≡ b.rows.ghost_name };
 
     fn len(&self) -> usize {
-        R::items_of(self.rows).len()
+        Places::len(self)
     }
 
     fn put(&mut self, i: usize, v: R::Item) {
