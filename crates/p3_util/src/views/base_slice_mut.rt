@@ -11,7 +11,9 @@ use p3_util_kernels::places::{Cells, Places};
 
 /// Mutable rows, seen as the list of their items, row after row.
 ///
-/// What the view holds stands in the rows when the borrow ends. Contracts see the list as `R.items` of `rows`.
+/// What the view holds stands in the rows when the borrow ends. Contracts see the list as `R.items` of `rows`: for
+/// arrays of `N` items, `flat` of those rows whose items a `usize` can count, which are all rows of a view that
+/// [`as_base_slice_mut`] makes.
 #[derive(Drop)]
 pub struct RowsMut<'a, R> {
     /// The rows.

@@ -1,4 +1,4 @@
-use Rattle.std.proofs.Common.{◌∙◌, arith}
+use Rattle.std.proofs.Common.{arith}
 use Rattle.p3_util.proofs.Moved.{left-more, moved-more}
 use Rattle.p3_util.proofs.views.vectors.push_row.Goals as goal
 
@@ -8,8 +8,8 @@ loop-item-preserved g c =
     let row = c.loop-item.row in
     let old = c.args.row.now in
     let k = c.loop-item.item-index in record {
-      moved = c.push_reserved.ensures.items ∙ moved-more _ _ row old k _ _ before.left (omega arith) before.moved c.take.ensures.value;
+      moved = rw c.push_reserved.ensures.items (moved-more _ _ row old k _ _ before.left (omega arith) before.moved c.take.ensures.value);
       left = left-more row old k _ before.left;
       full = omega arith;
-      room = c.push_reserved.ensures.capacity ∙ before.room;
+      room = omega arith;
     }
