@@ -1,2 +1,3 @@
+pub mod FilledChunk
 pub mod Pieces
 pub mod WholePieces

@@ -1,6 +1,6 @@
 -- What follows from `specs/Pieces.antt`: how many pieces there are, which one stands where, and one piece more.
-use Rattle.std.proofs.Common.{◌≡◌, ℕ, zero, suc, ◌+◌, ◌*◌, ◌/◌, ◌%◌, ◌<◌, ◌≤◌, ◌⊎◌, List, [], ◌∷◌, ◌++◌, map, length, take, drop, inl, inr, refl, sym, ap, ap₂, subst, arith, length-append, length-drop}
-use Rattle.std.proofs.Math.Nat.{mul-le-mul_right}
+use Rattle.std.proofs.Common.{◌≡◌, ℕ, zero, suc, ◌+◌, ◌*◌, ◌/◌, ◌%◌, ◌<◌, ◌≤◌, ◌⊎◌, min, List, [], ◌∷◌, ◌++◌, map, length, take, drop, inl, inr, refl, sym, ap, ap₂, subst, arith, length-append, length-drop}
+use Rattle.std.proofs.Math.Nat.{div-add-mod, le_of_mul-le-mul_left, lt_of_mul-lt-mul_left, mul-le-mul_right}
 use Rattle.std.proofs.Math.Seq.{drop-append_seam}
 use Rattle.std.proofs.lemmas.List.{take-append-le, drop-append-le}
 use Rattle.std.proofs.lemmas.List.FromFn.{map-range_with_len_more, length-map-range_with_len}
@@ -39,6 +39,30 @@ piece_count-more k (suc n) m some fits = div_ceil-more k (suc n) m some (short_o
 pub piece_count-whole : (k n : ℕ) → 0 < n → piece_count n (k * n) ≡ k
 piece_count-whole k zero some = absurd (omega arith)
 piece_count-whole k (suc n) some = div_ceil-whole k (suc n) some
+
+-- so many pieces have room for the items, and no fewer do
+upper_by : (a n q r : ℕ) → n * q + r ≡ a → r < n → a ≤ (q + min 1 r) * n
+upper_by a n q zero e short = let z : q + min 1 0 ≡ q = omega arith in rw z (omega arith)
+upper_by a n q (suc r) e short = let z : q + min 1 (suc r) ≡ q + 1 = omega arith in rw z (omega arith)
+
+least_by : (a n q r k : ℕ) → n * q + r ≡ a → 0 < n → a ≤ k * n → q + min 1 r ≤ k
+least_by a n q zero k e some room = let h : q ≤ k = le_of_mul-le-mul_left (let m : n * q ≤ n * k = omega arith in m) some in omega arith
+least_by a n q (suc r) k e some room = let h : q < k = lt_of_mul-lt-mul_left n (let m : n * q < n * k = omega arith in m) in omega arith
+
+pub div_ceil-upper : (a n : ℕ) → 0 < n → a ≤ div_ceil a n * n
+div_ceil-upper a n some = upper_by a n (a / n) (a % n) (div-add-mod a n) (omega arith)
+
+pub div_ceil-least : (a k n : ℕ) → 0 < n → a ≤ k * n → div_ceil a n ≤ k
+div_ceil-least a k n some room = least_by a n (a / n) (a % n) k (div-add-mod a n) some room
+
+-- n items fewer make one piece fewer at least
+div_ceil-falls : (n a b c : ℕ) → 0 < n → a + n ≤ b → b ≤ c * n → div_ceil a n < c
+div_ceil-falls n a b zero some fall upper = absurd (omega arith)
+div_ceil-falls n a b (suc c) some fall upper = let h : div_ceil a n ≤ c = div_ceil-least a c n some (omega arith) in omega (arith, h)
+
+pub piece_count-falls : (n a b : ℕ) → 0 < n → a + n ≤ b → piece_count n a < piece_count n b
+piece_count-falls zero a b some fall = absurd (omega arith)
+piece_count-falls (suc k) a b some fall = div_ceil-falls (suc k) a b (div_ceil b (suc k)) some fall (div_ceil-upper b (suc k) some)
 
 pub piece_count-none : (n : ℕ) → piece_count n 0 ≡ 0
 piece_count-none zero = refl

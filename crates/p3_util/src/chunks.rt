@@ -5,6 +5,8 @@ ghost use Rattle.std.specs.Iterator.{Drains, IsFiniteIterable};
 ghost use Rattle.std.specs.List.{FoldsTo};
 ghost use Rattle.p3_util.specs.Pieces.{pieces};
 
+use std::iter::Fuse;
+
 /// Calls `func` on each chunk of `BUFLEN` bytes of `input` in turn; the last chunk may be shorter.
 ///
 /// The bytes are those before the first `None` of the iterator, which is not asked again after it.
@@ -36,5 +38,45 @@ where
     }
     if len > 0 {
         func(&buf.as_slice()[..len]);
+    }
+}
+
+/// The iterator that [`iter_array_chunks_padded`] makes.
+#[derive(Drop)]
+pub struct ArrayChunksPadded<I, T, const N: usize> {
+    iter: Fuse<I>,
+    default: T,
+}
+
+impl<T: Copy, const N: usize, I: Iterator<Item = T>> Iterator for ArrayChunksPadded<I, T, N> {
+    ghost use Rattle.p3_util.specs.PaddedPieces.{padded_can, padded_steps, padded_left};
+
+    type Item = [T; N];
+
+    ghost can_next = { padded_can I.can_next };
+
+    ghost next_gives = { padded_steps I.next_gives };
+
+    ghost remaining = { padded_left I.remaining };
+
+    fn next(&mut self) -> Option<[T; N]> {
+        if N == 0 {
+            return None;
+        }
+        let mut chunk = [self.default; N];
+        chunk[0] = self.iter.next()?;
+        let mut len = 1;
+        while len < N {
+            let Some(item) = self.iter.next() else {
+                return Some(chunk);
+            };
+            chunk[len] = item;
+            len += 1;
+        }
+        Some(chunk)
+    }
+
+    fn size_hint(&self) -> (usize, Option<usize>) {
+        (0, None)
     }
 }

@@ -1,0 +1,44 @@
+-- What an iterator over padded pieces takes from its source and gives.
+use Rattle.std.specs.Prelude.{◌≡◌, ℕ, ◌-◌, ◌*◌, ◌<◌, ◌⊎◌, ◌==◌, true, false, List, ◌++◌, length, replicate, Option, None, MatchOption}
+use Rattle.std.specs.Iterator.{Yields, YieldsThen, Count, count_map, count_unless}
+use Rattle.std.specs.Iterator.Adapters.{fuse_source, fuse_done, fuse_steps}
+use Rattle.std.specs.Iterator.Runs.{Run}
+use Rattle.std.specs.List.{flat_map}
+use Rattle.std.specs.declared.iter.Fuse.{Fuse}
+use Rattle.p3_util.specs.Pieces.{piece_count, padded, padded_pieces}
+use Rattle.p3_util.specs.declared.chunks.ArrayChunksPadded.{ArrayChunksPadded}
+
+-- Calls from s gave the items xs of one piece, at least one of them and at most n, and left t. Where they are fewer than n, a further call gave `None`.
+abbrev pub TakesPiece : {S A : Type 0} → (S → Option A → S → Type 0) → (n : ℕ) → S → List A → S → Type 0
+TakesPiece steps n s xs t = (0 < length xs) × (((length xs ≡ n) × Yields steps s xs t) ⊎ ((length xs < n) × YieldsThen steps s xs None t))
+
+module _ {S A : Type 0} {n : ℕ} where
+  -- the iterator inside, which is not asked again once it has answered `None`
+  abbrev pub padded_source : ArrayChunksPadded S A n → Fuse S
+  padded_source s = s.iter
+
+  -- the item that fills the last piece
+  abbrev pub padded_fill : ArrayChunksPadded S A n → A
+  padded_fill s = s.default
+
+  -- the iterator inside may be asked, unless it is not asked at all
+  abbrev pub padded_can : (S → Type 0) → ArrayChunksPadded S A n → Type 0
+  padded_can can s = 0 < n → fuse_done (padded_source s) ≡ false → can (fuse_source (padded_source s))
+
+  -- the next piece comes, filled to n items, or there is none left
+  abbrev pub padded_steps : (S → Option A → S → Type 0) → ArrayChunksPadded S A n → Option (List A) → ArrayChunksPadded S A n → Type 0
+  padded_steps steps s r t = (padded_fill t ≡ padded_fill s) × MatchOption r
+      ((n ≡ 0 → t ≡ s) × (0 < n → fuse_steps steps (padded_source s) None (padded_source t)))
+      (λ piece. (xs : List A) × TakesPiece (fuse_steps steps) n (padded_source s) xs (padded_source t) × (piece ≡ padded n (padded_fill s) xs))
+
+  -- as many pieces as the items that are left make
+  abbrev pub padded_left : (S → Count) → ArrayChunksPadded S A n → Count
+  padded_left left s = count_unless (n == 0) (count_map (piece_count n) (count_unless (fuse_done (padded_source s)) (left (fuse_source (padded_source s)))))
+
+-- Behind the run p of padded pieces stands the run q of the iterator inside: p gave the pieces of the items of q, each filled to n items.
+-- So there are as many as the quotient rounded up, and their items are those of q and then `fill`. Where p went on to `None`, so did q, unless n is 0.
+pub record IsPaddedRun {S T A : Type 0} {steps : S → Option (List A) → S → Type 0} {source : T → Option A → T → Type 0} (n : ℕ) (fill : A) (p : Run steps) (q : Run source) : Type 0 where
+  pub items : p.items ≡ padded_pieces n fill q.items
+  pub whole : p.whole ≡ true → 0 < n → q.whole ≡ true
+  pub count : p.len ≡ piece_count n q.len
+  pub joined : flat_map (λ piece. piece) p.items ≡ q.items ++ replicate (p.len * n - q.len) fill
