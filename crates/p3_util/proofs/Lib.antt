@@ -1,3 +1,4 @@
 pub mod FilledChunk
+pub mod PaddedRuns
 pub mod Pieces
 pub mod WholePieces

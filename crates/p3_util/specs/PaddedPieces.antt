@@ -42,3 +42,7 @@ pub record IsPaddedRun {S T A : Type 0} {steps : S → Option (List A) → S →
   pub whole : p.whole ≡ true → 0 < n → q.whole ≡ true
   pub count : p.len ≡ piece_count n q.len
   pub joined : flat_map (λ piece. piece) p.items ≡ q.items ++ replicate (p.len * n - q.len) fill
+
+-- once it has answered `None` it answers nothing else
+abbrev pub EndsForGood : {S A : Type 0} → (S → Option A → S → Type 0) → Type 0
+EndsForGood {S} {A} steps = (s t u : S) (r : Option A) → steps s None t → steps t r u → r ≡ None

@@ -1,8 +1,11 @@
 //! Iterators cut into chunks of one size.
-ghost use Rattle.std.specs.Prelude.{ℕ, ◌<◌, ◌^◌, List};
+ghost use Rattle.std.specs.Prelude.{◌≡◌, ℕ, ◌<◌, ◌^◌, List, false};
 ghost use Rattle.std.specs.Fn.{CalledAt};
 ghost use Rattle.std.specs.Iterator.{Drains, IsFiniteIterable};
+ghost use Rattle.std.specs.Iterator.Adapters.{fuse_source, fuse_done};
+ghost use Rattle.std.specs.Iterator.Runs.{SomeRun, EachRunFrom};
 ghost use Rattle.std.specs.List.{FoldsTo};
+ghost use Rattle.p3_util.specs.PaddedPieces.{padded_source, padded_fill, padded_steps, IsPaddedRun, EndsForGood};
 ghost use Rattle.p3_util.specs.Pieces.{pieces};
 
 use std::iter::Fuse;
@@ -38,6 +41,25 @@ where
     }
     if len > 0 {
         func(&buf.as_slice()[..len]);
+    }
+}
+
+/// Cuts what `iter` gives up to its first `None` into arrays of `N` items. The last array is filled with `default` where they do not divide.
+///
+/// After that `None` the iterator is not asked again. Where `N` is 0 there is no array, and it is never asked.
+pub fn iter_array_chunks_padded<T: Copy, const N: usize, I: IntoIterator<Item = T>>(
+    iter: I,
+    default: T,
+) -> ArrayChunksPadded<I::IntoIter, T, N>
+    ensures source { I.into_iter_gives iter (fuse_source (padded_source result)) }
+    ensures fresh { fuse_done (padded_source result) ≡ false }
+    ensures fill { padded_fill result ≡ default }
+    ensures runs { EachRunFrom (padded_steps I.IntoIter.next_gives) result (λ p. SomeRun I.IntoIter.next_gives (fuse_source (padded_source result)) (IsPaddedRun N default p)) }
+    ensures ends { EndsForGood (padded_steps {A = T} {n = N} I.IntoIter.next_gives) }
+{
+    ArrayChunksPadded {
+        iter: iter.into_iter().fuse(),
+        default,
     }
 }
 
