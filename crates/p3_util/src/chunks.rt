@@ -1,12 +1,10 @@
 //! Iterators cut into chunks of one size.
-ghost use Rattle.std.specs.Prelude.{◌≡◌, ℕ, ◌<◌, ◌^◌, List, false};
-ghost use Rattle.std.specs.Fn.{CalledAt};
-ghost use Rattle.std.specs.Iterator.{Drains, IsFiniteIterable};
+ghost use Rattle.std.specs.Prelude.{◌≡◌, ℕ, ◌<◌, ◌^◌, false};
+ghost use Rattle.std.specs.Iterator.{IsFiniteIterable};
 ghost use Rattle.std.specs.Iterator.Adapters.{fuse_source, fuse_done};
-ghost use Rattle.std.specs.Iterator.Runs.{SomeRun, EachRunFrom};
-ghost use Rattle.std.specs.List.{FoldsTo};
+ghost use Rattle.std.specs.Iterator.Runs.{SomeRun, WholeRun, EachRunFrom};
 ghost use Rattle.p3_util.specs.PaddedPieces.{padded_source, padded_fill, padded_steps, IsPaddedRun, EndsForGood};
-ghost use Rattle.p3_util.specs.Pieces.{pieces};
+ghost use Rattle.p3_util.specs.Pieces.{CallsOnPieces};
 
 use std::iter::Fuse;
 
@@ -21,9 +19,8 @@ where
     requires fits { BUFLEN < 2 ^ 63 }
     requires finite { IsFiniteIterable I.into_iter_gives I.IntoIter.can_next I.IntoIter.remaining input }
     requires callable { H.IsAlwaysCallable func }
-    ensures { (it : I.IntoIter) × (items : List ℕ) × (last : H) × I.into_iter_gives input it
-        × (0 < BUFLEN → Drains I.IntoIter.next_gives it items)
-        × FoldsTo (λ f piece g. CalledAt H.FnMut f piece tt g) func (pieces BUFLEN items) last }
+    ensures runs { 0 < BUFLEN → (it : I.IntoIter) × I.into_iter_gives input it
+        × WholeRun I.IntoIter.next_gives it (λ p. CallsOnPieces H.FnMut BUFLEN func p.items) }
 {
     let iter = input.into_iter();
     if BUFLEN == 0 {

@@ -1,13 +1,8 @@
 use denote.Param.Always.{mut_next}
-use Rattle.std.proofs.Common.{[], ap, take, refl, arith, rules}
+use Rattle.std.proofs.Common.{ap, take, refl, arith}
 use Rattle.std.proofs.lemmas.List.{length-replicate}
-use Rattle.p3_util.proofs.Pieces.{pieces-nil}
-use Rattle.p3_util.proofs.WholePieces.{FoldsWhole-start, FoldsWhole-flush, FoldsWhole-short}
+use Rattle.p3_util.proofs.WholePieces.{FoldsWhole-start, FoldsWhole-flush, FoldsWhole-short, FoldsWhole-end, calls-whole}
 use Rattle.p3_util.proofs.chunks.apply_to_chunks.Goals as goal
-
-pub returns-then-this-eq0 : goal.returns-then-this-eq0
-returns-then-this-eq0 g c =
-    (c.into_iter-iter.result, [], c.args.func, c.into_iter-iter.ensures.into_iter_gives, λ some. absurd (omega (arith, c.if-this-eq0.true, some)), rw (pieces-nil g.row.BUFLEN) refl)
 
 pub loop-byte-init : goal.loop-byte-init
 loop-byte-init g c = (FoldsWhole-start _ (omega (arith, c.if-this-eq0.false)) (length-replicate _ _), c.requires.callable)
@@ -19,11 +14,20 @@ loop-byte-preserved-then-len g c = (
 )
 
 pub returns-then-len-gt0 : goal.returns-then-len-gt0
-returns-then-len-gt0 g c = (
-  c.into_iter-iter.result,
-  c.loop-byte.yielded,
-  c.func-then-len-gt0.new.self,
-  c.into_iter-iter.ensures.into_iter_gives,
-  λ _. search rules,
-  FoldsWhole-short c.loop-byte.invariant.0 c.if-len-gt0.true (record { shown = _; shows = ap (take c.loop-byte.len) c.as_slice-then-len-gt0.ensures; called = c.func-then-len-gt0.ensures }),
-)
+returns-then-len-gt0 g c = record {
+  runs = λ some. (
+    c.into_iter-iter.result,
+    c.into_iter-iter.ensures.into_iter_gives,
+    calls-whole g.H.FnMut g.I.IntoIter.Iterator.next_gives _ c.loop-byte.yielded _ _ c.into_iter-byte-iterator.ensures.into_iter_gives c.loop-byte.yielded_by c.in-None.ensures.steps
+        (FoldsWhole-short c.loop-byte.invariant.0 c.if-len-gt0.true (record { shown = _; shows = ap (take c.loop-byte.len) c.as_slice-then-len-gt0.ensures; called = c.func-then-len-gt0.ensures })),
+  );
+}
+
+pub returns : goal.returns
+returns g c = record {
+  runs = λ some. (
+    c.into_iter-iter.result,
+    c.into_iter-iter.ensures.into_iter_gives,
+    calls-whole g.H.FnMut g.I.IntoIter.Iterator.next_gives _ c.loop-byte.yielded _ _ c.into_iter-byte-iterator.ensures.into_iter_gives c.loop-byte.yielded_by c.in-None.ensures.steps (FoldsWhole-end c.loop-byte.invariant.0 (omega (arith, c.if-len-gt0.false))),
+  );
+}
