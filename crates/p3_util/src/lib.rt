@@ -2,3 +2,4 @@
 #![tactic(auto)]
 
 pub mod chunks;
+pub mod zip_eq;
