@@ -12,6 +12,7 @@ where
     A::Item: Drop,
     B: IntoIterator,
     B::IntoIter: ExactSizeIterator,
+    B::Item: Drop,
     Error: Drop,
     ensures lengths { (i : A.IntoIter) × (j : B.IntoIter) × A.into_iter_gives a i × B.into_iter_gives b j × MatchResult result
         (λ z. (zip_eq_first z ≡ i) × (zip_eq_second z ≡ j) × (size (A.IntoIter.remaining i) ≡ size (B.IntoIter.remaining j)))
@@ -39,6 +40,7 @@ pub struct ZipEq<A, B> {
 impl<A: ExactSizeIterator, B: ExactSizeIterator> Iterator for ZipEq<A, B>
 where
     A::Item: Drop,
+    B::Item: Drop,
 {
     type Item = (A::Item, B::Item);
 
@@ -49,9 +51,10 @@ where
     ghost remaining = { zip_eq_left A.remaining };
 
     fn next(&mut self) -> Option<(A::Item, B::Item)> {
-        let x = self.first.next()?;
-        let y = self.second.next()?;
-        Some((x, y))
+        match (self.first.next(), self.second.next()) {
+            (Some(x), Some(y)) => Some((x, y)),
+            _ => None,
+        }
     }
 
     fn size_hint(&self) -> (usize, Option<usize>)
@@ -67,6 +70,7 @@ where
 impl<A: ExactSizeIterator, B: ExactSizeIterator> ExactSizeIterator for ZipEq<A, B>
 where
     A::Item: Drop,
+    B::Item: Drop,
 {
     fn len(&self) -> usize {
         self.first.len()
