@@ -1,17 +1,16 @@
 -- What the runs of an iterator over padded pieces give, from what each of its steps gives.
-use Rattle.std.proofs.Common.{◌≡◌, ℕ, zero, suc, ◌+◌, ◌-◌, ◌*◌, ◌/◌, ◌%◌, ◌<◌, ◌≤◌, ◌⊎◌, inl, inr, Bool, true, false, true≢false, List, [], ◌∷◌, ◌++◌, map, Option, Some, None, length, take, drop, refl, sym, ap, subst, ◌∙◌, arith, length-append, length-drop, append_assoc, append-nil}
-use Rattle.std.specs.Prelude.{replicate, MatchBool}
+use Rattle.std.proofs.Common.{◌≡◌, ℕ, zero, suc, ◌+◌, ◌-◌, ◌*◌, ◌/◌, ◌%◌, ◌<◌, ◌≤◌, ◌⊎◌, inl, inr, Bool, true, false, true≢false, List, [], ◌∷◌, ◌++◌, map, Option, Some, None, length, take, drop, refl, sym, ap, subst, ◌∙◌, arith, rules, length-append, length-drop, append_assoc, append-nil}
+use borrow.Author.Tests.{tests}
+use Rattle.std.specs.Prelude.{replicate, MatchBool, ◌==◌, if◌then◌else◌}
 use Rattle.std.specs.Iterator.{Yields, YieldsThen, DrainsIf}
-use Rattle.std.specs.Iterator.Adapters.{fuse_done, fuse_steps}
-use Rattle.std.specs.Iterator.Runs.{Run, SomeRun, EachRunFrom, IsIdenticalRun}
+use Rattle.std.specs.Iterator.Runs.{Run, SomeRun, EachRunFrom}
 use Rattle.std.specs.List.{flat_map}
-use Rattle.std.specs.declared.iter.Fuse.{Fuse}
 use Rattle.std.proofs.iter.runs.Made.{run, took}
 use Rattle.std.proofs.lemmas.Grind.{flat_map-append}
 use Rattle.std.proofs.lemmas.List.{map-append, length-map, length-take-le, take-append-drop}
 use Rattle.std.proofs.lemmas.Nat.{div-add-mod'}
 use Rattle.p3_util.specs.Pieces.{piece_count, padded, pieces, padded_pieces}
-use Rattle.p3_util.specs.PaddedPieces.{TakesPiece, padded_source, padded_fill, padded_steps, IsPaddedRun, EndsForGood}
+use Rattle.p3_util.specs.PaddedPieces.{TakesPiece, padded_source, padded_done, padded_fill, padded_steps, IsPaddedRun, EndsForGood}
 use Rattle.p3_util.specs.declared.chunks.ArrayChunksPadded.{ArrayChunksPadded}
 use Rattle.p3_util.proofs.Pieces.{piece_count-more, piece_count-whole, piece_count-none, pieces-nil, pieces-zero, pieces-more, length-pieces}
 
@@ -74,10 +73,6 @@ module _ {A : Type 0} where
       subst (λ l. join (padded_pieces n fill l) ≡ l ++ replicate (piece_count n (length l) * n - length l) fill) (take-append-drop (k * n) xs)
       (joined-by n k fill (take (k * n) xs) (drop (k * n) xs) some h b)
 
-ended_by : {A : Type 0} (b : Bool) (X : Type 0) (x : A) → b ≡ true → MatchBool b (Some x ≡ None) X → ⊥
-ended_by true X x e h = cc
-ended_by false X x e h = true≢false (sym e)
-
 zero_or_some : (n : ℕ) → (n ≡ 0) ⊎ (0 < n)
 zero_or_some zero = inl refl
 zero_or_some (suc n) = inr (omega arith)
@@ -86,90 +81,105 @@ Yields-join : {S A : Type 0} (steps : S → Option A → S → Type 0) (s : S) (
 Yields-join steps s [] t ys u a b = subst (λ k. Yields steps k ys u) (sym a) b
 Yields-join steps s (x ∷ xs) t ys u a b = (a.0, a.1, Yields-join steps a.0 xs t ys u a.2 b)
 
--- calls from s gave xs, and then perhaps `None`, and left t
-Pulled : {S A : Type 0} → (S → Option A → S → Type 0) → S → List A → S → Type 0
-Pulled steps s xs t = Yields steps s xs t ⊎ YieldsThen steps s xs None t
+-- calls from s gave xs, and then, where `ended`, `None`, and left t
+Pulled : {S A : Type 0} → (S → Option A → S → Type 0) → S → List A → Bool → S → Type 0
+Pulled steps s xs ended t = MatchBool ended (YieldsThen steps s xs None t) (Yields steps s xs t)
 
-pulled-behind : {S A : Type 0} (steps : S → Option A → S → Type 0) (s j t : S) (xs ys : List A) → Yields steps s xs j → Pulled steps j ys t → Pulled steps s (xs ++ ys) t
+pulled-behind : {S A : Type 0} (steps : S → Option A → S → Type 0) (s j t : S) (xs ys : List A) (ended : Bool) → Yields steps s xs j → Pulled steps j ys ended t → Pulled steps s (xs ++ ys) ended t
 unfolding Pulled
-pulled-behind steps s j t xs ys a (inl b) = inl (Yields-join steps s xs j ys t a b)
-pulled-behind steps s j t xs ys a (inr b) = inr (b.0, Yields-join steps s xs j ys b.0 a b.1, b.2)
+pulled-behind steps s j t xs ys false a b = Yields-join steps s xs j ys t a b
+pulled-behind steps s j t xs ys true a b = (b.0, Yields-join steps s xs j ys b.0 a b.1, b.2)
+
+drains-behind : {S A : Type 0} (steps : S → Option A → S → Type 0) (ended : Bool) (w : Type 0) (s t : S) (xs : List A) → Pulled steps s xs ended t → (ended ≡ false → w → (u : S) × steps t None u) → DrainsIf steps w s xs
+unfolding Pulled
+drains-behind steps false w s t xs came ends = (t, came, ends refl)
+drains-behind steps true w s t xs came ends = (came.0, came.1, λ _. (t, came.2))
+
+within : {S A : Type 0} (steps : S → Option A → S → Type 0) (n : ℕ) (s t : S) (xs : List A) (ended : Bool) → TakesPiece steps n s xs ended t → length xs ≤ n
+within steps n s t xs true h = omega (arith, h.1.0)
+within steps n s t xs false h = omega (arith, h.1.0)
+
+-- where there was no piece, the end has been reached
+no-piece-ends : (zero d e : Bool) (X Y : Type 0) → zero ≡ false → (X → e ≡ d) → MatchBool (if zero then true else d) X (Y × (e ≡ true)) → e ≡ true
+no-piece-ends true d e X Y some same h = absurd (true≢false some)
+no-piece-ends false true e X Y some same h = same h
+no-piece-ends false false e X Y some same h = h.1
+
+no-piece-asks : (zero d e : Bool) (X Y : Type 0) → zero ≡ false → d ≡ false → MatchBool (if zero then true else d) X (Y × (e ≡ true)) → Y
+no-piece-asks true d e X Y some begun h = absurd (true≢false some)
+no-piece-asks false true e X Y some begun h = absurd (true≢false begun)
+no-piece-asks false false e X Y some begun h = h.0
+
+some-is : (n : ℕ) → 0 < n → (n == 0) ≡ false
+some-is n some = search (rules, tests)
+
+true_or_false : (b : Bool) → (b ≡ true) ⊎ (b ≡ false)
+true_or_false true = inl refl
+true_or_false false = inr refl
 
 module _ {S A : Type 0} {n : ℕ} (steps : S → Option A → S → Type 0) where
-  -- a fused iterator that has ended gives no piece
-  ended-takes : (s t : Fuse S) (xs : List A) → fuse_done s ≡ true → TakesPiece (fuse_steps steps) n s xs t → ⊥
-  ended-takes s t [] e h = omega (arith, h.0)
-  ended-takes s t (x ∷ xs) e h = elim h.1 [
-    | inl full ↦ ended_by (fuse_done s) _ x e full.1.1.0
-    | inr short ↦ ended_by (fuse_done s) _ x e short.1.1.1.0
-  ]
-
-  ended-step : (s t : ArrayChunksPadded S A n) (piece : List A) → fuse_done (padded_source s) ≡ true → padded_steps steps s (Some piece) t → ⊥
-  ended-step s t piece e h = ended-takes (padded_source s) (padded_source t) h.1.0 e h.1.1
-
   empty-step : (s t : ArrayChunksPadded S A n) (piece : List A) → n ≡ 0 → padded_steps steps s (Some piece) t → ⊥
-  empty-step s t piece e h = elim h.1.1.1 [
-    | inl full ↦ omega (arith, h.1.1.0, full.0)
-    | inr short ↦ omega (arith, h.1.1.0, short.0)
-  ]
+  empty-step s t piece none h =
+      let l = within steps n (padded_source s) (padded_source t) h.1.1.0 (padded_done t) h.1.1.1 in
+      omega (arith, h.1.1.1.0, l, none)
+
+  ended-by : (s t : ArrayChunksPadded S A n) → 0 < n → padded_steps steps s None t → padded_done t ≡ true
+  ended-by s t some h = no-piece-ends (n == 0) (padded_done s) (padded_done t) (t ≡ s) (steps (padded_source s) None (padded_source t)) (some-is n some) (λ e. ap padded_done e) h.1
 
   pub padded-ends : EndsForGood (padded_steps {n = n} steps)
   padded-ends s t u None a b = refl
   padded-ends s t u (Some piece) a b = elim (zero_or_some n) [
     | inl none ↦ absurd (empty-step t u piece none b)
-    | inr some ↦ absurd (ended-step t u piece (a.1.1 some).1 b)
+    | inr some ↦ absurd (true≢false (sym (ended-by s t some a) ∙ b.1.0))
   ]
 
-  nothing-more : (s t : ArrayChunksPadded S A n) (ps : List (List A)) → fuse_done (padded_source s) ≡ true → Yields (padded_steps steps) s ps t → (ps ≡ []) × (s ≡ t)
+  nothing-more : (s t : ArrayChunksPadded S A n) (ps : List (List A)) → padded_done s ≡ true → Yields (padded_steps steps) s ps t → (ps ≡ []) × (s ≡ t)
   nothing-more s t [] e y = (refl, y)
-  nothing-more s t (p ∷ ps) e y = absurd (ended-step s y.0 p e y.1)
+  nothing-more s t (p ∷ ps) e y = absurd (true≢false (sym e ∙ y.1.1.0))
 
-  -- behind the pieces ps stand items xs of the source, which follow on k whole pieces
+  -- behind the pieces ps stand items xs of the source, which follow on whole pieces
   Behind : ArrayChunksPadded S A n → ArrayChunksPadded S A n → List (List A) → List A → Type 0
-  Behind s t ps front = (xs : List A) × (padded_pieces n (padded_fill s) (front ++ xs) ≡ padded_pieces n (padded_fill s) front ++ ps) × Pulled (fuse_steps steps) (padded_source s) xs (padded_source t)
+  Behind s t ps front = (xs : List A) × (padded_pieces n (padded_fill s) (front ++ xs) ≡ padded_pieces n (padded_fill s) front ++ ps) × Pulled steps (padded_source s) xs (padded_done t) (padded_source t)
 
-  behind-full : (s j t : ArrayChunksPadded S A n) (ps : List (List A)) (front xs : List A) (k : ℕ) → padded_fill j ≡ padded_fill s → length front ≡ k * n → 0 < length xs → length xs ≡ n
-      → Yields (fuse_steps steps) (padded_source s) xs (padded_source j) → Behind j t ps (front ++ xs) → Behind s t (padded n (padded_fill s) xs ∷ ps) front
+  behind-none : (s : ArrayChunksPadded S A n) (front : List A) → padded_done s ≡ false → Behind s s [] front
+  unfolding Behind Pulled
+  behind-none s front begun = ([], rw (append-nil front) (sym (append-nil (padded_pieces n (padded_fill s) front))), rw begun refl)
+
+  behind-full : (s j t : ArrayChunksPadded S A n) (ps : List (List A)) (front xs : List A) (k : ℕ) → padded_fill j ≡ padded_fill s → length front ≡ k * n
+      → TakesPiece steps n (padded_source s) xs false (padded_source j) → Behind j t ps (front ++ xs) → Behind s t (padded n (padded_fill s) xs ∷ ps) front
   unfolding Behind
-  behind-full s j t ps front xs k same whole some full came h = (
+  behind-full s j t ps front xs k same whole took h = (
     xs ++ h.0,
     rw (← append_assoc front xs h.0) (rw same at h.1)
-        ∙ ap (λ l. l ++ ps) (padded_pieces-more n k (padded_fill s) front xs whole some (omega arith))
+        ∙ ap (λ l. l ++ ps) (padded_pieces-more n k (padded_fill s) front xs whole took.0 (omega (arith, took.1.0)))
         ∙ append_assoc (padded_pieces n (padded_fill s) front) (padded n (padded_fill s) xs ∷ []) ps,
-    pulled-behind (fuse_steps steps) (padded_source s) (padded_source j) (padded_source t) xs h.0 came h.2,
+    pulled-behind steps (padded_source s) (padded_source j) (padded_source t) xs h.0 (padded_done t) took.1.1 h.2,
   )
 
-  behind-short : (s j t : ArrayChunksPadded S A n) (ps : List (List A)) (front xs : List A) (k : ℕ) → length front ≡ k * n → 0 < length xs → length xs < n
-      → YieldsThen (fuse_steps steps) (padded_source s) xs None (padded_source j) → Yields (padded_steps steps) j ps t → Behind s t (padded n (padded_fill s) xs ∷ ps) front
+  behind-short : (s j : ArrayChunksPadded S A n) (front xs : List A) (k : ℕ) → length front ≡ k * n → padded_done j ≡ true
+      → TakesPiece steps n (padded_source s) xs true (padded_source j) → Behind s j (padded n (padded_fill s) xs ∷ []) front
   unfolding Behind Pulled
-  behind-short s j t ps front xs k whole some short came rest =
-      let over = nothing-more j t ps came.2.1 rest in (
-        xs,
-        padded_pieces-more n k (padded_fill s) front xs whole some (omega arith) ∙ ap (λ l. padded_pieces n (padded_fill s) front ++ padded n (padded_fill s) xs ∷ l) (sym over.0),
-        inr (subst (λ u. YieldsThen (fuse_steps steps) (padded_source s) xs None (padded_source u)) over.1 came),
-      )
+  behind-short s j front xs k whole over took = (xs, padded_pieces-more n k (padded_fill s) front xs whole took.0 (omega (arith, took.1.0)), rw over took.1.1)
 
-  behind : (s t : ArrayChunksPadded S A n) (ps : List (List A)) (front : List A) (k : ℕ) → length front ≡ k * n → Yields (padded_steps steps) s ps t → Behind s t ps front
-  unfolding Behind Pulled
-  behind s t [] front k whole y = ([], rw (append-nil front) (sym (append-nil (padded_pieces n (padded_fill s) front))), inl (ap padded_source y))
-  behind s t (p ∷ ps) front k whole y =
-      let step = y.1.1 in
-      rw (step.2) (elim step.1.1 [
-        | inl full ↦ behind-full s y.0 t ps front step.0 k y.1.0 whole step.1.0 full.0 full.1 (behind y.0 t ps (front ++ step.0) (k + 1) (rw (length-append front step.0) (omega (arith, whole, full.0))) y.2)
-        | inr short ↦ behind-short s y.0 t ps front step.0 k whole step.1.0 short.0 short.1 y.2
+  behind : (s t : ArrayChunksPadded S A n) (ps : List (List A)) (front : List A) (k : ℕ) → padded_done s ≡ false → length front ≡ k * n → Yields (padded_steps steps) s ps t → Behind s t ps front
+  behind s t [] front k begun whole y = subst (λ u. Behind s u [] front) y (behind-none s front begun)
+  behind s t (p ∷ ps) front k begun whole y =
+      let step = y.1.1.1 in
+      rw step.2 (elim (true_or_false (padded_done y.0)) [
+        | inl over ↦
+            let last = nothing-more y.0 t ps over y.2 in
+            subst (λ l. Behind s t (padded n (padded_fill s) step.0 ∷ l) front) (sym last.0)
+            (subst (λ u. Behind s u (padded n (padded_fill s) step.0 ∷ []) front) last.1 (behind-short s y.0 front step.0 k whole over (rw over at step.1)))
+        | inr on ↦
+            let took : TakesPiece steps n (padded_source s) step.0 false (padded_source y.0) = rw on at step.1 in
+            behind-full s y.0 t ps front step.0 k y.1.0 whole took (behind y.0 t ps (front ++ step.0) (k + 1) on (rw (length-append front step.0) (omega (arith, whole, took.1.0))) y.2)
       ])
 
-  drains-behind : (w : Type 0) (s t : ArrayChunksPadded S A n) (xs : List A) → 0 < n → Pulled (fuse_steps steps) (padded_source s) xs (padded_source t) → (w → (u : ArrayChunksPadded S A n) × padded_steps steps t None u)
-      → DrainsIf (fuse_steps steps) w (padded_source s) xs
-  unfolding Pulled
-  drains-behind w s t xs some (inl came) ends = (padded_source t, came, λ h. let last = ends h in (padded_source last.0, last.1.1.1 some))
-  drains-behind w s t xs some (inr came) ends = (came.0, came.1, λ h. (padded_source t, came.2))
-
-  made : (p : Run (padded_steps {n = n} steps)) (xs : List A) → 0 < n → p.items ≡ padded_pieces n (padded_fill p.from) xs → DrainsIf (fuse_steps steps) (p.whole ≡ true) (padded_source p.from) xs
-      → SomeRun (fuse_steps steps) (padded_source p.from) (λ q. IsPaddedRun n (padded_fill p.from) p q)
+  made : (p : Run (padded_steps {n = n} steps)) (xs : List A) → 0 < n → p.items ≡ padded_pieces n (padded_fill p.from) xs → DrainsIf steps (p.whole ≡ true) (padded_source p.from) xs
+      → SomeRun steps (padded_source p.from) (λ q. IsPaddedRun n (padded_fill p.from) p q)
   made p xs some e d =
       let count : p.len ≡ piece_count n (length xs) = p.long ∙ ap length e ∙ length-padded_pieces n (padded_fill p.from) xs in (
-        run (fuse_steps steps) (padded_source p.from) xs p.whole d,
+        run steps (padded_source p.from) xs p.whole d,
         refl,
         record {
           items = e;
@@ -179,12 +189,12 @@ module _ {S A : Type 0} {n : ℕ} (steps : S → Option A → S → Type 0) wher
         },
       )
 
-  made-none : (p : Run (padded_steps {n = n} steps)) (xs : List A) → n ≡ 0 → p.items ≡ padded_pieces n (padded_fill p.from) xs → SomeRun (fuse_steps steps) (padded_source p.from) (λ q. IsPaddedRun n (padded_fill p.from) p q)
+  made-none : (p : Run (padded_steps {n = n} steps)) (xs : List A) → n ≡ 0 → p.items ≡ padded_pieces n (padded_fill p.from) xs → SomeRun steps (padded_source p.from) (λ q. IsPaddedRun n (padded_fill p.from) p q)
   made-none p xs none e =
       let f = padded_fill p.from in
       let empty : p.items ≡ [] = e ∙ padded_pieces-none n f xs none in
       let past : p.len * n - 0 ≡ 0 = rw none (omega arith) in (
-        run (fuse_steps steps) (padded_source p.from) [] false (padded_source p.from, refl, λ k. absurd (true≢false (sym k))),
+        run steps (padded_source p.from) [] false (padded_source p.from, refl, λ k. absurd (true≢false (sym k))),
         refl,
         record {
           items = empty ∙ sym (padded_pieces-none n f [] none);
@@ -195,30 +205,18 @@ module _ {S A : Type 0} {n : ℕ} (steps : S → Option A → S → Type 0) wher
       )
 
   -- the run of the source that stands behind a run of padded pieces
-  run-behind : (p : Run (padded_steps {n = n} steps)) → SomeRun (fuse_steps steps) (padded_source p.from) (λ q. IsPaddedRun n (padded_fill p.from) p q)
+  run-behind : (p : Run (padded_steps {n = n} steps)) → padded_done p.from ≡ false → SomeRun steps (padded_source p.from) (λ q. IsPaddedRun n (padded_fill p.from) p q)
   unfolding Behind
-  run-behind p =
+  run-behind p begun =
       let t = took p in
-      let b = behind p.from t.0 p.items [] 0 (omega arith) t.1 in
+      let b = behind p.from t.0 p.items [] 0 begun (omega arith) t.1 in
       let e : p.items ≡ padded_pieces n (padded_fill p.from) b.0 = sym (b.1 ∙ ap (λ l. map (padded n (padded_fill p.from)) l ++ p.items) (pieces-nil {A = A} n)) in
       elim (zero_or_some n) [
         | inl none ↦ made-none p b.0 none e
-        | inr some ↦ made p b.0 some e (drains-behind (p.whole ≡ true) p.from t.0 b.0 some b.2 t.2)
+        | inr some ↦ made p b.0 some e (drains-behind steps (padded_done t.0) (p.whole ≡ true) (padded_source p.from) (padded_source t.0) b.0 b.2
+            (λ on w. let last = t.2 w in
+            (padded_source last.0, no-piece-asks (n == 0) (padded_done t.0) (padded_done last.0) (last.0 ≡ t.0) (steps (padded_source t.0) None (padded_source last.0)) (some-is n some) on last.1.1)))
       ]
 
-  pub padded-runs : (s : ArrayChunksPadded S A n) (it : S) → EachRunFrom (fuse_steps steps) (padded_source s) (λ p. SomeRun steps it (λ q. IsIdenticalRun p q))
-      → EachRunFrom (padded_steps steps) s (λ p. SomeRun steps it (λ q. IsPaddedRun n (padded_fill s) p q))
-  padded-runs s it fused p trigger from =
-      let r = run-behind p in
-      let i = fused r.0 r.0.seen (r.1 ∙ ap padded_source from) in
-      let same = i.2.0.1 in
-      let long : i.0.len ≡ r.0.len = i.2.0.0 in (
-        i.0,
-        i.1,
-        record {
-          items = rw (same, sym from) r.2.items;
-          whole = λ w some. i.2.1 ∙ r.2.whole w some;
-          count = rw long r.2.count;
-          joined = rw (same, long, sym from) r.2.joined;
-        },
-      )
+  pub padded-runs : (s : ArrayChunksPadded S A n) → padded_done s ≡ false → EachRunFrom (padded_steps steps) s (λ p. SomeRun steps (padded_source s) (λ q. IsPaddedRun n (padded_fill s) p q))
+  padded-runs s begun p seen from = subst (λ u. SomeRun steps (padded_source u) (λ q. IsPaddedRun n (padded_fill u) p q)) from (run-behind p (ap padded_done from ∙ begun))

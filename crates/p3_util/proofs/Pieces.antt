@@ -70,6 +70,14 @@ piece_count-none (suc n) =
     let e : 0 * suc n ≡ 0 = omega arith in
     subst (λ k. piece_count (suc n) k ≡ 0) e (piece_count-whole 0 (suc n) (omega arith))
 
+some_room : (a c n : ℕ) → 0 < a → a ≤ c * n → 0 < c
+some_room a zero n some room = absurd (omega arith)
+some_room a (suc c) n some room = omega arith
+
+pub piece_count-some : (n a : ℕ) → 0 < n → 0 < a → 0 < piece_count n a
+piece_count-some zero a some items = absurd (omega arith)
+piece_count-some (suc k) a some items = some_room a (div_ceil a (suc k)) (suc k) items (div_ceil-upper a (suc k) some)
+
 same_map : {X : Type 0} (f g : ℕ → X) (a n : ℕ) → ((p : ℕ) → p < a + n → f p ≡ g p) → map f (range_with_len a n) ≡ map g (range_with_len a n)
 same_map f g a zero same = refl
 same_map f g a (suc n) same = ap₂ (λ x xs. x ∷ xs) (same a (omega arith)) (same_map f g (a + 1) n (λ p h. same p (omega arith)))

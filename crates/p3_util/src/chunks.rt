@@ -1,12 +1,9 @@
 //! Iterators cut into chunks of one size.
 ghost use Rattle.std.specs.Prelude.{◌≡◌, ℕ, ◌<◌, ◌^◌, false};
 ghost use Rattle.std.specs.Iterator.{IsFiniteIterable};
-ghost use Rattle.std.specs.Iterator.Adapters.{fuse_source, fuse_done};
 ghost use Rattle.std.specs.Iterator.Runs.{SomeRun, WholeRun, EachRunFrom};
-ghost use Rattle.p3_util.specs.PaddedPieces.{padded_source, padded_fill, padded_steps, IsPaddedRun, EndsForGood};
+ghost use Rattle.p3_util.specs.PaddedPieces.{padded_source, padded_done, padded_fill, padded_steps, IsPaddedRun, EndsForGood};
 ghost use Rattle.p3_util.specs.Pieces.{CallsOnPieces};
-
-use std::iter::Fuse;
 
 /// Calls `func` on each chunk of `BUFLEN` bytes of `input` in turn; the last chunk may be shorter.
 ///
@@ -48,23 +45,25 @@ pub fn iter_array_chunks_padded<T: Copy, const N: usize, I: IntoIterator<Item = 
     iter: I,
     default: T,
 ) -> ArrayChunksPadded<I::IntoIter, T, N>
-    ensures source { I.into_iter_gives iter (fuse_source (padded_source result)) }
-    ensures fresh { fuse_done (padded_source result) ≡ false }
+    ensures source { I.into_iter_gives iter (padded_source result) }
+    ensures fresh { padded_done result ≡ false }
     ensures fill { padded_fill result ≡ default }
-    ensures runs { EachRunFrom (padded_steps I.IntoIter.next_gives) result (λ p. SomeRun I.IntoIter.next_gives (fuse_source (padded_source result)) (IsPaddedRun N default p)) }
+    ensures runs { EachRunFrom (padded_steps I.IntoIter.next_gives) result (λ p. SomeRun I.IntoIter.next_gives (padded_source result) (IsPaddedRun N default p)) }
     ensures ends { EndsForGood (padded_steps {A = T} {n = N} I.IntoIter.next_gives) }
 {
     ArrayChunksPadded {
-        iter: iter.into_iter().fuse(),
+        iter: iter.into_iter(),
         default,
+        done: false,
     }
 }
 
 /// The iterator that [`iter_array_chunks_padded`] makes.
 #[derive(Drop)]
 pub struct ArrayChunksPadded<I, T, const N: usize> {
-    iter: Fuse<I>,
+    iter: I,
     default: T,
+    done: bool,
 }
 
 impl<T: Copy, const N: usize, I: Iterator<Item = T>> Iterator for ArrayChunksPadded<I, T, N> {
@@ -79,20 +78,20 @@ impl<T: Copy, const N: usize, I: Iterator<Item = T>> Iterator for ArrayChunksPad
     ghost remaining = { padded_left I.remaining };
 
     fn next(&mut self) -> Option<[T; N]> {
-        if N == 0 {
+        if self.done {
             return None;
         }
         let mut chunk = [self.default; N];
-        chunk[0] = self.iter.next()?;
-        let mut len = 1;
+        let mut len = 0;
         while len < N {
             let Some(item) = self.iter.next() else {
-                return Some(chunk);
+                self.done = true;
+                break;
             };
             chunk[len] = item;
             len += 1;
         }
-        Some(chunk)
+        if len == 0 { None } else { Some(chunk) }
     }
 
     fn size_hint(&self) -> (usize, Option<usize>) {

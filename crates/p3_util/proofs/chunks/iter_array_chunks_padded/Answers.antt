@@ -1,4 +1,4 @@
-use Rattle.std.proofs.Common.{sym, ◌∙◌}
+use Rattle.std.proofs.Common.{refl}
 use Rattle.p3_util.proofs.PaddedRuns.{padded-ends, padded-runs}
 use Rattle.p3_util.proofs.chunks.iter_array_chunks_padded.Goals as goal
 
@@ -6,4 +6,4 @@ pub returns-clause-ends : goal.returns-clause-ends
 returns-clause-ends g c = padded-ends g.I.IntoIter.Iterator.next_gives
 
 pub returns-clause-runs : goal.returns-clause-runs
-returns-clause-runs g c = padded-runs g.I.IntoIter.Iterator.next_gives _ _ (λ p seen from. let r = c.fuse.ensures.runs p seen from in (r.0, r.1 ∙ sym c.fuse.ensures.source, r.2))
+returns-clause-runs g c = padded-runs g.I.IntoIter.Iterator.next_gives _ refl
