@@ -62,7 +62,7 @@ where
         ensures upper { IfSome result.1 (UpTo (zip_eq_left A.remaining self.now)) }
         ensures exact { (result.0 ≡ size (zip_eq_left A.remaining self.now)) × (result.1 ≡ Some (size (zip_eq_left A.remaining self.now))) }
     {
-        let len = self.first.len();
+        let len = self.len();
         (len, Some(len))
     }
 }
