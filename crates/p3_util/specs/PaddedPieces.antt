@@ -1,7 +1,7 @@
 -- What an iterator over padded pieces takes from its source and gives.
 use Rattle.std.specs.Prelude.{◌≡◌, ℕ, ◌-◌, ◌*◌, ◌<◌, ◌==◌, if◌then◌else◌, Bool, true, false, List, ◌++◌, length, replicate, Option, None, MatchBool, MatchOption}
 use Rattle.std.specs.Iterator.{Yields, YieldsThen, Count, count_map, count_unless}
-use Rattle.std.specs.Iterator.Runs.{Run}
+use Rattle.std.specs.Iterator.Runs.{Run, SomeRun, EachRunFrom}
 use Rattle.std.specs.List.{flat_map}
 use Rattle.p3_util.specs.Pieces.{piece_count, padded, padded_pieces}
 use Rattle.p3_util.specs.declared.chunks.ArrayChunksPadded.{ArrayChunksPadded}
@@ -46,6 +46,10 @@ pub record IsPaddedRun {S T A : Type 0} {steps : S → Option (List A) → S →
   pub whole : p.whole ≡ true → 0 < n → q.whole ≡ true
   pub count : p.len ≡ piece_count n q.len
   pub joined : flat_map (λ piece. piece) p.items ≡ q.items ++ replicate (p.len * n - q.len) fill
+
+-- behind each run of s stands a run of the iterator inside, whose pieces it gives
+abbrev pub PadsRuns : {S A : Type 0} {n : ℕ} → (S → Option A → S → Type 0) → A → ArrayChunksPadded S A n → Type 0
+PadsRuns {n = n} steps fill s = EachRunFrom (padded_steps steps) s (λ p. SomeRun steps (padded_source s) (IsPaddedRun n fill p))
 
 -- once it has answered `None` it answers nothing else
 abbrev pub EndsForGood : {S A : Type 0} → (S → Option A → S → Type 0) → Type 0

@@ -1,8 +1,8 @@
 //! Iterators cut into chunks of one size.
 ghost use Rattle.std.specs.Prelude.{◌≡◌, ℕ, ◌<◌, ◌^◌, false};
 ghost use Rattle.std.specs.Iterator.{IsFiniteIterable};
-ghost use Rattle.std.specs.Iterator.Runs.{SomeRun, WholeRun, EachRunFrom};
-ghost use Rattle.p3_util.specs.PaddedPieces.{padded_source, padded_done, padded_fill, padded_steps, IsPaddedRun, EndsForGood};
+ghost use Rattle.std.specs.Iterator.Runs.{WholeRun};
+ghost use Rattle.p3_util.specs.PaddedPieces.{padded_source, padded_done, padded_fill, padded_steps, PadsRuns, EndsForGood};
 ghost use Rattle.p3_util.specs.Pieces.{CallsOnPieces};
 
 /// Calls `func` on each chunk of `BUFLEN` bytes of `input` in turn; the last chunk may be shorter.
@@ -14,7 +14,8 @@ where
     I: IntoIterator<Item = u8>,
     H: FnMut(&[u8]) + Drop,
     requires fits { BUFLEN < 2 ^ 63 }
-    requires finite { IsFiniteIterable I.into_iter_gives I.IntoIter.can_next I.IntoIter.remaining input }
+    requires finite { IsFiniteIterable I.into_iter_gives I.IntoIter.can_next I.IntoIter.remaining
+        input }
     requires callable { H.IsAlwaysCallable func }
     ensures runs { 0 < BUFLEN → (it : I.IntoIter) × I.into_iter_gives input it
         × WholeRun I.IntoIter.next_gives it (λ p. CallsOnPieces H.FnMut BUFLEN func p.items) }
@@ -48,7 +49,7 @@ pub fn iter_array_chunks_padded<T: Copy, const N: usize, I: IntoIterator<Item = 
     ensures source { I.into_iter_gives iter (padded_source result) }
     ensures fresh { padded_done result ≡ false }
     ensures fill { padded_fill result ≡ default }
-    ensures runs { EachRunFrom (padded_steps I.IntoIter.next_gives) result (λ p. SomeRun I.IntoIter.next_gives (padded_source result) (IsPaddedRun N default p)) }
+    ensures runs { PadsRuns I.IntoIter.next_gives default result }
     ensures ends { EndsForGood (padded_steps {A = T} {n = N} I.IntoIter.next_gives) }
 {
     ArrayChunksPadded {

@@ -1,5 +1,5 @@
 //! Two iterators of one length as one iterator of pairs.
-ghost use Rattle.std.specs.Prelude.{◌≡◌, ◌≢◌, MatchResult, IfOk, IfSome, Some};
+ghost use Rattle.std.specs.Prelude.{◌≡◌, MatchResult, IfOk, IfSome, Some};
 ghost use Rattle.std.specs.Iterator.{size, UpTo};
 ghost use Rattle.std.specs.Iterator.SizeHint.{IsWithinCount};
 ghost use Rattle.p3_util.specs.ZipEq.{TellsLength, zip_eq_first, zip_eq_second, zip_eq_left, zip_eq_steps, PairsRuns};
@@ -14,13 +14,20 @@ where
     B::IntoIter: ExactSizeIterator,
     B::Item: Drop,
     Error: Drop,
-    ensures lengths { (i : A.IntoIter) × (j : B.IntoIter) × A.into_iter_gives a i × B.into_iter_gives b j × MatchResult result
-        (λ z. (zip_eq_first z ≡ i) × (zip_eq_second z ≡ j) × (size (A.IntoIter.remaining i) ≡ size (B.IntoIter.remaining j)))
-        (λ e. (e ≡ err) × (size (A.IntoIter.remaining i) ≢ size (B.IntoIter.remaining j))) }
+    ensures lengths { (i : A.IntoIter) × (j : B.IntoIter)
+        × A.into_iter_gives a i × B.into_iter_gives b j
+        × (let same = size (A.IntoIter.remaining i) ≡ size (B.IntoIter.remaining j) in
+        MatchResult result
+        (λ z. same × (zip_eq_first z ≡ i) × (zip_eq_second z ≡ j))
+        (λ e. (e ≡ err) × ¬ same)) }
     ensures runs { IfOk result (PairsRuns A.IntoIter.next_gives B.IntoIter.next_gives) }
-    ensures told { IfOk result (λ z. TellsLength A.IntoIter.next_gives A.IntoIter.remaining (zip_eq_first z)
+
+    // The length that the pairs tell is true where those of the two iterators are.
+    ensures told { IfOk result (λ z.
+        TellsLength A.IntoIter.next_gives A.IntoIter.remaining (zip_eq_first z)
         → TellsLength B.IntoIter.next_gives B.IntoIter.remaining (zip_eq_second z)
-        → TellsLength (zip_eq_steps A.IntoIter.next_gives B.IntoIter.next_gives) (zip_eq_left A.IntoIter.remaining) z) }
+        → TellsLength (zip_eq_steps A.IntoIter.next_gives B.IntoIter.next_gives)
+        (zip_eq_left A.IntoIter.remaining) z) }
 {
     let first = a.into_iter();
     let second = b.into_iter();
