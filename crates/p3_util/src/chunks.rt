@@ -9,6 +9,7 @@ ghost use Rattle.p3_util.specs.Pieces.{CallsOnPieces};
 ///
 /// The bytes are those before the first `None` of the iterator, which is not asked again after it.
 /// Where `BUFLEN` is 0 there is no chunk: neither `func` nor the iterator is called.
+/// `BUFLEN` is below 2^63, as the length of every array of bytes is.
 pub fn apply_to_chunks<const BUFLEN: usize, I, H>(input: I, mut func: H)
 where
     I: IntoIterator<Item = u8>,
