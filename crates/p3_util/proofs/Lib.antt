@@ -1,2 +1,7 @@
+pub mod FilledChunk
 pub mod JsonLists
 pub mod OneAnswer
+pub mod PaddedRuns
+pub mod Pieces
+pub mod WholePieces
+pub mod ZipEqRuns

@@ -1,11 +1,14 @@
 //! Worked examples and outside vectors for the crates of this workspace, as tests, and proved callers of their modules.
 #![tactic(auto)]
 
+pub mod callers;
+
 #[cfg(test)]
 mod array_serialization;
 #[cfg(test)]
 mod bits;
-pub mod callers;
+#[cfg(test)]
+mod chunks;
 #[cfg(test)]
 mod noted;
 #[cfg(test)]
@@ -16,3 +19,5 @@ mod reverse;
 mod square;
 #[cfg(test)]
 mod transpose;
+#[cfg(test)]
+mod zip_eq;
