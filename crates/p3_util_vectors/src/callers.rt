@@ -1,6 +1,8 @@
 //! Callers of the crates' modules, proved from the public contracts alone.
 
 pub mod bits;
+pub mod chunks;
 pub mod places;
 pub mod reverse;
 pub mod transpose;
+pub mod zip_eq;
