@@ -1,0 +1,10 @@
+//! Small helpers over the kernels of `p3_util_kernels`: a map in insertion order.
+#![tactic(auto)]
+
+pub mod linear_map;
+
+/// A refusal for want of memory, with what the refused call was given, unchanged.
+#[derive(Debug, Drop)]
+pub struct NoRoom<G> {
+    pub given: G,
+}
