@@ -74,9 +74,12 @@ module _ {K V : Type 0} (eq : K → K → Bool) (es : List (K × V)) (k : K) whe
     pub put_at_place : (w : V) → slice_set es i (e.0, w) ≡ put eq es k w
     put_at_place w = rw lookup_at_place (set_at_place w)
 
+    pub keys_set_at_place : (w : V) → keys_of (slice_set es i (e.0, w)) ≡ keys_of es
+    keys_set_at_place w = rw (set_at_place w) (keys-set_value (eq k) es w)
+
     -- the keys stay, so they stay apart
     pub distinct_set_at_place : (w : V) → HasDistinctKeys eq es → HasDistinctKeys eq (slice_set es i (e.0, w))
-    distinct_set_at_place w distinct = rw (set_at_place w) (rw (keys-set_value (eq k) es w) distinct)
+    distinct_set_at_place w distinct = rw (keys_set_at_place w) distinct
 
   module _ (absent : value_at eq es k ≡ None) (v : V) where
     pub put_new : put eq es k v ≡ es ++ (k, v) ∷ []

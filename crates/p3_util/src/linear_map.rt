@@ -1,5 +1,5 @@
 //! A map that keeps its pairs in the order of insertion and finds a key by comparing it with each.
-ghost use Rattle.std.specs.Prelude.{◌≡◌, ◌<◌, ◌^◌, List, ◌∷◌, ◌++◌, [], None, Some, IfOk, IfErr, OnOk, OnErr, IsSome, IsOk, position, length};
+ghost use Rattle.std.specs.Prelude.{◌≡◌, ℕ, ◌<◌, ◌^◌, List, ◌∷◌, ◌++◌, [], None, Some, IfOk, IfErr, OnOk, OnErr, IsSome, IsOk, position, length};
 ghost use Rattle.std.specs.Option.{option_copied, option_copied_mut, UnwrapsOrElse};
 ghost use Rattle.std.specs.Iterator.Runs.{EveryRun, ItemsAre, ItemsMapTo};
 ghost use Rattle.std.specs.Map.{keys_of, values_of};
@@ -50,7 +50,8 @@ impl<K: Eq, V> LinearMap<K, V> {
 
     /// An empty map with room for `capacity` pairs.
     pub fn with_capacity(alloc: Global, capacity: usize) -> Result<Self, AllocError>
-        ensures { IfOk result (λ m. m ≡ []) }
+        ensures empty { IfOk result (λ m. m ≡ []) }
+        ensures needs_none { capacity ≡ 0 → IsOk result }
     {
         Ok(LinearMap {
             pairs: Vec::with_capacity(alloc, capacity)?,
@@ -121,6 +122,8 @@ impl<K: Eq + Drop, V> LinearMap<K, V> {
         ensures unchanged { OnErr result (self.new ≡ self.old) }
         ensures refuses_new { OnErr result (value_at K.eq self.old k ≡ None) }
         ensures known { IsSome (value_at K.eq self.old k) → IsOk result }
+        ensures known_keys { IsSome (value_at K.eq self.old k) → keys_of self.new ≡ keys_of self.old }
+        ensures distinct { HasDistinctKeys K.eq self.new }
     {
         if let Some(place) = self.place_of(&k) {
             return Ok(Some(replace(&mut self.pairs[place].1, v)));
@@ -148,9 +151,9 @@ impl<K: Eq + Drop, V> LinearMap<K, V> {
         if self.pairs.reserve(1).is_err() {
             return Err(NoRoom { given: k });
         }
-        let place = self.pairs.len();
+        let last = self.pairs.len();
         self.pairs.push_reserved((k, f()));
-        Ok(&mut self.pairs[place].1)
+        Ok(&mut self.pairs[last].1)
     }
 }
 
@@ -190,7 +193,7 @@ impl<K: Eq + Drop, V: Drop> IntoIterator for LinearMap<K, V> {
 
     type IntoIter = vec::IntoIter<(K, V)>;
 
-    ghost into_iter_gives = { λ m r. (into_iter_items r ≡ m) × (into_iter_len r ≡ length m) × (length m < 2 ^ 64) × EveryRun (into_iter_steps {X = K × V} {Z = Global}) (λ p. ItemsAre p (into_iter_items p.from)) };
+    ghost into_iter_gives = { λ m r. (into_iter_items r ≡ m) × (into_iter_len r ≡ length m) × (length m < 2 ^ 64) × HasDistinctKeys K.eq m × EveryRun (into_iter_steps {X = K × V} {Z = Global}) (λ p. ItemsAre p (into_iter_items p.from)) };
 
     fn into_iter(self) -> vec::IntoIter<(K, V)> {
         self.pairs.into_iter()
@@ -202,9 +205,9 @@ impl<'a, K: Eq, V> IntoIterator for &'a LinearMap<K, V> {
 
     type IntoIter = slice::Iter<'a, (K, V)>;
 
-    ghost into_iter_gives = { λ m r. (iter_rest r ≡ m.now) × (length (iter_rest r) < 2 ^ 64) × EveryRun (iter_steps {A = K × V}) (λ p. ItemsMapTo p (λ y. y.now) (iter_rest p.from)) };
+    ghost into_iter_gives = { λ m r. (iter_rest r ≡ m.now) × (length (iter_rest r) < 2 ^ 64) × HasDistinctKeys K.eq m.now × EveryRun (iter_steps {A = K × V}) (λ p. ItemsMapTo p (λ y. y.now) (iter_rest p.from)) };
 
     fn into_iter(self) -> slice::Iter<'a, (K, V)> {
-        self.pairs.iter()
+        self.pairs.as_slice().iter()
     }
 }

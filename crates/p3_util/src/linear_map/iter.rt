@@ -49,8 +49,8 @@ impl<'a, K, V> Iterator for Iter<'a, K, V> {
         ensures upper { IfSome result.1 (UpTo (at_most (length self.now))) }
         ensures exact { result ≡ (length self.now, Some (length self.now)) }
     {
-        let left = self.pairs.len();
-        (left, Some(left))
+        let pairs = self.pairs.len();
+        (pairs, Some(pairs))
     }
 }
 
@@ -98,8 +98,8 @@ impl<'a, K, V> Iterator for Keys<'a, K, V> {
         ensures upper { IfSome result.1 (UpTo (at_most (length self.now))) }
         ensures exact { result ≡ (length self.now, Some (length self.now)) }
     {
-        let left = self.pairs.len();
-        (left, Some(left))
+        let keys = self.pairs.len();
+        (keys, Some(keys))
     }
 }
 
@@ -147,7 +147,7 @@ impl<'a, K, V> Iterator for Values<'a, K, V> {
         ensures upper { IfSome result.1 (UpTo (at_most (length self.now))) }
         ensures exact { result ≡ (length self.now, Some (length self.now)) }
     {
-        let left = self.pairs.len();
-        (left, Some(left))
+        let values = self.pairs.len();
+        (values, Some(values))
     }
 }
