@@ -148,10 +148,10 @@ impl<K: Eq + Drop, V> LinearMap<K, V> {
         if let Some(place) = self.place_of(&k) {
             return Ok(&mut self.pairs[place].1);
         }
+        let last = self.len();
         if self.pairs.reserve(1).is_err() {
             return Err(NoRoom { given: k });
         }
-        let last = self.pairs.len();
         self.pairs.push_reserved((k, f()));
         Ok(&mut self.pairs[last].1)
     }

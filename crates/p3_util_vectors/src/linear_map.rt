@@ -85,7 +85,19 @@ const SCRIPT: [(Call, Option<u32>); 60] = [
 ];
 
 /// The pairs that the original's map has at the end of the script.
-const SCRIPT_PAIRS: [(u32, u32); 11] = [(6, 1), (8, 57), (0, 14), (2, 36), (3, 54), (4, 47), (9, 55), (11, 53), (1, 28), (10, 35), (7, 45)];
+const SCRIPT_PAIRS: [(u32, u32); 11] = [
+    (6, 1),
+    (8, 57),
+    (0, 14),
+    (2, 36),
+    (3, 54),
+    (4, 47),
+    (9, 55),
+    (11, 53),
+    (1, 28),
+    (10, 35),
+    (7, 45),
+];
 
 /// A key that is equal to any other spelling of it in capital and small letters.
 #[derive(Clone, Copy, Debug)]
@@ -120,9 +132,15 @@ fn keeps_the_order_of_insertion(rt: HostRuntime) -> Result<(), Fail> {
     let keys = map.keys().copied().collect::<Vec<_>>(rt.alloc())?;
     assert_eq!(rt; keys.as_slice(), ["x", "z", "y"].as_slice());
     let pairs = map.iter().copied().collect::<Vec<_>>(rt.alloc())?;
-    assert_eq!(rt; pairs.as_slice(), [("x", 10), ("z", 30), ("y", 20)].as_slice());
+    assert_eq!(rt;
+        pairs.as_slice(),
+        [("x", 10), ("z", 30), ("y", 20)].as_slice()
+    );
     let pairs = map.into_iter().collect::<Vec<_>>(rt.alloc())?;
-    assert_eq!(rt; pairs.as_slice(), [("x", 10), ("z", 30), ("y", 20)].as_slice());
+    assert_eq!(rt;
+        pairs.as_slice(),
+        [("x", 10), ("z", 30), ("y", 20)].as_slice()
+    );
     Ok(())
 }
 

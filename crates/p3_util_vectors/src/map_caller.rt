@@ -1,5 +1,7 @@
 //! A caller of `LinearMap` that runs any list of calls, by the map's public contracts alone.
-ghost use Rattle.std.specs.Prelude.{◌≡◌, [], IfOk, OnOk};
+ghost use Rattle.std.specs.Prelude.{◌≡◌, ◌<◌, ◌^◌, [], IfOk, OnOk, sum, map, length, nat_eq};
+ghost use Rattle.std.specs.Map.{keys_of, values_of};
+ghost use Rattle.p3_util.specs.LinearMap.{put_all};
 ghost use Rattle.p3_util_vectors.specs.MapCalls.{answer_of, answers_of, after, pairs_after};
 
 use p3_util::linear_map::LinearMap;
@@ -56,4 +58,62 @@ pub fn run_calls<K: Eq + Copy, V: Copy>(
         answers.push(run_call(&mut map, call)?)?;
     }
     Ok((map, answers))
+}
+
+/// The keys of a map, in order.
+pub fn listed_keys<V>(alloc: Global, map: &LinearMap<u32, V>) -> Result<Vec<u32>, AllocError>
+    ensures { IfOk result (λ keys. keys.items ≡ keys_of map.now) }
+{
+    map.keys().copied().collect(alloc)
+}
+
+/// The values of a map, in order.
+pub fn listed_values(alloc: Global, map: &LinearMap<u32, u8>) -> Result<Vec<u8>, AllocError>
+    ensures { IfOk result (λ values. values.items ≡ values_of map.now) }
+{
+    map.values().copied().collect(alloc)
+}
+
+/// The pairs of a map, in order.
+pub fn listed_pairs(alloc: Global, map: LinearMap<u32, u8>) -> Result<Vec<(u32, u8)>, AllocError>
+    ensures { IfOk result (λ pairs. pairs.items ≡ map) }
+{
+    map.into_iter().collect(alloc)
+}
+
+/// The number of pairs.
+pub fn count(map: &LinearMap<u32, u8>) -> usize
+    ensures { result ≡ length map.now }
+{
+    map.iter().count()
+}
+
+/// The sum of the values.
+pub fn total(map: &LinearMap<u32, u8>) -> u32
+    requires { sum (values_of map.now) < 2 ^ 32 }
+    ensures { result ≡ sum (values_of map.now) }
+{
+    let mut total = 0;
+    for value in map.values() {
+        total += u32::from(*value);
+    }
+    total
+}
+
+/// The pairs of a map, in order.
+pub fn copied_pairs(alloc: Global, map: &LinearMap<u32, u8>) -> Result<Vec<(u32, u8)>, AllocError>
+    ensures { IfOk result (λ pairs. pairs.items ≡ map.now) }
+{
+    let mut pairs = Vec::new(alloc);
+    for pair in map {
+        pairs.push(*pair)?;
+    }
+    Ok(pairs)
+}
+
+/// The keys of a list, each once.
+pub fn keys_once(alloc: Global, keys: &[u32]) -> Result<LinearMap<u32, u32>, AllocError>
+    ensures { IfOk result (λ m. m ≡ put_all nat_eq [] (map (λ k. (k, k)) keys.now)) }
+{
+    LinearMap::try_from_iter(alloc, keys.iter().map(|k| (*k, *k)))
 }

@@ -1,4 +1,4 @@
-use Rattle.std.proofs.Common.{◌≡◌, ◌∙◌, sym, ap, refl, None, inr, get_or, rules}
+use Rattle.std.proofs.Common.{◌≡◌, ◌∙◌, sym, ap, refl, None, inr, rules, length}
 use Rattle.p3_util.specs.LinearMap.{value_at}
 use Rattle.p3_util.proofs.MapLemmas.{lookup_nowhere, lookup_at_place, put_at_place, put_new, distinct_set_at_place, distinct_new, same_loan, write_pushed, pair_pushed}
 use Rattle.p3_util.proofs.linear_map.LinearMap.get_or_insert_with.Goals as goal
@@ -26,11 +26,11 @@ f-requires g c =
 pub invariant_of-self-lent-2 : goal.invariant_of-self-lent-2
 invariant_of-self-lent-2 g c w =
     let absent = lookup_nowhere g.K.PartialEq.eq _ _ (sym c.in_default.ensures) in
-    let place = c.len-last.ensures ∙ c.reserve.new.self.ok.0 in
+    let place = c.len-last.ensures.len ∙ ap length (sym c.reserve.ensures.items) in
     rw (write_pushed _ _ _ _ _ _ _ c.reserve.ensures.items c.push_reserved.ensures.items place c.index_mut-2.ensures.value w) (distinct_new g.K.PartialEq.eq _ _ absent w g.met.K.Eq.laws c.self.invariant)
 
 pub returns : goal.returns
 returns g c =
     let absent = lookup_nowhere g.K.PartialEq.eq _ _ (sym c.in_default.ensures) in
-    let place = c.len-last.ensures ∙ c.reserve.new.self.ok.0 in
+    let place = c.len-last.ensures.len ∙ ap length (sym c.reserve.ensures.items) in
     rw (← c.self.view_is) (same_loan (λ w. write_pushed _ _ _ _ _ _ _ c.reserve.ensures.items c.push_reserved.ensures.items place c.index_mut-2.ensures.value w ∙ sym (put_new g.K.PartialEq.eq _ _ absent w)), record { writes_back = tt; value = rw absent (rw (pair_pushed _ _ _ _ _ _ _ c.reserve.ensures.items c.push_reserved.ensures.items place c.index_mut-2.ensures.value) c.f.ensures); given = tt; refuses_new = tt; known = λ h. refl })
