@@ -10,6 +10,8 @@ use Rattle.std.proofs.lemmas.Map.Keys.{IsDistinct-push}
 use Rattle.std.proofs.lemmas.Map.Made.{is_some-lookup}
 use Rattle.std.proofs.Common.{nat_lt, inl, ◌⊎◌}
 use Rattle.std.proofs.Math.Path.{fun_ext}
+use Rattle.std.proofs.iter.runs.Sources.{from_front}
+use Rattle.std.specs.Map.Iter.{TakesFirst, ShowsInOrder}
 use Rattle.std.proofs.lemmas.Bool.{ltb-false}
 use Rattle.p3_util.specs.LinearMap.{value_at, with_value, put, HasDistinctKeys}
 
@@ -89,3 +91,7 @@ module _ {K V : Type 0} (eq : K → K → Bool) (es : List (K × V)) (k : K) whe
     pub distinct_new : IsEquivalence eq → HasDistinctKeys eq es → HasDistinctKeys eq (es ++ (k, v) ∷ [])
     distinct_new laws distinct =
         rw (map-append (λ (x : K × V). x.0) es ((k, v) ∷ [])) (IsDistinct-push laws (keys_of es) k distinct (sym (is_some-lookup (eq k) es) ∙ ap is_some absent))
+
+-- an iterator that gives the first of a list at each step gives the list in order
+pub run_in_order : {A X : Type 0} (shows : A → X) → ShowsInOrder shows
+run_in_order shows = from_front (TakesFirst shows) shows (λ left. left) (λ _ _ ended. ap length ended.0) (λ _ _ _ gave. gave)

@@ -1,8 +1,9 @@
 //! A map that keeps its pairs in the order of insertion and finds a key by comparing it with each.
 ghost use Rattle.std.specs.Prelude.{◌≡◌, ℕ, ◌<◌, ◌^◌, List, ◌∷◌, ◌++◌, [], None, Some, IfOk, IfErr, OnOk, OnErr, IsSome, IsOk, position, length};
 ghost use Rattle.std.specs.Option.{option_copied, option_copied_mut, UnwrapsOrElse};
-ghost use Rattle.std.specs.Iterator.Runs.{EveryRun, ItemsAre, ItemsMapTo};
+ghost use Rattle.std.specs.Iterator.Runs.{EveryRun, WholeRun, ItemsAre, ItemsMapTo};
 ghost use Rattle.std.specs.Map.{keys_of, values_of};
+ghost use Rattle.std.specs.Map.Iter.{ShowsInOrder, deref};
 ghost use Rattle.std.specs.Slice.Iter.{iter_rest, iter_steps};
 ghost use Rattle.std.specs.Vec.Iter.{into_iter_items, into_iter_len, into_iter_steps};
 ghost use Rattle.std.specs.declared.alloc.Global.{Global};
@@ -68,21 +69,24 @@ impl<K: Eq, V> LinearMap<K, V> {
 
     /// The values, in order.
     pub fn values(&self) -> Values<'_, K, V>
-        ensures { result ≡ values_of self.now }
+        ensures rest { result ≡ values_of self.now }
+        ensures runs { ShowsInOrder (deref {X = V}) }
     {
         Values::new(&self.pairs)
     }
 
     /// The keys, in order.
     pub fn keys(&self) -> Keys<'_, K, V>
-        ensures { result ≡ keys_of self.now }
+        ensures rest { result ≡ keys_of self.now }
+        ensures runs { ShowsInOrder (deref {X = K}) }
     {
         Keys::new(&self.pairs)
     }
 
     /// The pairs, in order.
     pub fn iter(&self) -> Iter<'_, K, V>
-        ensures { result ≡ self.now }
+        ensures rest { result ≡ self.now }
+        ensures runs { ShowsInOrder (deref {X = K × V}) }
     {
         Iter::new(&self.pairs)
     }
@@ -164,7 +168,9 @@ impl<K: Eq + Drop, V: Drop> LinearMap<K, V> {
         it: I,
     ) -> Result<Self, AllocError>
         requires { IsFiniteIterable I.into_iter_gives I.IntoIter.can_next I.IntoIter.remaining it }
-        ensures { IfOk result (λ m. (from : I.IntoIter) × (xs : List (K × V)) × I.into_iter_gives it from × Drains I.IntoIter.next_gives from xs × (m ≡ put_all K.eq [] xs)) }
+        ensures pairs { IfOk result (λ m. (from : I.IntoIter) × (xs : List (K × V)) × I.into_iter_gives it from × Drains I.IntoIter.next_gives from xs × (m ≡ put_all K.eq [] xs)) }
+        // the same of one run of `next`
+        ensures runs { IfOk result (λ m. (from : I.IntoIter) × I.into_iter_gives it from × WholeRun I.IntoIter.next_gives from (λ run. m ≡ put_all K.eq [] run.items)) }
     {
         let mut map = LinearMap::new(alloc);
         for (k, v) in it {

@@ -1,5 +1,5 @@
-//! A caller of `LinearMap` that runs any list of calls, by the map's public contracts alone.
-ghost use Rattle.std.specs.Prelude.{◌≡◌, ◌<◌, ◌^◌, [], IfOk, OnOk, sum, map, length, nat_eq};
+//! Callers of `LinearMap`, proved by the map's public contracts alone: any list of calls, and the map's pairs as a list.
+ghost use Rattle.std.specs.Prelude.{◌≡◌, [], IfOk, OnOk, OnErr, nat_eq};
 ghost use Rattle.std.specs.Map.{keys_of, values_of};
 ghost use Rattle.p3_util.specs.LinearMap.{put_all};
 ghost use Rattle.p3_util_vectors.specs.MapCalls.{answer_of, answers_of, after, pairs_after};
@@ -26,6 +26,7 @@ pub fn run_call<K: Eq + Copy, V: Copy>(
 ) -> Result<Option<V>, AllocError>
     ensures map { OnOk result (map.new ≡ after K.eq map.old call.now) }
     ensures answer { IfOk result (λ a. a ≡ answer_of K.eq map.old call.now) }
+    ensures refused { OnErr result (map.new ≡ map.old) }
 {
     match call {
         Call::Insert(k, v) => match map.insert(*k, *v) {
@@ -74,46 +75,23 @@ pub fn listed_values(alloc: Global, map: &LinearMap<u32, u8>) -> Result<Vec<u8>,
     map.values().copied().collect(alloc)
 }
 
-/// The pairs of a map, in order.
+/// The pairs of a map, in order, by value.
 pub fn listed_pairs(alloc: Global, map: LinearMap<u32, u8>) -> Result<Vec<(u32, u8)>, AllocError>
     ensures { IfOk result (λ pairs. pairs.items ≡ map) }
 {
     map.into_iter().collect(alloc)
 }
 
-/// The number of pairs.
-pub fn count(map: &LinearMap<u32, u8>) -> usize
-    ensures { result ≡ length map.now }
-{
-    map.iter().count()
-}
-
-/// The sum of the values.
-pub fn total(map: &LinearMap<u32, u8>) -> u32
-    requires { sum (values_of map.now) < 2 ^ 32 }
-    ensures { result ≡ sum (values_of map.now) }
-{
-    let mut total = 0;
-    for value in map.values() {
-        total += u32::from(*value);
-    }
-    total
-}
-
-/// The pairs of a map, in order.
+/// Copies of the pairs of a map, in order.
 pub fn copied_pairs(alloc: Global, map: &LinearMap<u32, u8>) -> Result<Vec<(u32, u8)>, AllocError>
     ensures { IfOk result (λ pairs. pairs.items ≡ map.now) }
 {
-    let mut pairs = Vec::new(alloc);
-    for pair in map {
-        pairs.push(*pair)?;
-    }
-    Ok(pairs)
+    map.into_iter().copied().collect(alloc)
 }
 
-/// The keys of a list, each once.
-pub fn keys_once(alloc: Global, keys: &[u32]) -> Result<LinearMap<u32, u32>, AllocError>
-    ensures { IfOk result (λ m. m ≡ put_all nat_eq [] (map (λ k. (k, k)) keys.now)) }
+/// The map that a list of pairs makes.
+pub fn made_of(alloc: Global, pairs: &[(u32, u8)]) -> Result<LinearMap<u32, u8>, AllocError>
+    ensures { IfOk result (λ m. m ≡ put_all nat_eq [] pairs.now) }
 {
-    LinearMap::try_from_iter(alloc, keys.iter().map(|k| (*k, *k)))
+    LinearMap::try_from_iter(alloc, pairs.iter().copied())
 }

@@ -1,8 +1,9 @@
 //! The iterators that lend the pairs, the keys or the values of a map, in its order. Each is seen as the list of what it has left.
 ghost use Rattle.std.specs.Prelude.{◌≡◌, Some, length, IfSome};
-ghost use Rattle.std.specs.Iterator.{YieldsFirstRef, item_count, at_most, UpTo};
+ghost use Rattle.std.specs.Iterator.{item_count, at_most, UpTo};
 ghost use Rattle.std.specs.Iterator.SizeHint.{IsWithinCount};
 ghost use Rattle.std.specs.Map.{keys_of, values_of};
+ghost use Rattle.std.specs.Map.Iter.{TakesFirst, deref};
 
 use std::marker::Model;
 use std::slice;
@@ -35,7 +36,7 @@ impl<'a, K, V> Iter<'a, K, V> {
 impl<'a, K, V> Iterator for Iter<'a, K, V> {
     type Item = &'a (K, V);
 
-    ghost next_gives = { YieldsFirstRef (λ s. s) };
+    ghost next_gives = { TakesFirst (deref {X = K × V}) };
 
     ghost remaining = { item_count (λ s. s) };
 
@@ -83,7 +84,7 @@ impl<'a, K, V> Keys<'a, K, V> {
 impl<'a, K, V> Iterator for Keys<'a, K, V> {
     type Item = &'a K;
 
-    ghost next_gives = { YieldsFirstRef (λ s. s) };
+    ghost next_gives = { TakesFirst (deref {X = K}) };
 
     ghost remaining = { item_count (λ s. s) };
 
@@ -132,7 +133,7 @@ impl<'a, K, V> Values<'a, K, V> {
 impl<'a, K, V> Iterator for Values<'a, K, V> {
     type Item = &'a V;
 
-    ghost next_gives = { YieldsFirstRef (λ s. s) };
+    ghost next_gives = { TakesFirst (deref {X = V}) };
 
     ghost remaining = { item_count (λ s. s) };
 
