@@ -1,15 +1,13 @@
 //! A map that keeps its pairs in the order of insertion and finds a key by comparing it with each.
-ghost use Rattle.std.specs.Prelude.{◌≡◌, ℕ, ◌<◌, ◌^◌, List, ◌∷◌, ◌++◌, [], None, Some, IfOk, IfErr, OnOk, OnErr, IsSome, IsOk, position, length};
+ghost use Rattle.std.specs.Prelude.{◌≡◌, List, ◌∷◌, ◌++◌, [], None, Some, IfOk, IfErr, OnOk, OnErr, IsSome, IsOk, position, length};
 ghost use Rattle.std.specs.Option.{option_copied, option_copied_mut, UnwrapsOrElse};
-ghost use Rattle.std.specs.Iterator.Runs.{EveryRun, WholeRun, ItemsAre, ItemsMapTo};
+ghost use Rattle.std.specs.Iterator.Runs.{WholeRun};
 ghost use Rattle.std.specs.Map.{keys_of, values_of};
 ghost use Rattle.std.specs.Map.Iter.{ShowsInOrder, deref};
-ghost use Rattle.std.specs.Slice.Iter.{iter_rest, iter_steps};
-ghost use Rattle.std.specs.Vec.Iter.{into_iter_items, into_iter_len, into_iter_steps};
-ghost use Rattle.std.specs.declared.alloc.Global.{Global};
 ghost use Rattle.std.specs.Iterator.{IsFiniteIterable, Drains};
 ghost use Rattle.std.specs.Borrow.{sem};
 ghost use Rattle.p3_util.specs.LinearMap.{value_at, with_value, put, put_all, HasDistinctKeys};
+ghost use Rattle.p3_util.specs.MapIter.{OwnsInOrder, LendsInOrder};
 ghost use Rattle.p3_util.specs.MapLends.{lends_value, lends_put};
 
 mod iter;
@@ -139,6 +137,7 @@ impl<K: Eq + Drop, V> LinearMap<K, V> {
         }
         Ok(None)
     }
+
     /// The value at the key `k`, to write to. For a new key, first room is asked for, and then the answer of `f` is added last.
     /// Under a known key `f` is not called. Only a new key can want memory, and the refusal hands it back.
     pub fn get_or_insert_with<F: FnOnce() -> V>(&mut self, k: K, f: F) -> Result<&mut V, NoRoom<K>>
@@ -199,7 +198,7 @@ impl<K: Eq + Drop, V: Drop> IntoIterator for LinearMap<K, V> {
 
     type IntoIter = vec::IntoIter<(K, V)>;
 
-    ghost into_iter_gives = { λ m r. (into_iter_items r ≡ m) × (into_iter_len r ≡ length m) × (length m < 2 ^ 64) × HasDistinctKeys K.eq m × EveryRun (into_iter_steps {X = K × V} {Z = Global}) (λ p. ItemsAre p (into_iter_items p.from)) };
+    ghost into_iter_gives = { λ m r. OwnsInOrder m r × HasDistinctKeys K.eq m };
 
     fn into_iter(self) -> vec::IntoIter<(K, V)> {
         self.pairs.into_iter()
@@ -211,7 +210,7 @@ impl<'a, K: Eq, V> IntoIterator for &'a LinearMap<K, V> {
 
     type IntoIter = slice::Iter<'a, (K, V)>;
 
-    ghost into_iter_gives = { λ m r. (iter_rest r ≡ m.now) × (length (iter_rest r) < 2 ^ 64) × HasDistinctKeys K.eq m.now × EveryRun (iter_steps {A = K × V}) (λ p. ItemsMapTo p (λ y. y.now) (iter_rest p.from)) };
+    ghost into_iter_gives = { λ m r. LendsInOrder m.now r × HasDistinctKeys K.eq m.now };
 
     fn into_iter(self) -> slice::Iter<'a, (K, V)> {
         self.pairs.as_slice().iter()
