@@ -1,6 +1,6 @@
 -- The place that a search by `position` finds, against the look-up and the write by key.
-use Rattle.std.proofs.Common.{◌≡◌, ℕ, zero, suc, ◌+◌, ◌<◌, ◌≤◌, Bool, true, false, not, cond, List, [], ◌∷◌, ◌++◌, Option, Some, None, length, get_or, slice_set, refl, sym, ap, ◌∙◌, arith, subst, is_some, position}
-use Rattle.std.specs.List.{IsDistinct, position_or_len, list_any}
+use Rattle.std.proofs.Common.{◌≡◌, ℕ, zero, suc, ◌+◌, ◌<◌, ◌≤◌, Bool, true, false, not, cond, List, [], ◌∷◌, ◌++◌, Some, None, length, get_or, slice_set, refl, sym, ap, ◌∙◌, arith, is_some, position}
+use Rattle.std.specs.List.{IsDistinct, position_or_len}
 use Rattle.std.specs.Map.{lookup, set_value, keys_of}
 use Rattle.std.specs.Cmp.{IsEquivalence}
 use Rattle.std.proofs.lemmas.List.Quantifiers.{position-Some}

@@ -1,5 +1,4 @@
-use Rattle.std.proofs.Common.{◌≡◌, ◌∙◌, sym, ap, refl, None, inr, rules, length}
-use Rattle.p3_util.specs.LinearMap.{value_at}
+use Rattle.std.proofs.Common.{◌∙◌, sym, ap, refl, inr, rules, length}
 use Rattle.p3_util.proofs.MapLemmas.{lookup_nowhere, lookup_at_place, put_at_place, put_new, distinct_set_at_place, distinct_new, same_loan, write_pushed, pair_pushed}
 use Rattle.p3_util.proofs.linear_map.LinearMap.get_or_insert_with.Goals as goal
 

@@ -1,5 +1,5 @@
 use Rattle.std.proofs.Common.{◌≡◌, ◌∙◌, sym, ap, get_or, None}
-use Rattle.p3_util.specs.LinearMap.{value_at, put}
+use Rattle.p3_util.specs.LinearMap.{value_at}
 use Rattle.p3_util.proofs.MapLemmas.{lookup_nowhere, lookup_at_place, put_at_place, keys_set_at_place, distinct_set_at_place, put_new, distinct_new}
 use Rattle.p3_util.proofs.linear_map.LinearMap.insert.Goals as goal
 
