@@ -1,6 +1,5 @@
 use Rattle.std.proofs.Common.{◌≡◌, Bool, true, false, cond, List, [], ◌∷◌, Some, None, refl, sym, ap}
 use Rattle.std.specs.Map.{lookup, set_value}
-use Rattle.p3_util.specs.LinearMap.{value_at, with_value}
 use Rattle.p3_util_vectors.proofs.map_caller.run_call.Goals as goal
 
 -- where no key passes, a write by key changes nothing
