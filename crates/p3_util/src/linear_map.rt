@@ -167,9 +167,14 @@ impl<K: Eq + Drop, V: Drop> LinearMap<K, V> {
         it: I,
     ) -> Result<Self, AllocError>
         requires { IsFiniteIterable I.into_iter_gives I.IntoIter.can_next I.IntoIter.remaining it }
-        ensures pairs { IfOk result (λ m. (from : I.IntoIter) × (xs : List (K × V)) × I.into_iter_gives it from × Drains I.IntoIter.next_gives from xs × (m ≡ put_all K.eq [] xs)) }
-        // the same of one run of `next`
-        ensures runs { IfOk result (λ m. (from : I.IntoIter) × I.into_iter_gives it from × WholeRun I.IntoIter.next_gives from (λ run. m ≡ put_all K.eq [] run.items)) }
+        ensures pairs { IfOk result
+            (λ m. (from : I.IntoIter) × (xs : List (K × V)) × I.into_iter_gives it from
+            × Drains I.IntoIter.next_gives from xs × (m ≡ put_all K.eq [] xs)) }
+
+        // The same, as one run of `next`, from which a chain of iterators is proved.
+        ensures runs { IfOk result
+            (λ m. (from : I.IntoIter) × I.into_iter_gives it from
+            × WholeRun I.IntoIter.next_gives from (λ run. m ≡ put_all K.eq [] run.items)) }
     {
         let mut map = LinearMap::new(alloc);
         for (k, v) in it {

@@ -118,19 +118,23 @@ impl Eq for Spelling {
 }
 
 /// New keys go last and a known key keeps its place. A body of `insert` that answers `NoRoom` on each new key, whatever memory
-/// there is, meets its contract, and fails here; so do such bodies of `try_from_iter`, `get_or_insert_with` and `with_capacity`.
+/// there is, meets its contract, and fails here; so do such bodies of `try_from_iter` and `with_capacity`.
 #[test]
 fn keeps_the_order_of_insertion(rt: HostRuntime) -> Result<(), Fail> {
     let map = LinearMap::try_from_iter(rt.alloc(), [(1, "a"), (2, "b"), (1, "c")])?;
     let pairs = map.into_iter().collect::<Vec<_>>(rt.alloc())?;
     assert_eq!(rt; pairs.as_slice(), [(1, "c"), (2, "b")].as_slice());
 
-    let mut map = LinearMap::with_capacity(rt.alloc(), 3)?;
+    let with_room = LinearMap::<u32, u32>::with_capacity(rt.alloc(), 3)?;
+    assert_eq!(rt; with_room.len(), 0);
+    let mut map = LinearMap::new(rt.alloc());
     for (key, value) in [("x", 10), ("z", 30), ("y", 20)] {
         assert_eq!(rt; map.insert(key, value)?, None);
     }
     let keys = map.keys().copied().collect::<Vec<_>>(rt.alloc())?;
     assert_eq!(rt; keys.as_slice(), ["x", "z", "y"].as_slice());
+
+    let map = LinearMap::try_from_iter(rt.alloc(), [("x", 10), ("z", 30), ("y", 20)])?;
     let pairs = map.iter().copied().collect::<Vec<_>>(rt.alloc())?;
     assert_eq!(rt;
         pairs.as_slice(),
@@ -144,7 +148,7 @@ fn keeps_the_order_of_insertion(rt: HostRuntime) -> Result<(), Fail> {
     Ok(())
 }
 
-/// Known keys keep their place in `keys`, `values` and by index, and `size_hint` tells what is left.
+/// `keys`, `values`, a reference to the map and an index give what was put, and `size_hint` tells what is left.
 #[test]
 fn lists_keys_and_values(rt: HostRuntime) -> Result<(), Fail> {
     let map = LinearMap::try_from_iter(rt.alloc(), [("a", 1), ("b", 2), ("c", 3)])?;
@@ -197,7 +201,7 @@ fn inserts_and_writes(rt: HostRuntime) -> Result<(), Fail> {
     Ok(())
 }
 
-/// The closure of `get_or_insert_with` is called under a new key alone.
+/// The closure of `get_or_insert_with` is called under a new key alone. A body that answers `NoRoom` on each new key fails here.
 #[test]
 fn calls_the_closure_for_a_new_key(rt: HostRuntime) -> Result<(), Fail> {
     let called = Cell::new(0u32);
