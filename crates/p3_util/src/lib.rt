@@ -1,4 +1,4 @@
-//! Small helpers over the kernels of `p3_util_kernels`: a map in insertion order.
+//! Small utilities of provers: a map in insertion order.
 #![tactic(auto)]
 
 pub mod linear_map;

@@ -96,7 +96,7 @@ impl<K: Eq, V> LinearMap<K, V> {
         self.pairs.iter().position(|pair| *k == pair.0)
     }
 
-    /// The value at the key `k`.
+    /// The value of the pair whose key equals `k`, or `None` where there is none.
     pub fn get(&self, k: &K) -> Option<&V>
         ensures { option_copied result ≡ value_at K.eq self.now k.now }
     {
@@ -104,7 +104,7 @@ impl<K: Eq, V> LinearMap<K, V> {
         Some(&self.pairs[place].1)
     }
 
-    /// The value at the key `k`, to write to. A write changes that value alone.
+    /// The same value, to write to. A write changes that value alone.
     pub fn get_mut(&mut self, k: &K) -> Option<&mut V>
         ensures* writes_back { sem 𝓛 (lends_value K.row V.row K.eq self.entry k.now result) }
         ensures value { option_copied_mut result ≡ value_at K.eq self.old k.now }
@@ -115,8 +115,8 @@ impl<K: Eq, V> LinearMap<K, V> {
 }
 
 impl<K: Eq + Drop, V> LinearMap<K, V> {
-    /// Gives `k` the value `v`. A known key keeps its place and its stored spelling, and its old value is the answer.
-    /// A new pair goes last. Only a new pair can want memory, and the refusal hands it back.
+    /// Gives `k` the value `v`. A known key keeps its place and its stored spelling, and its old value is the answer; `k` is dropped.
+    /// A new pair goes last. Only a new pair can want memory: `NoRoom` hands it back, and the map stays as it was.
     pub fn insert(&mut self, k: K, v: V) -> Result<Option<V>, NoRoom<(K, V)>>
         ensures old { IfOk result (λ old. old ≡ value_at K.eq self.old k) }
         ensures put { OnOk result (self.new ≡ put K.eq self.old k v) }
@@ -139,7 +139,7 @@ impl<K: Eq + Drop, V> LinearMap<K, V> {
     }
 
     /// The value at the key `k`, to write to. For a new key, first room is asked for, and then the answer of `f` is added last.
-    /// Under a known key `f` is not called. Only a new key can want memory, and the refusal hands it back.
+    /// Under a known key `f` is not called. Only a new key can want memory: `NoRoom` hands it back, and the map stays as it was.
     pub fn get_or_insert_with<F: FnOnce() -> V>(&mut self, k: K, f: F) -> Result<&mut V, NoRoom<K>>
         requires { value_at K.eq self.old k ≡ None → F.pre f }
         ensures* writes_back { sem 𝓛 (lends_put K.row V.row K.eq self.entry k result) }
@@ -186,6 +186,7 @@ impl<K: Eq + Drop, V: Drop> LinearMap<K, V> {
     }
 }
 
+/// The value of the pair whose key equals `k`, which has to be there: `get` tells.
 impl<'q, K: Eq, V> Index<&'q K> for LinearMap<K, V> {
     type Output = V;
 
@@ -198,6 +199,7 @@ impl<'q, K: Eq, V> Index<&'q K> for LinearMap<K, V> {
     }
 }
 
+/// The pairs by value, in order.
 impl<K: Eq + Drop, V: Drop> IntoIterator for LinearMap<K, V> {
     type Item = (K, V);
 
@@ -210,6 +212,7 @@ impl<K: Eq + Drop, V: Drop> IntoIterator for LinearMap<K, V> {
     }
 }
 
+/// References to the pairs, in order.
 impl<'a, K: Eq, V> IntoIterator for &'a LinearMap<K, V> {
     type Item = &'a (K, V);
 
