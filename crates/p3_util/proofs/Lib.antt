@@ -1,5 +1,6 @@
 pub mod FilledChunk
 pub mod JsonLists
+pub mod MapLemmas
 pub mod OneAnswer
 pub mod PaddedRuns
 pub mod Pieces

@@ -6,6 +6,7 @@
 
 pub mod array_serialization;
 pub mod chunks;
+pub mod linear_map;
 pub mod zip_eq;
 
 pub use chunks::{ArrayChunksPadded, apply_to_chunks, iter_array_chunks_padded};
@@ -21,3 +22,9 @@ pub use p3_util_kernels::reverse::{
     reverse_index_bits_on, reverse_index_bits_short, reverse_slice_index_bits,
 };
 pub use p3_util_kernels::transpose;
+
+/// A refusal for want of memory, with what the refused call was given, unchanged.
+#[derive(Debug, Drop)]
+pub struct NoRoom<G> {
+    pub given: G,
+}
