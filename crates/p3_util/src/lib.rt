@@ -10,18 +10,15 @@ pub mod linear_map;
 pub mod zip_eq;
 
 pub use chunks::{ArrayChunksPadded, apply_to_chunks, iter_array_chunks_padded};
-pub use p3_util_kernels::bits;
 pub use p3_util_kernels::bits::{
     assert_clone, branch_hint, checked_log_size_sum, checked_pow2, indices_arr, is_power_of_three,
     log2_ceil_u64, log2_ceil_usize, log2_floor_usize, log2_strict_usize, log3_strict_usize,
     pretty_name, reverse_bits, reverse_bits_len,
 };
-pub use p3_util_kernels::places;
-pub use p3_util_kernels::reverse;
 pub use p3_util_kernels::reverse::{
     reverse_index_bits_on, reverse_index_bits_short, reverse_slice_index_bits,
 };
-pub use p3_util_kernels::transpose;
+pub use p3_util_kernels::{bits, places, reverse, transpose};
 
 /// A refusal for want of memory, with what the refused call was given, unchanged.
 #[derive(Debug, Drop)]

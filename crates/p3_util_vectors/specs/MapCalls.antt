@@ -1,8 +1,8 @@
 -- What a list of calls on a map in insertion order answers and leaves, call by call.
 use Rattle.std.specs.Prelude.{Bool, List, [], ◌∷◌, Option, Some, unwrap_or, fold}
 use Rattle.p3_util.specs.LinearMap.{value_at, with_value, put}
-use Rattle.p3_util_vectors.specs.declared.map_caller.Call.{Call}
-use Rattle.p3_util_vectors.specs.declared.map_caller.Call.TheVariants.{Insert, Get, Write, GetOrInsert}
+use Rattle.p3_util_vectors.specs.declared.callers.linear_map.Call.{Call}
+use Rattle.p3_util_vectors.specs.declared.callers.linear_map.Call.TheVariants.{Insert, Get, Write, GetOrInsert}
 
 module _ {K V : Type 0} (eq : K → K → Bool) where
   -- what one call answers: the value that its key has when it comes, and `GetOrInsert` the one that the key has from then on

@@ -1,13 +1,11 @@
 //! Worked examples and outside vectors for the crates of this workspace, as tests, and proved callers of their modules.
 #![tactic(auto)]
 
-pub mod callers;
-pub mod map_caller;
-
 #[cfg(test)]
 mod array_serialization;
 #[cfg(test)]
 mod bits;
+pub mod callers;
 #[cfg(test)]
 mod chunks;
 #[cfg(test)]

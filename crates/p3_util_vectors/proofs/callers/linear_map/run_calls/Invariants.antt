@@ -1,6 +1,6 @@
 use Rattle.std.proofs.Common.{◌≡◌, ◌++◌, [], drop}
 use Rattle.p3_util_vectors.specs.MapCalls.{pairs_after, answers_of}
-use Rattle.p3_util_vectors.proofs.map_caller.run_calls.Given as goal
+use Rattle.p3_util_vectors.proofs.callers.linear_map.run_calls.Given as goal
 
 -- the calls that are left lead where all calls do
 abbrev pub invariant-loop-call : goal.invariant-loop-call

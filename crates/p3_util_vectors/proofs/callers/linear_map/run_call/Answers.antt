@@ -1,6 +1,6 @@
 use Rattle.std.proofs.Common.{◌≡◌, Bool, true, false, cond, List, [], ◌∷◌, Some, None, refl, sym, ap}
 use Rattle.std.specs.Map.{lookup, set_value}
-use Rattle.p3_util_vectors.proofs.map_caller.run_call.Goals as goal
+use Rattle.p3_util_vectors.proofs.callers.linear_map.run_call.Goals as goal
 
 -- where no key passes, a write by key changes nothing
 set_value_nowhere : {K V : Type 0} (test : K → Bool) (es : List (K × V)) (w : V) → lookup test es ≡ None → set_value test es w ≡ es
