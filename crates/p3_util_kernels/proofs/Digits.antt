@@ -2,7 +2,7 @@
 use Rattle.std.proofs.Common.{◌≡◌, ℕ, zero, suc, ◌+◌, ◌-◌, ◌*◌, ◌/◌, ◌%◌, ◌^◌, ◌<◌, ◌≤◌, refl, sym, ◌∙◌, ap, arith, bit_and, bit_or}
 use Rattle.std.proofs.Math.Nat.{pow-suc, div-one, mod-eq_of_lt}
 use Rattle.std.proofs.lemmas.Nat.{pow_pos, shr_split, shr-shr, mod_below, div-mul-add, and_mask, shl_whole, or_shifted}
-use Rattle.std.proofs.lemmas.Nat.Bits.{bit_at-suc, bit_at_cat_low, same_from_bits_below}
+use Rattle.std.proofs.lemmas.Nat.Bits.{bit_at-suc, bit_at-zero, bit_at_cat_low, same_from_bits_below}
 use Rattle.p3_util_kernels.specs.Digits.{bit, sum_below, rev, rev_word}
 
 -- a digit is 0 or 1
@@ -149,3 +149,22 @@ pub rev-word-shr : (k x : ℕ) → k ≤ 64 → rev 64 x / 2 ^ (64 - k) ≡ rev 
 rev-word-shr k x h =
     let e : (64 - k) + k ≡ 64 = omega arith in
     sym (ap (λ w. rev w x / 2 ^ (64 - k)) e) ∙ rev-shr (64 - k) k x
+
+-- the number 0 is its own reverse
+pub rev-of-zero : (k : ℕ) → rev k 0 ≡ 0
+rev-of-zero zero = rev-zero 0
+rev-of-zero (suc k) =
+    let shorter : rev k 0 ≡ 0 = rev-of-zero k in
+    let digit : bit 0 k ≡ 0 = bit_at-zero k in
+    rw (rev-suc k 0, shorter, digit) refl
+
+-- a number of k digits, reversed twice
+pub rev_word-twice : (k x r : ℕ) → r ≡ rev_word k x → x < 2 ^ k → rev_word k r ≡ x
+rev_word-twice zero x r e h =
+    let none : x ≡ 0 = omega arith in
+    let whole : r ≡ 0 = e ∙ rev_word-zero x ∙ ap (rev 64) none ∙ rev-of-zero 64 in
+    rev_word-zero r ∙ ap (rev 64) whole ∙ rev-of-zero 64 ∙ sym none
+rev_word-twice (suc k) x r e h =
+    let some : 0 < suc k = omega arith in
+    let once : r ≡ rev (suc k) x = e ∙ rev_word-above (suc k) x some in
+    rev_word-above (suc k) r some ∙ ap (rev (suc k)) once ∙ rev-rev-below (suc k) x h

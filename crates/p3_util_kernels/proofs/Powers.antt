@@ -1,9 +1,10 @@
 -- Laws of powers of two, and what std's test for them says.
-use Rattle.std.proofs.Common.{◌≡◌, ℕ, zero, suc, ◌+◌, ◌*◌, ◌/◌, ◌%◌, ◌^◌, ◌<◌, ◌≤◌, ◌↔◌, IsTrue, refl, sym, ◌∙◌, ap, arith, inl, inr}
-use Rattle.std.proofs.Math.Nat.{pow-suc, pow-le-pow_right}
-use Rattle.std.proofs.lemmas.Bool.{cases_lt, cases_eq, eqb-true, eq-eqb}
+use Rattle.std.proofs.Common.{◌≡◌, ℕ, zero, suc, ◌+◌, ◌*◌, ◌/◌, ◌%◌, ◌^◌, ◌<◌, ◌≤◌, ◌↔◌, IsTrue, refl, sym, ◌∙◌, ap, add-one, arith, inl, inr}
+use Rattle.std.proofs.Math.Nat.{pow-suc, pow-le-pow_right, one-le-pow}
+use Rattle.std.proofs.lemmas.Bool.{cases_lt, cases_order, cases_eq, eqb-true, eq-eqb}
 use Rattle.std.proofs.lemmas.Nat.{pow_pos, pow_below, zero_from_ones}
 use Rattle.std.specs.Int.{IsPowerOfTwo, is_power_of_two}
+use Rattle.p3_util_kernels.specs.Powers.{IsPowerOfThree}
 use Rattle.std.specs.Int.Count.{ones, ones_in, ones_step, ones_cat}
 
 -- powers in order have exponents in order
@@ -69,3 +70,63 @@ power_of_two_test n = (
   λ t. from_ones (suc n) n (omega arith) (eqb-true (ones n) 1 t),
   λ p. eq-eqb (ones n) 1 (ap ones p.1 ∙ power-ones p.0),
 )
+
+-- a power above n has a greater exponent than one that is at most n
+pub exponent-above : (n a b : ℕ) → 2 ^ a ≤ n → n < 2 ^ b → a + 1 ≤ b
+exponent-above n a b low high =
+    elim (cases_lt a b) [
+      | inl less ↦ omega arith
+      | inr le ↦ absurd (omega (arith, let up : 2 ^ b ≤ 2 ^ a = pow-le-pow_right (omega arith) le in up))
+    ]
+
+pub three-pos : (e : ℕ) → 0 < 3 ^ e
+three-pos e = one-le-pow e 3 (omega arith)
+
+-- of two powers of three the greater is at least three times the less
+pub three-steps : (d e : ℕ) → d < e → 3 * 3 ^ d ≤ 3 ^ e
+three-steps d e less =
+    let up : 3 ^ suc d ≤ 3 ^ e = pow-le-pow_right (omega arith) less in
+    omega (arith, pow-suc 3 d)
+
+-- two powers of three below one power of two, and at least its half, are one
+pub three-apart : (d e top : ℕ) → 2 ^ top ≤ 3 ^ d → 3 ^ d < 2 ^ (top + 1) → 2 ^ top ≤ 3 ^ e → 3 ^ e < 2 ^ (top + 1) → d ≡ e
+three-apart d e top d_low d_high e_low e_high =
+    let twice : 2 ^ (top + 1) ≡ 2 ^ top * 2 = rw add-one (pow-suc 2 top) in
+    elim (cases_order d e) [
+      | inl same ↦ same
+      | inr (inl less) ↦ absurd (omega (arith, three-steps d e less))
+      | inr (inr more) ↦ absurd (omega (arith, three-steps e d more))
+    ]
+
+-- the powers of three that fit a word are the first 41
+pub three-fits : (e : ℕ) → 3 ^ e < 2 ^ 64 ↔ e < 41
+three-fits e = (
+  λ small. elim (cases_lt e 41) [
+    | inl less ↦ less
+    | inr le ↦ let up : 3 ^ 41 ≤ 3 ^ e = pow-le-pow_right (omega arith) le in absurd (omega arith)
+  ],
+  λ less. let last : e ≤ 40 = omega arith in let up : 3 ^ e ≤ 3 ^ 40 = pow-le-pow_right (omega arith) last in omega arith,
+)
+
+-- The greatest power of three below 2 ^ (top + 1) is the one with its highest binary digit at place `top`, if one has.
+pub three-greatest : (x e top : ℕ) → 3 ^ x < 2 ^ (top + 1) → 2 ^ (top + 1) ≤ 3 ^ (x + 1) → 2 ^ top ≤ 3 ^ e → 3 ^ e < 2 ^ (top + 1) → x ≡ e
+three-greatest x e top below next low high =
+    let twice : 2 ^ (top + 1) ≡ 2 ^ top * 2 = rw add-one (pow-suc 2 top) in
+    elim (cases_order x e) [
+      | inl same ↦ same
+      | inr (inl less) ↦
+          let above : x + 1 ≤ e = omega arith in
+          let up : 3 ^ (x + 1) ≤ 3 ^ e = pow-le-pow_right (omega arith) above in
+          absurd (omega arith)
+      | inr (inr more) ↦ absurd (omega (arith, three-steps e x more))
+    ]
+
+-- Where x is the exponent of the power of three with its highest binary digit at `top`, if there is one, and n has its own
+-- there, n is 3 ^ x if it is a power of three.
+pub three-strict : (n top x : ℕ) → 2 ^ top ≤ n → n < 2 * 2 ^ top
+    → ((e : ℕ) → 2 ^ top ≤ 3 ^ e → 3 ^ e < 2 ^ (top + 1) → x ≡ e)
+    → IsPowerOfThree n → n ≡ 3 ^ x
+three-strict n top x low high found (e, is) =
+    let twice : 2 ^ (top + 1) ≡ 2 ^ top * 2 = rw add-one (pow-suc 2 top) in
+    let same : x ≡ e = found e (omega arith) (omega arith) in
+    is ∙ ap (λ k. 3 ^ k) (sym same)

@@ -1,8 +1,10 @@
 -- The written tables hold what their comments say, entry by entry.
-use Rattle.std.proofs.Common.{◌≡◌, ℕ, zero, suc, ◌<◌, Bool, true, ◌&&◌, ◌==◌, get_or, subst, arith, inl, inr, eqb-true, refl}
+use Rattle.std.proofs.Common.{◌≡◌, ℕ, zero, suc, ◌+◌, ◌^◌, ◌<◌, ◌≤◌, nat_lt, nat_le, ltb-true, leb-true, Bool, true, ◌&&◌, ◌==◌, get_or, subst, arith, inl, inr, eqb-true, refl}
 use Rattle.std.proofs.lemmas.Bool.{cases_lt, and_parts}
+use Rattle.std.proofs.Math.Nat.{pow-le-pow_right}
 use Rattle.p3_util_kernels.specs.Digits.{rev, sum_below}
-use Rattle.p3_util_kernels.specs.declared.bits.TheConstants.{REVERSED_BYTES}
+use Rattle.p3_util_kernels.specs.declared.bits.TheConstants.{REVERSED_BYTES, POWERS_OF_THREE, EXPONENTS_OF_THREE}
+use Rattle.p3_util_kernels.proofs.Powers.{three-fits, three-greatest}
 
 -- each number below n passes the test
 unfoldable all_below : (ℕ → Bool) → ℕ → Bool
@@ -26,3 +28,40 @@ bytes_pass = refl
 -- each byte's entry is the byte with its 8 digits reversed
 pub reversed_byte : (b : ℕ) → b < 256 → get_or REVERSED_BYTES b 0 ≡ rev 8 b
 reversed_byte b h = eqb-true _ _ (all_below-at (λ b. get_or REVERSED_BYTES b 0 == rev 8 b) 256 b bytes_pass h)
+
+powers_pass : all_below (λ e. get_or POWERS_OF_THREE e 0 == 3 ^ e) 41 ≡ true
+unfolding all_below
+powers_pass = refl
+
+pub power_of_three : (e : ℕ) → e < 41 → get_or POWERS_OF_THREE e 0 ≡ 3 ^ e
+power_of_three e h = eqb-true _ _ (all_below-at (λ e. get_or POWERS_OF_THREE e 0 == 3 ^ e) 41 e powers_pass h)
+
+-- the exponent at place `top` is that of the greatest power of three below 2 ^ (top + 1)
+is_greatest : ℕ → Bool
+is_greatest top =
+    let x = get_or EXPONENTS_OF_THREE top 0 in
+    nat_lt (3 ^ x) (2 ^ (top + 1)) && nat_le (2 ^ (top + 1)) (3 ^ (x + 1))
+
+exponents_pass : all_below is_greatest 64 ≡ true
+unfolding all_below is_greatest
+exponents_pass = refl
+
+pub exponent_of_three : (top : ℕ) → top < 64
+    → (3 ^ get_or EXPONENTS_OF_THREE top 0 < 2 ^ (top + 1)) × (2 ^ (top + 1) ≤ 3 ^ (get_or EXPONENTS_OF_THREE top 0 + 1))
+unfolding is_greatest
+exponent_of_three top h =
+    let x = get_or EXPONENTS_OF_THREE top 0 in
+    let parts = and_parts (nat_lt (3 ^ x) (2 ^ (top + 1))) (nat_le (2 ^ (top + 1)) (3 ^ (x + 1))) (all_below-at is_greatest 64 top exponents_pass h) in
+    (ltb-true _ _ parts.0, leb-true _ _ parts.1)
+
+pub exponent_found : (top e : ℕ) → top < 64 → 2 ^ top ≤ 3 ^ e → 3 ^ e < 2 ^ (top + 1) → get_or EXPONENTS_OF_THREE top 0 ≡ e
+exponent_found top e h low high =
+    let greatest = exponent_of_three top h in
+    three-greatest (get_or EXPONENTS_OF_THREE top 0) e top greatest.0 greatest.1 low high
+
+pub exponent_bound : (top : ℕ) → top < 64 → get_or EXPONENTS_OF_THREE top 0 < 41
+exponent_bound top h =
+    let greatest = exponent_of_three top h in
+    let within : top + 1 ≤ 64 = omega arith in
+    let word : 2 ^ (top + 1) ≤ 2 ^ 64 = pow-le-pow_right (omega arith) within in
+    (three-fits (get_or EXPONENTS_OF_THREE top 0)).0 (omega arith)

@@ -1,5 +1,9 @@
+pub mod Diagonal
 pub mod Digits
+pub mod Names
+pub mod Powers
 pub mod Rearranged
 pub mod Reversal
+pub mod Square
 pub mod Steps
 pub mod Transpose

@@ -106,7 +106,7 @@ impl<C: Cells> Cells for &mut C {
 /// The items of a mutable slice. What it holds stands in the slice when the borrow ends.
 #[derive(Drop)]
 pub struct SlicePlaces<'a, F> {
-    items: &'a mut [F],
+    pub items: &'a mut [F],
 }
 
 impl<'a, F> SlicePlaces<'a, F> {
@@ -141,31 +141,31 @@ impl<'a, F> Places for SlicePlaces<'a, F> {
 /// The places of a mutable slice. What it holds stands in the slice when the borrow ends.
 #[derive(Drop)]
 pub struct SliceCells<'a, T> {
-    items: &'a mut [T],
+    pub values: &'a mut [T],
 }
 
 impl<'a, T: Copy> SliceCells<'a, T> {
-    /// The places of `items`, in order.
-    pub fn new(items: &'a mut [T]) -> Self
-        ensures { result.items ≡ items.entry }
+    /// The places of `values`, in order.
+    pub fn new(values: &'a mut [T]) -> Self
+        ensures { result.values ≡ values.entry }
     {
-        SliceCells { items }
+        SliceCells { values }
     }
 }
 
 impl<'a, T: Copy> Cells for SliceCells<'a, T> {
     type Item = T;
 
-    ghost items = { λ s. s.items.now };
+    ghost items = { λ s. s.values.now };
 
-    ghost same_holder = { λ a b. a.items.ghost_name ≡ b.items.ghost_name };
+    ghost same_holder = { λ a b. a.values.ghost_name ≡ b.values.ghost_name };
 
     fn len(&self) -> usize {
-        self.items.len()
+        self.values.len()
     }
 
     fn put(&mut self, i: usize, v: T) {
-        self.items[i] = v;
+        self.values[i] = v;
     }
 
     ghost same_holder_refl = { λ a. refl };
@@ -176,25 +176,25 @@ impl<'a, T: Copy> Cells for SliceCells<'a, T> {
 /// A holder of places that counts its exchanges. The count stays at `u128::MAX` once it is there.
 #[derive(Drop)]
 pub struct Swaps<S> {
-    holder: S,
-    count: u128,
+    places: S,
+    swaps: u128,
 }
 
 impl<S> Model for Swaps<S> {
     ghost Value = { Counted S };
 
-    ghost view = { λ m. record { holder = m.holder; count = m.count } };
+    ghost view = { λ m. record { holder = m.places; count = m.swaps } };
 
-    ghost invariant = { λ m. m.count < 2 ^ 128 };
+    ghost invariant = { λ m. m.swaps < 2 ^ 128 };
 }
 
 impl<S: Places> Swaps<S> {
-    /// Counts the exchanges in `holder` from 0.
-    pub fn new(holder: S) -> Self
-        ensures holder { result.holder ≡ holder }
+    /// Counts the exchanges in `places` from 0.
+    pub fn new(places: S) -> Self
+        ensures holder { result.holder ≡ places }
         ensures count { result.count ≡ 0 }
     {
-        Swaps { holder, count: 0 }
+        Swaps { places, swaps: 0 }
     }
 
     /// The number of places. A caller learns here too that the count is a `u128`.
@@ -202,7 +202,7 @@ impl<S: Places> Swaps<S> {
         ensures len { result ≡ length (S.items self.now.holder) }
         ensures count_fits { self.now.count < 2 ^ 128 }
     {
-        self.holder.len()
+        self.places.len()
     }
 
     /// Exchanges the items at places `i` and `j`, by one exchange, and counts it.
@@ -213,48 +213,48 @@ impl<S: Places> Swaps<S> {
         ensures count { self.new.count ≡ counted self.old.count 1 }
         ensures holder { S.same_holder self.old.holder self.new.holder }
     {
-        self.holder.exchange(i, j);
-        self.count = self.count.saturating_add(1);
+        self.places.exchange(i, j);
+        self.swaps = self.swaps.saturating_add(1);
     }
 
     /// How many exchanges were made, at most `u128::MAX`.
     pub fn swaps(&self) -> u128
         ensures { result ≡ self.now.count }
     {
-        self.count
+        self.swaps
     }
 
     /// The holder.
     pub fn into_inner(self) -> S
         ensures { result ≡ self.holder }
     {
-        let Swaps { holder, count: _ } = self;
-        holder
+        let Swaps { places, swaps: _ } = self;
+        places
     }
 }
 
 /// A holder of places that counts its writes. The count stays at `u128::MAX` once it is there.
 #[derive(Drop)]
 pub struct Writes<C> {
-    holder: C,
-    count: u128,
+    cells: C,
+    writes: u128,
 }
 
 impl<C> Model for Writes<C> {
     ghost Value = { Counted C };
 
-    ghost view = { λ m. record { holder = m.holder; count = m.count } };
+    ghost view = { λ m. record { holder = m.cells; count = m.writes } };
 
-    ghost invariant = { λ m. m.count < 2 ^ 128 };
+    ghost invariant = { λ m. m.writes < 2 ^ 128 };
 }
 
 impl<C: Cells> Writes<C> {
-    /// Counts the writes to `holder` from 0.
-    pub fn new(holder: C) -> Self
-        ensures holder { result.holder ≡ holder }
+    /// Counts the writes to `cells` from 0.
+    pub fn new(cells: C) -> Self
+        ensures holder { result.holder ≡ cells }
         ensures count { result.count ≡ 0 }
     {
-        Writes { holder, count: 0 }
+        Writes { cells, writes: 0 }
     }
 
     /// The number of places. A caller learns here too that the count is a `u128`.
@@ -262,7 +262,7 @@ impl<C: Cells> Writes<C> {
         ensures len { result ≡ length (C.items self.now.holder) }
         ensures count_fits { self.now.count < 2 ^ 128 }
     {
-        self.holder.len()
+        self.cells.len()
     }
 
     /// Puts `v` at place `i`, by one write, and counts it.
@@ -272,22 +272,22 @@ impl<C: Cells> Writes<C> {
         ensures count { self.new.count ≡ counted self.old.count 1 }
         ensures holder { C.same_holder self.old.holder self.new.holder }
     {
-        self.holder.put(i, v);
-        self.count = self.count.saturating_add(1);
+        self.cells.put(i, v);
+        self.writes = self.writes.saturating_add(1);
     }
 
     /// How many writes were made, at most `u128::MAX`.
     pub fn writes(&self) -> u128
         ensures { result ≡ self.now.count }
     {
-        self.count
+        self.writes
     }
 
     /// The holder.
     pub fn into_inner(self) -> C
         ensures { result ≡ self.holder }
     {
-        let Writes { holder, count: _ } = self;
-        holder
+        let Writes { cells, writes: _ } = self;
+        cells
     }
 }

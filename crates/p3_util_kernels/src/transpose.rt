@@ -4,7 +4,10 @@ ghost use Rattle.std.specs.Prelude.{◌≡◌, ◌+◌, ◌*◌, ◌^◌, ◌<�
 ghost use Rattle.p3_util_kernels.specs.Steps.{counted};
 ghost use Rattle.p3_util_kernels.specs.Transpose.{IsFilled, IsTranspose};
 
+mod square;
+
 use crate::places::{Cells, SliceCells, Writes};
+pub use square::transpose_square_on;
 
 /// Whether an input and an output of these lengths hold a matrix of `width` by `height` items, with the product as a
 /// whole number that does not wrap. It is the test for the condition of [`transpose`] and [`transpose_on`].

@@ -1,6 +1,6 @@
 use Rattle.std.proofs.Common.{◌≡◌, ℕ, ◌-◌, ◌≤◌, ◌/◌, ◌^◌, ◌∙◌, sym, ap, arith}
 use Rattle.p3_util_kernels.specs.Digits.{rev, rev_word}
-use Rattle.p3_util_kernels.proofs.Digits.{rev-word-shr, rev-rev, rev-lt, rev_word-zero, rev_word-above}
+use Rattle.p3_util_kernels.proofs.Digits.{rev-word-shr, rev-rev, rev-lt, rev_word-zero, rev_word-above, rev_word-twice}
 use Rattle.p3_util_kernels.proofs.bits.reverse_bits_len.Goals as goal
 
 -- the reversed word r, shifted
@@ -23,3 +23,9 @@ returns-else-bit_len-eq0-clause-below c some =
 pub returns-else-bit_len-eq0-clause-inverse : goal.returns-else-bit_len-eq0-clause-inverse
 returns-else-bit_len-eq0-clause-inverse c some =
     rw (shifted _ c.args.bit_len c.args.x c.reverse_u64-reversed.ensures (omega arith)) (rev-rev c.args.bit_len c.args.x)
+
+pub returns-then-bit_len-eq0-clause-twice : goal.returns-then-bit_len-eq0-clause-twice
+returns-then-bit_len-eq0-clause-twice c = rev_word-twice c.args.bit_len c.args.x _ (returns-then-bit_len-eq0-clause-reversed c)
+
+pub returns-else-bit_len-eq0-clause-twice : goal.returns-else-bit_len-eq0-clause-twice
+returns-else-bit_len-eq0-clause-twice c = rev_word-twice c.args.bit_len c.args.x _ (returns-else-bit_len-eq0-clause-reversed c)

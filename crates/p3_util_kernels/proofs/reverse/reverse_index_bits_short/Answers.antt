@@ -1,6 +1,6 @@
-use Rattle.std.proofs.Common.{ℕ, ◌≡◌, ◌+◌, ◌<◌, ◌≤◌, ◌^◌, length, arith, sym, ◌∙◌}
+use Rattle.std.proofs.Common.{◌≡◌, ◌<◌, ◌^◌, length, arith, sym, ◌∙◌}
 use Rattle.p3_util_kernels.specs.Digits.{rev}
-use Rattle.p3_util_kernels.proofs.Halfway.{IsHalfway, IsInvolution, IsHalfway-start, IsHalfway-skip, IsHalfway-swap, IsRearranged-from_halfway}
+use Rattle.p3_util_kernels.proofs.Halfway.{IsInvolution, IsHalfway-start, IsHalfway-skip, IsHalfway-swap, IsRearranged-from_halfway}
 use Rattle.p3_util_kernels.proofs.Reversal.{IsReversal-short, IsReversal-from_rearranged, IsInvolution-rev, rev_word-positive, exponent-positive}
 use Rattle.p3_util_kernels.proofs.Steps.{RoseByAtMost-none, RoseByAtMost-more, RoseByAtMost-wider}
 use Rattle.p3_util_kernels.proofs.reverse.reverse_index_bits_short.Goals as goal

@@ -1,0 +1,2 @@
+pub mod JsonLists
+pub mod OneAnswer

@@ -1,0 +1,25 @@
+-- How many pairs of places blocks and squares exchange.
+use Rattle.std.proofs.Common.{◌≡◌, ℕ, zero, suc, ◌+◌, ◌-◌, ◌*◌, ◌/◌, arith}
+
+mul-pred : (n : ℕ) → n * (n - 1) + n ≡ n * n
+mul-pred zero = omega arith
+mul-pred (suc n) = let e : suc n - 1 ≡ n = omega arith in rw e (omega arith)
+
+-- a square without its diagonal has two places for each pair
+halves : (n : ℕ) → (m : ℕ) × (n * n ≡ 2 * m + n)
+halves zero = (0, omega arith)
+halves (suc n) = let before : (m : ℕ) × (n * n ≡ 2 * m + n) = halves n in (before.0 + n, omega arith)
+
+pub twice-pairs : (n : ℕ) → 2 * (n * (n - 1) / 2) + n ≡ n * n
+twice-pairs n = let half : (m : ℕ) × (n * n ≡ 2 * m + n) = halves n in omega (arith, mul-pred n)
+
+-- the pairs within two parts of a square, and those between them
+pub pairs-add : (h r : ℕ) → (h + r) * (h + r - 1) / 2 ≡ h * (h - 1) / 2 + h * r + r * (r - 1) / 2
+pairs-add h r = omega (arith, twice-pairs h, twice-pairs r, twice-pairs (h + r))
+
+-- the products of two parts of one factor
+pub mul-parts_left : (h r n c : ℕ) → h + r ≡ n → h * c + r * c ≡ n * c
+mul-parts_left h r n c e = rw (← e) (omega arith)
+
+pub mul-parts_right : (h r n c : ℕ) → h + r ≡ n → c * h + c * r ≡ c * n
+mul-parts_right h r n c e = rw (← e) (omega arith)

@@ -1,0 +1,18 @@
+//! Worked examples and outside vectors for the crates of this workspace, as tests, and proved callers of their modules.
+#![tactic(auto)]
+
+#[cfg(test)]
+mod array_serialization;
+#[cfg(test)]
+mod bits;
+pub mod callers;
+#[cfg(test)]
+mod noted;
+#[cfg(test)]
+mod oracle;
+#[cfg(test)]
+mod reverse;
+#[cfg(test)]
+mod square;
+#[cfg(test)]
+mod transpose;

@@ -1,0 +1,71 @@
+//! A list of numbers that notes the places of each call, in order.
+
+ghost use Rattle.std.specs.Prelude.{◌≡◌};
+
+use p3_util_kernels::places::{Cells, Places};
+
+/// The places of one call.
+#[derive(Clone, Copy, Debug, PartialEq, Eq)]
+pub enum Note {
+    Exchange(usize, usize),
+    Put(usize),
+}
+
+/// Numbers, and the calls that changed them while the room of `notes` lasts.
+#[derive(Drop)]
+pub struct Noted {
+    pub items: Vec<u64>,
+    pub notes: Vec<Note>,
+}
+
+impl Noted {
+    fn note(&mut self, note: Note)
+        ensures { self.new.items ≡ self.old.items }
+    {
+        if self.notes.len() < self.notes.capacity() {
+            let _ = self.notes.push(note);
+        }
+    }
+}
+
+impl Places for Noted {
+    type Item = u64;
+
+    ghost items = { λ n. n.items.items };
+
+    ghost same_holder = { λ a b. Unit {0} };
+
+    fn len(&self) -> usize {
+        self.items.len()
+    }
+
+    fn exchange(&mut self, i: usize, j: usize) {
+        self.items.swap(i, j);
+        self.note(Note::Exchange(i, j));
+    }
+
+    ghost same_holder_refl = { λ a. tt };
+
+    ghost same_holder_trans = { λ a b c p q. tt };
+}
+
+impl Cells for Noted {
+    type Item = u64;
+
+    ghost items = { λ n. n.items.items };
+
+    ghost same_holder = { λ a b. Unit {0} };
+
+    fn len(&self) -> usize {
+        self.items.len()
+    }
+
+    fn put(&mut self, i: usize, v: u64) {
+        self.items[i] = v;
+        self.note(Note::Put(i));
+    }
+
+    ghost same_holder_refl = { λ a. tt };
+
+    ghost same_holder_trans = { λ a b c p q. tt };
+}

@@ -1,0 +1,25 @@
+//! What the vectors of the original crate are made of, and how its answers are told.
+//!
+//! The answers were made by a program over the code of `p3-util` 0.8.0 itself, built with rustc 1.95 at optimization
+//! level 3 without its parallel feature.
+
+use std::alloc::{AllocError, Global};
+
+/// Item `i` of a list of vectors: `i * 2654435761 mod 2^32`.
+pub fn item(i: usize) -> u64 {
+    (i as u64).wrapping_mul(2_654_435_761) % 4_294_967_296
+}
+
+/// The items with the numbers 0 to `count - 1`.
+pub fn items(alloc: Global, count: usize) -> Result<Vec<u64>, AllocError> {
+    (0..count).map(item).collect(alloc)
+}
+
+/// The hash of a list: it starts at 14695981039346656037, and for each item becomes the exclusive or with the item, times
+/// 1099511628211, without what does not fit 64 bits.
+pub fn hash(list: &[u64]) -> u64 {
+    list.iter().fold(
+        14_695_981_039_346_656_037,
+        |h: u64, x| (h ^ *x).wrapping_mul(1_099_511_628_211),
+    )
+}
