@@ -7,6 +7,7 @@
 pub mod array_serialization;
 pub mod chunks;
 pub mod linear_map;
+pub mod views;
 pub mod zip_eq;
 
 pub use chunks::{ArrayChunksPadded, apply_to_chunks, iter_array_chunks_padded};
@@ -19,6 +20,10 @@ pub use p3_util_kernels::reverse::{
     reverse_index_bits_on, reverse_index_bits_short, reverse_slice_index_bits,
 };
 pub use p3_util_kernels::{bits, places, reverse, transpose};
+pub use views::{
+    BaseIter, BaseSlice, BaseSliceMut, as_base_slice, as_base_slice_mut, flat_len, flatten_to_base,
+    reconstitute_from_base,
+};
 
 /// A refusal for want of memory, with what the refused call was given, unchanged.
 #[derive(Debug, Drop)]

@@ -7,4 +7,5 @@ pub mod linear_map;
 pub mod places;
 pub mod reverse;
 pub mod transpose;
+pub mod views;
 pub mod zip_eq;

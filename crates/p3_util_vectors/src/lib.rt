@@ -21,4 +21,6 @@ mod square;
 #[cfg(test)]
 mod transpose;
 #[cfg(test)]
+mod views;
+#[cfg(test)]
 mod zip_eq;

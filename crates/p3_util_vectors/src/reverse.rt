@@ -50,7 +50,7 @@ fn count_swaps<F>(rt: &impl Abort, list: &mut [F]) -> u128 {
 }
 
 /// Reverses `places`, of no items or a power of two, by the call that picks its path, and tells the number of swaps.
-fn count_swaps_of<S: Places>(rt: &impl Abort, places: &mut S) -> u128 {
+pub fn count_swaps_of<S: Places>(rt: &impl Abort, places: &mut S) -> u128 {
     let mut swaps = Swaps::new(places);
     if swaps.len().is_power_of_two() {
         reverse_index_bits_on(&mut swaps);

@@ -1,0 +1,189 @@
+-- What a write or an exchange in the rows does to the list of their items.
+use Rattle.std.proofs.Common.{ℕ, zero, suc, ◌≡◌, ◌+◌, ◌-◌, ◌*◌, ◌<◌, ◌≤◌, ◌≢◌, List, [], ◌∷◌, ◌++◌, length, get_or, set, take, drop, refl, sym, ap, ◌∙◌, arith, length-append, get_or-set_other, get_or-set_same, zero-add, add_assoc, ◌^◌, ◌/◌, max}
+use Rattle.std.proofs.lemmas.Nat.{le-div}
+use Rattle.std.proofs.Math.Nat.{mul-le-mul_right}
+use Rattle.std.proofs.Math.Seq.{take-set-lt}
+use Rattle.std.specs.List.{swap}
+use Rattle.std.proofs.lemmas.List.{length-set, set-append_left, set-append_right, set-set, set_comm, take-set, drop-set-add, drop-set-lt, take-append-drop, get_or-take, get_or_default, length-take, take_all, get_or-drop}
+use Rattle.std.proofs.lemmas.List.Edits.{swap_is}
+use Rattle.std.proofs.lemmas.List.Concat.{get_or-flat_map}
+use Rattle.p3_util.specs.Flat.{counted_rows, flat}
+
+counts_all : (l n : ℕ) → l < 2 ^ 64 → l * n < 2 ^ 64 → l * max n 1 ≤ 2 ^ 64 - 1
+counts_all l zero few fits = omega arith
+counts_all l (suc n) few fits = let same : max (suc n) 1 ≡ suc n = omega arith in rw same (omega arith)
+
+module _ {A : Type 0} where
+  -- where row r begins
+  abbrev start : List (List A) → ℕ → ℕ
+  start rows r = length (flat (take r rows))
+
+  set-append-add : (xs ys : List A) (i : ℕ) (w : A) → set (xs ++ ys) (length xs + i) w ≡ xs ++ set ys i w
+  set-append-add xs ys i w =
+      let same : length xs + i - length xs ≡ i = omega arith in
+      set-append_right xs ys (length xs) (length xs + i) w refl (omega arith) ∙ ap (λ k. xs ++ set ys k w) same
+
+  -- an item of row r is written
+  pub flat-set : (rows : List (List A)) (r c : ℕ) (w : A) → r < length rows → c < length (get_or rows r [])
+      → flat (set rows r (set (get_or rows r []) c w)) ≡ set (flat rows) (start rows r + c) w
+  flat-set [] r c w lt inside = absurd (omega arith)
+  flat-set (x ∷ xs) zero c w lt inside = rw (zero-add c) (sym (set-append_left x (flat xs) c w inside))
+  flat-set (x ∷ xs) (suc r) c w lt inside =
+      let at : start (x ∷ xs) (suc r) + c ≡ length x + (start xs r + c) = rw (length-append x (flat (take r xs))) (add_assoc _ _ _) in
+      rw at (ap (λ l. x ++ l) (flat-set xs r c w (omega arith) inside) ∙ sym (set-append-add x (flat xs) (start xs r + c) w))
+
+  -- a row gives way to one of the same length: no row begins elsewhere
+  start-set : (rows : List (List A)) (r k : ℕ) (y : List A) → length y ≡ length (get_or rows r []) → start (set rows r y) k ≡ start rows k
+  start-set [] r k y same = refl
+  start-set (x ∷ xs) r zero y same = refl
+  start-set (x ∷ xs) zero (suc k) y same = rw (length-append y (flat (take k xs)), length-append x (flat (take k xs))) (omega (arith, same))
+  start-set (x ∷ xs) (suc r) (suc k) y same = rw (length-append x (flat (take k (set xs r y))), length-append x (flat (take k xs))) (ap (λ n. length x + n) (start-set xs r k y same))
+
+  row-len : (rows : List (List A)) (r s : ℕ) (y : List A) → length y ≡ length (get_or rows r []) → length (get_or (set rows r y) s []) ≡ length (get_or rows s [])
+  row-len [] r s y same = refl
+  row-len (x ∷ xs) zero zero y same = same
+  row-len (x ∷ xs) zero (suc s) y same = refl
+  row-len (x ∷ xs) (suc r) zero y same = refl
+  row-len (x ∷ xs) (suc r) (suc s) y same = row-len xs r s y same
+
+  -- an item of a row, among the items of all rows
+  get_or-flat : (rows : List (List A)) (r c : ℕ) (d : A) → r < length rows → c < length (get_or rows r [])
+      → get_or (flat rows) (start rows r + c) d ≡ get_or (get_or rows r []) c d
+  get_or-flat rows r c d lt inside = get_or-flat_map (λ row. row) rows r c [] d lt inside
+
+  start-below : (rows : List (List A)) (r c : ℕ) → r < length rows → c < length (get_or rows r []) → start rows r + c < length (flat rows)
+  start-below [] r c lt inside = absurd (omega arith)
+  start-below (x ∷ xs) zero c lt inside = rw (length-append x (flat xs)) (omega (arith, inside))
+  start-below (x ∷ xs) (suc r) c lt inside =
+      rw (length-append x (flat xs), length-append x (flat (take r xs))) (omega (arith, start-below xs r c (omega arith) inside))
+
+  -- an item of row r is written, and then one of row s, so that the two are exchanged
+  flat-two : (rows : List (List A)) (r c s d : ℕ) (v w any : A) → r < length rows → c < length (get_or rows r []) → s < length rows → d < length (get_or rows s [])
+      → v ≡ get_or (get_or rows s []) d any → w ≡ get_or (get_or rows r []) c any
+      → let rows' = set rows r (set (get_or rows r []) c v) in
+      flat (set rows' s (set (get_or rows' s []) d w)) ≡ swap (flat rows) (start rows r + c) (start rows s + d)
+  flat-two rows r c s d v w any lr ic ls id ev ew =
+      let all = flat rows in
+      let i = start rows r + c in
+      let j = start rows s + d in
+      let row = get_or rows r [] in
+      let rows' = set rows r (set row c v) in
+      let same-len : length (set row c v) ≡ length row = length-set row c v in
+      let ls' : s < length rows' = rw (length-set rows r (set row c v)) ls in
+      let id' : d < length (get_or rows' s []) = rw (row-len rows r s (set row c v) same-len) id in
+      let first : flat rows' ≡ set all i v = flat-set rows r c v lr ic in
+      let second : flat (set rows' s (set (get_or rows' s []) d w)) ≡ set (flat rows') (start rows' s + d) w = flat-set rows' s d w ls' id' in
+      let v-is : v ≡ get_or all j any = ev ∙ sym (get_or-flat rows s d any ls id) in
+      let w-is : w ≡ get_or all i any = ew ∙ sym (get_or-flat rows r c any lr ic) in
+      let swapped : set (set all i (get_or all j any)) j (get_or all i any) ≡ swap all i j = swap_is all i j any (start-below rows r c lr ic) (start-below rows s d ls id) in
+      second ∙ rw (start-set rows r s (set row c v) same-len, first, v-is, w-is) swapped
+
+  -- what stands at a place of a list
+  item : (xs : List A) (i : ℕ) → i < length xs → A
+  item [] i lt = absurd (omega arith)
+  item (x ∷ xs) i lt = x
+
+  -- two items of row r are exchanged
+  pub flat-swap : (rows : List (List A)) (r c d : ℕ) → r < length rows → c < length (get_or rows r []) → d < length (get_or rows r [])
+      → flat (set rows r (swap (get_or rows r []) c d)) ≡ swap (flat rows) (start rows r + c) (start rows r + d)
+  flat-swap rows r c d lr ic id =
+      let row = get_or rows r [] in
+      let any : A = item row c ic in
+      let v = get_or row d any in
+      let w = get_or row c any in
+      let both : set (set row c v) d w ≡ swap row c d = swap_is row c d any ic id in
+      let there : get_or (set rows r (set row c v)) r [] ≡ set row c v = get_or-set_same rows r (set row c v) [] lr in
+      let once : set (set rows r (set row c v)) r (set (set row c v) d w) ≡ set rows r (swap row c d) = set-set rows r (set row c v) (set (set row c v) d w) ∙ ap (λ y. set rows r y) both in
+      ap flat (sym once) ∙ ap (λ y. flat (set (set rows r (set row c v)) r (set y d w))) (sym there) ∙ flat-two rows r c r d v w any lr ic lr id refl refl
+
+  -- rows are cut at row s, and row r in front of it and row s itself are written
+  parts : (rows front back : List (List A)) (r s : ℕ) (a b : List A) → front ≡ take s rows → back ≡ drop s rows → r < s
+      → set front r a ++ set back 0 b ≡ set (set rows r a) s b
+  parts rows front back r s a b is-front is-back lt =
+      let new = set (set rows r a) s b in
+      let front-new : take s new ≡ set front r a = take-set (set rows r a) s b ∙ take-set-lt s rows r a lt ∙ ap (λ l. set l r a) (sym is-front) in
+      let zero-more : s + 0 ≡ s = omega arith in
+      let at : drop s (set (set rows r a) (s + 0) b) ≡ set (drop s (set rows r a)) 0 b = drop-set-add s (set rows r a) 0 b in
+      let back-new : drop s new ≡ set back 0 b =
+      ap (λ k. drop s (set (set rows r a) k b)) (sym zero-more) ∙ at ∙ ap (λ l. set l 0 b) (drop-set-lt s rows r a lt ∙ sym is-back) in
+      rw (front-new, back-new) at (take-append-drop s new)
+
+  -- an item of row r and one of a later row s are exchanged, where the rows are cut at row s
+  pub flat-exchange : (rows front back : List (List A)) (r c s d : ℕ) (a b : List A) → front ≡ take s rows → back ≡ drop s rows → r < s → s < length rows
+      → let x = get_or front r [] in let y = get_or back 0 [] in
+      c < length x → d < length y → ((any : A) → a ≡ set x c (get_or y d any)) → ((any : A) → b ≡ set y d (get_or x c any))
+      → flat (set front r a ++ set back 0 b) ≡ swap (flat rows) (start rows r + c) (start rows s + d)
+  flat-exchange rows front back r c s d a b is-front is-back lt ls ic id ea eb =
+      let x-is : get_or front r [] ≡ get_or rows r [] = ap (λ l. get_or l r []) is-front ∙ get_or-take s rows r [] lt in
+      let zero-more : s + 0 ≡ s = omega arith in
+      let y-is : get_or back 0 [] ≡ get_or rows s [] = ap (λ l. get_or l 0 []) is-back ∙ get_or-drop s rows 0 [] ∙ ap (λ k. get_or rows k []) zero-more in
+      let any : A = item (get_or front r []) c ic in
+      let v = get_or (get_or back 0 []) d any in
+      let w = get_or (get_or front r []) c any in
+      let row = get_or rows r [] in
+      let rows' = set rows r (set row c v) in
+      let apart : s ≢ r = omega arith in
+      let other : get_or rows' s [] ≡ get_or rows s [] = get_or-set_other rows r s (set row c v) [] apart in
+      let a-is : a ≡ set row c v = ea any ∙ ap (λ l. set l c v) x-is in
+      let b-is : b ≡ set (get_or rows' s []) d w = eb any ∙ ap (λ l. set l d w) (y-is ∙ sym other) in
+      let lr : r < length rows = omega arith in
+      let ic' : c < length row = rw x-is at ic in
+      let id' : d < length (get_or rows s []) = rw y-is at id in
+      ap flat (parts rows front back r s a b is-front is-back lt) ∙ ap (λ l. flat (set (set rows r l) s b)) a-is ∙ ap (λ l. flat (set rows' s l)) b-is ∙
+      flat-two rows r c s d v w any lr ic' ls id' (ap (λ l. get_or l d any) y-is) (ap (λ l. get_or l c any) x-is)
+
+  swap-sym : (xs : List A) (i j : ℕ) → i ≢ j → swap xs i j ≡ swap xs j i
+  swap-sym [] i j apart = refl
+  swap-sym (x ∷ xs) i j apart = set_comm (x ∷ xs) i j _ _ apart
+
+  -- the same exchange, where the first place is the later one
+  pub later-first : (rows : List (List A)) (new : List A) (r c s d n i j : ℕ) → d < n → s ≤ r → r ≢ s → start rows r ≡ r * n → start rows s ≡ s * n
+      → i ≡ r * n + c → j ≡ s * n + d → new ≡ swap (flat rows) (start rows s + d) (start rows r + c) → new ≡ swap (flat rows) i j
+  later-first rows new r c s d n i j within le apart begins-r begins-s at-i at-j is =
+      let later : (s + 1) * n ≤ r * n = mul-le-mul_right n (omega arith) in
+      let apart' : j ≢ i = omega (arith, later) in
+      let i-is : start rows r + c ≡ i = omega arith in
+      let j-is : start rows s + d ≡ j = omega arith in
+      is ∙ ap (λ k. swap (flat rows) k (start rows r + c)) j-is ∙ ap (λ k. swap (flat rows) j k) i-is ∙ swap-sym (flat rows) j i apart'
+
+  -- a write to a row and an exchange within it, where row r begins at place r * n
+  pub put-at : (rows : List (List A)) (r c n i : ℕ) (y : List A) (v : A) → r < length rows → c < n → length (get_or rows r []) ≡ n → start rows r ≡ r * n
+      → i ≡ r * n + c → y ≡ set (get_or rows r []) c v → flat (set rows r y) ≡ set (flat rows) i v
+  put-at rows r c n i y v lr lc len begins at is =
+      let inside : c < length (get_or rows r []) = omega arith in
+      let place : start rows r + c ≡ i = omega arith in
+      ap (λ l. flat (set rows r l)) is ∙ flat-set rows r c v lr inside ∙ ap (λ k. set (flat rows) k v) place
+
+  pub swap-at : (rows : List (List A)) (r s c d n i j : ℕ) (y : List A) → r ≡ s → r < length rows → c < n → d < n → length (get_or rows r []) ≡ n → start rows r ≡ r * n
+      → i ≡ r * n + c → j ≡ s * n + d → y ≡ swap (get_or rows r []) c d → flat (set rows r y) ≡ swap (flat rows) i j
+  swap-at rows r s c d n i j y same lr lc ld len begins at at' is =
+      let ic : c < length (get_or rows r []) = omega arith in
+      let id : d < length (get_or rows r []) = omega arith in
+      let place : start rows r + c ≡ i = omega arith in
+      let times : r * n ≡ s * n = ap (λ k. k * n) same in
+      let place' : start rows r + d ≡ j = omega arith in
+      ap (λ l. flat (set rows r l)) is ∙ flat-swap rows r c d lr ic id ∙ ap (λ k. swap (flat rows) k (start rows r + d)) place ∙ ap (λ k. swap (flat rows) i k) place'
+
+  -- an item, where row r begins at place r * n
+  pub item-at : (rows : List (List A)) (r c n i : ℕ) (y : List A) (d : A) → r < length rows → c < n → length y ≡ n → y ≡ get_or rows r y → start rows r ≡ r * n
+      → i ≡ r * n + c → get_or (flat rows) i d ≡ get_or y c d
+  item-at rows r c n i y d lr lc len row begins at =
+      let same : get_or rows r [] ≡ y = sym (get_or_default rows r y [] lr) ∙ sym row in
+      let inside : c < length (get_or rows r []) = rw same (omega arith) in
+      let place : i ≡ start rows r + c = omega arith in
+      ap (λ k. get_or (flat rows) k d) place ∙ get_or-flat rows r c d lr inside ∙ ap (λ l. get_or l c d) same
+
+  -- the same of the rows whose items a usize can count
+  pub item-at-counted : (rows seen : List (List A)) (r c n i : ℕ) (y : List A) (d : A) → seen ≡ counted_rows n rows → r < length seen → c < n → length y ≡ n
+      → y ≡ get_or rows r y → start seen r ≡ r * n → i ≡ r * n + c → get_or (flat (counted_rows n rows)) i d ≡ get_or y c d
+  item-at-counted rows seen r c n i y d is lr lc len row begins at =
+      let count = (2 ^ 64 - 1) / max n 1 in
+      let lr' : r < length (take count rows) = rw is at lr in
+      let inside : r < count = omega (arith, length-take count rows) in
+      let row' : y ≡ get_or seen r y = row ∙ sym (get_or-take count rows r y inside) ∙ ap (λ l. get_or l r y) (sym is) in
+      ap (λ l. get_or (flat l) i d) (sym is) ∙ item-at seen r c n i y d lr lc len row' begins at
+
+  -- a usize can count the items of all the rows
+  pub counted-all : (n : ℕ) (rows : List (List A)) → length rows < 2 ^ 64 → length rows * n < 2 ^ 64 → counted_rows n rows ≡ rows
+  counted-all n rows few fits =
+      take_all ((2 ^ 64 - 1) / max n 1) rows (le-div (length rows) (2 ^ 64 - 1) (max n 1) (omega arith) (counts_all (length rows) n few fits))

@@ -1,0 +1,11 @@
+-- A list of rows as one list. From the documentation of `as_base_slice` and `flatten_to_base` of p3-util 0.8.0.
+use Rattle.std.specs.Prelude.{ℕ, ◌-◌, ◌/◌, ◌^◌, List, max, take}
+use Rattle.std.specs.List.{flat_map}
+
+-- the items of the rows, row after row
+abbrev pub flat : {A : Type 0} → List (List A) → List A
+flat rows = flat_map (λ row. row) rows
+
+-- as many rows of n items as a usize can count the items of
+abbrev pub counted_rows : {A : Type 0} → ℕ → List (List A) → List (List A)
+counted_rows n rows = take ((2 ^ 64 - 1) / max n 1) rows

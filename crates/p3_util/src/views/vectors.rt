@@ -1,0 +1,94 @@
+//! Vectors of arrays moved to vectors of their items, and back.
+
+ghost use Rattle.std.specs.Prelude.{◌≡◌, ◌+◌, ◌*◌, ◌%◌, ◌/◌, ◌^◌, ◌<◌, ◌≤◌, ◌++◌, IfOk, IfErr, length, vec_len, vec_capacity};
+ghost use Rattle.std.specs.Vec.Iter.{into_iter_items};
+ghost use Rattle.p3_util.specs.Flat.{flat};
+
+use crate::NoRoom;
+use std::alloc::Global;
+use std::vec::IntoIter;
+use std::{array, mem};
+
+/// The items of the arrays in `vec`, array after array, each moved once.
+///
+/// The number of items fits a `usize`, which [`flat_len`](super::flat_len) tells.
+///
+/// # Errors
+///
+/// `vec` as it was, where there is no memory for the items.
+pub fn flatten_to_base<Base: Default + Drop, const N: usize>(
+    alloc: Global,
+    mut vec: Vec<[Base; N]>,
+) -> Result<Vec<Base>, NoRoom<Vec<[Base; N]>>>
+    requires { vec_len vec * N < 2 ^ 64 }
+    ensures items { IfOk result (λ items. items.items ≡ flat vec.items) }
+    ensures given { IfErr result (λ refused. refused.given ≡ vec) }
+{
+    let Ok(mut items) = Vec::with_capacity(alloc, vec.len() * N) else {
+        return Err(NoRoom { given: vec });
+    };
+    for row in vec.iter_mut() {
+        push_row(&mut items, row);
+    }
+    Ok(items)
+}
+
+/// Moves the items of `row` to the end of `items`, which has room for them.
+fn push_row<T: Default + Drop, const N: usize>(items: &mut Vec<T>, row: &mut [T; N])
+    requires { vec_len items.old + N ≤ vec_capacity items.old }
+    ensures items { items.new.items ≡ items.old.items ++ row.old }
+    ensures capacity { vec_capacity items.new ≡ vec_capacity items.old }
+    ensures len { vec_len items.new ≡ vec_len items.old + N }
+{
+    for item in row.iter_mut() {
+        items.push_reserved(mem::take(item));
+    }
+}
+
+/// The items of `vec` as arrays of `N`, in order, each moved once.
+///
+/// `N` is at least 1 and divides the length.
+///
+/// # Errors
+///
+/// `vec` as it was, where there is no memory for the arrays.
+pub fn reconstitute_from_base<Base: Default + Drop, const N: usize>(
+    alloc: Global,
+    vec: Vec<Base>,
+) -> Result<Vec<[Base; N]>, NoRoom<Vec<Base>>>
+    requires width { 1 ≤ N }
+    requires divides { vec_len vec % N ≡ 0 }
+    ensures items { IfOk result (λ rows. flat rows.items ≡ vec.items) }
+    ensures count { IfOk result (λ rows. vec_len rows ≡ vec_len vec / N) }
+    ensures given { IfErr result (λ refused. refused.given ≡ vec) }
+{
+    let count = vec.len() / N;
+    let Ok(mut rows) = Vec::with_capacity(alloc, count) else {
+        return Err(NoRoom { given: vec });
+    };
+    let mut items = vec.into_iter();
+    for _ in 0..count {
+        rows.push_reserved(next_row(&mut items));
+    }
+    Ok(rows)
+}
+
+/// The next `N` items, as an array.
+fn next_row<T: Default + Drop, const N: usize>(items: &mut IntoIter<T>) -> [T; N]
+    requires { N ≤ length (into_iter_items items.old) }
+    ensures { into_iter_items items.old ≡ result ++ into_iter_items items.new }
+{
+    let mut row = array::from_fn(|_| T::default());
+    fill_row(&mut row, items);
+    row
+}
+
+/// Puts the next items into `row`, in the place of what it held.
+fn fill_row<T: Drop>(row: &mut [T], items: &mut IntoIter<T>)
+    requires { length row.old ≤ length (into_iter_items items.old) }
+    ensures { into_iter_items items.old ≡ row.new ++ into_iter_items items.new }
+{
+    for i in 0..row.len() {
+        row[i] = items.next().unwrap();
+    }
+}
