@@ -1,4 +1,10 @@
+pub mod FilledChunk
 pub mod Flat
 pub mod JsonLists
+pub mod MapLemmas
 pub mod Moved
 pub mod OneAnswer
+pub mod PaddedRuns
+pub mod Pieces
+pub mod WholePieces
+pub mod ZipEqRuns

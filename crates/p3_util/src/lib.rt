@@ -5,8 +5,12 @@
 #![tactic(auto)]
 
 pub mod array_serialization;
+pub mod chunks;
+pub mod linear_map;
 pub mod views;
+pub mod zip_eq;
 
+pub use chunks::{ArrayChunksPadded, apply_to_chunks, iter_array_chunks_padded};
 pub use p3_util_kernels::bits::{
     assert_clone, branch_hint, checked_log_size_sum, checked_pow2, indices_arr, is_power_of_three,
     log2_ceil_u64, log2_ceil_usize, log2_floor_usize, log2_strict_usize, log3_strict_usize,

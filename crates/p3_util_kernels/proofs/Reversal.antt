@@ -1,11 +1,12 @@
 -- Bit reversal as a rearrangement.
-use Rattle.std.proofs.Common.{◌≡◌, ℕ, ◌^◌, ◌<◌, ◌≤◌, List, length, slice_get, zero, suc, refl, sym, ap, ◌∙◌, arith}
+use Rattle.std.proofs.Common.{◌≡◌, ℕ, ◌^◌, ◌<◌, ◌≤◌, List, length, slice_get, inl, inr, zero, suc, refl, sym, ap, ◌∙◌, arith}
 use Rattle.p3_util_kernels.specs.Digits.{rev, rev_word}
 use Rattle.p3_util_kernels.specs.Rearranged.{IsRearranged}
-use Rattle.p3_util_kernels.specs.Reversal.{IsReversal}
+use Rattle.p3_util_kernels.specs.Reversal.{IsReversal, IsZeroOrPowerOfTwo}
 use Rattle.p3_util_kernels.proofs.Digits.{rev-lt, rev-rev-below}
 use Rattle.p3_util_kernels.proofs.Halfway.{IsInvolution}
 use Rattle.p3_util_kernels.proofs.Powers.{exponent-same}
+use Rattle.p3_util_kernels.proofs.SameList.{same_places}
 
 -- for at least one digit the word is not reversed whole
 pub rev_word-positive : (k x : ℕ) → 1 ≤ k → rev_word k x ≡ rev k x
@@ -41,3 +42,25 @@ IsReversal-short old h = record {
       let below : rev k i < 2 ^ k = rev-lt k i in
       ap (slice_get old) (omega arith);
 }
+
+-- a list has one reversal
+pub IsReversal-unique : {A : Type 0} (old a b : List A) → IsZeroOrPowerOfTwo (length old) → IsReversal old a → IsReversal old b → a ≡ b
+IsReversal-unique old a b (inl none) at bt =
+    same_places a b (at.same_length ∙ sym bt.same_length) (λ i h. absurd (omega (arith, at.same_length)))
+IsReversal-unique old a b (inr power) at bt =
+    same_places a b (at.same_length ∙ sym bt.same_length)
+    (λ i h.
+    let inside : i < 2 ^ power.0 = omega (arith, at.same_length, power.1) in
+    at.places power.0 i power.1 inside ∙ sym (bt.places power.0 i power.1 inside))
+
+-- the reversal of the reversal is the list
+pub IsReversal-twice : {A : Type 0} (old mid new : List A) → IsZeroOrPowerOfTwo (length old) → IsReversal old mid → IsReversal mid new → new ≡ old
+IsReversal-twice old mid new (inl none) first second =
+    same_places new old (second.same_length ∙ first.same_length) (λ i h. absurd (omega (arith, first.same_length, second.same_length)))
+IsReversal-twice old mid new (inr power) first second =
+    same_places new old (second.same_length ∙ first.same_length)
+    (λ i h.
+    let k = power.0 in
+    let inside : i < 2 ^ k = omega (arith, first.same_length, second.same_length, power.1) in
+    second.places k i (first.same_length ∙ power.1) inside ∙ first.places k (rev k i) power.1 (rev-lt k i)
+    ∙ ap (slice_get old) (rev-rev-below k i inside))

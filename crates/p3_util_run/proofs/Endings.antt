@@ -1,15 +1,18 @@
 -- An input has an answer or one refusal, and never both.
-use Rattle.std.proofs.Common.{◌≡◌, ◌↔◌, ◌⊎◌, inl, inr, ℕ, List, length, Some, Option, Result, Ok, Err, IsOk, IfErr, OnOk, IfSome, MatchResult, MatchOption, ap, subst, sym, refl, ◌∙◌}
+use Rattle.std.proofs.Common.{◌≡◌, ◌↔◌, ◌⊎◌, inl, inr, ℕ, List, length, Some, None, Option, Result, Ok, Err, IsOk, IfErr, OnOk, IfSome, MatchResult, MatchOption, ap, subst, sym, refl, ◌∙◌}
 use Rattle.std.specs.Prelude.{IsSomeAnd, ⊤}
 use Rattle.std.specs.Io.KnownBytes.{Appends}
 use Rattle.std.proofs.KnownBytes.{Consumes-whole}
+use Rattle.p3_util_kernels.proofs.Matrix.{IsTranspose-unique}
+use Rattle.p3_util_kernels.proofs.Reversal.{IsReversal-unique}
 use Rattle.p3_util_run.proofs.NumberLists.{array_of_injective}
-use Rattle.p3_util_run.specs.Arrays.{IsArrayOf, array_of}
-use Rattle.p3_util_run.specs.Program.{Answers, Fault, Fits, HasAnswer, IsDefined, IsSettled, misfit, Out, ReadsAll, Refuses}
+use Rattle.p3_util_run.specs.Arrays.{IsArrayOf, array_of, line_of}
+use Rattle.p3_util_run.specs.Program.{Answers, Fault, Fits, HasAnswer, IsDefined, IsRearranged, IsSettled, misfit, Out, ReadsAll, Refuses}
 use Rattle.p3_util_run.specs.Words.{command_of}
 use Rattle.p3_util_run.specs.declared.fault.RunFault.{RunFault}
 use Rattle.p3_util_run.specs.declared.fault.RunFault.TheVariants.{Memory, Write, UnknownCommand}
 use Rattle.p3_util_run.specs.declared.words.Command.{Command}
+use Rattle.p3_util_run.specs.declared.words.Command.TheVariants.{Revbits, Transpose}
 
 -- an input is the array of one list at most
 same_list : (input xs ys : List ℕ) → IsArrayOf input xs → IsArrayOf input ys → xs ≡ ys
@@ -32,6 +35,24 @@ one_refusal command input f g (inr unfit) (inl none) = absurd (none.1 unfit.0 un
 one_refusal command input f g (inr unfit) (inr unfit') =
     let same : unfit.0 ≡ unfit'.0 = same_list input unfit.0 unfit'.0 unfit.1 unfit'.1 in
     unfit.3 ∙ (ap (λ xs. misfit command (length xs)) same ∙ sym unfit'.3)
+
+one_list : (command : Command) (old a b : List ℕ) → Fits command (length old) → IsRearranged command old a → IsRearranged command old b → a ≡ b
+one_list Revbits old a b fits p q = IsReversal-unique old a b fits p q
+one_list (Transpose width height) old a b fits p q = IsTranspose-unique width height old a b p q
+
+one_answer : (command : Command) (input a b : List ℕ) → Answers command input a → Answers command input b → a ≡ b
+one_answer command input a b p q =
+    let same : q.0 ≡ p.0 = same_list input q.0 p.0 q.2 p.2 in
+    let moved : IsRearranged command p.0 q.1 = subst (λ (xs : List ℕ). IsRearranged command xs q.1) same q.4 in
+    p.5 ∙ (ap line_of (one_list command p.0 p.1 q.1 p.3 p.4 moved) ∙ sym q.5)
+
+one_text_of : (named : Option Command) (input a b : List ℕ) → IsSomeAnd named (λ k. Answers k input a) → IsSomeAnd named (λ k. Answers k input b) → a ≡ b
+one_text_of None input a b p q = absurd p
+one_text_of (Some command) input a b p q = one_answer command input a b p q
+
+-- words and an input have one text at most
+pub one_text : (words : List (List ℕ)) (input a b : List ℕ) → Out words input a → Out words input b → a ≡ b
+one_text words input a b p q = one_text_of (command_of words) input a b p q
 
 -- what a command answers is what its words answer
 out_from_answers : (words : List (List ℕ)) (command : Command) (input text : List ℕ) → Some command ≡ command_of words → Answers command input text

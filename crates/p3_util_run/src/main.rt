@@ -4,11 +4,11 @@
 //! The array is read from standard input. Its rearrangement is written to standard output, with a line feed.
 #![tactic(auto)]
 
-pub mod arrays;
-pub mod fault;
-pub mod program;
-pub mod watched;
-pub mod words;
+mod arrays;
+mod fault;
+mod program;
+mod watched;
+mod words;
 
 use fault::RunFault;
 use std::env;
@@ -18,14 +18,18 @@ use watched::Watched;
 
 /// The words that follow the program's name. `RunFault::UnknownCommand` where they are no text, and `RunFault::Memory`.
 fn given_words(rt: &HostRuntime) -> Result<Vec<String>, RunFault> {
-    match env::args(rt) {
-        Ok(words) => match words.skip(1).collect(rt.alloc()) {
-            Ok(words) => Ok(words),
-            Err(_) => Err(RunFault::Memory),
-        },
-        Err(e) if e.kind() == ErrorKind::OutOfMemory => Err(RunFault::Memory),
-        Err(_) => Err(RunFault::UnknownCommand),
+    let given = match env::args(rt) {
+        Ok(given) => given,
+        Err(e) if e.kind() == ErrorKind::OutOfMemory => return Err(RunFault::Memory),
+        Err(_) => return Err(RunFault::UnknownCommand),
+    };
+    let mut words = Vec::new(rt.alloc());
+    for word in given.skip(1) {
+        if words.push(word).is_err() {
+            return Err(RunFault::Memory);
+        }
     }
+    Ok(words)
 }
 
 /// Runs the program on the words, the standard input and the standard output of the process.

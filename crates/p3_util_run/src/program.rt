@@ -37,6 +37,9 @@ pub fn run<R: Read, W: Write>(
         × ReadsAll (R.remaining reader.old.inner) (R.remaining reader.new.inner) input
         × Out (texts_of words.now) input text
         × Appends (W.contents writer.old.inner) (W.contents writer.new.inner) text) }
+    // There is one text at most.
+    ensures one_text { (input a b : List ℕ) → Out (texts_of words.now) input a → Out (texts_of words.now) input b
+        → a ≡ b }
     // All input was read, and there is no answer.
     ensures refused { IfErr result (λ fault. IsOfInput fault → (input : List ℕ)
         × ReadsAll (R.remaining reader.old.inner) (R.remaining reader.new.inner) input

@@ -53,7 +53,8 @@ impl<T> Watched<T> {
         ensures inner { self.new.inner ≡ self.old.inner }
         ensures failures { self.new.failures ≡ noted self.old.failures }
     {
-        self.failures = self.failures.saturating_add(1);
+        let Watched { failures, .. } = self;
+        *failures = failures.saturating_add(1);
     }
 }
 

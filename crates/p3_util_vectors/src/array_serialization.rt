@@ -1,12 +1,11 @@
 //! Arrays as JSON lists: worked examples over values that are read from JSON text.
-ghost use Rattle.std.specs.Prelude.{IfOk};
-ghost use Rattle.p3_util.specs.JsonArray.{IsSameOrMemory};
 
+use crate::callers::array_serialization::written_and_read;
 use p3_util::array_serialization::ArrayError::{Element, Length, NotArray};
 use p3_util::array_serialization::ElementError::{Float, Kind, Range};
 use p3_util::array_serialization::{ArrayElement, ArrayError, deserialize, serialize};
 use serde_json::{Error, Value};
-use std::alloc::{AllocError, Global};
+use std::alloc::Global;
 use std::test::Fail;
 
 type Read<T, const N: usize> = Result<[T; N], ArrayError>;
@@ -16,17 +15,6 @@ fn read<T: ArrayElement + Drop, const N: usize>(
     text: &str,
 ) -> Result<Read<T, N>, Error> {
     let value = Value::from_str(alloc, text)?;
-    Ok(deserialize(alloc, &value))
-}
-
-// What was written reads back, by the contracts of the two calls alone.
-fn written_and_read<T: ArrayElement + Drop, const N: usize>(
-    alloc: Global,
-    items: &[T; N],
-) -> Result<Read<T, N>, AllocError>
-    ensures { IfOk result (IsSameOrMemory T.wants_memory items.now) }
-{
-    let value = serialize(alloc, items)?;
     Ok(deserialize(alloc, &value))
 }
 

@@ -1,10 +1,15 @@
-//! Worked examples and outside vectors for the crates of this workspace, as tests.
+//! Worked examples and outside vectors for the crates of this workspace, as tests, and proved callers of their modules.
 #![tactic(auto)]
 
 #[cfg(test)]
 mod array_serialization;
 #[cfg(test)]
 mod bits;
+pub mod callers;
+#[cfg(test)]
+mod chunks;
+#[cfg(test)]
+mod linear_map;
 #[cfg(test)]
 mod noted;
 #[cfg(test)]
@@ -17,3 +22,5 @@ mod square;
 mod transpose;
 #[cfg(test)]
 mod views;
+#[cfg(test)]
+mod zip_eq;

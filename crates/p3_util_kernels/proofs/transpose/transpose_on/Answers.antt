@@ -28,7 +28,7 @@ loop-x-preserved g c =
 pub returns-clause-order : goal.returns-clause-order
 returns-clause-order g c =
     let all : c.loop-x.x ≡ c.args.width = omega arith in
-    IsTranspose-from_filled _ _ _ _ _ (rw all (omega arith)) c.loop-x.invariant.filled
+    IsTranspose-from_filled _ _ _ _ (g.C.Cells.items c.loop-x.out.holder) (rw all (omega arith)) c.loop-x.invariant.filled
 
 pub returns-clause-count : goal.returns-clause-count
 returns-clause-count g c =

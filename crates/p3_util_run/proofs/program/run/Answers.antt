@@ -1,7 +1,7 @@
 use Rattle.std.proofs.Common.{sym, subst, string_bytes, Err}
 use Rattle.std.specs.Prelude.{⊤}
 use Rattle.p3_util_run.specs.Program.{Answers, ReadsAll, texts_of}
-use Rattle.p3_util_run.proofs.Endings.{answers, ends_refused, ends_written, refuses, wrote}
+use Rattle.p3_util_run.proofs.Endings.{answers, ends_refused, ends_written, one_text, refuses, wrote}
 use Rattle.p3_util_run.proofs.program.run.Goals as goal
 
 pub returns-in-Ok-clause-ok : goal.returns-in-Ok-clause-ok
@@ -34,3 +34,12 @@ returns-clause-refuses g c =
     refuses {T = ⊤} (texts_of c.args.words.now) c.in-Some.command _ _ c.as_slice.result.now (Err c.in-Err.fault) c.in-Some.ensures
     (subst (ReadsAll _ _) (sym c.as_slice.ensures.value) c.in_ok-input.ensures.read)
     (ends_refused c.in-Some.command c.as_slice.result.now c.in-Err.fault c.in-Err.ensures.err)
+
+pub returns-in_err-input-clause-one_text : goal.returns-in_err-input-clause-one_text
+returns-in_err-input-clause-one_text g c = one_text (texts_of c.args.words.now)
+
+pub returns-in-Ok-clause-one_text : goal.returns-in-Ok-clause-one_text
+returns-in-Ok-clause-one_text g c = one_text (texts_of c.args.words.now)
+
+pub returns-clause-one_text : goal.returns-clause-one_text
+returns-clause-one_text g c = one_text (texts_of c.args.words.now)

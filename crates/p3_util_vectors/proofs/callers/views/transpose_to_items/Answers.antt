@@ -1,6 +1,6 @@
 use Rattle.std.proofs.Common.{rules, ap}
 use Rattle.p3_util_vectors.proofs.WholeViews.{transpose-whole}
-use Rattle.p3_util_vectors.proofs.views.transpose_to_items.Goals as goal
+use Rattle.p3_util_vectors.proofs.callers.views.transpose_to_items.Goals as goal
 
 pub returns : goal.returns
 returns g c =

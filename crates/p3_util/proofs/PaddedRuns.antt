@@ -1,0 +1,222 @@
+-- What the runs of an iterator over padded pieces give, from what each of its steps gives.
+use Rattle.std.proofs.Common.{◌≡◌, ℕ, zero, suc, ◌+◌, ◌-◌, ◌*◌, ◌/◌, ◌%◌, ◌<◌, ◌≤◌, ◌⊎◌, inl, inr, Bool, true, false, true≢false, List, [], ◌∷◌, ◌++◌, map, Option, Some, None, length, take, drop, refl, sym, ap, subst, ◌∙◌, arith, rules, length-append, length-drop, append_assoc, append-nil}
+use borrow.Author.Tests.{tests}
+use Rattle.std.specs.Prelude.{replicate, MatchBool, ◌==◌, if◌then◌else◌}
+use Rattle.std.specs.Iterator.{Yields, YieldsThen, DrainsIf}
+use Rattle.std.specs.Iterator.Runs.{Run, SomeRun, EachRunFrom}
+use Rattle.std.specs.List.{flat_map}
+use Rattle.std.proofs.iter.runs.Made.{run, took}
+use Rattle.std.proofs.lemmas.Grind.{flat_map-append}
+use Rattle.std.proofs.lemmas.List.{map-append, length-map, length-take-le, take-append-drop}
+use Rattle.std.proofs.lemmas.Nat.{div-add-mod'}
+use Rattle.p3_util.specs.Pieces.{piece_count, padded, pieces, padded_pieces}
+use Rattle.p3_util.specs.PaddedPieces.{TakesPiece, padded_source, padded_done, padded_fill, padded_steps, IsPaddedRun, EndsForGood}
+use Rattle.p3_util.specs.declared.chunks.ArrayChunksPadded.{ArrayChunksPadded}
+use Rattle.p3_util.proofs.Pieces.{piece_count-more, piece_count-whole, piece_count-none, pieces-nil, pieces-zero, pieces-more, length-pieces}
+
+module _ {A : Type 0} where
+  abbrev join : List (List A) → List A
+  join xs = flat_map (λ piece. piece) xs
+
+  -- one padded piece more, behind k whole ones
+  padded_pieces-more : (n k : ℕ) (fill : A) (xs ys : List A) → length xs ≡ k * n → 0 < length ys → length ys ≤ n → padded_pieces n fill (xs ++ ys) ≡ padded_pieces n fill xs ++ padded n fill ys ∷ []
+  padded_pieces-more n k fill xs ys whole some fits = rw (pieces-more n k xs ys whole some fits) (map-append (padded n fill) (pieces n xs) (ys ∷ []))
+
+  padded-full : (n : ℕ) (fill : A) (xs : List A) → length xs ≡ n → padded n fill xs ≡ xs
+  padded-full n fill xs full =
+      let none : n - length xs ≡ 0 = omega arith in
+      rw none (append-nil xs)
+
+  length-padded_pieces : (n : ℕ) (fill : A) (xs : List A) → length (padded_pieces n fill xs) ≡ piece_count n (length xs)
+  length-padded_pieces n fill xs = length-map (pieces n xs) (padded n fill) ∙ length-pieces n xs
+
+  padded_pieces-none : (n : ℕ) (fill : A) (xs : List A) → n ≡ 0 → padded_pieces n fill xs ≡ []
+  padded_pieces-none zero fill xs none = rw (pieces-zero xs) refl
+  padded_pieces-none (suc n) fill xs none = absurd (omega arith)
+
+  -- whole pieces joined give the list back
+  joined-whole : (n k : ℕ) (fill : A) (xs : List A) → 0 < n → length xs ≡ k * n → join (padded_pieces n fill xs) ≡ xs
+  joined-whole n zero fill [] some whole = rw (pieces-nil {A = A} n) refl
+  joined-whole n zero fill (x ∷ xs) some whole = absurd (omega arith)
+  joined-whole n (suc k) fill xs some whole =
+      let h : k * n + n ≡ length xs = omega arith in
+      let f : length (take (k * n) xs) ≡ k * n = length-take-le (k * n) xs (omega arith) in
+      let b : length (drop (k * n) xs) ≡ n = omega (arith, length-drop (k * n) xs) in
+      let e : take (k * n) xs ++ drop (k * n) xs ≡ xs = take-append-drop (k * n) xs in
+      let more : padded_pieces n fill xs ≡ padded_pieces n fill (take (k * n) xs) ++ padded n fill (drop (k * n) xs) ∷ [] =
+      subst (λ l. padded_pieces n fill l ≡ padded_pieces n fill (take (k * n) xs) ++ padded n fill (drop (k * n) xs) ∷ []) e
+      (padded_pieces-more n k fill (take (k * n) xs) (drop (k * n) xs) f (omega arith) (omega arith)) in
+      ap join more ∙ flat_map-append (λ piece. piece) (padded_pieces n fill (take (k * n) xs)) (padded n fill (drop (k * n) xs) ∷ [])
+      ∙ rw (joined-whole n k fill (take (k * n) xs) some f, append-nil (padded n fill (drop (k * n) xs)), padded-full n fill (drop (k * n) xs) b) e
+
+  -- and the last piece adds what it is filled with
+  joined-by : (n k : ℕ) (fill : A) (front back : List A) → 0 < n → length front ≡ k * n → length back < n
+      → join (padded_pieces n fill (front ++ back)) ≡ (front ++ back) ++ replicate (piece_count n (length (front ++ back)) * n - length (front ++ back)) fill
+  joined-by n k fill front [] some whole short =
+      let none : piece_count n (length front) * n - length front ≡ 0 = rw (whole, piece_count-whole k n some) (omega arith) in
+      rw (append-nil front, none, append-nil front) (joined-whole n k fill front some whole)
+  joined-by n k fill front (y ∷ ys) some whole short =
+      let count : piece_count n (length (front ++ y ∷ ys)) ≡ k + 1 = rw (length-append front (y ∷ ys), whole) (piece_count-more k n (length (y ∷ ys)) (omega arith) (omega arith)) in
+      let rest : (k + 1) * n - length (front ++ y ∷ ys) ≡ n - length (y ∷ ys) = omega (arith, length-append front (y ∷ ys)) in
+      rw (count, rest) (
+      ap join (padded_pieces-more n k fill front (y ∷ ys) whole (omega arith) (omega arith))
+      ∙ flat_map-append (λ piece. piece) (padded_pieces n fill front) (padded n fill (y ∷ ys) ∷ [])
+      ∙ rw (joined-whole n k fill front some whole, append-nil (padded n fill (y ∷ ys))) (sym (append_assoc front (y ∷ ys) (replicate (n - length (y ∷ ys)) fill)))
+      )
+
+  pub joined-padded_pieces : (n : ℕ) (fill : A) (xs : List A) → 0 < n → join (padded_pieces n fill xs) ≡ xs ++ replicate (piece_count n (length xs) * n - length xs) fill
+  joined-padded_pieces n fill xs some =
+      let k = length xs / n in
+      let e : k * n + length xs % n ≡ length xs = div-add-mod' (length xs) n in
+      let h : length (take (k * n) xs) ≡ k * n = length-take-le (k * n) xs (omega arith) in
+      let b : length (drop (k * n) xs) < n = omega (arith, length-drop (k * n) xs) in
+      subst (λ l. join (padded_pieces n fill l) ≡ l ++ replicate (piece_count n (length l) * n - length l) fill) (take-append-drop (k * n) xs)
+      (joined-by n k fill (take (k * n) xs) (drop (k * n) xs) some h b)
+
+zero_or_some : (n : ℕ) → (n ≡ 0) ⊎ (0 < n)
+zero_or_some zero = inl refl
+zero_or_some (suc n) = inr (omega arith)
+
+Yields-join : {S A : Type 0} (steps : S → Option A → S → Type 0) (s : S) (xs : List A) (t : S) (ys : List A) (u : S) → Yields steps s xs t → Yields steps t ys u → Yields steps s (xs ++ ys) u
+Yields-join steps s [] t ys u a b = subst (λ k. Yields steps k ys u) (sym a) b
+Yields-join steps s (x ∷ xs) t ys u a b = (a.0, a.1, Yields-join steps a.0 xs t ys u a.2 b)
+
+-- calls from s gave xs, and then, where `ended`, `None`, and left t
+Pulled : {S A : Type 0} → (S → Option A → S → Type 0) → S → List A → Bool → S → Type 0
+Pulled steps s xs ended t = MatchBool ended (YieldsThen steps s xs None t) (Yields steps s xs t)
+
+pulled-behind : {S A : Type 0} (steps : S → Option A → S → Type 0) (s j t : S) (xs ys : List A) (ended : Bool) → Yields steps s xs j → Pulled steps j ys ended t → Pulled steps s (xs ++ ys) ended t
+unfolding Pulled
+pulled-behind steps s j t xs ys false a b = Yields-join steps s xs j ys t a b
+pulled-behind steps s j t xs ys true a b = (b.0, Yields-join steps s xs j ys b.0 a b.1, b.2)
+
+drains-behind : {S A : Type 0} (steps : S → Option A → S → Type 0) (ended : Bool) (w : Type 0) (s t : S) (xs : List A) → Pulled steps s xs ended t → (ended ≡ false → w → (u : S) × steps t None u) → DrainsIf steps w s xs
+unfolding Pulled
+drains-behind steps false w s t xs came ends = (t, came, ends refl)
+drains-behind steps true w s t xs came ends = (came.0, came.1, λ _. (t, came.2))
+
+within : {S A : Type 0} (steps : S → Option A → S → Type 0) (n : ℕ) (s t : S) (xs : List A) (ended : Bool) → TakesPiece steps n s xs ended t → length xs ≤ n
+within steps n s t xs true h = omega (arith, h.1.0)
+within steps n s t xs false h = omega (arith, h.1.0)
+
+-- where there was no piece, the end has been reached
+no-piece-ends : (zero d e : Bool) (X Y : Type 0) → zero ≡ false → (X → e ≡ d) → MatchBool (if zero then true else d) X (Y × (e ≡ true)) → e ≡ true
+no-piece-ends true d e X Y some same h = absurd (true≢false some)
+no-piece-ends false true e X Y some same h = same h
+no-piece-ends false false e X Y some same h = h.1
+
+no-piece-asks : (zero d e : Bool) (X Y : Type 0) → zero ≡ false → d ≡ false → MatchBool (if zero then true else d) X (Y × (e ≡ true)) → Y
+no-piece-asks true d e X Y some begun h = absurd (true≢false some)
+no-piece-asks false true e X Y some begun h = absurd (true≢false begun)
+no-piece-asks false false e X Y some begun h = h.0
+
+some-is : (n : ℕ) → 0 < n → (n == 0) ≡ false
+some-is n some = search (rules, tests)
+
+true_or_false : (b : Bool) → (b ≡ true) ⊎ (b ≡ false)
+true_or_false true = inl refl
+true_or_false false = inr refl
+
+module _ {S A : Type 0} {n : ℕ} (steps : S → Option A → S → Type 0) where
+  empty-step : (s t : ArrayChunksPadded S A n) (piece : List A) → n ≡ 0 → padded_steps steps s (Some piece) t → ⊥
+  empty-step s t piece none h =
+      let l = within steps n (padded_source s) (padded_source t) h.1.1.0 (padded_done t) h.1.1.1 in
+      omega (arith, h.1.1.1.0, l, none)
+
+  ended-by : (s t : ArrayChunksPadded S A n) → 0 < n → padded_steps steps s None t → padded_done t ≡ true
+  ended-by s t some h = no-piece-ends (n == 0) (padded_done s) (padded_done t) (t ≡ s) (steps (padded_source s) None (padded_source t)) (some-is n some) (λ e. ap padded_done e) h.1
+
+  pub padded-ends : EndsForGood (padded_steps {n = n} steps)
+  padded-ends s t u None a b = refl
+  padded-ends s t u (Some piece) a b = elim (zero_or_some n) [
+    | inl none ↦ absurd (empty-step t u piece none b)
+    | inr some ↦ absurd (true≢false (sym (ended-by s t some a) ∙ b.1.0))
+  ]
+
+  nothing-more : (s t : ArrayChunksPadded S A n) (ps : List (List A)) → padded_done s ≡ true → Yields (padded_steps steps) s ps t → (ps ≡ []) × (s ≡ t)
+  nothing-more s t [] e y = (refl, y)
+  nothing-more s t (p ∷ ps) e y = absurd (true≢false (sym e ∙ y.1.1.0))
+
+  -- behind the pieces ps stand items xs of the source, which follow on whole pieces
+  Behind : ArrayChunksPadded S A n → ArrayChunksPadded S A n → List (List A) → List A → Type 0
+  Behind s t ps front = (xs : List A) × (padded_pieces n (padded_fill s) (front ++ xs) ≡ padded_pieces n (padded_fill s) front ++ ps) × Pulled steps (padded_source s) xs (padded_done t) (padded_source t)
+
+  behind-none : (s : ArrayChunksPadded S A n) (front : List A) → padded_done s ≡ false → Behind s s [] front
+  unfolding Behind Pulled
+  behind-none s front begun = ([], rw (append-nil front) (sym (append-nil (padded_pieces n (padded_fill s) front))), rw begun refl)
+
+  behind-full : (s j t : ArrayChunksPadded S A n) (ps : List (List A)) (front xs : List A) (k : ℕ) → padded_fill j ≡ padded_fill s → length front ≡ k * n
+      → TakesPiece steps n (padded_source s) xs false (padded_source j) → Behind j t ps (front ++ xs) → Behind s t (padded n (padded_fill s) xs ∷ ps) front
+  unfolding Behind
+  behind-full s j t ps front xs k same whole took h = (
+    xs ++ h.0,
+    rw (← append_assoc front xs h.0) (rw same at h.1)
+        ∙ ap (λ l. l ++ ps) (padded_pieces-more n k (padded_fill s) front xs whole took.0 (omega (arith, took.1.0)))
+        ∙ append_assoc (padded_pieces n (padded_fill s) front) (padded n (padded_fill s) xs ∷ []) ps,
+    pulled-behind steps (padded_source s) (padded_source j) (padded_source t) xs h.0 (padded_done t) took.1.1 h.2,
+  )
+
+  behind-short : (s j : ArrayChunksPadded S A n) (front xs : List A) (k : ℕ) → length front ≡ k * n → padded_done j ≡ true
+      → TakesPiece steps n (padded_source s) xs true (padded_source j) → Behind s j (padded n (padded_fill s) xs ∷ []) front
+  unfolding Behind Pulled
+  behind-short s j front xs k whole over took = (xs, padded_pieces-more n k (padded_fill s) front xs whole took.0 (omega (arith, took.1.0)), rw over took.1.1)
+
+  behind : (s t : ArrayChunksPadded S A n) (ps : List (List A)) (front : List A) (k : ℕ) → padded_done s ≡ false → length front ≡ k * n → Yields (padded_steps steps) s ps t → Behind s t ps front
+  behind s t [] front k begun whole y = subst (λ u. Behind s u [] front) y (behind-none s front begun)
+  behind s t (p ∷ ps) front k begun whole y =
+      let step = y.1.1.1 in
+      rw step.2 (elim (true_or_false (padded_done y.0)) [
+        | inl over ↦
+            let last = nothing-more y.0 t ps over y.2 in
+            subst (λ l. Behind s t (padded n (padded_fill s) step.0 ∷ l) front) (sym last.0)
+            (subst (λ u. Behind s u (padded n (padded_fill s) step.0 ∷ []) front) last.1 (behind-short s y.0 front step.0 k whole over (rw over at step.1)))
+        | inr on ↦
+            let took : TakesPiece steps n (padded_source s) step.0 false (padded_source y.0) = rw on at step.1 in
+            behind-full s y.0 t ps front step.0 k y.1.0 whole took (behind y.0 t ps (front ++ step.0) (k + 1) on (rw (length-append front step.0) (omega (arith, whole, took.1.0))) y.2)
+      ])
+
+  made : (p : Run (padded_steps {n = n} steps)) (xs : List A) → 0 < n → p.items ≡ padded_pieces n (padded_fill p.from) xs → DrainsIf steps (p.whole ≡ true) (padded_source p.from) xs
+      → SomeRun steps (padded_source p.from) (λ q. IsPaddedRun n (padded_fill p.from) p q)
+  made p xs some e d =
+      let count : p.len ≡ piece_count n (length xs) = p.long ∙ ap length e ∙ length-padded_pieces n (padded_fill p.from) xs in (
+        run steps (padded_source p.from) xs p.whole d,
+        refl,
+        record {
+          items = e;
+          whole = λ w _. w;
+          count = count;
+          joined = rw count (ap join e ∙ joined-padded_pieces n (padded_fill p.from) xs some);
+        },
+      )
+
+  made-none : (p : Run (padded_steps {n = n} steps)) (xs : List A) → n ≡ 0 → p.items ≡ padded_pieces n (padded_fill p.from) xs → SomeRun steps (padded_source p.from) (λ q. IsPaddedRun n (padded_fill p.from) p q)
+  made-none p xs none e =
+      let f = padded_fill p.from in
+      let empty : p.items ≡ [] = e ∙ padded_pieces-none n f xs none in
+      let past : p.len * n - 0 ≡ 0 = rw none (omega arith) in (
+        run steps (padded_source p.from) [] false (padded_source p.from, refl, λ k. absurd (true≢false (sym k))),
+        refl,
+        record {
+          items = empty ∙ sym (padded_pieces-none n f [] none);
+          whole = λ w some. absurd (omega arith);
+          count = p.long ∙ ap length empty ∙ sym (piece_count-none n);
+          joined = rw (empty, past) refl;
+        },
+      )
+
+  -- the run of the source that stands behind a run of padded pieces
+  run-behind : (p : Run (padded_steps {n = n} steps)) → padded_done p.from ≡ false → SomeRun steps (padded_source p.from) (λ q. IsPaddedRun n (padded_fill p.from) p q)
+  unfolding Behind
+  run-behind p begun =
+      let t = took p in
+      let b = behind p.from t.0 p.items [] 0 begun (omega arith) t.1 in
+      let e : p.items ≡ padded_pieces n (padded_fill p.from) b.0 = sym (b.1 ∙ ap (λ l. map (padded n (padded_fill p.from)) l ++ p.items) (pieces-nil {A = A} n)) in
+      elim (zero_or_some n) [
+        | inl none ↦ made-none p b.0 none e
+        | inr some ↦ made p b.0 some e (drains-behind steps (padded_done t.0) (p.whole ≡ true) (padded_source p.from) (padded_source t.0) b.0 b.2
+            (λ on w. let last = t.2 w in
+            (padded_source last.0, no-piece-asks (n == 0) (padded_done t.0) (padded_done last.0) (last.0 ≡ t.0) (steps (padded_source t.0) None (padded_source last.0)) (some-is n some) on last.1.1)))
+      ]
+
+  pub padded-runs : (s : ArrayChunksPadded S A n) → padded_done s ≡ false → EachRunFrom (padded_steps steps) s (λ p. SomeRun steps (padded_source s) (λ q. IsPaddedRun n (padded_fill s) p q))
+  padded-runs s begun p seen from = subst (λ u. SomeRun steps (padded_source u) (λ q. IsPaddedRun n (padded_fill u) p q)) from (run-behind p (ap padded_done from ∙ begun))

@@ -1,0 +1,122 @@
+-- What follows from `specs/Pieces.antt`: how many pieces there are, which one stands where, and one piece more.
+use Rattle.std.proofs.Common.{◌≡◌, ℕ, zero, suc, ◌+◌, ◌*◌, ◌/◌, ◌%◌, ◌<◌, ◌≤◌, ◌⊎◌, min, List, [], ◌∷◌, ◌++◌, map, length, take, drop, inl, inr, refl, sym, ap, ap₂, subst, arith, length-append, length-drop}
+use Rattle.std.proofs.Math.Nat.{div-add-mod, le_of_mul-le-mul_left, lt_of_mul-lt-mul_left, mul-le-mul_right}
+use Rattle.std.proofs.Math.Seq.{drop-append_seam}
+use Rattle.std.proofs.lemmas.List.{take-append-le, drop-append-le}
+use Rattle.std.proofs.lemmas.List.FromFn.{map-range_with_len_more, length-map-range_with_len}
+use Rattle.std.proofs.lemmas.Nat.{div-mul-add, mod-mul-add}
+use Rattle.std.specs.Int.{div_ceil}
+use Rattle.std.specs.List.{range_with_len}
+use Rattle.p3_util.specs.Pieces.{piece_count, piece, pieces}
+
+div_ceil-whole : (k n : ℕ) → 0 < n → div_ceil (k * n) n ≡ k
+div_ceil-whole k n some =
+    let q : (k * n + 0) / n ≡ k = div-mul-add k n 0 some in
+    let r : (k * n + 0) % n ≡ 0 = mod-mul-add k n 0 some in
+    let e : k * n + 0 ≡ k * n = omega arith in
+    omega (arith, rw e at q, rw e at r)
+
+div_ceil-part : (k n m : ℕ) → 0 < m → m < n → div_ceil (k * n + m) n ≡ k + 1
+div_ceil-part k n m some short =
+    let q : (k * n + m) / n ≡ k = div-mul-add k n m short in
+    let r : (k * n + m) % n ≡ m = mod-mul-add k n m short in
+    omega (arith, q, r)
+
+-- k pieces and a further one that is not empty
+div_ceil-more : (k n m : ℕ) → 0 < m → (m < n) ⊎ (m ≡ n) → div_ceil (k * n + m) n ≡ k + 1
+div_ceil-more k n m some (inl short) = div_ceil-part k n m some short
+div_ceil-more k n m some (inr full) =
+    let e : k * n + m ≡ (k + 1) * n = omega arith in
+    rw e (div_ceil-whole (k + 1) n (omega arith))
+
+short_or_full : (m n : ℕ) → m ≤ n → (m < n) ⊎ (m ≡ n)
+short_or_full m n fits = grind arith
+
+pub piece_count-more : (k n m : ℕ) → 0 < m → m ≤ n → piece_count n (k * n + m) ≡ k + 1
+piece_count-more k zero m some fits = absurd (omega arith)
+piece_count-more k (suc n) m some fits = div_ceil-more k (suc n) m some (short_or_full m (suc n) fits)
+
+pub piece_count-whole : (k n : ℕ) → 0 < n → piece_count n (k * n) ≡ k
+piece_count-whole k zero some = absurd (omega arith)
+piece_count-whole k (suc n) some = div_ceil-whole k (suc n) some
+
+-- so many pieces have room for the items, and no fewer do
+upper_by : (a n q r : ℕ) → n * q + r ≡ a → r < n → a ≤ (q + min 1 r) * n
+upper_by a n q zero e short = let z : q + min 1 0 ≡ q = omega arith in rw z (omega arith)
+upper_by a n q (suc r) e short = let z : q + min 1 (suc r) ≡ q + 1 = omega arith in rw z (omega arith)
+
+least_by : (a n q r k : ℕ) → n * q + r ≡ a → 0 < n → a ≤ k * n → q + min 1 r ≤ k
+least_by a n q zero k e some room = let h : q ≤ k = le_of_mul-le-mul_left (let m : n * q ≤ n * k = omega arith in m) some in omega arith
+least_by a n q (suc r) k e some room = let h : q < k = lt_of_mul-lt-mul_left n (let m : n * q < n * k = omega arith in m) in omega arith
+
+pub div_ceil-upper : (a n : ℕ) → 0 < n → a ≤ div_ceil a n * n
+div_ceil-upper a n some = upper_by a n (a / n) (a % n) (div-add-mod a n) (omega arith)
+
+pub div_ceil-least : (a k n : ℕ) → 0 < n → a ≤ k * n → div_ceil a n ≤ k
+div_ceil-least a k n some room = least_by a n (a / n) (a % n) k (div-add-mod a n) some room
+
+-- n items fewer make one piece fewer at least
+div_ceil-falls : (n a b c : ℕ) → 0 < n → a + n ≤ b → b ≤ c * n → div_ceil a n < c
+div_ceil-falls n a b zero some fall upper = absurd (omega arith)
+div_ceil-falls n a b (suc c) some fall upper = let h : div_ceil a n ≤ c = div_ceil-least a c n some (omega arith) in omega (arith, h)
+
+pub piece_count-falls : (n a b : ℕ) → 0 < n → a + n ≤ b → piece_count n a < piece_count n b
+piece_count-falls zero a b some fall = absurd (omega arith)
+piece_count-falls (suc k) a b some fall = div_ceil-falls (suc k) a b (div_ceil b (suc k)) some fall (div_ceil-upper b (suc k) some)
+
+pub piece_count-none : (n : ℕ) → piece_count n 0 ≡ 0
+piece_count-none zero = refl
+piece_count-none (suc n) =
+    let e : 0 * suc n ≡ 0 = omega arith in
+    subst (λ k. piece_count (suc n) k ≡ 0) e (piece_count-whole 0 (suc n) (omega arith))
+
+some_room : (a c n : ℕ) → 0 < a → a ≤ c * n → 0 < c
+some_room a zero n some room = absurd (omega arith)
+some_room a (suc c) n some room = omega arith
+
+pub piece_count-some : (n a : ℕ) → 0 < n → 0 < a → 0 < piece_count n a
+piece_count-some zero a some items = absurd (omega arith)
+piece_count-some (suc k) a some items = some_room a (div_ceil a (suc k)) (suc k) items (div_ceil-upper a (suc k) some)
+
+same_map : {X : Type 0} (f g : ℕ → X) (a n : ℕ) → ((p : ℕ) → p < a + n → f p ≡ g p) → map f (range_with_len a n) ≡ map g (range_with_len a n)
+same_map f g a zero same = refl
+same_map f g a (suc n) same = ap₂ (λ x xs. x ∷ xs) (same a (omega arith)) (same_map f g (a + 1) n (λ p h. same p (omega arith)))
+
+module _ {A : Type 0} where
+  -- a piece that lies within the front of a list is that of the front
+  piece-append : (n k p : ℕ) (xs ys : List A) → length xs ≡ k * n → p < k → piece n (xs ++ ys) p ≡ piece n xs p
+  piece-append n k p xs ys whole within =
+      let h : (p + 1) * n ≤ k * n = mul-le-mul_right n (omega arith) in
+      let a : p * n ≤ length xs = omega arith in
+      let b : n ≤ length (drop (p * n) xs) = omega (arith, length-drop (p * n) xs) in
+      rw (drop-append-le (p * n) xs ys a) (take-append-le n (drop (p * n) xs) ys b)
+
+  pub take-all : (n : ℕ) (xs : List A) → length xs ≤ n → take n xs ≡ xs
+  take-all zero [] h = refl
+  take-all zero (x ∷ xs) h = absurd (omega arith)
+  take-all (suc n) [] h = refl
+  take-all (suc n) (x ∷ xs) h = ap (λ l. x ∷ l) (take-all n xs (omega arith))
+
+  -- the piece behind the whole ones
+  piece-last : (n k : ℕ) (xs ys : List A) → length xs ≡ k * n → length ys ≤ n → piece n (xs ++ ys) k ≡ ys
+  piece-last n k xs ys whole fits = rw (sym whole, drop-append_seam xs ys) (take-all n ys fits)
+
+  -- one piece more, behind k whole ones
+  pub pieces-more : (n k : ℕ) (xs ys : List A) → length xs ≡ k * n → 0 < length ys → length ys ≤ n → pieces n (xs ++ ys) ≡ pieces n xs ++ ys ∷ []
+  unfolding pieces
+  pieces-more n k xs ys whole some fits =
+      let count : piece_count n (length (xs ++ ys)) ≡ k + 1 = rw (length-append xs ys, whole) (piece_count-more k n (length ys) some fits) in
+      let before : piece_count n (length xs) ≡ k = rw whole (piece_count-whole k n (omega arith)) in
+      rw (count, before, map-range_with_len_more (piece n (xs ++ ys)) 0 k k (omega arith), piece-last n k xs ys whole fits, same_map (piece n (xs ++ ys)) (piece n xs) 0 k (λ p h. piece-append n k p xs ys whole (omega arith))) refl
+
+  pub pieces-nil : (n : ℕ) → pieces n [] ≡ (let none : List (List A) = [] in none)
+  unfolding pieces
+  pieces-nil n = ap (λ k. map (piece n []) (range_with_len 0 k)) (piece_count-none n)
+
+  pub pieces-zero : (xs : List A) → pieces 0 xs ≡ (let none : List (List A) = [] in none)
+  unfolding pieces
+  pieces-zero xs = refl
+
+  pub length-pieces : (n : ℕ) (xs : List A) → length (pieces n xs) ≡ piece_count n (length xs)
+  unfolding pieces
+  length-pieces n xs = length-map-range_with_len (piece n xs) 0 (piece_count n (length xs))

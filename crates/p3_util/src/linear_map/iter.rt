@@ -1,0 +1,154 @@
+//! The iterators that lend the pairs, the keys or the values of a map, in its order. Each is seen as the list of what it has left.
+ghost use Rattle.std.specs.Prelude.{◌≡◌, Some, length, IfSome};
+ghost use Rattle.std.specs.Iterator.{item_count, at_most, UpTo};
+ghost use Rattle.std.specs.Iterator.SizeHint.{IsWithinCount};
+ghost use Rattle.std.specs.Map.{keys_of, values_of};
+ghost use Rattle.std.specs.Map.Iter.{TakesFirst, deref};
+
+use std::marker::Model;
+use std::slice;
+
+/// The pairs of a map, in order.
+#[derive(Drop)]
+pub struct Iter<'a, K, V> {
+    pairs: slice::Iter<'a, (K, V)>,
+}
+
+impl<'a, K, V> Model for Iter<'a, K, V> {
+    ghost use Rattle.std.specs.Prelude.{List};
+    ghost use Rattle.std.specs.Slice.Iter.{iter_rest};
+
+    ghost Value = { List (K × V) };
+
+    ghost view = { λ s. iter_rest s.pairs };
+}
+
+impl<'a, K, V> Iter<'a, K, V> {
+    pub(super) fn new(pairs: &'a [(K, V)]) -> Self
+        ensures { result ≡ pairs.now }
+    {
+        Iter {
+            pairs: pairs.iter(),
+        }
+    }
+}
+
+impl<'a, K, V> Iterator for Iter<'a, K, V> {
+    type Item = &'a (K, V);
+
+    ghost next_gives = { TakesFirst (deref {X = K × V}) };
+
+    ghost remaining = { item_count (λ s. s) };
+
+    fn next(&mut self) -> Option<&'a (K, V)> {
+        self.pairs.next()
+    }
+
+    /// The number of pairs that are left, twice.
+    fn size_hint(&self) -> (usize, Option<usize>)
+        ensures lower { IsWithinCount result.0 (at_most (length self.now)) }
+        ensures upper { IfSome result.1 (UpTo (at_most (length self.now))) }
+        ensures exact { result ≡ (length self.now, Some (length self.now)) }
+    {
+        let pairs = self.pairs.len();
+        (pairs, Some(pairs))
+    }
+}
+
+/// The keys of a map, in order.
+#[derive(Drop)]
+pub struct Keys<'a, K, V> {
+    pairs: slice::Iter<'a, (K, V)>,
+}
+
+impl<'a, K, V> Model for Keys<'a, K, V> {
+    ghost use Rattle.std.specs.Prelude.{List};
+    ghost use Rattle.std.specs.Map.{keys_of};
+    ghost use Rattle.std.specs.Slice.Iter.{iter_rest};
+
+    ghost Value = { List K };
+
+    ghost view = { λ s. keys_of (iter_rest s.pairs) };
+}
+
+impl<'a, K, V> Keys<'a, K, V> {
+    pub(super) fn new(pairs: &'a [(K, V)]) -> Self
+        ensures { result ≡ keys_of pairs.now }
+    {
+        Keys {
+            pairs: pairs.iter(),
+        }
+    }
+}
+
+impl<'a, K, V> Iterator for Keys<'a, K, V> {
+    type Item = &'a K;
+
+    ghost next_gives = { TakesFirst (deref {X = K}) };
+
+    ghost remaining = { item_count (λ s. s) };
+
+    fn next(&mut self) -> Option<&'a K> {
+        let pair = self.pairs.next()?;
+        Some(&pair.0)
+    }
+
+    /// The number of keys that are left, twice.
+    fn size_hint(&self) -> (usize, Option<usize>)
+        ensures lower { IsWithinCount result.0 (at_most (length self.now)) }
+        ensures upper { IfSome result.1 (UpTo (at_most (length self.now))) }
+        ensures exact { result ≡ (length self.now, Some (length self.now)) }
+    {
+        let keys = self.pairs.len();
+        (keys, Some(keys))
+    }
+}
+
+/// The values of a map, in order.
+#[derive(Drop)]
+pub struct Values<'a, K, V> {
+    pairs: slice::Iter<'a, (K, V)>,
+}
+
+impl<'a, K, V> Model for Values<'a, K, V> {
+    ghost use Rattle.std.specs.Prelude.{List};
+    ghost use Rattle.std.specs.Map.{values_of};
+    ghost use Rattle.std.specs.Slice.Iter.{iter_rest};
+
+    ghost Value = { List V };
+
+    ghost view = { λ s. values_of (iter_rest s.pairs) };
+}
+
+impl<'a, K, V> Values<'a, K, V> {
+    pub(super) fn new(pairs: &'a [(K, V)]) -> Self
+        ensures { result ≡ values_of pairs.now }
+    {
+        Values {
+            pairs: pairs.iter(),
+        }
+    }
+}
+
+impl<'a, K, V> Iterator for Values<'a, K, V> {
+    type Item = &'a V;
+
+    ghost next_gives = { TakesFirst (deref {X = V}) };
+
+    ghost remaining = { item_count (λ s. s) };
+
+    fn next(&mut self) -> Option<&'a V> {
+        let pair = self.pairs.next()?;
+        Some(&pair.1)
+    }
+
+    /// The number of values that are left, twice.
+    fn size_hint(&self) -> (usize, Option<usize>)
+        ensures lower { IsWithinCount result.0 (at_most (length self.now)) }
+        ensures upper { IfSome result.1 (UpTo (at_most (length self.now))) }
+        ensures exact { result ≡ (length self.now, Some (length self.now)) }
+    {
+        let values = self.pairs.len();
+        (values, Some(values))
+    }
+}

@@ -1,0 +1,85 @@
+//! Two iterators of one length as one iterator of pairs.
+ghost use Rattle.std.specs.Prelude.{◌≡◌, MatchResult, IfOk, IfSome, Some};
+ghost use Rattle.std.specs.Iterator.{size, UpTo};
+ghost use Rattle.std.specs.Iterator.SizeHint.{IsWithinCount};
+ghost use Rattle.p3_util.specs.ZipEq.{TellsLength, zip_eq_first, zip_eq_second, zip_eq_left, zip_eq_steps, PairsRuns};
+
+/// Pairs the items of `a` and `b` by place, or answers `err` where they have not the same length.
+pub fn zip_eq<A, B, Error>(a: A, b: B, err: Error) -> Result<ZipEq<A::IntoIter, B::IntoIter>, Error>
+where
+    A: IntoIterator,
+    A::IntoIter: ExactSizeIterator,
+    A::Item: Drop,
+    B: IntoIterator,
+    B::IntoIter: ExactSizeIterator,
+    B::Item: Drop,
+    Error: Drop,
+    ensures lengths { (i : A.IntoIter) × (j : B.IntoIter)
+        × A.into_iter_gives a i × B.into_iter_gives b j
+        × (let same = size (A.IntoIter.remaining i) ≡ size (B.IntoIter.remaining j) in
+        MatchResult result
+        (λ z. same × (zip_eq_first z ≡ i) × (zip_eq_second z ≡ j))
+        (λ e. (e ≡ err) × ¬ same)) }
+    ensures runs { IfOk result (PairsRuns A.IntoIter.next_gives B.IntoIter.next_gives) }
+
+    // The length that the pairs tell is true where those of the two iterators are.
+    ensures told { IfOk result (λ z.
+        TellsLength A.IntoIter.next_gives A.IntoIter.remaining (zip_eq_first z)
+        → TellsLength B.IntoIter.next_gives B.IntoIter.remaining (zip_eq_second z)
+        → TellsLength (zip_eq_steps A.IntoIter.next_gives B.IntoIter.next_gives)
+        (zip_eq_left A.IntoIter.remaining) z) }
+{
+    let first = a.into_iter();
+    let second = b.into_iter();
+    if first.len() != second.len() {
+        return Err(err);
+    }
+    Ok(ZipEq { first, second })
+}
+
+/// The iterator that [`zip_eq`] makes.
+#[derive(Drop)]
+pub struct ZipEq<A, B> {
+    first: A,
+    second: B,
+}
+
+impl<A: ExactSizeIterator, B: ExactSizeIterator> Iterator for ZipEq<A, B>
+where
+    A::Item: Drop,
+    B::Item: Drop,
+{
+    type Item = (A::Item, B::Item);
+
+    ghost can_next = { λ z. A.can_next (zip_eq_first z) × B.can_next (zip_eq_second z) };
+
+    ghost next_gives = { zip_eq_steps A.next_gives B.next_gives };
+
+    ghost remaining = { zip_eq_left A.remaining };
+
+    fn next(&mut self) -> Option<(A::Item, B::Item)> {
+        match (self.first.next(), self.second.next()) {
+            (Some(x), Some(y)) => Some((x, y)),
+            _ => None,
+        }
+    }
+
+    fn size_hint(&self) -> (usize, Option<usize>)
+        ensures lower { IsWithinCount result.0 (zip_eq_left A.remaining self.now) }
+        ensures upper { IfSome result.1 (UpTo (zip_eq_left A.remaining self.now)) }
+        ensures exact { (result.0 ≡ size (zip_eq_left A.remaining self.now)) × (result.1 ≡ Some (size (zip_eq_left A.remaining self.now))) }
+    {
+        let len = self.len();
+        (len, Some(len))
+    }
+}
+
+impl<A: ExactSizeIterator, B: ExactSizeIterator> ExactSizeIterator for ZipEq<A, B>
+where
+    A::Item: Drop,
+    B::Item: Drop,
+{
+    fn len(&self) -> usize {
+        self.first.len()
+    }
+}

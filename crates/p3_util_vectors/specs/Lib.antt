@@ -1,0 +1,2 @@
+pub mod MapCalls
+pub mod Padded

@@ -1,0 +1,11 @@
+//! Callers of the crates' modules, proved from the public contracts alone.
+
+pub mod array_serialization;
+pub mod bits;
+pub mod chunks;
+pub mod linear_map;
+pub mod places;
+pub mod reverse;
+pub mod transpose;
+pub mod views;
+pub mod zip_eq;

@@ -1,0 +1,40 @@
+//! Callers of the chunks of iterators.
+
+ghost use Rattle.std.specs.Prelude.{◌≡◌, IfOk, None, length};
+ghost use Rattle.std.specs.Fn.{CalledAt};
+ghost use Rattle.std.specs.List.{FoldsTo};
+ghost use Rattle.p3_util.specs.Pieces.{padded_pieces, piece_count, pieces};
+
+use p3_util::{apply_to_chunks, iter_array_chunks_padded};
+use std::alloc::{AllocError, Global};
+
+/// Hands `bytes` to `absorb` in blocks of 64, in order. The last block may be shorter.
+pub fn absorb_blocks<H: FnMut(&[u8]) + Drop>(bytes: &[u8], absorb: H)
+    requires { H.IsAlwaysCallable absorb }
+    ensures { (last : H) × FoldsTo (λ f piece g. CalledAt H.FnMut f piece tt g) absorb (pieces 64 bytes.now) last }
+{
+    apply_to_chunks::<64, _, H>(bytes.iter().copied(), absorb);
+}
+
+/// `xs` in lanes of 4, the last of which is filled with `fill`.
+pub fn lanes(alloc: Global, xs: &[u32], fill: u32) -> Result<Vec<[u32; 4]>, AllocError>
+    ensures { IfOk result (λ v. v.items ≡ padded_pieces 4 fill xs.now) }
+{
+    iter_array_chunks_padded::<u32, 4, _>(xs.iter().copied(), fill).collect(alloc)
+}
+
+/// How many lanes of 4 hold `xs`.
+pub fn lane_count(xs: &[u32]) -> usize
+    ensures { result ≡ piece_count 4 (length xs.now) }
+{
+    iter_array_chunks_padded::<u32, 4, _>(xs.iter().copied(), 0).count()
+}
+
+/// What lanes give after their end.
+pub fn lane_after_the_end(xs: &[u32]) -> Option<[u32; 4]>
+    ensures { result ≡ None }
+{
+    let mut lanes = iter_array_chunks_padded::<u32, 4, _>(xs.iter().copied(), 0);
+    while let Some(_) = lanes.next() {}
+    lanes.next()
+}

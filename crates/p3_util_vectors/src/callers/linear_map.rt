@@ -1,0 +1,97 @@
+//! Callers of `LinearMap`, proved by the map's public contracts alone: any list of calls, and the map's pairs as a list.
+ghost use Rattle.std.specs.Prelude.{◌≡◌, [], IfOk, OnOk, OnErr, nat_eq};
+ghost use Rattle.std.specs.Map.{keys_of, values_of};
+ghost use Rattle.p3_util.specs.LinearMap.{put_all};
+ghost use Rattle.p3_util_vectors.specs.MapCalls.{answer_of, answers_of, after, pairs_after};
+
+use p3_util::linear_map::LinearMap;
+use std::alloc::{AllocError, Global};
+use std::mem::replace;
+
+/// A call on a map.
+#[derive(Clone, Copy)]
+pub enum Call<K, V> {
+    Insert(K, V),
+    Get(K),
+    /// Writes to the value that `get_mut` lends, if the key is there.
+    Write(K, V),
+    /// `get_or_insert_with` with a closure that gives the value.
+    GetOrInsert(K, V),
+}
+
+/// Makes one call, and gives what it answered.
+pub fn run_call<K: Eq + Copy, V: Copy>(
+    map: &mut LinearMap<K, V>,
+    call: &Call<K, V>,
+) -> Result<Option<V>, AllocError>
+    ensures map { OnOk result (map.new ≡ after K.eq map.old call.now) }
+    ensures answer { IfOk result (λ a. a ≡ answer_of K.eq map.old call.now) }
+    ensures refused { OnErr result (map.new ≡ map.old) }
+{
+    match call {
+        Call::Insert(k, v) => match map.insert(*k, *v) {
+            Ok(old) => Ok(old),
+            Err(_) => Err(AllocError),
+        },
+        Call::Get(k) => Ok(map.get(k).copied()),
+        Call::Write(k, v) => match map.get_mut(k) {
+            Some(value) => Ok(Some(replace(value, *v))),
+            None => Ok(None),
+        },
+        Call::GetOrInsert(k, v) => match map.get_or_insert_with(*k, || *v) {
+            Ok(value) => Ok(Some(*value)),
+            Err(_) => Err(AllocError),
+        },
+    }
+}
+
+/// The map after `calls` on a new one, and what each call answered.
+pub fn run_calls<K: Eq + Copy, V: Copy>(
+    alloc: Global,
+    calls: &[Call<K, V>],
+) -> Result<(LinearMap<K, V>, Vec<Option<V>>), AllocError>
+    ensures map { IfOk result (λ r. r.0 ≡ pairs_after K.eq [] calls.now) }
+    ensures answers { IfOk result (λ r. r.1.items ≡ answers_of K.eq [] calls.now) }
+{
+    let mut map = LinearMap::new(alloc);
+    let mut answers = Vec::new(alloc);
+    for call in calls {
+        answers.push(run_call(&mut map, call)?)?;
+    }
+    Ok((map, answers))
+}
+
+/// The keys of a map, in order.
+pub fn listed_keys<V>(alloc: Global, map: &LinearMap<u32, V>) -> Result<Vec<u32>, AllocError>
+    ensures { IfOk result (λ keys. keys.items ≡ keys_of map.now) }
+{
+    map.keys().copied().collect(alloc)
+}
+
+/// The values of a map, in order.
+pub fn listed_values(alloc: Global, map: &LinearMap<u32, u8>) -> Result<Vec<u8>, AllocError>
+    ensures { IfOk result (λ values. values.items ≡ values_of map.now) }
+{
+    map.values().copied().collect(alloc)
+}
+
+/// The pairs of a map, in order, by value.
+pub fn listed_pairs(alloc: Global, map: LinearMap<u32, u8>) -> Result<Vec<(u32, u8)>, AllocError>
+    ensures { IfOk result (λ pairs. pairs.items ≡ map) }
+{
+    map.into_iter().collect(alloc)
+}
+
+/// Copies of the pairs of a map, in order.
+pub fn copied_pairs(alloc: Global, map: &LinearMap<u32, u8>) -> Result<Vec<(u32, u8)>, AllocError>
+    ensures { IfOk result (λ pairs. pairs.items ≡ map.now) }
+{
+    map.into_iter().copied().collect(alloc)
+}
+
+/// The map that a list of pairs makes.
+pub fn made_of(alloc: Global, pairs: &[(u32, u8)]) -> Result<LinearMap<u32, u8>, AllocError>
+    ensures { IfOk result (λ m. m ≡ put_all nat_eq [] pairs.now) }
+{
+    LinearMap::try_from_iter(alloc, pairs.iter().copied())
+}

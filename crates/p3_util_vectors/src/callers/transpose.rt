@@ -1,0 +1,51 @@
+//! Callers of the transposes.
+
+ghost use Rattle.std.specs.Prelude.{◌≡◌, ◌*◌, ◌^◌, ◌<◌, ◌↔◌, IsTrue, IsFalse, length};
+ghost use Rattle.p3_util_kernels.specs.Transpose.{IsTranspose};
+
+use p3_util_kernels::places::{Places, Swaps};
+use p3_util_kernels::transpose::{fits_matrix, transpose, transpose_square_on};
+
+/// Transposes `matrix`, of `height` rows of `width` items, by way of `scratch`. `false`, and nothing done, where the
+/// lengths are not those of such a matrix.
+pub fn transpose_by_way_of<T: Copy>(
+    matrix: &mut [T],
+    scratch: &mut [T],
+    width: usize,
+    height: usize,
+) -> bool
+    ensures done { IsTrue result → IsTranspose width height matrix.old matrix.new }
+    ensures left { IsFalse result → matrix.new ≡ matrix.old }
+    ensures fits { IsTrue result ↔ ((length matrix.old ≡ width * height) × (length scratch.old ≡ width * height)) }
+{
+    let fits = fits_matrix(matrix.len(), scratch.len(), width, height);
+    if fits {
+        transpose(matrix, scratch, width, height);
+        matrix.copy_from_slice(scratch);
+    }
+    fits
+}
+
+/// Transposes `matrix` into `scratch` and back, which leaves `matrix` as it was.
+pub fn transpose_there_and_back<T: Copy>(
+    matrix: &mut [T],
+    scratch: &mut [T],
+    width: usize,
+    height: usize,
+)
+    requires matrix_fits { length matrix.old ≡ width * height }
+    requires scratch_fits { length scratch.old ≡ width * height }
+    ensures { matrix.new ≡ matrix.old }
+{
+    transpose(matrix, scratch, width, height);
+    transpose(scratch, matrix, height, width);
+}
+
+/// Transposes in place a whole matrix of `2^log_size` rows of as many items.
+pub fn transpose_whole_square<S: Places>(m: &mut Swaps<S>, log_size: usize)
+    requires fits { length (S.items m.old.holder) ≡ 2 ^ log_size * 2 ^ log_size }
+    requires small { log_size < 64 }
+    ensures { IsTranspose (2 ^ log_size) (2 ^ log_size) (S.items m.old.holder) (S.items m.new.holder) }
+{
+    transpose_square_on(m, 0, log_size, log_size);
+}

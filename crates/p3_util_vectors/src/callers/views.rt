@@ -1,0 +1,58 @@
+//! Callers of the views: the kernels over rows.
+
+ghost use Rattle.std.specs.Prelude.{◌≡◌, ◌*◌, ◌^◌, ◌<◌, length};
+ghost use Rattle.p3_util.specs.Flat.{flat};
+ghost use Rattle.p3_util_kernels.specs.Reversal.{IsReversal, IsZeroOrPowerOfTwo};
+ghost use Rattle.p3_util_kernels.specs.Transpose.{IsTranspose};
+
+use p3_util::as_base_slice_mut;
+use p3_util_kernels::places::{Cells, Places, Swaps, Writes};
+use p3_util_kernels::reverse::reverse_index_bits_on;
+use p3_util_kernels::transpose::transpose_on;
+
+/// Reverses the items of `rows`, taken as one list, by their index bits: what a kernel leaves in a view stands in the rows.
+pub fn reverse_items<T, const N: usize>(rows: &mut [[T; N]])
+    requires fits { length rows.old * N < 2 ^ 64 }
+    requires power { IsZeroOrPowerOfTwo (length (flat rows.old)) }
+    ensures { IsReversal (flat rows.old) (flat rows.new) }
+{
+    let mut view = as_base_slice_mut(rows);
+    reverse_places(&mut view);
+}
+
+fn reverse_places<S: Places>(places: &mut S)
+    requires { IsZeroOrPowerOfTwo (length (S.items places.old)) }
+    ensures order { IsReversal (S.items places.old) (S.items places.new) }
+    ensures holder { S.same_holder places.old places.new }
+{
+    let mut swaps = Swaps::new(places);
+    reverse_index_bits_on(&mut swaps);
+    let _ = swaps.into_inner();
+}
+
+/// Writes the transpose of `input` to the items of `rows`, taken as one list.
+pub fn transpose_to_items<T: Copy, const N: usize>(
+    input: &[T],
+    rows: &mut [[T; N]],
+    width: usize,
+    height: usize,
+)
+    requires fits { length rows.old * N < 2 ^ 64 }
+    requires input_fits { length input.now ≡ width * height }
+    requires output_fits { length (flat rows.old) ≡ width * height }
+    ensures { IsTranspose width height input.now (flat rows.new) }
+{
+    let mut view = as_base_slice_mut(rows);
+    transpose_to_cells(input, &mut view, width, height);
+}
+
+fn transpose_to_cells<C: Cells>(input: &[C::Item], cells: &mut C, width: usize, height: usize)
+    requires input_fits { length input.now ≡ width * height }
+    requires output_fits { length (C.items cells.old) ≡ width * height }
+    ensures order { IsTranspose width height input.now (C.items cells.new) }
+    ensures holder { C.same_holder cells.old cells.new }
+{
+    let mut out = Writes::new(cells);
+    transpose_on(input, &mut out, width, height);
+    let _ = out.into_inner();
+}
