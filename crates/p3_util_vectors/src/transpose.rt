@@ -334,8 +334,11 @@ const SMALL: [[u64; 17]; 17] = [
     ],
 ];
 
-/// Width, height, and the hash of the transpose of the first items.
-const LARGE: [(usize, usize, u64); 22] = [
+/// Width, height, and the hash of the transpose of the first items, of shapes without items and of larger ones.
+const OTHERS: [(usize, usize, u64); 25] = [
+    (0, 0, 14_695_981_039_346_656_037),
+    (0, 5, 14_695_981_039_346_656_037),
+    (5, 0, 14_695_981_039_346_656_037),
     (255, 1, 11473933736036233096),
     (256, 1, 2278641675308751397),
     (1, 256, 2278641675308751397),
@@ -386,8 +389,8 @@ fn hashes_of_small_shapes(rt: HostRuntime) -> Result<(), Fail> {
 }
 
 #[test]
-fn hashes_of_larger_shapes(rt: HostRuntime) -> Result<(), Fail> {
-    for (width, height, wanted) in LARGE.iter() {
+fn hashes_of_other_shapes(rt: HostRuntime) -> Result<(), Fail> {
+    for (width, height, wanted) in OTHERS.iter() {
         let hash = transpose_hash(&rt, rt.alloc(), *width, *height)?;
         assert_eq!(rt; hash, *wanted, "{width} by {height}");
     }

@@ -1,11 +1,11 @@
 //! Callers of the views: the kernels over rows.
 
-ghost use Rattle.std.specs.Prelude.{◌≡◌, ◌*◌, ◌^◌, ◌<◌, length};
+ghost use Rattle.std.specs.Prelude.{◌≡◌, ◌*◌, ◌^◌, ◌<◌, Some, length, slice_get};
 ghost use Rattle.p3_util.specs.Flat.{flat};
 ghost use Rattle.p3_util_kernels.specs.Reversal.{IsReversal, IsZeroOrPowerOfTwo};
 ghost use Rattle.p3_util_kernels.specs.Transpose.{IsTranspose};
 
-use p3_util::as_base_slice_mut;
+use p3_util::{as_base_slice, as_base_slice_mut};
 use p3_util_kernels::places::{Cells, Places, Swaps, Writes};
 use p3_util_kernels::reverse::reverse_index_bits_on;
 use p3_util_kernels::transpose::transpose_on;
@@ -55,4 +55,25 @@ fn transpose_to_cells<C: Cells>(input: &[C::Item], cells: &mut C, width: usize, 
     let mut out = Writes::new(cells);
     transpose_on(input, &mut out, width, height);
     let _ = out.into_inner();
+}
+
+/// Item `i` of the rows taken as one list: item `i % N` of row `i / N`.
+pub fn item_of_rows<T: Copy, const N: usize>(rows: &[[T; N]], i: usize) -> T
+    requires fits { length rows.now * N < 2 ^ 64 }
+    requires inside { i < length (flat rows.now) }
+    ensures { slice_get (flat rows.now) i ≡ Some result }
+{
+    let all = as_base_slice(rows);
+    prove!(i < all.len());
+    let front = as_base_slice(&rows[..i / N]);
+    prove!(front.len() <= i);
+    item_of_row(&rows[i / N], i % N)
+}
+
+fn item_of_row<T: Copy, const N: usize>(row: &[T; N], i: usize) -> T
+    requires { i < N }
+    ensures item { slice_get row.now i ≡ Some result }
+    ensures len { length row.now ≡ N }
+{
+    row[i]
 }
