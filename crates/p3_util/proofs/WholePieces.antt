@@ -1,5 +1,5 @@
 -- The loop of `apply_to_chunks`: whole pieces were folded, and the items after them wait in a buffer.
-use Rattle.std.proofs.Common.{Bor, Option, None, subst, ◌≡◌, ℕ, ◌+◌, ◌*◌, ◌<◌, ◌≤◌, ◌≢◌, List, [], ◌∷◌, ◌++◌, length, take, set, refl, ◌∙◌, arith, length-append, append_assoc, append-nil}
+use Rattle.std.proofs.Common.{Bor, Option, None, subst, ◌≡◌, ℕ, ◌+◌, ◌*◌, ◌<◌, ◌≤◌, List, [], ◌∷◌, ◌++◌, length, take, set, refl, ◌∙◌, arith, length-append, append_assoc, append-nil}
 use Rattle.std.proofs.lemmas.Fn.{FoldsTo-push}
 use Rattle.std.proofs.lemmas.Grind.{take-set_at}
 use Rattle.std.proofs.lemmas.List.{length-take-le, length-set}
@@ -30,9 +30,6 @@ module _ {P A : Type 0} {R : P → List A → P → Type 0} {n : ℕ} {p : P} wh
   front-push {items} {buf} {len} h x =
       let room : len < length buf = omega (arith, h.below, h.room) in
       rw (take-set_at buf len (len + 1) x refl room, ← append_assoc h.front (take len buf) (x ∷ []), ← h.split) refl
-
-  pub FoldsWhole-push : {items buf : List A} {len : ℕ} {q : P} → FoldsWhole R n p items buf len q → (x : A) → len + 1 ≢ n → FoldsWhole R n p (items ++ x ∷ []) (set buf len x) (len + 1) q
-  FoldsWhole-push h x more = record { count = h.count; front = h.front; whole = h.whole; split = front-push h x; below = omega (arith, h.below, more); room = length-set _ _ _ ∙ h.room; folded = h.folded }
 
   -- the buffer was full, and R took it
   pub FoldsWhole-flush : {items buf : List A} {len : ℕ} {q r : P} → FoldsWhole R n p items buf len q → (x : A) → len + 1 ≡ n → R q (set buf len x) r → FoldsWhole R n p (items ++ x ∷ []) (set buf len x) 0 r

@@ -1,18 +1,12 @@
 -- Bit reversal as a rearrangement.
 use Rattle.std.proofs.Common.{◌≡◌, ℕ, ◌^◌, ◌<◌, ◌≤◌, List, length, slice_get, inl, inr, zero, suc, refl, sym, ap, ◌∙◌, arith}
-use Rattle.p3_util_kernels.specs.Digits.{rev, rev_word}
+use Rattle.p3_util_kernels.specs.Digits.{rev}
 use Rattle.p3_util_kernels.specs.Rearranged.{IsRearranged}
 use Rattle.p3_util_kernels.specs.Reversal.{IsReversal, IsZeroOrPowerOfTwo}
 use Rattle.p3_util_kernels.proofs.Digits.{rev-lt, rev-rev-below}
 use Rattle.p3_util_kernels.proofs.Halfway.{IsInvolution}
 use Rattle.p3_util_kernels.proofs.Powers.{exponent-same}
 use Rattle.p3_util_kernels.proofs.SameList.{same_places}
-
--- for at least one digit the word is not reversed whole
-pub rev_word-positive : (k x : ℕ) → 1 ≤ k → rev_word k x ≡ rev k x
-unfolding rev_word
-rev_word-positive zero x h = absurd (omega arith)
-rev_word-positive (suc k) x h = refl
 
 -- a power of two above 1 has a positive exponent
 pub exponent-positive : (n k : ℕ) → n ≡ 2 ^ k → 2 ≤ n → 1 ≤ k

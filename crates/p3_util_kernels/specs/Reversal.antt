@@ -1,18 +1,11 @@
 -- Bit reversal of a list. From the comment above the bit reversal kernels of p3-util 0.8.0.
-use Rattle.std.specs.Prelude.{ℕ, ◌≡◌, ◌+◌, ◌*◌, ◌^◌, ◌<◌, ◌⊎◌, List, length, slice_get}
+use Rattle.std.specs.Prelude.{ℕ, ◌≡◌, ◌^◌, ◌<◌, ◌⊎◌, List, length, slice_get}
 use Rattle.std.specs.Int.{IsPowerOfTwo}
 use Rattle.p3_util_kernels.specs.Digits.{rev}
 
 -- n is zero or a power of two
 abbrev pub IsZeroOrPowerOfTwo : ℕ → Type 0
 IsZeroOrPowerOfTwo n = (n ≡ 0) ⊎ IsPowerOfTwo n
-
--- The rows of width w of `new` are those of `old` in bit-reversed order: with 2 ^ k rows, row r of `new` is row
--- rev k r of `old`. Nothing is said of the places of a list whose length is no width times a power of two.
-pub record IsRowReversal {A : Type 0} (w : ℕ) (old new : List A) : Type 0 where
-  pub same_length : length new ≡ length old
-  pub rows : (k r j : ℕ) → length old ≡ w * 2 ^ k → r < 2 ^ k → j < w
-      → slice_get new (r * w + j) ≡ slice_get old (rev k r * w + j)
 
 -- Bit reversal: with 2 ^ k items, place i of `new` holds what stood at place rev k i of `old`.
 pub record IsReversal {A : Type 0} (old new : List A) : Type 0 where

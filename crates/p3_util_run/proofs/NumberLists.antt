@@ -15,9 +15,6 @@ items_of_injective (d ∷ ds) [] h = cc
 items_of_injective (d ∷ ds) (e ∷ es) h =
     let first : d ≡ e = cc in let rest : items_of ds ≡ items_of es = cc in let more = items_of_injective ds es rest in cc
 
-number_of_injective : (x y : ℕ) → number_of x ≡ number_of y → x ≡ y
-number_of_injective x y h = cc
-
 pub numbers_injective : (xs ys : List ℕ) → map number_of xs ≡ map number_of ys → xs ≡ ys
 numbers_injective [] [] h = refl
 numbers_injective [] (y ∷ ys) h = cc

@@ -1,7 +1,8 @@
 use Rattle.std.proofs.Common.{◌≡◌, ◌<◌, ◌^◌, length, arith, sym, ◌∙◌}
 use Rattle.p3_util_kernels.specs.Digits.{rev}
+use Rattle.p3_util_kernels.proofs.Digits.{rev_word-above}
 use Rattle.p3_util_kernels.proofs.Halfway.{IsInvolution, IsHalfway-start, IsHalfway-skip, IsHalfway-swap, IsRearranged-from_halfway}
-use Rattle.p3_util_kernels.proofs.Reversal.{IsReversal-short, IsReversal-from_rearranged, IsInvolution-rev, rev_word-positive, exponent-positive}
+use Rattle.p3_util_kernels.proofs.Reversal.{IsReversal-short, IsReversal-from_rearranged, IsInvolution-rev, exponent-positive}
 use Rattle.p3_util_kernels.proofs.Steps.{RoseByAtMost-none, RoseByAtMost-more, RoseByAtMost-wider}
 use Rattle.p3_util_kernels.proofs.reverse.reverse_index_bits_short.Goals as goal
 use Rattle.p3_util_kernels.proofs.reverse.reverse_index_bits_short.Goals.{then-i-j, else-i-j}
@@ -33,7 +34,7 @@ loop-i-preserved g c =
     let length_is : length old ≡ 2 ^ bits = sym c.len-len.ensures.len ∙ power in
     let involution : IsInvolution (length old) (rev bits) = IsInvolution-rev _ _ length_is in
     let j_is : c.reverse_bits_len-j.result ≡ rev bits c.loop-i.i =
-    c.reverse_bits_len-j.ensures.reversed ∙ rev_word-positive _ _ (exponent-positive _ _ power c.if-len-lt2.false) in
+    c.reverse_bits_len-j.ensures.reversed ∙ rev_word-above _ _ (exponent-positive _ _ power c.if-len-lt2.false) in
     let inside : c.loop-i.i < length old = omega arith in
     let before = c.loop-i.invariant in
     elim c.if-i-j.branch [
