@@ -17,9 +17,6 @@ loop-i-init g c = record {
   holder = g.met.S.Places.same_holder_refl _;
 }
 
-pub swap-requires-clause-first : goal.swap-requires-clause-first
-swap-requires-clause-first g c = omega (arith, c.loop-i.invariant.order.same_length)
-
 pub swap-requires-clause-second : goal.swap-requires-clause-second
 swap-requires-clause-second g c =
     let power = c.log2_strict_usize-bits.ensures.power in
@@ -56,7 +53,3 @@ returns-clause-order g c =
     let length_is : length old ≡ 2 ^ c.log2_strict_usize-bits.result = sym c.len-len.ensures.len ∙ c.log2_strict_usize-bits.ensures.power in
     let all : c.loop-i.i ≡ length old = omega arith in
     IsReversal-from_rearranged _ _ _ length_is (IsRearranged-from_halfway _ _ _ _ all c.loop-i.invariant.order)
-
-pub returns-clause-count : goal.returns-clause-count
-returns-clause-count g c =
-    RoseByAtMost-wider _ _ _ _ (omega arith) c.loop-i.invariant.count

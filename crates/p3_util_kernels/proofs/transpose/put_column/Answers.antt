@@ -1,4 +1,4 @@
-use Rattle.std.proofs.Common.{◌≡◌, ◌+◌, ◌*◌, ◌<◌, sym, add-zero, add_assoc, arith}
+use Rattle.std.proofs.Common.{◌+◌, ◌*◌, ◌<◌, sym, add-zero, add_assoc, arith}
 use Rattle.std.proofs.lemmas.Nat.{mul-add-lt}
 use Rattle.std.proofs.lemmas.Option.{slice_get_read}
 use Rattle.p3_util_kernels.proofs.Filled.{IsFilled-put}
@@ -30,13 +30,3 @@ loop-y-preserved g c =
       count = counted-more _ _ _ _ _ c.loop-y.invariant.count c.put.ensures.count;
       holder = g.met.C.Cells.same_holder_trans _ _ _ c.loop-y.invariant.holder c.put.ensures.holder;
     }
-
-pub returns-clause-filled : goal.returns-clause-filled
-returns-clause-filled g c =
-    let all : c.loop-y.y ≡ c.args.height = omega arith in
-    rw all at c.loop-y.invariant.filled
-
-pub returns-clause-count : goal.returns-clause-count
-returns-clause-count g c =
-    let all : c.loop-y.y ≡ c.args.height = omega arith in
-    rw all at c.loop-y.invariant.count

@@ -1,6 +1,6 @@
 use Rattle.std.proofs.Common.{◌≡◌, ◌+◌, ◌*◌, sym, zero-mul, arith}
 use Rattle.p3_util_kernels.proofs.Filled.{IsFilled-start, IsTranspose-from_filled}
-use Rattle.p3_util_kernels.proofs.Steps.{counted-zero, counted-lt, counted-more}
+use Rattle.p3_util_kernels.proofs.Steps.{counted-zero, counted-more}
 use Rattle.p3_util_kernels.proofs.transpose.transpose_on.Goals as goal
 
 pub loop-x-init : goal.loop-x-init
@@ -9,12 +9,6 @@ loop-x-init g c = rw zero-mul (record {
   count = sym (counted-zero _ c.len-places.ensures.count_fits);
   holder = g.met.C.Cells.same_holder_refl _;
 })
-
-pub put_column-requires-clause-filled : goal.put_column-requires-clause-filled
-put_column-requires-clause-filled g c = c.loop-x.invariant.filled
-
-pub put_column-requires-clause-count_fits : goal.put_column-requires-clause-count_fits
-put_column-requires-clause-count_fits g c = rw c.loop-x.invariant.count (counted-lt _ _)
 
 pub loop-x-preserved : goal.loop-x-preserved
 loop-x-preserved g c =
@@ -29,8 +23,3 @@ pub returns-clause-order : goal.returns-clause-order
 returns-clause-order g c =
     let all : c.loop-x.x ≡ c.args.width = omega arith in
     IsTranspose-from_filled _ _ _ _ (g.C.Cells.items c.loop-x.out.holder) (rw all (omega arith)) c.loop-x.invariant.filled
-
-pub returns-clause-count : goal.returns-clause-count
-returns-clause-count g c =
-    let all : c.loop-x.x ≡ c.args.width = omega arith in
-    rw all at c.loop-x.invariant.count
