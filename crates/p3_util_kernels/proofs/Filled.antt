@@ -1,12 +1,9 @@
 -- An output on its way to holding a transpose, filled from its front.
-use Rattle.std.proofs.Common.{◌≡◌, ℕ, ◌+◌, ◌*◌, ◌<◌, ◌≤◌, List, length, slice_get, set, Some, inl, inr, refl, sym, ap, ◌∙◌, arith, length-set}
+use Rattle.std.proofs.Common.{◌≡◌, ℕ, ◌+◌, ◌*◌, ◌<◌, List, length, slice_get, set, Some, inl, inr, refl, sym, ap, ◌∙◌, arith, length-set}
 use Rattle.std.proofs.lemmas.Bool.{cases_eq}
 use Rattle.std.proofs.lemmas.Nat.{mul-add-lt, same_from_place}
-use Rattle.p3_util_kernels.specs.Transpose.{IsFilled, IsTranspose}
+use Rattle.p3_util_kernels.specs.Transpose.{IsFilled}
 use Rattle.p3_util_kernels.proofs.Exchange.{slice_get-set_same, slice_get-set_other}
-
-pub IsFilled-start : {A : Type 0} (width height : ℕ) (input out : List A) → length out ≡ width * height → IsFilled width height 0 input out
-IsFilled-start width height input out e = record { same_length = e; places = λ x y hx hy h. absurd (omega arith) }
 
 -- the place of column x and row y is put
 pub IsFilled-put : {A : Type 0} (width height x y : ℕ) (v : A) (input out next : List A) → x < width → y < height → slice_get input (y * width + x) ≡ Some v
@@ -25,10 +22,3 @@ IsFilled-put width height x y v input out next hx hy read put at =
             | inr ne ↦ slice_get-set_other out (x * height + y) (a * height + b) v ne ∙ at.places a b ha hb (omega arith)
           ];
     })
-
-pub IsTranspose-from_filled : {A : Type 0} (width height p : ℕ) (input out : List A) → width * height ≤ p → IsFilled width height p input out
-    → IsTranspose width height input out
-IsTranspose-from_filled width height p input out all at = record {
-  same_length = at.same_length;
-  places = λ x y hx hy. at.places x y hx hy (omega (arith, mul-add-lt x height y width hx hy));
-}

@@ -1,6 +1,6 @@
 -- A list on its way to being rearranged by exchanges: σ is its own inverse below the length, and each place i is
 -- exchanged with σ i when the smaller of the two comes up.
-use Rattle.std.proofs.Common.{◌≡◌, ℕ, ◌+◌, ◌<◌, ◌≤◌, ◌≢◌, ◌⊎◌, List, length, slice_get, inl, inr, refl, sym, ap, ◌∙◌, arith}
+use Rattle.std.proofs.Common.{◌≡◌, ℕ, ◌+◌, ◌<◌, ◌≤◌, ◌≢◌, ◌⊎◌, List, length, slice_get, inl, inr, sym, ap, ◌∙◌, arith}
 use Rattle.std.specs.List.{swap}
 use Rattle.std.proofs.lemmas.Bool.{cases_eq, cases_lt}
 use Rattle.std.proofs.lemmas.List.Edits.{length-swap}
@@ -17,13 +17,6 @@ pub record IsHalfway {A : Type 0} (σ : ℕ → ℕ) (i : ℕ) (old now : List A
   pub same_length : length now ≡ length old
   pub moved : (p : ℕ) → p < length old → (p < i) ⊎ (σ p < i) → slice_get now p ≡ slice_get old (σ p)
   pub still : (p : ℕ) → p < length old → i ≤ p → i ≤ σ p → slice_get now p ≡ slice_get old p
-
-pub IsHalfway-start : {A : Type 0} (σ : ℕ → ℕ) (old : List A) → IsHalfway σ 0 old old
-IsHalfway-start σ old = record {
-  same_length = refl;
-  moved = λ p h k. absurd (elim k [ inl l ↦ omega arith | inr r ↦ omega arith ]);
-  still = λ p h a b. refl;
-}
 
 -- place i is its own, or its exchange came before
 pub IsHalfway-skip : {A : Type 0} (σ : ℕ → ℕ) (i : ℕ) (old now : List A) → IsInvolution (length old) σ → i < length old → σ i ≤ i

@@ -1,14 +1,10 @@
 -- The law of adding counts, and what follows from it for bounds.
-use Rattle.std.proofs.Common.{ℕ, ◌≡◌, ◌+◌, ◌^◌, ◌<◌, ◌≤◌, sym, ◌∙◌, ap, arith}
+use Rattle.std.proofs.Common.{ℕ, ◌≡◌, ◌+◌, ◌^◌, ◌<◌, ◌≤◌, ◌∙◌, ap, arith}
 use Rattle.p3_util_kernels.specs.Steps.{counted, RoseByAtMost}
 
 -- no step leaves a count that the machine can hold as it is
 pub counted-zero : (c : ℕ) → c < 2 ^ 128 → counted c 0 ≡ c
 counted-zero c fits = omega arith
-
--- a count fits a u128
-pub counted-lt : (c s : ℕ) → counted c s < 2 ^ 128
-counted-lt c s = omega arith
 
 -- counts add up
 pub counted-counted : (c a b : ℕ) → counted (counted c a) b ≡ counted c (a + b)
@@ -17,10 +13,6 @@ counted-counted c a b = omega arith
 -- as many steps and a few more
 pub counted-more : (old now new a b : ℕ) → now ≡ counted old a → new ≡ counted now b → new ≡ counted old (a + b)
 counted-more old now new a b e f = f ∙ ap (λ c. counted c b) e ∙ counted-counted old a b
-
--- no step so far
-pub RoseByAtMost-none : (c : ℕ) → c < 2 ^ 128 → RoseByAtMost c c 0
-RoseByAtMost-none c fits = record { steps = 0; count = sym (counted-zero c fits); bound = omega arith }
 
 -- one step more
 pub RoseByAtMost-more : (old now new most : ℕ) → RoseByAtMost old now most → new ≡ counted now 1 → RoseByAtMost old new (most + 1)

@@ -1,9 +1,6 @@
 use Rattle.std.proofs.Common.{refl}
-use Rattle.p3_util.proofs.PaddedRuns.{padded-ends, padded-runs}
+use Rattle.p3_util.proofs.PaddedRuns.{padded-runs}
 use Rattle.p3_util.proofs.chunks.iter_array_chunks_padded.Goals as goal
-
-pub returns-clause-ends : goal.returns-clause-ends
-returns-clause-ends g c = padded-ends g.I.IntoIter.Iterator.next_gives
 
 pub returns-clause-runs : goal.returns-clause-runs
 returns-clause-runs g c = padded-runs g.I.IntoIter.Iterator.next_gives _ refl

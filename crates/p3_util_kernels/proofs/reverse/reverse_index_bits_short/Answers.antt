@@ -1,21 +1,14 @@
 use Rattle.std.proofs.Common.{◌≡◌, ◌<◌, ◌^◌, length, arith, sym, ◌∙◌}
 use Rattle.p3_util_kernels.specs.Digits.{rev}
 use Rattle.p3_util_kernels.proofs.Digits.{rev_word-above}
-use Rattle.p3_util_kernels.proofs.Halfway.{IsInvolution, IsHalfway-start, IsHalfway-skip, IsHalfway-swap, IsRearranged-from_halfway}
+use Rattle.p3_util_kernels.proofs.Halfway.{IsInvolution, IsHalfway-skip, IsHalfway-swap, IsRearranged-from_halfway}
 use Rattle.p3_util_kernels.proofs.Reversal.{IsReversal-short, IsReversal-from_rearranged, IsInvolution-rev, exponent-positive}
-use Rattle.p3_util_kernels.proofs.Steps.{RoseByAtMost-none, RoseByAtMost-more, RoseByAtMost-wider}
+use Rattle.p3_util_kernels.proofs.Steps.{RoseByAtMost-more, RoseByAtMost-wider}
 use Rattle.p3_util_kernels.proofs.reverse.reverse_index_bits_short.Goals as goal
 use Rattle.p3_util_kernels.proofs.reverse.reverse_index_bits_short.Goals.{then-i-j, else-i-j}
 
 pub returns-then-len-lt2-clause-order : goal.returns-then-len-lt2-clause-order
 returns-then-len-lt2-clause-order g c = IsReversal-short _ (omega arith)
-
-pub loop-i-init : goal.loop-i-init
-loop-i-init g c = record {
-  order = IsHalfway-start _ _;
-  count = RoseByAtMost-none _ c.len-len.ensures.count_fits;
-  holder = g.met.S.Places.same_holder_refl _;
-}
 
 pub swap-requires-clause-second : goal.swap-requires-clause-second
 swap-requires-clause-second g c =

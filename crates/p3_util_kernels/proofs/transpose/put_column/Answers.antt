@@ -1,21 +1,9 @@
-use Rattle.std.proofs.Common.{◌+◌, ◌*◌, ◌<◌, sym, add-zero, add_assoc, arith}
+use Rattle.std.proofs.Common.{◌+◌, ◌*◌, ◌<◌, sym, add_assoc, arith}
 use Rattle.std.proofs.lemmas.Nat.{mul-add-lt}
 use Rattle.std.proofs.lemmas.Option.{slice_get_read}
 use Rattle.p3_util_kernels.proofs.Filled.{IsFilled-put}
-use Rattle.p3_util_kernels.proofs.Steps.{counted-zero, counted-more}
+use Rattle.p3_util_kernels.proofs.Steps.{counted-more}
 use Rattle.p3_util_kernels.proofs.transpose.put_column.Goals as goal
-
-pub loop-y-init : goal.loop-y-init
-loop-y-init g c = record {
-  filled = rw add-zero c.requires.filled;
-  count = sym (counted-zero _ c.requires.count_fits);
-  holder = g.met.C.Cells.same_holder_refl _;
-}
-
-pub put-requires : goal.put-requires
-put-requires g c =
-    rw c.loop-y.invariant.filled.same_length
-    (omega (arith, mul-add-lt c.args.x c.args.height c.loop-y.y c.args.width c.requires.inside c.loop-y-test.true))
 
 pub loop-y-preserved : goal.loop-y-preserved
 loop-y-preserved g c =

@@ -1,10 +1,7 @@
 use Rattle.std.proofs.Common.{◌<◌, refl, arith}
-use Rattle.p3_util.proofs.FilledChunk.{Fills-start, Fills-push, Fills-full, Fills-short, Fills-full_progress, Fills-last_progress}
+use Rattle.p3_util.proofs.FilledChunk.{Fills-push, Fills-full, Fills-short, Fills-full_progress, Fills-last_progress}
 use Rattle.p3_util.proofs.chunks.ArrayChunksPaddedIterator.next.Goals.{else-loop-len-test, then-loop-len-test+in_default}
 use Rattle.p3_util.proofs.chunks.ArrayChunksPaddedIterator.next.Goals as goal
-
-pub loop-len-init : goal.loop-len-init
-loop-len-init g c = (Fills-start (λ some. c.requires some c.if-self.false), refl, c.if-self.false)
 
 pub loop-len-preserved : goal.loop-len-preserved
 loop-len-preserved g c = (Fills-push c.loop-len.invariant.0 c.loop-len-test.true c.in-Some.ensures.steps c.in-Some.ensures.goes, c.loop-len.invariant.1, c.loop-len.invariant.2)

@@ -1,14 +1,7 @@
-use Rattle.std.proofs.Common.{◌≡◌, ◌+◌, ◌*◌, ◌<◌, length, arith}
+use Rattle.std.proofs.Common.{◌+◌, ◌*◌, ◌<◌, length, arith}
 use Rattle.p3_util_kernels.specs.Diagonal.{SwapsAcross}
-use Rattle.p3_util_kernels.proofs.Diagonal.{SwapsAcross-none, SwapsAcross-swap, SwapsAcross-rows}
+use Rattle.p3_util_kernels.proofs.Diagonal.{SwapsAcross-swap, SwapsAcross-rows}
 use Rattle.p3_util_kernels.proofs.transpose.square.swap_line.Goals as goal
-
-pub loop-i-init : goal.loop-i-init
-loop-i-init g c = (
-  SwapsAcross-none c.args.base c.args.stride c.args.start c.args.start c.args.line (c.args.line + 1) (g.S.Places.items c.args.m.now.holder) (λ a b k. omega arith),
-  omega arith,
-  g.met.S.Places.same_holder_refl c.args.m.now.holder,
-)
 
 pub loop-i-preserved : goal.loop-i-preserved
 loop-i-preserved g c =
@@ -21,12 +14,3 @@ loop-i-preserved g c =
       omega arith,
       g.met.S.Places.same_holder_trans _ _ _ c.loop-i.invariant.2 c.swap.ensures.holder,
     )
-
-pub returns : goal.returns
-returns g c =
-    let e : c.loop-i.i ≡ c.args.start + c.args.len = omega arith in
-    record {
-      swapped = rw e at c.loop-i.invariant.0;
-      count = omega arith;
-      holder = c.loop-i.invariant.2;
-    }
