@@ -40,7 +40,8 @@ where
     }
 }
 
-/// Cuts what `iter` gives up to its first `None` into arrays of `N` items. The last array is filled with `default` where they do not divide.
+/// Cuts what `iter` gives up to its first `None` into arrays of `N` items. The last array is filled with `default` where
+/// they do not divide.
 ///
 /// After that `None` the iterator is not asked again. Where `N` is 0 there is no array, and it is never asked.
 pub fn iter_array_chunks_padded<T: Copy, const N: usize, I: IntoIterator<Item = T>>(

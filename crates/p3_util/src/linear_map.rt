@@ -115,8 +115,9 @@ impl<K: Eq, V> LinearMap<K, V> {
 }
 
 impl<K: Eq + Drop, V> LinearMap<K, V> {
-    /// Gives `k` the value `v`. A known key keeps its place and its stored spelling, and its old value is the answer; `k` is dropped.
-    /// A new pair goes last. Only a new pair can want memory: `NoRoom` hands it back, and the map stays as it was.
+    /// Gives `k` the value `v`. A known key keeps its place and its stored spelling, its old value is the answer, and `k`
+    /// is dropped. A new pair goes last. Only a new pair can want memory: `NoRoom` hands it back, and the map stays as it
+    /// was.
     pub fn insert(&mut self, k: K, v: V) -> Result<Option<V>, NoRoom<(K, V)>>
         ensures old { IfOk result (λ old. old ≡ value_at K.eq self.old k) }
         ensures put { OnOk result (self.new ≡ put K.eq self.old k v) }
@@ -138,8 +139,9 @@ impl<K: Eq + Drop, V> LinearMap<K, V> {
         Ok(None)
     }
 
-    /// The value at the key `k`, to write to. For a new key, first room is asked for, and then the answer of `f` is added last.
-    /// Under a known key `f` is not called. Only a new key can want memory: `NoRoom` hands it back, and the map stays as it was.
+    /// The value at the key `k`, to write to. For a new key, first room is asked for, and then the answer of `f` is added
+    /// last. Under a known key `f` is not called. Only a new key can want memory: `NoRoom` hands it back, and the map stays
+    /// as it was.
     pub fn get_or_insert_with<F: FnOnce() -> V>(&mut self, k: K, f: F) -> Result<&mut V, NoRoom<K>>
         requires { value_at K.eq self.old k ≡ None → F.pre f }
         ensures* writes_back { sem 𝓛 (lends_put K.row V.row K.eq self.entry k result) }

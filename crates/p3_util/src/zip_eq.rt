@@ -67,7 +67,8 @@ where
     fn size_hint(&self) -> (usize, Option<usize>)
         ensures lower { IsWithinCount result.0 (zip_eq_left A.remaining self.now) }
         ensures upper { IfSome result.1 (UpTo (zip_eq_left A.remaining self.now)) }
-        ensures exact { (result.0 ≡ size (zip_eq_left A.remaining self.now)) × (result.1 ≡ Some (size (zip_eq_left A.remaining self.now))) }
+        ensures exact { let left = size (zip_eq_left A.remaining self.now) in
+            (result.0 ≡ left) × (result.1 ≡ Some left) }
     {
         let len = self.len();
         (len, Some(len))

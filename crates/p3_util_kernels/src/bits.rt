@@ -161,7 +161,8 @@ pub fn is_power_of_three(n: usize) -> bool
 fn powers_of_three() -> &'static [usize; 41]
     ensures powers { (e : ℕ) → e < 41 → slice_index result.now e ≡ 3 ^ e }
     ensures all { (e : ℕ) → 3 ^ e < 2 ^ 64 ↔ e < 41 }
-    ensures apart { (d e top : ℕ) → 2 ^ top ≤ 3 ^ d → 3 ^ d < 2 ^ (top + 1) → 2 ^ top ≤ 3 ^ e → 3 ^ e < 2 ^ (top + 1) → d ≡ e }
+    ensures apart { (d e top : ℕ) → 2 ^ top ≤ 3 ^ d → 3 ^ d < 2 ^ (top + 1)
+        → 2 ^ top ≤ 3 ^ e → 3 ^ e < 2 ^ (top + 1) → d ≡ e }
 {
     &POWERS_OF_THREE
 }

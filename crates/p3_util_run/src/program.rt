@@ -182,7 +182,8 @@ fn transposed(
     width: usize,
     height: usize,
 ) -> Result<Vec<u64>, RunFault>
-    ensures ok { IfOk result (λ v. (length numbers.now ≡ width * height) × IsTranspose width height numbers.now v.items) }
+    ensures ok { IfOk result (λ v. (length numbers.now ≡ width * height)
+        × IsTranspose width height numbers.now v.items) }
     ensures err { IfErr result (λ e. (e ≡ RunFault.Memory) ⊎ ((length numbers.now ≢ width * height)
         × (e ≡ RunFault.NotTheLength width height (length numbers.now)))) }
 {

@@ -1,4 +1,5 @@
-//! The iterators that lend the pairs, the keys or the values of a map, in its order. Each is seen as the list of what it has left.
+//! The iterators that lend the pairs, the keys or the values of a map, in its order. Each is seen as the list of what it
+//! has left.
 ghost use Rattle.std.specs.Prelude.{◌≡◌, Some, length, IfSome};
 ghost use Rattle.std.specs.Iterator.{item_count, at_most, UpTo};
 ghost use Rattle.std.specs.Iterator.SizeHint.{IsWithinCount};

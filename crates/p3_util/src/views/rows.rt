@@ -138,7 +138,8 @@ fn exchange_in_two_rows<T, const N: usize>(
     requires last_row { s < length rows.old }
     requires first { c < N }
     requires second { d < N }
-    ensures { flat rows.new ≡ swap (flat rows.old) (length (flat (take r rows.old)) + c) (length (flat (take s rows.old)) + d) }
+    ensures { flat rows.new ≡ swap (flat rows.old)
+        (length (flat (take r rows.old)) + c) (length (flat (take s rows.old)) + d) }
 {
     let (front, back) = rows.split_at_mut(s);
     exchange_between(&mut front[r], c, &mut back[0], d);
