@@ -1,4 +1,4 @@
-//! Callers of the crates' modules, proved from the public contracts alone.
+//! Callers of the crates' modules, proved from their public contracts and lemmas.
 
 pub mod array_serialization;
 pub mod bits;

@@ -26,7 +26,7 @@ pub fn transpose_by_way_of<T: Copy>(
     fits
 }
 
-/// Transposes `matrix` into `scratch` and back, which leaves `matrix` as it was.
+/// Transposes `matrix` into `scratch` and back, which leaves `matrix` as it was and its transpose in `scratch`.
 pub fn transpose_there_and_back<T: Copy>(
     matrix: &mut [T],
     scratch: &mut [T],
@@ -35,7 +35,8 @@ pub fn transpose_there_and_back<T: Copy>(
 )
     requires matrix_fits { length matrix.old ≡ width * height }
     requires scratch_fits { length scratch.old ≡ width * height }
-    ensures { matrix.new ≡ matrix.old }
+    ensures back { matrix.new ≡ matrix.old }
+    ensures there { IsTranspose width height matrix.old scratch.new }
 {
     transpose(matrix, scratch, width, height);
     transpose(scratch, matrix, height, width);
