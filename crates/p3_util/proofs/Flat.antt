@@ -1,10 +1,11 @@
 -- What a write or an exchange in the rows does to the list of their items.
-use Rattle.std.proofs.Common.{ℕ, zero, suc, ◌≡◌, ◌+◌, ◌-◌, ◌*◌, ◌<◌, ◌≤◌, ◌≢◌, List, [], ◌∷◌, ◌++◌, length, get_or, set, take, drop, refl, sym, ap, ◌∙◌, arith, length-append, get_or-set_other, get_or-set_same, zero-add, add_assoc, ◌^◌, ◌/◌, max}
+use Rattle.std.proofs.Common.{ℕ, zero, suc, ◌≡◌, ◌+◌, ◌-◌, ◌*◌, ◌<◌, ◌≤◌, ◌≢◌, List, [], ◌∷◌, ◌++◌, length, get_or, set, take, drop, refl, sym, ap, ◌∙◌, arith, length-append, get_or-set_other, get_or-set_same, zero-add, add_assoc, ◌^◌, ◌/◌, max, subst, Some, slice_get}
 use Rattle.std.proofs.lemmas.Nat.{le-div}
 use Rattle.std.proofs.Math.Nat.{mul-le-mul_right}
 use Rattle.std.proofs.Math.Seq.{take-set-lt}
 use Rattle.std.specs.List.{swap}
 use Rattle.std.proofs.lemmas.List.{length-set, set-append_left, set-append_right, set-set, set_comm, take-set, drop-set-add, drop-set-lt, take-append-drop, get_or-take, get_or_default, length-take, take_all, get_or-drop}
+use Rattle.std.proofs.lemmas.Option.{slice_get-get_or}
 use Rattle.std.proofs.lemmas.List.Edits.{swap_is}
 use Rattle.std.proofs.lemmas.List.Concat.{get_or-flat_map}
 use Rattle.p3_util.specs.Flat.{counted_rows, flat}
@@ -173,15 +174,37 @@ module _ {A : Type 0} where
       let place : i ≡ start rows r + c = omega arith in
       ap (λ k. get_or (flat rows) k d) place ∙ get_or-flat rows r c d lr inside ∙ ap (λ l. get_or l c d) same
 
-  -- the same of the rows whose items a usize can count
-  pub item-at-counted : (rows seen : List (List A)) (r c n i : ℕ) (y : List A) (d : A) → seen ≡ counted_rows n rows → r < length seen → c < n → length y ≡ n
-      → y ≡ get_or rows r y → start seen r ≡ r * n → i ≡ r * n + c → get_or (flat (counted_rows n rows)) i d ≡ get_or y c d
-  item-at-counted rows seen r c n i y d is lr lc len row begins at =
-      let count = (2 ^ 64 - 1) / max n 1 in
-      let lr' : r < length (take count rows) = rw is at lr in
-      let inside : r < count = omega (arith, length-take count rows) in
-      let row' : y ≡ get_or seen r y = row ∙ sym (get_or-take count rows r y inside) ∙ ap (λ l. get_or l r y) (sym is) in
-      ap (λ l. get_or (flat l) i d) (sym is) ∙ item-at seen r c n i y d lr lc len row' begins at
+  -- item c of row r, where the rows seen are those whose items a usize can count
+  module _ (rows seen : List (List A)) (r c n i : ℕ) (is : seen ≡ counted_rows n rows) (lr : r < length seen) (lc : c < n) (len : length (get_or rows r []) ≡ n)
+      (begins : start seen r ≡ r * n) (at : i ≡ r * n + c) where
+    abbrev count : ℕ
+    count = (2 ^ 64 - 1) / max n 1
+
+    among : r < length (take count rows)
+    among = rw is at lr
+
+    counted : r < count
+    counted = omega (arith, among, length-take count rows)
+
+    same : get_or rows r [] ≡ get_or seen r []
+    same = sym (get_or-take count rows r [] counted) ∙ ap (λ l. get_or l r []) (sym is)
+
+    -- it is written among all rows, and so among those
+    pub set-at-counted : (w : A) → flat (counted_rows n (set rows r (set (get_or rows r []) c w))) ≡ set (flat (counted_rows n rows)) i w
+    set-at-counted w =
+        let row = set (get_or rows r []) c w in
+        let written : take count (set rows r row) ≡ set seen r row = take-set-lt count rows r row counted ∙ ap (λ l. set l r row) (sym is) in
+        ap flat written ∙ put-at seen r c n i row w lr lc (ap length (sym same) ∙ len) begins at (ap (λ l. set l c w) same) ∙ ap (λ l. set (flat l) i w) is
+
+    -- it is read among all rows, and so among those
+    pub get-at-counted : (x : A) → x ≡ get_or (get_or rows r []) c x → slice_get (flat (counted_rows n rows)) i ≡ Some x
+    get-at-counted x read =
+        let inside : c < length (get_or seen r []) = rw (sym same) (omega (arith, len)) in
+        let place : start seen r + c ≡ i = omega (arith, begins, at) in
+        let below : i < length (flat seen) = subst (λ (k : ℕ). k < length (flat seen)) place (start-below seen r c lr inside) in
+        ap (λ l. slice_get (flat l) i) (sym is) ∙ slice_get-get_or (flat seen) i x below
+        ∙ ap Some (item-at seen r c n i (get_or seen r []) x lr lc (ap length (sym same) ∙ len) (get_or_default seen r [] (get_or seen r []) lr) begins at
+        ∙ ap (λ l. get_or l c x) (sym same) ∙ sym read)
 
   -- a usize can count the items of all the rows
   pub counted-all : (n : ℕ) (rows : List (List A)) → length rows < 2 ^ 64 → length rows * n < 2 ^ 64 → counted_rows n rows ≡ rows

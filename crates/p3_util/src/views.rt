@@ -5,12 +5,14 @@ ghost use Rattle.std.specs.Prelude.{◌*◌, ◌^◌, ◌<◌, SomeIff};
 mod base_iter;
 mod base_slice;
 mod base_slice_mut;
+mod loans;
 mod rows;
 mod vectors;
 
 pub use base_iter::BaseIter;
 pub use base_slice::{BaseSlice, as_base_slice};
-pub use base_slice_mut::{BaseSliceMut, as_base_slice_mut};
+pub use base_slice_mut::{BaseSliceMut, Flattened, as_base_slice_mut};
+pub use rows::Rows;
 pub use vectors::{flatten_to_base, reconstitute_from_base};
 
 /// The number of items in `count` arrays of `n` items, or `None` where a `usize` cannot hold it.

@@ -1,5 +1,5 @@
 -- What a kernel leaves in a view of all rows, it leaves in the rows.
-use Rattle.std.proofs.Common.{ℕ, ◌≡◌, ◌*◌, ◌^◌, ◌<◌, List, length, sym, ap, ◌∙◌, subst}
+use Rattle.std.proofs.Common.{ℕ, zero, suc, ◌≡◌, ◌*◌, ◌^◌, ◌<◌, List, [], ◌∷◌, length, set, slice_get, None, refl, sym, ap, ◌∙◌, subst}
 use Rattle.p3_util.proofs.Flat.{counted-all}
 use Rattle.p3_util.specs.Flat.{counted_rows, flat}
 use Rattle.p3_util_kernels.specs.Reversal.{IsReversal}
@@ -24,3 +24,13 @@ module _ {A : Type 0} (n : ℕ) (old start new : List (List A)) where
   pub transpose-whole : (width height : ℕ) (input : List A) → IsTranspose width height input (flat (counted_rows n new)) → start ≡ old → length old < 2 ^ 64
       → length old * n < 2 ^ 64 → (end : List (List A)) → end ≡ new → length end ≡ length old → IsTranspose width height input (flat end)
   transpose-whole width height input p is-old few fits = whole_view (λ _ l. IsTranspose width height input l) is-old few fits p
+
+  pub set-whole : (i : ℕ) (w : A) → flat (counted_rows n new) ≡ set (flat (counted_rows n start)) i w → start ≡ old → length old < 2 ^ 64 → length old * n < 2 ^ 64
+      → (end : List (List A)) → end ≡ new → length end ≡ length old → flat end ≡ set (flat old) i w
+  set-whole i w p is-old few fits = whole_view (λ k l. l ≡ set k i w) is-old few fits p
+
+-- a write at a place that a list has not changes nothing
+pub set-none : {A : Type 0} (xs : List A) (i : ℕ) (w : A) → slice_get xs i ≡ None → set xs i w ≡ xs
+set-none [] i w none = refl
+set-none (x ∷ xs) zero w none = search none
+set-none (x ∷ xs) (suc i) w none = ap (λ l. x ∷ l) (set-none xs i w none)

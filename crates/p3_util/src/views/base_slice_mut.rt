@@ -1,27 +1,27 @@
 //! A mutable slice of arrays, seen as the list of their items.
 
 ghost use Rattle.std.specs.Prelude.{◌≡◌, ◌==◌, ◌*◌, ◌^◌, ◌<◌, ◌≤◌, List, length, slice_get};
-ghost use Rattle.std.proofs.Common.{refl, ◌∙◌};
 ghost use Rattle.p3_util.specs.Flat.{counted_rows, flat};
+ghost use Rattle.std.specs.Borrow.{sem};
 ghost use Rattle.std.specs.Option.{option_copied, option_copied_mut};
 
 use super::BaseIter;
-use super::rows::Row;
+use super::rows::Rows;
 use p3_util_kernels::places::{Cells, Places};
 
-/// Mutable rows, seen as the list of their items, row after row.
+/// Rows behind `S`, seen as the list of their items, row after row.
 ///
-/// What the view holds stands in the rows when the borrow ends. Contracts see the list as `R.items` of `rows`: for
-/// arrays of `N` items, `flat` of those rows whose items a `usize` can count, which are all rows of a view that
+/// What the view holds stands in the rows when the borrow ends. Contracts see the list as `S.items` of `rows`: for a `&mut`
+/// to arrays of `N` items, `flat` of those rows whose items a `usize` can count, which are all rows of a view that
 /// [`as_base_slice_mut`] makes.
 #[derive(Drop)]
-pub struct RowsMut<'a, R> {
+pub struct Flattened<S> {
     /// The rows.
-    pub rows: &'a mut [R],
+    pub rows: S,
 }
 
 /// A mutable slice of arrays of `N` items, seen as the list of their items, array after array. For `N` = 0 it is empty.
-pub type BaseSliceMut<'a, Base, const N: usize> = RowsMut<'a, [Base; N]>;
+pub type BaseSliceMut<'a, Base, const N: usize> = Flattened<&'a mut [[Base; N]]>;
 
 /// The items of the arrays in `buf`, array after array, to be exchanged or written. Nothing is copied.
 ///
@@ -31,89 +31,93 @@ pub fn as_base_slice_mut<Base, const N: usize>(buf: &mut [[Base; N]]) -> BaseSli
     ensures rows { result.rows ≡ buf.entry }
     ensures items { flat (counted_rows N result.rows.now) ≡ flat buf.old }
 {
-    RowsMut { rows: buf }
+    Flattened { rows: buf }
 }
 
-impl<'a, R: Row> RowsMut<'a, R> {
+impl<S: Rows> Flattened<S> {
+    ghost use Rattle.p3_util.specs.ViewLends.{lends_item};
+    ghost use Rattle.p3_util.specs.contracts.views.base_slice_mut.Flattened.{the_row};
+
     /// The number of items.
     pub fn len(&self) -> usize
-        ensures { result ≡ length (R.items self.now.rows.now) }
+        ensures { result ≡ length (S.items self.now.rows) }
     {
-        R::items_of(self.rows).len()
+        self.rows.items_of().len()
     }
 
     /// Whether there is no item.
     pub fn is_empty(&self) -> bool
-        ensures { result ≡ (length (R.items self.now.rows.now) == 0) }
+        ensures { result ≡ (length (S.items self.now.rows) == 0) }
     {
-        R::items_of(self.rows).is_empty()
+        self.rows.items_of().is_empty()
     }
 
     /// Item `i`, or `None` where there are no more than `i` items.
-    pub fn get(&self, i: usize) -> Option<&R::Item>
-        ensures { option_copied result ≡ slice_get (R.items self.now.rows.now) i }
+    pub fn get(&self, i: usize) -> Option<&S::Item>
+        ensures { option_copied result ≡ slice_get (S.items self.now.rows) i }
     {
-        R::items_of(self.rows).get(i)
+        self.rows.items_of().get(i)
     }
 
     /// Item `i`, to be written, or `None` where there are no more than `i` items.
-    pub fn get_mut(&mut self, i: usize) -> Option<&mut R::Item>
-        ensures { option_copied_mut result ≡ slice_get (R.items self.old.rows.now) i }
+    ///
+    /// When the reference ends, the same rows end with what was left behind it in the place of that item, and with every
+    /// other item as it was.
+    pub fn get_mut(&mut self, i: usize) -> Option<&mut S::Item>
+        ensures* writes_back { sem 𝓛 (lends_item (the_row S.row) S.Item.row
+            (λ v. S.items v.rows) (λ a b. S.same_rows a.rows b.rows) self.entry i result) }
+        ensures item { option_copied_mut result ≡ slice_get (S.items self.old.rows) i }
     {
-        if i < self.len() {
-            Some(R::item_mut(self.rows, i))
-        } else {
-            None
-        }
+        self.rows.item_mut(i)
     }
 
     /// The items, in order.
-    pub fn iter(&self) -> BaseIter<'_, R::Item>
-        ensures { result ≡ R.items self.now.rows.now }
+    pub fn iter(&self) -> BaseIter<'_, S::Item>
+        ensures { result ≡ S.items self.now.rows }
     {
-        BaseIter::new(R::items_of(self.rows))
+        BaseIter::new(self.rows.items_of())
     }
 }
 
-impl<'a, R: Row> Places for RowsMut<'a, R> {
-    type Item = R::Item;
+impl<S: Rows> Places for Flattened<S> {
+    type Item = S::Item;
 
-    ghost items = { λ s. R.items s.rows.now };
+    ghost items = { λ v. S.items v.rows };
 
-    ghost same_holder = { λ a b. a.rows.ghost_name ≡ b.rows.ghost_name };
+    ghost same_holder = { λ a b. S.same_rows a.rows b.rows };
 
     fn len(&self) -> usize {
-        RowsMut::len(self)
+        Flattened::len(self)
     }
 
     fn exchange(&mut self, i: usize, j: usize) {
-        R::exchange(self.rows, i, j);
+        self.rows.exchange(i, j);
     }
 
-    ghost same_holder_refl = { λ a. refl };
+    ghost same_holder_refl = { λ a. S.same_rows_refl a.rows };
 
-    ghost same_holder_trans = { λ a b c p q. p ∙ q };
+    ghost same_holder_trans = { λ a b c p q. S.same_rows_trans a.rows b.rows c.rows p q };
 }
 
-impl<'a, R: Row> Cells for RowsMut<'a, R>
+impl<S: Rows> Cells for Flattened<S>
 where
-    R::Item: Copy,
+    S::Item: Copy,
 {
-    type Item = R::Item;
+    type Item = S::Item;
 
-    ghost items = { λ s. R.items s.rows.now };
+    ghost items = { λ v. S.items v.rows };
 
-    ghost same_holder = { λ a b. a.rows.ghost_name ≡ b.rows.ghost_name };
+    ghost same_holder = { λ a b. S.same_rows a.rows b.rows };
 
     fn len(&self) -> usize {
         Places::len(self)
     }
 
-    fn put(&mut self, i: usize, v: R::Item) {
-        R::put(self.rows, i, v);
+    fn put(&mut self, i: usize, v: S::Item) {
+        self.rows.put(i, v);
     }
 
-    ghost same_holder_refl = { λ a. refl };
+    ghost same_holder_refl = { λ a. S.same_rows_refl a.rows };
 
-    ghost same_holder_trans = { λ a b c p q. p ∙ q };
+    ghost same_holder_trans = { λ a b c p q. S.same_rows_trans a.rows b.rows c.rows p q };
 }

@@ -1,71 +1,89 @@
 //! Arrays as rows of one list of items.
 
-ghost use Rattle.std.specs.Prelude.{◌≡◌, ℕ, ◌+◌, ◌*◌, ◌^◌, ◌<◌, ◌≤◌, List, [], length, slice_index_or, slice_set, swap, take};
+ghost use Rattle.std.specs.Prelude.{◌≡◌, ℕ, ◌+◌, ◌*◌, ◌^◌, ◌<◌, ◌≤◌, List, length, slice_get, slice_index_or, slice_set, swap, take};
+ghost use Rattle.std.proofs.Common.{refl, ◌∙◌};
+ghost use Rattle.std.specs.Borrow.{sem};
+ghost use Rattle.std.specs.Option.{option_copied_mut};
 ghost use Rattle.p3_util.specs.Flat.{counted_rows, flat};
 
+use super::loans::item_of_rows;
 use std::mem;
 
-/// A row of as many items as each of its kind.
+/// A reference to rows of as many items as each other, to be exchanged or written.
 ///
-/// Contracts see a list of rows as the list of their items, row after row, as far as a `usize` can count them.
-pub trait Row {
+/// Contracts see it as the list of the items, row after row, as far as a `usize` can count them.
+pub trait Rows {
+    ghost use Rattle.p3_util.specs.ViewLends.{lends_item};
+
+    /// What stands in the rows.
     type Item;
 
-    ghost items: { List Self → List Self.Item };
+    ghost items: { Self → List Self.Item };
+
+    ghost same_rows: { Self → Self → Type 0 };
 
     /// The items of all rows, row after row.
-    fn items_of(rows: &[Self]) -> &[Self::Item]
-        ensures { result.now ≡ items rows.now };
+    fn items_of(&self) -> &[Self::Item]
+        ensures { result.now ≡ items self.now };
 
-    /// Exchanges the items at places `i` and `j` among the items of all rows.
-    fn exchange(rows: &mut [Self], i: usize, j: usize)
-        requires first { i < length (items rows.old) }
-        requires second { j < length (items rows.old) }
-        ensures { items rows.new ≡ swap (items rows.old) i j };
+    /// Item `i` of all rows, to be written, or `None` where there are no more than `i`.
+    fn item_mut(&mut self, i: usize) -> Option<&mut Self::Item>
+        ensures* writes_back { sem 𝓛 (lends_item Self.row Self.Item.row items same_rows self.entry i result) }
+        ensures item { option_copied_mut result ≡ slice_get (items self.old) i };
 
-    /// The item at place `i` among the items of all rows, to be written.
-    fn item_mut(rows: &mut [Self], i: usize) -> &mut Self::Item
-        requires { i < length (items rows.old) }
-        ensures { result.now ≡ slice_index_or (items rows.old) i result.now };
+    /// Exchanges items `i` and `j` of all rows.
+    fn exchange(&mut self, i: usize, j: usize)
+        requires first { i < length (items self.old) }
+        requires second { j < length (items self.old) }
+        ensures exchanged { items self.new ≡ swap (items self.old) i j }
+        ensures rows { same_rows self.old self.new };
 
-    /// Puts `v` at place `i` among the items of all rows.
-    fn put(rows: &mut [Self], i: usize, v: Self::Item)
+    /// Puts `v` in the place of item `i` of all rows.
+    fn put(&mut self, i: usize, v: Self::Item)
     where
         Self::Item: Drop,
-        requires { i < length (items rows.old) }
-        ensures { items rows.new ≡ slice_set (items rows.old) i v };
+        requires { i < length (items self.old) }
+        ensures written { items self.new ≡ slice_set (items self.old) i v }
+        ensures rows { same_rows self.old self.new };
+
+    ghost same_rows_refl: { (a : Self) → same_rows a a };
+
+    ghost same_rows_trans: { (a b c : Self) → same_rows a b → same_rows b c → same_rows a c };
 }
 
-impl<T, const N: usize> Row for [T; N] {
+impl<'a, T, const N: usize> Rows for &'a mut [[T; N]] {
     type Item = T;
 
-    ghost items = { λ rows. flat (counted_rows N rows) };
+    ghost items = { λ rows. flat (counted_rows N rows.now) };
 
-    fn items_of(rows: &[Self]) -> &[T] {
-        counted(rows).as_flattened()
+    ghost same_rows = { λ a b. a.ghost_name ≡ b.ghost_name };
+
+    fn items_of(&self) -> &[T] {
+        counted(self).as_flattened()
     }
 
-    fn exchange(rows: &mut [Self], i: usize, j: usize) {
-        let count = counted(rows).len();
-        exchange_items(&mut rows[..count], i, j);
+    fn item_mut(&mut self, i: usize) -> Option<&mut T> {
+        item_of_rows(self, i)
     }
 
-    fn item_mut(rows: &mut [Self], i: usize) -> &mut T {
-        let (r, c) = place_of(counted(rows), i);
-        item_of_row(&mut rows[r], c)
+    fn exchange(&mut self, i: usize, j: usize) {
+        exchange_counted(self, i, j);
     }
 
-    fn put(rows: &mut [Self], i: usize, v: T)
+    fn put(&mut self, i: usize, v: T)
     where
         T: Drop,
     {
-        let count = counted(rows).len();
-        put_item(&mut rows[..count], i, v);
+        put_counted(self, i, v);
     }
+
+    ghost same_rows_refl = { λ a. refl };
+
+    ghost same_rows_trans = { λ a b c p q. p ∙ q };
 }
 
 /// The rows whose items a `usize` can count.
-fn counted<T, const N: usize>(rows: &[[T; N]]) -> &[[T; N]]
+pub(super) fn counted<T, const N: usize>(rows: &[[T; N]]) -> &[[T; N]]
     ensures rows { result.now ≡ counted_rows N rows.now }
     ensures fits { length result.now * N < 2 ^ 64 }
 {
@@ -75,6 +93,15 @@ fn counted<T, const N: usize>(rows: &[[T; N]]) -> &[[T; N]]
     } else {
         rows
     }
+}
+
+fn exchange_counted<T, const N: usize>(rows: &mut [[T; N]], i: usize, j: usize)
+    requires first { i < length (flat (counted_rows N rows.old)) }
+    requires second { j < length (flat (counted_rows N rows.old)) }
+    ensures { flat (counted_rows N rows.new) ≡ swap (flat (counted_rows N rows.old)) i j }
+{
+    let count = counted(rows).len();
+    exchange_items(&mut rows[..count], i, j);
 }
 
 fn exchange_items<T, const N: usize>(rows: &mut [[T; N]], i: usize, j: usize)
@@ -94,6 +121,14 @@ fn exchange_items<T, const N: usize>(rows: &mut [[T; N]], i: usize, j: usize)
     }
 }
 
+fn put_counted<T: Drop, const N: usize>(rows: &mut [[T; N]], i: usize, v: T)
+    requires { i < length (flat (counted_rows N rows.old)) }
+    ensures { flat (counted_rows N rows.new) ≡ slice_set (flat (counted_rows N rows.old)) i v }
+{
+    let count = counted(rows).len();
+    put_item(&mut rows[..count], i, v);
+}
+
 fn put_item<T: Drop, const N: usize>(rows: &mut [[T; N]], i: usize, v: T)
     requires fits { length rows.old * N < 2 ^ 64 }
     requires place { i < length (flat rows.old) }
@@ -104,7 +139,7 @@ fn put_item<T: Drop, const N: usize>(rows: &mut [[T; N]], i: usize, v: T)
 }
 
 /// The row in which item `i` of all rows stands, and its place in that row.
-fn place_of<T, const N: usize>(rows: &[[T; N]], i: usize) -> (usize, usize)
+pub(super) fn place_of<T, const N: usize>(rows: &[[T; N]], i: usize) -> (usize, usize)
     requires fits { length rows.now * N < 2 ^ 64 }
     requires item { i < length (flat rows.now) }
     ensures row { result.0 < length rows.now }
@@ -154,14 +189,6 @@ fn exchange_between<T, const N: usize>(a: &mut [T; N], i: usize, b: &mut [T; N],
     ensures second_len { length b.old ≡ N }
 {
     mem::swap(&mut a[i], &mut b[j]);
-}
-
-fn item_of_row<T, const N: usize>(row: &mut [T; N], i: usize) -> &mut T
-    requires { i < N }
-    ensures item { result.now ≡ slice_index_or row.old i result.now }
-    ensures len { length row.old ≡ N }
-{
-    &mut row[i]
 }
 
 fn put_in_row<T: Drop, const N: usize>(row: &mut [T; N], i: usize, v: T)

@@ -1,10 +1,11 @@
 //! Callers of the views: the kernels over rows.
 
-ghost use Rattle.std.specs.Prelude.{◌≡◌, ◌*◌, ◌^◌, ◌<◌, Some, length, slice_get};
+ghost use Rattle.std.specs.Prelude.{◌≡◌, ◌*◌, ◌^◌, ◌<◌, Some, length, slice_get, slice_set};
 ghost use Rattle.p3_util.specs.Flat.{flat};
 ghost use Rattle.p3_util_kernels.specs.Reversal.{IsReversal, IsZeroOrPowerOfTwo};
 ghost use Rattle.p3_util_kernels.specs.Transpose.{IsTranspose};
 
+use p3_util::views::{Flattened, Rows};
 use p3_util::{as_base_slice, as_base_slice_mut};
 use p3_util_kernels::places::{Cells, Places, Swaps, Writes};
 use p3_util_kernels::reverse::reverse_index_bits_on;
@@ -55,6 +56,27 @@ fn transpose_to_cells<C: Cells>(input: &[C::Item], cells: &mut C, width: usize, 
     let mut out = Writes::new(cells);
     transpose_on(input, &mut out, width, height);
     let _ = out.into_inner();
+}
+
+/// Sets item `i` of the rows taken as one list, if there is one: what is written through the loan stands in the rows in the
+/// place of that item alone.
+pub fn set_item<T: Drop, const N: usize>(rows: &mut [[T; N]], i: usize, item: T)
+    requires { length rows.old * N < 2 ^ 64 }
+    ensures { flat rows.new ≡ slice_set (flat rows.old) i item }
+{
+    let mut view = as_base_slice_mut(rows);
+    set_item_of_view(&mut view, i, item);
+}
+
+fn set_item_of_view<S: Rows>(view: &mut Flattened<S>, i: usize, item: S::Item)
+where
+    S::Item: Drop,
+    ensures items { S.items view.new.rows ≡ slice_set (S.items view.old.rows) i item }
+    ensures rows { S.same_rows view.old.rows view.new.rows }
+{
+    if let Some(place) = view.get_mut(i) {
+        *place = item;
+    }
 }
 
 /// Item `i` of the rows taken as one list: item `i % N` of row `i / N`.
