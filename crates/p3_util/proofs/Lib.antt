@@ -1,6 +1,7 @@
 pub mod FilledChunk
 pub mod Flat
 pub mod JsonLists
+pub mod Loans
 pub mod MapLemmas
 pub mod Moved
 pub mod OneAnswer

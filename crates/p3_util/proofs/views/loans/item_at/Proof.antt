@@ -3,9 +3,9 @@
 use Rattle.std.proofs.Common.{◌≡◌, ℕ, List, [], ◌∷◌, ◌<◌, ◌*◌, ◌^◌, refl, sym, ap, ◌∙◌, w64, MutBor, slice_set, slice_index_or, length}
 use Rattle.std.proofs.raw_atomic.Walks.{proved}
 use Rattle.std.proofs.lemmas.List.{get_or_default}
-use base.Logic.{id⊢, emp, guard_i}
+use base.Logic.{id⊢}
 use base.Fml.{ftrue, flft}
-use mir.Syntax.{Args, Fn, named, a_type, a_number, ty_array}
+use mir.Syntax.{Fn, named}
 use mir.MapTy.{inst_fn}
 use mir.Val.{Val, vptr, vint}
 use prog.Memory.{size}
@@ -21,8 +21,7 @@ use denote.Builtin.{usize}
 use denote.Exit.{yes, no}
 use denote.Follow.{follows, follows_then}
 use denote.Laws.{shows}
-use denote.Param.{param, arg, number, layout, layouts, ArrayAt}
-use denote.Param.Laws.{param_laws, arg_laws, number_array_laws}
+use denote.Param.{number, layout}
 use denote.Plain.{uint_vals, uint_Tells, uint_Makes}
 use denote.RattleType.{RattleType, owns}
 use denote.Ref.{MutRef, mut_vals, mut_Tells}
@@ -34,6 +33,7 @@ use denote.Triple.Clauses.{Ended, Lasts, lasts}
 use denote.Triple.Spec.{triple_of}
 use denote.Triple.Table.{framed}
 use denote.Triple.Walked.{Stays, stay_dropped, walk_of, ends_at, Goes-dropped, Goes-spent_slice}
+use Rattle.p3_util.proofs.Loans.{inst, Row, ItemArg, RowArg, item_laws, row_laws, known}
 use Rattle.p3_util.specs.contracts.views.loans.row_of as row
 use Rattle.p3_util.specs.contracts.views.loans.item_of_row as item
 use Rattle.p3_util.specs.contracts.views.loans.item_at as F
@@ -44,30 +44,14 @@ use Rattle.p3_util.proofs.views.loans.item_at.Statement as stated
 use Rattle.p3_util.proofs.views.loans.item_at.Code as code
 
 module _ (X : RattleType) (n : ℕ) where
-  abbrev inst : Args
-  inst = layouts (a_type ∷ a_number ∷ []) (X, (number n, tt))
-
   abbrev function : Fn
-  function = inst_fn inst code.function
-
-  -- the types of an item and of a row, as this function has them, and as it passes them on
-  abbrev Item : RattleType
-  Item = param 0 X
-
-  abbrev Row : RattleType
-  Row = ArrayAt Item (param 1 (number n))
-
-  abbrev ItemArg : RattleType
-  ItemArg = arg (layout X) yes Item
-
-  abbrev RowArg : RattleType
-  RowArg = arg (ty_array (layout X) n) no Row
+  function = inst_fn (inst X n) code.function
 
   abbrev ended : Ended
   ended = F.ended X (number n)
 
   abbrev stayed : Stays ended.signature.params ended.kept
-  stayed = (stay_dropped (mut_slice_of (0 ∷ []) tt (plain (λ _. Row))) no, (stay_dropped (plain (λ _. usize)) yes, (stay_dropped (plain (λ _. usize)) yes, tt)))
+  stayed = (stay_dropped (mut_slice_of (0 ∷ []) tt (plain (λ _. Row X n))) no, (stay_dropped (plain (λ _. usize)) yes, (stay_dropped (plain (λ _. usize)) yes, tt)))
 
 pub item_at_spec : {M : Type 1} → stated.statement M
 item_at_spec 𝓤 𝓛 𝓜 𝓡 wired X n L small =
@@ -79,7 +63,7 @@ item_at_spec 𝓤 𝓛 𝓜 𝓡 wired X n L small =
     (λ κs qs bounds a _ are.
     let κ = κs.0 in let κT = κs.1.0 in let κN = κs.1.1.0 in let q = qs.0 in let qT = qs.1.0 in let qN = qs.1.1.0 in
     let rows = a.0 in let r = a.1.0 in let k = a.1.1.0 in
-    let R = RowArg X n in let LR = arg_laws (ty_array (layout X) n) no (Row X n) (number_array_laws (Item X n) (param_laws 0 X L) (param 1 (number n)) refl) refl in
+    let R = RowArg X n in let LR = row_laws X n L in
     let y : (walk_of 𝓛 (ended X n) (stayed X n) c).Ghost = ((κs, qs, bounds, a, (mut_slice_vals rows, (uint_vals w64 r, (uint_vals w64 k, tt)))), tt) in
     qed 𝓛 (((‵ (flft κ q) ⊛ ‵ (flft κT qT) ⊛ ‵ (flft κN qN) ⊛ ‵ ftrue) ⊛ ‵ (owns (MutSlice (named 0) κ (Row X n) ∷ usize ∷ usize ∷ []) a y.0.4))
     ∷ raw (fact 𝓤 (κT ⊑ X.lives)) ∷ raw (fact 𝓤 (κN ⊑ [])) ∷ raw (fact 𝓤 (n * size (layout X) < 2 ^ 63)) ∷ raw (fact 𝓤 (r < length rows.now)) ∷ raw (fact 𝓤 (k < n)) ∷ []) ∵
@@ -94,8 +78,8 @@ item_at_spec 𝓤 𝓛 𝓜 𝓡 wired X n L small =
     move ! (1 ∷ []) $ split ! $ move ! (1 ∷ []) $ split ! $ move ! (1 ∷ []) $ split ! $ nothing ! $ move ! (3 ∷ 0 ∷ []) $ join ! $ move ! (3 ∷ 0 ∷ []) $ join ! $
     -- [the loan's token and T's; N's; nothing; the rows]
     owned ! usize _ (uint_Makes 𝓛 w64) r (vint w64 r ∷ []) (refl, are.1.0.1) $ nothing ! $ move ! (1 ∷ 0 ∷ []) $ fjoin ! $ move ! (4 ∷ 0 ∷ []) $ fjoin ! $ move ! (1 ∷ 0 ∷ []) $ join ! $
-    use0 𝓛 (raw (fact 𝓤 (r < length rows.now))) (guard_i 𝓤 (r < length rows.now) (emp 𝓤) within) $
-    use0 𝓛 (raw (fact 𝓤 (κT ⊑ X.lives))) (guard_i 𝓤 (κT ⊑ X.lives) (emp 𝓤) lives) $ join ! $ move ! (1 ∷ 0 ∷ []) $
+    use0 𝓛 (raw (fact 𝓤 (r < length rows.now))) (known 𝓤 within) $
+    use0 𝓛 (raw (fact 𝓤 (κT ⊑ X.lives))) (known 𝓤 lives) $ join ! $ move ! (1 ∷ 0 ∷ []) $
     use2 𝓛 (raw (G1.pre z1)) (id⊢ 𝓤 _) $
     calls_at ! (framed 𝓤 H 𝓜 𝓣) G1 (row-thm.met 𝓤 𝓛 𝓜 𝓡 (code.calls-p3_util::views::loans::row_of 𝓡.env wired) R LR) z1 (and_then ! (get ! refl) (and_then ! (get ! refl) (no_more !))) (λ u1.
     use1 𝓛 (later (some (λ (t : MutBor (List X.Denot)). ((‵ (flft κ q) ⊛ ‵ (flft κT qT) ⊛ ‵ ftrue) ⊛ ‵ ((MutRef (named 0) κ R).own_val t (u1 ∷ [])))
@@ -106,15 +90,15 @@ item_at_spec 𝓤 𝓛 𝓜 𝓡 wired X n L small =
     lands_as ! (ap only e1) refl (tt, tt) $
     rewrite ! 0 (λ (vs : List Val). ‵ ((MutRef (named 0) κ R).own_val t vs)) e1 refl $
     -- [the row; how the rows follow it; the tokens; N's token; nothing]
-    let T = ItemArg X n in let LT = arg_laws (layout X) yes (Item X n) (param_laws 0 X L) refl in
+    let T = ItemArg X n in let LT = item_laws X n L in
     let G2 = triple_of 𝓛 (item.signature T (number n)) (item.spec T (number n) 𝓛 𝓜.mem 𝓡.returns) in
     let z2 : G2.Ghost = (((κ, (κT, (κN, tt))), (q, (qT, (qN, tt))), bounds, (t, (k, tt)), (mut_vals t, (vint w64 k ∷ [], tt))), tt) in
     move ! (2 ∷ []) $ split ! $ move ! (1 ∷ []) $ split ! $ move ! (5 ∷ 1 ∷ []) $ join ! $ move ! (1 ∷ 0 ∷ []) $ join ! $ move ! (1 ∷ 0 ∷ []) $ join ! $
     owned ! usize _ (uint_Makes 𝓛 w64) k (vint w64 k ∷ []) (refl, are.1.1.0.1) $ nothing ! $ move ! (1 ∷ 0 ∷ []) $ fjoin ! $ move ! (2 ∷ 0 ∷ []) $ fjoin ! $ move ! (1 ∷ 0 ∷ []) $ join ! $
-    use0 𝓛 (raw (fact 𝓤 (k < n))) (guard_i 𝓤 (k < n) (emp 𝓤) column) $
-    use0 𝓛 (raw (fact 𝓤 (n * size (layout X) < 2 ^ 63))) (guard_i 𝓤 (n * size (layout X) < 2 ^ 63) (emp 𝓤) room) $ join ! $
-    use0 𝓛 (raw (fact 𝓤 (κN ⊑ []))) (guard_i 𝓤 (κN ⊑ []) (emp 𝓤) nlives) $ join ! $
-    use0 𝓛 (raw (fact 𝓤 (κT ⊑ X.lives))) (guard_i 𝓤 (κT ⊑ X.lives) (emp 𝓤) lives) $ join ! $ move ! (1 ∷ 0 ∷ []) $
+    use0 𝓛 (raw (fact 𝓤 (k < n))) (known 𝓤 column) $
+    use0 𝓛 (raw (fact 𝓤 (n * size (layout X) < 2 ^ 63))) (known 𝓤 room) $ join ! $
+    use0 𝓛 (raw (fact 𝓤 (κN ⊑ []))) (known 𝓤 nlives) $ join ! $
+    use0 𝓛 (raw (fact 𝓤 (κT ⊑ X.lives))) (known 𝓤 lives) $ join ! $ move ! (1 ∷ 0 ∷ []) $
     use2 𝓛 (raw (G2.pre z2)) (id⊢ 𝓤 _) $
     calls_at ! (framed 𝓤 H 𝓜 𝓣) G2 (item-thm.met 𝓤 𝓛 𝓜 𝓡 (code.calls-p3_util::views::loans::item_of_row 𝓡.env wired) T n LT small) z2 (and_then ! (get ! refl) (and_then ! (get ! refl) (no_more !))) (λ u2.
     use1 𝓛 (later (some (λ (x : MutBor X.Denot). ((‵ (flft κ q) ⊛ ‵ (flft κT qT) ⊛ ‵ (flft κN qN) ⊛ ‵ ftrue) ⊛ ‵ ((MutRef (named 0) κ T).own_val x (u2 ∷ [])))
@@ -133,5 +117,5 @@ item_at_spec 𝓤 𝓛 𝓜 𝓡 wired X n L small =
     rewrite ! 0 (λ (F : X.Denot → List (List X.Denot)). ‵ (follows (Array R 0) T rows.ghost_name x.ghost_name F)) (λ i w. slice_set rows.now r (slice_set (whole-row i) k w)) refl $
     suffices ! _ (ends_at 𝓛 (ended X n) (stayed X n) c y (vptr x.ref_ptr.0 x.ref_ptr.1) x (tt, (tt, (tt, tt))) (tt, (tt, (tt, tt)))) $
     nothing ! $ nothing ! $ fjoin ! $ nothing ! $ fjoin ! $ nothing ! $ fjoin ! $ move ! (0 ∷ 2 ∷ []) $ join ! $ move ! (2 ∷ 0 ∷ []) $ join ! $ frame ! $
-    use0 𝓛 (raw (fact 𝓤 (length inner ≡ n))) (guard_i 𝓤 (length inner ≡ n) (emp 𝓤) (ap (λ (l : List X.Denot). length l) (sym whole-row) ∙ long)) $
-    use0 𝓛 (raw (fact 𝓤 (x.now ≡ slice_index_or inner k x.now))) (guard_i 𝓤 (x.now ≡ slice_index_or inner k x.now) (emp 𝓤) (same2 ∙ ap (λ (l : List X.Denot). slice_index_or l k x.now) whole-row)) $ join ! $ move ! (1 ∷ 0 ∷ []) $ done !))))))))))))))))))
+    use0 𝓛 (raw (fact 𝓤 (length inner ≡ n))) (known 𝓤 (ap (λ (l : List X.Denot). length l) (sym whole-row) ∙ long)) $
+    use0 𝓛 (raw (fact 𝓤 (x.now ≡ slice_index_or inner k x.now))) (known 𝓤 (same2 ∙ ap (λ (l : List X.Denot). slice_index_or l k x.now) whole-row)) $ join ! $ move ! (1 ∷ 0 ∷ []) $ done !))))))))))))))))))

@@ -8,10 +8,10 @@ use mathlib.Core.List.{List, [], ◌∷◌, ◌++◌}
 use lib.ListN.{length, get_or, set, take, drop as drop_list, length-set}
 use lib.Seq.{set_split, set-get_or}
 use seplogic.Ra.Ura.{Ura}
-use mir.Syntax.{Args, Fn, named, w64, a_type, a_number}
+use mir.Syntax.{Fn, named, w64}
 use mir.MapTy.{inst_fn}
 use mir.Val.{Val, vptr, vint}
-use base.Logic.{SProp, ent, sep, ex, guard, guard_i, emp}
+use base.Logic.{SProp, ent, sep, ex, guard}
 use base.Fraction.{full_share}
 use base.Fml.{Fml, fsep, feq, Lft, GName, Share, ftrue, flft, fobs, fbor}
 use prog.Capped.{capped_is}
@@ -22,7 +22,7 @@ use types.Logic.{Logic, sem}
 use types.Mut.{open_ref}
 use types.Follow.{takes_part}
 use types.SemTy.{cells, Body}
-use types.Kit.{Item, ‵, ◌⊛◌, raw, given, some, later, ◌$◌, ◌∵◌, !, qed, by, move, keep, drop, split, split3, join, learn, fsplit, fsplit3, fjoin, fjoin3, use0, use1, use2, await, pick, suffices, frame, done, updating, group, now, show, rewrite, feq_i, feq_l, check}
+use types.Kit.{Item as Entry, ‵, ◌⊛◌, raw, given, some, later, ◌$◌, ◌∵◌, !, qed, by, move, keep, drop, split, split3, join, learn, fsplit, fsplit3, fjoin, fjoin3, use0, use1, use2, await, pick, suffices, frame, done, updating, group, now, show, rewrite, feq_i, feq_l, check}
 use types.Run.{stop, addr, bin, size_word, returns, enter}
 use types.ByLocal.{alloc_all, pass_all, free_all, look_at, get, through, sets, is}
 use contract.BorrowLft.{◌⊑◌}
@@ -38,7 +38,7 @@ use denote.Array.{Array}
 use denote.ArrayMemory.{Array-apart, Array-whole}
 use denote.Index.{row as side_by_side, whole_in, whole_out}
 use denote.Memory.{mem, part_at}
-use denote.Param.{param, number, layout, layouts, ArrayAt}
+use denote.Param.{number, layout}
 use denote.Plain.{uint_vals, uint_Tells}
 use denote.RattleType.{RattleType, owns}
 use denote.Ref.{MutBor, MutRef, mut_vals, mut_Tells}
@@ -50,6 +50,7 @@ use denote.Triple.Spec.{Meets, triple_of}
 use denote.Triple.Table.{entered}
 use denote.Triple.Walked.{Stays, stay_dropped, walk_of, ends_at, walked, Goes-dropped, Goes-spent_ref, walk_Meets}
 use Rattle.std.proofs.lemmas.List.{get_or_default}
+use Rattle.p3_util.proofs.Loans.{inst, Item, Row, known}
 use Rattle.p3_util.specs.contracts.views.loans.item_of_row as F
 use Rattle.p3_util.specs.contracts.views.loans.item_of_row.Key.{name as #self}
 use Rattle.p3_util.proofs.views.loans.item_of_row.Statement as stated
@@ -65,23 +66,14 @@ uncapped zero size fits = zero-mul (capped size) ∙ sym (zero-mul size)
 uncapped (suc k) size fits = let product = suc-mul k size in ap (λ (j : ℕ). suc k * j) (capped_is size (omega arith))
 
 module _ (X : RattleType) (n : ℕ) where
-  abbrev args : Args
-  args = layouts (a_type ∷ a_number ∷ []) (X, (number n, tt))
-
   abbrev function : Fn
-  function = inst_fn args code.function
-
-  abbrev R : RattleType
-  R = param 0 X
-
-  abbrev Row : RattleType
-  Row = ArrayAt R (param 1 (number n))
+  function = inst_fn (inst X n) code.function
 
   abbrev ended : Ended
   ended = F.ended X (number n)
 
   abbrev stayed : Stays ended.signature.params ended.kept
-  stayed = (stay_dropped (RefMutOf (0 ∷ []) tt (plain (λ _. Row)) (λ _. tt)) no, (stay_dropped (plain (λ _. usize)) yes, tt))
+  stayed = (stay_dropped (RefMutOf (0 ∷ []) tt (plain (λ _. Row X n)) (λ _. tt)) no, (stay_dropped (plain (λ _. usize)) yes, tt))
 
 module _ (X : RattleType) (n : ℕ) {M : Type 1} {𝓤 : Ura M} (𝓛 : Logic 𝓤) where
   open 𝓛 use {H, A}
@@ -101,40 +93,40 @@ module _ (X : RattleType) (n : ℕ) {M : Type 1} {𝓤 : Ura M} (𝓛 : Logic �
     behind = drop_list (suc i) xs
 
     abbrev items : List X.Denot → ℕ → Fml
-    items ws = cells (mem (R X n)) ws b
+    items ws = cells (mem (Item X n)) ws b
 
     abbrev Others : SProp 𝓤
     Others = sep 𝓤 (sem 𝓛 (items before o)) (sem 𝓛 (items behind (spot + s)))
 
     -- an array in memory is its items side by side, n of them
     apart : (ws : List X.Denot) → ent 𝓤 (sem 𝓛 ((mem (Row X n)).own_at ws b o)) (guard 𝓤 (length ws ≡ n) (sem 𝓛 (items ws o)))
-    apart ws = qed 𝓛 (‵ (part_at (Array (R X n) n) full_share ws b o) ∷ []) ∵
-        use1 𝓛 (‵ (fsep (feq ℕ (length ws) n) (side_by_side (R X n) full_share ws b o))) (Array-apart 𝓛 (R X n) full_share tt n ws b o) $
-        fsplit ! $ feq_l ! (λ long. use1 𝓛 (‵ (items ws o)) (whole_in 𝓛 (R X n) ws b o) $ check ! long $ done !)
+    apart ws = qed 𝓛 (‵ (part_at (Array (Item X n) n) full_share ws b o) ∷ []) ∵
+        use1 𝓛 (‵ (fsep (feq ℕ (length ws) n) (side_by_side (Item X n) full_share ws b o))) (Array-apart 𝓛 (Item X n) full_share tt n ws b o) $
+        fsplit ! $ feq_l ! (λ long. use1 𝓛 (‵ (items ws o)) (whole_in 𝓛 (Item X n) ws b o) $ check ! long $ done !)
 
     whole : (ws : List X.Denot) → length ws ≡ n → ent 𝓤 (sem 𝓛 (items ws o)) (sem 𝓛 ((mem (Row X n)).own_at ws b o))
-    whole ws long = qed 𝓛 (‵ (items ws o) ∷ []) ∵ use1 𝓛 (‵ (side_by_side (R X n) full_share ws b o)) (whole_out 𝓛 (R X n) ws b o) $
-        feq_i ! ℕ (length ws) n long $ fjoin ! $ by ! (Array-whole 𝓛 (R X n) full_share n ws b o)
+    whole ws long = qed 𝓛 (‵ (items ws o) ∷ []) ∵ use1 𝓛 (‵ (side_by_side (Item X n) full_share ws b o)) (whole_out 𝓛 (Item X n) ws b o) $
+        feq_i ! ℕ (length ws) n long $ fjoin ! $ by ! (Array-whole 𝓛 (Item X n) full_share n ws b o)
 
     on : i < length xs → at o s (length before) ≡ spot
     on within = at_mul o s (length before) ∙ ap (λ (k : ℕ). k * s + o) (length-take-le i xs (omega arith))
 
     put_back : i < n → length xs ≡ n → (x : X.Denot)
-        → ent 𝓤 (sep 𝓤 (sem 𝓛 ((mem (R X n)).own_at x b spot)) Others) (sem 𝓛 ((mem (Row X n)).own_at (set xs i x) b o))
+        → ent 𝓤 (sep 𝓤 (sem 𝓛 ((mem (Item X n)).own_at x b spot)) Others) (sem 𝓛 ((mem (Row X n)).own_at (set xs i x) b o))
     put_back within long x =
         let lt : i < length xs = omega arith in
-        qed 𝓛 (‵ ((mem (R X n)).own_at x b spot) ∷ ‵ (items before o) ∷ ‵ (items behind (spot + s)) ∷ []) ∵
+        qed 𝓛 (‵ ((mem (Item X n)).own_at x b spot) ∷ ‵ (items before o) ∷ ‵ (items behind (spot + s)) ∷ []) ∵
         move ! (0 ∷ 2 ∷ []) $ fjoin ! $
         rewrite ! 0 (λ (k : ℕ). ‵ (items (x ∷ behind) k)) (sym (on lt)) refl $ move ! (1 ∷ 0 ∷ []) $
-        use2 𝓛 (‵ (items (before ++ x ∷ behind) o)) (join_app 𝓛 (mem (R X n)) before (x ∷ behind) b o) $
+        use2 𝓛 (‵ (items (before ++ x ∷ behind) o)) (join_app 𝓛 (mem (Item X n)) before (x ∷ behind) b o) $
         rewrite ! 0 (λ (l : List X.Denot). ‵ (items l o)) (sym (set_split xs i x lt)) refl $
         by ! (whole (set xs i x) (length-set xs i x ∙ long))
 
-    abbrev lent : GName × X.Denot → Item 𝓤
-    lent y = given ((y.1 ≡ get_or xs i y.1) × (length xs ≡ n)) (‵ ((MutRef (named 0) κ (R X n)).own_val (record { ref_ptr = (b, spot); ghost_name = y.0; now = y.1 }) (vptr b spot ∷ [])) ⊛ ‵ (flft κ q) ⊛ ‵ (follows (Row X n) (R X n) γ y.0 (set xs i)))
+    abbrev lent : GName × X.Denot → Entry 𝓤
+    lent y = given ((y.1 ≡ get_or xs i y.1) × (length xs ≡ n)) (‵ ((MutRef (named 0) κ (Item X n)).own_val (record { ref_ptr = (b, spot); ghost_name = y.0; now = y.1 }) (vptr b spot ∷ [])) ⊛ ‵ (flft κ q) ⊛ ‵ (follows (Row X n) (Item X n) γ y.0 (set xs i)))
 
     abbrev Lent : GName × X.Denot → SProp 𝓤
-    Lent y = guard 𝓤 ((y.1 ≡ get_or xs i y.1) × (length xs ≡ n)) (sep 𝓤 (sem 𝓛 ((MutRef (named 0) κ (R X n)).own_val (record { ref_ptr = (b, spot); ghost_name = y.0; now = y.1 }) (vptr b spot ∷ []))) (sep 𝓤 (A.lft κ q) (sem 𝓛 (follows (Row X n) (R X n) γ y.0 (set xs i)))))
+    Lent y = guard 𝓤 ((y.1 ≡ get_or xs i y.1) × (length xs ≡ n)) (sep 𝓤 (sem 𝓛 ((MutRef (named 0) κ (Item X n)).own_val (record { ref_ptr = (b, spot); ghost_name = y.0; now = y.1 }) (vptr b spot ∷ []))) (sep 𝓤 (A.lft κ q) (sem 𝓛 (follows (Row X n) (Item X n) γ y.0 (set xs i)))))
 
     lends : i < n → (vs : List Val)
         → ent 𝓤 (sep 𝓤 (sem 𝓛 ((MutRef (named 0) κ (Row X n)).own_val (record { ref_ptr = (b, o); ghost_name = γ; now = xs }) vs)) (A.lft κ q)) (H.⇛ (ex 𝓤 Lent))
@@ -146,11 +138,11 @@ module _ (X : RattleType) (n : ℕ) {M : Type 1} {𝓤 : Ura M} (𝓛 : Logic �
         let any : X.Denot = first_of xs (omega arith) in
         let x : X.Denot = get_or xs i any in
         rewrite ! 0 (λ (l : List X.Denot). ‵ (items l o)) (sym (set-get_or xs i any) ∙ set_split xs i x lt) refl $
-        use1 𝓛 (‵ (items before o) ⊛ ‵ (items (x ∷ behind) (at o s (length before)))) (cut_app 𝓛 (mem (R X n)) before (x ∷ behind) b o) $
+        use1 𝓛 (‵ (items before o) ⊛ ‵ (items (x ∷ behind) (at o s (length before)))) (cut_app 𝓛 (mem (Item X n)) before (x ∷ behind) b o) $
         split ! $ rewrite ! 1 (λ (k : ℕ). ‵ (items (x ∷ behind) k)) (on lt) refl $ move ! (1 ∷ []) $ fsplit ! $
         move ! (2 ∷ 1 ∷ []) $ join ! $ move ! (2 ∷ 3 ∷ 4 ∷ 1 ∷ 0 ∷ []) $ group ! 5 $
-        use1 𝓛 (later (some (λ (δ : GName). ‵ (fobs δ ((R X n).coded.code x)) ⊛ ‵ (fbor κ (Body (mem (R X n)) b spot δ)) ⊛ ‵ (flft κ q) ⊛ ‵ (follows (Row X n) (R X n) γ δ (set xs i)))))
-        (takes_part 𝓛 (mem (Row X n)) (mem (R X n)) (set xs i) κ q b o b spot γ Others (put_back within long) ((Row X n).coded.code xs) ((Row X n).coded.code xs) x) $
+        use1 𝓛 (later (some (λ (δ : GName). ‵ (fobs δ ((Item X n).coded.code x)) ⊛ ‵ (fbor κ (Body (mem (Item X n)) b spot δ)) ⊛ ‵ (flft κ q) ⊛ ‵ (follows (Row X n) (Item X n) γ δ (set xs i)))))
+        (takes_part 𝓛 (mem (Row X n)) (mem (Item X n)) (set xs i) κ q b o b spot γ Others (put_back within long) ((Row X n).coded.code xs) ((Row X n).coded.code xs) x) $
         await ! tt $ pick ! (λ δ. split3 ! $
         feq_i ! (List Val) (vptr b spot ∷ []) (vptr b spot ∷ []) refl $ fjoin3 ! $ now ! $ show ! Lent (δ, x) $
         check ! (get_or_default xs i any x lt, long) $ done !))
@@ -188,8 +180,8 @@ module _ (X : RattleType) (n : ℕ) {M : Type 1} {𝓤 : Ura M} (𝓛 : Logic �
           returns ! (look_at ! 0 refl) $ free_all ! refl $ keep ! (0 ∷ 2 ∷ []) $ split3 ! $
           suffices ! _ (ends_at 𝓛 (ended X n) (stayed X n) clauses bound (vptr b place) (record { ref_ptr = (b, place); ghost_name = y.0; now = y.1 }) (tt, (tt, tt)) (tt, (tt, tt))) $
           nothing ! $ nothing ! $ fjoin ! $ nothing ! $ fjoin ! $ join ! $ move ! (1 ∷ 3 ∷ []) $ join ! $ join ! $ frame ! $
-          use0 𝓛 (raw (fact 𝓤 (length xs ≡ n))) (guard_i 𝓤 (length xs ≡ n) (emp 𝓤) read.1) $
-          use0 𝓛 (raw (fact 𝓤 (y.1 ≡ get_or xs i y.1))) (guard_i 𝓤 (y.1 ≡ get_or xs i y.1) (emp 𝓤) read.0) $ join ! $ move ! (1 ∷ 0 ∷ []) $ done !)))
+          use0 𝓛 (raw (fact 𝓤 (length xs ≡ n))) (known 𝓤 read.1) $
+          use0 𝓛 (raw (fact 𝓤 (y.1 ≡ get_or xs i y.1))) (known 𝓤 read.0) $ join ! $ move ! (1 ∷ 0 ∷ []) $ done !)))
 
     meets : (𝓣 : Tables 𝓤 H) → Meets 𝓛 (ended X n).signature (WpFn 𝓤 H 𝓣.C 𝓣.Λ (function X n)) (closing 𝓛 (ended X n) clauses)
     meets 𝓣 =
@@ -204,5 +196,5 @@ pub item_of_row_spec : {M : Type 1} → stated.statement M
 unfolding tables_of
 item_of_row_spec 𝓤 𝓛 𝓜 𝓡 wired X n L fits =
     let 𝓣 : Tables 𝓤 𝓛.H = tables_of 𝓤 𝓛.H 𝓜 (tables 𝓤 𝓛.H 𝓜 𝓡 𝓡.env) in
-    entered 𝓤 𝓛.H (triple_of 𝓛 (ended X n).signature (F.spec X (number n) 𝓛 𝓜.mem 𝓡.returns)) 𝓣.C 𝓣.Λ (#self (args X n)) (function X n) (code.unfolded 𝓤 𝓛.H 𝓜 𝓡 wired (X, (number n, tt)))
+    entered 𝓤 𝓛.H (triple_of 𝓛 (ended X n).signature (F.spec X (number n) 𝓛 𝓜.mem 𝓡.returns)) 𝓣.C 𝓣.Λ (#self (inst X n)) (function X n) (code.unfolded 𝓤 𝓛.H 𝓜 𝓡 wired (X, (number n, tt)))
     (meets X n 𝓛 𝓜.mem 𝓡.returns 𝓣)

@@ -1,18 +1,15 @@
 -- The walk of `item_mut` on a `&mut` to rows: the rows are lent on from behind that reference, and then an item of them.
 -- What the reference ends as is put together from the two loans.
-use Rattle.std.proofs.Common.{◌≡◌, ℕ, List, [], ◌∷◌, ◌<◌, ◌*◌, ◌^◌, refl, sym, ap, w64, MutBor, slice_set, slice_get, length, Option, Some, None}
+use Rattle.std.proofs.Common.{◌≡◌, ℕ, List, [], ◌∷◌, ◌<◌, ◌*◌, ◌^◌, refl, sym, ap, w64, MutBor, slice_set, slice_get, length, Option}
 use Rattle.std.proofs.raw_atomic.Walks.{proved}
-use seplogic.Ra.Ura.{Ura}
-use mathlib.Core.Option as maybe
-use types.Logic.{Logic, sem}
-use base.Logic.{ent, sep, id⊢, emp, guard_i}
+use base.Logic.{id⊢}
 use base.Fml.{GName, ftrue, fat, flft}
 use base.Fraction.{full_share}
-use mir.Syntax.{Args, Fn, named, a_type, a_number, erased, mut, ty_ref, ty_param, ty_array_p}
+use mir.Syntax.{Fn, named, erased, mut, ty_ref, ty_param, ty_array_p}
 use mir.MapTy.{inst_fn}
 use mir.Val.{Val, vint}
 use prog.Memory.{size}
-use types.Kit.{‵, ◌⊛◌, raw, some, later, ◌$◌, ◌∵◌, !, qed, move, drop, split, join, fsplit, fsplit3, fpick, fpack, fjoin, use0, use1, use2, use3, split3, await, pick, rewrite, suffices, frame, done}
+use types.Kit.{‵, ◌⊛◌, raw, some, later, ◌$◌, ◌∵◌, !, qed, move, drop, split, join, fsplit, fsplit3, fjoin, use0, use1, use2, use3, split3, await, pick, rewrite, suffices, frame, done}
 use types.Run.{stop, addr, fld, hop, load, of_opd, no_more, and_then, returns, enter}
 use types.Part.{whole, sub, agg, look_in}
 use types.ByLocal.{alloc_all, pass_all, free_all, look_at, get, through, sets, lands_as}
@@ -22,11 +19,11 @@ use contract.Running.{tables}
 use denote.Array.{Array}
 use denote.Builtin.{RefMutOf, SliceRefMutOf, usize}
 use denote.Exit.{yes, no}
-use denote.Follow.{follows, follows_by, follows_if, follows_so, follows_then, followed, such_by}
+use denote.Follow.{follows}
 use denote.Laws.{shows}
 use denote.Memory.{cell_at}
-use denote.Param.{param, arg, number, layout, layouts, ArrayAt}
-use denote.Param.Laws.{param_laws, arg_laws, of_field, row_shared}
+use denote.Param.{number, layout}
+use denote.Param.Laws.{of_field, row_shared}
 use denote.Param.Shared.{mut_ref_shared}
 use denote.Plain.{uint_vals, uint_Tells, uint_Makes}
 use denote.RattleType.{RattleType, owns}
@@ -48,6 +45,7 @@ use Rattle.std.specs.Option.{option_copied_mut, ghost_name_of, OnSome}
 use Rattle.p3_util.specs.Flat.{counted_rows, flat}
 use Rattle.p3_util.specs.RowLends.{lends_item_of_rows}
 use Rattle.p3_util.specs.ViewLends.{HasWritten, HasKept, lends_item}
+use Rattle.p3_util.proofs.Loans.{inst, Row, ItemArg, item_laws, known, on_some, so_then}
 use Rattle.p3_util.specs.contracts.views.loans.item_of_rows as item
 use Rattle.p3_util.specs.contracts.views.rows.RefMutSliceArrayRows.item_mut as F
 use Rattle.p3_util.specs.contracts.views.rows.RefMutSliceArrayRows.item_mut.Key.{name as #self}
@@ -55,47 +53,15 @@ use Rattle.p3_util.proofs.views.loans.item_of_rows.Met as item-thm
 use Rattle.p3_util.proofs.views.rows.RefMutSliceArrayRows.item_mut.Statement as stated
 use Rattle.p3_util.proofs.views.rows.RefMutSliceArrayRows.item_mut.Code as code
 
--- a fact of the item that may be there, from another
-on_some : {A : Type 0} (x : Option A) {P Q : Type 0} → (P → Q) → OnSome x P → OnSome x Q
-on_some None f p = tt
-on_some (Some a) f p = f p
-
--- the rows follow what may be lent, and what holds them follows the rows
-module _ {M : Type 1} {𝓤 : Ura M} (𝓛 : Logic 𝓤) (R S T : RattleType) (F : S.Denot → R.Denot) (γ γ' : GName) where
-  if_then : (m : maybe.Option GName) (G : T.Denot → S.Denot) (v : S.Denot)
-      → ent 𝓤 (sep 𝓤 (sem 𝓛 (follows R S γ γ' F)) (sem 𝓛 (follows_if S T γ' m G v))) (sem 𝓛 (follows_if R T γ m (λ w. F (G w)) (F v)))
-  unfolding follows_by
-  if_then maybe.none G v = followed 𝓛 R S F γ γ' v
-  if_then (maybe.some δ) G v = follows_then 𝓛 R S T F G γ γ' δ
-
-  so_then : (m : maybe.Option GName) (P : T.Denot → S.Denot → Type 0) (P₀ : S.Denot → Type 0) (Q : T.Denot → R.Denot → Type 0) (Q₀ : R.Denot → Type 0)
-      → ((w : T.Denot) (s : S.Denot) → P w s → Q w (F s)) → ((s : S.Denot) → P₀ s → Q₀ (F s))
-      → ent 𝓤 (sep 𝓤 (sem 𝓛 (follows R S γ γ' F)) (sem 𝓛 (follows_so S T γ' m P P₀))) (sem 𝓛 (follows_so R T γ m Q Q₀))
-  unfolding such_by
-  so_then m P P₀ Q Q₀ some-one no-one =
-      qed 𝓛 (‵ (follows R S γ γ' F) ∷ ‵ (follows_so S T γ' m P P₀) ∷ []) ∵ move ! (1 ∷ []) $ fpick ! (λ s. move ! (1 ∷ 0 ∷ []) $
-      use2 𝓛 (‵ (follows_if R T γ m (λ w. F (s.0.0 w)) (F s.0.1))) (if_then m s.0.0 s.0.1) $
-      fpack ! ((z : (T.Denot → R.Denot) × R.Denot) × ((w : T.Denot) → Q w (z.0 w)) × Q₀ z.1) (λ z. follows_if R T γ m z.0.0 z.0.1)
-      ((λ w. F (s.0.0 w), F s.0.1), (λ w. some-one w (s.0.0 w) (s.1 w)), no-one s.0.1 s.2) $ done !)
-
 module _ (X : RattleType) (n : ℕ) where
-  abbrev inst : Args
-  inst = layouts (a_type ∷ a_number ∷ []) (X, (number n, tt))
-
   abbrev function : Fn
-  function = inst_fn inst code.function
-
-  abbrev Item : RattleType
-  Item = param 0 X
-
-  abbrev Row : RattleType
-  Row = ArrayAt Item (param 1 (number n))
+  function = inst_fn (inst X n) code.function
 
   abbrev ended : Ended
   ended = F.ended X (number n)
 
   abbrev stayed : Stays ended.signature.params ended.kept
-  stayed = (stay_dropped (RefMutOf (0 ∷ []) tt (SliceRefMutOf (1 ∷ []) tt (plain (λ _. Row)) (λ _. tt)) (λ _. tt)) no, (stay_dropped (plain (λ _. usize)) yes, tt))
+  stayed = (stay_dropped (RefMutOf (0 ∷ []) tt (SliceRefMutOf (1 ∷ []) tt (plain (λ _. Row X n)) (λ _. tt)) (λ _. tt)) no, (stay_dropped (plain (λ _. usize)) yes, tt))
 
 pub item_mut_spec : {M : Type 1} → stated.statement M
 item_mut_spec 𝓤 𝓛 𝓜 𝓡 wired X n L small =
@@ -128,16 +94,16 @@ item_mut_spec 𝓤 𝓛 𝓜 𝓡 wired X n L small =
     use3 𝓛 (later (some (λ (δ : GName). ‵ ((MutSlice (named 0) κ (Row X n)).own_val (renamed rows δ) (mut_slice_vals rows)) ⊛ ‵ (flft κ q) ⊛ ‵ (follows Sl (Array (Row X n) 0) self.ghost_name δ (at_last rows)))))
     (lends_inner_slice 𝓛 (Row X n) (named 0) (named 1) κ κa self bounds.0 is.0.1 q) $ await ! tt $ pick ! (λ δ. split3 ! $
     -- [the rows; the loan's token; how the reference follows the rows; the other tokens]
-    let T = arg (layout X) yes (Item X n) in let LT = arg_laws (layout X) yes (Item X n) (param_laws 0 X L) refl in
+    let T = ItemArg X n in let LT = item_laws X n L in
     let G = triple_of 𝓛 (item.signature T (number n)) (item.spec T (number n) 𝓛 𝓜.mem 𝓡.returns) in
     let s = renamed rows δ in
     let z : G.Ghost = (((κ, (κT, (κN, tt))), (q, (qT, (qN, tt))), (bounds.1.1.0, tt), (s, (i, tt)), (mut_slice_vals rows, (vint w64 i ∷ [], tt))), tt) in
     move ! (3 ∷ []) $ split ! $ move ! (3 ∷ 1 ∷ []) $ join ! $
     owned ! usize _ (uint_Makes 𝓛 w64) i (vint w64 i ∷ []) (refl, are.1.0.1) $ nothing ! $ move ! (1 ∷ 0 ∷ []) $ fjoin ! $ move ! (3 ∷ 0 ∷ []) $ fjoin ! $ move ! (1 ∷ 0 ∷ []) $ join ! $
     nothing ! $
-    use0 𝓛 (raw (fact 𝓤 (n * size (layout X) < 2 ^ 63))) (guard_i 𝓤 (n * size (layout X) < 2 ^ 63) (emp 𝓤) room) $ join ! $
-    use0 𝓛 (raw (fact 𝓤 (κN ⊑ []))) (guard_i 𝓤 (κN ⊑ []) (emp 𝓤) nlives) $ join ! $
-    use0 𝓛 (raw (fact 𝓤 (κT ⊑ X.lives))) (guard_i 𝓤 (κT ⊑ X.lives) (emp 𝓤) lives) $ join ! $ move ! (1 ∷ 0 ∷ []) $
+    use0 𝓛 (raw (fact 𝓤 (n * size (layout X) < 2 ^ 63))) (known 𝓤 room) $ join ! $
+    use0 𝓛 (raw (fact 𝓤 (κN ⊑ []))) (known 𝓤 nlives) $ join ! $
+    use0 𝓛 (raw (fact 𝓤 (κT ⊑ X.lives))) (known 𝓤 lives) $ join ! $ move ! (1 ∷ 0 ∷ []) $
     use2 𝓛 (raw (G.pre z)) (id⊢ 𝓤 _) $
     calls_at ! (framed 𝓤 H 𝓜 𝓣) G (item-thm.met 𝓤 𝓛 𝓜 𝓡 (code.calls-p3_util::views::loans::item_of_rows 𝓡.env wired) T n LT small) z (and_then ! (get ! refl) (and_then ! (get ! refl) (no_more !))) (λ u.
     let Ref = MutRef (named 0) κ T in let Out = option.the_row Ref in
