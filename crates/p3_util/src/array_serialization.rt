@@ -1,5 +1,5 @@
 //! Arrays as JSON lists: each element is written as one JSON value, and read back from one.
-ghost use Rattle.std.specs.Prelude.{◌≡◌, Bool, false, List, map, Result, Ok, IsTrue, IfOk, OnErr};
+ghost use Rattle.std.specs.Prelude.{◌≡◌, Bool, false, List, map, Result, Ok, IsOk, IsTrue, IfOk, OnErr};
 ghost use Rattle.serde_json.specs.Data.{Data, boolean, number, array, unsigned};
 ghost use Rattle.serde_json.specs.Find.{of_integer};
 ghost use Rattle.serde_json.specs.View.{view, items_of};
@@ -82,6 +82,7 @@ pub fn serialize<T: ArrayElement, const N: usize>(
     ensures reads_back { IfOk result (λ v. (r : Result (List T) ArrayError)
         → IsArrayAnswer T.reading T.wants_memory N (view v) r
         → IsSameOrMemory T.wants_memory items.now r) }
+    ensures needs_none { N ≡ 0 → IsOk result }
 {
     let mut list = Vec::with_capacity(alloc, N)?;
     for item in items {

@@ -15,9 +15,9 @@ where
     I: IntoIterator<Item = u8>,
     H: FnMut(&[u8]) + Drop,
     requires fits { BUFLEN < 2 ^ 63 }
-    requires finite { IsFiniteIterable I.into_iter_gives I.IntoIter.can_next I.IntoIter.remaining
-        input }
-    requires callable { H.IsAlwaysCallable func }
+    requires finite { 0 < BUFLEN
+        → IsFiniteIterable I.into_iter_gives I.IntoIter.can_next I.IntoIter.remaining input }
+    requires callable { 0 < BUFLEN → H.IsAlwaysCallable func }
     ensures runs { 0 < BUFLEN → (it : I.IntoIter) × I.into_iter_gives input it
         × WholeRun I.IntoIter.next_gives it (λ p. CallsOnPieces H.FnMut BUFLEN func p.items) }
 {

@@ -1,10 +1,11 @@
 -- A reader or a writer whose failures are counted. The count stays at the largest u64 once it is there.
-use Rattle.std.specs.Prelude.{ℕ, ◌≡◌, ◌+◌, ◌-◌, ◌^◌, ◌<◌, ◌⊎◌, min, List, length, Result, Ok, Err, nat_lt, ◌&&◌, ◌==◌, if◌then◌else◌}
+use Rattle.std.specs.Prelude.{Bool, ℕ, ◌≡◌, ◌+◌, ◌-◌, ◌^◌, ◌<◌, ◌⊎◌, min, List, length, Result, Ok, Err, nat_lt, ◌&&◌, ◌==◌, if◌then◌else◌}
 
 -- what a contract sees of a watched reader or writer
 pub record Watch (T : Type 0) : Type 0 where
   pub inner : T
   pub failures : ℕ
+  pub is_flushed : Bool
 
 -- the count after one more failure
 abbrev pub noted : ℕ → ℕ

@@ -1,6 +1,6 @@
 //! The program over any reader and any writer.
 
-ghost use Rattle.std.specs.Prelude.{◌≡◌, ◌≢◌, ◌<◌, ◌*◌, ◌↔◌, ◌⊎◌, ℕ, List, length, IsOk, OnOk, IfOk, OnErr, IfErr, IfSome, IsTrue, string_bytes};
+ghost use Rattle.std.specs.Prelude.{◌≡◌, ◌≢◌, ◌<◌, ◌*◌, ◌↔◌, ◌⊎◌, ℕ, List, length, IsOk, OnOk, IfOk, OnErr, IfErr, IfSome, IsTrue, string_bytes, true};
 ghost use Rattle.std.specs.Io.KnownBytes.{Appends};
 ghost use Rattle.p3_util_kernels.specs.Reversal.{IsReversal, IsZeroOrPowerOfTwo};
 ghost use Rattle.p3_util_kernels.specs.Transpose.{IsTranspose};
@@ -37,6 +37,8 @@ pub fn run<R: Read, W: Write>(
         × ReadsAll (R.remaining reader.old.inner) (R.remaining reader.new.inner) input
         × Out (texts_of words.now) input text
         × Appends (W.contents writer.old.inner) (W.contents writer.new.inner) text) }
+    // The writer was flushed after the last write.
+    ensures flushed { OnOk result (writer.new.is_flushed ≡ true) }
     // There is one text at most.
     ensures one_text { (input a b : List ℕ) → Out (texts_of words.now) input a → Out (texts_of words.now) input b
         → a ≡ b }
@@ -138,6 +140,7 @@ fn write_all<W: Write>(writer: &mut Watched<W>, text: &[u8]) -> Result<(), RunFa
     ensures kind { IfErr result (λ e. e ≡ RunFault.Write) }
     ensures failed { OnErr result (writer.new.failures ≡ noted writer.old.failures) }
     ensures good { OnOk result (writer.new.failures ≡ writer.old.failures) }
+    ensures flushed { OnOk result (writer.new.is_flushed ≡ true) }
 {
     let mut rest = text;
     while !rest.is_empty() {

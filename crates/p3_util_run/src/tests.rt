@@ -13,16 +13,20 @@ const NOT_AN_ARRAY: &str = "error: input is not a JSON array of u64";
 
 const UNKNOWN: &str = "error: unknown command";
 
-/// A reader that gives a byte a call, and fails after some calls.
+/// A reader that gives a byte a call, and fails after some calls, for good or once.
 #[derive(Drop)]
 struct ByteReader<'a> {
     rest: &'a [u8],
     good_reads: u8,
+    recovers: bool,
 }
 
 impl Read for ByteReader<'_> {
     fn read(&mut self, buf: &mut [u8]) -> io::Result<usize> {
         if self.good_reads == 0 {
+            if self.recovers {
+                self.good_reads = 255;
+            }
             return Err(io::Error::from(ErrorKind::Other));
         }
         self.good_reads -= 1;
@@ -37,13 +41,14 @@ impl Read for ByteReader<'_> {
     }
 }
 
-/// A writer that takes a byte a call, and after some calls fails or takes none.
+/// A writer that takes a byte a call, and after some calls fails or takes none, for good or once.
 #[derive(Drop)]
 struct ByteWriter {
     taken: Vec<u8>,
     good_writes: u8,
     takes_none: bool,
     can_flush: bool,
+    recovers: bool,
 }
 
 impl ByteWriter {
@@ -53,6 +58,7 @@ impl ByteWriter {
             good_writes,
             takes_none: false,
             can_flush: true,
+            recovers: false,
         }
     }
 }
@@ -60,6 +66,9 @@ impl ByteWriter {
 impl Write for ByteWriter {
     fn write(&mut self, buf: &[u8]) -> io::Result<usize> {
         if self.good_writes == 0 {
+            if self.recovers {
+                self.good_writes = 255;
+            }
             return if self.takes_none {
                 Ok(0)
             } else {
@@ -78,10 +87,10 @@ impl Write for ByteWriter {
 
     fn flush(&mut self) -> io::Result<()> {
         if self.can_flush {
-            Ok(())
-        } else {
-            Err(io::Error::from(ErrorKind::Other))
+            return Ok(());
         }
+        self.can_flush = self.recovers;
+        Err(io::Error::from(ErrorKind::Other))
     }
 }
 
@@ -217,6 +226,7 @@ fn a_byte_a_call(rt: HostRuntime) -> Result<(), Fail> {
     let mut reader = Watched::new(ByteReader {
         rest: b"[1,2,3,4,5,6]",
         good_reads: 255,
+        recovers: false,
     });
     let mut writer = Watched::new(ByteWriter::new(alloc, 255));
     assert_eq!(rt;
@@ -234,9 +244,21 @@ fn a_byte_a_call(rt: HostRuntime) -> Result<(), Fail> {
 fn failing_readers(rt: HostRuntime) -> Result<(), Fail> {
     let alloc = rt.alloc();
     let words = owned(alloc, &["revbits"])?;
-    for good_reads in [0, 1, 4, 5] {
+    for (good_reads, recovers) in [
+        (0, false),
+        (1, false),
+        (4, false),
+        (5, false),
+        (0, true),
+        (3, true),
+        (5, true),
+    ] {
         let rest = b"[1,2]";
-        let mut reader = Watched::new(ByteReader { rest, good_reads });
+        let mut reader = Watched::new(ByteReader {
+            rest,
+            good_reads,
+            recovers,
+        });
         let mut writer = Watched::new(Vec::new(alloc));
         let result = run(alloc, words.as_slice(), &mut reader, &mut writer);
         assert_eq!(rt; result, Err(RunFault::Read), "{good_reads}");
@@ -250,23 +272,57 @@ fn failing_readers(rt: HostRuntime) -> Result<(), Fail> {
 fn failing_writers(rt: HostRuntime) -> Result<(), Fail> {
     let alloc = rt.alloc();
     let words = owned(alloc, &["revbits"])?;
-    for (good_writes, takes_none, can_flush) in [
-        (0, false, true),
-        (3, false, true),
-        (0, true, true),
-        (3, true, true),
-        (255, false, false),
+    for (good_writes, takes_none, can_flush, recovers) in [
+        (0, false, true, false),
+        (3, false, true, false),
+        (0, true, true, false),
+        (3, true, true, false),
+        (255, false, false, false),
+        (0, false, true, true),
+        (3, false, true, true),
+        (3, true, true, true),
+        (255, false, false, true),
     ] {
         let mut reader = Watched::new(b"[1,2]".as_slice());
         let mut writer = Watched::new(ByteWriter {
             takes_none,
             can_flush,
+            recovers,
             ..ByteWriter::new(alloc, good_writes)
         });
         let result = run(alloc, words.as_slice(), &mut reader, &mut writer);
         assert_eq!(rt; result, Err(RunFault::Write), "{good_writes}");
         assert_eq!(rt; writer.failures(), 1, "{good_writes}");
+        let taken = writer.into_inner().taken;
+        assert_eq!(rt; taken.as_slice() == b"[1,2]\n".as_slice(), !can_flush);
     }
+    Ok(())
+}
+
+/// More bytes than one read takes.
+#[test]
+fn a_long_input(rt: HostRuntime) -> Result<(), Fail> {
+    let alloc = rt.alloc();
+    let words = owned(alloc, &["revbits"])?;
+    let mut input = vec![in alloc; b'7'; 8193]?;
+    for (i, byte) in input.iter_mut().enumerate() {
+        if i % 2 == 0 {
+            *byte = b',';
+        }
+    }
+    if let [first, .., last] = input.as_mut_slice() {
+        *first = b'[';
+        *last = b']';
+    }
+    let mut reader = Watched::new(input.as_slice());
+    let mut writer = Watched::new(Vec::new(alloc));
+    let result = run(alloc, words.as_slice(), &mut reader, &mut writer);
+    assert_eq!(rt; result, Ok(()));
+    let written = writer.into_inner();
+    assert_eq!(rt;
+        written.as_slice().split_last(),
+        Some((&b'\n', input.as_slice()))
+    );
     Ok(())
 }
 

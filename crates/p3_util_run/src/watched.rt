@@ -1,6 +1,6 @@
 //! A reader or a writer whose failures are counted.
 
-ghost use Rattle.std.specs.Prelude.{◌≡◌, OnOk, OnErr, length, ◌<◌};
+ghost use Rattle.std.specs.Prelude.{◌≡◌, OnOk, OnErr, length, ◌<◌, true, false};
 ghost use Rattle.std.specs.Io.{ReadsAtMost, WritesAtMost};
 ghost use Rattle.std.specs.Io.KnownBytes.{Keeps, ReadConsumes, WriteAppends};
 ghost use Rattle.p3_util_run.specs.Watch.{noted, count_after_call, count_after_write};
@@ -9,12 +9,13 @@ use std::io;
 use std::io::{Read, Write};
 use std::marker::Model;
 
-/// A reader or a writer, with the number of its failures. A failure is a call that answers an error, and a write that
-/// takes none of some bytes. The number stays at `u64::MAX` once it is there.
+/// A reader or a writer, with the number of its failures, and whether it was flushed since the last write. A failure is a
+/// call that answers an error, and a write that takes none of some bytes. The number stays at `u64::MAX` once it is there.
 #[derive(Drop)]
 pub struct Watched<T> {
     inner: T,
     failures: u64,
+    is_flushed: bool,
 }
 
 impl<T> Model for Watched<T> {
@@ -22,7 +23,7 @@ impl<T> Model for Watched<T> {
 
     ghost Value = { Watch T };
 
-    ghost view = { λ w. record { inner = w.inner; failures = w.failures } };
+    ghost view = { λ w. record { inner = w.inner; failures = w.failures; is_flushed = w.is_flushed } };
 }
 
 impl<T> Watched<T> {
@@ -31,7 +32,11 @@ impl<T> Watched<T> {
         ensures inner { result.inner ≡ inner }
         ensures failures { result.failures ≡ 0 }
     {
-        Watched { inner, failures: 0 }
+        Watched {
+            inner,
+            failures: 0,
+            is_flushed: true,
+        }
     }
 
     /// The number of failures so far.
@@ -52,6 +57,7 @@ impl<T> Watched<T> {
     fn note(&mut self)
         ensures inner { self.new.inner ≡ self.old.inner }
         ensures failures { self.new.failures ≡ noted self.old.failures }
+        ensures flushed { self.new.is_flushed ≡ self.old.is_flushed }
     {
         let Watched { failures, .. } = self;
         *failures = failures.saturating_add(1);
@@ -79,7 +85,9 @@ impl<W: Write> Watched<W> {
         ensures bound { WritesAtMost result buf.now }
         ensures bytes { WriteAppends (W.contents self.old.inner) (W.contents self.new.inner) result buf.now }
         ensures failures { self.new.failures ≡ count_after_write result buf.now self.old.failures }
+        ensures unflushed { self.new.is_flushed ≡ false }
     {
+        self.is_flushed = false;
         let result = self.inner.write(buf);
         match result {
             Ok(0) if !buf.is_empty() => self.note(),
@@ -93,10 +101,12 @@ impl<W: Write> Watched<W> {
     pub fn flush(&mut self) -> io::Result<()>
         ensures bytes { Keeps (W.contents self.old.inner) (W.contents self.new.inner) }
         ensures failures { self.new.failures ≡ count_after_call result self.old.failures }
+        ensures flushed { OnOk result (self.new.is_flushed ≡ true) }
     {
         let result = self.inner.flush();
-        if result.is_err() {
-            self.note();
+        match result {
+            Ok(()) => self.is_flushed = true,
+            Err(_) => self.note(),
         }
         result
     }

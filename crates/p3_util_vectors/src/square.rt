@@ -113,3 +113,20 @@ fn quadrants_in_order(rt: HostRuntime) -> Result<(), Fail> {
     }
     Ok(())
 }
+
+/// Each swap asks its holder for one exchange, also where both places are one.
+#[test]
+fn one_exchange_a_swap(rt: HostRuntime) -> Result<(), Fail> {
+    let items = (0..4).collect(rt.alloc())?;
+    let notes = Vec::with_capacity(rt.alloc(), 4)?;
+    let mut m = Swaps::new(Noted { items, notes });
+    assert!(rt; m.len() == 4);
+    m.swap(2, 2);
+    m.swap(0, 3);
+    assert_eq!(rt; m.swaps(), 2);
+    assert_eq!(rt;
+        m.into_inner().notes.as_slice(),
+        [Note::Exchange(2, 2), Note::Exchange(0, 3)].as_slice()
+    );
+    Ok(())
+}

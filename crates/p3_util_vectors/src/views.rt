@@ -208,5 +208,13 @@ fn vectors_there_and_back(rt: HostRuntime) -> Result<(), Fail> {
         return Err(Fail::from("no room for no items"));
     };
     assert!(rt; items.is_empty());
+    let Ok(rows) = reconstitute_from_base::<u64, 2>(rt.alloc(), items) else {
+        return Err(Fail::from("no room for no arrays"));
+    };
+    assert!(rt; rows.is_empty());
+    let Ok(items) = flatten_to_base(rt.alloc(), rows) else {
+        return Err(Fail::from("no room for the items of no arrays"));
+    };
+    assert!(rt; items.is_empty());
     Ok(())
 }

@@ -1,6 +1,6 @@
 //! Vectors of arrays moved to vectors of their items, and back.
 
-ghost use Rattle.std.specs.Prelude.{◌≡◌, ◌+◌, ◌*◌, ◌%◌, ◌/◌, ◌^◌, ◌<◌, ◌≤◌, ◌++◌, IfOk, IfErr, length, vec_len, vec_capacity};
+ghost use Rattle.std.specs.Prelude.{◌≡◌, ◌+◌, ◌*◌, ◌%◌, ◌/◌, ◌^◌, ◌<◌, ◌≤◌, ◌++◌, IsOk, IfOk, IfErr, length, vec_len, vec_capacity};
 ghost use Rattle.std.specs.Vec.Iter.{into_iter_items};
 ghost use Rattle.p3_util.specs.Flat.{flat};
 
@@ -23,6 +23,7 @@ pub fn flatten_to_base<Base: Default + Drop, const N: usize>(
     requires { vec_len vec * N < 2 ^ 64 }
     ensures items { IfOk result (λ items. items.items ≡ flat vec.items) }
     ensures given { IfErr result (λ refused. refused.given ≡ vec) }
+    ensures needs_none { vec_len vec * N ≡ 0 → IsOk result }
 {
     let Ok(mut items) = Vec::with_capacity(alloc, vec.len() * N) else {
         return Err(NoRoom { given: vec });
@@ -61,6 +62,7 @@ pub fn reconstitute_from_base<Base: Default + Drop, const N: usize>(
     ensures items { IfOk result (λ rows. flat rows.items ≡ vec.items) }
     ensures count { IfOk result (λ rows. vec_len rows ≡ vec_len vec / N) }
     ensures given { IfErr result (λ refused. refused.given ≡ vec) }
+    ensures needs_none { vec_len vec ≡ 0 → IsOk result }
 {
     let count = vec.len() / N;
     let Ok(mut rows) = Vec::with_capacity(alloc, count) else {

@@ -5,7 +5,7 @@ use Rattle.p3_util.proofs.WholePieces.{FoldsWhole-start, FoldsWhole-flush, Folds
 use Rattle.p3_util.proofs.chunks.apply_to_chunks.Goals as goal
 
 pub loop-byte-init : goal.loop-byte-init
-loop-byte-init g c = (FoldsWhole-start _ (omega (arith, c.if-this-eq0.false)) (length-replicate _ _), c.requires.callable)
+loop-byte-init g c = (FoldsWhole-start _ (omega (arith, c.if-this-eq0.false)) (length-replicate _ _), c.requires.callable (omega (arith, c.if-this-eq0.false)))
 
 pub loop-byte-preserved-then-len : goal.loop-byte-preserved-then-len
 loop-byte-preserved-then-len g c = (
