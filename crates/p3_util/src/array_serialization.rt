@@ -71,7 +71,7 @@ pub trait ArrayElement: Default {
 ///
 /// # Errors
 ///
-/// `AllocError` where no memory is found, for the list or for an element.
+/// `AllocError` where no memory is found, for the list or for an element. None is wanted for an array of no items.
 pub fn serialize<T: ArrayElement, const N: usize>(
     alloc: Global,
     items: &[T; N],

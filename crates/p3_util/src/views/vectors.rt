@@ -15,7 +15,7 @@ use std::{array, mem};
 ///
 /// # Errors
 ///
-/// `vec` as it was, where there is no memory for the items.
+/// `vec` as it was, where there is no memory for the items. None is wanted where there is no item.
 pub fn flatten_to_base<Base: Default + Drop, const N: usize>(
     alloc: Global,
     mut vec: Vec<[Base; N]>,
@@ -52,7 +52,7 @@ fn push_row<T: Default + Drop, const N: usize>(items: &mut Vec<T>, row: &mut [T;
 ///
 /// # Errors
 ///
-/// `vec` as it was, where there is no memory for the arrays.
+/// `vec` as it was, where there is no memory for the arrays. None is wanted where there is no item.
 pub fn reconstitute_from_base<Base: Default + Drop, const N: usize>(
     alloc: Global,
     vec: Vec<Base>,
