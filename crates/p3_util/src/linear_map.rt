@@ -4,7 +4,7 @@ ghost use Rattle.std.specs.Option.{option_copied, option_copied_mut, UnwrapsOrEl
 ghost use Rattle.std.specs.Iterator.Runs.{WholeRun};
 ghost use Rattle.std.specs.Map.{keys_of, values_of};
 ghost use Rattle.std.specs.Map.Iter.{ShowsInOrder, deref};
-ghost use Rattle.std.specs.Iterator.{IsFiniteIterable, Drains};
+ghost use Rattle.std.specs.Iterator.{IsFiniteIterable, Drains, YieldsThen};
 ghost use Rattle.std.specs.Borrow.{sem};
 ghost use Rattle.p3_util.specs.LinearMap.{value_at, with_value, put, put_all, HasDistinctKeys};
 ghost use Rattle.p3_util.specs.MapIter.{OwnsInOrder, LendsInOrder};
@@ -172,6 +172,11 @@ impl<K: Eq + Drop, V: Drop> LinearMap<K, V> {
         ensures pairs { IfOk result
             (λ m. (from : I.IntoIter) × (xs : List (K × V)) × I.into_iter_gives it from
             × Drains I.IntoIter.next_gives from xs × (m ≡ put_all K.eq [] xs)) }
+
+        // The refused pair x has a new key. The pairs xs came before it.
+        ensures refuses_new { OnErr result ((from : I.IntoIter) × (xs : List (K × V)) × (x : K × V) × (rest : I.IntoIter)
+            × I.into_iter_gives it from × YieldsThen I.IntoIter.next_gives from xs (Some x) rest
+            × (value_at K.eq (put_all K.eq [] xs) x.0 ≡ None)) }
 
         // The same, as one run of `next`, from which a chain of iterators is proved.
         ensures runs { IfOk result
