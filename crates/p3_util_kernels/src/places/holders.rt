@@ -1,0 +1,118 @@
+//! The holders of this crate: a reference to a holder, and slices.
+
+ghost use Rattle.std.specs.Prelude.{◌≡◌};
+ghost use Rattle.std.proofs.Common.{refl, ◌∙◌};
+
+use crate::places::{Cells, Places};
+
+/// The holder behind the reference is the holder.
+impl<S: Places> Places for &mut S {
+    type Item = S::Item;
+
+    ghost items = { λ m. S.items m.now };
+
+    ghost same_holder = { λ a b. (a.ghost_name ≡ b.ghost_name) × S.same_holder a.now b.now };
+
+    fn len(&self) -> usize {
+        S::len(self)
+    }
+
+    fn exchange(&mut self, i: usize, j: usize) {
+        S::exchange(self, i, j);
+    }
+
+    ghost same_holder_refl = { λ a. (refl, S.same_holder_refl a.now) };
+
+    ghost same_holder_trans = { λ a b c p q. (p.0 ∙ q.0, S.same_holder_trans a.now b.now c.now p.1 q.1) };
+}
+
+/// The holder behind the reference is the holder.
+impl<C: Cells> Cells for &mut C {
+    type Item = C::Item;
+
+    ghost items = { λ m. C.items m.now };
+
+    ghost same_holder = { λ a b. (a.ghost_name ≡ b.ghost_name) × C.same_holder a.now b.now };
+
+    fn len(&self) -> usize {
+        C::len(self)
+    }
+
+    fn put(&mut self, i: usize, v: Self::Item) {
+        C::put(self, i, v);
+    }
+
+    ghost same_holder_refl = { λ a. (refl, C.same_holder_refl a.now) };
+
+    ghost same_holder_trans = { λ a b c p q. (p.0 ∙ q.0, C.same_holder_trans a.now b.now c.now p.1 q.1) };
+}
+
+/// The items of a mutable slice. What it holds stands in the slice when the borrow ends.
+#[derive(Drop)]
+pub struct SlicePlaces<'a, F> {
+    pub items: &'a mut [F],
+}
+
+impl<'a, F> SlicePlaces<'a, F> {
+    /// The items of `items`, in order.
+    pub fn new(items: &'a mut [F]) -> Self
+        ensures { result.items ≡ items.entry }
+    {
+        SlicePlaces { items }
+    }
+}
+
+impl<'a, F> Places for SlicePlaces<'a, F> {
+    type Item = F;
+
+    ghost items = { λ s. s.items.now };
+
+    ghost same_holder = { λ a b. a.items.ghost_name ≡ b.items.ghost_name };
+
+    fn len(&self) -> usize {
+        self.items.len()
+    }
+
+    fn exchange(&mut self, i: usize, j: usize) {
+        self.items.swap(i, j);
+    }
+
+    ghost same_holder_refl = { λ a. refl };
+
+    ghost same_holder_trans = { λ a b c p q. p ∙ q };
+}
+
+/// The places of a mutable slice. What it holds stands in the slice when the borrow ends.
+#[derive(Drop)]
+pub struct SliceCells<'a, T> {
+    pub values: &'a mut [T],
+}
+
+impl<'a, T: Copy> SliceCells<'a, T> {
+    /// The places of `values`, in order.
+    pub fn new(values: &'a mut [T]) -> Self
+        ensures { result.values ≡ values.entry }
+    {
+        SliceCells { values }
+    }
+}
+
+impl<'a, T: Copy> Cells for SliceCells<'a, T> {
+    type Item = T;
+
+    ghost items = { λ s. s.values.now };
+
+    ghost same_holder = { λ a b. a.values.ghost_name ≡ b.values.ghost_name };
+
+    fn len(&self) -> usize {
+        self.values.len()
+    }
+
+    fn put(&mut self, i: usize, v: T) {
+        self.values[i] = v;
+    }
+
+    ghost same_holder_refl = { λ a. refl };
+
+    ghost same_holder_trans = { λ a b c p q. p ∙ q };
+}
