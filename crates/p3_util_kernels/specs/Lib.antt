@@ -6,4 +6,5 @@ pub mod Rearranged
 pub mod Reversal
 pub mod Square
 pub mod Steps
+pub mod SwapCounts
 pub mod Transpose

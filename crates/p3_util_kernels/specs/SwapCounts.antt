@@ -1,0 +1,15 @@
+-- How many swaps a bit reversal of 2 ^ k items makes: closed forms, and no loop of the code.
+use Rattle.std.specs.Prelude.{ℕ, ◌+◌, ◌-◌, ◌*◌, ◌/◌, ◌^◌}
+
+-- The pairs of numbers of k bits that are each other's reverse and differ. Of the 2 ^ k numbers of k bits,
+-- 2 ^ ceil(k / 2) are their own reverse.
+abbrev pub short_swaps : ℕ → ℕ
+short_swaps k = (2 ^ k - 2 ^ ((k + 1) / 2)) / 2
+
+-- The pairs of places of a square of `side` rows that mirror one another across its diagonal.
+abbrev pub square_swaps : ℕ → ℕ
+square_swaps side = side * (side - 1) / 2
+
+-- Chunks, one square or two, and chunks again, where the 2 ^ k items are 2 ^ (k / 2) chunks.
+abbrev pub long_swaps : ℕ → ℕ
+long_swaps k = 2 * (short_swaps (k / 2) * 2 ^ (k - k / 2)) + 2 ^ (k - k / 2 - k / 2) * square_swaps (2 ^ (k / 2))
