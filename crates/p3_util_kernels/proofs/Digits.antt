@@ -1,7 +1,7 @@
 -- Laws of binary digits, of sums over places, and of the reversal of digits.
 use Rattle.std.proofs.Common.{◌≡◌, ℕ, zero, suc, ◌+◌, ◌-◌, ◌*◌, ◌/◌, ◌%◌, ◌^◌, ◌<◌, ◌≤◌, refl, sym, ◌∙◌, ap, arith, bit_and, bit_or}
 use Rattle.std.proofs.Math.Nat.{pow-suc, div-one, mod-eq_of_lt}
-use Rattle.std.proofs.lemmas.Nat.{pow_pos, shr_split, shr-shr, mod_below, div-mul-add, and_mask, shl_whole, or_shifted}
+use Rattle.std.proofs.lemmas.Nat.{pow_pos, pow-add, shr_split, shr-shr, mod_below, div-mul-add, mul-add-lt, and_mask, shl_whole, or_shifted}
 use Rattle.std.proofs.lemmas.Nat.Bits.{bit_at-suc, bit_at-zero, bit_at_cat_low, same_from_bits_below}
 use Rattle.p3_util_kernels.specs.Digits.{bit, sum_below, rev, rev_word}
 
@@ -116,6 +116,27 @@ rev-add (suc j) k x =
     let low : rev (j + k) x ≡ rev k x * 2 ^ j + rev j (x / 2 ^ k) = rev-add j k x in
     let p : 2 ^ suc j ≡ 2 ^ j * 2 = pow-suc 2 j in
     rw (e, rev-suc (j + k) x, rev-suc j (x / 2 ^ k), p, d, low) (grind arith)
+
+-- the same of a number in two parts
+pub rev-parts : (j k a y : ℕ) → y < 2 ^ k → rev (j + k) (a * 2 ^ k + y) ≡ rev k y * 2 ^ j + rev j a
+rev-parts j k a y h =
+    let high : (a * 2 ^ k + y) / 2 ^ k ≡ a = div-mul-add a (2 ^ k) y h in
+    let low : rev k (a * 2 ^ k + y) ≡ rev k y = rev-same k (a * 2 ^ k + y) y (λ i less. bit_at_cat_low a k y i less) in
+    rev-add j k (a * 2 ^ k + y) ∙ rw (high, low) refl
+
+-- at most one digit is its own reverse
+rev-one : (d m : ℕ) → d ≤ 1 → m < 2 ^ d → rev d m ≡ m
+rev-one zero m few h = rw (rev-zero m) (omega arith)
+rev-one (suc zero) m few h = rw (rev-suc zero m, rev-zero m, div-one m) (omega arith)
+rev-one (suc (suc d)) m few h = absurd (omega arith)
+
+-- The same of a number in three parts, of q digits, of at most one and of q, which stays in the middle.
+pub rev-around : (q d a m y : ℕ) → d ≤ 1 → m < 2 ^ d → y < 2 ^ q
+    → rev (q + (d + q)) (a * 2 ^ (d + q) + (m * 2 ^ q + y)) ≡ rev q y * 2 ^ (d + q) + (m * 2 ^ q + rev q a)
+rev-around q d a m y few middle h =
+    let split : 2 ^ (d + q) ≡ 2 ^ d * 2 ^ q = pow-add 2 d q in
+    let inside : m * 2 ^ q + y < 2 ^ (d + q) = rw split (omega (arith, mul-add-lt m (2 ^ q) y (2 ^ d) middle h)) in
+    rw (rev-parts q (d + q) a (m * 2 ^ q + y) inside, rev-parts d q m y h, rev-one d m few middle, split) (grind arith)
 
 -- the reversal of the k low digits is the high end of that of more digits
 pub rev-shr : (j k x : ℕ) → rev (j + k) x / 2 ^ j ≡ rev k x

@@ -6,7 +6,7 @@ use Rattle.p3_util_kernels.specs.Transpose.{IsTranspose}
 use Rattle.p3_util_kernels.proofs.SameList.{same_places}
 
 -- what holds of each row and column holds of each place
-each_place : (P : ℕ → Type 0) (rows cols p : ℕ) → p < rows * cols → ((r c : ℕ) → r < rows → c < cols → P (r * cols + c)) → P p
+pub each_place : (P : ℕ → Type 0) (rows cols p : ℕ) → p < rows * cols → ((r c : ℕ) → r < rows → c < cols → P (r * cols + c)) → P p
 each_place P rows zero p h all = absurd (omega arith)
 each_place P rows (suc n) p h all =
     let cols = suc n in
