@@ -19,7 +19,7 @@ pub use p3_util_kernels::bits::{
 pub use p3_util_kernels::reverse::{
     reverse_index_bits_on, reverse_index_bits_short, reverse_slice_index_bits,
 };
-pub use p3_util_kernels::{bits, places, reverse, transpose};
+pub use p3_util_kernels::{bits, laws, places, reverse, transpose};
 pub use views::{
     BaseIter, BaseSlice, BaseSliceMut, as_base_slice, as_base_slice_mut, flat_len, flatten_to_base,
     reconstitute_from_base,

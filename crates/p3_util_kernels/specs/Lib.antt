@@ -4,6 +4,7 @@ pub mod Names
 pub mod Powers
 pub mod Rearranged
 pub mod Reversal
+pub mod Runs
 pub mod Square
 pub mod Steps
 pub mod SwapCounts

@@ -2,6 +2,7 @@
 #![tactic(auto)]
 
 pub mod bits;
+pub mod laws;
 pub mod places;
 pub mod reverse;
 pub mod transpose;

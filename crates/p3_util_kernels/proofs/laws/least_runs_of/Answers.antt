@@ -1,0 +1,12 @@
+use Rattle.p3_util_kernels.proofs.Runs.{swaps-change, puts-change, palindromes, least-reversal, least-square, least-puts}
+use Rattle.p3_util_kernels.proofs.laws.least_runs_of.Goals as goal
+
+pub returns : goal.returns
+returns g c = record {
+  swaps_change = swaps-change;
+  puts_change = puts-change;
+  palindromes = palindromes;
+  reversal = least-reversal;
+  square = least-square;
+  puts = least-puts;
+}

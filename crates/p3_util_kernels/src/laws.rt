@@ -1,0 +1,33 @@
+//! Laws of the definitions. Each is the contract of a call that does nothing.
+
+ghost use Rattle.std.specs.Prelude.{ℕ};
+ghost use Rattle.p3_util_kernels.specs.Runs.{LeastPuts, LeastReversal, LeastSquare, Palindromes, PutsChange, SwapsChange};
+
+/// The law of least numbers, over lists of numbers: that of [`least_runs_of`] for them.
+pub fn least_runs()
+    ensures swaps_change { SwapsChange ℕ }
+    ensures puts_change { PutsChange ℕ }
+    ensures palindromes { Palindromes }
+    ensures reversal { LeastReversal ℕ }
+    ensures square { LeastSquare ℕ }
+    ensures puts { LeastPuts ℕ }
+{
+    least_runs_of::<usize>();
+}
+
+/// The law of least numbers, over lists of any items that differ from each other. A run is any list of exchanges, or of
+/// writes, done in turn.
+///
+/// - A run of m exchanges changes at most 2m places, and a run of m writes at most m.
+/// - 2^ceil(k/2) numbers of k bits are their own reverse.
+/// - So every run of exchanges that reverses 2^k items by their index bits has at least `short_swaps k` of them, every one
+///   that transposes a square of `side` rows at least `side * (side - 1) / 2`, and every run of writes that changes n places
+///   has at least n. The short path, a whole square and the transpose meet these numbers.
+pub fn least_runs_of<T>()
+    ensures swaps_change { SwapsChange T }
+    ensures puts_change { PutsChange T }
+    ensures palindromes { Palindromes }
+    ensures reversal { LeastReversal T }
+    ensures square { LeastSquare T }
+    ensures puts { LeastPuts T }
+{}
