@@ -1,5 +1,6 @@
 pub mod Diagonal
 pub mod Digits
+pub mod Levels
 pub mod Names
 pub mod Powers
 pub mod Rearranged

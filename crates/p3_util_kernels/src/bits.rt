@@ -4,6 +4,7 @@ ghost use Rattle.std.specs.Prelude.{◌≡◌, ℕ, ◌+◌, ◌*◌, ◌^◌, �
 ghost use Rattle.std.specs.Int.{IsPowerOfTwo};
 ghost use Rattle.p3_util_kernels.specs.Powers.{IsPowerOfThree};
 ghost use Rattle.p3_util_kernels.specs.Digits.{rev, rev_word};
+ghost use Rattle.p3_util_kernels.specs.Levels.{clog};
 ghost use Rattle.p3_util_kernels.specs.Names.{is_mark, last_part, short_name};
 
 use std::alloc::{AllocError, Global};
@@ -85,6 +86,7 @@ static EXPONENTS_OF_THREE: [u8; 64] = [
 pub fn log2_ceil_usize(n: usize) -> usize
     ensures enough { n ≤ 2 ^ result }
     ensures least { (e : ℕ) → n ≤ 2 ^ e → result ≤ e }
+    ensures counted { result ≡ clog n }
 {
     if n <= 1 {
         0

@@ -1,0 +1,159 @@
+-- How deep the split of a transpose nests.
+use Rattle.std.proofs.Common.{◌≡◌, ℕ, zero, suc, ◌+◌, ◌-◌, ◌*◌, ◌/◌, ◌^◌, ◌<◌, ◌≤◌, ◌⊎◌, cond, ltb, inl, inr, ◌∙◌, ap, arith}
+use Rattle.std.proofs.Math.Nat.{pow-suc, pow-le-pow_right}
+use Rattle.std.proofs.lemmas.Bool.{cases_lt, lt-ltb, le-ltb, and_from, and_left, and_right, cond-true, cond-false}
+use Rattle.std.proofs.lemmas.Nat.{pow-add, mul-le}
+use Rattle.p3_util_kernels.specs.Digits.{sum_below}
+use Rattle.p3_util_kernels.specs.Levels.{clog, lev, nest}
+
+-- the powers of two below n, among the first m of them, are the first `many`
+record IsCount (n m many : ℕ) : Type 0 where
+  within : many ≤ m
+  below : (e : ℕ) → e < many → 2 ^ e < n
+  above : (e : ℕ) → many ≤ e → e < m → n ≤ 2 ^ e
+
+IsCount-more : (n m many : ℕ) → IsCount n m many → IsCount n (suc m) (many + cond (ltb (2 ^ m) n) 1 0)
+IsCount-more n m many s =
+    elim (cases_lt (2 ^ m) n) [
+      | inl less ↦
+          let all : m ≤ many = elim (cases_lt many m) [
+            | inl short ↦
+                let over : n ≤ 2 ^ many = s.above many (omega arith) short in
+                let up : 2 ^ many ≤ 2 ^ m = pow-le-pow_right (omega arith) (omega arith) in
+                absurd (omega arith)
+            | inr le ↦ le
+          ] in
+          let one : cond {A = ℕ} (ltb (2 ^ m) n) 1 0 ≡ 1 = cond-true _ 1 0 (lt-ltb _ _ less) in
+          let within = s.within in
+          record {
+            within = omega arith;
+            below = λ e h. elim (cases_lt e many) [
+              | inl before ↦ s.below e before
+              | inr here ↦ let same : m ≡ e = omega arith in rw same at less
+            ];
+            above = λ e h k. absurd (omega arith);
+          }
+      | inr le ↦
+          let none : cond {A = ℕ} (ltb (2 ^ m) n) 1 0 ≡ 0 = cond-false _ 1 0 (le-ltb _ _ le) in
+          let within = s.within in
+          record {
+            within = omega arith;
+            below = λ e h. s.below e (omega arith);
+            above = λ e h k. elim (cases_lt e m) [
+              | inl before ↦ s.above e (omega arith) before
+              | inr here ↦ let same : m ≡ e = omega arith in rw same at le
+            ];
+          }
+    ]
+
+counts : (n m : ℕ) → IsCount n m (sum_below m (λ e. cond (ltb (2 ^ e) n) 1 0))
+unfolding sum_below
+counts n zero = record { within = omega arith; below = λ e h. absurd (omega arith); above = λ e h k. absurd (omega arith) }
+counts n (suc m) = IsCount-more n m _ (counts n m)
+
+below_power : (n : ℕ) → n < 2 ^ n
+below_power zero = omega arith
+below_power (suc n) = omega (arith, below_power n, pow-suc 2 n)
+
+-- what `log2_ceil_usize` promises holds of `clog`
+pub clog-enough : (n : ℕ) → n ≤ 2 ^ clog n
+unfolding clog
+clog-enough n =
+    let s = counts n n in
+    elim (cases_lt (clog n) n) [
+      | inl less ↦ s.above (clog n) (omega arith) less
+      | inr all ↦
+          let same : clog n ≡ n = omega (arith, s.within) in
+          rw same (omega (arith, below_power n))
+    ]
+
+pub clog-least : (n e : ℕ) → n ≤ 2 ^ e → clog n ≤ e
+unfolding clog
+clog-least n e h =
+    let s = counts n n in
+    elim (cases_lt e (clog n)) [
+      | inl less ↦ absurd (omega (arith, s.below e less))
+      | inr le ↦ le
+    ]
+
+-- no other number is the least one
+pub clog_only : (n e : ℕ) → n ≤ 2 ^ e → ((d : ℕ) → n ≤ 2 ^ d → e ≤ d) → e ≡ clog n
+clog_only n e enough least = omega (arith, clog-least n e enough, least (clog n) (clog-enough n))
+
+-- of a number that lies above 2 ^ e the logarithm does
+pub clog-above : (n e : ℕ) → 2 ^ e < n → e < clog n
+clog-above n e h =
+    elim (cases_lt e (clog n)) [
+      | inl less ↦ less
+      | inr le ↦ let up : 2 ^ clog n ≤ 2 ^ e = pow-le-pow_right (omega arith) le in absurd (omega (arith, clog-enough n))
+    ]
+
+-- a number reaches the power below its logarithm
+pub clog-high : (n : ℕ) → 0 < clog n → 2 ^ (clog n - 1) ≤ n
+clog-high n h =
+    elim (cases_lt n (2 ^ (clog n - 1))) [
+      | inl less ↦ absurd (omega (arith, clog-least n (clog n - 1) (omega arith)))
+      | inr le ↦ le
+    ]
+
+-- the larger half has one digit less
+pub clog-half : (n : ℕ) → 2 ≤ n → clog (n - n / 2) + 1 ≡ clog n
+clog-half n h =
+    let whole = clog-enough n in
+    let half = clog-enough (n - n / 2) in
+    let some : 0 < clog n = clog-above n 0 (omega arith) in
+    let less : clog n ≡ suc (clog n - 1) = omega arith in
+    let two : 2 ^ clog n ≡ 2 ^ (clog n - 1) * 2 = ap (λ e. 2 ^ e) less ∙ pow-suc 2 (clog n - 1) in
+    let up : clog (n - n / 2) ≤ clog n - 1 = clog-least (n - n / 2) (clog n - 1) (omega arith) in
+    let down : clog n ≤ suc (clog (n - n / 2)) = clog-least n (suc (clog (n - n / 2))) (omega (arith, pow-suc 2 (clog (n - n / 2)))) in
+    omega arith
+
+-- a smaller number has no more
+pub clog-le : (m n : ℕ) → m ≤ n → clog m ≤ clog n
+clog-le m n h = clog-least m (clog n) (omega (arith, clog-enough n))
+
+pub nest-deep : (r c : ℕ) → 2 < r → 2 < c → nest r c ≡ lev r c
+nest-deep r c h k = cond-true _ (lev r c) 0 (and_from _ _ (lt-ltb _ _ h) (lt-ltb _ _ k))
+
+pub nest-narrow : (r c : ℕ) → (r ≤ 2) ⊎ (c ≤ 2) → nest r c ≡ 0
+nest-narrow r c (inl h) = cond-false _ (lev r c) 0 (and_left _ _ (le-ltb _ _ h))
+nest-narrow r c (inr h) = cond-false _ (lev r c) 0 (and_right _ _ (le-ltb _ _ h))
+
+pub nest_le_lev : (r c : ℕ) → nest r c ≤ lev r c
+nest_le_lev r c =
+    elim (cases_lt 2 r) [
+      | inl deep ↦ elim (cases_lt 2 c) [
+        | inl deep' ↦ omega (arith, nest-deep r c deep deep')
+        | inr narrow ↦ omega (arith, nest-narrow r c (inr narrow))
+      ]
+      | inr narrow ↦ omega (arith, nest-narrow r c (inl narrow))
+    ]
+
+-- a region with both sides at most 128 is no further split
+pub lev-small : (r c : ℕ) → r ≤ 128 → c ≤ 128 → lev r c ≡ 0
+lev-small r c h k = omega (arith, clog-least r 7 h, clog-least c 7 k)
+
+-- halving a side above 128: the larger half nests one level less
+pub lev-half : (n k : ℕ) → 128 < n → lev (n - n / 2) k + 1 ≡ lev n k
+lev-half n k h = omega (arith, clog-half n (omega arith), clog-above n 7 h)
+
+-- a region and one with its sides exchanged nest alike
+pub lev-comm : (r c : ℕ) → lev r c ≡ lev c r
+lev-comm r c = omega arith
+
+-- at most 57 levels for a region whose sides and whose product fit a word
+pub lev_le : (r c : ℕ) → r < 2 ^ 64 → c < 2 ^ 64 → r * c < 2 ^ 64 → lev r c ≤ 57
+lev_le r c h k fits =
+    let tall : clog r ≤ 64 = clog-least r 64 (omega arith) in
+    let wide : clog c ≤ 64 = clog-least c 64 (omega arith) in
+    elim (cases_lt 65 (clog r + clog c)) [
+      | inl many ↦
+          let high : 2 ^ (clog r - 1) ≤ r = clog-high r (omega arith) in
+          let broad : 2 ^ (clog c - 1) ≤ c = clog-high c (omega arith) in
+          let both : 2 ^ (clog r - 1) * 2 ^ (clog c - 1) ≤ r * c = mul-le (2 ^ (clog r - 1)) (2 ^ (clog c - 1)) r c high broad in
+          let sum : 2 ^ (clog r - 1 + (clog c - 1)) ≡ 2 ^ (clog r - 1) * 2 ^ (clog c - 1) = pow-add 2 (clog r - 1) (clog c - 1) in
+          let far : 64 ≤ clog r - 1 + (clog c - 1) = omega arith in
+          let up : 2 ^ 64 ≤ 2 ^ (clog r - 1 + (clog c - 1)) = pow-le-pow_right (omega arith) far in
+          absurd (omega arith)
+      | inr few ↦ omega arith
+    ]
