@@ -4,6 +4,7 @@ pub mod Levels
 pub mod Names
 pub mod Powers
 pub mod Rearranged
+pub mod Region
 pub mod Reversal
 pub mod Runs
 pub mod Square

@@ -5,8 +5,3 @@ use Rattle.std.specs.Prelude.{ℕ, ◌≡◌, ◌+◌, ◌*◌, ◌<◌, List, l
 pub record IsTranspose {A : Type 0} (width height : ℕ) (old new : List A) : Type 0 where
   pub same_length : length new ≡ width * height
   pub places : (x y : ℕ) → x < width → y < height → slice_get new (x * height + y) ≡ slice_get old (y * width + x)
-
--- the places of `out` below p hold what the transpose of `input` has there
-pub record IsFilled {A : Type 0} (width height p : ℕ) (input out : List A) : Type 0 where
-  pub same_length : length out ≡ width * height
-  pub places : (x y : ℕ) → x < width → y < height → x * height + y < p → slice_get out (x * height + y) ≡ slice_get input (y * width + x)

@@ -3,13 +3,13 @@
 //! A kernel over [`Swaps`] exchanges items, a kernel over [`Writes`] puts them, and neither can do anything else to the
 //! list, so that what its counter tells is all that it did.
 
-ghost use Rattle.std.specs.Prelude.{◌≡◌, ℕ, ◌<◌, List, length, swap, slice_set};
+ghost use Rattle.std.specs.Prelude.{◌≡◌, ℕ, ◌<◌, List, Some, length, swap, slice_get, slice_set};
 
 mod counters;
 mod holders;
 
 pub use counters::{Swaps, Writes};
-pub use holders::{SliceCells, SlicePlaces};
+pub use holders::{SliceCells, SlicePlaces, SliceSource};
 
 /// A list whose items can be exchanged, and neither read nor moved in another way.
 ///
@@ -61,4 +61,22 @@ pub trait Cells {
     ghost same_holder_refl: { (a : Self) → same_holder a a };
 
     ghost same_holder_trans: { (a b c : Self) → same_holder a b → same_holder b c → same_holder a c };
+}
+
+/// A list whose items can be read, and not changed.
+///
+/// Contracts see an implementation as the list of its items.
+pub trait Source {
+    type Item: Copy;
+
+    ghost items: { Self → List Self.Item };
+
+    /// The number of items.
+    fn len(&self) -> usize
+        ensures { result ≡ length (items self.now) };
+
+    /// The item at place `i`.
+    fn at(&self, i: usize) -> Self::Item
+        requires { i < length (items self.now) }
+        ensures { slice_get (items self.now) i ≡ Some result };
 }

@@ -2,12 +2,24 @@
 
 ghost use Rattle.std.specs.Prelude.{◌≡◌, ◌+◌, ◌*◌, ◌^◌, ◌<◌, ◌↔◌, IsTrue, length};
 ghost use Rattle.p3_util_kernels.specs.Steps.{counted};
-ghost use Rattle.p3_util_kernels.specs.Transpose.{IsFilled, IsTranspose};
+ghost use Rattle.p3_util_kernels.specs.Region.{IsRegionTransposed, LiesInMatrix, items_of};
+ghost use Rattle.p3_util_kernels.specs.Transpose.{IsTranspose};
 
+mod regions;
 mod square;
 
-use crate::places::{Cells, SliceCells, Writes};
+use crate::places::{Cells, SliceCells, SliceSource, Source, Writes};
+use regions::put_region;
 pub use square::transpose_square_on;
+
+/// The rows from `row_start` to below `row_end` of a matrix, and of these the columns from `col_start` to below `col_end`.
+#[derive(Clone, Copy, Debug, PartialEq, Eq)]
+pub struct Region {
+    pub row_start: usize,
+    pub row_end: usize,
+    pub col_start: usize,
+    pub col_end: usize,
+}
 
 /// Whether an input and an output of these lengths hold a matrix of `width` by `height` items, with the product as a
 /// whole number that does not wrap. It is the test for the condition of [`transpose`] and [`transpose_on`].
@@ -56,29 +68,46 @@ pub fn transpose_on<C: Cells>(input: &[C::Item], out: &mut Writes<C>, width: usi
     ensures count { out.new.count ≡ counted out.old.count (width * height) }
     ensures holder { C.same_holder out.old.holder out.new.holder }
 {
-    let _places = out.len();
-    for x in 0..width {
-        put_column(input, out, width, height, x);
-    }
+    transpose_source_on(&SliceSource::new(input), out, width, height);
 }
 
-/// Puts column `x` of `input` into `out` as row `x` of its transpose, in `height` writes, after the columns before it.
-fn put_column<C: Cells>(
-    input: &[C::Item],
-    out: &mut Writes<C>,
-    width: usize,
-    height: usize,
-    x: usize,
-)
-    requires input_fits { length input.now ≡ width * height }
-    requires filled { IsFilled width height (x * height) input.now (C.items out.old.holder) }
-    requires inside { x < width }
-    requires count_fits { out.old.count < 2 ^ 128 }
-    ensures filled { IsFilled width height (x * height + height) input.now (C.items out.new.holder) }
-    ensures count { out.new.count ≡ counted out.old.count height }
+/// Puts the transpose of any source into `out`, as [`transpose_on`] does that of a slice.
+pub fn transpose_source_on<R, C>(input: &R, out: &mut Writes<C>, width: usize, height: usize)
+where
+    C: Cells,
+    R: Source<Item = C::Item>,
+    requires input_fits { length (R.items input.now) ≡ width * height }
+    requires output_fits { length (C.items out.old.holder) ≡ width * height }
+    ensures order { IsTranspose width height (R.items input.now) (C.items out.new.holder) }
+    ensures count { out.new.count ≡ counted out.old.count (width * height) }
     ensures holder { C.same_holder out.old.holder out.new.holder }
 {
-    for y in 0..height {
-        out.put(x * height + y, input[y * width + x]);
-    }
+    let whole = Region {
+        row_start: 0,
+        row_end: height,
+        col_start: 0,
+        col_end: width,
+    };
+    put_region(input, out, whole, width, height);
+}
+
+/// Puts the transpose of `region`, a part of the matrix `input`, into `out`, in one write an item: what stood at
+/// `y * width + x` is put at `x * height + y`, for each row y and column x of the region. Every other place stays. Both
+/// lengths are `width` times `height`, which [`fits_matrix`] tells.
+pub fn transpose_region_on<C: Cells>(
+    input: &[C::Item],
+    out: &mut Writes<C>,
+    region: Region,
+    width: usize,
+    height: usize,
+)
+    requires input_fits { length input.now ≡ width * height }
+    requires output_fits { length (C.items out.old.holder) ≡ width * height }
+    requires inside { LiesInMatrix region width height }
+    ensures transposed { IsRegionTransposed region width height input.now
+        (C.items out.old.holder) (C.items out.new.holder) }
+    ensures count { out.new.count ≡ counted out.old.count (items_of region) }
+    ensures holder { C.same_holder out.old.holder out.new.holder }
+{
+    put_region(&SliceSource::new(input), out, region, width, height);
 }

@@ -3,7 +3,7 @@
 ghost use Rattle.std.specs.Prelude.{◌≡◌};
 ghost use Rattle.std.proofs.Common.{refl, ◌∙◌};
 
-use crate::places::{Cells, Places};
+use crate::places::{Cells, Places, Source};
 
 /// The holder behind the reference is the holder.
 impl<S: Places> Places for &mut S {
@@ -115,4 +115,33 @@ impl<'a, T: Copy> Cells for SliceCells<'a, T> {
     ghost same_holder_refl = { λ a. refl };
 
     ghost same_holder_trans = { λ a b c p q. p ∙ q };
+}
+
+/// The items of a slice, to be read.
+#[derive(Drop)]
+pub struct SliceSource<'a, T> {
+    pub slice: &'a [T],
+}
+
+impl<'a, T: Copy> SliceSource<'a, T> {
+    /// The items of `slice`, in order.
+    pub fn new(slice: &'a [T]) -> Self
+        ensures { result.slice ≡ slice.entry }
+    {
+        SliceSource { slice }
+    }
+}
+
+impl<'a, T: Copy> Source for SliceSource<'a, T> {
+    type Item = T;
+
+    ghost items = { λ s. s.slice.now };
+
+    fn len(&self) -> usize {
+        self.slice.len()
+    }
+
+    fn at(&self, i: usize) -> T {
+        self.slice[i]
+    }
 }
