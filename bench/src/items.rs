@@ -1,0 +1,103 @@
+//! Items of each size, and the calls on them.
+
+use crate::cases::{Case, Work};
+
+pub trait Item: Copy + PartialEq + Send + Sync {
+    fn numbered(i: usize) -> Self;
+}
+
+macro_rules! number_items {
+    ($($number:ty)*) => {
+        $(
+            impl Item for $number {
+                fn numbered(i: usize) -> Self {
+                    ((i as u64 + 1).wrapping_mul(0x9e37_79b9_7f4a_7c15) >> 32) as $number
+                }
+            }
+        )*
+    };
+}
+
+number_items!(u8 u16 u32 u64);
+
+impl<const N: usize> Item for [u64; N] {
+    fn numbered(i: usize) -> Self {
+        std::array::from_fn(|k| u64::numbered(i) + k as u64)
+    }
+}
+
+/// What is done with a case whose item type is known.
+pub trait Visitor {
+    type Answer;
+
+    fn visit<T: Item>(self, case: &Case) -> Self::Answer;
+}
+
+pub fn visit<V: Visitor>(case: &Case, visitor: V) -> V::Answer {
+    match case.item_size {
+        1 => visitor.visit::<u8>(case),
+        2 => visitor.visit::<u16>(case),
+        4 => visitor.visit::<u32>(case),
+        8 => visitor.visit::<u64>(case),
+        16 => visitor.visit::<[u64; 2]>(case),
+        _ => visitor.visit::<[u64; 4]>(case),
+    }
+}
+
+/// The lists of one case. A reversal works in `to`; a transpose goes from `from` to `to`, and so does a copy.
+pub struct Lists<T> {
+    work: Work,
+    from: Vec<T>,
+    to: Vec<T>,
+}
+
+#[derive(Clone, Copy, PartialEq, Eq)]
+pub enum Contender {
+    Proved,
+    #[cfg(original)]
+    Original,
+    Copy,
+}
+
+pub const CONTENDERS: &[Contender] = &[
+    Contender::Proved,
+    #[cfg(original)]
+    Contender::Original,
+    Contender::Copy,
+];
+
+impl<T: Item> Lists<T> {
+    pub fn new(case: &Case) -> Self {
+        let from: Vec<T> = (0..case.work.items()).map(T::numbered).collect();
+        Lists { work: case.work, to: from.clone(), from }
+    }
+
+    pub fn run(&mut self, contender: Contender) {
+        let (from, to) = (self.from.as_slice(), self.to.as_mut_slice());
+        match (contender, self.work) {
+            (Contender::Proved, Work::Reverse { .. }) => p3_util_proved::reverse_slice_index_bits(to),
+            (Contender::Proved, Work::Transpose { width, height }) => {
+                p3_util_proved::transpose::transpose(from, to, width, height)
+            }
+            #[cfg(original)]
+            (Contender::Original, Work::Reverse { .. }) => p3_util::reverse_slice_index_bits(to),
+            #[cfg(original)]
+            (Contender::Original, Work::Transpose { width, height }) => {
+                p3_util::transpose::transpose(from, to, width, height)
+            }
+            (Contender::Copy, _) => to.copy_from_slice(from),
+        }
+        std::hint::black_box(&mut self.to);
+    }
+
+    /// Runs once from the same start and compares the list with what the definition says, item by item.
+    pub fn check(&mut self, contender: Contender) {
+        self.to.copy_from_slice(&self.from);
+        self.run(contender);
+        let is_copy = contender == Contender::Copy;
+        for (i, item) in self.to.iter().enumerate() {
+            let source = if is_copy { i } else { self.work.source(i) };
+            assert!(*item == self.from[source], "{} of {}: wrong at {i}", self.work.call(), self.work.shape());
+        }
+    }
+}

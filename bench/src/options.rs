@@ -1,0 +1,103 @@
+//! The words of the command line.
+
+use std::path::PathBuf;
+
+pub const USAGE: &str = "\
+options:
+  --calls reverse,transpose   which calls (all)
+  --items 1,4,8,32            sizes of an item in bytes, of 1 2 4 8 16 32 (1,4,8,32)
+  --sizes 2-22                reversals of 2^2 to 2^22 items; also a list, as 3,7,13 (2-22)
+  --shapes 16x16,300x60       transposes of so many columns by so many rows (the table of docs/PERFORMANCE.md)
+  --runs N                    at least N runs of each, of which the least counts (9)
+  --svg FILE                  writes the table as a picture too";
+
+pub enum Mode {
+    Help,
+    Time,
+    /// Runs each case once, in a function that callgrind knows by its name.
+    CountEach,
+    /// Prints what callgrind left in this folder.
+    Counts(PathBuf),
+}
+
+pub struct Options {
+    pub mode: Mode,
+    pub calls: Vec<String>,
+    pub items: Vec<usize>,
+    pub sizes: Vec<u32>,
+    pub shapes: Vec<(usize, usize)>,
+    pub runs: usize,
+    pub svg: Option<PathBuf>,
+}
+
+/// Columns and rows.
+const SHAPES: &str = "4x4,8x8,15x17,16x16,17x19,64x64,63x50,300x60,512x512,1024x1024,1025x1024,2048x2048,2003x757,\
+    4096x16,16x65536,1000x1024,300x4096,100x16384,40x65536,12x262144,65536x40,4096x4096,262144x12";
+
+impl Options {
+    pub fn from_words(mut words: impl Iterator<Item = String>) -> Result<Self, String> {
+        let mut options = Options {
+            mode: Mode::Time,
+            calls: vec!["reverse".into(), "transpose".into()],
+            items: vec![1, 4, 8, 32],
+            sizes: (2..=22).collect(),
+            shapes: list(SHAPES, shape)?,
+            runs: 9,
+            svg: None,
+        };
+        while let Some(word) = words.next() {
+            let mut value = || words.next().ok_or_else(|| format!("{word} wants a value"));
+            match word.as_str() {
+                "--help" => options.mode = Mode::Help,
+                "--calls" => options.calls = list(&value()?, call)?,
+                "--items" => options.items = list(&value()?, item)?,
+                "--sizes" => options.sizes = sizes(&value()?)?,
+                "--shapes" => options.shapes = list(&value()?, shape)?,
+                "--runs" => options.runs = number(&value()?)?,
+                "--svg" => options.svg = Some(value()?.into()),
+                "--count-each" => options.mode = Mode::CountEach,
+                "--counts" => options.mode = Mode::Counts(value()?.into()),
+                _ => return Err(format!("unknown option {word}")),
+            }
+        }
+        Ok(options)
+    }
+}
+
+fn list<T>(text: &str, read: fn(&str) -> Result<T, String>) -> Result<Vec<T>, String> {
+    text.split(',').map(read).collect()
+}
+
+fn number(text: &str) -> Result<usize, String> {
+    text.parse().map_err(|_| format!("{text} is no number"))
+}
+
+fn call(text: &str) -> Result<String, String> {
+    match text {
+        "reverse" | "transpose" => Ok(text.to_owned()),
+        _ => Err(format!("unknown call {text}")),
+    }
+}
+
+fn item(text: &str) -> Result<usize, String> {
+    match number(text)? {
+        size @ (1 | 2 | 4 | 8 | 16 | 32) => Ok(size),
+        _ => Err(format!("no items of {text} bytes are measured")),
+    }
+}
+
+fn shape(text: &str) -> Result<(usize, usize), String> {
+    let (width, height) = text.split_once('x').ok_or_else(|| format!("{text} is no shape"))?;
+    Ok((number(width)?, number(height)?))
+}
+
+fn sizes(text: &str) -> Result<Vec<u32>, String> {
+    let log = |text: &str| match text.parse() {
+        Ok(log @ 0..=30) => Ok(log),
+        _ => Err(format!("{text} is no number up to 30")),
+    };
+    match text.split_once('-') {
+        Some((first, last)) => Ok((log(first)?..=log(last)?).collect()),
+        None => text.split(',').map(log).collect(),
+    }
+}

@@ -1,0 +1,27 @@
+//! Bit reversal and transposes of slices, as `p3-util` 0.8.0 names them, over a library whose code is proved.
+//!
+//! Each call tests its condition and panics where it does not hold, as the original does, and hands the slice to the
+//! static library `p3_util_c`. Whether an item type is served is decided when the call is compiled.
+#![no_std]
+#![deny(missing_docs)]
+
+mod library;
+pub mod transpose;
+
+/// Reverses the order of `vals` by index bits: with 2^k items, place `i` gets the item from the place whose index has the
+/// k bits of `i` in reversed order. No item is cloned or dropped.
+///
+/// Items have a size of 0, 1, 2, 4, 8, 16 or 32 bytes; a call with others is not compiled.
+///
+/// # Panics
+///
+/// Where the length is neither zero nor a power of two.
+#[track_caller]
+pub fn reverse_slice_index_bits<F: Send + Sync>(vals: &mut [F]) {
+    let fits = library::reverse(vals);
+    assert!(
+        fits,
+        "length {} is neither zero nor a power of two",
+        vals.len()
+    );
+}

@@ -1,0 +1,121 @@
+//! The calls of the static library, chosen by the size of an item; all that is unsafe is in this file.
+
+use core::ffi::c_void;
+
+type Reverse = unsafe extern "C" fn(vals: *mut c_void, len: usize) -> bool;
+
+type Transpose = unsafe extern "C" fn(
+    input: *const c_void,
+    input_len: usize,
+    output: *mut c_void,
+    output_len: usize,
+    width: usize,
+    height: usize,
+) -> bool;
+
+/// Declares calls of the library. The number at the end of a name is the size of an item in bytes.
+macro_rules! declare {
+    ($($reverse:ident $transpose:ident)*) => {
+        // The library proves of each call that it touches its lists alone, that it moves whole items, and that it answers
+        // false, with nothing changed, where its condition does not hold. It asks nothing of a list's alignment.
+        unsafe extern "C" {
+            $(
+                fn $reverse(vals: *mut c_void, len: usize) -> bool;
+                fn $transpose(
+                    input: *const c_void,
+                    input_len: usize,
+                    output: *mut c_void,
+                    output_len: usize,
+                    width: usize,
+                    height: usize,
+                ) -> bool;
+            )*
+        }
+    };
+}
+
+declare! {
+    p3_util_reverse_1 p3_util_transpose_1
+    p3_util_reverse_2 p3_util_transpose_2
+    p3_util_reverse_4 p3_util_transpose_4
+    p3_util_reverse_8 p3_util_transpose_8
+    p3_util_reverse_16 p3_util_transpose_16
+    p3_util_reverse_32 p3_util_transpose_32
+}
+
+const fn reverse_for(size: usize) -> Reverse {
+    match size {
+        1 => p3_util_reverse_1,
+        2 => p3_util_reverse_2,
+        4 => p3_util_reverse_4,
+        8 => p3_util_reverse_8,
+        16 => p3_util_reverse_16,
+        32 => p3_util_reverse_32,
+        _ => panic!("items have a size of 0, 1, 2, 4, 8, 16 or 32 bytes"),
+    }
+}
+
+const fn transpose_for(size: usize) -> Transpose {
+    match size {
+        1 => p3_util_transpose_1,
+        2 => p3_util_transpose_2,
+        4 => p3_util_transpose_4,
+        8 => p3_util_transpose_8,
+        16 => p3_util_transpose_16,
+        32 => p3_util_transpose_32,
+        _ => panic!("items have a size of 0, 1, 2, 4, 8, 16 or 32 bytes"),
+    }
+}
+
+/// Reverses the order of `vals` by index bits, where the length is zero or a power of two, and answers whether it is.
+pub(crate) fn reverse<F>(vals: &mut [F]) -> bool {
+    if size_of::<F>() == 0 {
+        // Items without bytes are all one: no order is another.
+        return vals.is_empty() || vals.len().is_power_of_two();
+    }
+    let call = const {
+        reverse_for(if size_of::<F>() == 0 {
+            1
+        } else {
+            size_of::<F>()
+        })
+    };
+    // SAFETY: the pointer and the length are those of one exclusive slice, whose items have the size in the call's name.
+    // The call does what a series of `slice::swap` does: afterwards each place holds all bytes of one item, padding
+    // included, and each item is at one place. So it moves items of any type, and no item is copied or dropped.
+    unsafe { call(vals.as_mut_ptr().cast(), vals.len()) }
+}
+
+/// Writes to `output` the transpose of `input`, a matrix of `height` rows of `width` items, where both lengths are the
+/// product of the two, and answers whether they are.
+pub(crate) fn transpose<T: Copy>(
+    input: &[T],
+    output: &mut [T],
+    width: usize,
+    height: usize,
+) -> bool {
+    if size_of::<T>() == 0 {
+        let items = width.checked_mul(height);
+        return items == Some(input.len()) && items == Some(output.len());
+    }
+    let call = const {
+        transpose_for(if size_of::<T>() == 0 {
+            1
+        } else {
+            size_of::<T>()
+        })
+    };
+    // SAFETY: the pointers and lengths are those of a shared and of an exclusive slice, which therefore do not overlap, and
+    // whose items have the size in the call's name. The call reads the input and writes to each place of the output all
+    // bytes of one item of the input, padding included, which is a copy, as `T: Copy` allows.
+    unsafe {
+        call(
+            input.as_ptr().cast(),
+            input.len(),
+            output.as_mut_ptr().cast(),
+            output.len(),
+            width,
+            height,
+        )
+    }
+}

@@ -1,0 +1,27 @@
+//! Transposes of matrices that are held as flat slices, row after row.
+
+use crate::library;
+
+/// Writes to `output` the transpose of `input`, a matrix of `height` rows of `width` items: what is at
+/// `input[y * width + x]` is put at `output[x * height + y]`.
+///
+/// Items have a size of 0, 1, 2, 4, 8, 16 or 32 bytes; a call with others is not compiled.
+///
+/// # Panics
+///
+/// Where the length of `input` or of `output` is not `width` times `height`, as a product that does not wrap.
+#[track_caller]
+pub fn transpose<T: Copy + Send + Sync>(
+    input: &[T],
+    output: &mut [T],
+    width: usize,
+    height: usize,
+) {
+    let fits = library::transpose(input, output, width, height);
+    assert!(
+        fits,
+        "the lengths {} of the input and {} of the output are not {width} times {height}",
+        input.len(),
+        output.len(),
+    );
+}
