@@ -5,8 +5,13 @@ use crate::options::Options;
 #[derive(Clone, Copy, PartialEq, Eq)]
 pub enum Work {
     /// A reversal of 2^log items.
-    Reverse { log: u32 },
-    Transpose { width: usize, height: usize },
+    Reverse {
+        log: u32,
+    },
+    Transpose {
+        width: usize,
+        height: usize,
+    },
 }
 
 #[derive(Clone, Copy)]
@@ -49,8 +54,14 @@ impl Work {
 
 pub fn chosen(options: &Options) -> Vec<Case> {
     let reversals = options.sizes.iter().map(|&log| Work::Reverse { log });
-    let transposes = options.shapes.iter().map(|&(width, height)| Work::Transpose { width, height });
-    let works: Vec<Work> = reversals.chain(transposes).filter(|work| options.calls.iter().any(|it| it == work.call())).collect();
+    let transposes = options
+        .shapes
+        .iter()
+        .map(|&(width, height)| Work::Transpose { width, height });
+    let works: Vec<Work> = reversals
+        .chain(transposes)
+        .filter(|work| options.calls.iter().any(|it| it == work.call()))
+        .collect();
     let of_size = |&item_size| works.iter().map(move |&work| Case { work, item_size });
     let mut cases: Vec<Case> = options.items.iter().flat_map(of_size).collect();
     cases.sort_by_key(|case| case.work.call());

@@ -40,5 +40,6 @@ fn total(file: &Path) -> Result<f64, String> {
     let fault = |what: String| format!("{}: {what}", file.display());
     let text = std::fs::read_to_string(file).map_err(|e| fault(e.to_string()))?;
     let line = text.lines().find_map(|line| line.strip_prefix("totals: "));
-    line.and_then(|it| it.trim().parse().ok()).ok_or_else(|| fault("no line of totals".into()))
+    line.and_then(|it| it.trim().parse().ok())
+        .ok_or_else(|| fault("no line of totals".into()))
 }

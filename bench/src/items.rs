@@ -69,7 +69,11 @@ pub const CONTENDERS: &[Contender] = &[
 impl<T: Item> Lists<T> {
     pub fn new(case: &Case) -> Self {
         let from: Vec<T> = (0..case.work.items()).map(T::numbered).collect();
-        Lists { work: case.work, to: from.clone(), from }
+        Lists {
+            work: case.work,
+            to: from.clone(),
+            from,
+        }
     }
 
     pub fn run(&mut self, contender: Contender) {
@@ -97,7 +101,12 @@ impl<T: Item> Lists<T> {
         let is_copy = contender == Contender::Copy;
         for (i, item) in self.to.iter().enumerate() {
             let source = if is_copy { i } else { self.work.source(i) };
-            assert!(*item == self.from[source], "{} of {}: wrong at {i}", self.work.call(), self.work.shape());
+            assert!(
+                *item == self.from[source],
+                "{} of {}: wrong at {i}",
+                self.work.call(),
+                self.work.shape()
+            );
         }
     }
 }

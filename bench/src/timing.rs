@@ -71,7 +71,10 @@ unsafe extern "C" {
 /// The time that the processor worked for this thread, so that other programs do not count.
 fn processor_time() -> Duration {
     const THREAD_CLOCK: i32 = 3;
-    let mut time = TimeSpec { seconds: 0, nanoseconds: 0 };
+    let mut time = TimeSpec {
+        seconds: 0,
+        nanoseconds: 0,
+    };
     // SAFETY: the C library fills the struct, whose layout is that of a `timespec` on 64-bit Linux.
     let status = unsafe { clock_gettime(THREAD_CLOCK, &mut time) };
     assert_eq!(status, 0, "there is no clock for the time of a thread");

@@ -9,9 +9,7 @@ const FOLDER: &str = "P3_UTIL_C_DIR";
 
 fn main() {
     println!("cargo::rerun-if-env-changed={FOLDER}");
-    let package = env::var_os("CARGO_MANIFEST_DIR")
-        .map(PathBuf::from)
-        .unwrap_or_default();
+    let package = env::var_os("CARGO_MANIFEST_DIR").map(PathBuf::from).unwrap_or_default();
     let folder = match env::var_os(FOLDER) {
         Some(folder) => PathBuf::from(folder),
         None => package.join("../../crates/p3_util_c/out"),
@@ -27,8 +25,6 @@ fn main() {
 
 fn stop(library: &Path) {
     eprintln!("There is no {}.", library.display());
-    eprintln!(
-        "Build it with `rt lib` in crates/p3_util_c, or set {FOLDER} to the folder that has it."
-    );
+    eprintln!("Build it with `rt lib` in crates/p3_util_c, or set {FOLDER} to the folder that has it.");
     exit(1);
 }

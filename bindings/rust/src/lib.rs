@@ -19,9 +19,5 @@ pub mod transpose;
 #[track_caller]
 pub fn reverse_slice_index_bits<F: Send + Sync>(vals: &mut [F]) {
     let fits = library::reverse(vals);
-    assert!(
-        fits,
-        "length {} is neither zero nor a power of two",
-        vals.len()
-    );
+    assert!(fits, "length {} is neither zero nor a power of two", vals.len());
 }

@@ -73,13 +73,7 @@ pub(crate) fn reverse<F>(vals: &mut [F]) -> bool {
         // Items without bytes are all one: no order is another.
         return vals.is_empty() || vals.len().is_power_of_two();
     }
-    let call = const {
-        reverse_for(if size_of::<F>() == 0 {
-            1
-        } else {
-            size_of::<F>()
-        })
-    };
+    let call = const { reverse_for(if size_of::<F>() == 0 { 1 } else { size_of::<F>() }) };
     // SAFETY: the pointer and the length are those of one exclusive slice, whose items have the size in the call's name.
     // The call does what a series of `slice::swap` does: afterwards each place holds all bytes of one item, padding
     // included, and each item is at one place. So it moves items of any type, and no item is copied or dropped.
@@ -88,23 +82,12 @@ pub(crate) fn reverse<F>(vals: &mut [F]) -> bool {
 
 /// Writes to `output` the transpose of `input`, a matrix of `height` rows of `width` items, where both lengths are the
 /// product of the two, and answers whether they are.
-pub(crate) fn transpose<T: Copy>(
-    input: &[T],
-    output: &mut [T],
-    width: usize,
-    height: usize,
-) -> bool {
+pub(crate) fn transpose<T: Copy>(input: &[T], output: &mut [T], width: usize, height: usize) -> bool {
     if size_of::<T>() == 0 {
         let items = width.checked_mul(height);
         return items == Some(input.len()) && items == Some(output.len());
     }
-    let call = const {
-        transpose_for(if size_of::<T>() == 0 {
-            1
-        } else {
-            size_of::<T>()
-        })
-    };
+    let call = const { transpose_for(if size_of::<T>() == 0 { 1 } else { size_of::<T>() }) };
     // SAFETY: the pointers and lengths are those of a shared and of an exclusive slice, which therefore do not overlap, and
     // whose items have the size in the call's name. The call reads the input and writes to each place of the output all
     // bytes of one item of the input, padding included, which is a copy, as `T: Copy` allows.

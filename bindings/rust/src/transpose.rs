@@ -11,12 +11,7 @@ use crate::library;
 ///
 /// Where the length of `input` or of `output` is not `width` times `height`, as a product that does not wrap.
 #[track_caller]
-pub fn transpose<T: Copy + Send + Sync>(
-    input: &[T],
-    output: &mut [T],
-    width: usize,
-    height: usize,
-) {
+pub fn transpose<T: Copy + Send + Sync>(input: &[T], output: &mut [T], width: usize, height: usize) {
     let fits = library::transpose(input, output, width, height);
     assert!(
         fits,
