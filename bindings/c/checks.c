@@ -1,0 +1,70 @@
+/* Each call on items of its size, on lists that it refuses and on empty lists. The status is the line that failed. */
+#include <string.h>
+
+#include "p3_util.h"
+
+#define CHECK(fact)          \
+    do {                     \
+        if (!(fact)) {       \
+            return __LINE__; \
+        }                    \
+    } while (0)
+
+enum { ROWS = 4, COLUMNS = 8, ITEMS = ROWS * COLUMNS, LARGEST = 32 };
+
+static const unsigned char REVERSED[8] = {0, 4, 2, 6, 1, 5, 3, 7};
+
+/* Makes item i of `size` bytes of the byte i + 1, at an address that no larger number lies at. */
+static unsigned char *items(unsigned char *room, size_t size) {
+    for (size_t i = 0; i < ITEMS; i++) {
+        memset(room + 1 + i * size, (int)i + 1, size);
+    }
+    return room + 1;
+}
+
+static bool is_item(const unsigned char *at, size_t size, size_t i) {
+    for (size_t k = 0; k < size; k++) {
+        if (at[k] != i + 1) {
+            return false;
+        }
+    }
+    return true;
+}
+
+typedef bool reverse_call(void *, size_t);
+typedef bool transpose_call(const void *, size_t, void *, size_t, size_t, size_t);
+
+static int check(size_t size, reverse_call *reverse, transpose_call *transpose) {
+    unsigned char room[1 + ITEMS * LARGEST], other[1 + ITEMS * LARGEST] = {0};
+    unsigned char *list = items(room, size), *output = other + 1;
+    CHECK(!reverse(list, 7) && !reverse(list, 12));
+    for (size_t i = 0; i < ITEMS; i++) {
+        CHECK(is_item(list + i * size, size, i));
+    }
+    CHECK(reverse(list, 8));
+    for (size_t i = 0; i < ITEMS; i++) {
+        CHECK(is_item(list + i * size, size, i < 8 ? REVERSED[i] : i));
+    }
+    items(room, size);
+    CHECK(!transpose(list, ITEMS - 1, output, ITEMS, COLUMNS, ROWS));
+    CHECK(!transpose(list, ITEMS, output, ITEMS - 1, COLUMNS, ROWS));
+    CHECK(!transpose(list, 0, output, 0, (size_t)1 << 32, (size_t)1 << 32));
+    for (size_t i = 0; i < sizeof other; i++) {
+        CHECK(other[i] == 0);
+    }
+    CHECK(transpose(list, ITEMS, output, ITEMS, COLUMNS, ROWS));
+    for (size_t i = 0; i < ITEMS; i++) {
+        CHECK(is_item(output + i * size, size, i % ROWS * COLUMNS + i / ROWS));
+    }
+    CHECK(reverse(NULL, 0) && transpose(NULL, 0, NULL, 0, 0, 5));
+    return 0;
+}
+
+int main(void) {
+    int status = check(1, p3_util_reverse_1, p3_util_transpose_1);
+    status = status ? status : check(2, p3_util_reverse_2, p3_util_transpose_2);
+    status = status ? status : check(4, p3_util_reverse_4, p3_util_transpose_4);
+    status = status ? status : check(8, p3_util_reverse_8, p3_util_transpose_8);
+    status = status ? status : check(16, p3_util_reverse_16, p3_util_transpose_16);
+    return status ? status : check(32, p3_util_reverse_32, p3_util_transpose_32);
+}

@@ -1,0 +1,60 @@
+/*
+ * Proved bit reversal and transposes of lists, from the static library libp3_util_c.a. Link that file alone: it calls
+ * nothing, allocates nothing and keeps no state, so threads may call it at once on different lists. Its code is for
+ * x86-64-v2.
+ *
+ * The number at the end of a name is the size of an item in bytes. Items are moved whole and never looked at.
+ *
+ * Each call tests its own condition, returns true exactly where it holds, and changes nothing where it returns false.
+ *
+ * What a call needs of its pointers, and cannot test:
+ * - The bytes of a list of n items are n times the size of an item, in one object, at any address, and fewer than 2^63.
+ *   Where n is 0 the pointer may be anything, null too.
+ * - vals can be read and written, input can be read and output written; and during the call nothing else writes to any
+ *   of them, or reads vals or output.
+ * - input and output do not overlap.
+ */
+#ifndef P3_UTIL_H
+#define P3_UTIL_H
+
+#include <stdbool.h>
+#include <stddef.h>
+
+#ifdef __cplusplus
+extern "C" {
+#endif
+
+/*
+ * Reverses the order of len items by index bits, where len is zero or a power of two: with 2^k items, place i gets the
+ * item from the place whose index has the k bits of i in reversed order.
+ */
+bool p3_util_reverse_1(void *vals, size_t len);
+bool p3_util_reverse_2(void *vals, size_t len);
+bool p3_util_reverse_4(void *vals, size_t len);
+bool p3_util_reverse_8(void *vals, size_t len);
+bool p3_util_reverse_16(void *vals, size_t len);
+bool p3_util_reverse_32(void *vals, size_t len);
+
+/*
+ * Writes to output the transpose of input, a matrix of height rows of width items, row after row: item y * width + x of
+ * the input becomes item x * height + y of the output. Both lengths are width times height, as a product that does not
+ * wrap.
+ */
+bool p3_util_transpose_1(const void *input, size_t input_len, void *output, size_t output_len, size_t width,
+    size_t height);
+bool p3_util_transpose_2(const void *input, size_t input_len, void *output, size_t output_len, size_t width,
+    size_t height);
+bool p3_util_transpose_4(const void *input, size_t input_len, void *output, size_t output_len, size_t width,
+    size_t height);
+bool p3_util_transpose_8(const void *input, size_t input_len, void *output, size_t output_len, size_t width,
+    size_t height);
+bool p3_util_transpose_16(const void *input, size_t input_len, void *output, size_t output_len, size_t width,
+    size_t height);
+bool p3_util_transpose_32(const void *input, size_t input_len, void *output, size_t output_len, size_t width,
+    size_t height);
+
+#ifdef __cplusplus
+}
+#endif
+
+#endif

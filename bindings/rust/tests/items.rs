@@ -1,0 +1,142 @@
+//! Items of every size, alignment and kind, against the definitions.
+
+use std::fmt::Debug;
+use std::sync::atomic::{AtomicUsize, Ordering};
+
+use p3_util_proved::reverse_slice_index_bits;
+use p3_util_proved::transpose::transpose;
+
+fn reversed(bits: u32, i: usize) -> usize {
+    if bits == 0 { i } else { i.reverse_bits() >> (usize::BITS - bits) }
+}
+
+/// Reverses lists of 1 to 1024 items, of which `item` makes the i-th, and compares each place.
+fn reverses<F: Debug + PartialEq + Send + Sync>(item: impl Fn(usize) -> F) {
+    for bits in 0..=10 {
+        let mut list: Vec<F> = (0..1 << bits).map(&item).collect();
+        reverse_slice_index_bits(&mut list);
+        for (i, got) in list.iter().enumerate() {
+            assert_eq!(*got, item(reversed(bits, i)), "place {i} of 2^{bits} items of {} bytes", size_of::<F>());
+        }
+    }
+}
+
+/// Transposes matrices of several shapes and compares each place.
+fn transposes<T: Copy + Debug + PartialEq + Send + Sync>(item: impl Fn(usize) -> T) {
+    for (width, height) in [(1, 1), (1, 7), (5, 3), (4, 4), (16, 16), (17, 19), (33, 40), (300, 60)] {
+        let input: Vec<T> = (0..width * height).map(&item).collect();
+        let mut output = vec![item(0); input.len()];
+        transpose(&input, &mut output, width, height);
+        for (i, got) in output.iter().enumerate() {
+            let from = (i % height) * width + i / height;
+            assert_eq!(*got, item(from), "place {i} of {width} by {height} items of {} bytes", size_of::<T>());
+        }
+    }
+}
+
+fn serves<T: Copy + Debug + PartialEq + Send + Sync>(item: impl Fn(usize) -> T) {
+    reverses(&item);
+    transposes(&item);
+}
+
+#[test]
+fn numbers_of_each_size() {
+    serves(|i| (i * 7) as u8);
+    serves(|i| (i * 31) as u16);
+    serves(|i| i as u32);
+    serves(|i| i as u64 * 0x1_0000_0001);
+    serves(|i| i as u128 * 0x1_0000_0000_0000_0001);
+    serves(|i| i as f32);
+    serves(|i| i as f64);
+}
+
+#[test]
+fn arrays_of_each_alignment() {
+    serves(|i| [i as u8; 2]);
+    serves(|i| [i as u16, 1]);
+    serves(|i| [i as u8; 8]);
+    serves(|i| [i as u32, !(i as u32)]);
+    serves(|i| [i as u32; 4]);
+    serves(|i| [i as u64, 5]);
+    serves(|i| [i as u8; 32]);
+    serves(|i| [i as u64, 1, 2, 3]);
+    serves(|i| [i as u128, 1]);
+}
+
+#[derive(Clone, Copy, Debug, PartialEq)]
+struct Padded {
+    small: u8,
+    large: u32,
+}
+
+#[derive(Clone, Copy, Debug, PartialEq)]
+#[repr(align(32))]
+struct Aligned(u8);
+
+#[test]
+fn structs_with_padding() {
+    serves(|i| Padded { small: i as u8, large: !(i as u32) });
+    serves(|i| Aligned(i as u8));
+    serves(|i| if i % 3 == 0 { None } else { Some(i as u32) });
+}
+
+#[test]
+fn text_and_references() {
+    let words = ["zero", "one", "two", "three"];
+    serves(|i| words[i % 4]);
+    serves(|i| &words[i % 4]);
+    serves(|i| char::from_u32(i as u32));
+    serves(|i| i % 3 == 0);
+}
+
+#[derive(Debug, PartialEq)]
+struct Owner(Box<usize>);
+
+static DROPPED: AtomicUsize = AtomicUsize::new(0);
+
+impl Drop for Owner {
+    fn drop(&mut self) {
+        DROPPED.fetch_add(1, Ordering::Relaxed);
+    }
+}
+
+#[test]
+fn owners_are_moved_and_none_is_dropped() {
+    let mut owners: Vec<Owner> = (0..1 << 14).map(|i| Owner(Box::new(i))).collect();
+    reverse_slice_index_bits(&mut owners);
+    assert_eq!(DROPPED.load(Ordering::Relaxed), 0);
+    for (i, owner) in owners.iter().enumerate() {
+        assert_eq!(*owner.0, reversed(14, i));
+    }
+    drop(owners);
+    assert_eq!(DROPPED.load(Ordering::Relaxed), 1 << 14);
+}
+
+#[test]
+fn lists_at_odd_addresses() {
+    let bytes: Vec<u8> = (0..8 * 257).map(|i| (i % 251) as u8).collect();
+    for start in 0..8 {
+        let mut moved = bytes.clone();
+        let (items, _) = moved[start..].as_chunks_mut::<8>();
+        let (before, _) = bytes[start..].as_chunks::<8>();
+        reverse_slice_index_bits(&mut items[..256]);
+        assert!((0..256).all(|i| items[i] == before[reversed(8, i)]));
+        let mut output = vec![0; bytes.len()];
+        transpose(&before[..240], &mut output[start..].as_chunks_mut::<8>().0[..240], 24, 10);
+        assert!((0..240).all(|i| output[start..].as_chunks::<8>().0[i] == before[(i % 10) * 24 + i / 10]));
+    }
+}
+
+#[test]
+fn items_without_bytes_and_lists_without_items() {
+    for bits in 0..6 {
+        reverse_slice_index_bits(&mut vec![(); 1 << bits]);
+    }
+    transpose(&[(); 6], &mut [(); 6], 2, 3);
+    reverse_slice_index_bits::<()>(&mut []);
+    reverse_slice_index_bits::<u64>(&mut []);
+    for (width, height) in [(0, 0), (0, 5), (usize::MAX, 0)] {
+        transpose::<u32>(&[], &mut [], width, height);
+        transpose::<()>(&[], &mut [], width, height);
+    }
+}

@@ -1,0 +1,43 @@
+//! The calls panic exactly where their conditions fail, and then nothing has changed.
+
+use std::panic::{AssertUnwindSafe, catch_unwind};
+
+use p3_util_proved::reverse_slice_index_bits;
+use p3_util_proved::transpose::transpose;
+
+fn panics(call: impl FnOnce()) -> bool {
+    catch_unwind(AssertUnwindSafe(call)).is_err()
+}
+
+#[test]
+fn reversal_of_each_length() {
+    for len in 0..70 {
+        let mut list: Vec<u32> = (0..len).collect();
+        let mut empty_items = vec![(); len as usize];
+        let fits = len == 0 || len.is_power_of_two();
+        assert_eq!(panics(|| reverse_slice_index_bits(&mut empty_items)), !fits, "{len} items without bytes");
+        assert_eq!(panics(|| reverse_slice_index_bits(&mut list)), !fits, "{len} items");
+        assert!(fits || list.into_iter().eq(0..len));
+    }
+}
+
+#[test]
+fn transpose_of_other_lengths() {
+    let input: Vec<u16> = (0..30).collect();
+    for (input_len, output_len) in [(29, 30), (30, 29), (29, 29), (0, 30), (30, 0)] {
+        let mut output = vec![7; output_len];
+        assert!(panics(|| transpose(&input[..input_len], &mut output, 5, 6)));
+        assert!(output.iter().all(|it| *it == 7));
+        assert!(panics(|| transpose(&vec![(); input_len], &mut vec![(); output_len], 5, 6)));
+    }
+    assert!(!panics(|| transpose(&input, &mut [0; 30], 5, 6)));
+}
+
+#[test]
+fn transpose_where_the_product_wraps() {
+    for (width, height) in [(1 << 32, 1 << 32), (1 << 63, 2), (usize::MAX, usize::MAX)] {
+        assert!(panics(|| transpose::<u64>(&[], &mut [], width, height)));
+        assert!(panics(|| transpose::<()>(&[], &mut [], width, height)));
+        assert!(panics(|| transpose(&[1u64], &mut [0u64], width, height)));
+    }
+}
