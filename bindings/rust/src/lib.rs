@@ -8,10 +8,14 @@
 mod library;
 pub mod transpose;
 
-/// Reverses the order of `vals` by index bits: with 2^k items, place `i` gets the item from the place whose index has the
-/// k bits of `i` in reversed order. No item is cloned or dropped.
+/// Reverses the order of `vals` by index bits: with 2^k items, place `i` gets the item from the place whose index has
+/// the k bits of `i` in reversed order. No item is cloned or dropped.
 ///
-/// Items have a size of 0, 1, 2, 4, 8, 16 or 32 bytes; a call with others is not compiled.
+/// Items have 0, 1, 2, 4, 8, 16 or 32 bytes. A call with others is not compiled:
+///
+/// ```compile_fail,E0080
+/// p3_util_proved::reverse_slice_index_bits(&mut [[0u8; 3]; 4]);
+/// ```
 ///
 /// # Panics
 ///

@@ -16,8 +16,8 @@ type Transpose = unsafe extern "C" fn(
 /// Declares calls of the library. The number at the end of a name is the size of an item in bytes.
 macro_rules! declare {
     ($($reverse:ident $transpose:ident)*) => {
-        // The library proves of each call that it touches its lists alone, that it moves whole items, and that it answers
-        // false, with nothing changed, where its condition does not hold. It asks nothing of a list's alignment.
+        // It is proved of each call that it touches its lists alone, that it moves whole items, and that it returns
+        // false, with nothing changed, where its condition does not hold. A list may begin at any address.
         unsafe extern "C" {
             $(
                 fn $reverse(vals: *mut c_void, len: usize) -> bool;
@@ -51,7 +51,7 @@ const fn reverse_for(size: usize) -> Reverse {
         8 => p3_util_reverse_8,
         16 => p3_util_reverse_16,
         32 => p3_util_reverse_32,
-        _ => panic!("items have a size of 0, 1, 2, 4, 8, 16 or 32 bytes"),
+        _ => panic!("items have 0, 1, 2, 4, 8, 16 or 32 bytes"),
     }
 }
 
@@ -63,34 +63,34 @@ const fn transpose_for(size: usize) -> Transpose {
         8 => p3_util_transpose_8,
         16 => p3_util_transpose_16,
         32 => p3_util_transpose_32,
-        _ => panic!("items have a size of 0, 1, 2, 4, 8, 16 or 32 bytes"),
+        _ => panic!("items have 0, 1, 2, 4, 8, 16 or 32 bytes"),
     }
 }
 
-/// Reverses the order of `vals` by index bits, where the length is zero or a power of two, and answers whether it is.
+/// Reverses the order of `vals` by index bits, where the length is zero or a power of two. Returns whether it is.
 pub(crate) fn reverse<F>(vals: &mut [F]) -> bool {
     if size_of::<F>() == 0 {
         // Items without bytes are all one: no order is another.
         return vals.is_empty() || vals.len().is_power_of_two();
     }
     let call = const { reverse_for(if size_of::<F>() == 0 { 1 } else { size_of::<F>() }) };
-    // SAFETY: the pointer and the length are those of one exclusive slice, whose items have the size in the call's name.
-    // The call does what a series of `slice::swap` does: afterwards each place holds all bytes of one item, padding
-    // included, and each item is at one place. So it moves items of any type, and no item is copied or dropped.
+    // SAFETY: the pointer and the length are those of one exclusive slice, whose items have the size in the call's
+    // name. The call does what a series of `slice::swap` does: afterwards each place holds all bytes of one item, padding
+    // included, and each item is at one place. So it moves items of any type, and none is copied or dropped.
     unsafe { call(vals.as_mut_ptr().cast(), vals.len()) }
 }
 
 /// Writes to `output` the transpose of `input`, a matrix of `height` rows of `width` items, where both lengths are the
-/// product of the two, and answers whether they are.
+/// product of the two. Returns whether they are.
 pub(crate) fn transpose<T: Copy>(input: &[T], output: &mut [T], width: usize, height: usize) -> bool {
     if size_of::<T>() == 0 {
         let items = width.checked_mul(height);
         return items == Some(input.len()) && items == Some(output.len());
     }
     let call = const { transpose_for(if size_of::<T>() == 0 { 1 } else { size_of::<T>() }) };
-    // SAFETY: the pointers and lengths are those of a shared and of an exclusive slice, which therefore do not overlap, and
-    // whose items have the size in the call's name. The call reads the input and writes to each place of the output all
-    // bytes of one item of the input, padding included, which is a copy, as `T: Copy` allows.
+    // SAFETY: the pointers and lengths are those of a shared and of an exclusive slice, which therefore do not overlap,
+    // and whose items have the size in the call's name. The call reads the input and writes to each place of the output
+    // all bytes of one item of the input, padding included, which is a copy, as `T: Copy` allows.
     unsafe {
         call(
             input.as_ptr().cast(),

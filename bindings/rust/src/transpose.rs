@@ -5,7 +5,11 @@ use crate::library;
 /// Writes to `output` the transpose of `input`, a matrix of `height` rows of `width` items: what is at
 /// `input[y * width + x]` is put at `output[x * height + y]`.
 ///
-/// Items have a size of 0, 1, 2, 4, 8, 16 or 32 bytes; a call with others is not compiled.
+/// Items have 0, 1, 2, 4, 8, 16 or 32 bytes. A call with others is not compiled:
+///
+/// ```compile_fail,E0080
+/// p3_util_proved::transpose::transpose(&[[0u8; 3]; 4], &mut [[0u8; 3]; 4], 2, 2);
+/// ```
 ///
 /// # Panics
 ///

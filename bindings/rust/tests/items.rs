@@ -7,7 +7,11 @@ use p3_util_proved::reverse_slice_index_bits;
 use p3_util_proved::transpose::transpose;
 
 fn reversed(bits: u32, i: usize) -> usize {
-    if bits == 0 { i } else { i.reverse_bits() >> (usize::BITS - bits) }
+    if bits == 0 {
+        i
+    } else {
+        i.reverse_bits() >> (usize::BITS - bits)
+    }
 }
 
 /// Reverses lists of 1 to 1024 items, of which `item` makes the i-th, and compares each place.
@@ -16,7 +20,12 @@ fn reverses<F: Debug + PartialEq + Send + Sync>(item: impl Fn(usize) -> F) {
         let mut list: Vec<F> = (0..1 << bits).map(&item).collect();
         reverse_slice_index_bits(&mut list);
         for (i, got) in list.iter().enumerate() {
-            assert_eq!(*got, item(reversed(bits, i)), "place {i} of 2^{bits} items of {} bytes", size_of::<F>());
+            assert_eq!(
+                *got,
+                item(reversed(bits, i)),
+                "place {i} of 2^{bits} items of {} bytes",
+                size_of::<F>()
+            );
         }
     }
 }
@@ -29,7 +38,12 @@ fn transposes<T: Copy + Debug + PartialEq + Send + Sync>(item: impl Fn(usize) ->
         transpose(&input, &mut output, width, height);
         for (i, got) in output.iter().enumerate() {
             let from = (i % height) * width + i / height;
-            assert_eq!(*got, item(from), "place {i} of {width} by {height} items of {} bytes", size_of::<T>());
+            assert_eq!(
+                *got,
+                item(from),
+                "place {i} of {width} by {height} items of {} bytes",
+                size_of::<T>()
+            );
         }
     }
 }
@@ -75,7 +89,10 @@ struct Aligned(u8);
 
 #[test]
 fn structs_with_padding() {
-    serves(|i| Padded { small: i as u8, large: !(i as u32) });
+    serves(|i| Padded {
+        small: i as u8,
+        large: !(i as u32),
+    });
     serves(|i| Aligned(i as u8));
     serves(|i| if i % 3 == 0 { None } else { Some(i as u32) });
 }
@@ -122,7 +139,12 @@ fn lists_at_odd_addresses() {
         reverse_slice_index_bits(&mut items[..256]);
         assert!((0..256).all(|i| items[i] == before[reversed(8, i)]));
         let mut output = vec![0; bytes.len()];
-        transpose(&before[..240], &mut output[start..].as_chunks_mut::<8>().0[..240], 24, 10);
+        transpose(
+            &before[..240],
+            &mut output[start..].as_chunks_mut::<8>().0[..240],
+            24,
+            10,
+        );
         assert!((0..240).all(|i| output[start..].as_chunks::<8>().0[i] == before[(i % 10) * 24 + i / 10]));
     }
 }

@@ -9,7 +9,9 @@ fn items(count: usize) -> Vec<u64> {
 }
 
 fn hash(list: &[u64]) -> u64 {
-    list.iter().fold(14_695_981_039_346_656_037, |hash: u64, item| (hash ^ item).wrapping_mul(1_099_511_628_211))
+    list.iter().fold(14_695_981_039_346_656_037, |hash: u64, item| {
+        (hash ^ item).wrapping_mul(1_099_511_628_211)
+    })
 }
 
 /// The numbers of each line, without the comments.

@@ -15,7 +15,11 @@ fn reversal_of_each_length() {
         let mut list: Vec<u32> = (0..len).collect();
         let mut empty_items = vec![(); len as usize];
         let fits = len == 0 || len.is_power_of_two();
-        assert_eq!(panics(|| reverse_slice_index_bits(&mut empty_items)), !fits, "{len} items without bytes");
+        assert_eq!(
+            panics(|| reverse_slice_index_bits(&mut empty_items)),
+            !fits,
+            "{len} items without bytes"
+        );
         assert_eq!(panics(|| reverse_slice_index_bits(&mut list)), !fits, "{len} items");
         assert!(fits || list.into_iter().eq(0..len));
     }
@@ -28,7 +32,12 @@ fn transpose_of_other_lengths() {
         let mut output = vec![7; output_len];
         assert!(panics(|| transpose(&input[..input_len], &mut output, 5, 6)));
         assert!(output.iter().all(|it| *it == 7));
-        assert!(panics(|| transpose(&vec![(); input_len], &mut vec![(); output_len], 5, 6)));
+        assert!(panics(|| transpose(
+            &vec![(); input_len],
+            &mut vec![(); output_len],
+            5,
+            6
+        )));
     }
     assert!(!panics(|| transpose(&input, &mut [0; 30], 5, 6)));
 }

@@ -1,7 +1,19 @@
--- What a call that tests its own condition answers and does.
-use Rattle.std.specs.Prelude.{Bool, ◌↔◌, IsTrue}
+-- What a call that tests its own condition returns and does.
+use Rattle.std.specs.Prelude.{ℕ, ◌≡◌, ◌*◌, ◌↔◌, Bool, IsTrue, List, length}
 use Rattle.std.specs.Bool.{OnTrue, OnFalse}
+use Rattle.p3_util_kernels.specs.Reversal.{IsReversal, IsZeroOrPowerOfTwo}
+use Rattle.p3_util_kernels.specs.Transpose.{IsTranspose}
 
--- `answer` is true exactly where the condition holds; where it is true the call did its work, else it changed nothing
-abbrev pub IsTried : (answer : Bool) → (condition done unchanged : Type 0) → Type 0
-IsTried answer condition done unchanged = (IsTrue answer ↔ condition) × OnTrue answer done × OnFalse answer unchanged
+-- `held` is true exactly where the condition holds; where it is true the call did its work, and else it changed nothing
+abbrev pub IsTried : (held : Bool) → (condition done unchanged : Type 0) → Type 0
+IsTried held condition done unchanged = (IsTrue held ↔ condition) × OnTrue held done × OnFalse held unchanged
+
+-- a reversal by index bits, where the length is zero or a power of two
+abbrev pub IsTriedReversal : {A : Type 0} → (held : Bool) → (old new : List A) → Type 0
+IsTriedReversal held old new = IsTried held (IsZeroOrPowerOfTwo (length old)) (IsReversal old new) (new ≡ old)
+
+-- a transpose of `input` to the list that is first `old` and then `new`, where both have width times height items
+abbrev pub IsTriedTranspose : {A : Type 0} → (held : Bool) → (width height : ℕ) → (input old new : List A) → Type 0
+IsTriedTranspose held width height input old new =
+    IsTried held ((length input ≡ width * height) × (length old ≡ width * height)) (IsTranspose width height input new)
+    (new ≡ old)

@@ -1,0 +1,77 @@
+//! Bit reversal of lists.
+
+ghost use Rattle.std.specs.Prelude.{◌↔◌, IsTrue};
+ghost use Rattle.p3_util_kernels.specs.Reversal.{IsZeroOrPowerOfTwo};
+ghost use Rattle.p3_util_c.specs.Tried.{IsTriedReversal};
+
+use p3_util_kernels::reverse::reverse_slice_index_bits;
+
+/// Reverses the order of `vals`, items of one byte, by index bits, where the length is zero or a power of two. Returns
+/// whether it is.
+#[unsafe(no_mangle)]
+pub extern "C" fn p3_util_reverse_1(vals: &mut [u8]) -> bool
+    ensures { IsTriedReversal result vals.old vals.new }
+{
+    reverse_where_it_fits(vals)
+}
+
+/// Reverses the order of `vals`, items of 2 bytes, by index bits, where the length is zero or a power of two. Returns
+/// whether it is.
+#[unsafe(no_mangle)]
+pub extern "C" fn p3_util_reverse_2(vals: &mut [[u8; 2]]) -> bool
+    ensures { IsTriedReversal result vals.old vals.new }
+{
+    reverse_where_it_fits(vals)
+}
+
+/// Reverses the order of `vals`, items of 4 bytes, by index bits, where the length is zero or a power of two. Returns
+/// whether it is.
+#[unsafe(no_mangle)]
+pub extern "C" fn p3_util_reverse_4(vals: &mut [[u8; 4]]) -> bool
+    ensures { IsTriedReversal result vals.old vals.new }
+{
+    reverse_where_it_fits(vals)
+}
+
+/// Reverses the order of `vals`, items of 8 bytes, by index bits, where the length is zero or a power of two. Returns
+/// whether it is.
+#[unsafe(no_mangle)]
+pub extern "C" fn p3_util_reverse_8(vals: &mut [[u8; 8]]) -> bool
+    ensures { IsTriedReversal result vals.old vals.new }
+{
+    reverse_where_it_fits(vals)
+}
+
+/// Reverses the order of `vals`, items of 16 bytes, by index bits, where the length is zero or a power of two. Returns
+/// whether it is.
+#[unsafe(no_mangle)]
+pub extern "C" fn p3_util_reverse_16(vals: &mut [[u8; 16]]) -> bool
+    ensures { IsTriedReversal result vals.old vals.new }
+{
+    reverse_where_it_fits(vals)
+}
+
+/// Reverses the order of `vals`, items of 32 bytes, by index bits, where the length is zero or a power of two. Returns
+/// whether it is.
+#[unsafe(no_mangle)]
+pub extern "C" fn p3_util_reverse_32(vals: &mut [[u8; 32]]) -> bool
+    ensures { IsTriedReversal result vals.old vals.new }
+{
+    reverse_where_it_fits(vals)
+}
+
+fn reverse_where_it_fits<F>(vals: &mut [F]) -> bool
+    ensures { IsTriedReversal result vals.old vals.new }
+{
+    let fits = is_zero_or_power_of_two(vals.len());
+    if fits {
+        reverse_slice_index_bits(vals);
+    }
+    fits
+}
+
+fn is_zero_or_power_of_two(len: usize) -> bool
+    ensures { IsTrue result ↔ IsZeroOrPowerOfTwo len }
+{
+    len == 0 || len.is_power_of_two()
+}

@@ -1,0 +1,104 @@
+//! Transposes of matrices that are held as flat lists, row after row.
+
+ghost use Rattle.p3_util_c.specs.Tried.{IsTriedTranspose};
+
+use p3_util_kernels::transpose::{fits_matrix, transpose};
+
+/// Writes to `output` the transpose of `input`, `height` rows of `width` items of one byte, where both lengths are
+/// `width` times `height`. Returns whether they are.
+#[unsafe(no_mangle)]
+pub extern "C" fn p3_util_transpose_1(
+    input: &[u8],
+    output: &mut [u8],
+    width: usize,
+    height: usize,
+) -> bool
+    ensures { IsTriedTranspose result width height input.now output.old output.new }
+{
+    transpose_where_it_fits(input, output, width, height)
+}
+
+/// Writes to `output` the transpose of `input`, `height` rows of `width` items of 2 bytes, where both lengths are
+/// `width` times `height`. Returns whether they are.
+#[unsafe(no_mangle)]
+pub extern "C" fn p3_util_transpose_2(
+    input: &[[u8; 2]],
+    output: &mut [[u8; 2]],
+    width: usize,
+    height: usize,
+) -> bool
+    ensures { IsTriedTranspose result width height input.now output.old output.new }
+{
+    transpose_where_it_fits(input, output, width, height)
+}
+
+/// Writes to `output` the transpose of `input`, `height` rows of `width` items of 4 bytes, where both lengths are
+/// `width` times `height`. Returns whether they are.
+#[unsafe(no_mangle)]
+pub extern "C" fn p3_util_transpose_4(
+    input: &[[u8; 4]],
+    output: &mut [[u8; 4]],
+    width: usize,
+    height: usize,
+) -> bool
+    ensures { IsTriedTranspose result width height input.now output.old output.new }
+{
+    transpose_where_it_fits(input, output, width, height)
+}
+
+/// Writes to `output` the transpose of `input`, `height` rows of `width` items of 8 bytes, where both lengths are
+/// `width` times `height`. Returns whether they are.
+#[unsafe(no_mangle)]
+pub extern "C" fn p3_util_transpose_8(
+    input: &[[u8; 8]],
+    output: &mut [[u8; 8]],
+    width: usize,
+    height: usize,
+) -> bool
+    ensures { IsTriedTranspose result width height input.now output.old output.new }
+{
+    transpose_where_it_fits(input, output, width, height)
+}
+
+/// Writes to `output` the transpose of `input`, `height` rows of `width` items of 16 bytes, where both lengths are
+/// `width` times `height`. Returns whether they are.
+#[unsafe(no_mangle)]
+pub extern "C" fn p3_util_transpose_16(
+    input: &[[u8; 16]],
+    output: &mut [[u8; 16]],
+    width: usize,
+    height: usize,
+) -> bool
+    ensures { IsTriedTranspose result width height input.now output.old output.new }
+{
+    transpose_where_it_fits(input, output, width, height)
+}
+
+/// Writes to `output` the transpose of `input`, `height` rows of `width` items of 32 bytes, where both lengths are
+/// `width` times `height`. Returns whether they are.
+#[unsafe(no_mangle)]
+pub extern "C" fn p3_util_transpose_32(
+    input: &[[u8; 32]],
+    output: &mut [[u8; 32]],
+    width: usize,
+    height: usize,
+) -> bool
+    ensures { IsTriedTranspose result width height input.now output.old output.new }
+{
+    transpose_where_it_fits(input, output, width, height)
+}
+
+fn transpose_where_it_fits<T: Copy>(
+    input: &[T],
+    output: &mut [T],
+    width: usize,
+    height: usize,
+) -> bool
+    ensures { IsTriedTranspose result width height input.now output.old output.new }
+{
+    let fits = fits_matrix(input.len(), output.len(), width, height);
+    if fits {
+        transpose(input, output, width, height);
+    }
+    fits
+}
