@@ -75,8 +75,8 @@ pub(crate) fn reverse<F>(vals: &mut [F]) -> bool {
     }
     let call = const { reverse_for(if size_of::<F>() == 0 { 1 } else { size_of::<F>() }) };
     // SAFETY: the pointer and the length are those of one exclusive slice, whose items have the size in the call's
-    // name. The call does what a series of `slice::swap` does: afterwards each place holds all bytes of one item, padding
-    // included, and each item is at one place. So it moves items of any type, and none is copied or dropped.
+    // name. The call does what a series of `slice::swap` does: afterwards each place holds all bytes of one item,
+    // padding included, and each item is at one place. So it moves items of any type, and none is copied or dropped.
     unsafe { call(vals.as_mut_ptr().cast(), vals.len()) }
 }
 
