@@ -1,12 +1,15 @@
 -- Blocks of a square exchanged across its diagonal, one after another.
-use Rattle.std.proofs.Common.{◌≡◌, ℕ, ◌+◌, ◌-◌, ◌*◌, ◌/◌, ◌%◌, ◌^◌, ◌<◌, ◌≤◌, min, max, List, length, inl, inr, refl, ◌∙◌, arith}
+use Rattle.std.proofs.Common.{◌≡◌, ℕ, zero, suc, ◌+◌, ◌-◌, ◌*◌, ◌/◌, ◌%◌, ◌^◌, ◌<◌, ◌≤◌, min, max, List, length, inl, inr, refl, ◌∙◌, arith}
 use Rattle.std.specs.List.{swap}
 use Rattle.std.proofs.lemmas.Bool.{cases_eq, cases_lt}
 use Rattle.std.proofs.lemmas.Nat.{same_from_place, pow_pos, mod_below, div-add-mod'}
 use Rattle.std.proofs.lemmas.List.Edits.{length-swap}
+use Rattle.std.proofs.Math.Nat.{mul-le-mul_right}
 use Rattle.std.proofs.Math.Pow.{pow_mono}
 use Rattle.p3_util_kernels.specs.Diagonal.{IsInBlock, SwapsAcross}
 use Rattle.p3_util_kernels.specs.Square.{IsSquareTransposed}
+use Rattle.p3_util_kernels.specs.Strided.{swap_strided}
+use Rattle.p3_util_kernels.proofs.Strided.{length-swap_strided}
 use Rattle.p3_util_kernels.proofs.Exchange.{slice_get-swap_first, slice_get-swap_second, slice_get-swap_other}
 
 module _ {A : Type 0} (base stride : ℕ) where
@@ -75,35 +78,52 @@ module _ {A : Type 0} (base stride : ℕ) where
   }
 
   -- one exchange
-  pub SwapsAcross-swap : (a b : ℕ) (xs : List A) → a < b → b < stride
+  SwapsAcross-swap : (a b : ℕ) (xs : List A) → a < b → b < stride
       → base + a * stride + b < length xs → base + b * stride + a < length xs
-      → SwapsAcross base stride a (a + 1) b (b + 1) xs (swap xs (base + b * stride + a) (base + a * stride + b))
+      → SwapsAcross base stride a (a + 1) b (b + 1) xs (swap xs (base + a * stride + b) (base + b * stride + a))
   SwapsAcross-swap a b xs h hb upper lower = record {
-    same_length = length-swap xs (base + b * stride + a) (base + a * stride + b);
+    same_length = length-swap xs (base + a * stride + b) (base + b * stride + a);
     crossed = λ c d hc hd k.
         elim (cases_lt c d) [
           | inl above ↦
               let e : c ≡ a = omega arith in
               let f : d ≡ b = omega arith in
-              rw (e, f) (slice_get-swap_second xs (base + b * stride + a) (base + a * stride + b) lower upper)
+              rw (e, f) (slice_get-swap_first xs (base + a * stride + b) (base + b * stride + a) upper lower)
           | inr below ↦
               let e : c ≡ b = omega arith in
               let f : d ≡ a = omega arith in
-              rw (e, f) (slice_get-swap_first xs (base + b * stride + a) (base + a * stride + b) lower upper)
+              rw (e, f) (slice_get-swap_second xs (base + a * stride + b) (base + b * stride + a) upper lower)
         ];
     kept = λ c d hd out.
-        slice_get-swap_other xs (base + b * stride + a) (base + a * stride + b) (base + c * stride + d)
-        (λ e.
-        let same : c * stride + d ≡ b * stride + a = omega arith in
-        let both : (c ≡ b) × (d ≡ a) = same_from_place c d b a stride hd (omega arith) same in
-        out (record { apart = omega arith; row_from = omega arith; row_to = omega arith; col_from = omega arith; col_to = omega arith }))
+        slice_get-swap_other xs (base + a * stride + b) (base + b * stride + a) (base + c * stride + d)
         (λ e.
         let same : c * stride + d ≡ a * stride + b = omega arith in
         let both : (c ≡ a) × (d ≡ b) = same_from_place c d a b stride hd hb same in
+        out (record { apart = omega arith; row_from = omega arith; row_to = omega arith; col_from = omega arith; col_to = omega arith }))
+        (λ e.
+        let same : c * stride + d ≡ b * stride + a = omega arith in
+        let both : (c ≡ b) × (d ≡ a) = same_from_place c d b a stride hd (omega arith) same in
         out (record { apart = omega arith; row_from = omega arith; row_to = omega arith; col_from = omega arith; col_to = omega arith }));
     before = λ k h.
-        slice_get-swap_other xs (base + b * stride + a) (base + a * stride + b) k (λ e. omega arith) (λ e. omega arith);
+        slice_get-swap_other xs (base + a * stride + b) (base + b * stride + a) k (λ e. omega arith) (λ e. omega arith);
   }
+
+  -- the exchanges of the first `len` rows from `start` on with one line
+  pub SwapsAcross-strided : (start line len : ℕ) (xs : List A) → start + len ≤ line → line < stride → base + line * stride + line < length xs
+      → SwapsAcross base stride start (start + len) line (line + 1) xs
+      (swap_strided xs (base + start * stride + line) (base + line * stride + start) stride len)
+  unfolding swap_strided
+  SwapsAcross-strided start line zero xs h hl room = SwapsAcross-none start (start + 0) line (line + 1) xs (λ a b k. omega arith)
+  SwapsAcross-strided start line (suc n) xs h hl room =
+      let ys : List A = swap_strided xs (base + start * stride + line) (base + line * stride + start) stride n in
+      let same : length ys ≡ length xs = length-swap_strided xs (base + start * stride + line) (base + line * stride + start) stride n in
+      let rows : (start + n) * stride ≤ line * stride = mul-le-mul_right stride (omega arith) in
+      let upper : base + start * stride + line + n * stride ≡ base + (start + n) * stride + line = omega arith in
+      let lower : base + line * stride + start + n ≡ base + line * stride + (start + n) = omega arith in
+      let end : start + suc n ≡ start + n + 1 = omega arith in
+      let before = SwapsAcross-strided start line n xs (omega arith) hl room in
+      let step = SwapsAcross-swap (start + n) line ys (omega arith) hl (omega arith) (omega arith) in
+      rw (upper, lower, end) (SwapsAcross-rows start (start + n) (start + n + 1) line (line + 1) _ _ _ (omega arith) (omega arith) before step)
 
   -- the upper left quadrant, the upper right one with its mirror image, and the lower right one make the square
   pub SwapsAcross-quadrants : (start mid end : ℕ) (xs ys zs ws : List A) → start ≤ mid → mid ≤ end

@@ -9,5 +9,6 @@ pub mod Reversal
 pub mod Runs
 pub mod Square
 pub mod Steps
+pub mod Strided
 pub mod SwapCounts
 pub mod Transpose

@@ -3,7 +3,8 @@
 //! A kernel over [`Swaps`] exchanges items, a kernel over [`Writes`] puts them, and neither can do anything else to the
 //! list, so that what its counter tells is all that it did.
 
-ghost use Rattle.std.specs.Prelude.{◌≡◌, ℕ, ◌<◌, List, Some, length, swap, slice_get, slice_set};
+ghost use Rattle.std.specs.Prelude.{◌≡◌, ℕ, ◌+◌, ◌*◌, ◌<◌, ◌≤◌, List, Some, length, swap, slice_get, slice_set};
+ghost use Rattle.p3_util_kernels.specs.Strided.{swap_strided};
 
 mod counters;
 mod holders;
@@ -32,6 +33,21 @@ pub trait Places {
         requires second { j < length (items self.old) }
         ensures exchanged { items self.new ≡ swap (items self.old) i j }
         ensures holder { same_holder self.old self.new };
+
+    /// Exchanges the items at places `i + t * stride` and `j + t`, for each `t` below `len` in turn. A holder may do so in a
+    /// faster way than by its `exchange`.
+    fn exchange_strided(&mut self, i: usize, j: usize, stride: usize, len: usize)
+        requires first { (t : ℕ) → t < len → i + t * stride < length (items self.old) }
+        requires second { j + len ≤ length (items self.old) }
+        ensures exchanged { items self.new ≡ swap_strided (items self.old) i j stride len }
+        ensures holder { same_holder self.old self.new }
+    {
+        // Tells that the length is a usize.
+        let _ = self.len();
+        for t in 0..len {
+            self.exchange(i + t * stride, j + t);
+        }
+    }
 
     ghost same_holder_refl: { (a : Self) → same_holder a a };
 

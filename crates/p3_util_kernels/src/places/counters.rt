@@ -1,7 +1,8 @@
 //! Counters over holders, which see each exchange and each write.
 
-ghost use Rattle.std.specs.Prelude.{◌≡◌, ◌^◌, ◌<◌, length, swap, slice_set};
+ghost use Rattle.std.specs.Prelude.{◌≡◌, ℕ, ◌+◌, ◌*◌, ◌^◌, ◌<◌, ◌≤◌, length, swap, slice_set};
 ghost use Rattle.p3_util_kernels.specs.Steps.{Counted, counted};
+ghost use Rattle.p3_util_kernels.specs.Strided.{swap_strided};
 
 use crate::places::{Cells, Places};
 use std::marker::Model;
@@ -48,6 +49,18 @@ impl<S: Places> Swaps<S> {
     {
         self.places.exchange(i, j);
         self.swaps = self.swaps.saturating_add(1);
+    }
+
+    /// Exchanges the items at places `i + t * stride` and `j + t`, for each `t` below `len` in turn, and counts `len`.
+    pub fn swap_strided(&mut self, i: usize, j: usize, stride: usize, len: usize)
+        requires first { (t : ℕ) → t < len → i + t * stride < length (S.items self.old.holder) }
+        requires second { j + len ≤ length (S.items self.old.holder) }
+        ensures exchanged { S.items self.new.holder ≡ swap_strided (S.items self.old.holder) i j stride len }
+        ensures count { self.new.count ≡ counted self.old.count len }
+        ensures holder { S.same_holder self.old.holder self.new.holder }
+    {
+        self.places.exchange_strided(i, j, stride, len);
+        self.swaps = self.swaps.saturating_add(len as u128);
     }
 
     /// How many exchanges were made, at most `u128::MAX`.

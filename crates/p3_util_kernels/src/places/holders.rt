@@ -1,7 +1,8 @@
 //! The holders of this crate: a reference to a holder, and slices.
 
-ghost use Rattle.std.specs.Prelude.{◌≡◌};
+ghost use Rattle.std.specs.Prelude.{◌≡◌, ℕ, ◌+◌, ◌*◌, ◌<◌, ◌≤◌, length};
 ghost use Rattle.std.proofs.Common.{refl, ◌∙◌};
+ghost use Rattle.p3_util_kernels.specs.Strided.{swap_strided};
 
 use crate::places::{Cells, Places, Source};
 
@@ -19,6 +20,10 @@ impl<S: Places> Places for &mut S {
 
     fn exchange(&mut self, i: usize, j: usize) {
         S::exchange(self, i, j);
+    }
+
+    fn exchange_strided(&mut self, i: usize, j: usize, stride: usize, len: usize) {
+        S::exchange_strided(self, i, j, stride, len);
     }
 
     ghost same_holder_refl = { λ a. (refl, S.same_holder_refl a.now) };
@@ -77,9 +82,24 @@ impl<'a, F> Places for SlicePlaces<'a, F> {
         self.items.swap(i, j);
     }
 
+    fn exchange_strided(&mut self, i: usize, j: usize, stride: usize, len: usize) {
+        swap_strided(self.items, i, j, stride, len);
+    }
+
     ghost same_holder_refl = { λ a. refl };
 
     ghost same_holder_trans = { λ a b c p q. p ∙ q };
+}
+
+/// Exchanges the items at places `i + t * stride` and `j + t` of `items`, for each `t` below `len` in turn.
+fn swap_strided<F>(items: &mut [F], i: usize, j: usize, stride: usize, len: usize)
+    requires first { (t : ℕ) → t < len → i + t * stride < length items.old }
+    requires second { j + len ≤ length items.old }
+    ensures { items.new ≡ swap_strided items.old i j stride len }
+{
+    for t in 0..len {
+        items.swap(i + t * stride, j + t);
+    }
 }
 
 /// The places of a mutable slice. What it holds stands in the slice when the borrow ends.

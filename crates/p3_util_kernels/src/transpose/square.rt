@@ -165,8 +165,7 @@ fn swap_line<S: Places>(
     ensures count { m.new.count ≡ counted m.old.count len }
     ensures holder { S.same_holder m.old.holder m.new.holder }
 {
-    let row = base + line * stride;
-    for i in start..start + len {
-        m.swap(row + i, base + i * stride + line);
-    }
+    let first_of_column = base + start * stride + line;
+    let first_of_row = base + line * stride + start;
+    m.swap_strided(first_of_column, first_of_row, stride, len);
 }
