@@ -7,7 +7,7 @@ use Rattle.p3_util_kernels.proofs.Matrix.{IsTranspose-unique}
 use Rattle.p3_util_kernels.proofs.Reversal.{IsReversal-unique}
 use Rattle.p3_util_run.proofs.NumberLists.{array_of_injective}
 use Rattle.p3_util_run.specs.Arrays.{IsArrayOf, array_of, line_of}
-use Rattle.p3_util_run.specs.Program.{Answers, Fault, Fits, HasAnswer, IsDefined, IsRearranged, IsSettled, misfit, Out, ReadsAll, Refuses}
+use Rattle.p3_util_run.specs.Program.{Answers, Fault, Fits, IsDefined, IsRearranged, IsSettled, misfit, Out, ReadsAll, Refuses}
 use Rattle.p3_util_run.specs.Words.{command_of}
 use Rattle.p3_util_run.specs.declared.fault.RunFault.{RunFault}
 use Rattle.p3_util_run.specs.declared.fault.RunFault.TheVariants.{Memory, Write, UnknownCommand}
@@ -21,12 +21,12 @@ same_list input xs ys first second =
     let arrays : array_of xs ≡ array_of ys = cc in
     array_of_injective xs ys arrays
 
-answered_or_refused : (command : Command) (input : List ℕ) (fault : RunFault) → HasAnswer command input → Refuses command input fault → ⊥
-answered_or_refused command input fault answer (inl none) = none.1 answer.0 answer.1
-answered_or_refused command input fault answer (inr unfit) =
-    let same : answer.0 ≡ unfit.0 = same_list input answer.0 unfit.0 answer.1 unfit.1 in
+answered_or_refused : (command : Command) (input text : List ℕ) (fault : RunFault) → Answers command input text → Refuses command input fault → ⊥
+answered_or_refused command input text fault answer (inl none) = none.1 answer.0 answer.2
+answered_or_refused command input text fault answer (inr unfit) =
+    let same : answer.0 ≡ unfit.0 = same_list input answer.0 unfit.0 answer.2 unfit.1 in
     let fits : List ℕ → Type 0 = λ xs. Fits command (length xs) in
-    unfit.2 (subst fits same answer.2)
+    unfit.2 (subst fits same answer.3)
 
 one_refusal : (command : Command) (input : List ℕ) (f g : RunFault) → Refuses command input f → Refuses command input g → f ≡ g
 one_refusal command input f g (inl none) (inl none') = none.0 ∙ sym none'.0
@@ -60,15 +60,10 @@ out_from_answers : (words : List (List ℕ)) (command : Command) (input text : L
 out_from_answers words command input text named answer =
     let P : Option Command → Type 0 = λ o. IsSomeAnd o (λ k. Answers k input text) in subst P named answer
 
-defined_from_answer : (words : List (List ℕ)) (command : Command) (input : List ℕ) → Some command ≡ command_of words → HasAnswer command input
-    → IsDefined words input
-defined_from_answer words command input named answer =
-    let P : Option Command → Type 0 = λ o. IsSomeAnd o (λ k. HasAnswer k input) in subst P named answer
-
-answer_from_defined : (words : List (List ℕ)) (command : Command) (input : List ℕ) → Some command ≡ command_of words → IsDefined words input
-    → HasAnswer command input
-answer_from_defined words command input named defined =
-    let P : Option Command → Type 0 = λ o. IsSomeAnd o (λ k. HasAnswer k input) in subst P (sym named) defined
+answers_from_out : (words : List (List ℕ)) (command : Command) (input text : List ℕ) → Some command ≡ command_of words → Out words input text
+    → Answers command input text
+answers_from_out words command input text named out =
+    let P : Option Command → Type 0 = λ o. IsSomeAnd o (λ k. Answers k input text) in subst P (sym named) out
 
 fault_from_refuses : (words : List (List ℕ)) (command : Command) (input : List ℕ) (fault : RunFault) → Some command ≡ command_of words
     → Refuses command input fault → Fault words input fault
@@ -103,22 +98,18 @@ wrote words command a b x y input text (Ok v) named all answer appended =
     (input, text, all, out_from_answers words command input text named answer, appended)
 wrote words command a b x y input text (Err fault) named all answer appended = tt
 
--- an answer leaves off its text
-short : (command : Command) (input text : List ℕ) → Answers command input text → HasAnswer command input
-short command input text answer = (answer.0, answer.2, answer.3)
-
 answers_both_ways : {T : Type 0} → (words : List (List ℕ)) (command : Command) (input : List ℕ) (r : Result T RunFault) → Some command ≡ command_of words
     → Ends command input r → IsSettled r → IsOk r ↔ IsDefined words input
 answers_both_ways words command input (Ok v) named ends settled =
-    (λ _. defined_from_answer words command input named (short command input ends.0 ends.1), λ _. refl)
+    (λ _. (ends.0, out_from_answers words command input ends.0 named ends.1), λ _. refl)
 answers_both_ways words command input (Err fault) named ends settled =
-    (λ ok. absurd cc, λ defined. absurd (answered_or_refused command input fault (answer_from_defined words command input named defined) (ends settled)))
+    (λ ok. absurd cc, λ defined. absurd (answered_or_refused command input defined.0 fault (answers_from_out words command input defined.0 named defined.1) (ends settled)))
 
 refuses_both_ways : {T : Type 0} → (words : List (List ℕ)) (command : Command) (input : List ℕ) (r : Result T RunFault) → Some command ≡ command_of words
     → Ends command input r → IsSettled r → (fault : RunFault) → (r ≡ Err fault) ↔ Fault words input fault
 refuses_both_ways words command input (Ok v) named ends settled fault = (
   λ is. absurd cc,
-  λ told. absurd (answered_or_refused command input fault (short command input ends.0 ends.1) (refuses_from_fault words command input fault named told)),
+  λ told. absurd (answered_or_refused command input ends.0 fault ends.1 (refuses_from_fault words command input fault named told)),
 )
 refuses_both_ways words command input (Err f) named ends settled fault = (
   λ is. let same : f ≡ fault = cc in subst (Fault words input) same (fault_from_refuses words command input f named (ends settled)),

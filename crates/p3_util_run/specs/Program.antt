@@ -30,10 +30,6 @@ misfit (Transpose width height) len = NotTheLength width height len
 abbrev pub Answers : Command → (input text : List ℕ) → Type 0
 Answers command input text = (old new : List ℕ) × IsArrayOf input old × Fits command (length old) × IsRearranged command old new × (text ≡ line_of new)
 
--- the input is the array of a list that can be rearranged
-abbrev pub HasAnswer : Command → List ℕ → Type 0
-HasAnswer command input = (xs : List ℕ) × IsArrayOf input xs × Fits command (length xs)
-
 -- why a command has no answer to an input
 abbrev pub Refuses : Command → List ℕ → RunFault → Type 0
 Refuses command input fault = ((fault ≡ NotAnArray) × ((xs : List ℕ) → ¬ IsArrayOf input xs))
@@ -49,7 +45,7 @@ Fault words input fault = MatchOption (command_of words) (fault ≡ UnknownComma
 
 -- there is a text to write
 abbrev pub IsDefined : (words : List (List ℕ)) (input : List ℕ) → Type 0
-IsDefined words input = IsSomeAnd (command_of words) (λ command. HasAnswer command input)
+IsDefined words input = (text : List ℕ) × Out words input text
 
 -- a fault that the bytes of the input decide
 abbrev pub IsOfInput : RunFault → Type 0

@@ -1,10 +1,13 @@
 -- A reader or a writer whose failures are counted. The count stays at the largest u64 once it is there.
 use Rattle.std.specs.Prelude.{Bool, ℕ, ◌≡◌, ◌+◌, ◌-◌, ◌^◌, ◌<◌, ◌⊎◌, min, List, length, Result, Ok, Err, nat_lt, ◌&&◌, ◌==◌, if◌then◌else◌}
+use Rattle.p3_util_run.specs.declared.watched.InputEnd.{InputEnd}
+use Rattle.p3_util_run.specs.declared.watched.InputEnd.TheVariants.{Ahead, Reached, Passed}
 
 -- what a contract sees of a watched reader or writer
 pub record Watch (T : Type 0) : Type 0 where
   pub inner : T
   pub failures : ℕ
+  pub input_end : InputEnd
   pub is_flushed : Bool
 
 -- the count after one more failure
@@ -16,10 +19,21 @@ abbrev pub count_after_call : {T E : Type 0} → Result T E → ℕ → ℕ
 count_after_call (Ok _) count = count
 count_after_call (Err _) count = noted count
 
+-- a call for some bytes moved none of them
+abbrev pub moves_none : ℕ → List ℕ → Bool
+moves_none n bytes = n == 0 && nat_lt 0 (length bytes)
+
 -- the count after a write of these bytes, which also fails where it takes none of some
 abbrev pub count_after_write : {E : Type 0} → Result ℕ E → List ℕ → ℕ → ℕ
-count_after_write (Ok n) bytes count = if n == 0 && nat_lt 0 (length bytes) then noted count else count
+count_after_write (Ok n) bytes count = if moves_none n bytes then noted count else count
 count_after_write (Err _) bytes count = noted count
+
+-- where the reader is after a read into these bytes: its end is where it gives none for some, and each later read passes it
+abbrev pub end_after_read : {E : Type 0} → Result ℕ E → List ℕ → InputEnd → InputEnd
+end_after_read (Ok n) bytes Ahead = if moves_none n bytes then Reached else Ahead
+end_after_read (Err _) bytes Ahead = Ahead
+end_after_read r bytes Reached = Passed
+end_after_read r bytes Passed = Passed
 
 -- it failed since: the count rose, or it stands at its greatest
 abbrev pub HasFailed : {T : Type 0} → Watch T → Watch T → Type 0

@@ -12,19 +12,38 @@ mod words;
 
 use fault::RunFault;
 use std::env;
+use std::env::{Env, FillError};
 use std::io::ErrorKind;
 use std::process::ExitCode;
 use watched::Watched;
 
+/// The environment of the process without the program's name, which need not be text: its words begin at word 0.
+#[derive(Clone, Copy)]
+struct Unnamed<'a>(&'a HostRuntime);
+
+impl Env for Unnamed<'_> {
+    fn arg(&self, i: usize, buf: &mut [u8]) -> Result<usize, FillError> {
+        self.0.arg(i.saturating_add(1), buf)
+    }
+
+    fn var(&self, name: &str, buf: &mut [u8]) -> Result<usize, FillError> {
+        self.0.var(name, buf)
+    }
+
+    fn var_at(&self, i: usize, buf: &mut [u8]) -> Result<usize, FillError> {
+        self.0.var_at(i, buf)
+    }
+}
+
 /// The words that follow the program's name. `RunFault::UnknownCommand` where they are no text, and `RunFault::Memory`.
 fn given_words(rt: &HostRuntime) -> Result<Vec<String>, RunFault> {
-    let given = match env::args(rt) {
+    let given = match env::args(&(Unnamed(rt), rt.alloc())) {
         Ok(given) => given,
         Err(e) if e.kind() == ErrorKind::OutOfMemory => return Err(RunFault::Memory),
         Err(_) => return Err(RunFault::UnknownCommand),
     };
     let mut words = Vec::new(rt.alloc());
-    for word in given.skip(1) {
+    for word in given {
         if words.push(word).is_err() {
             return Err(RunFault::Memory);
         }

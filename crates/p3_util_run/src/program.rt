@@ -1,6 +1,6 @@
 //! The program over any reader and any writer.
 
-ghost use Rattle.std.specs.Prelude.{◌≡◌, ◌≢◌, ◌<◌, ◌*◌, ◌↔◌, ◌⊎◌, ℕ, List, length, IsOk, OnOk, IfOk, OnErr, IfErr, IfSome, IsTrue, string_bytes, true};
+ghost use Rattle.std.specs.Prelude.{◌≡◌, ◌≢◌, ◌<◌, ◌*◌, ◌↔◌, ◌⊎◌, ℕ, List, length, IsOk, OnOk, IfOk, OnErr, IfErr, IfSome, IsTrue, MatchResult, string_bytes, true};
 ghost use Rattle.std.specs.Io.KnownBytes.{Appends};
 ghost use Rattle.p3_util_kernels.specs.Reversal.{IsReversal, IsZeroOrPowerOfTwo};
 ghost use Rattle.p3_util_kernels.specs.Transpose.{IsTranspose};
@@ -8,6 +8,7 @@ ghost use Rattle.p3_util_run.specs.Program.{Answers, Fault, IsDefined, IsOfInput
 ghost use Rattle.p3_util_run.specs.Watch.{HasFailed, noted};
 ghost use Rattle.p3_util_run.specs.Words.{command_of};
 ghost use Rattle.p3_util_run.specs.declared.fault.RunFault.{RunFault};
+ghost use Rattle.p3_util_run.specs.declared.watched.InputEnd.TheVariants.{Ahead, Reached, Passed};
 
 use crate::arrays::{line, read_array};
 use crate::fault::RunFault;
@@ -39,6 +40,9 @@ pub fn run<R: Read, W: Write>(
         × Appends (W.contents writer.old.inner) (W.contents writer.new.inner) text) }
     // The writer was flushed after the last write.
     ensures flushed { OnOk result (writer.new.is_flushed ≡ true) }
+    // The input ends with a read of no byte, and no read follows that one.
+    ensures ended { reader.old.input_end ≡ Ahead → OnOk result (reader.new.input_end ≡ Reached) }
+    ensures not_passed { reader.old.input_end ≡ Ahead → reader.new.input_end ≢ Passed }
     // There is one text at most.
     ensures one_text { (input a b : List ℕ) → Out (texts_of words.now) input a → Out (texts_of words.now) input b
         → a ≡ b }
@@ -114,6 +118,8 @@ fn rearrange(alloc: Global, command: &Command, numbers: Vec<u64>) -> Result<Vec<
 /// `RunFault::Read` at the reader's first failure, and `RunFault::Memory`.
 fn read_all<R: Read>(alloc: Global, reader: &mut Watched<R>) -> Result<Vec<u8>, RunFault>
     ensures read { IfOk result (λ v. ReadsAll (R.remaining reader.old.inner) (R.remaining reader.new.inner) v.items) }
+    ensures ended { reader.old.input_end ≡ Ahead
+        → MatchResult result (λ _. reader.new.input_end ≡ Reached) (λ _. reader.new.input_end ≡ Ahead) }
     ensures kind { IfErr result (λ e. (e ≡ RunFault.Read) ⊎ (e ≡ RunFault.Memory)) }
     ensures failed { result ≡ Err RunFault.Read → reader.new.failures ≡ noted reader.old.failures }
     ensures good { result ≢ Err RunFault.Read → reader.new.failures ≡ reader.old.failures }

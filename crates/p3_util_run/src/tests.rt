@@ -13,24 +13,26 @@ const NOT_AN_ARRAY: &str = "error: input is not a JSON array of u64";
 
 const UNKNOWN: &str = "error: unknown command";
 
-/// A reader that gives a byte a call, and fails after some calls, for good or once.
+/// A reader that gives a byte a call, none where a `|` comes next, and fails once, after some calls.
 #[derive(Drop)]
 struct ByteReader<'a> {
     rest: &'a [u8],
     good_reads: u8,
-    recovers: bool,
+    failure: ErrorKind,
 }
 
 impl Read for ByteReader<'_> {
     fn read(&mut self, buf: &mut [u8]) -> io::Result<usize> {
         if self.good_reads == 0 {
-            if self.recovers {
-                self.good_reads = 255;
-            }
-            return Err(io::Error::from(ErrorKind::Other));
+            self.good_reads = u8::MAX;
+            return Err(io::Error::from(self.failure));
         }
         self.good_reads -= 1;
         match (self.rest, buf) {
+            ([b'|', rest @ ..], _) => {
+                self.rest = rest;
+                Ok(0)
+            }
             ([first, rest @ ..], [to, ..]) => {
                 *to = *first;
                 self.rest = rest;
@@ -41,38 +43,29 @@ impl Read for ByteReader<'_> {
     }
 }
 
-/// A writer that takes a byte a call, and after some calls fails or takes none, for good or once.
+/// What a writer does once, after some calls.
+#[derive(Clone, Copy)]
+enum Refusal {
+    Fails(ErrorKind),
+    TakesNone,
+}
+
+/// A writer that takes a byte a call, refuses once, after some calls, and may fail at its first flush.
 #[derive(Drop)]
 struct ByteWriter {
     taken: Vec<u8>,
     good_writes: u8,
-    takes_none: bool,
-    can_flush: bool,
-    recovers: bool,
-}
-
-impl ByteWriter {
-    fn new(alloc: Global, good_writes: u8) -> Self {
-        ByteWriter {
-            taken: Vec::new(alloc),
-            good_writes,
-            takes_none: false,
-            can_flush: true,
-            recovers: false,
-        }
-    }
+    refusal: Refusal,
+    good_flushes: u8,
 }
 
 impl Write for ByteWriter {
     fn write(&mut self, buf: &[u8]) -> io::Result<usize> {
         if self.good_writes == 0 {
-            if self.recovers {
-                self.good_writes = 255;
-            }
-            return if self.takes_none {
-                Ok(0)
-            } else {
-                Err(io::Error::from(ErrorKind::Other))
+            self.good_writes = u8::MAX;
+            return match self.refusal {
+                Refusal::Fails(kind) => Err(io::Error::from(kind)),
+                Refusal::TakesNone => Ok(0),
             };
         }
         self.good_writes -= 1;
@@ -86,11 +79,12 @@ impl Write for ByteWriter {
     }
 
     fn flush(&mut self) -> io::Result<()> {
-        if self.can_flush {
-            return Ok(());
+        if self.good_flushes == 0 {
+            self.good_flushes = u8::MAX;
+            return Err(io::Error::from(ErrorKind::Interrupted));
         }
-        self.can_flush = self.recovers;
-        Err(io::Error::from(ErrorKind::Other))
+        self.good_flushes -= 1;
+        Ok(())
     }
 }
 
@@ -177,20 +171,17 @@ fn transposes(rt: HostRuntime) -> Result<(), Fail> {
 
 #[test]
 fn unknown_words(rt: HostRuntime) -> Result<(), Fail> {
-    let alloc = rt.alloc();
-    prints(&rt, alloc, &[], b"[]", UNKNOWN, 2)?;
-    prints(&rt, alloc, &["revbits", "x"], b"[]", UNKNOWN, 2)?;
-    prints(&rt, alloc, &["Revbits"], b"[]", UNKNOWN, 2)?;
-    prints(&rt, alloc, &["transpose", "1"], b"[1]", UNKNOWN, 2)?;
-    prints(&rt, alloc, &["revbits", "1", "1"], b"[1]", UNKNOWN, 2)?;
-    prints(
-        &rt,
-        alloc,
+    let words: [&[&str]; 6] = [
+        &[],
+        &["revbits", "x"],
+        &["Revbits"],
+        &["transpose", "1"],
+        &["revbits", "1", "1"],
         &["transpose", "1", "1", "1"],
-        b"[1]",
-        UNKNOWN,
-        2,
-    )?;
+    ];
+    for texts in words {
+        prints(&rt, rt.alloc(), texts, b"[1]", UNKNOWN, 2)?;
+    }
     Ok(())
 }
 
@@ -225,104 +216,118 @@ fn a_byte_a_call(rt: HostRuntime) -> Result<(), Fail> {
     let words = owned(alloc, &["transpose", "3", "2"])?;
     let mut reader = Watched::new(ByteReader {
         rest: b"[1,2,3,4,5,6]",
-        good_reads: 255,
-        recovers: false,
+        good_reads: u8::MAX,
+        failure: ErrorKind::Other,
     });
-    let mut writer = Watched::new(ByteWriter::new(alloc, 255));
-    assert_eq!(rt;
-        run(alloc, words.as_slice(), &mut reader, &mut writer),
-        Ok(())
-    );
-    assert_eq!(rt;
-        writer.into_inner().taken.as_slice(),
-        b"[1,4,2,5,3,6]\n".as_slice()
-    );
+    let mut writer = Watched::new(ByteWriter {
+        taken: Vec::new(alloc),
+        good_writes: u8::MAX,
+        refusal: Refusal::TakesNone,
+        good_flushes: u8::MAX,
+    });
+    let result = run(alloc, words.as_slice(), &mut reader, &mut writer);
+    assert_eq!(rt; result, Ok(()));
+    let taken = writer.into_inner().taken;
+    assert_eq!(rt; taken.as_slice(), b"[1,4,2,5,3,6]\n".as_slice());
     Ok(())
 }
 
+/// The input ends at the first read of no byte, and no read follows it.
+#[test]
+fn reads_of_no_byte(rt: HostRuntime) -> Result<(), Fail> {
+    let alloc = rt.alloc();
+    let words = owned(alloc, &["revbits"])?;
+    for (rest, wanted, output) in [
+        ("[1,2]|,3,4]", Ok(()), "[1,2]\n"),
+        ("[1,2|,3,4]", Err(RunFault::NotAnArray), ""),
+        ("|[1,2,3,4]", Err(RunFault::NotAnArray), ""),
+    ] {
+        let mut reader = Watched::new(ByteReader {
+            rest: rest.as_bytes(),
+            good_reads: u8::MAX,
+            failure: ErrorKind::Other,
+        });
+        let mut writer = Watched::new(Vec::new(alloc));
+        let result = run(alloc, words.as_slice(), &mut reader, &mut writer);
+        assert_eq!(rt; result, wanted, "{rest}");
+        let left = reader.into_inner().rest;
+        assert_eq!(rt;
+            Some(left),
+            rest.split_once('|').map(|parts| parts.1.as_bytes())
+        );
+        assert_eq!(rt; writer.into_inner().as_slice(), output.as_bytes(), "{rest}");
+    }
+    Ok(())
+}
+
+/// The first failure ends the run, and is counted once, also where the next call would succeed.
 #[test]
 fn failing_readers(rt: HostRuntime) -> Result<(), Fail> {
     let alloc = rt.alloc();
     let words = owned(alloc, &["revbits"])?;
-    for (good_reads, recovers) in [
-        (0, false),
-        (1, false),
-        (4, false),
-        (5, false),
-        (0, true),
-        (3, true),
-        (5, true),
-    ] {
-        let rest = b"[1,2]";
-        let mut reader = Watched::new(ByteReader {
-            rest,
-            good_reads,
-            recovers,
-        });
-        let mut writer = Watched::new(Vec::new(alloc));
-        let result = run(alloc, words.as_slice(), &mut reader, &mut writer);
-        assert_eq!(rt; result, Err(RunFault::Read), "{good_reads}");
-        assert_eq!(rt; reader.failures(), 1, "{good_reads}");
-        assert!(rt; writer.into_inner().is_empty(), "{good_reads}");
+    for good_reads in 0..6 {
+        for failure in [ErrorKind::Other, ErrorKind::Interrupted] {
+            let rest = b"[1,2]";
+            let mut reader = Watched::new(ByteReader {
+                rest,
+                good_reads,
+                failure,
+            });
+            let mut writer = Watched::new(Vec::new(alloc));
+            let result = run(alloc, words.as_slice(), &mut reader, &mut writer);
+            assert_eq!(rt; result, Err(RunFault::Read), "{good_reads}");
+            assert_eq!(rt; reader.failures(), 1, "{good_reads}");
+            assert!(rt; writer.into_inner().is_empty(), "{good_reads}");
+        }
     }
     Ok(())
 }
 
+/// The same of the writer: after its first failure nothing more is written.
 #[test]
 fn failing_writers(rt: HostRuntime) -> Result<(), Fail> {
     let alloc = rt.alloc();
     let words = owned(alloc, &["revbits"])?;
-    for (good_writes, takes_none, can_flush, recovers) in [
-        (0, false, true, false),
-        (3, false, true, false),
-        (0, true, true, false),
-        (3, true, true, false),
-        (255, false, false, false),
-        (0, false, true, true),
-        (3, false, true, true),
-        (3, true, true, true),
-        (255, false, false, true),
-    ] {
-        let mut reader = Watched::new(b"[1,2]".as_slice());
-        let mut writer = Watched::new(ByteWriter {
-            takes_none,
-            can_flush,
-            recovers,
-            ..ByteWriter::new(alloc, good_writes)
-        });
-        let result = run(alloc, words.as_slice(), &mut reader, &mut writer);
-        assert_eq!(rt; result, Err(RunFault::Write), "{good_writes}");
-        assert_eq!(rt; writer.failures(), 1, "{good_writes}");
-        let taken = writer.into_inner().taken;
-        assert_eq!(rt; taken.as_slice() == b"[1,2]\n".as_slice(), !can_flush);
+    for good_writes in 0..7 {
+        for refusal in [
+            Refusal::Fails(ErrorKind::Other),
+            Refusal::Fails(ErrorKind::Interrupted),
+            Refusal::TakesNone,
+        ] {
+            let mut reader = Watched::new(b"[1,2]".as_slice());
+            let mut writer = Watched::new(ByteWriter {
+                taken: Vec::new(alloc),
+                good_writes,
+                refusal,
+                good_flushes: 0,
+            });
+            let result = run(alloc, words.as_slice(), &mut reader, &mut writer);
+            assert_eq!(rt; result, Err(RunFault::Write), "{good_writes}");
+            assert_eq!(rt; writer.failures(), 1, "{good_writes}");
+            let taken = writer.into_inner().taken;
+            assert_eq!(rt; taken.len(), usize::from(good_writes));
+        }
     }
     Ok(())
 }
 
-/// More bytes than one read takes.
+/// An input of four megabytes. A `run` that refuses what is long as `Memory` fails here.
 #[test]
 fn a_long_input(rt: HostRuntime) -> Result<(), Fail> {
     let alloc = rt.alloc();
     let words = owned(alloc, &["revbits"])?;
-    let mut input = vec![in alloc; b'7'; 8193]?;
-    for (i, byte) in input.iter_mut().enumerate() {
-        if i % 2 == 0 {
-            *byte = b',';
-        }
+    let mut input = String::from_str(alloc, "[1000003")?;
+    for _ in 1..524_288 {
+        input.push_str(",1000003")?;
     }
-    if let [first, .., last] = input.as_mut_slice() {
-        *first = b'[';
-        *last = b']';
-    }
-    let mut reader = Watched::new(input.as_slice());
+    input.push_str("]")?;
+    let mut reader = Watched::new(input.as_bytes());
     let mut writer = Watched::new(Vec::new(alloc));
     let result = run(alloc, words.as_slice(), &mut reader, &mut writer);
     assert_eq!(rt; result, Ok(()));
+    input.push_str("\n")?;
     let written = writer.into_inner();
-    assert_eq!(rt;
-        written.as_slice().split_last(),
-        Some((&b'\n', input.as_slice()))
-    );
+    assert!(rt; written.as_slice() == input.as_bytes());
     Ok(())
 }
 

@@ -1,20 +1,33 @@
 //! A reader or a writer whose failures are counted.
 
-ghost use Rattle.std.specs.Prelude.{◌≡◌, OnOk, OnErr, length, ◌<◌, true, false};
+ghost use Rattle.std.specs.Prelude.{◌≡◌, OnOk, OnErr, true, false};
 ghost use Rattle.std.specs.Io.{ReadsAtMost, WritesAtMost};
 ghost use Rattle.std.specs.Io.KnownBytes.{Keeps, ReadConsumes, WriteAppends};
-ghost use Rattle.p3_util_run.specs.Watch.{noted, count_after_call, count_after_write};
+ghost use Rattle.p3_util_run.specs.Watch.{noted, count_after_call, count_after_write, end_after_read};
 
 use std::io;
 use std::io::{Read, Write};
 use std::marker::Model;
 
-/// A reader or a writer, with the number of its failures, and whether it was flushed since the last write. A failure is a
-/// call that answers an error, and a write that takes none of some bytes. The number stays at `u64::MAX` once it is there.
+/// Where a reader is, by what its reads returned so far.
+#[derive(Clone, Copy)]
+pub enum InputEnd {
+    /// No read found the end.
+    Ahead,
+    /// The last read gave no byte though there was room, which is the end of the input.
+    Reached,
+    /// There was a further read after that.
+    Passed,
+}
+
+/// A reader or a writer, with the number of its failures, where a reader is, and whether a writer was flushed since the
+/// last write. A failure is a call that returns an error, whatever its kind, and a write that takes none of some bytes.
+/// The number stays at `u64::MAX` once it is there.
 #[derive(Drop)]
 pub struct Watched<T> {
     inner: T,
     failures: u64,
+    input_end: InputEnd,
     is_flushed: bool,
 }
 
@@ -23,18 +36,26 @@ impl<T> Model for Watched<T> {
 
     ghost Value = { Watch T };
 
-    ghost view = { λ w. record { inner = w.inner; failures = w.failures; is_flushed = w.is_flushed } };
+    ghost view = { λ w. record {
+      inner = w.inner;
+      failures = w.failures;
+      input_end = w.input_end;
+      is_flushed = w.is_flushed;
+    } };
 }
 
 impl<T> Watched<T> {
-    /// Watches `inner`, with no failure so far.
+    /// Watches `inner`, with no failure, no read and no write so far.
     pub fn new(inner: T) -> Self
         ensures inner { result.inner ≡ inner }
         ensures failures { result.failures ≡ 0 }
+        ensures input_end { result.input_end ≡ InputEnd.Ahead }
+        ensures flushed { result.is_flushed ≡ true }
     {
         Watched {
             inner,
             failures: 0,
+            input_end: InputEnd::Ahead,
             is_flushed: true,
         }
     }
@@ -57,6 +78,7 @@ impl<T> Watched<T> {
     fn note(&mut self)
         ensures inner { self.new.inner ≡ self.old.inner }
         ensures failures { self.new.failures ≡ noted self.old.failures }
+        ensures input_end { self.new.input_end ≡ self.old.input_end }
         ensures flushed { self.new.is_flushed ≡ self.old.is_flushed }
     {
         let Watched { failures, .. } = self;
@@ -70,8 +92,19 @@ impl<R: Read> Watched<R> {
         ensures bound { ReadsAtMost result buf.new }
         ensures bytes { ReadConsumes (R.remaining self.old.inner) (R.remaining self.new.inner) result buf.new }
         ensures failures { self.new.failures ≡ count_after_call result self.old.failures }
+        ensures input_end { self.new.input_end ≡ end_after_read result buf.new self.old.input_end }
+        ensures flushed { self.new.is_flushed ≡ self.old.is_flushed }
     {
         let result = self.inner.read(buf);
+        let gives_none = match result {
+            Ok(n) => n == 0 && !buf.is_empty(),
+            Err(_) => false,
+        };
+        self.input_end = match self.input_end {
+            InputEnd::Ahead if gives_none => InputEnd::Reached,
+            InputEnd::Ahead => InputEnd::Ahead,
+            InputEnd::Reached | InputEnd::Passed => InputEnd::Passed,
+        };
         if result.is_err() {
             self.note();
         }
@@ -85,6 +118,7 @@ impl<W: Write> Watched<W> {
         ensures bound { WritesAtMost result buf.now }
         ensures bytes { WriteAppends (W.contents self.old.inner) (W.contents self.new.inner) result buf.now }
         ensures failures { self.new.failures ≡ count_after_write result buf.now self.old.failures }
+        ensures input_end { self.new.input_end ≡ self.old.input_end }
         ensures unflushed { self.new.is_flushed ≡ false }
     {
         self.is_flushed = false;
@@ -101,7 +135,9 @@ impl<W: Write> Watched<W> {
     pub fn flush(&mut self) -> io::Result<()>
         ensures bytes { Keeps (W.contents self.old.inner) (W.contents self.new.inner) }
         ensures failures { self.new.failures ≡ count_after_call result self.old.failures }
+        ensures input_end { self.new.input_end ≡ self.old.input_end }
         ensures flushed { OnOk result (self.new.is_flushed ≡ true) }
+        ensures unflushed { OnErr result (self.new.is_flushed ≡ self.old.is_flushed) }
     {
         let result = self.inner.flush();
         match result {

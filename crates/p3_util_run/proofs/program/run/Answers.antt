@@ -11,6 +11,12 @@ returns-in-Ok-clause-ok g c =
     (subst (Answers c.in-Some.command c.as_slice.result.now) (sym c.as_bytes.ensures.value) c.in-Ok.ensures.ok)
     c.write_all.ensures.written
 
+pub returns-in-Ok-clause-answers : goal.returns-in-Ok-clause-answers
+returns-in-Ok-clause-answers g c =
+    answers (texts_of c.args.words.now) c.in-Some.command _ _ c.as_slice.result.now c.write_all.result c.in-Some.ensures
+    (subst (ReadsAll _ _) (sym c.as_slice.ensures.value) c.in_ok-input.ensures.read)
+    (ends_written c.in-Some.command c.as_slice.result.now (string_bytes c.in-Ok.text) c.write_all.result c.in-Ok.ensures.ok c.write_all.ensures.kind)
+
 pub returns-in-Ok-clause-refuses : goal.returns-in-Ok-clause-refuses
 returns-in-Ok-clause-refuses g c =
     refuses (texts_of c.args.words.now) c.in-Some.command _ _ c.as_slice.result.now c.write_all.result c.in-Some.ensures

@@ -1,0 +1,123 @@
+#!/usr/bin/env bash
+# The program and its surroundings: words that are no text, standard streams that are closed, full or cut short, an input
+# that never ends. Each run has to end with the right text and status, or as the system ends a program, and never with a
+# wrong list.
+#
+#     tests/program.sh [PROGRAM]..
+#
+# Without words it takes what `rt ci` leaves: the program as each compiler built it. (`rt run` leaves the first alone.)
+set -uo pipefail
+here=$(cd "$(dirname "$0")/.." && pwd)
+if (($# == 0)); then
+    set -- "$here"/crates/p3_util_run/out/p3_util_run
+    [[ ! -x $1.by-rattle ]] || set -- "$1" "$1.by-rattle"
+fi
+work=$(mktemp -d)
+trap 'rm -rf "$work"' EXIT
+bad=0
+
+list='[10,20,30,40]'
+turned=$'[10,30,20,40]\n'
+unknown=$'error: unknown command\n'
+unread=$'error: input cannot be read\n'
+no_array=$'error: input is not a JSON array of u64\n'
+unwritten=$'error: output cannot be written\n'
+no_memory=$'error: out of memory\n'
+
+# run WORD..: runs the program on standard input. Its output, its error and its status go to files.
+run() {
+    "$program" "$@" >"$work/out" 2>"$work/err"
+    echo $? >"$work/status"
+}
+
+# is NAME STATUS OUTPUT ERROR: what the last run has to have left.
+is() {
+    if [[ $(<"$work/status") == "$2" ]] && cmp -s "$work/out" <(printf '%s' "$3") &&
+        cmp -s "$work/err" <(printf '%s' "$4"); then
+        echo "ok      $1"
+    else
+        echo "FAILED  $1: status $(<"$work/status"), output '$(head -c 200 "$work/out")', error '$(head -c 200 "$work/err")'"
+        bad=1
+    fi
+}
+
+words() {
+    run revbits <<<"$list"
+    is 'a list' 0 "$turned" ''
+    run transpose 3 2 <<<'[1,2,3,4,5,6]'
+    is 'a matrix' 0 $'[1,4,2,5,3,6]\n' ''
+    run revbits <<<'[1,2,3]'
+    is 'a length that does not fit' 2 '' $'error: length 3 is neither zero nor a power of two\n'
+    run <<<"$list"
+    is 'no words' 2 '' "$unknown"
+    run '' <<<"$list"
+    is 'an empty word' 2 '' "$unknown"
+    run $'\xff' <<<"$list"
+    is 'a command that is no UTF-8' 2 '' "$unknown"
+    run revbits $'\xff' <<<"$list"
+    is 'a further word that is no UTF-8' 2 '' "$unknown"
+    run transpose 2 $'2\xc3' <<<"$list"
+    is 'a side that is no UTF-8' 2 '' "$unknown"
+    run transpose "$(printf '%0300d' 3)" 2 <<<'[1,2,3,4,5,6]'
+    is 'a side with many leading zeros' 0 $'[1,4,2,5,3,6]\n' ''
+
+    # Word 0, the program's name, is no word of the program.
+    mkdir -p "$work/"$'folder\xff'
+    cp "$program" "$work/"$'folder\xff/p3'
+    (program="$work/"$'folder\xff/p3' && run revbits <<<"$list")
+    is 'a folder whose name is no UTF-8' 0 "$turned" ''
+    (exec -a $'\xff' "$program" revbits) <<<"$list" >"$work/out" 2>"$work/err"
+    echo $? >"$work/status"
+    is 'a name that is no UTF-8' 0 "$turned" ''
+}
+
+input() {
+    run revbits </dev/null
+    is 'an empty input' 2 '' "$no_array"
+    run revbits < <(printf '[10,20,' && sleep 0.2 && printf '30,40]')
+    is 'an input in two parts' 0 "$turned" ''
+    run revbits <&-
+    is 'standard input closed' 2 '' "$unread"
+    run revbits </
+    is 'a folder as standard input' 2 '' "$unread"
+    run revbits 0>"$work/none"
+    is 'standard input open for writing alone' 2 '' "$unread"
+    (ulimit -v 262144 && run revbits </dev/zero)
+    is 'an input that never ends' 3 '' "$no_memory"
+}
+
+output() {
+    : >"$work/out"
+    "$program" revbits <<<"$list" 2>"$work/err" >&-
+    echo $? >"$work/status"
+    is 'standard output closed' 2 '' "$unwritten"
+    "$program" revbits <<<"$list" 2>"$work/err" >/dev/full
+    echo $? >"$work/status"
+    is 'a full device' 2 '' "$unwritten"
+    "$program" revbits <<<"$list" 2>"$work/err" 1</dev/null
+    echo $? >"$work/status"
+    is 'standard output open for reading alone' 2 '' "$unwritten"
+    "$program" revbits <<<'[1,2,3]' 2>&- >"$work/out"
+    echo $? >"$work/status"
+    : >"$work/err"
+    is 'standard error closed' 2 '' ''
+
+    # Nobody reads this pipe. A program ignores the signal for that, and sees its write fail.
+    mkfifo "$work/pipe"
+    exec 3<>"$work/pipe" 4>"$work/pipe" 3>&-
+    : >"$work/out"
+    "$program" revbits <<<"$list" 2>"$work/err" >&4
+    echo $? >"$work/status"
+    is 'a pipe closed early' 2 '' "$unwritten"
+    exec 4>&-
+    rm "$work/pipe"
+}
+
+for program in "$@"; do
+    program=$(realpath "$program")
+    echo "$program"
+    words
+    input
+    output
+done
+exit "$bad"

@@ -1,0 +1,88 @@
+#!/usr/bin/env bash
+# Each growth refused in turn: a run whose Nth request for memory is refused, for every N until none is refused any more.
+#
+#     tests/refused_growth.sh
+#
+# It takes what `rt ci` leaves in crates/*/out: the program, as each compiler built it, and the tests. The program has to
+# print that it is out of memory, end with status 3 and write nothing; a test has to pass, whatever is refused.
+set -uo pipefail
+cd "$(dirname "$0")/.."
+
+# The tests that are run so: a crate, and how the names of its tests begin.
+tests=(
+)
+
+work=$(mktemp -d)
+trap 'rm -rf "$work"' EXIT
+kit=$(dirname "$(rt doc)")
+"$kit/toolchain/bin/clang" -O1 -fPIC -c tests/refuse_growth.c -o "$work/refuse_growth.o" &&
+    "$kit/toolchain/bin/ld.lld" -shared "$work/refuse_growth.o" -o "$work/refuse_growth.so" || exit 1
+bad=0
+
+# refusing N PROGRAM WORD..: runs the program and refuses its Nth growth. Its output and its error go to files, and
+# `$work/refused` is there if that growth came.
+refusing() {
+    rm -f "$work/refused"
+    timeout 60 env REFUSED_GROWTH="$1" REFUSAL="$work/refused" LD_PRELOAD="$work/refuse_growth.so" "${@:2}" \
+        >"$work/out" 2>"$work/err"
+}
+
+# told NAME TEXT: says what went wrong in a run.
+told() {
+    echo "FAILED  $1: $2"
+    head -c 400 "$work/out" "$work/err"
+    bad=1
+}
+
+# of_program PROGRAM INPUT OUTPUT WORD..
+of_program() {
+    local program=$1 input=$2 output=$3 name="${1##*/} ${*:4}" n=0 status
+    while :; do
+        n=$((n + 1))
+        refusing "$n" "$program" "${@:4}" <<<"$input"
+        status=$?
+        if [[ ! -e $work/refused ]]; then
+            [[ $status == 0 && $(<"$work/out") == "$output" ]] || told "$name" "status $status with ample memory"
+            break
+        fi
+        [[ $status == 3 && ! -s $work/out && $(<"$work/err") == 'error: out of memory' ]] ||
+            told "$name" "status $status where growth $n was refused"
+    done
+    echo "$name: $((n - 1)) growths, each refused once"
+    ((n > 1)) || told "$name" 'no growth was refused'
+}
+
+# of_test PROGRAM TEST
+of_test() {
+    local n=0 status
+    while :; do
+        n=$((n + 1))
+        refusing "$n" "$1" "$2" </dev/null
+        status=$?
+        ((status == 0)) || told "$2" "status $status where growth $n was refused"
+        [[ -e $work/refused ]] || break
+    done
+    echo "$2: $((n - 1)) growths, each refused once"
+}
+
+programs=0
+for program in crates/p3_util_run/out/p3_util_run{,.by-rattle}; do
+    [[ -x $program ]] || continue
+    programs=$((programs + 1))
+    of_program "$program" '[10,20,30,40]' '[10,30,20,40]' revbits
+    of_program "$program" '[1,2,3,4,5,6]' '[1,4,2,5,3,6]' transpose 3 2
+done
+((programs > 0)) || told 'the program' 'it is not built: run `rt ci` first'
+
+for line in "${tests[@]}"; do
+    read -r crate prefix <<<"$line"
+    built=crates/$crate/out/${crate}_tests
+    if ! names=$("$built" --list | sed 's/: test$//' | grep "^$prefix"); then
+        told "$crate" "no test $prefix is built: run \`rt ci\` first"
+        continue
+    fi
+    for name in $names; do
+        of_test "$built" "$name"
+    done
+done
+exit "$bad"
