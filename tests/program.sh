@@ -5,11 +5,12 @@
 #
 #     tests/program.sh [PROGRAM]..
 #
-# Without words it takes what `rt ci` leaves: the program as each compiler built it. (`rt run` leaves the first alone.)
+# Without words it takes what `rt ci` left: the program as each compiler built it. Where there is none, it builds one.
 set -uo pipefail
-here=$(cd "$(dirname "$0")/.." && pwd)
 if (($# == 0)); then
-    set -- "$here"/crates/p3_util_run/out/p3_util_run
+    crate=$(cd "$(dirname "$0")/../crates/p3_util_run" && pwd)
+    set -- "$crate/out/p3_util_run"
+    [[ -x $1 ]] || (cd "$crate" && rt run -- revbits <stdin) || exit 1
     [[ ! -x $1.by-rattle ]] || set -- "$1" "$1.by-rattle"
 fi
 work=$(mktemp -d)

@@ -3,8 +3,9 @@
 #
 #     tests/refused_growth.sh
 #
-# It takes what `rt ci` leaves in crates/*/out: the program, as each compiler built it, and the tests. The program has to
-# print that it is out of memory, end with status 3 and write nothing; a test has to pass, whatever is refused.
+# It takes what `rt ci` left in crates/*/out: the program, as each compiler built it, and the tests. What is not there it
+# builds. The program has to print that it is out of memory, end with status 3 and write nothing; a test has to pass,
+# whatever is refused.
 set -uo pipefail
 cd "$(dirname "$0")/.."
 
@@ -65,20 +66,20 @@ of_test() {
     echo "$2: $((n - 1)) growths, each refused once"
 }
 
-programs=0
-for program in crates/p3_util_run/out/p3_util_run{,.by-rattle}; do
+program=crates/p3_util_run/out/p3_util_run
+[[ -x $program ]] || (cd crates/p3_util_run && rt run -- revbits <stdin) || exit 1
+for program in $program{,.by-rattle}; do
     [[ -x $program ]] || continue
-    programs=$((programs + 1))
     of_program "$program" '[10,20,30,40]' '[10,30,20,40]' revbits
     of_program "$program" '[1,2,3,4,5,6]' '[1,4,2,5,3,6]' transpose 3 2
 done
-((programs > 0)) || told 'the program' 'it is not built: run `rt ci` first'
 
 for line in "${tests[@]}"; do
     read -r crate prefix <<<"$line"
     built=crates/$crate/out/${crate}_tests
+    [[ -x $built ]] || (cd "crates/$crate" && rt test) || exit 1
     if ! names=$("$built" --list | sed 's/: test$//' | grep "^$prefix"); then
-        told "$crate" "no test $prefix is built: run \`rt ci\` first"
+        told "$crate" "there is no test $prefix"
         continue
     fi
     for name in $names; do
