@@ -17,7 +17,8 @@ pub use p3_util_kernels::bits::{
     pretty_name, reverse_bits, reverse_bits_len,
 };
 pub use p3_util_kernels::reverse::{
-    reverse_index_bits_on, reverse_index_bits_short, reverse_slice_index_bits,
+    fits_rows, reverse_counted, reverse_index_bits_on, reverse_index_bits_short,
+    reverse_slice_index_bits,
 };
 pub use p3_util_kernels::{bits, laws, places, reverse, transpose};
 pub use views::{

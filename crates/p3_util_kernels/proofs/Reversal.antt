@@ -1,10 +1,12 @@
--- Bit reversal as a rearrangement.
-use Rattle.std.proofs.Common.{◌≡◌, ℕ, ◌^◌, ◌<◌, ◌≤◌, List, length, slice_get, inl, inr, zero, suc, refl, sym, ap, ◌∙◌, arith}
+-- Reversal of rows and of items: as a rearrangement, as its own inverse, and that a list has one.
+use Rattle.std.proofs.Common.{◌≡◌, ℕ, ◌+◌, ◌*◌, ◌^◌, ◌<◌, ◌≤◌, List, length, slice_get, inl, inr, zero, suc, refl, sym, ap, ◌∙◌, arith}
 use Rattle.p3_util_kernels.specs.Digits.{rev}
 use Rattle.p3_util_kernels.specs.Rearranged.{IsRearranged}
-use Rattle.p3_util_kernels.specs.Reversal.{IsReversal, IsZeroOrPowerOfTwo}
+use Rattle.p3_util_kernels.specs.Reversal.{FitsRows, IsReversal, IsRowReversal, IsZeroOrPowerOfTwo}
 use Rattle.p3_util_kernels.proofs.Digits.{rev-lt, rev-rev-below}
 use Rattle.p3_util_kernels.proofs.Halfway.{IsInvolution}
+use Rattle.p3_util_kernels.proofs.Lengths.{FitsRows-one}
+use Rattle.p3_util_kernels.proofs.Matrix.{each_place}
 use Rattle.p3_util_kernels.proofs.Powers.{exponent-same}
 use Rattle.p3_util_kernels.proofs.SameList.{same_places}
 
@@ -20,41 +22,59 @@ IsInvolution-rev n k e = record {
   twice = λ p h. rev-rev-below k p (rw e at h);
 }
 
-pub IsReversal-from_rearranged : {A : Type 0} (k : ℕ) (old new : List A) → length old ≡ 2 ^ k → IsRearranged (rev k) old new → IsReversal old new
-IsReversal-from_rearranged k old new e at = record {
-  same_length = at.same_length;
-  places = λ j i ej h.
-      let same : j ≡ k = exponent-same j k (sym ej ∙ e) in
-      at.places i (omega arith) ∙ ap (λ b. slice_get old (rev b i)) (sym same);
+-- reversal of items, place by place
+pub IsReversal-places : {A : Type 0} (old new : List A) → IsReversal old new → (k i : ℕ) → length old ≡ 2 ^ k → i < 2 ^ k → slice_get new i ≡ slice_get old (rev k i)
+IsReversal-places old new reversal k i e h =
+    let from : i * 1 + 0 ≡ i = omega arith in
+    let to : rev k i * 1 + 0 ≡ rev k i = omega arith in
+    rw (from, to) at (reversal.places k i 0 (omega arith) h (omega arith))
+
+pub IsReversal-from_places : {A : Type 0} (old new : List A) → length new ≡ length old
+    → ((k i : ℕ) → length old ≡ 2 ^ k → i < 2 ^ k → slice_get new i ≡ slice_get old (rev k i)) → IsReversal old new
+IsReversal-from_places old new same at = record {
+  same_length = same;
+  places = λ k r j e h first.
+      let from : r * 1 + j ≡ r = omega arith in
+      let to : rev k r * 1 + j ≡ rev k r = omega arith in
+      rw (from, to) (at k r (omega arith) h);
 }
+
+pub IsReversal-from_rearranged : {A : Type 0} (k : ℕ) (old new : List A) → length old ≡ 2 ^ k → IsRearranged (rev k) old new → IsReversal old new
+IsReversal-from_rearranged k old new e at =
+    IsReversal-from_places old new at.same_length
+    (λ j i ej h.
+    let same : j ≡ k = exponent-same j k (sym ej ∙ e) in
+    at.places i (omega arith) ∙ ap (λ b. slice_get old (rev b i)) (sym same))
 
 -- a list of at most one item is its own reversal
 pub IsReversal-short : {A : Type 0} (old : List A) → length old < 2 → IsReversal old old
-IsReversal-short old h = record {
-  same_length = refl;
-  places = λ k i e less.
-      let below : rev k i < 2 ^ k = rev-lt k i in
-      ap (slice_get old) (omega arith);
+IsReversal-short old h =
+    IsReversal-from_places old old refl
+    (λ k i e less.
+    let below : rev k i < 2 ^ k = rev-lt k i in
+    ap (slice_get old) (omega arith))
+
+-- the reversal of the reversal is the list
+pub IsRowReversal-inverse : {A : Type 0} (row_width : ℕ) (old new : List A) → IsRowReversal row_width old new → IsRowReversal row_width new old
+IsRowReversal-inverse row_width old new reversal = record {
+  same_length = sym reversal.same_length;
+  places = λ k r j e h inside.
+      let length_is : length old ≡ row_width * 2 ^ k = sym reversal.same_length ∙ e in
+      sym (reversal.places k (rev k r) j length_is (rev-lt k r) inside ∙ ap (λ q. slice_get old (q * row_width + j)) (rev-rev-below k r h));
 }
 
 -- a list has one reversal
-pub IsReversal-unique : {A : Type 0} (old a b : List A) → IsZeroOrPowerOfTwo (length old) → IsReversal old a → IsReversal old b → a ≡ b
-IsReversal-unique old a b (inl none) at bt =
+pub IsRowReversal-unique : {A : Type 0} (row_width : ℕ) (old a b : List A) → FitsRows (length old) row_width
+    → IsRowReversal row_width old a → IsRowReversal row_width old b → a ≡ b
+IsRowReversal-unique row_width old a b (rows, inl none, e) at bt =
+    let empty : length old ≡ 0 = e ∙ ap (λ n. row_width * n) none ∙ omega arith in
     same_places a b (at.same_length ∙ sym bt.same_length) (λ i h. absurd (omega (arith, at.same_length)))
-IsReversal-unique old a b (inr power) at bt =
+IsRowReversal-unique row_width old a b (rows, inr (k, is), e) at bt =
+    let length_is : length old ≡ row_width * 2 ^ k = rw is at e in
     same_places a b (at.same_length ∙ sym bt.same_length)
     (λ i h.
-    let inside : i < 2 ^ power.0 = omega (arith, at.same_length, power.1) in
-    at.places power.0 i power.1 inside ∙ sym (bt.places power.0 i power.1 inside))
+    each_place (λ p. slice_get a p ≡ slice_get b p) (2 ^ k) row_width i (omega (arith, at.same_length))
+    (λ r j row within. at.places k r j length_is row within ∙ sym (bt.places k r j length_is row within)))
 
--- the reversal of the reversal is the list
-pub IsReversal-twice : {A : Type 0} (old mid new : List A) → IsZeroOrPowerOfTwo (length old) → IsReversal old mid → IsReversal mid new → new ≡ old
-IsReversal-twice old mid new (inl none) first second =
-    same_places new old (second.same_length ∙ first.same_length) (λ i h. absurd (omega (arith, first.same_length, second.same_length)))
-IsReversal-twice old mid new (inr power) first second =
-    same_places new old (second.same_length ∙ first.same_length)
-    (λ i h.
-    let k = power.0 in
-    let inside : i < 2 ^ k = omega (arith, first.same_length, second.same_length, power.1) in
-    second.places k i (first.same_length ∙ power.1) inside ∙ first.places k (rev k i) power.1 (rev-lt k i)
-    ∙ ap (slice_get old) (rev-rev-below k i inside))
+pub IsReversal-unique : {A : Type 0} (old a b : List A) → IsZeroOrPowerOfTwo (length old) → IsReversal old a → IsReversal old b → a ≡ b
+IsReversal-unique old a b fits = IsRowReversal-unique 1 old a b ((FitsRows-one (length old) 1 refl).1 fits)

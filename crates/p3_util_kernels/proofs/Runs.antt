@@ -7,6 +7,7 @@ use Rattle.std.proofs.lemmas.Bool.{cases_Bool, cases_eq, eqb-true, eq-eqb, ne_eq
 use Rattle.std.proofs.lemmas.Nat.{pow_pos, mod_below, same_from_place, div-add-mod', div-mul-add}
 use Rattle.p3_util_kernels.specs.Digits.{bit, rev, sum_below}
 use Rattle.p3_util_kernels.specs.Reversal.{IsReversal}
+use Rattle.p3_util_kernels.proofs.Reversal.{IsReversal-places}
 use Rattle.p3_util_kernels.specs.Runs.{after_swaps, after_puts, count_below, DifferWhere, AllDiffer, SwapsChange, PutsChange, Palindromes, LeastReversal, LeastSquare, LeastPuts}
 use Rattle.p3_util_kernels.specs.SwapCounts.{short_swaps, square_swaps}
 use Rattle.p3_util_kernels.specs.Transpose.{IsTranspose}
@@ -264,7 +265,7 @@ least-reversal {A} k xs run len apart reversed =
     let test : ℕ → Bool = λ i. not (rev k i == i) in
     let differ : DifferWhere (2 ^ k) test xs (after_swaps xs run) =
     λ i h t e.
-    let moved : slice_get xs i ≡ slice_get xs (rev k i) = e ∙ reversed.places k i len h in
+    let moved : slice_get xs i ≡ slice_get xs (rev k i) = e ∙ IsReversal-places xs (after_swaps xs run) reversed k i len h in
     let below : rev k i < length xs = omega (arith, rev-lt k i) in
     let same : i ≡ rev k i = apart i (rev k i) (omega arith) below moved in
     both_ways (rev k i == i) (not-true (rev k i == i) t) (eq-eqb (rev k i) i (sym same)) in

@@ -1,37 +1,56 @@
 //! Bit reversal of lists: each item goes to the place whose index has the same binary digits in reversed order.
 
-ghost use Rattle.std.specs.Prelude.{◌≡◌, ℕ, ◌*◌, ◌/◌, length};
-ghost use Rattle.p3_util_kernels.specs.Reversal.{IsReversal, IsZeroOrPowerOfTwo};
+ghost use Rattle.std.specs.Prelude.{◌≡◌, ℕ, ◌*◌, ◌/◌, ◌↔◌, ◌≤◌, IsTrue, length};
+ghost use Rattle.p3_util_kernels.specs.Reversal.{FitsRows, IsReversal, IsReversible, IsZeroOrPowerOfTwo};
 ghost use Rattle.p3_util_kernels.specs.Steps.{RoseByAtMost};
 
 use crate::bits::{log2_strict_usize, reverse_bits_len};
 use crate::places::{Places, SlicePlaces, Swaps};
 
-/// Reverses the order of `vals` by index bits: with 2^k items, place `i` gets the item from the place whose index has
-/// the k bits of `i` in reversed order. The length is zero or a power of two. No item is cloned or dropped.
-pub fn reverse_slice_index_bits<F>(vals: &mut [F])
-    requires { IsZeroOrPowerOfTwo (length vals.old) }
-    ensures { IsReversal vals.old vals.new }
+/// Whether `len` items are rows of `row_width` whose number is zero or a power of two. Of rows of one item this is
+/// whether `len` is zero or a power of two, and of rows of no items whether it is zero.
+pub fn fits_rows(len: usize, row_width: usize) -> bool
+    ensures rows { IsTrue result ↔ FitsRows len row_width }
+    ensures items { row_width ≡ 1 → (IsTrue result ↔ IsZeroOrPowerOfTwo len) }
 {
-    let mut places = SlicePlaces::new(vals);
-    reverse_over_fresh_count(&mut places);
+    if row_width == 0 {
+        return len == 0;
+    }
+    len == 0 || (len % row_width == 0 && (len / row_width).is_power_of_two())
 }
 
-/// Reverses `places` by index bits, and lets the number of exchanges go.
-fn reverse_over_fresh_count<S: Places>(places: &mut S)
-    requires { IsZeroOrPowerOfTwo (length (S.items places.old)) }
+/// Reverses the order of `vals` by index bits: with 2^k items, place `i` gets the item from the place whose index has
+/// the k bits of `i` in reversed order. The length is zero or a power of two, which `fits_rows(vals.len(), 1)` tests, and
+/// std's `is_power_of_two`. The same call restores the order. No item is cloned or dropped.
+pub fn reverse_slice_index_bits<F>(vals: &mut [F])
+    requires { IsReversible (length vals.old) }
+    ensures order { IsReversal vals.old vals.new }
+    ensures inverse { IsReversal vals.new vals.old }
+{
+    let mut places = SlicePlaces::new(vals);
+    reverse_counted(&mut places);
+}
+
+/// Reverses `places` by index bits, as [`reverse_index_bits_on`] does over a fresh counter, and returns the number of
+/// exchanges.
+pub fn reverse_counted<S: Places>(places: &mut S) -> u128
+    requires { IsReversible (length (S.items places.old)) }
     ensures order { IsReversal (S.items places.old) (S.items places.new) }
+    ensures inverse { IsReversal (S.items places.new) (S.items places.old) }
+    ensures count { result ≤ 3 * length (S.items places.old) / 2 }
     ensures holder { S.same_holder places.old places.new }
 {
     let mut swaps = Swaps::new(places);
     reverse_index_bits_on(&mut swaps);
+    let count = swaps.swaps();
     let _ = swaps.into_inner();
+    count
 }
 
 /// Reverses `m` by index bits, as [`reverse_slice_index_bits`] does, in at most 3n/2 swaps at length n.
 /// The length is zero or a power of two.
 pub fn reverse_index_bits_on<S: Places>(m: &mut Swaps<S>)
-    requires { IsZeroOrPowerOfTwo (length (S.items m.old.holder)) }
+    requires { IsReversible (length (S.items m.old.holder)) }
     ensures order { IsReversal (S.items m.old.holder) (S.items m.new.holder) }
     ensures count { RoseByAtMost m.old.count m.new.count (3 * length (S.items m.old.holder) / 2) }
     ensures holder { S.same_holder m.old.holder m.new.holder }
@@ -42,7 +61,7 @@ pub fn reverse_index_bits_on<S: Places>(m: &mut Swaps<S>)
 /// Reverses `m` by index bits, as [`reverse_slice_index_bits`] does, by one exchange of each two places that belong to
 /// each other. The length is zero or a power of two.
 pub fn reverse_index_bits_short<S: Places>(m: &mut Swaps<S>)
-    requires { IsZeroOrPowerOfTwo (length (S.items m.old.holder)) }
+    requires { IsReversible (length (S.items m.old.holder)) }
     ensures order { IsReversal (S.items m.old.holder) (S.items m.new.holder) }
     ensures count { RoseByAtMost m.old.count m.new.count (3 * length (S.items m.old.holder) / 2) }
     ensures holder { S.same_holder m.old.holder m.new.holder }

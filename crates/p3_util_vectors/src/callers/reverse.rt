@@ -1,10 +1,44 @@
-//! Callers of bit reversal.
+//! Callers of bit reversal. None of them has a proof by hand, but for `reverse_twice`: the test in front of a call is enough.
 
-ghost use Rattle.std.specs.Prelude.{◌≡◌, ◌*◌, ◌/◌, ◌≤◌, length};
+ghost use Rattle.std.specs.Prelude.{◌≡◌, ◌↔◌, IsTrue, IsFalse, length};
 ghost use Rattle.p3_util_kernels.specs.Reversal.{IsReversal, IsZeroOrPowerOfTwo};
 
-use p3_util_kernels::places::{Places, Swaps};
-use p3_util_kernels::reverse::{reverse_index_bits_on, reverse_slice_index_bits};
+use p3_util_kernels::reverse::{fits_rows, reverse_slice_index_bits};
+
+/// Reverses `vals` by index bits. `false`, and nothing done, where the length is neither zero nor a power of two.
+pub fn reverse_where_it_fits<F>(vals: &mut [F]) -> bool
+    ensures done { IsTrue result → IsReversal vals.old vals.new }
+    ensures left { IsFalse result → vals.new ≡ vals.old }
+    ensures fits { IsTrue result ↔ IsZeroOrPowerOfTwo (length vals.old) }
+{
+    let fits = fits_rows(vals.len(), 1);
+    if fits {
+        reverse_slice_index_bits(vals);
+    }
+    fits
+}
+
+/// Reverses `vals` by index bits where the length is a power of two, by std's test, and else leaves it.
+pub fn reverse_power_of_two<F>(vals: &mut [F]) {
+    if vals.len().is_power_of_two() {
+        reverse_slice_index_bits(vals);
+    }
+}
+
+/// The four items in the order of their reversed index bits.
+pub fn reversed_four<F: Copy>(mut items: [F; 4]) -> [F; 4]
+    ensures { IsReversal items result }
+{
+    reverse_slice_index_bits(&mut items);
+    items
+}
+
+/// Four numbers written out, in the order of their reversed index bits.
+pub fn reversed_literal() -> [u32; 4] {
+    let mut items = [10, 20, 30, 40];
+    reverse_slice_index_bits(&mut items);
+    items
+}
 
 /// Reverses `vals` by index bits twice, as a transform and its inverse do, which leaves it as it was.
 pub fn reverse_twice<F>(vals: &mut [F])
@@ -13,18 +47,4 @@ pub fn reverse_twice<F>(vals: &mut [F])
 {
     reverse_slice_index_bits(vals);
     reverse_slice_index_bits(vals);
-}
-
-/// Reverses any holder by index bits, and tells the number of swaps.
-pub fn reverse_and_count<S: Places>(places: &mut S) -> u128
-    requires fits { IsZeroOrPowerOfTwo (length (S.items places.old)) }
-    ensures order { IsReversal (S.items places.old) (S.items places.new) }
-    ensures count { result ≤ 3 * length (S.items places.old) / 2 }
-    ensures holder { S.same_holder places.old places.new }
-{
-    let mut swaps = Swaps::new(places);
-    reverse_index_bits_on(&mut swaps);
-    let count = swaps.swaps();
-    let _ = swaps.into_inner();
-    count
 }

@@ -7,8 +7,8 @@ ghost use Rattle.p3_util_kernels.specs.Transpose.{IsTranspose};
 
 use p3_util::views::{Flattened, Rows};
 use p3_util::{as_base_slice, as_base_slice_mut};
-use p3_util_kernels::places::{Cells, Places, Swaps, Writes};
-use p3_util_kernels::reverse::reverse_index_bits_on;
+use p3_util_kernels::places::{Cells, Writes};
+use p3_util_kernels::reverse::reverse_counted;
 use p3_util_kernels::transpose::transpose_on;
 
 /// Reverses the items of `rows`, taken as one list, by their index bits: what a kernel leaves in a view stands in the rows.
@@ -18,17 +18,7 @@ pub fn reverse_items<T, const N: usize>(rows: &mut [[T; N]])
     ensures { IsReversal (flat rows.old) (flat rows.new) }
 {
     let mut view = as_base_slice_mut(rows);
-    reverse_places(&mut view);
-}
-
-fn reverse_places<S: Places>(places: &mut S)
-    requires { IsZeroOrPowerOfTwo (length (S.items places.old)) }
-    ensures order { IsReversal (S.items places.old) (S.items places.new) }
-    ensures holder { S.same_holder places.old places.new }
-{
-    let mut swaps = Swaps::new(places);
-    reverse_index_bits_on(&mut swaps);
-    let _ = swaps.into_inner();
+    reverse_counted(&mut view);
 }
 
 /// Writes the transpose of `input` to the items of `rows`, taken as one list.

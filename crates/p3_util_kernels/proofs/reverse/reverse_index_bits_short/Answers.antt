@@ -1,7 +1,8 @@
-use Rattle.std.proofs.Common.{◌≡◌, ◌<◌, ◌^◌, length, arith, sym, ◌∙◌}
+use Rattle.std.proofs.Common.{◌≡◌, ◌<◌, ◌^◌, length, arith, inl, inr, sym, ◌∙◌}
 use Rattle.p3_util_kernels.specs.Digits.{rev}
 use Rattle.p3_util_kernels.proofs.Digits.{rev_word-above}
 use Rattle.p3_util_kernels.proofs.Halfway.{IsInvolution, IsHalfway-skip, IsHalfway-swap, IsRearranged-from_halfway}
+use Rattle.p3_util_kernels.proofs.Lengths.{zero_or_power}
 use Rattle.p3_util_kernels.proofs.Reversal.{IsReversal-short, IsReversal-from_rearranged, IsInvolution-rev, exponent-positive}
 use Rattle.p3_util_kernels.proofs.Steps.{RoseByAtMost-more, RoseByAtMost-wider}
 use Rattle.p3_util_kernels.proofs.reverse.reverse_index_bits_short.Goals as goal
@@ -9,6 +10,13 @@ use Rattle.p3_util_kernels.proofs.reverse.reverse_index_bits_short.Goals.{then-i
 
 pub returns-then-len-lt2-clause-order : goal.returns-then-len-lt2-clause-order
 returns-then-len-lt2-clause-order g c = IsReversal-short _ (omega arith)
+
+pub log2_strict_usize-bits-requires : goal.log2_strict_usize-bits-requires
+log2_strict_usize-bits-requires g c =
+    elim (zero_or_power _ c.requires) [
+      | inl none ↦ absurd (omega arith)
+      | inr power ↦ rw c.len-len.ensures.len power
+    ]
 
 pub swap-requires-clause-second : goal.swap-requires-clause-second
 swap-requires-clause-second g c =

@@ -1,0 +1,76 @@
+-- Lengths that are zero or a power of two, and lengths of rows.
+use Rattle.std.proofs.Common.{◌≡◌, ℕ, zero, suc, ◌+◌, ◌-◌, ◌*◌, ◌/◌, ◌%◌, ◌^◌, ◌<◌, ◌≤◌, ◌↔◌, ◌⊎◌, IsTrue, Bool, true, false, ◌==◌, ◌||◌, ◌&&◌, not, bit_and, inl, inr, refl, sym, ap, ◌∙◌, arith, eqb-true, eq-eqb}
+use Rattle.std.specs.Int.{IsPowerOfTwo, is_power_of_two}
+use Rattle.std.specs.Int.Bits.{and_self}
+use Rattle.std.proofs.Math.Nat.{pow-suc}
+use Rattle.std.proofs.lemmas.Bool.{cases_eq, or_cases}
+use Rattle.std.proofs.lemmas.Nat.{and_block, div-add-mod', div-mul-add, mod-mul-add}
+use Rattle.p3_util_kernels.specs.Reversal.{IsZeroOrPowerOfTwo, IsReversible, FitsRows}
+use Rattle.p3_util_kernels.proofs.Powers.{power_of_two_test}
+
+-- twice a number that is zero or a power of two is one too
+doubled : (m n : ℕ) → n ≡ m * 2 → IsZeroOrPowerOfTwo m → IsZeroOrPowerOfTwo n
+doubled m n e (inl none) = inl (omega arith)
+doubled m n e (inr (k, is)) = let twice : 2 ^ suc k ≡ 2 ^ k * 2 = pow-suc 2 k in inr (suc k, omega arith)
+
+-- a number that shares no digit with the one before it has at most one digit set
+unshared : (size n : ℕ) → n < size → bit_and n (n - 1) ≡ 0 → IsZeroOrPowerOfTwo n
+unshared zero n small none = absurd (omega arith)
+unshared (suc size) n small none =
+    let m = n / 2 in
+    elim (cases_eq n 0) [
+      | inl z ↦ inl z
+      | inr nonzero ↦
+          elim (cases_eq (n % 2) 0) [
+            | inl even ↦
+                let whole : m * 2 ^ 1 + 0 ≡ n = omega arith in
+                let before : (m - 1) * 2 ^ 1 + 1 ≡ n - 1 = omega arith in
+                let split : bit_and (m * 2 ^ 1 + 0) ((m - 1) * 2 ^ 1 + 1) ≡ bit_and m (m - 1) * 2 ^ 1 + bit_and 0 1 = and_block 1 m (m - 1) 0 1 (omega arith) (omega arith) in
+                let halved : bit_and n (n - 1) ≡ bit_and m (m - 1) * 2 ^ 1 + bit_and 0 1 = rw (whole, before) at split in
+                doubled m n (omega arith) (unshared size m (omega arith) (omega arith))
+            | inr odd ↦
+                let whole : m * 2 ^ 1 + 1 ≡ n = omega arith in
+                let before : m * 2 ^ 1 + 0 ≡ n - 1 = omega arith in
+                let split : bit_and (m * 2 ^ 1 + 1) (m * 2 ^ 1 + 0) ≡ bit_and m m * 2 ^ 1 + bit_and 1 0 = and_block 1 m m 1 0 (omega arith) (omega arith) in
+                let halved : bit_and n (n - 1) ≡ bit_and m m * 2 ^ 1 + bit_and 1 0 = rw (whole, before) at split in
+                let same : bit_and m m ≡ m = and_self m in
+                inr (0, omega arith)
+          ]
+    ]
+
+-- what a call asks of a length says that it is zero or a power of two
+pub zero_or_power : (n : ℕ) → IsReversible n → IsZeroOrPowerOfTwo n
+zero_or_power n (inl fits) = fits
+zero_or_power n (inr test) =
+    elim (or_cases (bit_and n (n - 1) == 0) (is_power_of_two n) test) [
+      | inl none ↦ unshared (suc n) n (omega arith) (eqb-true _ _ none)
+      | inr one ↦ inr ((power_of_two_test n).0 one)
+    ]
+
+-- rows of one item
+pub FitsRows-one : (len row_width : ℕ) → row_width ≡ 1 → FitsRows len row_width ↔ IsZeroOrPowerOfTwo len
+FitsRows-one len row_width one = (
+  λ (rows, fits, e). let same : len ≡ rows = e ∙ ap (λ w. w * rows) one ∙ omega arith in rw same fits,
+  λ fits. let same : len ≡ row_width * len = rw one (omega arith) in (len, fits, same),
+)
+
+-- the width divides the length of rows
+pub FitsRows-whole : (len row_width : ℕ) → (row_width ≡ 0 → ⊥) → FitsRows len row_width → len % row_width ≡ 0
+FitsRows-whole len row_width wide (rows, fits, e) =
+    let place : rows * row_width + 0 ≡ len = omega arith in
+    rw place at (mod-mul-add rows row_width 0 (omega arith))
+
+-- of a length that the width divides, the number of rows decides
+pub FitsRows-quotient : (len row_width : ℕ) → (len ≡ 0 → ⊥) → (row_width ≡ 0 → ⊥) → len % row_width ≡ 0
+    → IsTrue (is_power_of_two (len / row_width)) ↔ FitsRows len row_width
+FitsRows-quotient len row_width some wide whole =
+    let split : len / row_width * row_width + len % row_width ≡ len = div-add-mod' len row_width in (
+      λ yes. (len / row_width, inr ((power_of_two_test (len / row_width)).0 yes), omega arith),
+      λ (rows, fits, e).
+      let place : rows * row_width + 0 ≡ len = omega arith in
+      let same : len / row_width ≡ rows = rw place at (div-mul-add rows row_width 0 (omega arith)) in
+      elim fits [
+        | inl none ↦ let empty : row_width * rows ≡ 0 = rw none (omega arith) in absurd (some (omega arith))
+        | inr power ↦ rw same ((power_of_two_test rows).1 power)
+      ],
+    )
