@@ -2,10 +2,10 @@
 ghost use Rattle.std.specs.Prelude.{◌<◌, ◌^◌, length};
 ghost use Rattle.std.specs.Iterator.{at_most};
 
+use crate::oracle::pieces::{BY_FOUR, PADDED_BY_THREE};
 use p3_util::chunks::{apply_to_chunks, iter_array_chunks_padded};
-use std::alloc::{AllocError, Global};
 use std::cell::Cell;
-use std::test::Fail;
+use std::process::Abort;
 
 /// Gives the answers in turn and then `None`, and counts how often it is asked.
 #[derive(Drop)]
@@ -27,169 +27,132 @@ impl<'a> Iterator for Asked<'a> {
     }
 }
 
-fn note(alloc: Global, pieces: &mut Vec<Vec<u8>>, piece: &[u8]) {
-    if let Ok(piece) = piece.to_vec(alloc) {
-        let _ = pieces.push(piece);
+/// How many of the pieces `wanted` came up after one more piece, or `usize::MAX` where it was not the next one.
+fn count_wanted(wanted: &[&[u8]], count: usize, piece: &[u8]) -> usize {
+    match wanted.get(count) {
+        Some(next) if *next == piece => count.saturating_add(1),
+        _ => usize::MAX,
     }
 }
 
-/// The pieces that the closure is called on, as text.
-fn pieces<const BUFLEN: usize>(alloc: Global, bytes: &[u8]) -> Result<String, AllocError>
-    requires { BUFLEN < 2 ^ 63 }
-{
-    let mut pieces = Vec::new(alloc);
-    apply_to_chunks::<BUFLEN, _, _>(
-        bytes.iter().copied(),
-        |piece| note(alloc, &mut pieces, piece),
-    );
-    format!(in alloc; "{pieces:?}")
-}
-
-/// The same of an iterator that gives these answers, with the number of times that it was asked.
-fn pieces_and_asks<const BUFLEN: usize>(
-    alloc: Global,
+/// Asserts that the closure is called on the pieces `wanted`, and that the iterator is asked `asks` times.
+fn check_pieces<const BUFLEN: usize>(
+    rt: &impl Abort,
     answers: &[Option<u8>],
-) -> Result<(String, usize), AllocError>
+    wanted: &[&[u8]],
+    asks: usize,
+)
     requires { BUFLEN < 2 ^ 63 }
 {
-    let asks = Cell::new(0);
-    let mut pieces = Vec::new(alloc);
-    let asked = Asked {
+    let asked = Cell::new(0);
+    let input = Asked {
         answers,
-        asks: &asks,
+        asks: &asked,
     };
-    apply_to_chunks::<BUFLEN, _, _>(asked, |piece| note(alloc, &mut pieces, piece));
-    Ok((format!(in alloc; "{pieces:?}")?, asks.get()))
+    let count = Cell::new(0);
+    apply_to_chunks::<BUFLEN, _, _>(
+        input,
+        |piece| count.set(count_wanted(wanted, count.get(), piece)),
+    );
+    assert_eq!(rt; count.get(), wanted.len(), "pieces of {BUFLEN}");
+    assert_eq!(rt; asked.get(), asks, "asks for pieces of {BUFLEN}");
 }
 
-const COUNT: [u8; 20] = [
-    1, 2, 3, 4, 5, 6, 7, 8, 9, 10, 11, 12, 13, 14, 15, 16, 17, 18, 19, 20,
+/// Asserts the padded pieces of what an iterator gives, that `None` follows for good, and that the iterator is asked `asks`
+/// times.
+fn check_padded<const N: usize>(
+    rt: &impl Abort,
+    answers: &[Option<u8>],
+    fill: u8,
+    wanted: &[[u8; N]],
+    asks: usize,
+) {
+    let asked = Cell::new(0);
+    let input = Asked {
+        answers,
+        asks: &asked,
+    };
+    let mut padded = iter_array_chunks_padded::<u8, N, _>(input, fill);
+    for piece in wanted {
+        assert_eq!(rt; padded.next(), Some(*piece), "padded by {N}");
+    }
+    for _ in 0..3 {
+        assert_eq!(rt; padded.next(), None, "padded by {N}");
+    }
+    assert_eq!(rt; asked.get(), asks, "asks for pieces of {N}");
+}
+
+/// The numbers from 0 to 20.
+const NUMBERS: [Option<u8>; 21] = [
+    Some(0),
+    Some(1),
+    Some(2),
+    Some(3),
+    Some(4),
+    Some(5),
+    Some(6),
+    Some(7),
+    Some(8),
+    Some(9),
+    Some(10),
+    Some(11),
+    Some(12),
+    Some(13),
+    Some(14),
+    Some(15),
+    Some(16),
+    Some(17),
+    Some(18),
+    Some(19),
+    Some(20),
 ];
 
+/// Two numbers, and one more after the first `None`.
+const BROKEN: [Option<u8>; 4] = [Some(1), Some(2), None, Some(3)];
+
 #[test]
-fn pieces_of_lists(rt: HostRuntime) -> Result<(), Fail> {
-    let alloc = rt.alloc();
-    let seven = &COUNT[..7];
-    let eight = &COUNT[..8];
-    assert_eq!(rt;
-        pieces::<3>(alloc, seven)?.as_str(),
-        "[[1, 2, 3], [4, 5, 6], [7]]"
-    );
-    assert_eq!(rt; pieces::<0>(alloc, seven)?.as_str(), "[]");
-    assert_eq!(rt;
-        pieces::<4>(alloc, eight)?.as_str(),
-        "[[1, 2, 3, 4], [5, 6, 7, 8]]"
-    );
-    assert_eq!(rt; pieces::<4>(alloc, &[])?.as_str(), "[]");
-    assert_eq!(rt;
-        pieces::<10>(alloc, &COUNT[..5])?.as_str(),
-        "[[1, 2, 3, 4, 5]]"
-    );
-    assert_eq!(rt;
-        pieces::<100>(alloc, eight)?.as_str(),
-        "[[1, 2, 3, 4, 5, 6, 7, 8]]"
-    );
-    assert_eq!(rt;
-        pieces::<5>(alloc, &COUNT)?.as_str(),
-        "[[1, 2, 3, 4, 5], [6, 7, 8, 9, 10], [11, 12, 13, 14, 15], [16, 17, 18, 19, 20]]"
-    );
-    Ok(())
+fn pieces_of_lists(rt: HostRuntime) {
+    let seven = &NUMBERS[1..8];
+    check_pieces::<3>(&rt, seven, &[&[1, 2, 3], &[4, 5, 6], &[7]], 8);
+    check_pieces::<0>(&rt, seven, &[], 0);
+    let eight = &NUMBERS[1..9];
+    check_pieces::<4>(&rt, eight, &[&[1, 2, 3, 4], &[5, 6, 7, 8]], 9);
+    check_pieces::<4>(&rt, &[], &[], 1);
+    check_pieces::<10>(&rt, &NUMBERS[1..6], &[&[1, 2, 3, 4, 5]], 6);
+    check_pieces::<100>(&rt, eight, &[&[1, 2, 3, 4, 5, 6, 7, 8]], 9);
+    let fives: [&[u8]; 4] = [
+        &[1, 2, 3, 4, 5],
+        &[6, 7, 8, 9, 10],
+        &[11, 12, 13, 14, 15],
+        &[16, 17, 18, 19, 20],
+    ];
+    check_pieces::<5>(&rt, &NUMBERS[1..], &fives, 21);
 }
 
 /// A body that asks the iterator again after a short piece, and calls the closure on a further piece, fails here.
 #[test]
-fn asks_no_more_after_the_first_none(rt: HostRuntime) -> Result<(), Fail> {
-    let alloc = rt.alloc();
-    let broken = [Some(1), Some(2), None, Some(3)];
-    let (pieces, asks) = pieces_and_asks::<3>(alloc, &broken)?;
-    assert_eq!(rt; pieces.as_str(), "[[1, 2]]");
-    assert_eq!(rt; asks, 3);
-    let (pieces, asks) = pieces_and_asks::<2>(alloc, &broken)?;
-    assert_eq!(rt; pieces.as_str(), "[[1, 2]]");
-    assert_eq!(rt; asks, 3);
-    let (pieces, asks) = pieces_and_asks::<0>(alloc, &broken)?;
-    assert_eq!(rt; pieces.as_str(), "[]");
-    assert_eq!(rt; asks, 0);
-    Ok(())
+fn asks_no_more_after_the_first_none(rt: HostRuntime) {
+    check_pieces::<3>(&rt, &BROKEN, &[&[1, 2]], 3);
+    check_pieces::<2>(&rt, &BROKEN, &[&[1, 2]], 3);
+    check_pieces::<0>(&rt, &BROKEN, &[], 0);
 }
 
 #[test]
-fn padded_pieces_of_lists(rt: HostRuntime) -> Result<(), Fail> {
-    let alloc = rt.alloc();
-    let padded: Vec<[u8; 4]> = iter_array_chunks_padded([1, 2, 3, 4, 5], 9).collect(alloc)?;
-    assert_eq!(rt; padded.as_slice(), [[1, 2, 3, 4], [5, 9, 9, 9]].as_slice());
-    let asks = Cell::new(0);
-    let answers = [Some(1), None, Some(2)];
-    let asked = Asked {
-        answers: &answers,
-        asks: &asks,
-    };
-    let padded: Vec<[u8; 2]> = iter_array_chunks_padded(asked, 0).collect(alloc)?;
-    assert_eq!(rt; padded.as_slice(), [[1, 0]].as_slice());
-    assert_eq!(rt; asks.get(), 2);
-    Ok(())
+fn padded_pieces(rt: HostRuntime) {
+    check_padded(&rt, &NUMBERS[1..6], 9, &[[1, 2, 3, 4], [5, 9, 9, 9]], 6);
+    check_padded(&rt, &[Some(1), None, Some(2)], 0, &[[1, 0]], 2);
+    check_padded(&rt, &BROKEN, 0, &[[1, 2]], 3);
+    check_padded::<0>(&rt, &NUMBERS[1..3], 0, &[], 0);
 }
 
 #[test]
-fn padded_pieces_end_for_good(rt: HostRuntime) {
-    let asks = Cell::new(0);
-    let answers = [Some(1), Some(2), None, Some(3)];
-    let asked = Asked {
-        answers: &answers,
-        asks: &asks,
-    };
-    let mut padded = iter_array_chunks_padded::<u8, 2, _>(asked, 0);
-    assert_eq!(rt; padded.next(), Some([1, 2]));
-    assert_eq!(rt; padded.next(), None);
-    assert_eq!(rt; padded.next(), None);
-    assert_eq!(rt; padded.next(), None);
-    assert_eq!(rt; asks.get(), 3);
-}
-
-#[test]
-fn padded_by_nothing_asks_nothing(rt: HostRuntime) {
-    let asks = Cell::new(0);
-    let answers = [Some(1), Some(2)];
-    let asked = Asked {
-        answers: &answers,
-        asks: &asks,
-    };
-    let mut padded = iter_array_chunks_padded::<u8, 0, _>(asked, 0);
-    assert_eq!(rt; padded.next(), None);
-    assert_eq!(rt; asks.get(), 0);
-}
-
-/// The pieces by 4, and the pieces by 3 filled with 99, of the numbers from 0 to below the first entry. Made by a program over the original crate 0.8.0, rustc 1.95.
-const ORIGINAL: [(u8, &str, &str); 7] = [
-    (0, "[]", "[]"),
-    (1, "[[0]]", "[[0, 99, 99]]"),
-    (3, "[[0, 1, 2]]", "[[0, 1, 2]]"),
-    (4, "[[0, 1, 2, 3]]", "[[0, 1, 2], [3, 99, 99]]"),
-    (
-        7,
-        "[[0, 1, 2, 3], [4, 5, 6]]",
-        "[[0, 1, 2], [3, 4, 5], [6, 99, 99]]",
-    ),
-    (
-        8,
-        "[[0, 1, 2, 3], [4, 5, 6, 7]]",
-        "[[0, 1, 2], [3, 4, 5], [6, 7, 99]]",
-    ),
-    (
-        20,
-        "[[0, 1, 2, 3], [4, 5, 6, 7], [8, 9, 10, 11], [12, 13, 14, 15], [16, 17, 18, 19]]",
-        "[[0, 1, 2], [3, 4, 5], [6, 7, 8], [9, 10, 11], [12, 13, 14], [15, 16, 17], [18, 19, 99]]",
-    ),
-];
-
-#[test]
-fn same_pieces_as_the_original(rt: HostRuntime) -> Result<(), Fail> {
-    let alloc = rt.alloc();
-    for (len, by_four, by_three) in ORIGINAL {
-        let bytes: Vec<u8> = (0..len).collect(alloc)?;
-        assert_eq!(rt; pieces::<4>(alloc, &bytes)?.as_str(), by_four);
-        let padded: Vec<[u8; 3]> = iter_array_chunks_padded(0..len, 99).collect(alloc)?;
-        assert_eq!(rt; format!(in alloc; "{padded:?}")?.as_str(), by_three);
+fn same_pieces_as_the_original(rt: HostRuntime) {
+    for (len, wanted) in &BY_FOUR {
+        let answers = NUMBERS.get(..*len).unwrap_or(&[]);
+        check_pieces::<4>(&rt, answers, wanted, len.saturating_add(1));
     }
-    Ok(())
+    for (len, wanted) in &PADDED_BY_THREE {
+        let answers = NUMBERS.get(..*len).unwrap_or(&[]);
+        check_padded::<3>(&rt, answers, 99, wanted, len.saturating_add(1));
+    }
 }

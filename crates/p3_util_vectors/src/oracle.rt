@@ -1,7 +1,13 @@
-//! What the vectors of the original crate are made of, and how its answers are told.
+//! What the vectors of the original crate are made of, and its answers, a file for each subject.
 //!
 //! The answers were made by a program over the code of `p3-util` 0.8.0 itself, built with rustc 1.95 at optimization
-//! level 3 without its parallel feature.
+//! level 3 without its parallel feature. They are lists that a test walks by one loop.
+
+pub mod map;
+pub mod pieces;
+pub mod reversals;
+pub mod transposes;
+pub mod words;
 
 use std::alloc::{AllocError, Global};
 
@@ -18,8 +24,9 @@ pub fn items(alloc: Global, count: usize) -> Result<Vec<u64>, AllocError> {
 /// The hash of a list: it starts at 14695981039346656037, and for each item becomes the exclusive or with the item, times
 /// 1099511628211, without what does not fit 64 bits.
 pub fn hash(list: &[u64]) -> u64 {
-    list.iter().fold(
-        14_695_981_039_346_656_037,
-        |h: u64, x| (h ^ *x).wrapping_mul(1_099_511_628_211),
-    )
+    let mut hash = 14_695_981_039_346_656_037u64;
+    for x in list {
+        hash = (hash ^ *x).wrapping_mul(1_099_511_628_211);
+    }
+    hash
 }

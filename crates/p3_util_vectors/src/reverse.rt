@@ -1,55 +1,35 @@
 //! Bit reversal against worked examples and the original crate.
 
+use crate::oracle::reversals::REVERSALS;
 use crate::oracle::{hash, items};
 use p3_util_kernels::places::{Places, SlicePlaces, Swaps};
 use p3_util_kernels::reverse::{
     reverse_index_bits_on, reverse_index_bits_short, reverse_slice_index_bits,
 };
+use std::alloc::{AllocError, Global};
 use std::cell::Cell;
 use std::process::Abort;
 use std::test::Fail;
 
-/// The hashes of the reversals of the first 2^k items, from k = 0 on.
-const REVERSALS: [u64; 21] = [
-    12638153115695167455,
-    4416085430204679402,
-    9782466848128667267,
-    5470751650876417269,
-    14422349484668105557,
-    17586259794092332469,
-    14109378950426248613,
-    15675686852380984549,
-    2544168381208635301,
-    5598875751358039205,
-    1292141262821873189,
-    13882120688408384293,
-    9938604672273725989,
-    8008219521778037029,
-    6993966517814525733,
-    2283848802871803173,
-    9991040245197949733,
-    13898564728661885733,
-    10954215891521991461,
-    1022476862977104677,
-    14406122008742159141,
+/// Lists with their reversals, and the number of swaps.
+const EXAMPLES: [(&[u64], &[u64], u128); 4] = [
+    (&[], &[], 0),
+    (&[7], &[7], 0),
+    (&[10, 20, 30, 40], &[10, 30, 20, 40], 1),
+    (&[0, 1, 2, 3, 4, 5, 6, 7], &[0, 4, 2, 6, 1, 5, 3, 7], 2),
 ];
 
-/// Reverses `list`, whose length is a power of two, as a slice.
+/// Reverses `list`, of no items or a power of two, as a slice.
 fn reverse_slice<F>(rt: &impl Abort, list: &mut [F]) {
     if list.len().is_power_of_two() {
         reverse_slice_index_bits(list);
     } else {
-        assert!(rt; false, "{} items", list.len());
+        assert!(rt; list.len() == 0);
+        reverse_slice_index_bits(list);
     }
 }
 
-/// Reverses `list`, of no items or a power of two, through a counter over a slice, and tells the number of swaps.
-fn count_swaps<F>(rt: &impl Abort, list: &mut [F]) -> u128 {
-    let mut places = SlicePlaces::new(list);
-    count_swaps_of(rt, &mut places)
-}
-
-/// Reverses `places`, of no items or a power of two, by the call that picks its path, and tells the number of swaps.
+/// Reverses `places`, of no items or a power of two, by the call that picks its path, and answers the number of swaps.
 pub fn count_swaps_of<S: Places>(rt: &impl Abort, places: &mut S) -> u128 {
     let mut swaps = Swaps::new(places);
     if swaps.len().is_power_of_two() {
@@ -63,83 +43,68 @@ pub fn count_swaps_of<S: Places>(rt: &impl Abort, places: &mut S) -> u128 {
     count
 }
 
-/// `x` with its `bits` low digits in reversed order, digit by digit.
-fn reversed(x: u32, bits: u32) -> u32 {
-    (0..bits).fold(
-        0u32,
-        |answer, i| answer.wrapping_mul(2) | (x.checked_shr(i).unwrap_or(0) % 2),
-    )
+/// The reversal of `list`, by the slice form and through a counter, which have to agree, and the number of swaps.
+fn reversal(rt: &impl Abort, alloc: Global, list: &[u64]) -> Result<(Vec<u64>, u128), AllocError> {
+    let mut counted = list.to_vec(alloc)?;
+    let mut places = SlicePlaces::new(&mut counted);
+    let swaps = count_swaps_of(rt, &mut places);
+    let mut reversed = list.to_vec(alloc)?;
+    reverse_slice(rt, &mut reversed);
+    assert_eq!(rt; counted.as_slice(), reversed.as_slice());
+    Ok((reversed, swaps))
 }
 
 #[test]
 fn worked_examples(rt: HostRuntime) -> Result<(), Fail> {
-    let mut empty: [u64; 0] = [];
-    assert_eq!(rt; count_swaps(&rt, &mut empty), 0);
-    reverse_slice_index_bits(&mut empty);
-    for (list, wanted, swaps) in [
-        (vec![in rt.alloc(); 7u64]?, vec![in rt.alloc(); 7u64]?, 0),
-        (
-            vec![in rt.alloc(); 10, 20, 30, 40]?,
-            vec![in rt.alloc(); 10, 30, 20, 40]?,
-            1,
-        ),
-        (
-            vec![in rt.alloc(); 0, 1, 2, 3, 4, 5, 6, 7]?,
-            vec![in rt.alloc(); 0, 4, 2, 6, 1, 5, 3, 7]?,
-            2,
-        ),
-    ] {
-        let mut counted = list;
-        assert_eq!(rt; count_swaps(&rt, &mut counted), swaps);
-        assert_eq!(rt; counted.as_slice(), wanted.as_slice());
-        reverse_slice(&rt, &mut counted);
-        reverse_slice(&rt, &mut counted);
-        assert_eq!(rt; counted.as_slice(), wanted.as_slice());
+    for (list, wanted, swaps) in &EXAMPLES {
+        let (got, count) = reversal(&rt, rt.alloc(), list)?;
+        assert_eq!(rt; got.as_slice(), *wanted);
+        assert_eq!(rt; count, *swaps);
     }
     Ok(())
 }
 
 #[test]
-fn numbers_below_256(rt: HostRuntime) -> Result<(), Fail> {
-    let mut list: Vec<u64> = (0..256u64).collect(rt.alloc())?;
-    reverse_slice(&rt, &mut list);
-    for (place, got) in (0..256u32).zip(list.iter()) {
-        assert_eq!(rt; *got, u64::from(reversed(place, 8)), "at {place}");
+fn hashes_of_the_original(rt: HostRuntime) -> Result<(), Fail> {
+    for (k, wanted) in REVERSALS.iter().enumerate() {
+        let list = items(rt.alloc(), 1usize << (k % 64))?;
+        let (got, _) = reversal(&rt, rt.alloc(), &list)?;
+        assert_eq!(rt; hash(&got), *wanted, "2^{k} items");
     }
     Ok(())
 }
 
-#[test]
-fn decimal_texts(rt: HostRuntime) -> Result<(), Fail> {
-    for bits in 0..15u32 {
-        let count = 1u32.checked_shl(bits).unwrap_or(0);
-        let mut list: Vec<String> = (0..count)
-            .map(|n| n.to_string(rt.alloc()))
-            .try_collect(rt.alloc())?;
-        reverse_slice(&rt, &mut list);
-        for (place, text) in (0..count).zip(list.iter()) {
-            assert_eq!(rt;
-                text.parse::<u32>(),
-                Ok(reversed(place, bits)),
-                "2^{bits} texts, at {place}"
-            );
-        }
-        reverse_slice(&rt, &mut list);
-        for (place, text) in (0..count).zip(list.iter()) {
-            assert_eq!(rt;
-                text.parse::<u32>(),
-                Ok(place),
-                "2^{bits} texts, twice, at {place}"
-            );
-        }
+/// `x` with its `bits` low digits in reversed order, digit by digit.
+fn reversed(x: usize, bits: u32) -> usize {
+    let mut answer = 0usize;
+    for i in 0..bits {
+        answer = answer.wrapping_mul(2) | (x.checked_shr(i).unwrap_or(0) % 2);
     }
-    Ok(())
+    answer
+}
+
+/// Lists of more types than u64 are made of their numbers.
+trait Numbered {
+    /// The number that the item was made of.
+    fn number(&self) -> usize;
+}
+
+impl Numbered for u64 {
+    fn number(&self) -> usize {
+        *self as usize
+    }
+}
+
+impl Numbered for String {
+    fn number(&self) -> usize {
+        self.parse().unwrap_or(usize::MAX)
+    }
 }
 
 /// A number that cannot be cloned, and that counts its drops.
 struct Owner<'a> {
-    number: u32,
-    drops: &'a Cell<u32>,
+    number: usize,
+    drops: &'a Cell<usize>,
 }
 
 impl Drop for Owner<'_> {
@@ -149,42 +114,60 @@ impl Drop for Owner<'_> {
     }
 }
 
+impl Numbered for Owner<'_> {
+    fn number(&self) -> usize {
+        self.number
+    }
+}
+
+/// Asserts that a reversal puts at each place the item with the reversed number, and a second one each item back.
+fn reverse_numbered<T: Numbered>(rt: &impl Abort, list: &mut [T], bits: u32) {
+    reverse_slice(rt, list);
+    for (place, item) in list.iter().enumerate() {
+        let wanted = reversed(place, bits);
+        assert_eq!(rt; item.number(), wanted, "2^{bits} items, at {place}");
+    }
+    reverse_slice(rt, list);
+    for (place, item) in list.iter().enumerate() {
+        assert_eq!(rt; item.number(), place, "2^{bits} items, twice, at {place}");
+    }
+}
+
 #[test]
-fn owners_without_clone(rt: HostRuntime) -> Result<(), Fail> {
-    for bits in 0..16u32 {
-        let count = 1u32.checked_shl(bits).unwrap_or(0);
-        let drops = Cell::new(0u32);
-        let mut list: Vec<Owner<'_>> = (0..count)
-            .map(|number| Owner {
-                number,
-                drops: &drops,
-            })
-            .collect(rt.alloc())?;
-        reverse_slice(&rt, &mut list);
-        for (place, owner) in (0..count).zip(list.iter()) {
-            assert_eq!(rt;
-                owner.number,
-                reversed(place, bits),
-                "2^{bits} owners, at {place}"
-            );
+fn numbers_below_256(rt: HostRuntime) -> Result<(), Fail> {
+    let mut list: Vec<u64> = (0..256u64).collect(rt.alloc())?;
+    reverse_numbered(&rt, &mut list, 8);
+    Ok(())
+}
+
+#[test]
+fn decimal_texts(rt: HostRuntime) -> Result<(), Fail> {
+    for bits in 0..15u32 {
+        let mut list = Vec::new(rt.alloc());
+        for number in 0..1usize << bits {
+            list.push(number.to_string(rt.alloc())?)?;
         }
-        reverse_slice(&rt, &mut list);
-        for (place, owner) in (0..count).zip(list.iter()) {
-            assert_eq!(rt; owner.number, place, "2^{bits} owners, twice, at {place}");
-        }
-        assert_eq!(rt; drops.get(), 0);
-        drop(list);
-        assert_eq!(rt; drops.get(), count);
+        reverse_numbered(&rt, &mut list, bits);
     }
     Ok(())
 }
 
 #[test]
-fn hashes_of_the_original(rt: HostRuntime) -> Result<(), Fail> {
-    for (k, wanted) in REVERSALS.iter().enumerate() {
-        let mut list = items(rt.alloc(), 1usize << (k % 64))?;
-        reverse_slice(&rt, &mut list);
-        assert_eq!(rt; hash(&list), *wanted, "2^{k} items");
+fn owners_without_clone(rt: HostRuntime) -> Result<(), Fail> {
+    for bits in 0..16u32 {
+        let drops = Cell::new(0usize);
+        let mut list = Vec::new(rt.alloc());
+        for number in 0..1usize << bits {
+            let owner = Owner {
+                number,
+                drops: &drops,
+            };
+            list.push(owner)?;
+        }
+        reverse_numbered(&rt, &mut list, bits);
+        assert_eq!(rt; drops.get(), 0);
+        drop(list);
+        assert_eq!(rt; drops.get(), 1usize << bits);
     }
     Ok(())
 }

@@ -7,7 +7,7 @@ use std::alloc::{AllocError, Global};
 use std::process::Abort;
 use std::test::Fail;
 
-// Transposes a square that lies in the list, and answers the number of exchanges.
+/// Transposes a square that lies in the list, and answers the number of exchanges.
 fn transpose<S: Places>(
     rt: &impl Abort,
     m: &mut Swaps<S>,
@@ -26,7 +26,7 @@ fn transpose<S: Places>(
     m.swaps()
 }
 
-// The numbers 0 to below `len` with a square transposed, and the number of exchanges.
+/// The numbers 0 to below `len` with a square transposed, and the number of exchanges.
 fn transposed(
     alloc: Global,
     rt: &impl Abort,
@@ -41,27 +41,24 @@ fn transposed(
     Ok((items, swaps))
 }
 
+/// A length, the base and the logarithms of the stride and the side of a square; the number of exchanges; and places with
+/// what they hold in the end.
+const EXAMPLES: [(u64, usize, usize, usize, u128, &[(usize, u64)]); 4] = [
+    (8, 2, 2, 1, 1, &[(2, 2), (3, 6), (5, 5), (6, 3), (7, 7)]),
+    (4, 1, 1, 0, 0, &[(0, 0), (1, 1), (2, 2), (3, 3)]),
+    (256, 0, 4, 4, 120, &[(1, 16), (16, 1)]),
+    (499, 3, 5, 4, 120, &[(4, 35), (35, 4), (2, 2), (498, 498)]),
+];
+
 #[test]
 fn worked_squares(rt: HostRuntime) -> Result<(), Fail> {
-    let (small, swaps) = transposed(rt.alloc(), &rt, 8, 2, 2, 1)?;
-    assert_eq!(rt; small.as_slice(), [0, 1, 2, 6, 4, 5, 3, 7].as_slice());
-    assert_eq!(rt; swaps, 1);
-
-    let (one, swaps) = transposed(rt.alloc(), &rt, 4, 1, 1, 0)?;
-    assert_eq!(rt; one.as_slice(), [0, 1, 2, 3].as_slice());
-    assert_eq!(rt; swaps, 0);
-
-    let (whole, swaps) = transposed(rt.alloc(), &rt, 256, 0, 4, 4)?;
-    for (place, held) in [(1, 16), (16, 1)] {
-        assert_eq!(rt; whole.get(place), Some(&held), "at {place}");
+    for (len, base, log_stride, log_size, wanted, places) in &EXAMPLES {
+        let (items, swaps) = transposed(rt.alloc(), &rt, *len, *base, *log_stride, *log_size)?;
+        for (place, held) in *places {
+            assert_eq!(rt; items.get(*place), Some(held), "at {place} of {len}");
+        }
+        assert_eq!(rt; swaps, *wanted, "of {len}");
     }
-    assert_eq!(rt; swaps, 120);
-
-    let (part, swaps) = transposed(rt.alloc(), &rt, 499, 3, 5, 4)?;
-    for (place, held) in [(4, 35), (35, 4), (2, 2), (498, 498)] {
-        assert_eq!(rt; part.get(place), Some(&held), "at {place}");
-    }
-    assert_eq!(rt; swaps, 120);
     Ok(())
 }
 
@@ -85,7 +82,7 @@ fn whole_squares(rt: HostRuntime) -> Result<(), Fail> {
     Ok(())
 }
 
-// 28 exchanges within the upper left quadrant, 64 across the diagonal, 28 within the lower right quadrant.
+/// 28 exchanges within the upper left quadrant, 64 across the diagonal, 28 within the lower right quadrant.
 #[test]
 fn quadrants_in_order(rt: HostRuntime) -> Result<(), Fail> {
     let items = (0..256).collect(rt.alloc())?;
