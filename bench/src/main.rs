@@ -44,7 +44,12 @@ fn run(options: &Options) -> Result<(), String> {
         Mode::Time => (timing::measure(&cases, options.runs), Unit::Nanoseconds),
         Mode::Counts(folder) => (counts::read(&cases, folder)?, Unit::Instructions),
     };
-    print!("{}", table::text(&rows, unit));
+    let table = if options.wide {
+        table::wide(&rows, unit)
+    } else {
+        table::long(&rows, unit)
+    };
+    print!("{table}{}", table::summaries(&rows));
     if let Some(file) = &options.svg {
         std::fs::write(file, picture::svg(&rows)).map_err(|e| format!("{}: {e}", file.display()))?;
     }

@@ -9,6 +9,7 @@ options:
   --sizes 2-22                reversals of 2^2 to 2^22 items; also a list, as 3,7,13 (2-22)
   --shapes 16x16,300x60       transposes of so many columns by so many rows (the table of docs/PERFORMANCE.md)
   --runs N                    at least N runs of each, of which the least counts (9)
+  --wide                      one line for each shape, and a column for each size of an item
   --svg FILE                  writes the table as a picture too";
 
 pub enum Mode {
@@ -27,6 +28,7 @@ pub struct Options {
     pub sizes: Vec<u32>,
     pub shapes: Vec<(usize, usize)>,
     pub runs: usize,
+    pub wide: bool,
     pub svg: Option<PathBuf>,
 }
 
@@ -43,6 +45,7 @@ impl Options {
             sizes: (2..=22).collect(),
             shapes: list(SHAPES, shape)?,
             runs: 9,
+            wide: false,
             svg: None,
         };
         while let Some(word) = words.next() {
@@ -54,6 +57,7 @@ impl Options {
                 "--sizes" => options.sizes = sizes(&value()?)?,
                 "--shapes" => options.shapes = list(&value()?, shape)?,
                 "--runs" => options.runs = number(&value()?)?,
+                "--wide" => options.wide = true,
                 "--svg" => options.svg = Some(value()?.into()),
                 "--count-each" => options.mode = Mode::CountEach,
                 "--counts" => options.mode = Mode::Counts(value()?.into()),

@@ -2,7 +2,7 @@
 
 use std::fmt::Write;
 
-use crate::table::Row;
+use crate::table::{Row, distinct};
 
 const WIDTH: f64 = 900.0;
 const PANEL: f64 = 330.0;
@@ -20,10 +20,7 @@ const COLORS: [(usize, &str); 6] = [
 
 /// The time of each row beside the original's, or beside a copy's where the original was not measured.
 pub fn svg(rows: &[Row]) -> String {
-    let calls: Vec<&str> = ["reverse", "transpose"]
-        .into_iter()
-        .filter(|call| rows.iter().any(|it| it.call() == *call))
-        .collect();
+    let calls = distinct(rows.iter().map(Row::call));
     let height = PANEL * calls.len() as f64;
     let mut out = format!(
         "<svg xmlns=\"http://www.w3.org/2000/svg\" width=\"{WIDTH}\" height=\"{height}\" font-family=\"sans-serif\" \
@@ -49,13 +46,7 @@ struct Scale {
 
 impl Scale {
     fn of(rows: &[&Row]) -> Self {
-        let mut shapes: Vec<String> = Vec::new();
-        for row in rows {
-            let shape = row.case.work.shape();
-            if !shapes.contains(&shape) {
-                shapes.push(shape);
-            }
-        }
+        let shapes = distinct(rows.iter().map(|row| row.case.work.shape()));
         let logs = || rows.iter().map(|row| row.relative().log2());
         let (low, high) = (logs().fold(-1.0, f64::min), logs().fold(1.0, f64::max));
         Scale {

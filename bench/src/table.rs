@@ -63,33 +63,93 @@ impl Row {
     }
 }
 
-pub fn text(rows: &[Row], unit: Unit) -> String {
-    let unit = match unit {
-        Unit::Nanoseconds => "ns",
-        Unit::Instructions => "instructions",
-    };
+impl Unit {
+    fn name(self) -> &'static str {
+        match self {
+            Unit::Nanoseconds => "ns",
+            Unit::Instructions => "instructions",
+        }
+    }
+}
+
+const CALLS: [&str; 2] = ["reverse", "transpose"];
+
+/// One line for each case.
+pub fn long(rows: &[Row], unit: Unit) -> String {
+    let unit = unit.name();
     let mut out =
         format!("| call | item | shape | {unit} an item | copies | to the original |\n|---|---|---|---|---|---|\n");
     for row in rows {
         let Case { work, item_size } = row.case;
-        let ratio = row.ratio().map_or("".into(), |it| format!("{it:.2}"));
-        let (call, shape) = (work.call(), work.shape());
+        let ratio = row.ratio().map_or(String::new(), |it| format!("{it:.2}"));
+        let (call, shape) = (row.call(), work.shape());
+        let (an_item, copies) = (row.an_item(), row.copies());
         let _ = writeln!(
             out,
-            "| {call} | {item_size} | {shape} | {:.2} | {:.1} | {ratio} |",
-            row.an_item(),
-            row.copies()
+            "| {call} | {item_size} | {shape} | {an_item:.2} | {copies:.1} | {ratio} |"
         );
     }
     out.push('\n');
-    for call in ["reverse", "transpose"] {
-        for size in [1, 2, 4, 8, 16, 32] {
-            let of_group = |row: &&Row| row.call() == call && row.case.item_size == size;
-            let group: Vec<&Row> = rows.iter().filter(of_group).collect();
+    out
+}
+
+/// One table for each call, one line for each shape, and in it for each size of an item the ratio to the original, and in
+/// brackets what an item takes and the times of a copy.
+pub fn wide(rows: &[Row], unit: Unit) -> String {
+    let mut out = String::new();
+    for call in CALLS {
+        let group: Vec<&Row> = rows.iter().filter(|row| row.call() == call).collect();
+        let sizes = distinct(group.iter().map(|row| row.case.item_size));
+        if sizes.is_empty() {
+            continue;
+        }
+        let _ = write!(out, "| {call} |");
+        for size in &sizes {
+            let _ = write!(out, " items of {size} |");
+        }
+        let _ = writeln!(out, "\n|---|{}", "---|".repeat(sizes.len()));
+        for shape in distinct(group.iter().map(|row| row.case.work.shape())) {
+            let _ = write!(out, "| {shape} |");
+            for row in group.iter().filter(|row| row.case.work.shape() == shape) {
+                let _ = write!(out, " {} |", cell(row, unit));
+            }
+            out.push('\n');
+        }
+        out.push('\n');
+    }
+    out
+}
+
+fn cell(row: &Row, unit: Unit) -> String {
+    let ratio = row.ratio().map_or(String::new(), |it| format!("**{it:.2}** "));
+    format!("{ratio}({:.2} {}, {:.1})", row.an_item(), unit.name(), row.copies())
+}
+
+/// The different values, in the order in which they first come.
+pub fn distinct<T: PartialEq>(values: impl Iterator<Item = T>) -> Vec<T> {
+    let mut list = Vec::new();
+    for value in values {
+        if !list.contains(&value) {
+            list.push(value);
+        }
+    }
+    list
+}
+
+/// What each group of rows comes to.
+pub fn summaries(rows: &[Row]) -> String {
+    let mut out = String::new();
+    for call in CALLS {
+        let of_call: Vec<&Row> = rows.iter().filter(|row| row.call() == call).collect();
+        for size in distinct(of_call.iter().map(|row| row.case.item_size)) {
+            let group: Vec<&Row> = of_call
+                .iter()
+                .copied()
+                .filter(|row| row.case.item_size == size)
+                .collect();
             summary(&mut out, &format!("{call}, items of {size}"), &group);
         }
-        let group: Vec<&Row> = rows.iter().filter(|row| row.call() == call).collect();
-        summary(&mut out, call, &group);
+        summary(&mut out, &format!("{call}, all"), &of_call);
     }
     out
 }

@@ -60,8 +60,20 @@ static int check(size_t size, reverse_call *reverse, transpose_call *transpose) 
     return 0;
 }
 
+static int check_bits(void) {
+    size_t number = 7;
+    CHECK(p3_util_log2_ceil(0) == 0 && p3_util_log2_ceil(9) == 4 && p3_util_log2_floor(9) == 3);
+    CHECK(!p3_util_log2_strict(6, &number) && !p3_util_log3_strict(6, &number) && number == 7);
+    CHECK(!p3_util_reverse_bits_len(1, 65, &number) && number == 7);
+    CHECK(p3_util_log2_strict(1024, &number) && number == 10);
+    CHECK(p3_util_log3_strict(531441, &number) && number == 12);
+    CHECK(p3_util_reverse_bits_len(11, 5, &number) && number == 26);
+    return 0;
+}
+
 int main(void) {
-    int status = check(1, p3_util_reverse_1, p3_util_transpose_1);
+    int status = check_bits();
+    status = status ? status : check(1, p3_util_reverse_1, p3_util_transpose_1);
     status = status ? status : check(2, p3_util_reverse_2, p3_util_transpose_2);
     status = status ? status : check(4, p3_util_reverse_4, p3_util_transpose_4);
     status = status ? status : check(8, p3_util_reverse_8, p3_util_transpose_8);

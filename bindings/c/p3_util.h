@@ -13,6 +13,7 @@
  * - vals can be read and written, input can be read and output written; and during the call nothing else writes to any
  *   of them, or reads vals or output.
  * - input and output do not overlap.
+ * - exponent and reversed point to one size_t that can be read and written.
  */
 #ifndef P3_UTIL_H
 #define P3_UTIL_H
@@ -52,6 +53,22 @@ bool p3_util_transpose_16(const void *input, size_t input_len, void *output, siz
     size_t height);
 bool p3_util_transpose_32(const void *input, size_t input_len, void *output, size_t output_len, size_t width,
     size_t height);
+
+/* The least e with n <= 2^e, which is 0 for 0 and 1. */
+size_t p3_util_log2_ceil(size_t n);
+
+/* The greatest e with 2^e <= n, and 0 for 0. */
+size_t p3_util_log2_floor(size_t n);
+
+/* Writes to exponent the logarithm to base 2, or 3, of n, where n is a power of two, or of three. */
+bool p3_util_log2_strict(size_t n, size_t *exponent);
+bool p3_util_log3_strict(size_t n, size_t *exponent);
+
+/*
+ * Writes to reversed the bit_len low binary digits of x in reversed order, where bit_len is at most 64. For a bit_len of
+ * 0 it is the whole word of 64 digits in reversed order.
+ */
+bool p3_util_reverse_bits_len(size_t x, size_t bit_len, size_t *reversed);
 
 #ifdef __cplusplus
 }

@@ -5,8 +5,17 @@
 #![no_std]
 #![deny(missing_docs)]
 
+mod bits;
 mod library;
 pub mod transpose;
+
+pub use bits::{
+    log2_ceil_u64, log2_ceil_usize, log2_floor_usize, log2_strict_usize, log3_strict_usize, reverse_bits,
+    reverse_bits_len,
+};
+
+#[cfg(not(all(target_arch = "x86_64", target_pointer_width = "64")))]
+compile_error!("the static library is built for x86-64 alone");
 
 /// Reverses the order of `vals` by index bits: with 2^k items, place `i` gets the item from the place whose index has
 /// the k bits of `i` in reversed order. No item is cloned or dropped.

@@ -34,6 +34,15 @@ macro_rules! declare {
     };
 }
 
+unsafe extern "C" {
+    safe fn p3_util_log2_ceil(n: usize) -> usize;
+    safe fn p3_util_log2_floor(n: usize) -> usize;
+    // The references are the library's own type of these parameters; nothing else is asked of a caller.
+    safe fn p3_util_log2_strict(n: usize, exponent: &mut usize) -> bool;
+    safe fn p3_util_log3_strict(n: usize, exponent: &mut usize) -> bool;
+    safe fn p3_util_reverse_bits_len(x: usize, bit_len: usize, reversed: &mut usize) -> bool;
+}
+
 declare! {
     p3_util_reverse_1 p3_util_transpose_1
     p3_util_reverse_2 p3_util_transpose_2
@@ -65,6 +74,32 @@ const fn transpose_for(size: usize) -> Transpose {
         32 => p3_util_transpose_32,
         _ => panic!("items have 0, 1, 2, 4, 8, 16 or 32 bytes"),
     }
+}
+
+pub(crate) fn log2_ceil(n: usize) -> usize {
+    p3_util_log2_ceil(n)
+}
+
+pub(crate) fn log2_floor(n: usize) -> usize {
+    p3_util_log2_floor(n)
+}
+
+/// The logarithm to base 2 of a power of two.
+pub(crate) fn log2_strict(n: usize) -> Option<usize> {
+    let mut exponent = 0;
+    p3_util_log2_strict(n, &mut exponent).then_some(exponent)
+}
+
+/// The logarithm to base 3 of a power of three.
+pub(crate) fn log3_strict(n: usize) -> Option<usize> {
+    let mut exponent = 0;
+    p3_util_log3_strict(n, &mut exponent).then_some(exponent)
+}
+
+/// The low digits of `x` in reversed order, for at most 64 of them.
+pub(crate) fn reverse_bits_len(x: usize, bit_len: usize) -> Option<usize> {
+    let mut reversed = 0;
+    p3_util_reverse_bits_len(x, bit_len, &mut reversed).then_some(reversed)
 }
 
 /// Reverses the order of `vals` by index bits, where the length is zero or a power of two. Returns whether it is.

@@ -3,5 +3,6 @@
 //! returns whether it held, and changes nothing where it did not.
 #![tactic(auto)]
 
+pub mod bits;
 pub mod reverse;
 pub mod transpose;
