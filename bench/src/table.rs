@@ -93,8 +93,8 @@ pub fn long(rows: &[Row], unit: Unit) -> String {
     out
 }
 
-/// One table for each call, one line for each shape, and in it for each size of an item the ratio to the original, and in
-/// brackets what an item takes and the times of a copy.
+/// One table for each call, one line for each shape, and in it for each size of an item the ratio to the original, and
+/// in brackets what an item takes and the times of a copy.
 pub fn wide(rows: &[Row], unit: Unit) -> String {
     let mut out = String::new();
     for call in CALLS {

@@ -65,8 +65,8 @@ bool p3_util_log2_strict(size_t n, size_t *exponent);
 bool p3_util_log3_strict(size_t n, size_t *exponent);
 
 /*
- * Writes to reversed the bit_len low binary digits of x in reversed order, where bit_len is at most 64. For a bit_len of
- * 0 it is the whole word of 64 digits in reversed order.
+ * Writes to reversed the bit_len low binary digits of x in reversed order, where bit_len is at most 64. For a bit_len
+ * of 0 it is the whole word of 64 digits in reversed order.
  */
 bool p3_util_reverse_bits_len(size_t x, size_t bit_len, size_t *reversed);
 

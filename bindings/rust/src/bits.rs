@@ -60,7 +60,8 @@ pub fn reverse_bits(x: usize, n: usize) -> usize {
     reverse_bits_len(x, log2_strict_usize(n))
 }
 
-/// Reverses the `bit_len` low binary digits of `x` and drops the others. For a `bit_len` of 0 it reverses the whole word.
+/// Reverses the `bit_len` low binary digits of `x` and drops the others. For a `bit_len` of 0 it reverses the whole
+/// word.
 ///
 /// # Panics
 ///

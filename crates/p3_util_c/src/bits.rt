@@ -54,8 +54,8 @@ pub extern "C" fn p3_util_log3_strict(n: usize, exponent: &mut usize) -> bool
     fits
 }
 
-/// Writes to `reversed` the `bit_len` low binary digits of `x` in reversed order, and for a `bit_len` of 0 the whole word
-/// of 64 digits in reversed order, where `bit_len` is at most 64. Returns whether it is.
+/// Writes to `reversed` the `bit_len` low binary digits of `x` in reversed order, and for a `bit_len` of 0 the whole
+/// word of 64 digits in reversed order, where `bit_len` is at most 64. Returns whether it is.
 #[unsafe(no_mangle)]
 pub extern "C" fn p3_util_reverse_bits_len(x: usize, bit_len: usize, reversed: &mut usize) -> bool
     ensures { IsTried result (bit_len ≤ 64) (reversed.new ≡ rev_word bit_len x) (reversed.new ≡ reversed.old) }

@@ -1,10 +1,8 @@
 //! Bit reversal of lists.
 
-ghost use Rattle.std.specs.Prelude.{◌↔◌, IsTrue};
-ghost use Rattle.p3_util_kernels.specs.Reversal.{IsZeroOrPowerOfTwo};
 ghost use Rattle.p3_util_c.specs.Tried.{IsTriedReversal};
 
-use p3_util_kernels::reverse::reverse_slice_index_bits;
+use p3_util_kernels::reverse::{fits_rows, reverse_slice_index_bits};
 
 /// Reverses the order of `vals`, items of one byte, by index bits, where the length is zero or a power of two. Returns
 /// whether it is.
@@ -63,15 +61,9 @@ pub extern "C" fn p3_util_reverse_32(vals: &mut [[u8; 32]]) -> bool
 fn reverse_where_it_fits<F>(vals: &mut [F]) -> bool
     ensures { IsTriedReversal result vals.old vals.new }
 {
-    let fits = is_zero_or_power_of_two(vals.len());
+    let fits = fits_rows(vals.len(), 1);
     if fits {
         reverse_slice_index_bits(vals);
     }
     fits
-}
-
-fn is_zero_or_power_of_two(len: usize) -> bool
-    ensures { IsTrue result ↔ IsZeroOrPowerOfTwo len }
-{
-    len == 0 || len.is_power_of_two()
 }
