@@ -14,7 +14,7 @@ doubled m n e (inl none) = inl (omega arith)
 doubled m n e (inr (k, is)) = let twice : 2 ^ suc k ≡ 2 ^ k * 2 = pow-suc 2 k in inr (suc k, omega arith)
 
 -- a number that shares no digit with the one before it has at most one digit set
-unshared : (size n : ℕ) → n < size → bit_and n (n - 1) ≡ 0 → IsZeroOrPowerOfTwo n
+pub unshared : (size n : ℕ) → n < size → bit_and n (n - 1) ≡ 0 → IsZeroOrPowerOfTwo n
 unshared zero n small none = absurd (omega arith)
 unshared (suc size) n small none =
     let m = n / 2 in
@@ -67,10 +67,10 @@ FitsRows-quotient len row_width some wide whole =
     let split : len / row_width * row_width + len % row_width ≡ len = div-add-mod' len row_width in (
       λ yes. (len / row_width, inr ((power_of_two_test (len / row_width)).0 yes), omega arith),
       λ (rows, fits, e).
-      let place : rows * row_width + 0 ≡ len = omega arith in
-      let same : len / row_width ≡ rows = rw place at (div-mul-add rows row_width 0 (omega arith)) in
-      elim fits [
-        | inl none ↦ let empty : row_width * rows ≡ 0 = rw none (omega arith) in absurd (some (omega arith))
-        | inr power ↦ rw same ((power_of_two_test rows).1 power)
-      ],
+          let place : rows * row_width + 0 ≡ len = omega arith in
+          let same : len / row_width ≡ rows = rw place at (div-mul-add rows row_width 0 (omega arith)) in
+          elim fits [
+            | inl none ↦ let empty : row_width * rows ≡ 0 = rw none (omega arith) in absurd (some (omega arith))
+            | inr power ↦ rw same ((power_of_two_test rows).1 power)
+          ],
     )

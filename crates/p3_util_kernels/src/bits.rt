@@ -1,8 +1,7 @@
 //! Arithmetic on single words: logarithms, powers and the reversal of binary digits; and the short names of types.
 
 ghost use Rattle.std.specs.Prelude.{◌≡◌, ℕ, ◌+◌, ◌*◌, ◌^◌, ◌<◌, ◌≤◌, ◌%◌, ◌↔◌, IsTrue, SomeIff, IfSome, IfOk, OnErr, length, slice_index, position, string_bytes};
-ghost use Rattle.std.specs.Int.{IsPowerOfTwo};
-ghost use Rattle.p3_util_kernels.specs.Powers.{IsPowerOfThree};
+ghost use Rattle.p3_util_kernels.specs.Powers.{HasLog2, HasLog3, IsPowerOfThree};
 ghost use Rattle.p3_util_kernels.specs.Digits.{rev, rev_word};
 ghost use Rattle.p3_util_kernels.specs.Levels.{clog};
 ghost use Rattle.p3_util_kernels.specs.Names.{is_mark, last_part, short_name};
@@ -132,9 +131,9 @@ pub fn checked_log_size_sum(a: usize, b: usize) -> Option<(usize, usize)>
     Some((log_size, size))
 }
 
-/// The logarithm to base 2 of a power of two. std's `is_power_of_two` tells whether `n` is one.
+/// The logarithm to base 2 of a power of two. std's `is_power_of_two` is the test for `n`.
 pub fn log2_strict_usize(n: usize) -> usize
-    requires { IsPowerOfTwo n }
+    requires { HasLog2 n }
     ensures power { n ≡ 2 ^ result }
     ensures bound { result < 64 }
 {
@@ -142,9 +141,9 @@ pub fn log2_strict_usize(n: usize) -> usize
     exponent as usize
 }
 
-/// The logarithm to base 3 of a power of three. [`is_power_of_three`] tells whether `n` is one.
+/// The logarithm to base 3 of a power of three. [`is_power_of_three`] is the test for `n`.
 pub fn log3_strict_usize(n: usize) -> usize
-    requires { IsPowerOfThree n }
+    requires { HasLog3 n }
     ensures power { n ≡ 3 ^ result }
     ensures bound { result < 41 }
 {
@@ -179,8 +178,9 @@ fn exponent_of_three(top: usize) -> usize
 }
 
 /// Reverses as many low digits of `x` as `n`, a power of two, has below its set digit: `reverse_bits_len(x, log2 n)`.
+/// std's `is_power_of_two` is the test for `n`.
 pub fn reverse_bits(x: usize, n: usize) -> usize
-    requires { IsPowerOfTwo n }
+    requires { HasLog2 n }
     ensures { (k : ℕ) → n ≡ 2 ^ k → result ≡ rev_word k x }
 {
     reverse_bits_len(x, log2_strict_usize(n))

@@ -1,13 +1,46 @@
-//! A caller of the logarithms and powers.
+//! Callers of the logarithms and powers. A test in front of a strict logarithm is enough, and a number that is written out
+//! needs none.
 
-ghost use Rattle.std.specs.Prelude.{◌^◌, ◌<◌, MatchOption};
+ghost use Rattle.std.specs.Prelude.{◌≡◌, ◌^◌, ◌<◌, IsTrue, MatchOption};
+ghost use Rattle.std.specs.Int.{is_power_of_two};
 ghost use Rattle.p3_util_vectors.specs.Padded.{IsLeastPower};
 
-use p3_util_kernels::bits::{checked_pow2, log2_ceil_usize};
+use p3_util_kernels::bits::{
+    checked_pow2, is_power_of_three, log2_ceil_usize, log2_strict_usize, log3_strict_usize,
+    reverse_bits,
+};
 
 /// The least power of two that is `len` or more, to which a transform pads. `None` where that is 2^64.
 pub fn padded_len(len: usize) -> Option<usize>
     ensures { MatchOption result (2 ^ 63 < len) (IsLeastPower len) }
 {
     checked_pow2(log2_ceil_usize(len))
+}
+
+/// The logarithm of a power of two, and 0 for another number: std's test in front is enough.
+pub fn log2_or_zero(n: usize) -> usize
+    ensures { IsTrue (is_power_of_two n) → n ≡ 2 ^ result }
+{
+    if n.is_power_of_two() {
+        log2_strict_usize(n)
+    } else {
+        0
+    }
+}
+
+/// The logarithm of a power of three, where `n` is one.
+pub fn log3_of(n: usize) -> Option<usize> {
+    is_power_of_three(n).then(|| log3_strict_usize(n))
+}
+
+/// Powers that are written out need no test.
+pub fn written_out(x: usize, k: usize) -> [usize; 4]
+    requires { k < 64 }
+{
+    [
+        log2_strict_usize(16),
+        log3_strict_usize(9),
+        reverse_bits(x, 1024),
+        reverse_bits(x, 1 << k),
+    ]
 }

@@ -1,6 +1,11 @@
 use Rattle.std.proofs.Common.{arith}
-use Rattle.p3_util_kernels.proofs.Powers.{three-pos}
+use Rattle.p3_util_kernels.proofs.Logs.{power_of_three}
+use Rattle.p3_util_kernels.proofs.Powers.{three-pos, three-strict}
 use Rattle.p3_util_kernels.proofs.bits.log3_strict_usize.Goals as goal
 
 pub ilog2-top-requires : goal.ilog2-top-requires
-ilog2-top-requires c = omega (arith, three-pos c.requires.0)
+ilog2-top-requires c = let power = power_of_three _ c.requires in omega (arith, three-pos power.0, power.1)
+
+pub returns-clause-power : goal.returns-clause-power
+returns-clause-power c =
+    three-strict _ _ _ c.ilog2-top.ensures.power_le c.ilog2-top.ensures.next_power_gt c.exponent_of_three.ensures.found (power_of_three _ c.requires)

@@ -15,7 +15,7 @@ pub log2_strict_usize-bits-requires : goal.log2_strict_usize-bits-requires
 log2_strict_usize-bits-requires g c =
     elim (zero_or_power _ c.requires) [
       | inl none ↦ absurd (omega arith)
-      | inr power ↦ rw c.len-len.ensures.len power
+      | inr power ↦ rw c.len-len.ensures.len (inl power)
     ]
 
 pub swap-requires-clause-second : goal.swap-requires-clause-second

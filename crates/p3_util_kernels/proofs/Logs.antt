@@ -1,0 +1,32 @@
+-- What the strict logarithms ask of a number says that it is a power.
+use Rattle.std.proofs.Common.{◌≡◌, ℕ, zero, suc, Bool, true, ◌==◌, ◌-◌, ◌&&◌, ◌||◌, not, ◌^◌, ◌<◌, ◌≢◌, bit_and, inl, inr, arith}
+use Rattle.std.proofs.lemmas.Bool.{and_parts, or_cases, eqb-true, eqb-false, not-true, false≢true}
+use Rattle.std.specs.Int.{IsPowerOfTwo, is_power_of_two}
+use Rattle.p3_util_kernels.specs.Powers.{HasLog2, HasLog3, IsPowerOfThree, any_below}
+use Rattle.p3_util_kernels.proofs.Lengths.{unshared}
+use Rattle.p3_util_kernels.proofs.Powers.{power_of_two_test}
+
+some-power : (n : ℕ) → n ≢ 0 → bit_and n (n - 1) ≡ 0 → IsPowerOfTwo n
+some-power n nonzero none = elim (unshared (suc n) n (omega arith) none) [ inl z ↦ absurd (nonzero z) | inr power ↦ power ]
+
+pub power_of_two : (n : ℕ) → HasLog2 n → IsPowerOfTwo n
+power_of_two n (inl power) = power
+power_of_two n (inr test) =
+    elim (or_cases (not (n == 0) && bit_and n (n - 1) == 0) (is_power_of_two n) test) [
+      | inl computed ↦
+          let parts = and_parts (not (n == 0)) (bit_and n (n - 1) == 0) computed in
+          some-power n (eqb-false n 0 (not-true (n == 0) parts.0)) (eqb-true (bit_and n (n - 1)) 0 parts.1)
+      | inr tested ↦ (power_of_two_test n).0 tested
+    ]
+
+one-below : (count n : ℕ) → any_below count (λ e. n == 3 ^ e) ≡ true → IsPowerOfThree n
+one-below zero n found = absurd (false≢true found)
+one-below (suc count) n found =
+    elim (or_cases (any_below count (λ e. n == 3 ^ e)) (n == 3 ^ count) found) [
+      | inl below ↦ one-below count n below
+      | inr last ↦ (count, eqb-true n (3 ^ count) last)
+    ]
+
+pub power_of_three : (n : ℕ) → HasLog3 n → IsPowerOfThree n
+power_of_three n (inl power) = power
+power_of_three n (inr found) = one-below 41 n found
