@@ -1,7 +1,11 @@
 //! Lists that kernels change by place alone, and counters that see each change.
 //!
-//! A kernel over [`Swaps`] exchanges items, a kernel over [`Writes`] puts them, and neither can do anything else to the
-//! list, so that what its counter tells is all that it did.
+//! - A *holder* is what has the list: a slice, a view of rows, or a type of your own.
+//! - A *place* is an index of a list whose items may be exchanged ([`Places`]), a *cell* one whose item may be written
+//!   ([`Cells`]).
+//! - A *swap* is one counted exchange of two places ([`Swaps`]), a *write* one counted put of an item ([`Writes`]).
+//! - A kernel has a counter and nothing else, so the count is all that it did to the list.
+//! - A *source* is a list that is only read ([`Source`]).
 
 ghost use Rattle.std.specs.Prelude.{◌≡◌, ℕ, ◌+◌, ◌*◌, ◌<◌, ◌≤◌, List, Some, length, swap, slice_get, slice_set};
 ghost use Rattle.p3_util_kernels.specs.Strided.{swap_strided};
@@ -14,8 +18,8 @@ pub use holders::{SliceCells, SlicePlaces, SliceSource};
 
 /// A list whose items can be exchanged, and neither read nor moved in another way.
 ///
-/// Contracts see an implementation as the list of its items. `same_holder` relates two states of one holder: where the
-/// holder borrows its items, the list with which that borrow ends is the same in both.
+/// Contracts see an implementation as the list of its items. `same_holder a b` says that b is a after some steps: a holder
+/// that borrows its items still borrows the same slice, so what changes in the holder changes in that slice.
 pub trait Places {
     type Item;
 
