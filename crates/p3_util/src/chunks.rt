@@ -13,7 +13,7 @@ ghost use Rattle.p3_util.specs.Pieces.{CallsOnPieces};
 pub fn apply_to_chunks<const BUFLEN: usize, I, H>(input: I, mut func: H)
 where
     I: IntoIterator<Item = u8>,
-    H: FnMut(&[u8]) + Drop,
+    H: FnMut(&[u8]),
     requires fits { BUFLEN < 2 ^ 63 }
     requires finite { 0 < BUFLEN
         → IsFiniteIterable I.into_iter_gives I.IntoIter.can_next I.IntoIter.remaining input }

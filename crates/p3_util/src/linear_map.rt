@@ -1,5 +1,9 @@
 //! A map that keeps its pairs in the order of insertion and finds a key by comparing it with each.
-ghost use Rattle.std.specs.Prelude.{◌≡◌, List, ◌∷◌, ◌++◌, [], None, Some, IfOk, IfErr, OnOk, OnErr, IsSome, IsOk, position, length};
+ghost use Rattle.std.specs.Prelude.{◌≡◌, ◌==◌, List, ◌∷◌, ◌++◌, [], None, Some, IfOk, IfErr, OnOk, OnErr, IsSome, IsOk, position, length};
+ghost use Rattle.std.proofs.Common.{rules};
+ghost use Rattle.std.specs.Cmp.Lexicographic.{pointwise};
+ghost use Rattle.std.specs.Cmp.Rules.{comparing};
+ghost use Rattle.std.specs.Ordering.{eq_of_both, on};
 ghost use Rattle.std.specs.Option.{option_copied, option_copied_mut, UnwrapsOrElse};
 ghost use Rattle.std.specs.Iterator.Runs.{WholeRun};
 ghost use Rattle.std.specs.Map.{keys_of, values_of};
@@ -63,6 +67,13 @@ impl<K: Eq, V> LinearMap<K, V> {
         ensures distinct { HasDistinctKeys K.eq self.now }
     {
         self.pairs.len()
+    }
+
+    /// Whether there is no pair.
+    pub fn is_empty(&self) -> bool
+        ensures { result ≡ (length self.now == 0) }
+    {
+        self.pairs.is_empty()
     }
 
     /// The values, in order.
@@ -204,6 +215,21 @@ impl<'q, K: Eq, V> Index<&'q K> for LinearMap<K, V> {
     fn index(&self, k: &'q K) -> &V {
         self.get(k).unwrap()
     }
+}
+
+/// Two maps are equal where they have equal pairs in the same order.
+impl<K: Eq, V: PartialEq> PartialEq for LinearMap<K, V> {
+    ghost eq = { pointwise (eq_of_both (on (λ x. x.0) K.eq) (on (λ x. x.1) V.eq)) };
+
+    ghost laws = { Prim.search (comparing, rules) };
+
+    fn eq(&self, other: &Self) -> bool {
+        self.pairs == other.pairs
+    }
+}
+
+impl<K: Eq, V: Eq> Eq for LinearMap<K, V> {
+    ghost laws = { Prim.search (comparing, rules) };
 }
 
 /// The pairs by value, in order.

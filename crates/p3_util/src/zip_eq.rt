@@ -38,7 +38,7 @@ where
 }
 
 /// The iterator that [`zip_eq`] makes.
-#[derive(Drop)]
+#[derive(Debug, Drop)]
 pub struct ZipEq<A, B> {
     first: A,
     second: B,

@@ -51,8 +51,15 @@ impl<'a, K, V> Iterator for Iter<'a, K, V> {
         ensures upper { IfSome result.1 (UpTo (at_most (length self.now))) }
         ensures exact { result ≡ (length self.now, Some (length self.now)) }
     {
-        let pairs = self.pairs.len();
+        let pairs = self.len();
         (pairs, Some(pairs))
+    }
+}
+
+impl<'a, K, V> ExactSizeIterator for Iter<'a, K, V> {
+    /// The number of pairs that are left.
+    fn len(&self) -> usize {
+        self.pairs.len()
     }
 }
 
@@ -100,8 +107,15 @@ impl<'a, K, V> Iterator for Keys<'a, K, V> {
         ensures upper { IfSome result.1 (UpTo (at_most (length self.now))) }
         ensures exact { result ≡ (length self.now, Some (length self.now)) }
     {
-        let keys = self.pairs.len();
+        let keys = self.len();
         (keys, Some(keys))
+    }
+}
+
+impl<'a, K, V> ExactSizeIterator for Keys<'a, K, V> {
+    /// The number of keys that are left.
+    fn len(&self) -> usize {
+        self.pairs.len()
     }
 }
 
@@ -149,7 +163,14 @@ impl<'a, K, V> Iterator for Values<'a, K, V> {
         ensures upper { IfSome result.1 (UpTo (at_most (length self.now))) }
         ensures exact { result ≡ (length self.now, Some (length self.now)) }
     {
-        let values = self.pairs.len();
+        let values = self.len();
         (values, Some(values))
+    }
+}
+
+impl<'a, K, V> ExactSizeIterator for Values<'a, K, V> {
+    /// The number of values that are left.
+    fn len(&self) -> usize {
+        self.pairs.len()
     }
 }

@@ -1,7 +1,8 @@
 //! The items of a view, one after another.
 
 ghost use Rattle.std.specs.Prelude.{◌≡◌, List, length, Some, IfSome};
-ghost use Rattle.std.specs.Iterator.{YieldsFirstRef, item_count, UpTo};
+ghost use Rattle.std.specs.Iterator.{item_count, UpTo};
+ghost use Rattle.std.specs.Map.Iter.{TakesFirst, deref};
 ghost use Rattle.std.specs.Iterator.SizeHint.{IsWithinCount};
 ghost use Rattle.std.specs.Slice.Iter.{iter_rest};
 
@@ -32,7 +33,7 @@ impl<'a, Base> BaseIter<'a, Base> {
 impl<'a, Base> Iterator for BaseIter<'a, Base> {
     type Item = &'a Base;
 
-    ghost next_gives = { YieldsFirstRef (λ s. s) };
+    ghost next_gives = { TakesFirst (deref {X = Base}) };
 
     ghost remaining = { item_count (λ s. s) };
 
@@ -47,7 +48,14 @@ impl<'a, Base> Iterator for BaseIter<'a, Base> {
         ensures left { result.0 ≡ length (self.now) }
         ensures twice { result.1 ≡ Some result.0 }
     {
-        let left = self.rest.len();
+        let left = self.len();
         (left, Some(left))
+    }
+}
+
+impl<'a, Base> ExactSizeIterator for BaseIter<'a, Base> {
+    /// The number of items left.
+    fn len(&self) -> usize {
+        self.rest.len()
     }
 }

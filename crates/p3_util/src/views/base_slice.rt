@@ -1,11 +1,15 @@
 //! A slice of arrays, seen as the list of their items.
 
-ghost use Rattle.std.specs.Prelude.{◌≡◌, ◌==◌, ◌*◌, ◌^◌, ◌<◌, ◌≤◌, List, length, slice_get};
+ghost use Rattle.std.specs.Prelude.{◌≡◌, ◌==◌, ◌*◌, ◌^◌, ◌<◌, ◌≤◌, List, Some, length, slice_get};
+ghost use Rattle.std.specs.Map.Iter.{ShowsInOrder, deref};
 ghost use Rattle.std.specs.Option.{option_copied};
 ghost use Rattle.p3_util.specs.Flat.{flat};
 
 use super::BaseIter;
+use std::alloc::AllocError;
+use std::fmt;
 use std::marker::Model;
+use std::ops::Index;
 
 /// A slice of arrays of `N` items, seen as the list of their items, array after array.
 ///
@@ -58,8 +62,68 @@ impl<'a, Base, const N: usize> BaseSlice<'a, Base, N> {
 
     /// The items, in order.
     pub fn iter(&self) -> BaseIter<'a, Base>
-        ensures { result ≡ self.now }
+        ensures rest { result ≡ self.now }
+        ensures runs { ShowsInOrder (deref {X = Base}) }
     {
         BaseIter::new(self.items)
+    }
+}
+
+/// The same items. A clone wants no memory.
+impl<'a, Base, const N: usize> Clone for BaseSlice<'a, Base, N> {
+    ghost use Rattle.std.specs.Prelude.{⊤};
+
+    ghost is_clone = { λ s r. r ≡ s };
+
+    ghost is_infallible = { λ _. ⊤ };
+
+    fn clone(&self) -> Result<BaseSlice<'a, Base, N>, AllocError> {
+        Ok(BaseSlice { items: self.items })
+    }
+}
+
+/// The list of the items.
+impl<'a, Base: fmt::Debug, const N: usize> fmt::Debug for BaseSlice<'a, Base, N> {
+    fn fmt<W: fmt::Write>(&self, f: &mut fmt::Formatter<W>) -> fmt::Result {
+        f.debug_list().entries(self.items).finish()
+    }
+}
+
+/// Item `i`, which has to be there: `get` tells.
+impl<'a, Base, const N: usize> Index<usize> for BaseSlice<'a, Base, N> {
+    type Output = Base;
+
+    ghost can_index = { λ s i. i < length s };
+
+    ghost index_gives = { λ s i item. slice_get s i ≡ Some item };
+
+    fn index(&self, i: usize) -> &Base {
+        self.get(i).unwrap()
+    }
+}
+
+/// References to the items, in order.
+impl<'a, Base, const N: usize> IntoIterator for BaseSlice<'a, Base, N> {
+    type Item = &'a Base;
+
+    type IntoIter = BaseIter<'a, Base>;
+
+    ghost into_iter_gives = { λ s r. (r ≡ s) × ShowsInOrder (deref {X = Base}) };
+
+    fn into_iter(self) -> BaseIter<'a, Base> {
+        self.iter()
+    }
+}
+
+/// References to the items, in order.
+impl<'v, 'a, Base, const N: usize> IntoIterator for &'v BaseSlice<'a, Base, N> {
+    type Item = &'a Base;
+
+    type IntoIter = BaseIter<'a, Base>;
+
+    ghost into_iter_gives = { λ s r. (r ≡ s.now) × ShowsInOrder (deref {X = Base}) };
+
+    fn into_iter(self) -> BaseIter<'a, Base> {
+        self.iter()
     }
 }

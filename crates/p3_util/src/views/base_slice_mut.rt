@@ -1,12 +1,14 @@
 //! A mutable slice of arrays, seen as the list of their items.
 
-ghost use Rattle.std.specs.Prelude.{◌≡◌, ◌==◌, ◌*◌, ◌^◌, ◌<◌, ◌≤◌, List, length, slice_get};
+ghost use Rattle.std.specs.Prelude.{◌≡◌, ◌==◌, ◌*◌, ◌^◌, ◌<◌, ◌≤◌, List, Some, length, slice_get};
+ghost use Rattle.std.specs.Map.Iter.{ShowsInOrder, deref};
 ghost use Rattle.p3_util.specs.Flat.{counted_rows, flat};
 ghost use Rattle.std.specs.Borrow.{sem};
 ghost use Rattle.std.specs.Option.{option_copied, option_copied_mut};
 
 use super::BaseIter;
 use super::rows::Rows;
+use std::ops::Index;
 use p3_util_kernels::places::{Cells, Places};
 
 /// Rows behind `S`, seen as the list of their items, row after row.
@@ -73,9 +75,36 @@ impl<S: Rows> Flattened<S> {
 
     /// The items, in order.
     pub fn iter(&self) -> BaseIter<'_, S::Item>
-        ensures { result ≡ S.items self.now.rows }
+        ensures rest { result ≡ S.items self.now.rows }
+        ensures runs { ShowsInOrder (deref {X = S.Item}) }
     {
         BaseIter::new(self.rows.items_of())
+    }
+}
+
+/// Item `i`, which has to be there: `get` tells.
+impl<S: Rows> Index<usize> for Flattened<S> {
+    type Output = S::Item;
+
+    ghost can_index = { λ v i. i < length (S.items v.rows) };
+
+    ghost index_gives = { λ v i item. slice_get (S.items v.rows) i ≡ Some item };
+
+    fn index(&self, i: usize) -> &S::Item {
+        self.get(i).unwrap()
+    }
+}
+
+/// References to the items, in order.
+impl<'v, 'a: 'v, Base, const N: usize> IntoIterator for &'v Flattened<&'a mut [[Base; N]]> {
+    type Item = &'v Base;
+
+    type IntoIter = BaseIter<'v, Base>;
+
+    ghost into_iter_gives = { λ v r. (r ≡ flat (counted_rows N v.now.rows.now)) × ShowsInOrder (deref {X = Base}) };
+
+    fn into_iter(self) -> BaseIter<'v, Base> {
+        self.iter()
     }
 }
 
