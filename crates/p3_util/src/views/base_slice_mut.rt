@@ -32,7 +32,12 @@ pub fn as_base_slice_mut<Base, const N: usize>(buf: &mut [[Base; N]]) -> BaseSli
     requires { length buf.old * N < 2 ^ 64 }
     ensures rows { result.rows ≡ buf.entry }
     ensures items { flat (counted_rows N result.rows.now) ≡ flat buf.old }
+    ensures len { length (flat (counted_rows N result.rows.now)) ≡ length buf.old * N }
+
+    // The view's list is `flat` of its rows now, and of the rows that it leaves, which are as many.
+    ensures list { (rows : List (List Base)) → length rows ≡ length buf.old → flat (counted_rows N rows) ≡ flat rows }
 {
+    prove!(buf.as_flattened().len() == buf.len() * N);
     Flattened { rows: buf }
 }
 
