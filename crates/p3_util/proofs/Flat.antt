@@ -5,7 +5,7 @@ use Rattle.std.proofs.Math.Nat.{mul-le-mul_right}
 use Rattle.std.proofs.Math.Seq.{take-set-lt}
 use Rattle.std.specs.List.{swap}
 use Rattle.std.proofs.lemmas.List.{length-set, set-append_left, set-append_right, set-set, set_comm, take-set, drop-set-add, drop-set-lt, take-append-drop, get_or-take, get_or_default, length-take, take_all, get_or-drop}
-use Rattle.std.proofs.lemmas.Option.{slice_get-get_or}
+use Rattle.std.proofs.lemmas.Option.{get_or_from_slice_get, slice_get-get_or}
 use Rattle.std.proofs.lemmas.List.Edits.{swap_is}
 use Rattle.std.proofs.lemmas.List.Concat.{get_or-flat_map}
 use Rattle.p3_util.specs.Flat.{counted_rows, flat}
@@ -173,6 +173,22 @@ module _ {A : Type 0} where
       let inside : c < length (get_or rows r []) = rw same (omega arith) in
       let place : i ≡ start rows r + c = omega arith in
       ap (λ k. get_or (flat rows) k d) place ∙ get_or-flat rows r c d lr inside ∙ ap (λ l. get_or l c d) same
+
+  -- item c of row r is item i of all rows, where row r begins at place r * n
+  module _ (rows : List (List A)) (r c n i : ℕ) (y : List A) (x : A) (lr : r < length rows) (lc : c < n) (len : length y ≡ n) (row : y ≡ get_or rows r y)
+      (begins : start rows r ≡ r * n) (at : i ≡ r * n + c) (read : slice_get y c ≡ Some x) where
+    there : get_or rows r [] ≡ y
+    there = sym (get_or_default rows r y [] lr) ∙ sym row
+
+    pub slice_get-row : slice_get (get_or rows r []) c ≡ Some x
+    slice_get-row = ap (λ l. slice_get l c) there ∙ read
+
+    pub slice_get-flat : slice_get (flat rows) i ≡ Some x
+    slice_get-flat =
+        let inside : c < length (get_or rows r []) = rw there (omega (arith, len)) in
+        let place : start rows r + c ≡ i = omega (arith, begins, at) in
+        let below : i < length (flat rows) = subst (λ (k : ℕ). k < length (flat rows)) place (start-below rows r c lr inside) in
+        slice_get-get_or (flat rows) i x below ∙ ap Some (item-at rows r c n i y x lr lc len row begins at ∙ get_or_from_slice_get y c x x read)
 
   -- item c of row r, where the rows seen are those whose items a usize can count
   module _ (rows seen : List (List A)) (r c n i : ℕ) (is : seen ≡ counted_rows n rows) (lr : r < length seen) (lc : c < n) (len : length (get_or rows r []) ≡ n)

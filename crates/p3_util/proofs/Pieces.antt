@@ -1,12 +1,13 @@
 -- What follows from `specs/Pieces.antt`: how many pieces there are, which one stands where, and one piece more.
-use Rattle.std.proofs.Common.{◌≡◌, ℕ, zero, suc, ◌+◌, ◌*◌, ◌/◌, ◌%◌, ◌<◌, ◌≤◌, ◌⊎◌, min, List, [], ◌∷◌, ◌++◌, map, length, take, drop, inl, inr, refl, sym, ap, ap₂, subst, arith, length-append, length-drop}
+use Rattle.std.proofs.Common.{◌≡◌, ℕ, zero, suc, get_or, slice_get, ◌+◌, ◌*◌, ◌/◌, ◌%◌, ◌<◌, ◌≤◌, ◌⊎◌, min, List, [], ◌∷◌, ◌++◌, map, length, take, drop, inl, inr, refl, sym, ap, ap₂, ◌∙◌, subst, arith, length-append, length-drop}
 use Rattle.std.proofs.Math.Nat.{div-add-mod, le_of_mul-le-mul_left, lt_of_mul-lt-mul_left, mul-le-mul_right}
 use Rattle.std.proofs.Math.Seq.{drop-append_seam}
 use Rattle.std.proofs.lemmas.List.{take-append-le, drop-append-le}
-use Rattle.std.proofs.lemmas.List.FromFn.{map-range_with_len_more, length-map-range_with_len}
-use Rattle.std.proofs.lemmas.Nat.{div-mul-add, mod-mul-add}
+use Rattle.std.proofs.lemmas.List.FromFn.{get_or-map-range_with_len, map-range_with_len_more, length-map-range_with_len}
+use Rattle.std.proofs.lemmas.Nat.{div-add-mod', div-mul-add, mod-mul-add, mod_below}
 use Rattle.std.specs.Int.{div_ceil}
 use Rattle.std.specs.List.{range_with_len}
+use Rattle.p3_util.specs.Flat.{IsFlat}
 use Rattle.p3_util.specs.Pieces.{piece_count, piece, pieces}
 
 div_ceil-whole : (k n : ℕ) → 0 < n → div_ceil (k * n) n ≡ k
@@ -120,3 +121,35 @@ module _ {A : Type 0} where
   pub length-pieces : (n : ℕ) (xs : List A) → length (pieces n xs) ≡ piece_count n (length xs)
   unfolding pieces
   length-pieces n xs = length-map-range_with_len (piece n xs) 0 (piece_count n (length xs))
+
+  slice_get-drop : (k i : ℕ) (xs : List A) → slice_get (drop k xs) i ≡ slice_get xs (k + i)
+  slice_get-drop zero i xs = let z : 0 + i ≡ i = omega arith in rw z refl
+  slice_get-drop (suc k) i [] = refl
+  slice_get-drop (suc k) i (x ∷ xs) = let e : suc k + i ≡ suc (k + i) = omega arith in rw e (slice_get-drop k i xs)
+
+  slice_get-take : (n i : ℕ) (xs : List A) → i < n → slice_get (take n xs) i ≡ slice_get xs i
+  slice_get-take zero i xs below = absurd (omega arith)
+  slice_get-take (suc n) i [] below = refl
+  slice_get-take (suc n) zero (x ∷ xs) below = refl
+  slice_get-take (suc n) (suc i) (x ∷ xs) below = slice_get-take n i xs (omega arith)
+
+  -- item i is in piece i / n, at place i mod n
+  pub slice_get-pieces : (n i : ℕ) (xs : List A) → 0 < n → i < length xs → slice_get xs i ≡ slice_get (get_or (pieces n xs) (i / n) []) (i % n)
+  unfolding pieces
+  slice_get-pieces zero i xs some inside = absurd (omega arith)
+  slice_get-pieces (suc m) i xs some inside =
+      let n = suc m in
+      let upper : length xs ≤ div_ceil (length xs) n * n = div_ceil-upper (length xs) n some in
+      let place : i / n * n + i % n ≡ i = div-add-mod' i n in
+      let among : i / n < div_ceil (length xs) n = lt_of_mul-lt-mul_left n (omega (arith, place, upper)) in
+      let row : get_or (map (piece n xs) (range_with_len 0 (div_ceil (length xs) n))) (i / n) [] ≡ piece n xs (i / n) =
+      get_or-map-range_with_len (piece n xs) 0 (div_ceil (length xs) n) (i / n) (i / n) [] among (omega arith) in
+      rw (row, slice_get-take n (i % n) (drop (i / n * n) xs) (mod_below i n some), slice_get-drop (i / n * n) (i % n) xs, place) refl
+
+  -- rows that are the pieces of a list are its rows place by place
+  pub IsFlat-pieces : (n : ℕ) (rows : List (List A)) (xs : List A) → length xs ≡ length rows * n → (0 < n → pieces n xs ≡ rows) → IsFlat n rows xs
+  IsFlat-pieces zero rows xs len cut = record { len = len; places = λ i inside. absurd (omega arith) }
+  IsFlat-pieces (suc m) rows xs len cut = record {
+    len = len;
+    places = λ i inside. slice_get-pieces (suc m) i xs (omega arith) inside ∙ ap (λ l. slice_get (get_or l (i / suc m) []) (i % suc m)) (cut (omega arith));
+  }

@@ -1,6 +1,6 @@
 //! Arrays as rows of one list of items.
 
-ghost use Rattle.std.specs.Prelude.{◌≡◌, ℕ, ◌+◌, ◌*◌, ◌^◌, ◌<◌, ◌≤◌, List, length, slice_get, slice_index_or, slice_set, swap, take};
+ghost use Rattle.std.specs.Prelude.{◌≡◌, ℕ, ◌+◌, ◌*◌, ◌/◌, ◌%◌, ◌^◌, ◌<◌, ◌≤◌, List, Some, length, slice_get, slice_index_or, slice_set, swap, take};
 ghost use Rattle.std.proofs.Common.{refl, ◌∙◌};
 ghost use Rattle.std.specs.Borrow.{sem};
 ghost use Rattle.std.specs.Option.{option_copied_mut};
@@ -146,11 +146,21 @@ pub(super) fn place_of<T, const N: usize>(rows: &[[T; N]], i: usize) -> (usize, 
     ensures place { result.1 < N }
     ensures before { length (flat (take result.0 rows.now)) ≡ result.0 * N }
     ensures item { i ≡ result.0 * N + result.1 }
+    ensures is { result ≡ (i / N, i % N) }
 {
     prove!(i < rows.as_flattened().len());
     let row = i / N;
     let before = rows[..row].as_flattened().len();
     (row, i - before)
+}
+
+/// Item `c` of a row.
+pub(super) fn item_in_row<T, const N: usize>(row: &[T; N], c: usize) -> &T
+    requires { c < N }
+    ensures item { slice_get row.now c ≡ Some result.now }
+    ensures len { length row.now ≡ N }
+{
+    &row[c]
 }
 
 fn exchange_in_row<T, const N: usize>(row: &mut [T; N], i: usize, j: usize)

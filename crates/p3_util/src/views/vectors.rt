@@ -2,7 +2,8 @@
 
 ghost use Rattle.std.specs.Prelude.{◌≡◌, ◌+◌, ◌*◌, ◌%◌, ◌/◌, ◌^◌, ◌<◌, ◌≤◌, ◌++◌, IsOk, IfOk, IfErr, length, vec_len, vec_capacity};
 ghost use Rattle.std.specs.Vec.Iter.{into_iter_items};
-ghost use Rattle.p3_util.specs.Flat.{flat};
+ghost use Rattle.p3_util.specs.Flat.{IsFlat, flat};
+ghost use Rattle.p3_util.specs.Pieces.{pieces};
 
 use crate::NoRoom;
 use std::alloc::Global;
@@ -22,6 +23,10 @@ pub fn flatten_to_base<Base: Default + Drop, const N: usize>(
 ) -> Result<Vec<Base>, NoRoom<Vec<[Base; N]>>>
     requires { vec_len vec * N < 2 ^ 64 }
     ensures items { IfOk result (λ items. items.items ≡ flat vec.items) }
+    ensures places { IfOk result (λ items. IsFlat N vec.items items.items) }
+
+    // Cut into rows again, the items are the rows that they were.
+    ensures rows { 0 < N → IfOk result (λ items. pieces N items.items ≡ vec.items) }
     ensures given { IfErr result (λ refused. refused.given ≡ vec) }
     ensures needs_none { vec_len vec * N ≡ 0 → IsOk result }
 {
@@ -38,6 +43,7 @@ pub fn flatten_to_base<Base: Default + Drop, const N: usize>(
 fn push_row<T: Default + Drop, const N: usize>(items: &mut Vec<T>, row: &mut [T; N])
     requires { vec_len items.old + N ≤ vec_capacity items.old }
     ensures items { items.new.items ≡ items.old.items ++ row.old }
+    ensures width { length row.old ≡ N }
     ensures capacity { vec_capacity items.new ≡ vec_capacity items.old }
     ensures len { vec_len items.new ≡ vec_len items.old + N }
 {
@@ -59,7 +65,9 @@ pub fn reconstitute_from_base<Base: Default + Drop, const N: usize>(
 ) -> Result<Vec<[Base; N]>, NoRoom<Vec<Base>>>
     requires width { 1 ≤ N }
     requires divides { vec_len vec % N ≡ 0 }
+    ensures rows { IfOk result (λ rows. rows.items ≡ pieces N vec.items) }
     ensures items { IfOk result (λ rows. flat rows.items ≡ vec.items) }
+    ensures places { IfOk result (λ rows. IsFlat N rows.items vec.items) }
     ensures count { IfOk result (λ rows. vec_len rows ≡ vec_len vec / N) }
     ensures given { IfErr result (λ refused. refused.given ≡ vec) }
     ensures needs_none { vec_len vec ≡ 0 → IsOk result }
@@ -78,7 +86,8 @@ pub fn reconstitute_from_base<Base: Default + Drop, const N: usize>(
 /// The next `N` items, as an array.
 fn next_row<T: Default + Drop, const N: usize>(items: &mut IntoIter<T>) -> [T; N]
     requires { N ≤ length (into_iter_items items.old) }
-    ensures { into_iter_items items.old ≡ result ++ into_iter_items items.new }
+    ensures items { into_iter_items items.old ≡ result ++ into_iter_items items.new }
+    ensures width { length result ≡ N }
 {
     let mut row = array::from_fn(|_| T::default());
     fill_row(&mut row, items);

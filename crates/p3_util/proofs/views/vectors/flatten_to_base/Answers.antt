@@ -1,15 +1,30 @@
-use Rattle.std.proofs.Common.{ap, arith, length}
-use Rattle.p3_util.proofs.Moved.{left-more, moved-more-rows}
+use Rattle.std.proofs.Common.{◌≡◌, ℕ, ◌*◌, ◌≤◌, List, ap, arith, length, rules, refl, sym, take, ◌∙◌}
+use Rattle.std.proofs.lemmas.List.{take_all}
+use Rattle.p3_util.proofs.Moved.{cut-more, left-more, moved-more-rows}
+use Rattle.p3_util.proofs.Pieces.{IsFlat-pieces, pieces-nil}
 use Rattle.p3_util.proofs.views.vectors.flatten_to_base.Goals as goal
+
+pub loop-row-init : goal.loop-row-init
+loop-row-init g c = record { moved = search rules; left = search rules; full = search rules; cut = λ some. rw c.in-Ok.ensures.items (pieces-nil g.row.N); room = search rules }
 
 pub loop-row-preserved : goal.loop-row-preserved
 loop-row-preserved g c =
     let before = c.loop-row.invariant in
     let rows = c.loop-row.row-items in
     let old = c.args.vec.items in
-    let k = c.loop-row.row-index in record {
+    let k = c.loop-row.row-index in
+    let len : length c.loop-row.items.items ≡ k * g.row.N = search (rules, before.full) in record {
       moved = rw c.push_row.ensures.items (moved-more-rows _ rows old k before.left (omega (arith, ap length c.deref_mut-row-items.ensures.value)) before.moved);
       left = left-more rows old k _ before.left;
       full = omega arith;
+      cut = λ some. rw c.push_row.ensures.items (cut-more _ k _ rows old before.left (omega (arith, ap length c.deref_mut-row-items.ensures.value)) (before.cut some) len c.push_row.ensures.width some);
       room = omega arith;
     }
+
+pub returns-clause-places : goal.returns-clause-places
+returns-clause-places g c =
+    let k = c.loop-row.row-index in
+    let rows = c.args.vec.items in
+    let same : k ≡ length rows = omega (arith, c.loop-row-test.false, ap length c.deref_mut-row-items.ensures.value) in
+    let len : length c.loop-row.items.items ≡ k * g.row.N = search (rules, c.loop-row.invariant.full) in
+    IsFlat-pieces _ rows _ (len ∙ ap (λ n. n * g.row.N) same) (λ some. c.loop-row.invariant.cut some ∙ take_all k rows (omega arith))

@@ -1,0 +1,56 @@
+use Rattle.std.proofs.Common.{◌≡◌, ℕ, ◌+◌, ◌*◌, ◌/◌, ◌%◌, ◌≤◌, List, [], ◌++◌, arith, ap, length, length-append, append-nil, refl, rules, sym, take, vec_len, ◌∙◌}
+use Rattle.std.proofs.lemmas.Grind.{common_steps}
+use Rattle.std.proofs.lemmas.Nat.{div-add-mod'}
+use Rattle.std.specs.Vec.Iter.{into_iter_items}
+use Rattle.p3_util.specs.Flat.{flat}
+use Rattle.p3_util.specs.Pieces.{pieces}
+use Rattle.p3_util.proofs.Moved.{cut-push}
+use Rattle.p3_util.proofs.Pieces.{IsFlat-pieces, pieces-nil}
+use Rattle.p3_util.proofs.views.vectors.reconstitute_from_base.Goals as goal
+
+pub loop-init : goal.loop-init
+loop-init g c = record {
+  moved = grind (arith, common_steps);
+  left = grind (arith, common_steps);
+  cut = rw c.in-Ok.ensures.items (pieces-nil g.row.N);
+  made = grind (arith, common_steps);
+  room = grind (arith, common_steps);
+}
+
+pub loop-preserved : goal.loop-preserved
+loop-preserved g c =
+    let before = c.loop.invariant in
+    let rows = c.loop.rows.items in
+    let count : length rows ≡ c.loop.counter = search (rules, before.made) in
+    let all : length c.args.vec.items ≡ vec_len c.args.vec = search rules in
+    let parts = ap length before.moved ∙ length-append (flat rows) (into_iter_items c.loop.items) in
+    let len : length (flat rows) ≡ c.loop.counter * g.row.N = omega (arith, parts, all, before.left) in record {
+      moved = grind (arith, common_steps);
+      left = grind (arith, common_steps);
+      cut = rw c.push_reserved.ensures.items (cut-push g.row.N rows c.next_row.result before.cut (len ∙ ap (λ n. n * g.row.N) (sym count)) c.next_row.ensures.width c.requires.width);
+      made = search rules;
+      room = search rules;
+    }
+
+pub returns-clause-rows : goal.returns-clause-rows
+returns-clause-rows g c =
+    let all : flat c.loop.rows.items ≡ c.args.vec.items = grind (arith, common_steps) in
+    sym c.loop.invariant.cut ∙ ap (λ l. pieces g.row.N l) all
+
+-- so many items as the rows have, where n divides their number
+whole_rows : (total rows counter n : ℕ) → rows ≡ counter → total / n ≤ counter → counter ≤ total / n → total % n ≡ 0 → total ≡ rows * n
+whole_rows total rows counter n made over under divides =
+    let count : total / n ≡ rows = omega arith in
+    let place : total / n * n + total % n ≡ total = div-add-mod' total n in
+    let times : total / n * n ≡ rows * n = ap (λ k. k * n) count in
+    omega (arith, place, divides, times)
+
+pub returns-clause-places : goal.returns-clause-places
+returns-clause-places g c =
+    let all : flat c.loop.rows.items ≡ c.args.vec.items = grind (arith, common_steps) in
+    let whole : length c.args.vec.items ≡ vec_len c.args.vec = search rules in
+    let made : length c.loop.rows.items ≡ c.loop.counter = search (rules, c.loop.invariant.made) in
+    let over : vec_len c.args.vec / g.row.N ≤ c.loop.counter = rw c.len-count.ensures at c.loop-test.false in
+    let under : c.loop.counter ≤ vec_len c.args.vec / g.row.N = rw c.len-count.ensures at c.loop.auto.counter-end in
+    let len = whole_rows (vec_len c.args.vec) (length c.loop.rows.items) c.loop.counter g.row.N made over under c.requires.divides in
+    IsFlat-pieces g.row.N c.loop.rows.items c.args.vec.items (whole ∙ len) (λ _. ap (λ l. pieces g.row.N l) (sym all) ∙ c.loop.invariant.cut)
