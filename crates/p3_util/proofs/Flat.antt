@@ -8,7 +8,7 @@ use Rattle.std.proofs.lemmas.List.{length-set, set-append_left, set-append_right
 use Rattle.std.proofs.lemmas.Option.{get_or_from_slice_get, slice_get-get_or}
 use Rattle.std.proofs.lemmas.List.Edits.{swap_is}
 use Rattle.std.proofs.lemmas.List.Concat.{get_or-flat_map}
-use Rattle.p3_util.specs.Flat.{counted_rows, flat}
+use Rattle.p3_util.specs.Flat.{countable_rows, flat}
 
 counts_all : (l n : ℕ) → l < 2 ^ 64 → l * n < 2 ^ 64 → l * max n 1 ≤ 2 ^ 64 - 1
 counts_all l zero few fits = omega arith
@@ -191,7 +191,7 @@ module _ {A : Type 0} where
         slice_get-get_or (flat rows) i x below ∙ ap Some (item-at rows r c n i y x lr lc len row begins at ∙ get_or_from_slice_get y c x x read)
 
   -- item c of row r, where the rows seen are those whose items a usize can count
-  module _ (rows seen : List (List A)) (r c n i : ℕ) (is : seen ≡ counted_rows n rows) (lr : r < length seen) (lc : c < n) (len : length (get_or rows r []) ≡ n)
+  module _ (rows seen : List (List A)) (r c n i : ℕ) (is : seen ≡ countable_rows n rows) (lr : r < length seen) (lc : c < n) (len : length (get_or rows r []) ≡ n)
       (begins : start seen r ≡ r * n) (at : i ≡ r * n + c) where
     abbrev count : ℕ
     count = (2 ^ 64 - 1) / max n 1
@@ -206,15 +206,15 @@ module _ {A : Type 0} where
     same = sym (get_or-take count rows r [] counted) ∙ ap (λ l. get_or l r []) (sym is)
 
     -- it is written among all rows, and so among those
-    pub set-at-counted : (w : A) → flat (counted_rows n (set rows r (set (get_or rows r []) c w))) ≡ set (flat (counted_rows n rows)) i w
-    set-at-counted w =
+    pub set-at-countable : (w : A) → flat (countable_rows n (set rows r (set (get_or rows r []) c w))) ≡ set (flat (countable_rows n rows)) i w
+    set-at-countable w =
         let row = set (get_or rows r []) c w in
         let written : take count (set rows r row) ≡ set seen r row = take-set-lt count rows r row counted ∙ ap (λ l. set l r row) (sym is) in
         ap flat written ∙ put-at seen r c n i row w lr lc (ap length (sym same) ∙ len) begins at (ap (λ l. set l c w) same) ∙ ap (λ l. set (flat l) i w) is
 
     -- it is read among all rows, and so among those
-    pub get-at-counted : (x : A) → x ≡ get_or (get_or rows r []) c x → slice_get (flat (counted_rows n rows)) i ≡ Some x
-    get-at-counted x read =
+    pub get-at-countable : (x : A) → x ≡ get_or (get_or rows r []) c x → slice_get (flat (countable_rows n rows)) i ≡ Some x
+    get-at-countable x read =
         let inside : c < length (get_or seen r []) = rw (sym same) (omega (arith, len)) in
         let place : start seen r + c ≡ i = omega (arith, begins, at) in
         let below : i < length (flat seen) = subst (λ (k : ℕ). k < length (flat seen)) place (start-below seen r c lr inside) in
@@ -223,6 +223,6 @@ module _ {A : Type 0} where
         ∙ ap (λ l. get_or l c x) (sym same) ∙ sym read)
 
   -- a usize can count the items of all the rows
-  pub counted-all : (n : ℕ) (rows : List (List A)) → length rows < 2 ^ 64 → length rows * n < 2 ^ 64 → counted_rows n rows ≡ rows
-  counted-all n rows few fits =
+  pub countable-all : (n : ℕ) (rows : List (List A)) → length rows < 2 ^ 64 → length rows * n < 2 ^ 64 → countable_rows n rows ≡ rows
+  countable-all n rows few fits =
       take_all ((2 ^ 64 - 1) / max n 1) rows (le-div (length rows) (2 ^ 64 - 1) (max n 1) (omega arith) (counts_all (length rows) n few fits))

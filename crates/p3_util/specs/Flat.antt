@@ -7,8 +7,8 @@ abbrev pub flat : {A : Type 0} → List (List A) → List A
 flat rows = flat_map (λ row. row) rows
 
 -- as many rows of n items as a usize can count the items of
-abbrev pub counted_rows : {A : Type 0} → ℕ → List (List A) → List (List A)
-counted_rows n rows = take ((2 ^ 64 - 1) / max n 1) rows
+abbrev pub countable_rows : {A : Type 0} → ℕ → List (List A) → List (List A)
+countable_rows n rows = take ((2 ^ 64 - 1) / max n 1) rows
 
 -- the same place by place, for rows of n items: item i is item i mod n of row i / n
 pub record IsFlat {A : Type 0} (n : ℕ) (rows : List (List A)) (items : List A) : Type 0 where

@@ -1,8 +1,9 @@
--- What rows end as where a `&mut` to one of their items is returned.
+-- What rows end as where a `&mut` to one of their items is returned. Only the private clauses of `views::loans` cite these words,
+-- which have to stand in `specs` all the same.
 use Rattle.std.specs.Prelude.{ℕ, Option, List, [], ◌≡◌, slice_index_or, slice_set}
 use Rattle.std.specs.Option.{OnSome}
 use Rattle.std.specs.Borrow.{Lends, LendsSo, MutBor, Fml, RattleType, Array}
-use Rattle.p3_util.specs.Flat.{counted_rows, flat}
+use Rattle.p3_util.specs.Flat.{countable_rows, flat}
 
 -- rows end with row r set to what is last behind l
 abbrev pub lends_row : (R : RattleType) → MutBor (List R.Denot) → ℕ → MutBor R.Denot → Fml
@@ -21,4 +22,4 @@ module _ (T : RattleType) (n : ℕ) where
   -- l has none
   abbrev pub lends_item_of_rows : MutBor (List (List T.Denot)) → ℕ → Option (MutBor T.Denot) → Fml
   lends_item_of_rows rows i l = LendsSo (Array (Array T n) 0) T rows l
-      (λ last w. OnSome l (flat (counted_rows n last) ≡ slice_set (flat (counted_rows n rows.now)) i w)) (λ last. last ≡ rows.now)
+      (λ last w. OnSome l (flat (countable_rows n last) ≡ slice_set (flat (countable_rows n rows.now)) i w)) (λ last. last ≡ rows.now)

@@ -7,7 +7,7 @@ use Rattle.std.proofs.lemmas.Str.{IsCharBoundary-after_ascii}
 use Rattle.std.specs.List.{position, position_or_len}
 use Rattle.std.specs.Str.{IsUtf8, IsCharBoundary}
 use Rattle.std.specs.Str.Pattern.{HasTextAt}
-use Rattle.p3_util_kernels.specs.Names.{is_mark, in_front, pieces, after_colons, last_within, last_part, short_name}
+use Rattle.p3_util_kernels.specs.Names.{is_mark, in_front, name_pieces, after_colons, last_within, last_part, short_name}
 
 abbrev starts : ℕ → List ℕ → Bool
 starts b t = b == 58 && slice_index t 0 == 58
@@ -124,37 +124,37 @@ pub last_part-after : (t : List ℕ) (i j : ℕ)
 last_part-after t i j before here = last_part-some t (drop j t) (after_colons-some t i (drop j t) before here.split)
 
 -- a name without marks is one piece
-pieces-none : (t : List ℕ) → ((i : ℕ) → i < length t → is_mark (get_or t i 0) ≡ false) → pieces t ≡ t ∷ []
-unfolding pieces in_front
-pieces-none [] h = refl
-pieces-none (b ∷ t) h =
+name_pieces-none : (t : List ℕ) → ((i : ℕ) → i < length t → is_mark (get_or t i 0) ≡ false) → name_pieces t ≡ t ∷ []
+unfolding name_pieces in_front
+name_pieces-none [] h = refl
+name_pieces-none (b ∷ t) h =
     let here : is_mark b ≡ false = h 0 (omega arith) in
-    let rest : pieces t ≡ t ∷ [] = pieces-none t (λ i less. h (suc i) (omega arith)) in
+    let rest : name_pieces t ≡ t ∷ [] = name_pieces-none t (λ i less. h (suc i) (omega arith)) in
     rw (here, rest) refl
 
 -- the first piece ends at the first mark
-pieces-first : (t : List ℕ) (i : ℕ) → i < length t
+name_pieces-first : (t : List ℕ) (i : ℕ) → i < length t
     → ((k : ℕ) → k < i → is_mark (get_or t k 0) ≡ false) → is_mark (get_or t i 0) ≡ true
-    → pieces t ≡ take (suc i) t ∷ pieces (drop (suc i) t)
-unfolding pieces in_front
-pieces-first [] i less before here = absurd (omega arith)
-pieces-first (b ∷ t) zero less before here = rw here refl
-pieces-first (b ∷ t) (suc i) less before here =
+    → name_pieces t ≡ take (suc i) t ∷ name_pieces (drop (suc i) t)
+unfolding name_pieces in_front
+name_pieces-first [] i less before here = absurd (omega arith)
+name_pieces-first (b ∷ t) zero less before here = rw here refl
+name_pieces-first (b ∷ t) (suc i) less before here =
     let other : is_mark b ≡ false = before 0 (omega arith) in
-    let rest : pieces t ≡ take (suc i) t ∷ pieces (drop (suc i) t) =
-    pieces-first t i (omega arith) (λ k below. before (suc k) (omega arith)) here in
+    let rest : name_pieces t ≡ take (suc i) t ∷ name_pieces (drop (suc i) t) =
+    name_pieces-first t i (omega arith) (λ k below. before (suc k) (omega arith)) here in
     rw (other, rest) refl
 
 -- the two rules of the short name
 pub short_name-none : (t : List ℕ) → ((i : ℕ) → i < length t → is_mark (get_or t i 0) ≡ false) → short_name t ≡ last_part t
 unfolding short_name
-short_name-none t h = rw (pieces-none t h) (append-nil (last_part t))
+short_name-none t h = rw (name_pieces-none t h) (append-nil (last_part t))
 
 pub short_name-first : (t : List ℕ) (i : ℕ) → i < length t
     → ((k : ℕ) → k < i → is_mark (get_or t k 0) ≡ false) → is_mark (get_or t i 0) ≡ true
     → short_name t ≡ last_part (take (i + 1) t) ++ short_name (drop (i + 1) t)
 unfolding short_name
-short_name-first t i less before here = rw (add-one, pieces-first t i less before here) refl
+short_name-first t i less before here = rw (add-one, name_pieces-first t i less before here) refl
 
 -- ---- the same from what `position` answers
 

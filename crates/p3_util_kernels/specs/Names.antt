@@ -12,9 +12,9 @@ in_front b [] = (b ∷ []) ∷ []
 in_front b (piece ∷ rest) = (b ∷ piece) ∷ rest
 
 -- the pieces of a name, which is cut after each mark
-unfoldable pub pieces : List ℕ → List (List ℕ)
-pieces [] = [] ∷ []
-pieces (b ∷ t) = if is_mark b then (b ∷ []) ∷ pieces t else in_front b (pieces t)
+unfoldable pub name_pieces : List ℕ → List (List ℕ)
+name_pieces [] = [] ∷ []
+name_pieces (b ∷ t) = if is_mark b then (b ∷ []) ∷ name_pieces t else in_front b (name_pieces t)
 
 -- what follows the first `::`, where there is one
 unfoldable pub after_colons : List ℕ → Option (List ℕ)
@@ -32,4 +32,4 @@ last_part t = last_within (length t) t
 
 -- the last parts of the pieces, joined in order
 unfoldable pub short_name : List ℕ → List ℕ
-short_name t = flat_map last_part (pieces t)
+short_name t = flat_map last_part (name_pieces t)

@@ -6,17 +6,17 @@
 ghost use Rattle.std.specs.Prelude.{◌≡◌, ◌<◌, [], length, slice_get, slice_index_or};
 ghost use Rattle.std.specs.Borrow.{sem};
 ghost use Rattle.std.specs.Option.{option_copied_mut};
-ghost use Rattle.p3_util.specs.Flat.{counted_rows, flat};
+ghost use Rattle.p3_util.specs.Flat.{countable_rows, flat};
 ghost use Rattle.p3_util.specs.RowLends.{lends_item_of_row, lends_item_of_rows, lends_place, lends_row};
 
-use super::rows::{counted, place_of};
+use super::rows::{countable, place_of};
 
 /// Item `i` of all rows whose items a `usize` can count, to be written, or `None` where there are no more.
 pub(super) fn item_of_rows<T, const N: usize>(rows: &mut [[T; N]], i: usize) -> Option<&mut T>
     ensures* writes_back { sem 𝓛 (lends_item_of_rows T.row N rows.entry i result) }
-    ensures item { option_copied_mut result ≡ slice_get (flat (counted_rows N rows.old)) i }
+    ensures item { option_copied_mut result ≡ slice_get (flat (countable_rows N rows.old)) i }
 {
-    let seen = counted(rows);
+    let seen = countable(rows);
     if i < seen.as_flattened().len() {
         let (r, c) = place_of(seen, i);
         Some(item_at(rows, r, c))

@@ -4,7 +4,7 @@ ghost use Rattle.std.specs.Prelude.{◌≡◌, ℕ, ◌+◌, ◌*◌, ◌/◌, �
 ghost use Rattle.std.proofs.Common.{refl, ◌∙◌};
 ghost use Rattle.std.specs.Borrow.{sem};
 ghost use Rattle.std.specs.Option.{option_copied_mut};
-ghost use Rattle.p3_util.specs.Flat.{counted_rows, flat};
+ghost use Rattle.p3_util.specs.Flat.{countable_rows, flat};
 
 use super::loans::item_of_rows;
 use std::mem;
@@ -54,12 +54,12 @@ pub trait Rows {
 impl<'a, T, const N: usize> Rows for &'a mut [[T; N]] {
     type Item = T;
 
-    ghost items = { λ rows. flat (counted_rows N rows.now) };
+    ghost items = { λ rows. flat (countable_rows N rows.now) };
 
     ghost same_rows = { λ a b. a.ghost_name ≡ b.ghost_name };
 
     fn items_of(&self) -> &[T] {
-        counted(self).as_flattened()
+        countable(self).as_flattened()
     }
 
     fn item_mut(&mut self, i: usize) -> Option<&mut T> {
@@ -67,14 +67,14 @@ impl<'a, T, const N: usize> Rows for &'a mut [[T; N]] {
     }
 
     fn exchange(&mut self, i: usize, j: usize) {
-        exchange_counted(self, i, j);
+        exchange_countable(self, i, j);
     }
 
     fn put(&mut self, i: usize, v: T)
     where
         T: Drop,
     {
-        put_counted(self, i, v);
+        put_countable(self, i, v);
     }
 
     ghost same_rows_refl = { λ a. refl };
@@ -83,8 +83,8 @@ impl<'a, T, const N: usize> Rows for &'a mut [[T; N]] {
 }
 
 /// The rows whose items a `usize` can count.
-pub(super) fn counted<T, const N: usize>(rows: &[[T; N]]) -> &[[T; N]]
-    ensures rows { result.now ≡ counted_rows N rows.now }
+pub(super) fn countable<T, const N: usize>(rows: &[[T; N]]) -> &[[T; N]]
+    ensures rows { result.now ≡ countable_rows N rows.now }
     ensures fits { length result.now * N < 2 ^ 64 }
 {
     let count = usize::MAX / N.max(1);
@@ -95,12 +95,12 @@ pub(super) fn counted<T, const N: usize>(rows: &[[T; N]]) -> &[[T; N]]
     }
 }
 
-fn exchange_counted<T, const N: usize>(rows: &mut [[T; N]], i: usize, j: usize)
-    requires first { i < length (flat (counted_rows N rows.old)) }
-    requires second { j < length (flat (counted_rows N rows.old)) }
-    ensures { flat (counted_rows N rows.new) ≡ swap (flat (counted_rows N rows.old)) i j }
+fn exchange_countable<T, const N: usize>(rows: &mut [[T; N]], i: usize, j: usize)
+    requires first { i < length (flat (countable_rows N rows.old)) }
+    requires second { j < length (flat (countable_rows N rows.old)) }
+    ensures { flat (countable_rows N rows.new) ≡ swap (flat (countable_rows N rows.old)) i j }
 {
-    let count = counted(rows).len();
+    let count = countable(rows).len();
     exchange_items(&mut rows[..count], i, j);
 }
 
@@ -121,11 +121,11 @@ fn exchange_items<T, const N: usize>(rows: &mut [[T; N]], i: usize, j: usize)
     }
 }
 
-fn put_counted<T: Drop, const N: usize>(rows: &mut [[T; N]], i: usize, v: T)
-    requires { i < length (flat (counted_rows N rows.old)) }
-    ensures { flat (counted_rows N rows.new) ≡ slice_set (flat (counted_rows N rows.old)) i v }
+fn put_countable<T: Drop, const N: usize>(rows: &mut [[T; N]], i: usize, v: T)
+    requires { i < length (flat (countable_rows N rows.old)) }
+    ensures { flat (countable_rows N rows.new) ≡ slice_set (flat (countable_rows N rows.old)) i v }
 {
-    let count = counted(rows).len();
+    let count = countable(rows).len();
     put_item(&mut rows[..count], i, v);
 }
 

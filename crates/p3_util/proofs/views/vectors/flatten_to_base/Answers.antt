@@ -1,4 +1,4 @@
-use Rattle.std.proofs.Common.{◌≡◌, ℕ, ◌*◌, ◌≤◌, List, ap, arith, length, rules, refl, sym, take, ◌∙◌}
+use Rattle.std.proofs.Common.{◌≡◌, ◌*◌, ap, arith, length, rules, ◌∙◌}
 use Rattle.std.proofs.lemmas.List.{take_all}
 use Rattle.p3_util.proofs.Moved.{cut-more, left-more, moved-more-rows}
 use Rattle.p3_util.proofs.Pieces.{IsFlat-pieces, pieces-nil}

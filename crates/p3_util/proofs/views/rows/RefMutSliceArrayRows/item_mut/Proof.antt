@@ -42,7 +42,7 @@ use denote.Triple.Walked.{says, Stays, stay_dropped, walk_of, ends_at, Goes-drop
 use Rattle.std.specs.contracts.option.Option as option
 use Rattle.std.proofs.option.Option.TheLaws.{the_row_laws as option-laws}
 use Rattle.std.specs.Option.{option_copied_mut, ghost_name_of, OnSome}
-use Rattle.p3_util.specs.Flat.{counted_rows, flat}
+use Rattle.p3_util.specs.Flat.{countable_rows, flat}
 use Rattle.p3_util.specs.RowLends.{lends_item_of_rows}
 use Rattle.p3_util.specs.ViewLends.{HasWritten, HasKept, lends_item}
 use Rattle.p3_util.proofs.Loans.{inst, Row, ItemArg, item_laws, known, on_some, so_then}
@@ -111,13 +111,13 @@ item_mut_spec 𝓤 𝓛 𝓜 𝓡 wired X n L small =
     let LOut = option-laws Ref LRef in
     use1 𝓛 (later (some (λ (x : Option (MutBor X.Denot)). ((‵ (flft κ q) ⊛ ‵ (flft κT qT) ⊛ ‵ (flft κN qN) ⊛ ‵ ftrue) ⊛ ‵ (Out.own_val x (u ∷ [])))
     ⊛ some (λ (ws : Lasts (item.ended T (number n)) z.0.0 z.0.3). ‵ (lasts (item.ended T (number n)) z.0.0 z.0.3 ws) ⊛ ‵ (lends_item_of_rows T n s i x)
-    ⊛ raw (fact 𝓤 (option_copied_mut x ≡ slice_get (flat (counted_rows n rows.now)) i)))))) (id⊢ 𝓤 _) $
+    ⊛ raw (fact 𝓤 (option_copied_mut x ≡ slice_get (flat (countable_rows n rows.now)) i)))))) (id⊢ 𝓤 _) $
     await ! tt $ pick ! (λ x. split ! $ split ! $ move ! (2 ∷ []) $ pick ! (λ _. split ! $ drop ! $ split ! $ move ! (1 ∷ []) $ heard ! _ (λ read.
     move ! (2 ∷ []) $ peeks ! Out _ (shows 𝓛 Out) x (u ∷ []) (λ at.
     lands_as ! refl refl ((LOut.lawful 𝓛).typed x (u ∷ []) at).0 $
     -- [the item; how the rows follow it; the tokens; the rows' token; how the reference follows the rows]
     returns ! (look_at ! 0 refl) $ free_all ! refl $
-    let list : List (List X.Denot) → List X.Denot = λ ls. flat (counted_rows n ls) in
+    let list : List (List X.Denot) → List X.Denot = λ ls. flat (countable_rows n ls) in
     move ! (4 ∷ 1 ∷ []) $ use2 𝓛 (‵ (lends_item Sl T (λ ls. list ls.now) (λ k l. k.ghost_name ≡ l.ghost_name) self i x))
     (so_then 𝓛 Sl (Array (Array T n) 0) T (at_last rows) self.ghost_name δ (ghost_name_of x)
     (λ w ls. OnSome x (list ls ≡ slice_set (list rows.now) i w)) (λ ls. ls ≡ rows.now)
