@@ -1,1 +1,1 @@
-pub mod WholeViews
+pub mod NoPlace

@@ -8,8 +8,8 @@ ghost use Rattle.std.specs.Option.{option_copied, option_copied_mut};
 
 use super::BaseIter;
 use super::rows::Rows;
-use std::ops::Index;
 use p3_util_kernels::places::{Cells, Places};
+use std::ops::Index;
 
 /// Rows behind `S`, seen as the list of their items, row after row.
 ///

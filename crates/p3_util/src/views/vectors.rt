@@ -27,6 +27,8 @@ pub fn flatten_to_base<Base: Default + Drop, const N: usize>(
 
     // Cut into rows again, the items are the rows that they were.
     ensures rows { 0 < N → IfOk result (λ items. pieces N items.items ≡ vec.items) }
+    ensures len { IfOk result (λ items. vec_len items ≡ vec_len vec * N) }
+    ensures divides { IfOk result (λ items. vec_len items % N ≡ 0) }
     ensures given { IfErr result (λ refused. refused.given ≡ vec) }
     ensures needs_none { vec_len vec * N ≡ 0 → IsOk result }
 {
@@ -69,6 +71,7 @@ pub fn reconstitute_from_base<Base: Default + Drop, const N: usize>(
     ensures items { IfOk result (λ rows. flat rows.items ≡ vec.items) }
     ensures places { IfOk result (λ rows. IsFlat N rows.items vec.items) }
     ensures count { IfOk result (λ rows. vec_len rows ≡ vec_len vec / N) }
+    ensures len { IfOk result (λ rows. vec_len rows * N ≡ vec_len vec) }
     ensures given { IfErr result (λ refused. refused.given ≡ vec) }
     ensures needs_none { vec_len vec ≡ 0 → IsOk result }
 {

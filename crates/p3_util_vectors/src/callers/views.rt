@@ -1,12 +1,12 @@
 //! Callers of the views: the kernels over rows.
 
-ghost use Rattle.std.specs.Prelude.{◌≡◌, ◌*◌, ◌^◌, ◌<◌, Some, length, slice_get, slice_set};
+ghost use Rattle.std.specs.Prelude.{◌≡◌, ◌*◌, ◌^◌, ◌<◌, length, slice_set};
 ghost use Rattle.p3_util.specs.Flat.{flat};
 ghost use Rattle.p3_util_kernels.specs.Reversal.{IsReversal, IsZeroOrPowerOfTwo};
 ghost use Rattle.p3_util_kernels.specs.Transpose.{IsTranspose};
 
 use p3_util::views::{Flattened, Rows};
-use p3_util::{as_base_slice, as_base_slice_mut};
+use p3_util::as_base_slice_mut;
 use p3_util_kernels::places::{Cells, Writes};
 use p3_util_kernels::reverse::reverse_counted;
 use p3_util_kernels::transpose::transpose_on;
@@ -67,25 +67,4 @@ where
     if let Some(place) = view.get_mut(i) {
         *place = item;
     }
-}
-
-/// Item `i` of the rows taken as one list: item `i % N` of row `i / N`.
-pub fn item_of_rows<T: Copy, const N: usize>(rows: &[[T; N]], i: usize) -> T
-    requires fits { length rows.now * N < 2 ^ 64 }
-    requires inside { i < length (flat rows.now) }
-    ensures { slice_get (flat rows.now) i ≡ Some result }
-{
-    let all = as_base_slice(rows);
-    prove!(i < all.len());
-    let front = as_base_slice(&rows[..i / N]);
-    prove!(front.len() <= i);
-    item_of_row(&rows[i / N], i % N)
-}
-
-fn item_of_row<T: Copy, const N: usize>(row: &[T; N], i: usize) -> T
-    requires { i < N }
-    ensures item { slice_get row.now i ≡ Some result }
-    ensures len { length row.now ≡ N }
-{
-    row[i]
 }

@@ -1,4 +1,5 @@
 use Rattle.std.proofs.Common.{◌≡◌, ◌*◌, ap, arith, length, rules, ◌∙◌}
+use Rattle.std.proofs.Math.Nat.{mul-mod_left}
 use Rattle.std.proofs.lemmas.List.{take_all}
 use Rattle.p3_util.proofs.Moved.{cut-more, left-more, moved-more-rows}
 use Rattle.p3_util.proofs.Pieces.{IsFlat-pieces, pieces-nil}
@@ -28,3 +29,6 @@ returns-clause-places g c =
     let same : k ≡ length rows = omega (arith, c.loop-row-test.false, ap length c.deref_mut-row-items.ensures.value) in
     let len : length c.loop-row.items.items ≡ k * g.row.N = search (rules, c.loop-row.invariant.full) in
     IsFlat-pieces _ rows _ (len ∙ ap (λ n. n * g.row.N) same) (λ some. c.loop-row.invariant.cut some ∙ take_all k rows (omega arith))
+
+pub returns-clause-divides : goal.returns-clause-divides
+returns-clause-divides g c = rw c.loop-row.invariant.full (mul-mod_left c.loop-row.row-index g.row.N)

@@ -1,6 +1,6 @@
 use Rattle.std.proofs.Common.{sym, ap, ◌∙◌}
 use Rattle.std.specs.Option.{option_copied_mut}
-use Rattle.p3_util_vectors.proofs.WholeViews.{set-none}
+use Rattle.p3_util_vectors.proofs.NoPlace.{set-none}
 use Rattle.p3_util_vectors.proofs.callers.views.set_item_of_view.Goals as goal
 
 pub returns-in-Some-clause-items : goal.returns-in-Some-clause-items
