@@ -1,5 +1,5 @@
 -- How deep the split of a transpose nests.
-use Rattle.std.proofs.Common.{◌≡◌, ℕ, zero, suc, ◌+◌, ◌-◌, ◌*◌, ◌/◌, ◌^◌, ◌<◌, ◌≤◌, ◌⊎◌, cond, ltb, inl, inr, ◌∙◌, ap, arith}
+use Rattle.std.proofs.Common.{◌≡◌, ℕ, zero, suc, ◌+◌, ◌-◌, ◌*◌, ◌/◌, ◌^◌, ◌<◌, ◌≤◌, cond, ltb, inl, inr, ◌∙◌, ap, min, max, arith}
 use Rattle.std.proofs.Math.Nat.{pow-suc, pow-le-pow_right}
 use Rattle.std.proofs.lemmas.Bool.{cases_lt, lt-ltb, le-ltb, and_from, and_left, and_right, cond-true, cond-false}
 use Rattle.std.proofs.lemmas.Nat.{pow-add, mul-le}
@@ -115,23 +115,23 @@ clog-le m n h = clog-least m (clog n) (omega (arith, clog-enough n))
 pub nest-deep : (r c : ℕ) → 2 < r → 2 < c → nest r c ≡ lev r c
 nest-deep r c h k = cond-true _ (lev r c) 0 (and_from _ _ (lt-ltb _ _ h) (lt-ltb _ _ k))
 
-pub nest-narrow : (r c : ℕ) → (r ≤ 2) ⊎ (c ≤ 2) → nest r c ≡ 0
-nest-narrow r c (inl h) = cond-false _ (lev r c) 0 (and_left _ _ (le-ltb _ _ h))
-nest-narrow r c (inr h) = cond-false _ (lev r c) 0 (and_right _ _ (le-ltb _ _ h))
-
-pub nest_le_lev : (r c : ℕ) → nest r c ≤ lev r c
-nest_le_lev r c =
+pub nest_narrow : (r c : ℕ) → min r c ≤ 2 → nest r c ≡ 0
+nest_narrow r c h =
     elim (cases_lt 2 r) [
-      | inl deep ↦ elim (cases_lt 2 c) [
-        | inl deep' ↦ omega (arith, nest-deep r c deep deep')
-        | inr narrow ↦ omega (arith, nest-narrow r c (inr narrow))
-      ]
-      | inr narrow ↦ omega (arith, nest-narrow r c (inl narrow))
+      | inl deep ↦ cond-false _ (lev r c) 0 (and_right (ltb 2 r) _ (le-ltb _ _ (omega arith)))
+      | inr narrow ↦ cond-false _ (lev r c) 0 (and_left _ (ltb 2 c) (le-ltb _ _ narrow))
     ]
 
--- a region with both sides at most 128 is no further split
-pub lev-small : (r c : ℕ) → r ≤ 128 → c ≤ 128 → lev r c ≡ 0
-lev-small r c h k = omega (arith, clog-least r 7 h, clog-least c 7 k)
+pub nest_le : (r c : ℕ) → nest r c ≤ lev r c
+nest_le r c =
+    elim (cases_lt 2 (min r c)) [
+      | inl deep ↦ omega (arith, nest-deep r c (omega arith) (omega arith))
+      | inr narrow ↦ omega (arith, nest_narrow r c narrow)
+    ]
+
+-- a region with both sides at most 128 is not split
+pub nest_small : (r c : ℕ) → max r c ≤ 128 → nest r c ≡ 0
+nest_small r c h = omega (arith, nest_le r c, clog-least r 7 (omega arith), clog-least c 7 (omega arith))
 
 -- halving a side above 128: the larger half nests one level less
 pub lev-half : (n k : ℕ) → 128 < n → lev (n - n / 2) k + 1 ≡ lev n k

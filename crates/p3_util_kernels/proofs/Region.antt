@@ -15,7 +15,7 @@ pub record IsCut (whole first second : Region) : Type 0 where
   pub second_inside : (x y : ℕ) → IsInRegion second x y → IsInRegion whole x y
 
 -- the rows before `mid`, and those from it on
-IsCut-rows : (whole : Region) (mid : ℕ) → whole.row_start ≤ mid → mid ≤ whole.row_end
+pub IsCut-rows : (whole : Region) (mid : ℕ) → whole.row_start ≤ mid → mid ≤ whole.row_end
     → IsCut whole (record whole { row_end = mid }) (record whole { row_start = mid })
 IsCut-rows whole mid from to = record {
   parts = λ x y h.
@@ -28,7 +28,7 @@ IsCut-rows whole mid from to = record {
 }
 
 -- the columns before `mid`, and those from it on
-IsCut-cols : (whole : Region) (mid : ℕ) → whole.col_start ≤ mid → mid ≤ whole.col_end
+pub IsCut-cols : (whole : Region) (mid : ℕ) → whole.col_start ≤ mid → mid ≤ whole.col_end
     → IsCut whole (record whole { col_end = mid }) (record whole { col_start = mid })
 IsCut-cols whole mid from to = record {
   parts = λ x y h.

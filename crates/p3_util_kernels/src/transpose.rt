@@ -6,11 +6,19 @@ ghost use Rattle.p3_util_kernels.specs.Region.{IsRegionTransposed, LiesInMatrix,
 ghost use Rattle.p3_util_kernels.specs.Transpose.{IsTranspose};
 
 mod regions;
+mod split;
 mod square;
 
 use crate::places::{Cells, SliceCells, SliceSource, Source, Writes};
 use regions::put_region;
+pub use split::{transpose_source_split_on, transpose_split_on};
 pub use square::transpose_square_on;
+
+/// The number of items above which a matrix is split.
+const LARGE_MATRIX: usize = 1_048_576;
+
+/// As many levels as the split of any matrix needs, and more.
+const ENOUGH_LEVELS: u32 = 64;
 
 /// The rows from `row_start` to below `row_end` of a matrix, and of these the columns from `col_start` to below `col_end`.
 #[derive(Clone, Copy, Debug, PartialEq, Eq)]
@@ -32,11 +40,14 @@ pub fn fits_matrix(input_len: usize, output_len: usize, width: usize, height: us
 }
 
 /// Writes to `output` the transpose of `input`, a matrix of `height` rows of `width` items: what stood at
-/// `y * width + x` is put at `x * height + y`. Both lengths are `width` times `height`, which [`fits_matrix`] tells.
+/// `y * width + x` is put at `x * height + y`. Both lengths are `width` times `height`, which [`fits_matrix`] tells. The
+/// transpose of `output` the other way round, with `height` for the width, is `input` again.
+#[tactic(auto, using(crate::proofs::Matrix::transposed_back))]
 pub fn transpose<T: Copy>(input: &[T], output: &mut [T], width: usize, height: usize)
     requires input_fits { length input.now ≡ width * height }
     requires output_fits { length output.old ≡ width * height }
-    ensures { IsTranspose width height input.now output.new }
+    ensures order { IsTranspose width height input.now output.new }
+    ensures inverse { IsTranspose height width output.new input.now }
 {
     let mut cells = SliceCells::new(output);
     transpose_over_fresh_count(input, &mut cells, width, height);
@@ -88,7 +99,11 @@ where
         col_start: 0,
         col_end: width,
     };
-    put_region(input, out, whole, width, height);
+    if out.len() > LARGE_MATRIX {
+        let _ = transpose_source_split_on(input, out, whole, width, height, ENOUGH_LEVELS);
+    } else {
+        put_region(input, out, whole, width, height);
+    }
 }
 
 /// Puts the transpose of `region`, a part of the matrix `input`, into `out`, in one write an item: what stood at
