@@ -3,9 +3,11 @@ use Rattle.std.proofs.Common.{◌≡◌, ℕ, ◌+◌, ◌*◌, ◌<◌, ◌≤�
 use Rattle.std.proofs.lemmas.Bool.{cases_lt}
 use Rattle.std.proofs.lemmas.Nat.{same_from_place}
 use Rattle.p3_util_kernels.specs.declared.transpose.Region.{Region}
-use Rattle.p3_util_kernels.specs.Region.{IsInRegion, IsRegionTransposed}
+use Rattle.p3_util_kernels.specs.Region.{IsInRegion, IsRegionTransposed, rows_of, cols_of, items_of}
+use Rattle.p3_util_kernels.specs.Steps.{counted}
 use Rattle.p3_util_kernels.specs.Transpose.{IsTranspose}
 use Rattle.p3_util_kernels.proofs.Exchange.{slice_get-set_same, slice_get-set_other}
+use Rattle.p3_util_kernels.proofs.Steps.{counted-more}
 
 -- One region is cut into two: each place of it lies in the second, or in the first and not in the second, and neither
 -- part has a place outside it.
@@ -76,6 +78,22 @@ module _ {A : Type 0} (width height : ℕ) (input : List A) where
   IsRegionTransposed-cols region mid old between new from to inside =
       IsRegionTransposed-cut region (record region { col_end = mid }) (record region { col_start = mid }) old between new inside (IsCut-cols region mid from to)
 
+  -- rows up to `mid`, and then those up to `end`
+  pub IsRegionTransposed-more_rows : (region : Region) (mid end : ℕ) (old between new : List A) → region.row_start ≤ mid → mid ≤ end
+      → end ≤ height → IsRegionTransposed (record region { row_end = mid }) width height input old between
+      → IsRegionTransposed (record region { row_start = mid; row_end = end }) width height input between new
+      → IsRegionTransposed (record region { row_end = end }) width height input old new
+  IsRegionTransposed-more_rows region mid end =
+      IsRegionTransposed-rows (record region { row_end = end }) mid
+
+  -- columns up to `mid`, and then those up to `end`
+  pub IsRegionTransposed-more_cols : (region : Region) (mid end : ℕ) (old between new : List A) → region.col_start ≤ mid → mid ≤ end
+      → region.row_end ≤ height → IsRegionTransposed (record region { col_end = mid }) width height input old between
+      → IsRegionTransposed (record region { col_start = mid; col_end = end }) width height input between new
+      → IsRegionTransposed (record region { col_end = end }) width height input old new
+  IsRegionTransposed-more_cols region mid end =
+      IsRegionTransposed-cols (record region { col_end = end }) mid
+
   -- no item
   pub IsRegionTransposed-none : (region : Region) (out : List A) → ((x y : ℕ) → IsInRegion region x y → ⊥)
       → IsRegionTransposed region width height input out out
@@ -109,3 +127,20 @@ module _ {A : Type 0} (width height : ℕ) (input : List A) where
     places = λ x y hx hy.
         s.places x y (record { row_from = omega arith; row_to = omega arith; col_from = omega arith; col_to = omega arith });
   }
+
+-- the count after a region of `rows` by `cols` items more
+pub counted-region : (region : Region) (old now new before rows cols total : ℕ) → now ≡ counted old before → new ≡ counted now (items_of region)
+    → region.row_end ≡ region.row_start + rows → region.col_end ≡ region.col_start + cols → before + rows * cols ≡ total → new ≡ counted old total
+counted-region region old now new before rows cols total first second height width sum =
+    let tall : rows_of region ≡ rows = omega arith in
+    let wide : cols_of region ≡ cols = omega arith in
+    rw (← sum) (counted-more old now new before (rows * cols) first (rw (tall, wide) at second))
+
+-- one more factor
+pub mul-more : (i k n : ℕ) → i * k * n + k * n ≡ (i + 1) * k * n
+mul-more i k n = omega arith
+
+-- the four parts of a product of sums
+pub mul-four : (above below left right rows cols : ℕ) → above + below ≡ rows → left + right ≡ cols
+    → above * left + above * right + below * left + below * right ≡ rows * cols
+mul-four above below left right rows cols e f = rw (← e, ← f) (omega arith)

@@ -3,6 +3,7 @@ pub mod Digits
 pub mod Levels
 pub mod Names
 pub mod Powers
+pub mod Ready
 pub mod Rearranged
 pub mod Region
 pub mod Reversal

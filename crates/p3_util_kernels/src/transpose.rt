@@ -5,9 +5,11 @@ ghost use Rattle.p3_util_kernels.specs.Steps.{counted};
 ghost use Rattle.p3_util_kernels.specs.Region.{IsRegionTransposed, LiesInMatrix, items_of};
 ghost use Rattle.p3_util_kernels.specs.Transpose.{IsTranspose};
 
+mod columns;
 mod regions;
 mod split;
 mod square;
+mod tile;
 
 use crate::places::{Cells, SliceCells, SliceSource, Source, Writes};
 use regions::put_region;

@@ -1,7 +1,7 @@
-use Rattle.std.proofs.Common.{◌≡◌, ◌-◌, ◌*◌}
-use Rattle.p3_util_kernels.specs.Region.{IsRegionTransposed, rows_of}
+use Rattle.std.proofs.Common.{◌≡◌, ◌+◌, ◌-◌, ◌*◌}
+use Rattle.p3_util_kernels.specs.Region.{IsRegionTransposed, rows_of, cols_of, items_of}
 use Rattle.p3_util_kernels.specs.Steps.{counted}
-use Rattle.p3_util_kernels.proofs.transpose.regions.put_columns.Given as goal
+use Rattle.p3_util_kernels.proofs.transpose.columns.put_columns.Given as goal
 
 abbrev pub invariant-loop-x : goal.invariant-loop-x
 invariant-loop-x g l = record {

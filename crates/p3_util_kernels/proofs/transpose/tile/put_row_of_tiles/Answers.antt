@@ -1,0 +1,26 @@
+use Rattle.std.proofs.Common.{◌≡◌, ◌+◌, ◌-◌, ◌*◌, ◌/◌, ◌<◌, length, refl, arith}
+use Rattle.std.proofs.lemmas.Nat.{mul-add-lt}
+use Rattle.p3_util_kernels.specs.Region.{rows_of, cols_of}
+use Rattle.p3_util_kernels.proofs.Region.{IsRegionTransposed-rows, IsRegionTransposed-cols, IsRegionTransposed-more_rows, IsRegionTransposed-more_cols, IsRegionTransposed-put, counted-region, mul-more}
+use Rattle.p3_util_kernels.proofs.transpose.tile.put_row_of_tiles.Goals as goal
+
+pub loop-tile-preserved : goal.loop-tile-preserved
+loop-tile-preserved g c =
+    let r = c.args.region in
+    let mid = r.col_start + c.loop-tile.tile * 16 in
+    let more : r.col_start + (c.loop-tile.tile + 1) * 16 ≡ mid + 16 = omega arith in
+    record {
+      transposed =
+          rw more
+          (IsRegionTransposed-more_cols c.args.width c.args.height _ r mid (mid + 16) _ _ _ (omega arith) (omega arith) (omega arith)
+          c.loop-tile.invariant.transposed c.put_tile.ensures.transposed);
+      count =
+          counted-region (record r { col_start = mid; col_end = mid + 16 }) _ _ _ _ (16) (16) _ c.loop-tile.invariant.count c.put_tile.ensures.count
+          (omega arith) (refl) (omega arith);
+      holder = g.met.C.Cells.same_holder_trans _ _ _ c.loop-tile.invariant.holder c.put_tile.ensures.holder;
+    }
+
+pub returns-clause-transposed : goal.returns-clause-transposed
+returns-clause-transposed g c =
+    let end : c.args.region.col_start + c.loop-tile.tile * 16 ≡ c.args.region.col_end = omega arith in
+    rw end at c.loop-tile.invariant.transposed

@@ -1,0 +1,12 @@
+use Rattle.std.proofs.Common.{◌≡◌, ◌+◌, ◌-◌, ◌*◌}
+use Rattle.p3_util_kernels.specs.Region.{IsRegionTransposed, rows_of, cols_of, items_of}
+use Rattle.p3_util_kernels.specs.Steps.{counted}
+use Rattle.p3_util_kernels.proofs.transpose.tile.put_tiles.Given as goal
+
+abbrev pub invariant-loop-tile : goal.invariant-loop-tile
+invariant-loop-tile g l = record {
+  transposed : IsRegionTransposed (record l.fn.region { row_end = l.fn.region.row_start + l.tile * 16 }) l.width l.height (g.R.Source.items l.input)
+      (g.C.Cells.items l.fn.out.holder) (g.C.Cells.items l.out.holder);
+  count : l.out.count ≡ counted l.fn.out.count (l.tile * 16 * cols_of l.fn.region);
+  holder : g.C.Cells.same_holder l.fn.out.holder l.out.holder;
+}
