@@ -1,5 +1,5 @@
 -- What the strict logarithms ask of a number says that it is a power.
-use Rattle.std.proofs.Common.{◌≡◌, ℕ, zero, suc, Bool, true, ◌==◌, ◌-◌, ◌&&◌, ◌||◌, not, ◌^◌, ◌<◌, ◌≢◌, bit_and, inl, inr, arith}
+use Rattle.std.proofs.Common.{◌≡◌, ℕ, zero, suc, true, ◌==◌, ◌-◌, ◌&&◌, not, ◌^◌, ◌≢◌, bit_and, inl, inr, arith}
 use Rattle.std.proofs.lemmas.Bool.{and_parts, or_cases, eqb-true, eqb-false, not-true, false≢true}
 use Rattle.std.specs.Int.{IsPowerOfTwo, is_power_of_two}
 use Rattle.p3_util_kernels.specs.Powers.{HasLog2, HasLog3, IsPowerOfThree, any_below}

@@ -1,16 +1,13 @@
 -- How many places a run of exchanges or of writes changes, how many numbers are their own reverse, and what follows for
 -- the least number of steps.
-use Rattle.std.proofs.Common.{◌≡◌, ◌≢◌, ℕ, zero, suc, Bool, true, false, not, ◌==◌, ◌&&◌, ◌+◌, ◌-◌, ◌*◌, ◌/◌, ◌%◌, ◌^◌, ◌<◌, ◌≤◌, IsTrue, List, [], ◌∷◌, length, slice_get, slice_set, refl, sym, ◌∙◌, ap, arith, inl, inr}
+use Rattle.std.proofs.Common.{◌≡◌, ◌≢◌, ℕ, zero, suc, Bool, true, false, not, ◌==◌, ◌&&◌, ◌+◌, ◌*◌, ◌/◌, ◌%◌, ◌^◌, ◌<◌, ◌≤◌, IsTrue, List, [], ◌∷◌, length, slice_get, slice_set, refl, sym, ◌∙◌, ap, arith, inl, inr}
 use Rattle.std.specs.List.{swap}
 use Rattle.std.proofs.Math.Nat.{pow-suc, mul-le-mul_right}
-use Rattle.std.proofs.lemmas.Bool.{cases_Bool, cases_eq, eqb-true, eq-eqb, ne_eqb, eqb-false, and_from, and_parts, not_from_false, not-true, both_ways, false_from_ne_true}
-use Rattle.std.proofs.lemmas.Nat.{pow_pos, mod_below, same_from_place, div-add-mod', div-mul-add}
+use Rattle.std.proofs.lemmas.Bool.{cases_Bool, cases_eq, eqb-true, eq-eqb, ne_eqb, eqb-false, and_from, and_parts, not-true, both_ways, false_from_ne_true}
+use Rattle.std.proofs.lemmas.Nat.{same_from_place, div-add-mod', div-mul-add}
 use Rattle.p3_util_kernels.specs.Digits.{bit, rev, sum_below}
-use Rattle.p3_util_kernels.specs.Reversal.{IsReversal}
 use Rattle.p3_util_kernels.proofs.Reversal.{IsReversal-places}
-use Rattle.p3_util_kernels.specs.Runs.{after_swaps, after_puts, count_below, DifferWhere, AllDiffer, SwapsChange, PutsChange, Palindromes, LeastReversal, LeastSquare, LeastPuts}
-use Rattle.p3_util_kernels.specs.SwapCounts.{short_swaps, square_swaps}
-use Rattle.p3_util_kernels.specs.Transpose.{IsTranspose}
+use Rattle.p3_util_kernels.specs.Runs.{after_swaps, after_puts, count_below, DifferWhere, SwapsChange, PutsChange, Palindromes, LeastReversal, LeastSquare, LeastPuts}
 use Rattle.p3_util_kernels.proofs.Digits.{rev-zero, rev-suc, rev-lt, rev-mod, rev-add}
 use Rattle.p3_util_kernels.proofs.Exchange.{slice_get-set_other, slice_get-swap_other}
 use Rattle.p3_util_kernels.proofs.Matrix.{each_place}

@@ -1,5 +1,5 @@
 -- Powers and their exponents. From the documentation of the logarithms of p3-util 0.8.0.
-use Rattle.std.specs.Prelude.{ℕ, zero, suc, Bool, true, false, not, ◌==◌, ◌&&◌, ◌||◌, ◌⊎◌, ◌≡◌, ◌-◌, ◌^◌, IsTrue, bit_and}
+use Rattle.std.specs.Prelude.{ℕ, zero, suc, Bool, false, not, ◌==◌, ◌&&◌, ◌||◌, ◌⊎◌, ◌≡◌, ◌-◌, ◌^◌, IsTrue, bit_and}
 use Rattle.std.specs.Int.{IsPowerOfTwo, is_power_of_two}
 
 -- n is 3 to some power

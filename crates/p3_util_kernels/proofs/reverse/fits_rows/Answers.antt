@@ -1,5 +1,4 @@
-use Rattle.std.proofs.Common.{◌↔◌, IsTrue, eq-eqb, eqb-true}
-use Rattle.p3_util_kernels.specs.Reversal.{FitsRows}
+use Rattle.std.proofs.Common.{eqb-true}
 use Rattle.p3_util_kernels.proofs.Lengths.{FitsRows-one, FitsRows-quotient, FitsRows-whole}
 use Rattle.p3_util_kernels.proofs.reverse.fits_rows.Goals as goal
 

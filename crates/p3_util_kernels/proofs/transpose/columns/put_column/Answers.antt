@@ -1,7 +1,5 @@
-use Rattle.std.proofs.Common.{◌≡◌, ◌+◌, ◌-◌, ◌*◌, ◌/◌, ◌<◌, length, refl, arith}
-use Rattle.std.proofs.lemmas.Nat.{mul-add-lt}
-use Rattle.p3_util_kernels.specs.Region.{rows_of, cols_of}
-use Rattle.p3_util_kernels.proofs.Region.{IsRegionTransposed-rows, IsRegionTransposed-cols, IsRegionTransposed-more_rows, IsRegionTransposed-more_cols, IsRegionTransposed-put, counted-region, mul-more}
+use Rattle.std.proofs.Common.{◌≡◌, ◌+◌, ◌-◌, ◌*◌, ◌/◌, refl, arith}
+use Rattle.p3_util_kernels.proofs.Region.{IsRegionTransposed-rows, IsRegionTransposed-more_rows, counted-region}
 use Rattle.p3_util_kernels.proofs.transpose.columns.put_column.Goals as goal
 
 pub loop-quarter-preserved : goal.loop-quarter-preserved

@@ -1,4 +1,4 @@
-use Rattle.std.proofs.Common.{◌≡◌, ◌-◌, ◌%◌, arith}
+use Rattle.std.proofs.Common.{◌-◌, ◌%◌, arith}
 use Rattle.p3_util_kernels.specs.Region.{rows_of, cols_of}
 use Rattle.p3_util_kernels.proofs.Region.{IsRegionTransposed-rows, IsRegionTransposed-cols, mul-four}
 use Rattle.p3_util_kernels.proofs.Steps.{counted-more}

@@ -1,5 +1,5 @@
-use Rattle.std.proofs.Common.{◌≡◌, ◌+◌, ◌-◌, ◌*◌}
-use Rattle.p3_util_kernels.specs.Region.{IsRegionTransposed, rows_of, cols_of, items_of}
+use Rattle.std.proofs.Common.{◌≡◌, ◌+◌, ◌*◌}
+use Rattle.p3_util_kernels.specs.Region.{IsRegionTransposed}
 use Rattle.p3_util_kernels.specs.Steps.{counted}
 use Rattle.p3_util_kernels.proofs.transpose.tile.put_row_of_blocks.Given as goal
 
