@@ -1,12 +1,12 @@
 -- Lengths that are zero or a power of two, and lengths of rows.
-use Rattle.std.proofs.Common.{◌≡◌, ℕ, zero, suc, ◌+◌, ◌-◌, ◌*◌, ◌/◌, ◌%◌, ◌^◌, ◌<◌, ◌↔◌, IsTrue, ◌==◌, bit_and, inl, inr, ap, ◌∙◌, arith, eqb-true}
+use Rattle.std.proofs.Common.{◌≡◌, ℕ, zero, suc, ◌+◌, ◌-◌, ◌*◌, ◌/◌, ◌%◌, ◌^◌, ◌<◌, ◌↔◌, IsTrue, ◌==◌, bit_and, inl, inr, sym, ap, ◌∙◌, arith, eqb-true}
 use Rattle.std.specs.Int.{is_power_of_two}
 use Rattle.std.specs.Int.Bits.{and_self}
-use Rattle.std.proofs.Math.Nat.{pow-suc}
+use Rattle.std.proofs.Math.Nat.{mul-div_cancel_left, pow-suc}
 use Rattle.std.proofs.lemmas.Bool.{cases_eq, or_cases}
 use Rattle.std.proofs.lemmas.Nat.{and_block, div-add-mod', div-mul-add, mod-mul-add}
 use Rattle.p3_util_kernels.specs.Reversal.{IsZeroOrPowerOfTwo, IsReversible, FitsRows}
-use Rattle.p3_util_kernels.proofs.Powers.{power_of_two_test}
+use Rattle.p3_util_kernels.proofs.Powers.{exponent-same, power_of_two_test}
 
 -- twice a number that is zero or a power of two is one too
 doubled : (m n : ℕ) → n ≡ m * 2 → IsZeroOrPowerOfTwo m → IsZeroOrPowerOfTwo n
@@ -74,3 +74,27 @@ FitsRows-quotient len row_width some wide whole =
             | inr power ↦ rw same ((power_of_two_test rows).1 power)
           ],
     )
+
+-- as many rows, as a power of two
+pub rows-same : (row_width j k : ℕ) → 0 < row_width → row_width * 2 ^ j ≡ row_width * 2 ^ k → j ≡ k
+rows-same row_width j k wide e =
+    exponent-same j k (sym (mul-div_cancel_left (2 ^ j) wide) ∙ ap (λ n. n / row_width) e ∙ mul-div_cancel_left (2 ^ k) wide)
+
+-- rows of a list that is not empty
+pub record IsPowerOfRows (len row_width : ℕ) : Type 0 where
+  pub wide : 0 < row_width
+  pub exponent : ℕ
+  pub rows : len / row_width ≡ 2 ^ exponent
+  pub whole : len ≡ row_width * 2 ^ exponent
+
+pub IsPowerOfRows-from : (len row_width : ℕ) → (len ≡ 0 → ⊥) → FitsRows len row_width → IsPowerOfRows len row_width
+IsPowerOfRows-from len row_width some (rows, inl none, e) = absurd (some (e ∙ ap (λ n. row_width * n) none ∙ omega arith))
+IsPowerOfRows-from len row_width some (rows, inr (k, is), e) =
+    let wide : 0 < row_width = elim (cases_eq row_width 0) [ inl none ↦ absurd (some (e ∙ ap (λ w. w * rows) none ∙ omega arith)) | inr ne ↦ omega arith ] in
+    let whole : len ≡ row_width * 2 ^ k = e ∙ ap (λ n. row_width * n) is in
+    record {
+      wide = wide;
+      exponent = k;
+      rows = ap (λ n. n / row_width) whole ∙ mul-div_cancel_left (2 ^ k) wide;
+      whole = whole;
+    }

@@ -4,23 +4,10 @@ use Rattle.p3_util_kernels.specs.Digits.{rev}
 use Rattle.p3_util_kernels.specs.Rearranged.{IsRearranged}
 use Rattle.p3_util_kernels.specs.Reversal.{FitsRows, IsReversal, IsRowReversal, IsZeroOrPowerOfTwo}
 use Rattle.p3_util_kernels.proofs.Digits.{rev-lt, rev-rev-below}
-use Rattle.p3_util_kernels.proofs.Halfway.{IsInvolution}
 use Rattle.p3_util_kernels.proofs.Lengths.{FitsRows-one}
 use Rattle.p3_util_kernels.proofs.Matrix.{each_place}
 use Rattle.p3_util_kernels.proofs.Powers.{exponent-same}
 use Rattle.p3_util_kernels.proofs.SameList.{same_places}
-
--- a power of two above 1 has a positive exponent
-pub exponent-positive : (n k : ℕ) → n ≡ 2 ^ k → 2 ≤ n → 1 ≤ k
-exponent-positive n zero e h = omega arith
-exponent-positive n (suc k) e h = omega arith
-
--- reversing k digits is its own inverse on the numbers below 2 ^ k
-pub IsInvolution-rev : (n k : ℕ) → n ≡ 2 ^ k → IsInvolution n (rev k)
-IsInvolution-rev n k e = record {
-  below = λ p h. rw e (rev-lt k p);
-  twice = λ p h. rev-rev-below k p (rw e at h);
-}
 
 -- reversal of items, place by place
 pub IsReversal-places : {A : Type 0} (old new : List A) → IsReversal old new → (k i : ℕ) → length old ≡ 2 ^ k → i < 2 ^ k → slice_get new i ≡ slice_get old (rev k i)
@@ -45,14 +32,6 @@ IsReversal-from_rearranged k old new e at =
     (λ j i ej h.
     let same : j ≡ k = exponent-same j k (sym ej ∙ e) in
     at.places i (omega arith) ∙ ap (λ b. slice_get old (rev b i)) (sym same))
-
--- a list of at most one item is its own reversal
-pub IsReversal-short : {A : Type 0} (old : List A) → length old < 2 → IsReversal old old
-IsReversal-short old h =
-    IsReversal-from_places old old refl
-    (λ k i e less.
-    let below : rev k i < 2 ^ k = rev-lt k i in
-    ap (slice_get old) (omega arith))
 
 -- the reversal of the reversal is the list
 pub IsRowReversal-inverse : {A : Type 0} (row_width : ℕ) (old new : List A) → IsRowReversal row_width old new → IsRowReversal row_width new old

@@ -3,6 +3,7 @@ use Rattle.std.proofs.Common.{◌≡◌, ℕ, zero, suc, ◌+◌, ◌^◌, ◌<�
 use Rattle.std.proofs.lemmas.Bool.{cases_lt, and_parts}
 use Rattle.std.proofs.Math.Nat.{pow-le-pow_right}
 use Rattle.p3_util_kernels.specs.Digits.{rev, sum_below}
+use Rattle.p3_util_kernels.specs.declared.reverse.rows.TheConstants.{REVERSED_SIX}
 use Rattle.p3_util_kernels.specs.declared.bits.TheConstants.{REVERSED_BYTES, POWERS_OF_THREE, EXPONENTS_OF_THREE}
 use Rattle.p3_util_kernels.proofs.Powers.{three-fits, three-greatest}
 
@@ -65,3 +66,11 @@ exponent_bound top h =
     let within : top + 1 ≤ 64 = omega arith in
     let word : 2 ^ (top + 1) ≤ 2 ^ 64 = pow-le-pow_right (omega arith) within in
     (three-fits (get_or EXPONENTS_OF_THREE top 0)).0 (omega arith)
+
+six_pass : all_below (λ x. get_or REVERSED_SIX x 0 == rev 6 x) 64 ≡ true
+unfolding all_below rev sum_below
+six_pass = refl
+
+-- each entry is the number with its 6 digits reversed
+pub reversed_six : (x : ℕ) → x < 64 → get_or REVERSED_SIX x 0 ≡ rev 6 x
+reversed_six x h = eqb-true _ _ (all_below-at (λ x. get_or REVERSED_SIX x 0 == rev 6 x) 64 x six_pass h)

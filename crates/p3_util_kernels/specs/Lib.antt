@@ -1,5 +1,7 @@
+pub mod Crossing
 pub mod Diagonal
 pub mod Digits
+pub mod Exchanged
 pub mod Levels
 pub mod Names
 pub mod Powers

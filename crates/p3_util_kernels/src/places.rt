@@ -8,6 +8,7 @@
 //! - A *source* is a list that is only read ([`Source`]).
 
 ghost use Rattle.std.specs.Prelude.{◌≡◌, ℕ, ◌+◌, ◌*◌, ◌<◌, ◌≤◌, List, Some, length, swap, slice_get, slice_set};
+ghost use Rattle.p3_util_kernels.specs.Exchanged.{RunsExchanged};
 ghost use Rattle.p3_util_kernels.specs.Strided.{swap_strided};
 
 mod counters;
@@ -37,6 +38,21 @@ pub trait Places {
         requires second { j < length (items self.old) }
         ensures exchanged { items self.new ≡ swap (items self.old) i j }
         ensures holder { same_holder self.old self.new };
+
+    /// Exchanges the `len` items from place `i` on with the `len` items from place `j` on, in order. The first run ends
+    /// before the second begins. A holder may do so in a faster way than by its `exchange`.
+    fn exchange_runs(&mut self, i: usize, j: usize, len: usize)
+        requires apart { i + len ≤ j }
+        requires within { j + len ≤ length (items self.old) }
+        ensures exchanged { RunsExchanged i j len (items self.old) (items self.new) }
+        ensures holder { same_holder self.old self.new }
+    {
+        // Tells that the length is a usize.
+        let _ = self.len();
+        for t in 0..len {
+            self.exchange(i + t, j + t);
+        }
+    }
 
     /// Exchanges the items at places `i + t * stride` and `j + t`, for each `t` below `len` in turn. A holder may do so in a
     /// faster way than by its `exchange`.

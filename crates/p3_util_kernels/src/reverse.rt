@@ -1,10 +1,14 @@
 //! Bit reversal of lists: each item goes to the place whose index has the same binary digits in reversed order.
 
-ghost use Rattle.std.specs.Prelude.{◌≡◌, ℕ, ◌*◌, ◌/◌, ◌↔◌, ◌≤◌, IsTrue, length};
-ghost use Rattle.p3_util_kernels.specs.Reversal.{FitsRows, IsReversal, IsReversible, IsZeroOrPowerOfTwo};
-ghost use Rattle.p3_util_kernels.specs.Steps.{RoseByAtMost};
+ghost use Rattle.std.specs.Prelude.{◌≡◌, ℕ, ◌*◌, ◌/◌, ◌^◌, ◌↔◌, ◌≤◌, IsTrue, length};
+ghost use Rattle.p3_util_kernels.specs.Reversal.{FitsRows, IsReversal, IsReversible, IsRowReversal, IsZeroOrPowerOfTwo};
+ghost use Rattle.p3_util_kernels.specs.Steps.{RoseByAtMost, counted};
+ghost use Rattle.p3_util_kernels.specs.SwapCounts.{short_swaps};
 
-use crate::bits::{log2_strict_usize, reverse_bits_len};
+mod rows;
+
+pub use rows::reverse_row_index_bits_on;
+
 use crate::places::{Places, SlicePlaces, Swaps};
 
 /// Whether `len` items are rows of `row_width` whose number is zero or a power of two. Of rows of one item this is
@@ -47,6 +51,34 @@ pub fn reverse_counted<S: Places>(places: &mut S) -> u128
     count
 }
 
+/// Reverses the order of the rows of `vals`, of `row_width` items each, by index bits: with 2^k rows, row `r` becomes the
+/// row whose index has the k bits of `r` in reversed order. The number of rows is zero or a power of two, which
+/// [`fits_rows`] tests. The same call restores the order. No item is cloned or dropped.
+pub fn reverse_slice_row_index_bits<F>(vals: &mut [F], row_width: usize)
+    requires { FitsRows (length vals.old) row_width }
+    ensures order { IsRowReversal row_width vals.old vals.new }
+    ensures inverse { IsRowReversal row_width vals.new vals.old }
+{
+    let mut places = SlicePlaces::new(vals);
+    reverse_rows_counted(&mut places, row_width);
+}
+
+/// Reverses the rows of `places` by index bits, as [`reverse_row_index_bits_on`] does over a fresh counter, and returns the
+/// number of exchanges.
+pub fn reverse_rows_counted<S: Places>(places: &mut S, row_width: usize) -> u128
+    requires { FitsRows (length (S.items places.old)) row_width }
+    ensures order { IsRowReversal row_width (S.items places.old) (S.items places.new) }
+    ensures inverse { IsRowReversal row_width (S.items places.new) (S.items places.old) }
+    ensures count { result ≤ length (S.items places.old) / 2 }
+    ensures holder { S.same_holder places.old places.new }
+{
+    let mut swaps = Swaps::new(places);
+    reverse_row_index_bits_on(&mut swaps, row_width);
+    let count = swaps.swaps();
+    let _ = swaps.into_inner();
+    count
+}
+
 /// Reverses `m` by index bits, as [`reverse_slice_index_bits`] does, in at most 3n/2 swaps at length n.
 /// The length is zero or a power of two.
 pub fn reverse_index_bits_on<S: Places>(m: &mut Swaps<S>)
@@ -63,18 +95,11 @@ pub fn reverse_index_bits_on<S: Places>(m: &mut Swaps<S>)
 pub fn reverse_index_bits_short<S: Places>(m: &mut Swaps<S>)
     requires { IsReversible (length (S.items m.old.holder)) }
     ensures order { IsReversal (S.items m.old.holder) (S.items m.new.holder) }
-    ensures count { RoseByAtMost m.old.count m.new.count (3 * length (S.items m.old.holder) / 2) }
+    ensures count { RoseByAtMost m.old.count m.new.count (length (S.items m.old.holder) / 2) }
+    ensures exact { (k : ℕ) → length (S.items m.old.holder) ≡ 2 ^ k
+        → m.new.count ≡ counted m.old.count (short_swaps k) }
+    ensures empty { length (S.items m.old.holder) ≡ 0 → m.new.count ≡ m.old.count }
     ensures holder { S.same_holder m.old.holder m.new.holder }
 {
-    let len = m.len();
-    if len < 2 {
-        return;
-    }
-    let bits = log2_strict_usize(len);
-    for i in 0..len {
-        let j = reverse_bits_len(i, bits);
-        if i < j {
-            m.swap(i, j);
-        }
-    }
+    reverse_row_index_bits_on(m, 1);
 }

@@ -1,6 +1,7 @@
 //! Counters over holders, which see each exchange and each write.
 
 ghost use Rattle.std.specs.Prelude.{◌≡◌, ℕ, ◌+◌, ◌*◌, ◌^◌, ◌<◌, ◌≤◌, length, swap, slice_set};
+ghost use Rattle.p3_util_kernels.specs.Exchanged.{RunsExchanged};
 ghost use Rattle.p3_util_kernels.specs.Steps.{Counted, counted};
 ghost use Rattle.p3_util_kernels.specs.Strided.{swap_strided};
 
@@ -49,6 +50,19 @@ impl<S: Places> Swaps<S> {
     {
         self.places.exchange(i, j);
         self.swaps = self.swaps.saturating_add(1);
+    }
+
+    /// Exchanges the `len` items from place `i` on with those from place `j` on, by one exchange of runs, and counts `len`.
+    /// The first run ends before the second begins.
+    pub fn swap_runs(&mut self, i: usize, j: usize, len: usize)
+        requires apart { i + len ≤ j }
+        requires within { j + len ≤ length (S.items self.old.holder) }
+        ensures exchanged { RunsExchanged i j len (S.items self.old.holder) (S.items self.new.holder) }
+        ensures count { self.new.count ≡ counted self.old.count len }
+        ensures holder { S.same_holder self.old.holder self.new.holder }
+    {
+        self.places.exchange_runs(i, j, len);
+        self.swaps = self.swaps.saturating_add(len as u128);
     }
 
     /// Exchanges the items at places `i + t * stride` and `j + t`, for each `t` below `len` in turn, and counts `len`.

@@ -2,6 +2,7 @@
 
 ghost use Rattle.std.specs.Prelude.{◌≡◌, ℕ, ◌+◌, ◌*◌, ◌<◌, ◌≤◌, length};
 ghost use Rattle.std.proofs.Common.{refl, ◌∙◌};
+ghost use Rattle.p3_util_kernels.specs.Exchanged.{RunsExchanged};
 ghost use Rattle.p3_util_kernels.specs.Strided.{swap_strided};
 
 use crate::places::{Cells, Places, Source};
@@ -20,6 +21,10 @@ impl<S: Places> Places for &mut S {
 
     fn exchange(&mut self, i: usize, j: usize) {
         S::exchange(self, i, j);
+    }
+
+    fn exchange_runs(&mut self, i: usize, j: usize, len: usize) {
+        S::exchange_runs(self, i, j, len);
     }
 
     fn exchange_strided(&mut self, i: usize, j: usize, stride: usize, len: usize) {
@@ -82,6 +87,10 @@ impl<'a, F> Places for SlicePlaces<'a, F> {
         self.items.swap(i, j);
     }
 
+    fn exchange_runs(&mut self, i: usize, j: usize, len: usize) {
+        swap_runs(self.items, i, j, len);
+    }
+
     fn exchange_strided(&mut self, i: usize, j: usize, stride: usize, len: usize) {
         swap_strided(self.items, i, j, stride, len);
     }
@@ -89,6 +98,16 @@ impl<'a, F> Places for SlicePlaces<'a, F> {
     ghost same_holder_refl = { λ a. refl };
 
     ghost same_holder_trans = { λ a b c p q. p ∙ q };
+}
+
+/// Exchanges the `len` items of `items` from place `i` on with those from place `j` on.
+fn swap_runs<F>(items: &mut [F], i: usize, j: usize, len: usize)
+    requires apart { i + len ≤ j }
+    requires within { j + len ≤ length items.old }
+    ensures { RunsExchanged i j len items.old items.new }
+{
+    let (front, back) = items.split_at_mut(j);
+    front[i..i + len].swap_with_slice(&mut back[..len]);
 }
 
 /// Exchanges the items at places `i + t * stride` and `j + t` of `items`, for each `t` below `len` in turn.

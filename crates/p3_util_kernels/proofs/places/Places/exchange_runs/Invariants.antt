@@ -1,0 +1,8 @@
+use Rattle.p3_util_kernels.specs.Exchanged.{RunsExchanged}
+use Rattle.p3_util_kernels.proofs.places.Places.exchange_runs.Given as goal
+
+abbrev pub invariant-loop-t : goal.invariant-loop-t
+invariant-loop-t g l = record {
+  exchanged : RunsExchanged l.i l.j l.t (g.Self.Places.items l.fn.self) (g.Self.Places.items l.self);
+  holder : g.Self.Places.same_holder l.fn.self l.self;
+}

@@ -1,0 +1,11 @@
+use Rattle.std.proofs.Common.{◌≡◌}
+use Rattle.p3_util_kernels.specs.Exchanged.{RunsExchanged}
+use Rattle.p3_util_kernels.specs.Steps.{counted}
+use Rattle.p3_util_kernels.proofs.reverse.rows.exchange_rows.Given as goal
+
+abbrev pub invariant-loop-t : goal.invariant-loop-t
+invariant-loop-t g l = record {
+  exchanged : RunsExchanged l.i l.j l.t (g.S.Places.items l.initial.m.holder) (g.S.Places.items l.m.holder);
+  count : l.m.count ≡ counted l.initial.m.count l.t;
+  holder : g.S.Places.same_holder l.initial.m.holder l.m.holder;
+}

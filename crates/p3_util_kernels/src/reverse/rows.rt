@@ -1,0 +1,124 @@
+//! Bit reversal of rows, by exchanging each two rows that belong to each other.
+//!
+//! With 2^k rows the index of a row has three parts: the `half = k / 2` high digits `a`, one digit in the middle where k
+//! is odd, and `half` low digits `y`. Its reverse has the reverse of `y`, the same middle digit and the reverse of `a`. So
+//! the rows to be exchanged are, for each middle digit and all `a` below `b`, the row of `a` and the reverse of `b`, and the
+//! row of `b` and the reverse of `a`.
+
+ghost use Rattle.std.specs.Prelude.{◌≡◌, ℕ, ◌+◌, ◌*◌, ◌/◌, ◌%◌, ◌^◌, ◌<◌, ◌≤◌, length};
+ghost use Rattle.p3_util_kernels.specs.Crossing.{IsCrossed};
+ghost use Rattle.p3_util_kernels.specs.Digits.{rev};
+ghost use Rattle.p3_util_kernels.specs.Exchanged.{RunsExchanged};
+ghost use Rattle.p3_util_kernels.specs.Reversal.{FitsRows, IsRowReversal};
+ghost use Rattle.p3_util_kernels.specs.Steps.{RoseByAtMost, counted};
+ghost use Rattle.p3_util_kernels.specs.SwapCounts.{short_swaps};
+
+use crate::bits::{log2_strict_usize, reverse_bits_len};
+use crate::places::{Places, Swaps};
+
+/// Each number below 64 with its six binary digits in reversed order.
+static REVERSED_SIX: [u8; 64] = [
+    0, 32, 16, 48, 8, 40, 24, 56, 4, 36, 20, 52, 12, 44, 28, 60, 2, 34, 18, 50, 10, 42, 26, 58, 6,
+    38, 22, 54, 14, 46, 30, 62, 1, 33, 17, 49, 9, 41, 25, 57, 5, 37, 21, 53, 13, 45, 29, 61, 3, 35,
+    19, 51, 11, 43, 27, 59, 7, 39, 23, 55, 15, 47, 31, 63,
+];
+
+/// The number of items from which on two rows are exchanged as runs.
+const WIDE_ROW: usize = 8;
+
+/// Reverses the rows of `m`, of `row_width` items each, by index bits: with 2^k rows, row `r` becomes the row whose index
+/// has the k bits of `r` in reversed order. The number of rows is zero or a power of two, which [`fits_rows`] tests.
+///
+/// [`fits_rows`]: crate::reverse::fits_rows
+pub fn reverse_row_index_bits_on<S: Places>(m: &mut Swaps<S>, row_width: usize)
+    requires { FitsRows (length (S.items m.old.holder)) row_width }
+    ensures order { IsRowReversal row_width (S.items m.old.holder) (S.items m.new.holder) }
+    ensures count { RoseByAtMost m.old.count m.new.count (length (S.items m.old.holder) / 2) }
+    ensures exact { (k : ℕ) → length (S.items m.old.holder) ≡ row_width * 2 ^ k
+        → m.new.count ≡ counted m.old.count (row_width * short_swaps k) }
+    ensures empty { length (S.items m.old.holder) ≡ 0 → m.new.count ≡ m.old.count }
+    ensures holder { S.same_holder m.old.holder m.new.holder }
+{
+    let len = m.len();
+    if len == 0 {
+        return;
+    }
+    let digits = log2_strict_usize(len / row_width);
+    let half = digits / 2;
+    let middle = digits % 2;
+    let side = power_of_two(half);
+    let lines = power_of_two(middle + half);
+    for line in 0..lines {
+        exchange_line(m, row_width, half, middle, line / side, line % side);
+    }
+}
+
+/// Exchanges the pairs of rows of one middle digit and one `b`, with each `a` below it.
+fn exchange_line<S: Places>(
+    m: &mut Swaps<S>,
+    row_width: usize,
+    half: usize,
+    middle: usize,
+    digit: usize,
+    b: usize,
+)
+    requires wide { 0 < row_width }
+    requires digit { digit < 2 ^ middle }
+    requires b { b < 2 ^ half }
+    requires rows { length (S.items m.old.holder) ≡ row_width * 2 ^ (half + (middle + half)) }
+    requires length_fits { length (S.items m.old.holder) < 2 ^ 64 }
+    requires count_fits { m.old.count < 2 ^ 128 }
+    ensures crossed { let line = digit * 2 ^ half + b in
+        IsCrossed half middle row_width (line * 2 ^ half) ((line + 1) * 2 ^ half)
+        (S.items m.old.holder) (S.items m.new.holder) }
+    ensures count { m.new.count ≡ counted m.old.count (row_width * b) }
+    ensures holder { S.same_holder m.old.holder m.new.holder }
+{
+    let stride = power_of_two(middle + half);
+    let offset = digit * power_of_two(half);
+    let reversed = reverse_digits(b, half);
+    for a in 0..b {
+        let i = a * stride + (offset + reversed);
+        let j = b * stride + (offset + reverse_digits(a, half));
+        exchange_rows(m, i * row_width, j * row_width, row_width);
+    }
+}
+
+/// Exchanges the `row_width` items from place `i` on with those from place `j` on, one by one where they are few.
+fn exchange_rows<S: Places>(m: &mut Swaps<S>, i: usize, j: usize, row_width: usize)
+    requires apart { i + row_width ≤ j }
+    requires within { j + row_width ≤ length (S.items m.old.holder) }
+    requires length_fits { length (S.items m.old.holder) < 2 ^ 64 }
+    requires count_fits { m.old.count < 2 ^ 128 }
+    ensures exchanged { RunsExchanged i j row_width (S.items m.old.holder) (S.items m.new.holder) }
+    ensures count { m.new.count ≡ counted m.old.count row_width }
+    ensures holder { S.same_holder m.old.holder m.new.holder }
+{
+    if row_width < WIDE_ROW {
+        for t in 0..row_width {
+            m.swap(i + t, j + t);
+        }
+    } else {
+        m.swap_runs(i, j, row_width);
+    }
+}
+
+/// `x` with its binary digits, of which it has `digits` at most, in reversed order.
+fn reverse_digits(x: usize, digits: usize) -> usize
+    requires few { digits < 64 }
+    requires below { x < 2 ^ digits }
+    ensures { result ≡ rev digits x }
+{
+    if digits <= 6 {
+        usize::from(REVERSED_SIX[x]) >> (6 - digits)
+    } else {
+        reverse_bits_len(x, digits)
+    }
+}
+
+fn power_of_two(exponent: usize) -> usize
+    requires { exponent < 64 }
+    ensures { result ≡ 2 ^ exponent }
+{
+    1 << exponent
+}
