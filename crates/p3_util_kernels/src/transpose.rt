@@ -5,6 +5,7 @@ ghost use Rattle.p3_util_kernels.specs.Steps.{counted};
 ghost use Rattle.p3_util_kernels.specs.Region.{IsRegionTransposed, LiesInMatrix, items_of};
 ghost use Rattle.p3_util_kernels.specs.Transpose.{IsTranspose};
 
+mod butterfly;
 mod columns;
 mod regions;
 mod split;
@@ -12,6 +13,7 @@ mod square;
 mod tile;
 
 use crate::places::{Cells, SliceCells, SliceSource, Source, Writes};
+pub use butterfly::{butterfly_4x4, butterfly_stage1, butterfly_stage2};
 use regions::put_region;
 pub use split::{transpose_source_split_on, transpose_split_on};
 pub use square::transpose_square_on;
