@@ -32,18 +32,25 @@ static bool is_item(const unsigned char *at, size_t size, size_t i) {
 }
 
 typedef bool reverse_call(void *, size_t);
+typedef bool reverse_rows_call(void *, size_t, size_t);
 typedef bool transpose_call(const void *, size_t, void *, size_t, size_t, size_t);
 
-static int check(size_t size, reverse_call *reverse, transpose_call *transpose) {
+static int check(size_t size, reverse_call *reverse, reverse_rows_call *reverse_rows, transpose_call *transpose) {
     unsigned char room[1 + ITEMS * LARGEST], other[1 + ITEMS * LARGEST] = {0};
     unsigned char *list = items(room, size), *output = other + 1;
     CHECK(!reverse(list, 7) && !reverse(list, 12));
+    CHECK(!reverse_rows(list, 12, 5) && !reverse_rows(list, 12, 4) && !reverse_rows(list, 12, 0));
     for (size_t i = 0; i < ITEMS; i++) {
         CHECK(is_item(list + i * size, size, i));
     }
     CHECK(reverse(list, 8));
     for (size_t i = 0; i < ITEMS; i++) {
         CHECK(is_item(list + i * size, size, i < 8 ? REVERSED[i] : i));
+    }
+    items(room, size);
+    CHECK(reverse_rows(list, 24, 3));
+    for (size_t i = 0; i < ITEMS; i++) {
+        CHECK(is_item(list + i * size, size, i < 24 ? REVERSED[i / 3] * 3u + i % 3 : i));
     }
     items(room, size);
     CHECK(!transpose(list, ITEMS - 1, output, ITEMS, COLUMNS, ROWS));
@@ -56,7 +63,7 @@ static int check(size_t size, reverse_call *reverse, transpose_call *transpose) 
     for (size_t i = 0; i < ITEMS; i++) {
         CHECK(is_item(output + i * size, size, i % ROWS * COLUMNS + i / ROWS));
     }
-    CHECK(reverse(NULL, 0) && transpose(NULL, 0, NULL, 0, 0, 5));
+    CHECK(reverse(NULL, 0) && reverse_rows(NULL, 0, 7) && transpose(NULL, 0, NULL, 0, 0, 5));
     return 0;
 }
 
@@ -73,10 +80,10 @@ static int check_bits(void) {
 
 int main(void) {
     int status = check_bits();
-    status = status ? status : check(1, p3_util_reverse_1, p3_util_transpose_1);
-    status = status ? status : check(2, p3_util_reverse_2, p3_util_transpose_2);
-    status = status ? status : check(4, p3_util_reverse_4, p3_util_transpose_4);
-    status = status ? status : check(8, p3_util_reverse_8, p3_util_transpose_8);
-    status = status ? status : check(16, p3_util_reverse_16, p3_util_transpose_16);
-    return status ? status : check(32, p3_util_reverse_32, p3_util_transpose_32);
+    status = status ? status : check(1, p3_util_reverse_1, p3_util_reverse_rows_1, p3_util_transpose_1);
+    status = status ? status : check(2, p3_util_reverse_2, p3_util_reverse_rows_2, p3_util_transpose_2);
+    status = status ? status : check(4, p3_util_reverse_4, p3_util_reverse_rows_4, p3_util_transpose_4);
+    status = status ? status : check(8, p3_util_reverse_8, p3_util_reverse_rows_8, p3_util_transpose_8);
+    status = status ? status : check(16, p3_util_reverse_16, p3_util_reverse_rows_16, p3_util_transpose_16);
+    return status ? status : check(32, p3_util_reverse_32, p3_util_reverse_rows_32, p3_util_transpose_32);
 }

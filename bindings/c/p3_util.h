@@ -37,6 +37,18 @@ bool p3_util_reverse_16(void *vals, size_t len);
 bool p3_util_reverse_32(void *vals, size_t len);
 
 /*
+ * Reverses the order of rows of row_width items by index bits, each row as one item, where len, the number of items, is
+ * row_width times zero or a power of two. Items of another size are rows of smaller ones: 12 bytes are a row of three
+ * items of 4.
+ */
+bool p3_util_reverse_rows_1(void *vals, size_t len, size_t row_width);
+bool p3_util_reverse_rows_2(void *vals, size_t len, size_t row_width);
+bool p3_util_reverse_rows_4(void *vals, size_t len, size_t row_width);
+bool p3_util_reverse_rows_8(void *vals, size_t len, size_t row_width);
+bool p3_util_reverse_rows_16(void *vals, size_t len, size_t row_width);
+bool p3_util_reverse_rows_32(void *vals, size_t len, size_t row_width);
+
+/*
  * Writes to output the transpose of input, a matrix of height rows of width items, row after row: item y * width + x of
  * the input becomes item x * height + y of the output. Both lengths are width times height, as a product that does not
  * wrap.

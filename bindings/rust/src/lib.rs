@@ -20,11 +20,8 @@ compile_error!("the static library is built for x86-64 alone");
 /// Reverses the order of `vals` by index bits: with 2^k items, place `i` gets the item from the place whose index has
 /// the k bits of `i` in reversed order. No item is cloned or dropped.
 ///
-/// Items have 0, 1, 2, 4, 8, 16 or 32 bytes. A call with others is not compiled:
-///
-/// ```compile_fail,E0080
-/// p3_util_proved::reverse_slice_index_bits(&mut [[0u8; 3]; 4]);
-/// ```
+/// Items have any size. Those of 1, 2, 4, 8, 16 and 32 bytes are moved by calls of their own, and others as rows of
+/// smaller ones.
 ///
 /// # Panics
 ///

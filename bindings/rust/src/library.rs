@@ -4,6 +4,8 @@ use core::ffi::c_void;
 
 type Reverse = unsafe extern "C" fn(vals: *mut c_void, len: usize) -> bool;
 
+type ReverseRows = unsafe extern "C" fn(vals: *mut c_void, len: usize, row_width: usize) -> bool;
+
 type Transpose = unsafe extern "C" fn(
     input: *const c_void,
     input_len: usize,
@@ -15,12 +17,13 @@ type Transpose = unsafe extern "C" fn(
 
 /// Declares calls of the library. The number at the end of a name is the size of an item in bytes.
 macro_rules! declare {
-    ($($reverse:ident $transpose:ident)*) => {
+    ($($reverse:ident $reverse_rows:ident $transpose:ident)*) => {
         // It is proved of each call that it touches its lists alone, that it moves whole items, and that it returns
         // false, with nothing changed, where its condition does not hold. A list may begin at any address.
         unsafe extern "C" {
             $(
                 fn $reverse(vals: *mut c_void, len: usize) -> bool;
+                fn $reverse_rows(vals: *mut c_void, len: usize, row_width: usize) -> bool;
                 fn $transpose(
                     input: *const c_void,
                     input_len: usize,
@@ -44,23 +47,42 @@ unsafe extern "C" {
 }
 
 declare! {
-    p3_util_reverse_1 p3_util_transpose_1
-    p3_util_reverse_2 p3_util_transpose_2
-    p3_util_reverse_4 p3_util_transpose_4
-    p3_util_reverse_8 p3_util_transpose_8
-    p3_util_reverse_16 p3_util_transpose_16
-    p3_util_reverse_32 p3_util_transpose_32
+    p3_util_reverse_1 p3_util_reverse_rows_1 p3_util_transpose_1
+    p3_util_reverse_2 p3_util_reverse_rows_2 p3_util_transpose_2
+    p3_util_reverse_4 p3_util_reverse_rows_4 p3_util_transpose_4
+    p3_util_reverse_8 p3_util_reverse_rows_8 p3_util_transpose_8
+    p3_util_reverse_16 p3_util_reverse_rows_16 p3_util_transpose_16
+    p3_util_reverse_32 p3_util_reverse_rows_32 p3_util_transpose_32
 }
 
-const fn reverse_for(size: usize) -> Reverse {
-    match size {
+/// The size of the largest items of the library that items of `size` bytes are made of.
+const fn word_of(size: usize) -> usize {
+    let mut word = 32;
+    while !size.is_multiple_of(word) {
+        word /= 2;
+    }
+    word
+}
+
+const fn reverse_for(word: usize) -> Reverse {
+    match word {
         1 => p3_util_reverse_1,
         2 => p3_util_reverse_2,
         4 => p3_util_reverse_4,
         8 => p3_util_reverse_8,
         16 => p3_util_reverse_16,
-        32 => p3_util_reverse_32,
-        _ => panic!("items have 0, 1, 2, 4, 8, 16 or 32 bytes"),
+        _ => p3_util_reverse_32,
+    }
+}
+
+const fn reverse_rows_for(word: usize) -> ReverseRows {
+    match word {
+        1 => p3_util_reverse_rows_1,
+        2 => p3_util_reverse_rows_2,
+        4 => p3_util_reverse_rows_4,
+        8 => p3_util_reverse_rows_8,
+        16 => p3_util_reverse_rows_16,
+        _ => p3_util_reverse_rows_32,
     }
 }
 
@@ -108,11 +130,21 @@ pub(crate) fn reverse<F>(vals: &mut [F]) -> bool {
         // Items without bytes are all one: no order is another.
         return vals.is_empty() || vals.len().is_power_of_two();
     }
-    let call = const { reverse_for(if size_of::<F>() == 0 { 1 } else { size_of::<F>() }) };
-    // SAFETY: the pointer and the length are those of one exclusive slice, whose items have the size in the call's
-    // name. The call does what a series of `slice::swap` does: afterwards each place holds all bytes of one item,
-    // padding included, and each item is at one place. So it moves items of any type, and none is copied or dropped.
-    unsafe { call(vals.as_mut_ptr().cast(), vals.len()) }
+    let word = const { word_of(size_of::<F>()) };
+    let (at, len, row_width) = (vals.as_mut_ptr().cast(), vals.len(), size_of::<F>() / word);
+    // SAFETY: the pointer and the number of words are those of one exclusive slice, whose items are rows of words. A slice
+    // has fewer than 2^63 bytes, so the product does not wrap. Either call does what a series of `slice::swap` does:
+    // afterwards each place holds all bytes of one item, padding included, and each item is at one place. So it moves items
+    // of any type, and none is copied or dropped.
+    unsafe {
+        if row_width == 1 {
+            const { reverse_for(word_of(size_of::<F>())) }
+            (at, len)
+        } else {
+            const { reverse_rows_for(word_of(size_of::<F>())) }
+            (at, len * row_width, row_width)
+        }
+    }
 }
 
 /// Writes to `output` the transpose of `input`, a matrix of `height` rows of `width` items, where both lengths are the

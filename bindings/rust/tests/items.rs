@@ -77,6 +77,21 @@ fn arrays_of_each_alignment() {
     serves(|i| [i as u128, 1]);
 }
 
+#[test]
+fn other_sizes_are_reversed() {
+    reverses(|i| [i as u8; 3]);
+    reverses(|i| [i as u8, 1, 2, 3, 4]);
+    reverses(|i| [i as u16; 3]);
+    reverses(|i| [i as u32, 1, 2]);
+    reverses(|i| [i as u32; 5]);
+    reverses(|i| [i as u64, 1, 2]);
+    reverses(|i| [i as u64; 5]);
+    reverses(|i| [i as u128, 1, 2]);
+    reverses(|i| [i as u64; 8]);
+    reverses(|i| (i as u8, [i as u64; 12]));
+    reverses(|i| i.to_string());
+}
+
 #[derive(Clone, Copy, Debug, PartialEq)]
 struct Padded {
     small: u8,

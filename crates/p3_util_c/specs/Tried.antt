@@ -1,7 +1,7 @@
 -- What a call that tests its own condition returns and does.
 use Rattle.std.specs.Prelude.{ℕ, ◌≡◌, ◌*◌, ◌↔◌, Bool, IsTrue, List, length}
 use Rattle.std.specs.Bool.{OnTrue, OnFalse}
-use Rattle.p3_util_kernels.specs.Reversal.{IsReversal, IsZeroOrPowerOfTwo}
+use Rattle.p3_util_kernels.specs.Reversal.{FitsRows, IsReversal, IsRowReversal, IsZeroOrPowerOfTwo}
 use Rattle.p3_util_kernels.specs.Transpose.{IsTranspose}
 
 -- `held` is true exactly where the condition holds; where it is true the call did its work, and else it changed nothing
@@ -11,6 +11,11 @@ IsTried held condition done unchanged = (IsTrue held ↔ condition) × OnTrue he
 -- a reversal by index bits, where the length is zero or a power of two
 abbrev pub IsTriedReversal : {A : Type 0} → (held : Bool) → (old new : List A) → Type 0
 IsTriedReversal held old new = IsTried held (IsZeroOrPowerOfTwo (length old)) (IsReversal old new) (new ≡ old)
+
+-- a reversal of rows, where the length is the row width times zero or a power of two
+abbrev pub IsTriedRowReversal : {A : Type 0} → (held : Bool) → (row_width : ℕ) → (old new : List A) → Type 0
+IsTriedRowReversal held row_width old new =
+    IsTried held (FitsRows (length old) row_width) (IsRowReversal row_width old new) (new ≡ old)
 
 -- a transpose of `input` to the list that is first `old` and then `new`, where both have width times height items
 abbrev pub IsTriedTranspose : {A : Type 0} → (held : Bool) → (width height : ℕ) → (input old new : List A) → Type 0

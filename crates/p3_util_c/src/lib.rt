@@ -5,4 +5,5 @@
 
 pub mod bits;
 pub mod reverse;
+pub mod rows;
 pub mod transpose;

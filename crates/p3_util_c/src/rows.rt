@@ -1,0 +1,69 @@
+//! Bit reversal of rows: each row moves as one item.
+
+ghost use Rattle.p3_util_c.specs.Tried.{IsTriedRowReversal};
+
+use p3_util_kernels::reverse::{fits_rows, reverse_slice_row_index_bits};
+
+/// Reverses the order of the rows of `vals`, each of `row_width` items of one byte, by index bits, where the length is
+/// `row_width` times zero or a power of two. Returns whether it is.
+#[unsafe(no_mangle)]
+pub extern "C" fn p3_util_reverse_rows_1(vals: &mut [u8], row_width: usize) -> bool
+    ensures { IsTriedRowReversal result row_width vals.old vals.new }
+{
+    reverse_rows_where_they_fit(vals, row_width)
+}
+
+/// Reverses the order of the rows of `vals`, each of `row_width` items of 2 bytes, by index bits, where the length is
+/// `row_width` times zero or a power of two. Returns whether it is.
+#[unsafe(no_mangle)]
+pub extern "C" fn p3_util_reverse_rows_2(vals: &mut [[u8; 2]], row_width: usize) -> bool
+    ensures { IsTriedRowReversal result row_width vals.old vals.new }
+{
+    reverse_rows_where_they_fit(vals, row_width)
+}
+
+/// Reverses the order of the rows of `vals`, each of `row_width` items of 4 bytes, by index bits, where the length is
+/// `row_width` times zero or a power of two. Returns whether it is.
+#[unsafe(no_mangle)]
+pub extern "C" fn p3_util_reverse_rows_4(vals: &mut [[u8; 4]], row_width: usize) -> bool
+    ensures { IsTriedRowReversal result row_width vals.old vals.new }
+{
+    reverse_rows_where_they_fit(vals, row_width)
+}
+
+/// Reverses the order of the rows of `vals`, each of `row_width` items of 8 bytes, by index bits, where the length is
+/// `row_width` times zero or a power of two. Returns whether it is.
+#[unsafe(no_mangle)]
+pub extern "C" fn p3_util_reverse_rows_8(vals: &mut [[u8; 8]], row_width: usize) -> bool
+    ensures { IsTriedRowReversal result row_width vals.old vals.new }
+{
+    reverse_rows_where_they_fit(vals, row_width)
+}
+
+/// Reverses the order of the rows of `vals`, each of `row_width` items of 16 bytes, by index bits, where the length is
+/// `row_width` times zero or a power of two. Returns whether it is.
+#[unsafe(no_mangle)]
+pub extern "C" fn p3_util_reverse_rows_16(vals: &mut [[u8; 16]], row_width: usize) -> bool
+    ensures { IsTriedRowReversal result row_width vals.old vals.new }
+{
+    reverse_rows_where_they_fit(vals, row_width)
+}
+
+/// Reverses the order of the rows of `vals`, each of `row_width` items of 32 bytes, by index bits, where the length is
+/// `row_width` times zero or a power of two. Returns whether it is.
+#[unsafe(no_mangle)]
+pub extern "C" fn p3_util_reverse_rows_32(vals: &mut [[u8; 32]], row_width: usize) -> bool
+    ensures { IsTriedRowReversal result row_width vals.old vals.new }
+{
+    reverse_rows_where_they_fit(vals, row_width)
+}
+
+fn reverse_rows_where_they_fit<F>(vals: &mut [F], row_width: usize) -> bool
+    ensures { IsTriedRowReversal result row_width vals.old vals.new }
+{
+    let fits = fits_rows(vals.len(), row_width);
+    if fits {
+        reverse_slice_row_index_bits(vals, row_width);
+    }
+    fits
+}
