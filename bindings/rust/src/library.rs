@@ -131,18 +131,18 @@ pub(crate) fn reverse<F>(vals: &mut [F]) -> bool {
         return vals.is_empty() || vals.len().is_power_of_two();
     }
     let word = const { word_of(size_of::<F>()) };
+    let call = const { reverse_for(word_of(size_of::<F>())) };
+    let rows_call = const { reverse_rows_for(word_of(size_of::<F>())) };
     let (at, len, row_width) = (vals.as_mut_ptr().cast(), vals.len(), size_of::<F>() / word);
     // SAFETY: the pointer and the number of words are those of one exclusive slice, whose items are rows of words. A slice
     // has fewer than 2^63 bytes, so the product does not wrap. Either call does what a series of `slice::swap` does:
-    // afterwards each place holds all bytes of one item, padding included, and each item is at one place. So it moves items
-    // of any type, and none is copied or dropped.
+    // afterwards each place holds all bytes of one item, padding included, and each item is at one place. So it moves
+    // items of any type, and none is copied or dropped.
     unsafe {
         if row_width == 1 {
-            const { reverse_for(word_of(size_of::<F>())) }
-            (at, len)
+            call(at, len)
         } else {
-            const { reverse_rows_for(word_of(size_of::<F>())) }
-            (at, len * row_width, row_width)
+            rows_call(at, len * row_width, row_width)
         }
     }
 }
