@@ -1,46 +1,53 @@
 -- The long path of bit reversal: chunks, squares, and chunks again.
-use Rattle.std.proofs.Common.{◌≡◌, ℕ, ◌+◌, ◌*◌, ◌^◌, ◌<◌, ◌≤◌, List, length, slice_get, refl, sym, ap, ◌∙◌, arith}
-use Rattle.std.proofs.lemmas.Nat.{pow-add, mul-add-lt}
+use Rattle.std.proofs.Common.{◌≡◌, ℕ, ◌+◌, ◌-◌, ◌*◌, ◌^◌, ◌<◌, ◌≤◌, List, length, slice_get, refl, sym, ap, ◌∙◌, arith}
+use Rattle.std.proofs.lemmas.Nat.{pow-add}
 use Rattle.p3_util_kernels.specs.Digits.{rev}
 use Rattle.p3_util_kernels.specs.Reversal.{IsReversal, IsRowReversal}
+use Rattle.p3_util_kernels.specs.Squares.{AreTransposed}
+use Rattle.p3_util_kernels.specs.Steps.{counted}
 use Rattle.p3_util_kernels.proofs.Digits.{rev-lt, rev-around}
 use Rattle.p3_util_kernels.proofs.Matrix.{each_place}
 use Rattle.p3_util_kernels.proofs.Reversal.{IsReversal-from_rearranged}
+use Rattle.p3_util_kernels.proofs.Squares.{row_length, in_row}
 
--- The list is 2 ^ q rows of 2 ^ d squares side by side, each of 2 ^ q rows and columns, and each square is transposed.
-abbrev pub AreTransposed : {A : Type 0} (q d : ℕ) (old new : List A) → Type 0
-AreTransposed q d old new = (s a b : ℕ) → s < 2 ^ d → a < 2 ^ q → b < 2 ^ q
-    → slice_get new (a * 2 ^ (d + q) + (s * 2 ^ q + b)) ≡ slice_get old (b * 2 ^ (d + q) + (s * 2 ^ q + a))
+-- A list of 2 ^ size chunks of 2 ^ stride items, which are one square or two. Where its chunks are reversed, each square is
+-- transposed, and the chunks are reversed again, the list is reversed by index bits.
+module _ {A : Type 0} (size stride : ℕ) (within : size ≤ stride) (few : stride ≤ size + 1) (old first second new : List A)
+    (fits : length old ≡ 2 ^ (size + stride))
+    (chunks : IsRowReversal (2 ^ stride) old first)
+    (squares : AreTransposed (2 ^ (stride - size)) stride size first second)
+    (again : IsRowReversal (2 ^ stride) second new) where
+  same : length second ≡ length old
+  same = squares.same_length ∙ chunks.same_length
 
--- A list of 2 ^ q chunks of one square or two: where its chunks are reversed, each square is transposed, and the chunks are
--- reversed again, the list is reversed by index bits.
-module _ {A : Type 0} (q d : ℕ) (few : d ≤ 1) (old first second new : List A) (fits : length old ≡ 2 ^ (q + (d + q)))
-    (chunks : IsRowReversal (2 ^ (d + q)) old first)
-    (squares : AreTransposed q d first second)
-    (again : IsRowReversal (2 ^ (d + q)) second new) where
-  chunk_count : (xs : List A) → length xs ≡ length old → length xs ≡ 2 ^ (d + q) * 2 ^ q
-  chunk_count xs same = same ∙ fits ∙ ap (λ e. 2 ^ e) (omega arith) ∙ pow-add 2 (d + q) q
+  chunk_count : (xs : List A) → length xs ≡ length old → length xs ≡ 2 ^ stride * 2 ^ size
+  chunk_count xs e = e ∙ fits ∙ ap (λ e. 2 ^ e) (omega arith) ∙ pow-add 2 stride size
 
-  at_place : (same : length second ≡ length old) (a s y : ℕ) → a < 2 ^ q → s < 2 ^ d → y < 2 ^ q
-      → slice_get new (a * 2 ^ (d + q) + (s * 2 ^ q + y)) ≡ slice_get old (rev (q + (d + q)) (a * 2 ^ (d + q) + (s * 2 ^ q + y)))
-  at_place same a s y ha hs hy =
-      let wide : 2 ^ (d + q) ≡ 2 ^ q * 2 ^ d = ap (λ e. 2 ^ e) (omega arith) ∙ pow-add 2 q d in
-      let right : s * 2 ^ q + y < 2 ^ (d + q) = rw wide (mul-add-lt s (2 ^ q) y (2 ^ d) hs hy) in
-      let left : s * 2 ^ q + rev q a < 2 ^ (d + q) = rw wide (mul-add-lt s (2 ^ q) (rev q a) (2 ^ d) hs (rev-lt q a)) in
-      again.places q a (s * 2 ^ q + y) (chunk_count second same) ha right
-      ∙ squares s (rev q a) y hs (rev-lt q a) hy
-      ∙ chunks.places q y (s * 2 ^ q + rev q a) (chunk_count old refl) hy left
-      ∙ ap (slice_get old) (sym (rev-around q d a s y few hs hy))
+  at_place : (a s y : ℕ) → a < 2 ^ size → s < 2 ^ (stride - size) → y < 2 ^ size
+      → slice_get new (a * 2 ^ stride + (s * 2 ^ size + y)) ≡ slice_get old (rev (size + stride) (a * 2 ^ stride + (s * 2 ^ size + y)))
+  at_place a s y ha hs hy =
+      let parts : stride - size + size ≡ stride = omega arith in
+      let extra : stride - size ≤ 1 = omega arith in
+      let reversed = rw parts at (rev-around size (stride - size) a s y extra hs hy) in
+      let back : rev size a < 2 ^ size = rev-lt size a in
+      again.places size a (s * 2 ^ size + y) (chunk_count second same) ha (in_row stride size within s y hs hy)
+      ∙ squares.crossed s (rev size a) y hs back hy
+      ∙ chunks.places size y (s * 2 ^ size + rev size a) (chunk_count old refl) hy (in_row stride size within s (rev size a) hs back)
+      ∙ ap (slice_get old) (sym reversed)
 
-  pub IsReversal-composed : length second ≡ length old → IsReversal old new
-  IsReversal-composed same =
-      IsReversal-from_rearranged (q + (d + q)) old new fits (record {
+  pub IsReversal-composed : IsReversal old new
+  IsReversal-composed =
+      let k = size + stride in
+      IsReversal-from_rearranged k old new fits (record {
         same_length = again.same_length ∙ same;
         places = λ p h.
-            let whole : 2 ^ (q + (d + q)) ≡ 2 ^ q * 2 ^ (d + q) = pow-add 2 q (d + q) in
-            let wide : 2 ^ (d + q) ≡ 2 ^ d * 2 ^ q = pow-add 2 d q in
-            each_place (λ p. slice_get new p ≡ slice_get old (rev (q + (d + q)) p)) (2 ^ q) (2 ^ (d + q)) p (rw (fits, whole) at h)
+            each_place (λ p. slice_get new p ≡ slice_get old (rev k p)) (2 ^ size) (2 ^ stride) p (rw (fits, pow-add 2 size stride) at h)
             (λ a j ha hj.
-            each_place (λ j. slice_get new (a * 2 ^ (d + q) + j) ≡ slice_get old (rev (q + (d + q)) (a * 2 ^ (d + q) + j))) (2 ^ d) (2 ^ q) j (rw wide at hj)
-            (λ s y hs hy. at_place same a s y ha hs hy));
+            each_place (λ j. slice_get new (a * 2 ^ stride + j) ≡ slice_get old (rev k (a * 2 ^ stride + j))) (2 ^ (stride - size)) (2 ^ size) j
+            (rw (← row_length stride size within) at hj)
+            (λ s y hs hy. at_place a s y ha hs hy));
       })
+
+-- one number of steps, another, and the first again
+pub counted-around : (c0 c1 c2 c3 a b : ℕ) → c1 ≡ counted c0 a → c2 ≡ counted c1 b → c3 ≡ counted c2 a → c3 ≡ counted c0 (2 * a + b)
+counted-around c0 c1 c2 c3 a b e f g = omega arith

@@ -11,6 +11,7 @@ pub mod Region
 pub mod Reversal
 pub mod Runs
 pub mod Square
+pub mod Squares
 pub mod Stages
 pub mod Steps
 pub mod Strided

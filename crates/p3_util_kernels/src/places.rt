@@ -57,8 +57,8 @@ pub trait Places {
     /// Exchanges the items at places `i + t * stride` and `j + t`, for each `t` below `len` in turn. A holder may do so in a
     /// faster way than by its `exchange`.
     fn exchange_strided(&mut self, i: usize, j: usize, stride: usize, len: usize)
-        requires first { (t : ℕ) → t < len → i + t * stride < length (items self.old) }
-        requires second { j + len ≤ length (items self.old) }
+        requires apart { (t : ℕ) → t < len → i + t * stride < j }
+        requires within { j + len ≤ length (items self.old) }
         ensures exchanged { items self.new ≡ swap_strided (items self.old) i j stride len }
         ensures holder { same_holder self.old self.new }
     {

@@ -3,13 +3,17 @@
 ghost use Rattle.std.specs.Prelude.{◌≡◌, ℕ, ◌*◌, ◌/◌, ◌^◌, ◌↔◌, ◌≤◌, IsTrue, length};
 ghost use Rattle.p3_util_kernels.specs.Reversal.{FitsRows, IsReversal, IsReversible, IsRowReversal, IsZeroOrPowerOfTwo};
 ghost use Rattle.p3_util_kernels.specs.Steps.{RoseByAtMost, counted};
-ghost use Rattle.p3_util_kernels.specs.SwapCounts.{short_swaps};
+ghost use Rattle.p3_util_kernels.specs.SwapCounts.{reversal_swaps, short_swaps};
 
+mod long;
 mod rows;
 
+use crate::places::{Places, SlicePlaces, Swaps};
+pub use long::{reverse_chunks_on, reverse_index_bits_long};
 pub use rows::reverse_row_index_bits_on;
 
-use crate::places::{Places, SlicePlaces, Swaps};
+/// The greatest number of items for which the short path is picked.
+const SHORT_PATH_ITEMS: usize = 8192;
 
 /// Whether `len` items are rows of `row_width` whose number is zero or a power of two. Of rows of one item this is
 /// whether `len` is zero or a power of two, and of rows of no items whether it is zero.
@@ -79,15 +83,22 @@ pub fn reverse_rows_counted<S: Places>(places: &mut S, row_width: usize) -> u128
     count
 }
 
-/// Reverses `m` by index bits, as [`reverse_slice_index_bits`] does, in at most 3n/2 swaps at length n.
-/// The length is zero or a power of two.
+/// Reverses `m` by index bits, as [`reverse_slice_index_bits`] does, in at most 3n/2 swaps at length n: by the short path
+/// up to 8192 items, and else by the long one. The length is zero or a power of two.
 pub fn reverse_index_bits_on<S: Places>(m: &mut Swaps<S>)
     requires { IsReversible (length (S.items m.old.holder)) }
     ensures order { IsReversal (S.items m.old.holder) (S.items m.new.holder) }
     ensures count { RoseByAtMost m.old.count m.new.count (3 * length (S.items m.old.holder) / 2) }
+    ensures exact { (k : ℕ) → length (S.items m.old.holder) ≡ 2 ^ k
+        → m.new.count ≡ counted m.old.count (reversal_swaps k) }
+    ensures empty { length (S.items m.old.holder) ≡ 0 → m.new.count ≡ m.old.count }
     ensures holder { S.same_holder m.old.holder m.new.holder }
 {
-    reverse_index_bits_short(m);
+    if m.len() <= SHORT_PATH_ITEMS {
+        reverse_index_bits_short(m);
+    } else {
+        reverse_index_bits_long(m);
+    }
 }
 
 /// Reverses `m` by index bits, as [`reverse_slice_index_bits`] does, by one exchange of each two places that belong to

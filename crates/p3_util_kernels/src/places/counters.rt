@@ -66,9 +66,10 @@ impl<S: Places> Swaps<S> {
     }
 
     /// Exchanges the items at places `i + t * stride` and `j + t`, for each `t` below `len` in turn, and counts `len`.
+    #[inline(always)]
     pub fn swap_strided(&mut self, i: usize, j: usize, stride: usize, len: usize)
-        requires first { (t : ℕ) → t < len → i + t * stride < length (S.items self.old.holder) }
-        requires second { j + len ≤ length (S.items self.old.holder) }
+        requires apart { (t : ℕ) → t < len → i + t * stride < j }
+        requires within { j + len ≤ length (S.items self.old.holder) }
         ensures exchanged { S.items self.new.holder ≡ swap_strided (S.items self.old.holder) i j stride len }
         ensures count { self.new.count ≡ counted self.old.count len }
         ensures holder { S.same_holder self.old.holder self.new.holder }

@@ -1,11 +1,12 @@
 //! The holders of this crate: a reference to a holder, and slices.
 
-ghost use Rattle.std.specs.Prelude.{◌≡◌, ℕ, ◌+◌, ◌*◌, ◌<◌, ◌≤◌, length};
+ghost use Rattle.std.specs.Prelude.{◌≡◌, ℕ, ◌+◌, ◌*◌, ◌<◌, ◌≤◌, ◌++◌, length};
 ghost use Rattle.std.proofs.Common.{refl, ◌∙◌};
 ghost use Rattle.p3_util_kernels.specs.Exchanged.{RunsExchanged};
 ghost use Rattle.p3_util_kernels.specs.Strided.{swap_strided};
 
 use crate::places::{Cells, Places, Source};
+use std::mem;
 
 /// The holder behind the reference is the holder.
 impl<S: Places> Places for &mut S {
@@ -27,6 +28,7 @@ impl<S: Places> Places for &mut S {
         S::exchange_runs(self, i, j, len);
     }
 
+    #[inline(always)]
     fn exchange_strided(&mut self, i: usize, j: usize, stride: usize, len: usize) {
         S::exchange_strided(self, i, j, stride, len);
     }
@@ -91,6 +93,7 @@ impl<'a, F> Places for SlicePlaces<'a, F> {
         swap_runs(self.items, i, j, len);
     }
 
+    #[inline(always)]
     fn exchange_strided(&mut self, i: usize, j: usize, stride: usize, len: usize) {
         swap_strided(self.items, i, j, stride, len);
     }
@@ -110,14 +113,33 @@ fn swap_runs<F>(items: &mut [F], i: usize, j: usize, len: usize)
     front[i..i + len].swap_with_slice(&mut back[..len]);
 }
 
+/// The number of steps of a line that is exchanged in a loop of known length.
+const LINE: usize = 8;
+
 /// Exchanges the items at places `i + t * stride` and `j + t` of `items`, for each `t` below `len` in turn.
+#[inline(always)]
 fn swap_strided<F>(items: &mut [F], i: usize, j: usize, stride: usize, len: usize)
-    requires first { (t : ℕ) → t < len → i + t * stride < length items.old }
-    requires second { j + len ≤ length items.old }
+    requires apart { (t : ℕ) → t < len → i + t * stride < j }
+    requires within { j + len ≤ length items.old }
     ensures { items.new ≡ swap_strided items.old i j stride len }
 {
+    let (front, back) = items.split_at_mut(j);
+    if len == LINE {
+        cross(front, back, i, stride, LINE);
+    } else {
+        cross(front, back, i, stride, len);
+    }
+}
+
+/// Exchanges the items at places `i + t * stride` of `front` and `t` of `back`, for each `t` below `len` in turn.
+#[inline(always)]
+fn cross<F>(front: &mut [F], back: &mut [F], i: usize, stride: usize, len: usize)
+    requires first { (t : ℕ) → t < len → i + t * stride < length front.old }
+    requires second { len ≤ length back.old }
+    ensures { front.new ++ back.new ≡ swap_strided (front.old ++ back.old) i (length front.old) stride len }
+{
     for t in 0..len {
-        items.swap(i + t * stride, j + t);
+        mem::swap(&mut front[i + t * stride], &mut back[t]);
     }
 }
 

@@ -147,6 +147,7 @@ fn swap_small_block<S: Places>(
 }
 
 /// Exchanges the `len` items of row `line` from column `start` on with those of column `line` from row `start` on.
+#[inline(always)]
 fn swap_line<S: Places>(
     m: &mut Swaps<S>,
     base: usize,

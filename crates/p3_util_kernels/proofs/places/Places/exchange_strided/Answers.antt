@@ -12,7 +12,7 @@ loop-t-init g c = record {
 pub exchange-requires-clause-first : goal.exchange-requires-clause-first
 exchange-requires-clause-first g c =
     let now = ap length c.loop-t.invariant.exchanged ∙ length-swap_strided _ _ _ _ _ in
-    omega (arith, c.requires.first c.loop-t.t c.loop-t-test.true)
+    omega (arith, c.requires.apart c.loop-t.t c.loop-t-test.true)
 
 pub exchange-requires-clause-second : goal.exchange-requires-clause-second
 exchange-requires-clause-second g c =

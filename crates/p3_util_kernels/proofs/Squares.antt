@@ -1,0 +1,61 @@
+-- Squares side by side, transposed one after another.
+use Rattle.std.proofs.Common.{◌≡◌, ℕ, ◌+◌, ◌-◌, ◌*◌, ◌^◌, ◌<◌, ◌≤◌, List, slice_get, inl, inr, refl, sym, ap, ◌∙◌, arith}
+use Rattle.std.proofs.lemmas.Bool.{cases_lt}
+use Rattle.std.proofs.lemmas.Nat.{pow-add, pow_pos, mul-add-lt, same_from_place}
+use Rattle.p3_util_kernels.specs.Square.{IsSquareTransposed}
+use Rattle.p3_util_kernels.specs.Squares.{AreTransposed}
+
+module _ (log_stride log_size : ℕ) (within : log_size ≤ log_stride) where
+  -- the squares fill the rows
+  pub row_length : 2 ^ (log_stride - log_size) * 2 ^ log_size ≡ 2 ^ log_stride
+  row_length = sym (pow-add 2 (log_stride - log_size) log_size) ∙ ap (λ e. 2 ^ e) (omega arith)
+
+  -- a square and a column of it are within the row
+  pub in_row : (s b : ℕ) → s < 2 ^ (log_stride - log_size) → b < 2 ^ log_size → s * 2 ^ log_size + b < 2 ^ log_stride
+  in_row s b hs hb = rw (← row_length) (omega (arith, mul-add-lt s (2 ^ log_size) b (2 ^ (log_stride - log_size)) hs hb))
+
+  -- the last place of a square is within the list
+  pub square_room : (s n : ℕ) → n ≡ 2 ^ (log_size + log_stride) → s < 2 ^ (log_stride - log_size)
+      → s * 2 ^ log_size + (2 ^ log_size - 1) * 2 ^ log_stride + (2 ^ log_size - 1) < n
+  square_room s n whole hs =
+      let last : 2 ^ log_size - 1 < 2 ^ log_size = omega (arith, pow_pos log_size) in
+      let column : s * 2 ^ log_size + (2 ^ log_size - 1) < 2 ^ log_stride = in_row s (2 ^ log_size - 1) hs last in
+      omega (arith, pow-add 2 log_size log_stride, mul-add-lt (2 ^ log_size - 1) (2 ^ log_stride) (s * 2 ^ log_size + (2 ^ log_size - 1)) (2 ^ log_size) last column)
+
+  module _ {A : Type 0} where
+    pub AreTransposed-none : (xs : List A) → AreTransposed 0 log_stride log_size xs xs
+    AreTransposed-none xs = record {
+      same_length = refl;
+      crossed = λ s a b hs ha hb. absurd (omega arith);
+      kept = λ s a b from hs ha hb. refl;
+    }
+
+    -- a place of another square stays
+    elsewhere : (i s a b : ℕ) (now next : List A) → i < 2 ^ (log_stride - log_size) → s < 2 ^ (log_stride - log_size) → (s ≡ i → ⊥)
+        → b < 2 ^ log_size → IsSquareTransposed (i * 2 ^ log_size) log_stride log_size now next
+        → slice_get next (a * 2 ^ log_stride + (s * 2 ^ log_size + b)) ≡ slice_get now (a * 2 ^ log_stride + (s * 2 ^ log_size + b))
+    elsewhere i s a b now next hi hs apart hb square =
+        square.others (a * 2 ^ log_stride + (s * 2 ^ log_size + b))
+        (λ c d hc hd e.
+        let same : a * 2 ^ log_stride + (s * 2 ^ log_size + b) ≡ c * 2 ^ log_stride + (i * 2 ^ log_size + d) = omega arith in
+        let row = same_from_place a (s * 2 ^ log_size + b) c (i * 2 ^ log_size + d) (2 ^ log_stride) (in_row s b hs hb) (in_row i d hi hd) same in
+        let column = same_from_place s b i d (2 ^ log_size) hb hd row.1 in
+        apart column.0)
+
+    -- one square more
+    pub AreTransposed-more : (i : ℕ) (old now next : List A) → i < 2 ^ (log_stride - log_size)
+        → AreTransposed i log_stride log_size old now → IsSquareTransposed (i * 2 ^ log_size) log_stride log_size now next
+        → AreTransposed (i + 1) log_stride log_size old next
+    AreTransposed-more i old now next hi at square = record {
+      same_length = square.same_length ∙ at.same_length;
+      crossed = λ s a b hs ha hb.
+          elim (cases_lt s i) [
+            | inl before ↦ elsewhere i s a b now next hi (omega arith) (λ e. omega arith) hb square ∙ at.crossed s a b before ha hb
+            | inr here ↦
+                let e : s ≡ i = omega arith in
+                let to : a * 2 ^ log_stride + (i * 2 ^ log_size + b) ≡ i * 2 ^ log_size + a * 2 ^ log_stride + b = omega arith in
+                let from : i * 2 ^ log_size + b * 2 ^ log_stride + a ≡ b * 2 ^ log_stride + (i * 2 ^ log_size + a) = omega arith in
+                rw e (ap (slice_get next) to ∙ square.places a b ha hb ∙ ap (slice_get now) from ∙ at.kept i b a (omega arith) hi hb ha)
+          ];
+      kept = λ s a b from hs ha hb. elsewhere i s a b now next hi hs (λ e. omega arith) hb square ∙ at.kept s a b (omega arith) hs ha hb;
+    }

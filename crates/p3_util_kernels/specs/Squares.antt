@@ -1,0 +1,11 @@
+-- Squares side by side in a list, transposed one after another.
+use Rattle.std.specs.Prelude.{ℕ, ◌≡◌, ◌+◌, ◌-◌, ◌*◌, ◌^◌, ◌<◌, ◌≤◌, List, length, slice_get}
+
+-- The list is 2 ^ log_size rows of 2 ^ log_stride items, so that squares lie side by side in it. The first `count` of them
+-- are transposed, and the others are as they were.
+pub record AreTransposed {A : Type 0} (count log_stride log_size : ℕ) (old new : List A) : Type 0 where
+  pub same_length : length new ≡ length old
+  pub crossed : (s a b : ℕ) → s < count → a < 2 ^ log_size → b < 2 ^ log_size
+      → slice_get new (a * 2 ^ log_stride + (s * 2 ^ log_size + b)) ≡ slice_get old (b * 2 ^ log_stride + (s * 2 ^ log_size + a))
+  pub kept : (s a b : ℕ) → count ≤ s → s < 2 ^ (log_stride - log_size) → a < 2 ^ log_size → b < 2 ^ log_size
+      → slice_get new (a * 2 ^ log_stride + (s * 2 ^ log_size + b)) ≡ slice_get old (a * 2 ^ log_stride + (s * 2 ^ log_size + b))
