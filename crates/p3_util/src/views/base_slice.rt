@@ -6,6 +6,7 @@ ghost use Rattle.std.specs.Option.{option_copied};
 ghost use Rattle.p3_util.specs.Flat.{flat};
 
 use super::BaseIter;
+use p3_util_kernels::places::{SliceSource, Source};
 use std::alloc::AllocError;
 use std::fmt;
 use std::marker::Model;
@@ -125,5 +126,19 @@ impl<'v, 'a, Base, const N: usize> IntoIterator for &'v BaseSlice<'a, Base, N> {
 
     fn into_iter(self) -> BaseIter<'a, Base> {
         self.iter()
+    }
+}
+
+impl<'a, Base: Copy, const N: usize> Source for BaseSlice<'a, Base, N> {
+    type Item = Base;
+
+    ghost items = { λ s. s };
+
+    fn len(&self) -> usize {
+        BaseSlice::len(self)
+    }
+
+    fn at(&self, i: usize) -> Base {
+        SliceSource::new(self.items).at(i)
     }
 }

@@ -75,45 +75,24 @@ where
     } else {
         TileForm::Columns
     };
-    put_tiles(
-        input,
-        out,
-        Region {
-            col_end: col,
-            ..upper
-        },
-        form,
-        width,
-        height,
-    );
-    put_strips(
-        input,
-        out,
-        Region {
-            col_start: col,
-            ..upper
-        },
-        width,
-        height,
-    );
-    put_strips(
-        input,
-        out,
-        Region {
-            col_end: col,
-            ..lower
-        },
-        width,
-        height,
-    );
-    put_strips(
-        input,
-        out,
-        Region {
-            col_start: col,
-            ..lower
-        },
-        width,
-        height,
-    );
+    let tiles = Region {
+        col_end: col,
+        ..upper
+    };
+    let right = Region {
+        col_start: col,
+        ..upper
+    };
+    let below = Region {
+        col_end: col,
+        ..lower
+    };
+    let corner = Region {
+        col_start: col,
+        ..lower
+    };
+    put_tiles(input, out, tiles, form, width, height);
+    put_strips(input, out, right, width, height);
+    put_strips(input, out, below, width, height);
+    put_strips(input, out, corner, width, height);
 }

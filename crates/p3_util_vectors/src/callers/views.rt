@@ -5,8 +5,8 @@ ghost use Rattle.p3_util.specs.Flat.{flat};
 ghost use Rattle.p3_util_kernels.specs.Reversal.{IsReversal, IsZeroOrPowerOfTwo};
 ghost use Rattle.p3_util_kernels.specs.Transpose.{IsTranspose};
 
-use p3_util::views::{Flattened, Rows};
 use p3_util::as_base_slice_mut;
+use p3_util::views::{Flattened, Rows};
 use p3_util_kernels::places::{Cells, Writes};
 use p3_util_kernels::reverse::reverse_counted;
 use p3_util_kernels::transpose::transpose_on;
