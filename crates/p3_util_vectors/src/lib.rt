@@ -15,6 +15,8 @@ mod noted;
 #[cfg(test)]
 mod oracle;
 #[cfg(test)]
+mod regions;
+#[cfg(test)]
 mod reverse;
 #[cfg(test)]
 mod square;
