@@ -1,7 +1,7 @@
 -- Laws of binary digits, of sums over places, and of the reversal of digits.
 use Rattle.std.proofs.Common.{◌≡◌, ℕ, zero, suc, ◌+◌, ◌-◌, ◌*◌, ◌/◌, ◌%◌, ◌^◌, ◌<◌, ◌≤◌, refl, sym, ◌∙◌, ap, arith, bit_and, bit_or}
-use Rattle.std.proofs.Math.Nat.{pow-suc, div-one, mod-eq_of_lt}
-use Rattle.std.proofs.lemmas.Nat.{pow_pos, pow-add, shr_split, shr-shr, mod_below, div-mul-add, mul-add-lt, and_mask, shl_whole, or_shifted}
+use Rattle.std.proofs.Math.Nat.{pow-suc, div-one, mod-eq_of_lt, mul-mod_left}
+use Rattle.std.proofs.lemmas.Nat.{pow_pos, pow-add, shr_split, shr-shr, mod_below, div-mul-add, mul-add-lt, and_mask, shl_whole, or_shifted, shl-shr}
 use Rattle.std.proofs.lemmas.Nat.Bits.{bit_at-suc, bit_at-zero, bit_at_cat_low, same_from_bits_below}
 use Rattle.p3_util_kernels.specs.Digits.{bit, sum_below, rev, rev_word}
 
@@ -189,3 +189,9 @@ rev_word-twice (suc k) x r e h =
     let some : 0 < suc k = omega arith in
     let once : r ≡ rev (suc k) x = e ∙ rev_word-above (suc k) x some in
     rev_word-above (suc k) r some ∙ ap (rev (suc k)) once ∙ rev-rev-below (suc k) x h
+
+-- digits with s zeros below them
+pub rev-shl : (q s a : ℕ) → rev (q + s) (a * 2 ^ s) ≡ rev q a
+rev-shl q s a =
+    let low : rev s (a * 2 ^ s) ≡ 0 = sym (rev-mod s (a * 2 ^ s)) ∙ ap (rev s) (mul-mod_left a (2 ^ s)) ∙ rev-of-zero s in
+    rw (rev-add q s (a * 2 ^ s), low, shl-shr a s) (omega arith)

@@ -43,38 +43,39 @@ pub fn reverse_row_index_bits_on<S: Places>(m: &mut Swaps<S>, row_width: usize)
     if len == 0 {
         return;
     }
-    let digits = log2_strict_usize(len / row_width);
-    let half = digits / 2;
-    let middle = digits % 2;
-    let side = power_of_two(half);
-    let lines = power_of_two(middle + half);
-    for line in 0..lines {
-        exchange_line(m, row_width, half, middle, line / side, line % side);
+    let rows = len / row_width;
+    let digits = log2_strict_usize(rows);
+    let side = power_of_two(digits / 2);
+    let stride = rows >> (digits / 2);
+    for line in 0..stride {
+        exchange_line(m, row_width, digits, stride, line / side, line % side);
     }
 }
 
-/// Exchanges the pairs of rows of one middle digit and one `b`, with each `a` below it.
+/// Exchanges the pairs of rows of one middle digit and one `b`, with each `a` below it. The rows have indices of `digits`
+/// digits, and the digits of `a` weigh `stride`.
 fn exchange_line<S: Places>(
     m: &mut Swaps<S>,
     row_width: usize,
-    half: usize,
-    middle: usize,
+    digits: usize,
+    stride: usize,
     digit: usize,
     b: usize,
 )
     requires wide { 0 < row_width }
-    requires digit { digit < 2 ^ middle }
-    requires b { b < 2 ^ half }
-    requires rows { length (S.items m.old.holder) ≡ row_width * 2 ^ (half + (middle + half)) }
+    requires stride { stride ≡ 2 ^ (digits % 2 + digits / 2) }
+    requires digit { digit < 2 ^ (digits % 2) }
+    requires b { b < 2 ^ (digits / 2) }
+    requires rows { length (S.items m.old.holder) ≡ row_width * 2 ^ (digits / 2 + (digits % 2 + digits / 2)) }
     requires length_fits { length (S.items m.old.holder) < 2 ^ 64 }
     requires count_fits { m.old.count < 2 ^ 128 }
-    ensures crossed { let line = digit * 2 ^ half + b in
-        IsCrossed half middle row_width (line * 2 ^ half) ((line + 1) * 2 ^ half)
+    ensures crossed { let line = digit * 2 ^ (digits / 2) + b in
+        IsCrossed (digits / 2) (digits % 2) row_width (line * 2 ^ (digits / 2)) ((line + 1) * 2 ^ (digits / 2))
         (S.items m.old.holder) (S.items m.new.holder) }
     ensures count { m.new.count ≡ counted m.old.count (row_width * b) }
     ensures holder { S.same_holder m.old.holder m.new.holder }
 {
-    let stride = power_of_two(middle + half);
+    let half = digits / 2;
     let offset = digit * power_of_two(half);
     let reversed = reverse_digits(b, half);
     for a in 0..b {
@@ -110,7 +111,7 @@ fn reverse_digits(x: usize, digits: usize) -> usize
     ensures { result ≡ rev digits x }
 {
     if digits <= 6 {
-        usize::from(REVERSED_SIX[x]) >> (6 - digits)
+        usize::from(REVERSED_SIX[x * (64 >> digits)])
     } else {
         reverse_bits_len(x, digits)
     }

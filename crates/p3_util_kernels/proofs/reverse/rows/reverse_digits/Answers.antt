@@ -1,19 +1,38 @@
-use Rattle.std.proofs.Common.{◌≡◌, ◌+◌, ◌-◌, ◌*◌, ◌/◌, ◌^◌, ◌<◌, ◌≤◌, sym, ap, ◌∙◌, arith}
-use Rattle.std.proofs.Math.Nat.{pow-le-pow_right}
+use Rattle.std.proofs.Common.{◌≡◌, ◌+◌, ◌-◌, ◌*◌, ◌/◌, ◌^◌, ◌<◌, ◌≤◌, ℕ, sym, ap, ◌∙◌, arith}
+use Rattle.std.proofs.lemmas.Nat.{pow-add, pow_pos, shl-shr}
+use Rattle.std.proofs.Math.Nat.{mul-le-mul_right}
 use Rattle.p3_util_kernels.specs.Digits.{rev}
-use Rattle.p3_util_kernels.proofs.Digits.{rev-shr, rev_word-above}
+use Rattle.p3_util_kernels.proofs.Digits.{rev-shl, rev_word-above}
 use Rattle.p3_util_kernels.proofs.Tables.{reversed_six}
 use Rattle.p3_util_kernels.proofs.reverse.rows.reverse_digits.Goals as goal
 
+-- 64 shifted to the right by a few digits
+step : (digits : ℕ) → digits ≤ 6 → 64 / 2 ^ digits ≡ 2 ^ (6 - digits)
+step digits few =
+    let all : (6 - digits) + digits ≡ 6 = omega arith in
+    let parts : 64 ≡ 2 ^ (6 - digits) * 2 ^ digits = sym (ap (λ k. 2 ^ k) all) ∙ pow-add 2 (6 - digits) digits in
+    rw parts (shl-shr (2 ^ (6 - digits)) digits)
+
+inside : (x digits : ℕ) → digits ≤ 6 → x < 2 ^ digits → x * (64 / 2 ^ digits) < 64
+inside x digits few below =
+    let all : digits + (6 - digits) ≡ 6 = omega arith in
+    let parts : 64 ≡ 2 ^ digits * 2 ^ (6 - digits) = sym (ap (λ k. 2 ^ k) all) ∙ pow-add 2 digits (6 - digits) in
+    let up : (x + 1) * 2 ^ (6 - digits) ≤ 2 ^ digits * 2 ^ (6 - digits) = mul-le-mul_right (2 ^ (6 - digits)) (omega arith) in
+    let some : 0 < 2 ^ (6 - digits) = pow_pos (6 - digits) in
+    rw (step digits few) (omega arith)
+
+pub overflow_mul-x : goal.overflow_mul-x
+overflow_mul-x c = omega (arith, inside c.args.x c.args.digits c.if-digits-le6.true c.requires.below)
+
 pub bounds-x : goal.bounds-x
-bounds-x c = let most : 2 ^ c.args.digits ≤ 2 ^ 6 = pow-le-pow_right (omega arith) c.if-digits-le6.true in omega arith
+bounds-x c = inside c.args.x c.args.digits c.if-digits-le6.true c.requires.below
 
 pub returns-then-digits-le6 : goal.returns-then-digits-le6
 returns-then-digits-le6 c =
-    let most : 2 ^ c.args.digits ≤ 2 ^ 6 = pow-le-pow_right (omega arith) c.if-digits-le6.true in
-    let all : (6 - c.args.digits) + c.args.digits ≡ 6 = omega arith in
-    let entry : c.from.result ≡ rev 6 c.args.x = c.from.ensures ∙ reversed_six c.args.x (omega arith) in
-    ap (λ r. r / 2 ^ (6 - c.args.digits)) (entry ∙ ap (λ k. rev k c.args.x) (sym all)) ∙ rev-shr (6 - c.args.digits) c.args.digits c.args.x
+    let all : c.args.digits + (6 - c.args.digits) ≡ 6 = omega arith in
+    c.from.ensures ∙ reversed_six _ (inside c.args.x c.args.digits c.if-digits-le6.true c.requires.below)
+    ∙ ap (λ n. rev 6 (c.args.x * n)) (step c.args.digits c.if-digits-le6.true)
+    ∙ ap (λ k. rev k (c.args.x * 2 ^ (6 - c.args.digits))) (sym all) ∙ rev-shl c.args.digits (6 - c.args.digits) c.args.x
 
 pub returns-else-digits-le6 : goal.returns-else-digits-le6
 returns-else-digits-le6 c = c.reverse_bits_len.ensures.reversed ∙ rev_word-above _ _ (omega arith)

@@ -1,5 +1,5 @@
 use Rattle.std.proofs.Common.{◌≡◌, ℕ, ◌+◌, ◌*◌, ◌/◌, ◌%◌, ◌^◌, ◌<◌, ◌≤◌, length, inl, sym, ap, ◌∙◌, arith}
-use Rattle.std.proofs.lemmas.Nat.{div_below, div-add-mod', mod_below, pow-add, pow_pos}
+use Rattle.std.proofs.lemmas.Nat.{div_below, div-add-mod', mod_below, pow-add, pow_pos, shl-shr}
 use Rattle.p3_util_kernels.specs.Digits.{sum_below}
 use Rattle.p3_util_kernels.specs.Reversal.{FitsRows}
 use Rattle.p3_util_kernels.specs.SwapCounts.{short_swaps}
@@ -22,10 +22,20 @@ log2_strict_usize-digits-requires g c =
     let rows = IsPowerOfRows-from _ _ (λ e. c.if-len-eq0.false (c.len-len.ensures.len ∙ e)) c.requires in
     inl (rows.exponent, ap (λ n. n / c.args.row_width) c.len-len.ensures.len ∙ rows.rows)
 
-pub nonzero_div-len : goal.nonzero_div-len
-nonzero_div-len g c =
+pub nonzero_div-rows : goal.nonzero_div-rows
+nonzero_div-rows g c =
     let rows = IsPowerOfRows-from _ _ (λ e. c.if-len-eq0.false (c.len-len.ensures.len ∙ e)) c.requires in
     rows.wide
+
+-- the weight of the high digits
+weight : (rows x : ℕ) → rows ≡ 2 ^ x → rows / 2 ^ (x / 2) ≡ 2 ^ (x % 2 + x / 2)
+weight rows x e =
+    let digits : x ≡ x % 2 + x / 2 + x / 2 = omega arith in
+    let parts : 2 ^ x ≡ 2 ^ (x % 2 + x / 2) * 2 ^ (x / 2) = ap (λ n. 2 ^ n) digits ∙ pow-add 2 (x % 2 + x / 2) (x / 2) in
+    rw (e, parts) (shl-shr (2 ^ (x % 2 + x / 2)) (x / 2))
+
+pub exchange_line-requires-clause-stride : goal.exchange_line-requires-clause-stride
+exchange_line-requires-clause-stride g c = weight _ _ c.log2_strict_usize-digits.ensures.power
 
 pub nonzero_div-line : goal.nonzero_div-line
 nonzero_div-line g c = rw c.power_of_two-side.ensures (pow_pos _)
@@ -49,7 +59,7 @@ pub exchange_line-requires-clause-digit : goal.exchange_line-requires-clause-dig
 exchange_line-requires-clause-digit g c =
     let x = c.log2_strict_usize-digits.result in
     rw c.power_of_two-side.ensures
-    (div_below c.loop-line.line (2 ^ (x / 2)) (2 ^ (x % 2)) (pow_pos (x / 2)) (rw (c.power_of_two-lines.ensures, pow-add 2 (x % 2) (x / 2)) at c.loop-line-test.true))
+    (div_below c.loop-line.line (2 ^ (x / 2)) (2 ^ (x % 2)) (pow_pos (x / 2)) (rw (weight _ _ c.log2_strict_usize-digits.ensures.power, pow-add 2 (x % 2) (x / 2)) at c.loop-line-test.true))
 
 pub exchange_line-requires-clause-b : goal.exchange_line-requires-clause-b
 exchange_line-requires-clause-b g c =
@@ -86,7 +96,7 @@ pub returns-clause-order : goal.returns-clause-order
 returns-clause-order g c =
     let x = c.log2_strict_usize-digits.result in
     let rows = IsPowerOfRows-from _ _ (λ e. c.if-len-eq0.false (c.len-len.ensures.len ∙ e)) c.requires in
-    let all : c.loop-line.line ≡ 2 ^ (x % 2 + x / 2) = omega (arith, c.power_of_two-lines.ensures) in
+    let all : c.loop-line.line ≡ 2 ^ (x % 2 + x / 2) = omega (arith, weight _ _ c.log2_strict_usize-digits.ensures.power) in
     IsRowReversal-crossed (x / 2) (x % 2) c.args.row_width _ _ (omega arith)
     (whole _ _ _ _ c.len-len.ensures.len rows c.log2_strict_usize-digits.ensures.power)
     (rw all at c.loop-line.invariant.crossed)
@@ -95,7 +105,7 @@ pub returns-clause-exact : goal.returns-clause-exact
 returns-clause-exact g c k e =
     let x = c.log2_strict_usize-digits.result in
     let rows = IsPowerOfRows-from _ _ (λ e. c.if-len-eq0.false (c.len-len.ensures.len ∙ e)) c.requires in
-    let all : c.loop-line.line ≡ 2 ^ (x % 2 + x / 2) = omega (arith, c.power_of_two-lines.ensures) in
+    let all : c.loop-line.line ≡ 2 ^ (x % 2 + x / 2) = omega (arith, weight _ _ c.log2_strict_usize-digits.ensures.power) in
     let length_is = whole _ _ _ _ c.len-len.ensures.len rows c.log2_strict_usize-digits.ensures.power in
     let same : x / 2 + (x % 2 + x / 2) ≡ k = rows-same c.args.row_width (x / 2 + (x % 2 + x / 2)) k rows.wide (sym length_is ∙ e) in
     let count = rw (all, lines-short (x / 2) (x % 2) (omega arith), same) at c.loop-line.invariant.count in
@@ -105,7 +115,7 @@ pub returns-clause-count : goal.returns-clause-count
 returns-clause-count g c =
     let x = c.log2_strict_usize-digits.result in
     let rows = IsPowerOfRows-from _ _ (λ e. c.if-len-eq0.false (c.len-len.ensures.len ∙ e)) c.requires in
-    let all : c.loop-line.line ≡ 2 ^ (x % 2 + x / 2) = omega (arith, c.power_of_two-lines.ensures) in
+    let all : c.loop-line.line ≡ 2 ^ (x % 2 + x / 2) = omega (arith, weight _ _ c.log2_strict_usize-digits.ensures.power) in
     let k = x / 2 + (x % 2 + x / 2) in
     let length_is = whole _ _ _ _ c.len-len.ensures.len rows c.log2_strict_usize-digits.ensures.power in
     let half : c.args.row_width * short_swaps k ≤ length (g.S.Places.items c.args.m.now.holder) / 2 = rw length_is (row_swaps-le c.args.row_width k) in

@@ -1,4 +1,4 @@
-use Rattle.std.proofs.Common.{◌≡◌, ◌*◌, ◌%◌, ◌^◌}
+use Rattle.std.proofs.Common.{◌≡◌, ◌*◌, ◌/◌, ◌%◌, ◌^◌}
 use Rattle.p3_util_kernels.specs.Crossing.{IsCrossed}
 use Rattle.p3_util_kernels.specs.Digits.{sum_below}
 use Rattle.p3_util_kernels.specs.Steps.{counted}
@@ -7,8 +7,8 @@ use Rattle.p3_util_kernels.proofs.reverse.rows.reverse_row_index_bits_on.Given a
 -- the pairs of the lines before this one are exchanged
 abbrev pub invariant-loop-line : goal.invariant-loop-line
 invariant-loop-line g l = record {
-  crossed : IsCrossed l.half l.middle l.row_width 0 (l.line * 2 ^ l.half)
+  crossed : IsCrossed (l.digits / 2) (l.digits % 2) l.row_width 0 (l.line * 2 ^ (l.digits / 2))
       (g.S.Places.items l.initial.m.holder) (g.S.Places.items l.m.holder);
-  count : l.m.count ≡ counted l.initial.m.count (l.row_width * sum_below l.line (λ n. n % 2 ^ l.half));
+  count : l.m.count ≡ counted l.initial.m.count (l.row_width * sum_below l.line (λ n. n % 2 ^ (l.digits / 2)));
   holder : g.S.Places.same_holder l.initial.m.holder l.m.holder;
 }
