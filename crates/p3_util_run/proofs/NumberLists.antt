@@ -1,12 +1,12 @@
 -- Lists of numbers as JSON: what is no list of them, and that their text has no float.
-use Rattle.std.proofs.Common.{◌≡◌, ℕ, ◌<◌, List, [], ◌∷◌, map, length, get_or, ◌++◌, false, Some, None, ap, subst, refl, sym, ◌∙◌, arith}
+use Rattle.std.proofs.Common.{◌≡◌, ℕ, ◌<◌, List, [], ◌∷◌, map, length, get_or, false, Some, None, Result, Ok, Err, IfOk, ap, subst, refl, sym, ◌∙◌, arith}
 use Rattle.std.proofs.lemmas.List.{get_or-map, length-map}
 use Rattle.std.specs.Option.{option_and_then}
 use Rattle.serde_json.specs.Data.{Data}
 use Rattle.serde_json.specs.Find.{as_array, as_number, as_u64}
 use Rattle.serde_json.specs.View.{items_of}
 use Rattle.serde_json.specs.Written.{compact_text, has_float, items_have_float}
-use Rattle.p3_util_run.specs.Arrays.{array_of, number_of, line_of}
+use Rattle.p3_util_run.specs.Arrays.{array_of, number_of}
 
 pub items_of_injective : (ds es : List Data) → items_of ds ≡ items_of es → ds ≡ es
 items_of_injective [] [] h = refl
@@ -51,8 +51,10 @@ items_of_numbers ds d xs items is =
     items_of_injective _ _ inner
 
 -- the text of the array of numbers
-pub text_of_numbers : (d : Data) (xs text : List ℕ) → d ≡ array_of xs → (has_float d ≡ false → text ≡ compact_text d) → text ++ 10 ∷ [] ≡ line_of xs
-text_of_numbers d xs text same written =
-    let is_text : Data → Type 0 = λ e. has_float e ≡ false → text ≡ compact_text e in
+pub text_of_numbers : {T E : Type 0} → (bytes : T → List ℕ) (d : Data) (xs : List ℕ) (r : Result T E) → d ≡ array_of xs
+    → IfOk r (λ text. has_float d ≡ false → bytes text ≡ compact_text d) → IfOk r (λ text. bytes text ≡ compact_text (array_of xs))
+text_of_numbers bytes d xs (Ok text) same written =
+    let is_text : Data → Type 0 = λ e. has_float e ≡ false → bytes text ≡ compact_text e in
     let exact : is_text (array_of xs) = subst is_text same written in
-    ap (λ t. t ++ 10 ∷ []) (exact (numbers_have_no_float xs))
+    exact (numbers_have_no_float xs)
+text_of_numbers bytes d xs (Err e) same written = tt

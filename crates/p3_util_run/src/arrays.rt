@@ -2,6 +2,7 @@
 
 ghost use Rattle.std.specs.Prelude.{◌≡◌, ℕ, ◌++◌, ◌⊎◌, List, map, IfOk, IfErr, string_bytes};
 ghost use Rattle.serde_json.specs.View.{view};
+ghost use Rattle.serde_json.specs.Written.{compact_text};
 ghost use Rattle.p3_util_run.specs.Arrays.{IsArrayOf, array_of, number_of, line_of};
 
 use crate::fault::RunFault;
@@ -49,11 +50,18 @@ fn read_numbers(alloc: Global, items: &[Value]) -> Result<Vec<u64>, RunFault>
 pub fn line(alloc: Global, numbers: &[u64]) -> Result<String, AllocError>
     ensures { IfOk result (λ text. string_bytes text ≡ line_of numbers.now) }
 {
+    let mut text = array_text(alloc, numbers)?;
+    text.push_str("\n")?;
+    Ok(text)
+}
+
+/// The text of a JSON array of the numbers, with no space.
+fn array_text(alloc: Global, numbers: &[u64]) -> Result<String, AllocError>
+    ensures { IfOk result (λ text. string_bytes text ≡ compact_text (array_of numbers.now)) }
+{
     let mut items = Vec::new(alloc);
     for number in numbers {
         items.push(Value::from(*number))?;
     }
-    let mut text = Value::from(items).to_string(alloc)?;
-    text.push_str("\n")?;
-    Ok(text)
+    Value::from(items).to_string(alloc)
 }

@@ -126,7 +126,7 @@ fn read_all<R: Read>(alloc: Global, reader: &mut Watched<R>) -> Result<Vec<u8>, 
 {
     let mut input = Vec::new(alloc);
     let mut chunk = [0u8; CHUNK];
-    loop {
+    'reads: loop {
         match reader.read(&mut chunk) {
             Ok(0) => return Ok(input),
             Ok(n) => {
