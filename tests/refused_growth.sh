@@ -28,8 +28,8 @@ refusing() {
         >"$work/out" 2>"$work/err"
 }
 
-# told NAME TEXT: says what went wrong in a run.
-told() {
+# failed NAME TEXT: prints what went wrong in a run.
+failed() {
     echo "FAILED  $1: $2"
     head -c 400 "$work/out" "$work/err"
     bad=1
@@ -43,14 +43,14 @@ of_program() {
         refusing "$n" "$program" "${@:4}" <<<"$input"
         status=$?
         if [[ ! -e $work/refused ]]; then
-            [[ $status == 0 && $(<"$work/out") == "$output" ]] || told "$name" "status $status with ample memory"
+            [[ $status == 0 && $(<"$work/out") == "$output" ]] || failed "$name" "status $status with ample memory"
             break
         fi
         [[ $status == 3 && ! -s $work/out && $(<"$work/err") == 'error: out of memory' ]] ||
-            told "$name" "status $status where growth $n was refused"
+            failed "$name" "status $status where growth $n was refused"
     done
     echo "$name: $((n - 1)) growths, each refused once"
-    ((n > 1)) || told "$name" 'no growth was refused'
+    ((n > 1)) || failed "$name" 'no growth was refused'
 }
 
 # of_test PROGRAM TEST
@@ -60,7 +60,7 @@ of_test() {
         n=$((n + 1))
         refusing "$n" "$1" "$2" </dev/null
         status=$?
-        ((status == 0)) || told "$2" "status $status where growth $n was refused"
+        ((status == 0)) || failed "$2" "status $status where growth $n was refused"
         [[ -e $work/refused ]] || break
     done
     echo "$2: $((n - 1)) growths, each refused once"
@@ -79,7 +79,7 @@ for line in "${tests[@]}"; do
     built=crates/$crate/out/${crate}_tests
     [[ -x $built ]] || (cd "crates/$crate" && rt test) || exit 1
     if ! names=$("$built" --list | sed 's/: test$//' | grep "^$prefix"); then
-        told "$crate" "there is no test $prefix"
+        failed "$crate" "there is no test $prefix"
         continue
     fi
     for name in $names; do

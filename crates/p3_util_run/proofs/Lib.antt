@@ -1,5 +1,4 @@
 pub mod Endings
 pub mod NumberLists
 pub mod Pieces
-pub mod PowersOfTwo
 pub mod Sides

@@ -31,7 +31,7 @@ pub numbers_have_no_float : (xs : List ℕ) → items_have_float (items_of (map 
 numbers_have_no_float [] = refl
 numbers_have_no_float (x ∷ xs) = numbers_have_no_float xs
 
--- an item that is no number without a sign stands in no list of them
+-- an item that is no number without a sign is in no list of them
 pub refused_item : {A : Type 0} → (view : A → Data) (items : List A) (xs : List ℕ) (i : ℕ) (it : A) → i < length items → it ≡ get_or items i it
     → None ≡ option_and_then as_u64 (as_number (view it)) → map view items ≡ map number_of xs → ⊥
 refused_item view items xs i it in_range here none same =

@@ -35,6 +35,6 @@ end_after_read (Err _) bytes Ahead = Ahead
 end_after_read r bytes Reached = Passed
 end_after_read r bytes Passed = Passed
 
--- it failed since: the count rose, or it stands at its greatest
+-- it failed since: the count rose, or it is at its greatest
 abbrev pub HasFailed : {T : Type 0} → Watch T → Watch T → Type 0
 HasFailed old new = (old.failures < new.failures) ⊎ (new.failures ≡ 2 ^ 64 - 1)

@@ -1,6 +1,6 @@
 //! The program over any reader and any writer.
 
-ghost use Rattle.std.specs.Prelude.{◌≡◌, ◌≢◌, ◌<◌, ◌*◌, ◌↔◌, ◌⊎◌, ℕ, List, length, IsOk, OnOk, IfOk, OnErr, IfErr, IfSome, IsTrue, MatchResult, string_bytes, true};
+ghost use Rattle.std.specs.Prelude.{◌≡◌, ◌≢◌, ◌<◌, ◌*◌, ◌↔◌, ◌⊎◌, ℕ, List, length, IsOk, OnOk, IfOk, OnErr, IfErr, IfSome, MatchResult, string_bytes, true};
 ghost use Rattle.std.specs.Io.KnownBytes.{Appends};
 ghost use Rattle.p3_util_kernels.specs.Reversal.{IsReversal, IsZeroOrPowerOfTwo};
 ghost use Rattle.p3_util_kernels.specs.Transpose.{IsTranspose};
@@ -14,7 +14,7 @@ use crate::arrays::{line, read_array};
 use crate::fault::RunFault;
 use crate::watched::Watched;
 use crate::words::Command;
-use p3_util_kernels::reverse::reverse_slice_index_bits;
+use p3_util_kernels::reverse::{fits_rows, reverse_slice_index_bits};
 use p3_util_kernels::transpose::{fits_matrix, transpose};
 use std::alloc::Global;
 use std::io::{Read, Write};
@@ -23,10 +23,11 @@ const CHUNK: usize = 8192;
 
 /// Runs the program on its words, a reader of the input and a writer of the output.
 ///
-/// The faults are told in this order: `RunFault::UnknownCommand`, with nothing read; `RunFault::Read`, at the reader's
-/// first failure; `RunFault::NotAnArray`; `RunFault::BadLength` or `RunFault::NotTheLength`; `RunFault::Memory`, wherever
-/// room is asked for; `RunFault::Write`, at the writer's first failure. Nothing is written before the whole text is
-/// there. How much a failed writer took is left open.
+/// The checks come in this order: `RunFault::UnknownCommand`, with nothing read; `RunFault::Read`, at the reader's first
+/// failure; `RunFault::NotAnArray`; `RunFault::BadLength` or `RunFault::NotTheLength`; `RunFault::Write`, at the writer's
+/// first failure. `RunFault::Memory` comes wherever a growth is refused. A failure is of any kind, an interrupted call too,
+/// and nothing is tried again. Nothing is written before the whole text is there. How much a failed writer took is left
+/// open.
 pub fn run<R: Read, W: Write>(
     alloc: Global,
     words: &[String],
@@ -56,16 +57,16 @@ pub fn run<R: Read, W: Write>(
     ensures refuses { IfSome (R.remaining reader.old.inner) (λ input. IsSettled result
         → (fault : RunFault) → (result ≡ Err fault) ↔ Fault (texts_of words.now) input fault) }
 
-    // Bad words alone are told so, and nothing is read then.
+    // The words alone decide this fault, and nothing is read then.
     ensures unknown { (result ≡ Err RunFault.UnknownCommand) ↔ (command_of (texts_of words.now) ≡ None) }
     ensures unread { result ≡ Err RunFault.UnknownCommand → reader.new ≡ reader.old }
     ensures unwritten { IfErr result (λ fault. fault ≢ RunFault.Write → writer.new ≡ writer.old) }
 
-    // A part that failed is told, and the answer tells of no failure that was none.
+    // A failure that is counted gives its fault, and the fault comes of no other, as long as the count is not full.
     ensures reader_failed { result ≡ Err RunFault.Read → HasFailed reader.old reader.new }
-    ensures reader_told { reader.old.failures < reader.new.failures → result ≡ Err RunFault.Read }
+    ensures reader_fault { reader.old.failures < reader.new.failures → result ≡ Err RunFault.Read }
     ensures writer_failed { result ≡ Err RunFault.Write → HasFailed writer.old writer.new }
-    ensures writer_told { writer.old.failures < writer.new.failures → result ≡ Err RunFault.Write }
+    ensures writer_fault { writer.old.failures < writer.new.failures → result ≡ Err RunFault.Write }
 
     // The first failure ends the run, so one is counted.
     ensures reader_once { (result ≡ Err RunFault.Read → reader.new.failures ≡ noted reader.old.failures)
@@ -169,18 +170,12 @@ fn reversed(mut numbers: Vec<u64>) -> Result<Vec<u64>, RunFault>
         × (e ≡ RunFault.BadLength (length numbers.items))) }
 {
     let len = numbers.len();
-    if is_zero_or_power_of_two(len) {
+    if fits_rows(len, 1) {
         reverse_slice_index_bits(numbers.as_mut_slice());
         Ok(numbers)
     } else {
         Err(RunFault::BadLength { len })
     }
-}
-
-fn is_zero_or_power_of_two(len: usize) -> bool
-    ensures { IsTrue result ↔ IsZeroOrPowerOfTwo len }
-{
-    len == 0 || len.is_power_of_two()
 }
 
 /// The transpose of a matrix of `height` rows of `width` items. `RunFault::NotTheLength` where that is not the list's

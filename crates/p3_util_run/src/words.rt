@@ -5,7 +5,7 @@ ghost use Rattle.std.specs.List.{list_all};
 ghost use Rattle.std.specs.Char.{is_ascii_digit};
 ghost use Rattle.p3_util_run.specs.Words.{command_of, side_of};
 
-/// What the program is told to do with its list.
+/// What the program does with its list.
 #[derive(Drop)]
 pub enum Command {
     /// Order it by reversed index bits.

@@ -1,5 +1,0 @@
-use Rattle.p3_util_run.proofs.PowersOfTwo.{nonzero_test}
-use Rattle.p3_util_run.proofs.program.is_zero_or_power_of_two.Goals as goal
-
-pub returns-else-len-eq0 : goal.returns-else-len-eq0
-returns-else-len-eq0 c = rw c.is_power_of_two.ensures (nonzero_test c.args.len c.if-len-eq0.false)
