@@ -47,6 +47,8 @@ words() {
     is 'a list' 0 "$turned" ''
     run transpose 3 2 <<<'[1,2,3,4,5,6]'
     is 'a matrix' 0 $'[1,4,2,5,3,6]\n' ''
+    run revrows 2 <<<'[0,1,2,3,4,5,6,7]'
+    is 'rows' 0 $'[0,1,4,5,2,3,6,7]\n' ''
     run revbits <<<'[1,2,3]'
     is 'a length that does not fit' 2 '' $'error: length 3 is neither zero nor a power of two\n'
     run <<<"$list"

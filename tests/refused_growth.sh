@@ -71,6 +71,7 @@ program=crates/p3_util_run/out/p3_util_run
 for program in $program{,.by-rattle}; do
     [[ -x $program ]] || continue
     of_program "$program" '[10,20,30,40]' '[10,30,20,40]' revbits
+    of_program "$program" '[0,1,2,3,4,5,6,7]' '[0,1,4,5,2,3,6,7]' revrows 2
     of_program "$program" '[1,2,3,4,5,6]' '[1,4,2,5,3,6]' transpose 3 2
 done
 

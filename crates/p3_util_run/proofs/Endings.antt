@@ -4,7 +4,7 @@ use Rattle.std.specs.Prelude.{IsSomeAnd, ⊤}
 use Rattle.std.specs.Io.KnownBytes.{Appends}
 use Rattle.std.proofs.KnownBytes.{Consumes-whole}
 use Rattle.p3_util_kernels.proofs.Matrix.{IsTranspose-unique}
-use Rattle.p3_util_kernels.proofs.Reversal.{IsReversal-unique}
+use Rattle.p3_util_kernels.proofs.Reversal.{IsReversal-unique, IsRowReversal-unique}
 use Rattle.p3_util_run.proofs.NumberLists.{array_of_injective}
 use Rattle.p3_util_run.specs.Arrays.{IsArrayOf, array_of, line_of}
 use Rattle.p3_util_run.specs.Program.{Answers, Fault, Fits, IsDefined, IsRearranged, IsSettled, misfit, Out, ReadsAll, Refuses}
@@ -12,7 +12,7 @@ use Rattle.p3_util_run.specs.Words.{command_of}
 use Rattle.p3_util_run.specs.declared.fault.RunFault.{RunFault}
 use Rattle.p3_util_run.specs.declared.fault.RunFault.TheVariants.{Memory, Write, UnknownCommand}
 use Rattle.p3_util_run.specs.declared.words.Command.{Command}
-use Rattle.p3_util_run.specs.declared.words.Command.TheVariants.{Revbits, Transpose}
+use Rattle.p3_util_run.specs.declared.words.Command.TheVariants.{Revbits, Revrows, Transpose}
 
 -- an input is the array of one list at most
 same_list : (input xs ys : List ℕ) → IsArrayOf input xs → IsArrayOf input ys → xs ≡ ys
@@ -38,6 +38,7 @@ one_refusal command input f g (inr unfit) (inr unfit') =
 
 one_list : (command : Command) (old a b : List ℕ) → Fits command (length old) → IsRearranged command old a → IsRearranged command old b → a ≡ b
 one_list Revbits old a b fits p q = IsReversal-unique old a b fits p q
+one_list (Revrows width) old a b fits p q = IsRowReversal-unique width old a b fits p q
 one_list (Transpose width height) old a b fits p q = IsTranspose-unique width height old a b p q
 
 one_answer : (command : Command) (input a b : List ℕ) → Answers command input a → Answers command input b → a ≡ b

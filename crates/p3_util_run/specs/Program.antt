@@ -2,28 +2,31 @@
 use Rattle.std.specs.Prelude.{ℕ, ◌≡◌, ◌⊎◌, ◌*◌, List, length, map, String, string_bytes, Option, Result, Ok, Err, IsSomeAnd, MatchOption, ⊤}
 use Rattle.std.specs.declared.alloc.Global.{Global}
 use Rattle.std.specs.Io.KnownBytes.{Consumes, IsAtEnd}
-use Rattle.p3_util_kernels.specs.Reversal.{IsReversal, IsZeroOrPowerOfTwo}
+use Rattle.p3_util_kernels.specs.Reversal.{FitsRows, IsReversal, IsRowReversal, IsZeroOrPowerOfTwo}
 use Rattle.p3_util_kernels.specs.Transpose.{IsTranspose}
 use Rattle.p3_util_run.specs.Arrays.{IsArrayOf, line_of}
 use Rattle.p3_util_run.specs.Words.{command_of}
 use Rattle.p3_util_run.specs.declared.fault.RunFault.{RunFault}
-use Rattle.p3_util_run.specs.declared.fault.RunFault.TheVariants.{UnknownCommand, Read, NotAnArray, BadLength, NotTheLength, Memory, Write}
+use Rattle.p3_util_run.specs.declared.fault.RunFault.TheVariants.{UnknownCommand, Read, NotAnArray, BadLength, NotTheLength, Memory, Write, BadRows}
 use Rattle.p3_util_run.specs.declared.words.Command.{Command}
-use Rattle.p3_util_run.specs.declared.words.Command.TheVariants.{Revbits, Transpose}
+use Rattle.p3_util_run.specs.declared.words.Command.TheVariants.{Revbits, Revrows, Transpose}
 
 -- a list of this length can be rearranged
 abbrev pub Fits : Command → ℕ → Type 0
 Fits Revbits len = IsZeroOrPowerOfTwo len
+Fits (Revrows width) len = FitsRows len width
 Fits (Transpose width height) len = len ≡ width * height
 
 -- the new list is the old one as the command rearranges it
 abbrev pub IsRearranged : Command → (old new : List ℕ) → Type 0
 IsRearranged Revbits old new = IsReversal old new
+IsRearranged (Revrows width) old new = IsRowReversal width old new
 IsRearranged (Transpose width height) old new = IsTranspose width height old new
 
 -- the fault of a list of this length, where it cannot be rearranged
 abbrev pub misfit : Command → ℕ → RunFault
 misfit Revbits len = BadLength len
+misfit (Revrows width) len = BadRows width len
 misfit (Transpose width height) len = NotTheLength width height len
 
 -- the input is the array of a list that can be rearranged, and the text is the line of what it becomes
@@ -56,6 +59,7 @@ IsOfInput (BadLength len) = ⊤
 IsOfInput (NotTheLength width height len) = ⊤
 IsOfInput Memory = ⊥
 IsOfInput Write = ⊥
+IsOfInput (BadRows width len) = ⊤
 
 -- neither the reader nor memory nor the writer failed
 abbrev pub IsSettled : {T : Type 0} → Result T RunFault → Type 0
@@ -67,6 +71,7 @@ IsSettled (Err (BadLength len)) = ⊤
 IsSettled (Err (NotTheLength width height len)) = ⊤
 IsSettled (Err Memory) = ⊥
 IsSettled (Err Write) = ⊥
+IsSettled (Err (BadRows width len)) = ⊤
 
 -- the bytes that a reader had left, where they are known, are these, and none is left
 abbrev pub ReadsAll : Option (List ℕ) → Option (List ℕ) → List ℕ → Type 0

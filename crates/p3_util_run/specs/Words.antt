@@ -4,14 +4,14 @@ use Rattle.std.specs.Char.{is_ascii_digit}
 use Rattle.std.specs.List.{list_all}
 use Rattle.std.specs.Str.{bytes_eq}
 use Rattle.p3_util_run.specs.declared.words.Command.{Command}
-use Rattle.p3_util_run.specs.declared.words.Command.TheVariants.{Revbits, Transpose}
+use Rattle.p3_util_run.specs.declared.words.Command.TheVariants.{Revbits, Revrows, Transpose}
 
 -- the number that decimal digits write: each weighs a power of ten
 abbrev pub decimal_value : List ℕ → ℕ
 decimal_value [] = 0
 decimal_value (digit ∷ rest) = (digit - 48) * 10 ^ length rest + decimal_value rest
 
--- a side of a matrix: one or more decimal digits, whose value is below 2 ^ 64
+-- a side of a matrix, or the width of a row: one or more decimal digits, whose value is below 2 ^ 64
 abbrev pub side_of : List ℕ → Option ℕ
 side_of word = if nat_lt 0 (length word) && list_all is_ascii_digit word && nat_lt (decimal_value word) (2 ^ 64) then Some (decimal_value word) else None
 
@@ -21,10 +21,15 @@ transpose_of (Some width) (Some height) = Some (Transpose width height)
 transpose_of (Some width) None = None
 transpose_of None height = None
 
--- `revbits` alone, or `transpose` and two sides, the width first
+-- rows of a width
+abbrev pub revrows_of : Option ℕ → Option Command
+revrows_of (Some width) = Some (Revrows width)
+revrows_of None = None
+
+-- `revbits` alone, `revrows` and a width, or `transpose` and two sides, the width first
 abbrev pub command_of : List (List ℕ) → Option Command
 command_of [] = None
 command_of (name ∷ []) = if bytes_eq name (codes "revbits") then Some Revbits else None
-command_of (name ∷ width ∷ []) = None
+command_of (name ∷ width ∷ []) = if bytes_eq name (codes "revrows") then revrows_of (side_of width) else None
 command_of (name ∷ width ∷ height ∷ []) = if bytes_eq name (codes "transpose") then transpose_of (side_of width) (side_of height) else None
 command_of (name ∷ width ∷ height ∷ more ∷ rest) = None

@@ -27,6 +27,11 @@ pub enum RunFault {
     Memory,
     /// The writer failed, or took none of what it was given.
     Write,
+    /// The array's length `len` is not `width` times zero or a power of two.
+    BadRows {
+        width: usize,
+        len: usize,
+    },
 }
 
 impl RunFault {
@@ -57,6 +62,12 @@ impl fmt::Display for RunFault {
             }
             RunFault::Memory => f.write_str("out of memory"),
             RunFault::Write => f.write_str("output cannot be written"),
+            RunFault::BadRows { width, len } => {
+                write!(
+                    f,
+                    "length {len} is not {width} times zero or a power of two"
+                )
+            }
         }
     }
 }

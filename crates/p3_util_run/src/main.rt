@@ -1,5 +1,5 @@
-//! Rearranges a JSON array of numbers: `revbits` orders it by reversed index bits, and `transpose W H` transposes it as a
-//! matrix of `H` rows of `W` items.
+//! Rearranges a JSON array of numbers: `revbits` orders it by reversed index bits, `revrows W` orders its rows of `W` items
+//! so, and `transpose W H` transposes it as a matrix of `H` rows of `W` items.
 //!
 //! The array is read from standard input. Its rearrangement is written to standard output, with a line feed.
 #![tactic(auto)]

@@ -2,7 +2,7 @@
 
 ghost use Rattle.std.specs.Prelude.{◌≡◌, ◌≢◌, ◌<◌, ◌*◌, ◌↔◌, ◌⊎◌, ℕ, List, length, IsOk, OnOk, IfOk, OnErr, IfErr, IfSome, MatchResult, string_bytes, true};
 ghost use Rattle.std.specs.Io.KnownBytes.{Appends};
-ghost use Rattle.p3_util_kernels.specs.Reversal.{IsReversal, IsZeroOrPowerOfTwo};
+ghost use Rattle.p3_util_kernels.specs.Reversal.{FitsRows, IsReversal, IsRowReversal, IsZeroOrPowerOfTwo};
 ghost use Rattle.p3_util_kernels.specs.Transpose.{IsTranspose};
 ghost use Rattle.p3_util_run.specs.Program.{Answers, Fault, IsDefined, IsOfInput, IsSettled, Fits, IsRearranged, misfit, Out, ReadsAll, Refuses, texts_of};
 ghost use Rattle.p3_util_run.specs.Watch.{HasFailed, noted};
@@ -14,7 +14,7 @@ use crate::arrays::{line, read_array};
 use crate::fault::RunFault;
 use crate::watched::Watched;
 use crate::words::Command;
-use p3_util_kernels::reverse::{fits_rows, reverse_slice_index_bits};
+use p3_util_kernels::reverse::{fits_rows, reverse_slice_index_bits, reverse_slice_row_index_bits};
 use p3_util_kernels::transpose::{fits_matrix, transpose};
 use std::alloc::Global;
 use std::io::{Read, Write};
@@ -24,10 +24,10 @@ const CHUNK: usize = 8192;
 /// Runs the program on its words, a reader of the input and a writer of the output.
 ///
 /// The checks come in this order: `RunFault::UnknownCommand`, with nothing read; `RunFault::Read`, at the reader's first
-/// failure; `RunFault::NotAnArray`; `RunFault::BadLength` or `RunFault::NotTheLength`; `RunFault::Write`, at the writer's
-/// first failure. `RunFault::Memory` comes wherever a growth is refused. A failure is of any kind, an interrupted call too,
-/// and nothing is tried again. Nothing is written before the whole text is there. How much a failed writer took is left
-/// open.
+/// failure; `RunFault::NotAnArray`; `RunFault::BadLength`, `RunFault::BadRows` or `RunFault::NotTheLength`;
+/// `RunFault::Write`, at the writer's first failure. `RunFault::Memory` comes wherever a growth is refused. A failure is of
+/// any kind, an interrupted call too, and nothing is tried again. Nothing is written before the whole text is there. How
+/// much a failed writer took is left open.
 pub fn run<R: Read, W: Write>(
     alloc: Global,
     words: &[String],
@@ -86,7 +86,8 @@ pub fn run<R: Read, W: Write>(
 
 /// The text that answers an input.
 ///
-/// `RunFault::NotAnArray`, `RunFault::BadLength` or `RunFault::NotTheLength` where there is none, and `RunFault::Memory`.
+/// `RunFault::NotAnArray`, `RunFault::BadLength`, `RunFault::BadRows` or `RunFault::NotTheLength` where there is none, and
+/// `RunFault::Memory`.
 fn answer(alloc: Global, command: &Command, input: &[u8]) -> Result<String, RunFault>
     ensures ok { IfOk result (λ text. Answers command.now input.now (string_bytes text)) }
     ensures err { IfErr result (λ fault. (fault ≡ RunFault.Memory) ⊎ Refuses command.now input.now fault) }
@@ -108,6 +109,7 @@ fn rearrange(alloc: Global, command: &Command, numbers: Vec<u64>) -> Result<Vec<
 {
     match command {
         Command::Revbits => reversed(numbers),
+        Command::Revrows { width } => rows_reversed(numbers, *width),
         Command::Transpose { width, height } => {
             transposed(alloc, numbers.as_slice(), *width, *height)
         }
@@ -175,6 +177,22 @@ fn reversed(mut numbers: Vec<u64>) -> Result<Vec<u64>, RunFault>
         Ok(numbers)
     } else {
         Err(RunFault::BadLength { len })
+    }
+}
+
+/// The list with its rows of `width` items by reversed index bits. `RunFault::BadRows` where its length is not `width`
+/// times zero or a power of two.
+fn rows_reversed(mut numbers: Vec<u64>, width: usize) -> Result<Vec<u64>, RunFault>
+    ensures ok { IfOk result (λ v. FitsRows (length numbers.items) width × IsRowReversal width numbers.items v.items) }
+    ensures err { IfErr result (λ e. ¬ FitsRows (length numbers.items) width
+        × (e ≡ RunFault.BadRows width (length numbers.items))) }
+{
+    let len = numbers.len();
+    if fits_rows(len, width) {
+        reverse_slice_row_index_bits(numbers.as_mut_slice(), width);
+        Ok(numbers)
+    } else {
+        Err(RunFault::BadRows { width, len })
     }
 }
 

@@ -145,6 +145,36 @@ fn reversals(rt: HostRuntime) -> Result<(), Fail> {
 }
 
 #[test]
+fn reversals_of_rows(rt: HostRuntime) -> Result<(), Fail> {
+    let twelve = "[0,1,2,3,4,5,6,7,8,9,10,11]";
+    let twelve_by_three = "[0,1,2,6,7,8,3,4,5,9,10,11]\n";
+    let nine = "error: length 9 is not 3 times zero or a power of two";
+    let one = "error: length 1 is not 0 times zero or a power of two";
+    let four = "error: length 4 is not 3 times zero or a power of two";
+    let eight = "error: length 8 is not 18446744073709551615 times zero or a power of two";
+    for (width, input, output, status) in [
+        ("2", "[0,1,2,3,4,5,6,7]", "[0,1,4,5,2,3,6,7]\n", 0),
+        ("1", "[0,1,2,3,4,5,6,7]", "[0,4,2,6,1,5,3,7]\n", 0),
+        ("8", "[0,1,2,3,4,5,6,7]", "[0,1,2,3,4,5,6,7]\n", 0),
+        ("003", twelve, twelve_by_three, 0),
+        ("0", "[]", "[]\n", 0),
+        ("18446744073709551615", "[]", "[]\n", 0),
+        ("0", "[1]", one, 2),
+        ("3", "[1,2,3,4]", four, 2),
+        ("3", "[1,2,3,4,5,6,7,8,9]", nine, 2),
+        ("18446744073709551615", "[0,1,2,3,4,5,6,7]", eight, 2),
+        ("1", "[1,", NOT_AN_ARRAY, 2),
+        ("x", "[]", UNKNOWN, 2),
+        ("", "[]", UNKNOWN, 2),
+        ("18446744073709551616", "[]", UNKNOWN, 2),
+    ] {
+        let words = ["revrows", width];
+        prints(&rt, rt.alloc(), &words, input.as_bytes(), output, status)?;
+    }
+    Ok(())
+}
+
+#[test]
 fn transposes(rt: HostRuntime) -> Result<(), Fail> {
     let alloc = rt.alloc();
     let huge = "error: 4294967296 by 4294967296 is not the length 0";
@@ -171,9 +201,11 @@ fn transposes(rt: HostRuntime) -> Result<(), Fail> {
 
 #[test]
 fn unknown_words(rt: HostRuntime) -> Result<(), Fail> {
-    let words: [&[&str]; 6] = [
+    let words: [&[&str]; 8] = [
         &[],
         &["revbits", "x"],
+        &["revrows"],
+        &["revrows", "1", "1"],
         &["Revbits"],
         &["transpose", "1"],
         &["revbits", "1", "1"],

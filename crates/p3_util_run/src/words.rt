@@ -12,6 +12,8 @@ pub enum Command {
     Revbits,
     /// Transpose it, a matrix of `height` rows of `width` items.
     Transpose { width: usize, height: usize },
+    /// Order its rows of `width` items by reversed index bits.
+    Revrows { width: usize },
 }
 
 impl Command {
@@ -21,6 +23,9 @@ impl Command {
     {
         match words {
             [name] if name.as_str() == "revbits" => Some(Command::Revbits),
+            [name, width] if name.as_str() == "revrows" => Some(Command::Revrows {
+                width: side(width.as_str())?,
+            }),
             [name, width, height] if name.as_str() == "transpose" => Some(Command::Transpose {
                 width: side(width.as_str())?,
                 height: side(height.as_str())?,
