@@ -1,1 +1,2 @@
 pub mod NoPlace
+pub mod TwoLists

@@ -1,2 +1,3 @@
 pub mod MapCalls
 pub mod Padded
+pub mod Pairs

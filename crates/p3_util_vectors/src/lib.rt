@@ -8,12 +8,15 @@ mod bits;
 pub mod callers;
 #[cfg(test)]
 mod chunks;
+pub mod joined;
 #[cfg(test)]
 mod linear_map;
 #[cfg(test)]
 mod noted;
 #[cfg(test)]
 mod oracle;
+#[cfg(test)]
+mod refused_growth;
 #[cfg(test)]
 mod regions;
 #[cfg(test)]

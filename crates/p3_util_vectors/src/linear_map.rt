@@ -141,7 +141,7 @@ fn calls_the_closure_for_a_new_key(rt: HostRuntime) -> Result<(), Fail> {
 
 /// A key that is equal to any other spelling of it in capital and small letters.
 #[derive(Clone, Copy, Debug)]
-struct Spelling(&'static str);
+pub(crate) struct Spelling(pub(crate) &'static str);
 
 impl PartialEq for Spelling {
     ghost eq = { on (λ w. str_to_ascii_lowercase w.0.now) bytes_eq };

@@ -1,5 +1,6 @@
 //! Bit reversal against worked examples and the original crate.
 
+use crate::joined::Joined;
 use crate::oracle::reversals::REVERSALS;
 use crate::oracle::{hash, items};
 use p3_util_kernels::places::{Places, SlicePlaces, Swaps};
@@ -170,4 +171,15 @@ fn owners_without_clone(rt: HostRuntime) -> Result<(), Fail> {
         assert_eq!(rt; drops.get(), 1usize << bits);
     }
     Ok(())
+}
+
+/// Two slices, reversed as one list.
+#[test]
+fn joined_slices(rt: HostRuntime) {
+    let mut front = [0u64, 1, 2];
+    let mut back = [3u64, 4, 5, 6, 7];
+    let mut joined = Joined::new(&mut front, &mut back);
+    assert_eq!(rt; count_swaps_of(&rt, &mut joined), 2);
+    assert_eq!(rt; front, [0, 4, 2]);
+    assert_eq!(rt; back, [6, 1, 5, 3, 7]);
 }

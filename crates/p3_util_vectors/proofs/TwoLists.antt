@@ -1,0 +1,86 @@
+-- An exchange in a list that is joined of two, as an exchange in one of them or across both.
+use Rattle.std.proofs.Common.{ℕ, ◌≡◌, ◌≢◌, ◌+◌, ◌-◌, ◌<◌, ◌≤◌, List, [], ◌∷◌, ◌++◌, length, get_or, set, refl, sym, ap, ◌∙◌, arith, length-append}
+use Rattle.std.proofs.lemmas.List.{get_or_append_left, get_or-append-add, length-set, set-append_left, set-append_right, set_comm}
+use Rattle.std.proofs.lemmas.List.Edits.{swap_is}
+use Rattle.std.specs.List.{swap}
+
+module _ {A : Type 0} where
+  -- behind the first list's end
+  set-behind : (xs ys : List A) (n k : ℕ) (w : A) → length xs ≡ n → set (xs ++ ys) (n + k) w ≡ xs ++ set ys k w
+  set-behind xs ys n k w is = let same : n + k - n ≡ k = omega arith in set-append_right xs ys n (n + k) w is (omega arith) ∙ ap (λ p. xs ++ set ys p w) same
+
+  module _ (d : A) (xs ys : List A) where
+    front : (i j : ℕ) → i < length xs → j < length xs → swap xs i j ++ ys ≡ swap (xs ++ ys) i j
+    front i j li lj =
+        let v = get_or xs j d in
+        let w = get_or xs i d in
+        let all = length-append xs ys in
+        let lj' : j < length (set xs i v) = rw (length-set xs i v) lj in
+        let whole : set (set xs i v) j w ++ ys ≡ set (set (xs ++ ys) i v) j w = rw (set-append_left xs ys i v li) (sym (set-append_left (set xs i v) ys j w lj')) in
+        ap (λ l. l ++ ys) (sym (swap_is xs i j d li lj)) ∙ whole ∙
+        ap (λ x. set (set (xs ++ ys) i x) j w) (sym (get_or_append_left xs ys d j lj)) ∙
+        ap (λ x. set (set (xs ++ ys) i (get_or (xs ++ ys) j d)) j x) (sym (get_or_append_left xs ys d i li)) ∙
+        swap_is (xs ++ ys) i j d (omega (arith, all)) (omega (arith, all))
+
+    back : (i j : ℕ) → i < length ys → j < length ys → xs ++ swap ys i j ≡ swap (xs ++ ys) (length xs + i) (length xs + j)
+    back i j li lj =
+        let n = length xs in
+        let v = get_or ys j d in
+        let w = get_or ys i d in
+        let all = length-append xs ys in
+        let whole : xs ++ set (set ys i v) j w ≡ set (set (xs ++ ys) (n + i) v) (n + j) w = rw (set-behind xs ys n i v refl) (sym (set-behind xs (set ys i v) n j w refl)) in
+        ap (λ l. xs ++ l) (sym (swap_is ys i j d li lj)) ∙ whole ∙
+        ap (λ x. set (set (xs ++ ys) (n + i) x) (n + j) w) (sym (get_or-append-add xs ys j d)) ∙
+        ap (λ x. set (set (xs ++ ys) (n + i) (get_or (xs ++ ys) (n + j) d)) (n + j) x) (sym (get_or-append-add xs ys i d)) ∙
+        swap_is (xs ++ ys) (n + i) (n + j) d (omega (arith, all)) (omega (arith, all))
+
+    across : (i j : ℕ) → i < length xs → j < length ys → set xs i (get_or ys j d) ++ set ys j (get_or xs i d) ≡ swap (xs ++ ys) i (length xs + j)
+    across i j li lj =
+        let n = length xs in
+        let v = get_or ys j d in
+        let w = get_or xs i d in
+        let all = length-append xs ys in
+        let whole : set xs i v ++ set ys j w ≡ set (set (xs ++ ys) i v) (n + j) w = rw (set-append_left xs ys i v li) (sym (set-behind (set xs i v) ys n j w (length-set xs i v))) in
+        whole ∙ ap (λ x. set (set (xs ++ ys) i x) (n + j) w) (sym (get_or-append-add xs ys j d)) ∙
+        ap (λ x. set (set (xs ++ ys) i (get_or (xs ++ ys) (n + j) d)) (n + j) x) (sym (get_or_append_left xs ys d i li)) ∙
+        swap_is (xs ++ ys) i (n + j) d (omega (arith, all)) (omega (arith, all))
+
+  swap-sym : (xs : List A) (i j : ℕ) → i ≢ j → swap xs i j ≡ swap xs j i
+  swap-sym [] i j apart = refl
+  swap-sym (x ∷ xs) i j apart = set_comm (x ∷ xs) i j _ _ apart
+
+  -- both places in the first list
+  pub in-front : (xs ys : List A) (i j : ℕ) → i < length xs → j < length xs → swap xs i j ++ ys ≡ swap (xs ++ ys) i j
+  in-front [] ys i j li lj = absurd (omega arith)
+  in-front (x ∷ xs) ys i j li lj = front x (x ∷ xs) ys i j li lj
+
+  -- both places in the second list
+  behind : (xs ys : List A) (i j : ℕ) → i < length ys → j < length ys → xs ++ swap ys i j ≡ swap (xs ++ ys) (length xs + i) (length xs + j)
+  behind xs [] i j li lj = absurd (omega arith)
+  behind xs (y ∷ ys) i j li lj = back y xs (y ∷ ys) i j li lj
+
+  pub in-back : (xs ys : List A) (i j : ℕ) → length xs ≤ i → length xs ≤ j → i < length (xs ++ ys) → j < length (xs ++ ys)
+      → xs ++ swap ys (i - length xs) (j - length xs) ≡ swap (xs ++ ys) i j
+  in-back xs ys i j past-i past-j li lj =
+      let all = length-append xs ys in
+      let i-is : length xs + (i - length xs) ≡ i = omega arith in
+      let j-is : length xs + (j - length xs) ≡ j = omega arith in
+      rw (i-is, j-is) at (behind xs ys (i - length xs) (j - length xs) (omega (arith, all)) (omega (arith, all)))
+
+  -- one place in each
+  crossing : (xs ys us vs : List A) (i j : ℕ) → i < length xs → j < length ys → ((x : A) → us ≡ set xs i (get_or ys j x)) → ((x : A) → vs ≡ set ys j (get_or xs i x))
+      → us ++ vs ≡ swap (xs ++ ys) i (length xs + j)
+  crossing [] ys us vs i j li lj a b = absurd (omega arith)
+  crossing (x ∷ xs) ys us vs i j li lj a b = rw (a x, b x) (across x (x ∷ xs) ys i j li lj)
+
+  pub in-both : (xs ys us vs : List A) (i j : ℕ) → i < length xs → length xs ≤ j → j < length (xs ++ ys)
+      → ((x : A) → us ≡ set xs i (get_or ys (j - length xs) x)) → ((x : A) → vs ≡ set ys (j - length xs) (get_or xs i x)) → us ++ vs ≡ swap (xs ++ ys) i j
+  in-both xs ys us vs i j li past lj a b =
+      let all = length-append xs ys in
+      let j-is : length xs + (j - length xs) ≡ j = omega arith in
+      rw j-is at (crossing xs ys us vs i (j - length xs) li (omega (arith, all)) a b)
+
+  -- the same, with the place in the second list first
+  pub in-both-turned : (xs ys us vs : List A) (i j : ℕ) → j < length xs → length xs ≤ i → i < length (xs ++ ys)
+      → ((x : A) → us ≡ set xs j (get_or ys (i - length xs) x)) → ((x : A) → vs ≡ set ys (i - length xs) (get_or xs j x)) → us ++ vs ≡ swap (xs ++ ys) i j
+  in-both-turned xs ys us vs i j lj past li a b = let apart : j ≢ i = omega arith in in-both xs ys us vs j i lj past li a b ∙ swap-sym (xs ++ ys) j i apart
