@@ -11,6 +11,7 @@ cd "$(dirname "$0")/.."
 
 # The tests that are run so: a crate, and how the names of its tests begin.
 tests=(
+    'p3_util_vectors refused_growth::'
 )
 
 work=$(mktemp -d)
