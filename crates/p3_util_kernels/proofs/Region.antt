@@ -1,10 +1,11 @@
 -- Regions of a matrix transposed one after another.
-use Rattle.std.proofs.Common.{◌≡◌, ℕ, ◌+◌, ◌*◌, ◌<◌, ◌≤◌, ◌⊎◌, List, length, slice_get, set, Some, inl, inr, refl, sym, ◌∙◌, arith, length-set}
+use Rattle.std.proofs.Common.{◌≡◌, ℕ, ◌+◌, ◌-◌, ◌*◌, ◌<◌, ◌≤◌, ◌⊎◌, List, length, slice_get, set, Some, inl, inr, refl, sym, ap, ◌∙◌, arith, length-set}
 use Rattle.std.proofs.lemmas.Bool.{cases_lt}
 use Rattle.std.proofs.lemmas.Nat.{same_from_place}
 use Rattle.p3_util_kernels.specs.declared.transpose.Region.{Region}
 use Rattle.p3_util_kernels.specs.Region.{IsInRegion, IsRegionTransposed, rows_of, cols_of, items_of}
 use Rattle.p3_util_kernels.specs.Steps.{counted}
+use Rattle.p3_util_kernels.specs.Strided.{IsStridedPut}
 use Rattle.p3_util_kernels.specs.Transpose.{IsTranspose}
 use Rattle.p3_util_kernels.proofs.Exchange.{slice_get-set_same, slice_get-set_other}
 use Rattle.p3_util_kernels.proofs.Steps.{counted-more}
@@ -117,6 +118,32 @@ module _ {A : Type 0} (width height : ℕ) (input : List A) where
         slice_get-set_other old (x * height + y) p v
         (out x y (record { row_from = omega arith; row_to = omega arith; col_from = omega arith; col_to = omega arith }));
   })
+
+  -- one column
+  pub IsRegionTransposed-line : (region : Region) (x : ℕ) (old new : List A) → region.col_start ≡ x → region.col_end ≡ x + 1
+      → IsStridedPut (x * height + region.row_start) (region.row_start * width + x) width (region.row_end - region.row_start) input old new
+      → IsRegionTransposed region width height input old new
+  IsRegionTransposed-line region x old new col col_end s = record {
+    same_length = s.same_length;
+    places = λ a b h.
+        let ea : a ≡ x = omega (arith, h.col_from, h.col_to) in
+        let t = b - region.row_start in
+        let eb : b ≡ region.row_start + (b - region.row_start) = omega (arith, h.row_from) in
+        let to : x * height + b ≡ x * height + region.row_start + (b - region.row_start) = omega arith in
+        let from : b * width + x ≡ region.row_start * width + x + (b - region.row_start) * width =
+        ap (λ n. n * width + x) eb ∙ omega arith in
+        rw ea (rw (to, from) (s.places (b - region.row_start) (omega (arith, h.row_to))));
+    others = λ p out.
+        s.others p (elim (cases_lt p (x * height + region.row_start)) [
+          | inl before ↦ inl before
+          | inr from ↦ elim (cases_lt p (x * height + region.row_start + (region.row_end - region.row_start))) [
+              | inl inside ↦
+                  let y = p - x * height in
+                  absurd (out x (p - x * height) (record { row_from = omega arith; row_to = omega arith; col_from = omega arith; col_to = omega arith }) (omega arith))
+              | inr after ↦ inr after
+            ]
+        ]);
+  }
 
   -- the whole matrix
   pub IsTranspose-from_region : (region : Region) (old new : List A) → length old ≡ width * height → region.row_start ≡ 0 → region.row_end ≡ height

@@ -1,8 +1,14 @@
--- Items of a line of places exchanged with those of another, whose places are a stride apart.
-use Rattle.std.specs.Prelude.{ℕ, zero, suc, ◌+◌, ◌*◌, List}
+-- Lines of items: in one line the places follow one another, in the other they are a stride apart.
+use Rattle.std.specs.Prelude.{ℕ, zero, suc, ◌≡◌, ◌+◌, ◌*◌, ◌<◌, ◌≤◌, ◌⊎◌, List, length, slice_get}
 use Rattle.std.specs.List.{swap}
 
 -- For each t below `len` in turn the items at i + t * stride and at j + t are exchanged.
 unfoldable pub swap_strided : {A : Type 0} → (xs : List A) → (i j stride len : ℕ) → List A
 swap_strided xs i j stride zero = xs
 swap_strided xs i j stride (suc n) = swap (swap_strided xs i j stride n) (i + n * stride) (j + n)
+
+-- `new` holds at i + t, for each t below `len`, what stands in `input` at start + t * stride, and else what `old` holds.
+pub record IsStridedPut {A : Type 0} (i start stride len : ℕ) (input old new : List A) : Type 0 where
+  pub same_length : length new ≡ length old
+  pub places : (t : ℕ) → t < len → slice_get new (i + t) ≡ slice_get input (start + t * stride)
+  pub others : (p : ℕ) → (p < i) ⊎ (i + len ≤ p) → slice_get new p ≡ slice_get old p

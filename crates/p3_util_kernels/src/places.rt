@@ -9,7 +9,7 @@
 
 ghost use Rattle.std.specs.Prelude.{◌≡◌, ℕ, ◌+◌, ◌*◌, ◌<◌, ◌≤◌, List, Some, length, swap, slice_get, slice_set};
 ghost use Rattle.p3_util_kernels.specs.Exchanged.{RunsExchanged};
-ghost use Rattle.p3_util_kernels.specs.Strided.{swap_strided};
+ghost use Rattle.p3_util_kernels.specs.Strided.{IsStridedPut, swap_strided};
 
 mod counters;
 mod holders;
@@ -94,6 +94,29 @@ pub trait Cells {
         ensures written { items self.new ≡ slice_set (items self.old) i v }
         ensures holder { same_holder self.old self.new };
 
+    /// Puts at `i + t` the item of `source` at `start + t * stride`, for each `t` below `len` in turn. A holder may do so
+    /// in a faster way than by its `put`.
+    fn put_strided<R: Source<Item = Self::Item>>(
+        &mut self,
+        i: usize,
+        source: &R,
+        start: usize,
+        stride: usize,
+        len: usize,
+    )
+        requires room { i + len ≤ length (items self.old) }
+        requires inside { (t : ℕ) → t < len → start + t * stride < length (R.items source.now) }
+        ensures written { IsStridedPut i start stride len (R.items source.now) (items self.old) (items self.new) }
+        ensures holder { same_holder self.old self.new }
+    {
+        // Tell that the lengths are a usize.
+        let _ = self.len();
+        let _ = source.len();
+        for t in 0..len {
+            self.put(i + t, source.at(start + t * stride));
+        }
+    }
+
     ghost same_holder_refl: { (a : Self) → same_holder a a };
 
     ghost same_holder_trans: { (a b c : Self) → same_holder a b → same_holder b c → same_holder a c };
@@ -115,4 +138,25 @@ pub trait Source {
     fn at(&self, i: usize) -> Self::Item
         requires { i < length (items self.now) }
         ensures { slice_get (items self.now) i ≡ Some result };
+
+    /// Writes at `i + t` of `values` the item at `start + t * stride`, for each `t` below `len` in turn. A source may do so
+    /// in a faster way than by its `at`.
+    fn copy_strided(
+        &self,
+        start: usize,
+        stride: usize,
+        values: &mut [Self::Item],
+        i: usize,
+        len: usize,
+    )
+        requires inside { (t : ℕ) → t < len → start + t * stride < length (items self.now) }
+        requires room { i + len ≤ length values.old }
+        ensures { IsStridedPut i start stride len (items self.now) values.old values.new }
+    {
+        // Tells that the length is a usize.
+        let _ = self.len();
+        for t in 0..len {
+            values[i + t] = self.at(start + t * stride);
+        }
+    }
 }

@@ -22,6 +22,8 @@ mod regions;
 #[cfg(test)]
 mod reverse;
 #[cfg(test)]
+mod split;
+#[cfg(test)]
 mod square;
 #[cfg(test)]
 mod transpose;

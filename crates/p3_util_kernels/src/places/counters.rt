@@ -3,9 +3,9 @@
 ghost use Rattle.std.specs.Prelude.{◌≡◌, ℕ, ◌+◌, ◌*◌, ◌^◌, ◌<◌, ◌≤◌, length, swap, slice_set};
 ghost use Rattle.p3_util_kernels.specs.Exchanged.{RunsExchanged};
 ghost use Rattle.p3_util_kernels.specs.Steps.{Counted, counted};
-ghost use Rattle.p3_util_kernels.specs.Strided.{swap_strided};
+ghost use Rattle.p3_util_kernels.specs.Strided.{IsStridedPut, swap_strided};
 
-use crate::places::{Cells, Places};
+use crate::places::{Cells, Places, Source};
 use std::marker::Model;
 
 /// A holder of places that counts its exchanges. The count stays at `u128::MAX` once it is there.
@@ -135,6 +135,26 @@ impl<C: Cells> Writes<C> {
     {
         self.cells.put(i, v);
         self.writes = self.writes.saturating_add(1);
+    }
+
+    /// Puts at `i + t` the item of `source` at `start + t * stride`, for each `t` below `len` in turn, and counts `len`.
+    pub fn put_strided<R: Source<Item = C::Item>>(
+        &mut self,
+        i: usize,
+        source: &R,
+        start: usize,
+        stride: usize,
+        len: usize,
+    )
+        requires room { i + len ≤ length (C.items self.old.holder) }
+        requires inside { (t : ℕ) → t < len → start + t * stride < length (R.items source.now) }
+        ensures written { IsStridedPut i start stride len (R.items source.now)
+            (C.items self.old.holder) (C.items self.new.holder) }
+        ensures count { self.new.count ≡ counted self.old.count len }
+        ensures holder { C.same_holder self.old.holder self.new.holder }
+    {
+        self.cells.put_strided(i, source, start, stride, len);
+        self.writes = self.writes.saturating_add(len as u128);
     }
 
     /// How many writes were made, at most `u128::MAX`.

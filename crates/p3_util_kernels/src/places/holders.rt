@@ -3,7 +3,7 @@
 ghost use Rattle.std.specs.Prelude.{◌≡◌, ℕ, ◌+◌, ◌*◌, ◌<◌, ◌≤◌, ◌++◌, length};
 ghost use Rattle.std.proofs.Common.{refl, ◌∙◌};
 ghost use Rattle.p3_util_kernels.specs.Exchanged.{RunsExchanged};
-ghost use Rattle.p3_util_kernels.specs.Strided.{swap_strided};
+ghost use Rattle.p3_util_kernels.specs.Strided.{IsStridedPut, swap_strided};
 
 use crate::places::{Cells, Places, Source};
 use std::mem;
@@ -52,6 +52,17 @@ impl<C: Cells> Cells for &mut C {
 
     fn put(&mut self, i: usize, v: Self::Item) {
         C::put(self, i, v);
+    }
+
+    fn put_strided<R: Source<Item = Self::Item>>(
+        &mut self,
+        i: usize,
+        source: &R,
+        start: usize,
+        stride: usize,
+        len: usize,
+    ) {
+        C::put_strided(self, i, source, start, stride, len);
     }
 
     ghost same_holder_refl = { λ a. (refl, C.same_holder_refl a.now) };
@@ -173,6 +184,17 @@ impl<'a, T: Copy> Cells for SliceCells<'a, T> {
         self.values[i] = v;
     }
 
+    fn put_strided<R: Source<Item = T>>(
+        &mut self,
+        i: usize,
+        source: &R,
+        start: usize,
+        stride: usize,
+        len: usize,
+    ) {
+        source.copy_strided(start, stride, self.values, i, len);
+    }
+
     ghost same_holder_refl = { λ a. refl };
 
     ghost same_holder_trans = { λ a b c p q. p ∙ q };
@@ -204,5 +226,54 @@ impl<'a, T: Copy> Source for SliceSource<'a, T> {
 
     fn at(&self, i: usize) -> T {
         self.slice[i]
+    }
+
+    fn copy_strided(&self, start: usize, stride: usize, values: &mut [T], i: usize, len: usize) {
+        copy_strided(self.slice, start, stride, values, i, len);
+    }
+}
+
+/// How many items are copied between two tests.
+const BLOCK: usize = 8;
+
+/// Writes at `i + t` of `values` the item of `items` at `start + t * stride`, for each `t` below `len` in turn.
+fn copy_strided<T: Copy>(
+    items: &[T],
+    start: usize,
+    stride: usize,
+    values: &mut [T],
+    i: usize,
+    len: usize,
+)
+    requires inside { (t : ℕ) → t < len → start + t * stride < length items.now }
+    requires room { i + len ≤ length values.old }
+    ensures { IsStridedPut i start stride len items.now values.old values.new }
+{
+    for block in 0..len / BLOCK {
+        let done = block * BLOCK;
+        copy_few(items, start + done * stride, stride, values, i + done, BLOCK);
+    }
+    let done = len / BLOCK * BLOCK;
+    if done < len {
+        copy_few(items, start + done * stride, stride, values, i + done, len - done);
+    }
+}
+
+/// As [`copy_strided`], for a number of items that is small or known where the call is compiled.
+#[inline(always)]
+fn copy_few<T: Copy>(
+    items: &[T],
+    start: usize,
+    stride: usize,
+    values: &mut [T],
+    i: usize,
+    len: usize,
+)
+    requires inside { (t : ℕ) → t < len → start + t * stride < length items.now }
+    requires room { i + len ≤ length values.old }
+    ensures { IsStridedPut i start stride len items.now values.old values.new }
+{
+    for t in 0..len {
+        values[i + t] = items[start + t * stride];
     }
 }

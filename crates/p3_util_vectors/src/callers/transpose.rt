@@ -1,10 +1,15 @@
 //! Callers of the transposes.
 
 ghost use Rattle.std.specs.Prelude.{◌≡◌, ◌*◌, ◌^◌, ◌<◌, ◌↔◌, IsTrue, IsFalse, length};
+ghost use Rattle.p3_util_kernels.specs.Levels.{lev, nest};
+ghost use Rattle.p3_util_kernels.specs.Region.{IsRegionTransposed, LiesInMatrix, cols_of, rows_of};
 ghost use Rattle.p3_util_kernels.specs.Transpose.{IsTranspose};
 
-use p3_util_kernels::places::{Places, Swaps};
-use p3_util_kernels::transpose::{fits_matrix, transpose, transpose_square_on};
+use p3_util_kernels::bits::log2_ceil_usize;
+use p3_util_kernels::places::{Cells, Places, Swaps, Writes};
+use p3_util_kernels::transpose::{
+    Region, fits_matrix, transpose, transpose_split_on, transpose_square_on,
+};
 
 /// Transposes `matrix`, of `height` rows of `width` items, by way of `scratch`. `false`, and nothing done, where the
 /// lengths are not those of such a matrix.
@@ -49,4 +54,33 @@ pub fn transpose_whole_square<S: Places>(m: &mut Swaps<S>, log_size: usize)
     ensures { IsTranspose (2 ^ log_size) (2 ^ log_size) (S.items m.old.holder) (S.items m.new.holder) }
 {
     transpose_square_on(m, 0, log_size, log_size);
+}
+
+/// The number of levels that the split of a region of these sides needs.
+pub fn levels_of(rows: usize, cols: usize) -> u32
+    ensures { result ≡ lev rows cols }
+{
+    let tall = log2_ceil_usize(rows).saturating_sub(7);
+    let wide = log2_ceil_usize(cols).saturating_sub(7);
+    (tall + wide) as u32
+}
+
+/// Puts the transpose of a part of a matrix into `out`, with no more levels than it needs. It returns how many splits are
+/// nested.
+pub fn transpose_part<C: Cells>(
+    input: &[C::Item],
+    out: &mut Writes<C>,
+    part: Region,
+    width: usize,
+    height: usize,
+) -> u32
+    requires input_fits { length input.now ≡ width * height }
+    requires output_fits { length (C.items out.old.holder) ≡ width * height }
+    requires inside { LiesInMatrix part width height }
+    ensures transposed { IsRegionTransposed part width height input.now
+        (C.items out.old.holder) (C.items out.new.holder) }
+    ensures nested { result ≡ nest (rows_of part) (cols_of part) }
+{
+    let levels = levels_of(part.row_end - part.row_start, part.col_end - part.col_start);
+    transpose_split_on(input, out, part, width, height, levels)
 }

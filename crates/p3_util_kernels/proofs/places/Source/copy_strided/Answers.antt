@@ -1,0 +1,16 @@
+use Rattle.std.proofs.Common.{◌≡◌, ◌+◌, ◌<◌, length, refl, arith}
+use Rattle.p3_util_kernels.proofs.StridedPuts.{IsStridedPut-none, IsStridedPut-more}
+use Rattle.p3_util_kernels.proofs.places.Source.copy_strided.Goals as goal
+
+pub loop-t-init : goal.loop-t-init
+loop-t-init g c = IsStridedPut-none _ _ _ _ _
+
+pub loop-t-preserved : goal.loop-t-preserved
+loop-t-preserved g c =
+    let room : c.args.i + c.loop-t.t < length c.loop-t.values = omega (arith, c.loop-t.invariant.same_length) in
+    IsStridedPut-more _ _ _ _ _ _ _ _ _ c.at.ensures room refl c.loop-t.invariant
+
+pub returns : goal.returns
+returns g c =
+    let all : c.loop-t.t ≡ c.args.len = omega arith in
+    rw all at c.loop-t.invariant
