@@ -137,11 +137,11 @@ module _ {A : Type 0} (width height : ℕ) (input : List A) where
         s.others p (elim (cases_lt p (x * height + region.row_start)) [
           | inl before ↦ inl before
           | inr from ↦ elim (cases_lt p (x * height + region.row_start + (region.row_end - region.row_start))) [
-              | inl inside ↦
-                  let y = p - x * height in
-                  absurd (out x (p - x * height) (record { row_from = omega arith; row_to = omega arith; col_from = omega arith; col_to = omega arith }) (omega arith))
-              | inr after ↦ inr after
-            ]
+            | inl inside ↦
+                let y = p - x * height in
+                absurd (out x (p - x * height) (record { row_from = omega arith; row_to = omega arith; col_from = omega arith; col_to = omega arith }) (omega arith))
+            | inr after ↦ inr after
+          ]
         ]);
   }
 

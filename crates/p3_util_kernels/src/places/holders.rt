@@ -251,11 +251,25 @@ fn copy_strided<T: Copy>(
 {
     for block in 0..len / BLOCK {
         let done = block * BLOCK;
-        copy_few(items, start + done * stride, stride, values, i + done, BLOCK);
+        copy_few(
+            items,
+            start + done * stride,
+            stride,
+            values,
+            i + done,
+            BLOCK,
+        );
     }
     let done = len / BLOCK * BLOCK;
     if done < len {
-        copy_few(items, start + done * stride, stride, values, i + done, len - done);
+        copy_few(
+            items,
+            start + done * stride,
+            stride,
+            values,
+            i + done,
+            len - done,
+        );
     }
 }
 
