@@ -22,6 +22,8 @@ mod regions;
 #[cfg(test)]
 mod reverse;
 #[cfg(test)]
+mod reverse_paths;
+#[cfg(test)]
 mod split;
 #[cfg(test)]
 mod square;

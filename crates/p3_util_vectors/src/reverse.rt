@@ -153,18 +153,35 @@ fn decimal_texts(rt: HostRuntime) -> Result<(), Fail> {
     Ok(())
 }
 
+/// The owners of the numbers below `count`.
+fn owners(alloc: Global, count: usize, drops: &Cell<usize>) -> Result<Vec<Owner<'_>>, AllocError> {
+    let mut list = Vec::new(alloc);
+    for number in 0..count {
+        list.push(Owner { number, drops })?;
+    }
+    Ok(list)
+}
+
+#[test]
+fn owners_by_the_long_path(rt: HostRuntime) -> Result<(), Fail> {
+    let drops = Cell::new(0usize);
+    let mut list = owners(rt.alloc(), 32768, &drops)?;
+    let mut places = SlicePlaces::new(list.as_mut_slice());
+    assert_eq!(rt; count_swaps_of(&rt, &mut places), 44928);
+    drop(places);
+    for (place, held) in [(1, 16384), (3, 24576), (256, 64)] {
+        let owner = list.get(place).map(|owner| owner.number);
+        assert_eq!(rt; owner, Some(held), "at {place}");
+    }
+    assert_eq!(rt; drops.get(), 0);
+    Ok(())
+}
+
 #[test]
 fn owners_without_clone(rt: HostRuntime) -> Result<(), Fail> {
     for bits in 0..16u32 {
         let drops = Cell::new(0usize);
-        let mut list = Vec::new(rt.alloc());
-        for number in 0..1usize << bits {
-            let owner = Owner {
-                number,
-                drops: &drops,
-            };
-            list.push(owner)?;
-        }
+        let mut list = owners(rt.alloc(), 1usize << bits, &drops)?;
         reverse_numbered(&rt, &mut list, bits);
         assert_eq!(rt; drops.get(), 0);
         drop(list);

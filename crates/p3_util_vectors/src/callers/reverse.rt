@@ -1,9 +1,13 @@
 //! Callers of bit reversal. None of them has a proof by hand, but for `reverse_twice`: the test in front of a call is enough.
 
-ghost use Rattle.std.specs.Prelude.{◌≡◌, ◌↔◌, IsTrue, IsFalse, length};
-ghost use Rattle.p3_util_kernels.specs.Reversal.{IsReversal, IsZeroOrPowerOfTwo};
+ghost use Rattle.std.specs.Prelude.{◌≡◌, ◌^◌, ◌↔◌, IsTrue, IsFalse, length};
+ghost use Rattle.p3_util_kernels.specs.Reversal.{IsReversal, IsRowReversal, IsZeroOrPowerOfTwo};
 
-use p3_util_kernels::reverse::{fits_rows, reverse_slice_index_bits};
+use p3_util_kernels::bits::checked_log_size_sum;
+use p3_util_kernels::places::{Places, Swaps};
+use p3_util_kernels::reverse::{
+    fits_rows, reverse_chunks_on, reverse_index_bits_long, reverse_slice_index_bits,
+};
 
 /// Reverses `vals` by index bits. `false`, and nothing done, where the length is neither zero nor a power of two.
 pub fn reverse_where_it_fits<F>(vals: &mut [F]) -> bool
@@ -38,6 +42,35 @@ pub fn reversed_literal() -> [u32; 4] {
     let mut items = [10, 20, 30, 40];
     reverse_slice_index_bits(&mut items);
     items
+}
+
+/// Reverses `m` by the long path where its length is a power of two and at least 4.
+pub fn reverse_long_where_it_fits<S: Places>(m: &mut Swaps<S>) -> bool
+    ensures { IsTrue result → IsReversal (S.items m.old.holder) (S.items m.new.holder) }
+{
+    let fits = m.len().is_power_of_two() && m.len() >= 4;
+    if fits {
+        reverse_index_bits_long(m);
+    }
+    fits
+}
+
+/// Reverses the order of the `2^log_count` chunks of `2^log_size` items where `m` is as long as these.
+pub fn reverse_chunks_where_they_fit<S: Places>(
+    m: &mut Swaps<S>,
+    log_count: usize,
+    log_size: usize,
+) -> bool
+    ensures { IsTrue result
+        → IsRowReversal (2 ^ log_size) (S.items m.old.holder) (S.items m.new.holder) }
+{
+    match checked_log_size_sum(log_count, log_size) {
+        Some((_, len)) if len == m.len() => {
+            reverse_chunks_on(m, log_count, log_size);
+            true
+        }
+        _ => false,
+    }
 }
 
 /// Reverses `vals` by index bits twice, as a transform and its inverse do, which leaves it as it was.

@@ -1,0 +1,136 @@
+//! The paths of bit reversal: what they leave, and their numbers of swaps.
+
+use p3_util_kernels::bits::checked_log_size_sum;
+use p3_util_kernels::places::{Places, SlicePlaces, Swaps};
+use p3_util_kernels::reverse::{
+    reverse_chunks_on, reverse_index_bits_long, reverse_index_bits_on, reverse_index_bits_short,
+};
+use std::process::Abort;
+use std::test::Fail;
+
+/// A call that reverses a list, item by item or chunk by chunk.
+#[derive(Clone, Copy, Debug)]
+enum Call {
+    On,
+    Short,
+    Long,
+    /// The logarithms of the number of chunks and of their size.
+    Chunks(usize, usize),
+}
+
+/// A call, the number of items, the number of swaps, and places with what they hold where place i held i.
+const EXAMPLES: [(Call, u64, u128, &[(usize, u64)]); 13] = [
+    (Call::On, 8192, 4032, &[(1, 4096), (2, 2048)]),
+    (Call::On, 16384, 22464, &[(1, 8192), (2, 4096)]),
+    (Call::On, 32768, 44928, &[(1, 16384), (3, 24576), (256, 64)]),
+    (Call::On, 65536, 94080, &[(1, 32768), (3, 49152)]),
+    (Call::Short, 16384, 8128, &[(1, 8192), (2, 4096)]),
+    (Call::Long, 4, 1, &[(0, 0), (1, 2), (2, 1), (3, 3)]),
+    (
+        Call::Long,
+        8,
+        2,
+        &[
+            (0, 0),
+            (1, 4),
+            (2, 2),
+            (3, 6),
+            (4, 1),
+            (5, 5),
+            (6, 3),
+            (7, 7),
+        ],
+    ),
+    (Call::Long, 8192, 11200, &[(1, 4096), (2, 2048)]),
+    (
+        Call::Chunks(2, 1),
+        8,
+        2,
+        &[
+            (0, 0),
+            (1, 1),
+            (2, 4),
+            (3, 5),
+            (4, 2),
+            (5, 3),
+            (6, 6),
+            (7, 7),
+        ],
+    ),
+    (
+        Call::Chunks(0, 3),
+        8,
+        0,
+        &[
+            (0, 0),
+            (1, 1),
+            (2, 2),
+            (3, 3),
+            (4, 4),
+            (5, 5),
+            (6, 6),
+            (7, 7),
+        ],
+    ),
+    (
+        Call::Chunks(3, 0),
+        8,
+        2,
+        &[
+            (0, 0),
+            (1, 4),
+            (2, 2),
+            (3, 6),
+            (4, 1),
+            (5, 5),
+            (6, 3),
+            (7, 7),
+        ],
+    ),
+    (Call::Chunks(0, 0), 1, 0, &[(0, 0)]),
+    (
+        Call::Chunks(7, 7),
+        16384,
+        7168,
+        &[(127, 127), (128, 8192), (16256, 16256)],
+    ),
+];
+
+/// Makes `call` on `m`, whose length meets its condition, and returns the number of swaps.
+fn make<S: Places>(rt: &impl Abort, m: &mut Swaps<S>, call: Call) -> u128 {
+    let len = m.len();
+    assert!(rt; len.is_power_of_two());
+    match call {
+        Call::On => reverse_index_bits_on(m),
+        Call::Short => reverse_index_bits_short(m),
+        Call::Long => {
+            assert!(rt; len >= 4);
+            reverse_index_bits_long(m);
+        }
+        Call::Chunks(log_count, log_size) => {
+            let (_, size) = checked_log_size_sum(log_count, log_size).expect(rt, "too many chunks");
+            assert!(rt; size == len);
+            reverse_chunks_on(m, log_count, log_size);
+        }
+    }
+    m.swaps()
+}
+
+#[test]
+fn worked_examples(rt: HostRuntime) -> Result<(), Fail> {
+    for (call, len, wanted, places) in &EXAMPLES {
+        let mut items: Vec<u64> = (0..*len).collect(rt.alloc())?;
+        let mut m = Swaps::new(SlicePlaces::new(items.as_mut_slice()));
+        let swaps = make(&rt, &mut m, *call);
+        drop(m);
+        assert_eq!(rt; swaps, *wanted, "{call:?} of {len}");
+        for (place, held) in *places {
+            assert_eq!(rt;
+                items.get(*place),
+                Some(held),
+                "{call:?} of {len}, at {place}"
+            );
+        }
+    }
+    Ok(())
+}
