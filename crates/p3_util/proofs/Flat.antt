@@ -79,7 +79,7 @@ module _ {A : Type 0} where
       let swapped : set (set all i (get_or all j any)) j (get_or all i any) ≡ swap all i j = swap_is all i j any (start-below rows r c lr ic) (start-below rows s d ls id) in
       second ∙ rw (start-set rows r s (set row c v) same-len, first, v-is, w-is) swapped
 
-  -- what stands at a place of a list
+  -- what is at a place of a list
   item : (xs : List A) (i : ℕ) → i < length xs → A
   item [] i lt = absurd (omega arith)
   item (x ∷ xs) i lt = x

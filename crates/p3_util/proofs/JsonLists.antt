@@ -17,7 +17,7 @@ pub listed-items_of : (ds : List Data) → listed (items_of ds) ≡ ds
 listed-items_of [] = refl
 listed-items_of (d ∷ ds) = ap (λ es. d ∷ es) (listed-items_of ds)
 
--- the data of an item that stands in a list
+-- the data of an item that is in a list
 pub slice_get-view : (vs : List Value) (i : ℕ) (v : Value) → i < length vs → v ≡ get_or vs i v → slice_get (map view vs) i ≡ Some (view v)
 slice_get-view vs i v within here = rw (slice_get-map view vs i, slice_get_read vs (length vs) i v refl within here)
 
@@ -52,7 +52,7 @@ module _ {T : Type 0} (reading : Data → Result T Refusal) where
   read_at (e ∷ ds) (x ∷ xs) zero d all here = (x, cc)
   read_at (e ∷ ds) (x ∷ xs) (suc i) d all here = read_at ds xs i d (cc) here
 
-  -- where all items are read, and there are as many as elements, nothing is answered but the elements or want of memory
+  -- where all items are read, and there are as many as elements, nothing is answered but the elements or running out of memory
   IsSameOrMemory-from_answer : (wants_memory : Bool) (n : ℕ) (ds : List Data) (xs : List T) (r : Result (List T) ArrayError) → AreReadAs reading ds xs → length ds ≡ n → IsListAnswer reading wants_memory n ds r → IsSameOrMemory wants_memory xs r
   IsSameOrMemory-from_answer wants_memory n ds xs (Ok ys) all long answer = same_elements ys xs cc
   IsSameOrMemory-from_answer wants_memory n ds xs (Err NotArray) all long answer = answer

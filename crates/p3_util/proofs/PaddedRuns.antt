@@ -204,7 +204,7 @@ module _ {S A : Type 0} {n : ℕ} (steps : S → Option A → S → Type 0) wher
         },
       )
 
-  -- the run of the source that stands behind a run of padded pieces
+  -- the run of the source that is behind a run of padded pieces
   run-behind : (p : Run (padded_steps {n = n} steps)) → padded_done p.from ≡ false → SomeRun steps (padded_source p.from) (λ q. IsPaddedRun n (padded_fill p.from) p q)
   unfolding Behind
   run-behind p begun =

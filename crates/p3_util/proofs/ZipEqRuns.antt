@@ -1,4 +1,4 @@
--- What the runs of an iterator over pairs give, and that the length it tells is true.
+-- What the runs of an iterator over pairs give, and that the length it says is true.
 use Rattle.std.proofs.Common.{◌≡◌, ◌+◌, ◌⊎◌, inl, inr, Bool, true, false, true≢false, List, [], ◌∷◌, map, Option, Some, None, length, refl, sym, ap, subst, ◌∙◌, arith}
 use Rattle.std.specs.Iterator.{Yields, Count, size}
 use Rattle.std.specs.List.{zip}

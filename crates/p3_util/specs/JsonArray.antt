@@ -20,14 +20,14 @@ listed no_items = []
 listed (item d ds) = d ∷ listed ds
 
 module _ {T : Type 0} (wants_memory : Bool) where
-  -- an error that the reading of one value explains; want of memory comes only where the type may want it
+  -- an error that the reading of one value explains; running out of memory comes only where the type may need it
   abbrev pub IsCause : Result T Refusal → ElementError → Type 0
   IsCause r Kind = r ≡ Err wrong_kind
   IsCause r Range = r ≡ Err out_of_range
   IsCause r Float = r ≡ Err a_float
   IsCause r Memory = IsTrue wants_memory
 
-  -- what may be answered where one value is read: its reading, or want of memory
+  -- what may be answered where one value is read: its reading, or running out of memory
   abbrev pub IsElementAnswer : Result T Refusal → Result T ElementError → Type 0
   IsElementAnswer r (Ok x) = r ≡ Ok x
   IsElementAnswer r (Err e) = IsCause r e
@@ -50,7 +50,7 @@ module _ {T : Type 0} (reading : Data → Result T Refusal) where
     abbrev pub IsArrayAnswer : Data → Result (List T) ArrayError → Type 0
     IsArrayAnswer d r = MatchOption (option_map listed (as_array d)) (r ≡ Err NotArray) (λ ds. IsListAnswer ds r)
 
--- the elements themselves, or want of memory at one of them
+-- the elements themselves, or running out of memory at one of them
 abbrev pub IsSameOrMemory : {T : Type 0} → Bool → List T → Result (List T) ArrayError → Type 0
 IsSameOrMemory wants_memory xs (Ok ys) = ys ≡ xs
 IsSameOrMemory wants_memory xs (Err (Element i Memory)) = IsTrue wants_memory

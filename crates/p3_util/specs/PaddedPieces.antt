@@ -39,7 +39,7 @@ module _ {S A : Type 0} {n : ℕ} where
   abbrev pub padded_left : (S → Count) → ArrayChunksPadded S A n → Count
   padded_left left s = count_unless (n == 0) (count_map (piece_count n) (count_unless (padded_done s) (left (padded_source s))))
 
--- Behind the run p of padded pieces stands the run q of the iterator inside: p gave the pieces of the items of q, each filled to n items.
+-- Behind the run p of padded pieces is the run q of the iterator inside: p gave the pieces of the items of q, each filled to n items.
 -- So there are as many as the quotient rounded up, and their items are those of q and then `fill`. Where p went on to `None`, so did q, unless n is 0.
 pub record IsPaddedRun {S T A : Type 0} {steps : S → Option (List A) → S → Type 0} {source : T → Option A → T → Type 0} (n : ℕ) (fill : A) (p : Run steps) (q : Run source) : Type 0 where
   pub items : p.items ≡ padded_pieces n fill q.items
@@ -47,7 +47,7 @@ pub record IsPaddedRun {S T A : Type 0} {steps : S → Option (List A) → S →
   pub count : p.len ≡ piece_count n q.len
   pub joined : flat_map (λ piece. piece) p.items ≡ q.items ++ replicate (p.len * n - q.len) fill
 
--- behind each run of s stands a run of the iterator inside, whose pieces it gives
+-- behind each run of s is a run of the iterator inside, whose pieces it gives
 abbrev pub PadsRuns : {S A : Type 0} {n : ℕ} → (S → Option A → S → Type 0) → A → ArrayChunksPadded S A n → Type 0
 PadsRuns {n = n} steps fill s = EachRunFrom (padded_steps steps) s (λ p. SomeRun steps (padded_source s) (IsPaddedRun n fill p))
 

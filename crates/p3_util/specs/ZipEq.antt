@@ -5,7 +5,7 @@ use Rattle.std.specs.Iterator.{Yields, Count, size}
 use Rattle.std.specs.Iterator.Runs.{Run, SomeRun, EachRunFrom, ProjectsRun}
 use Rattle.p3_util.specs.declared.zip_eq.ZipEq.{ZipEq}
 
--- The length that an iterator tells is true, now and after any calls: each item lowers it by one, and `None` comes where it is 0.
+-- The length that an iterator says is true, now and after any calls: each item lowers it by one, and `None` comes where it is 0.
 pub record TellsLength {S A : Type 0} (steps : S → Option A → S → Type 0) (left : S → Count) (s : S) : Type 0 where
   pub item : (xs : List A) (t : S) (x : A) (u : S) → Yields steps s xs t → steps t (Some x) u → size (left t) ≡ size (left u) + 1
   pub none : (xs : List A) (t u : S) → Yields steps s xs t → steps t None u → size (left t) ≡ 0

@@ -42,14 +42,14 @@ pub trait ArrayElement: Default {
     // The element as which a JSON value is read, or why it is none.
     ghost reading: { Data → Result Self Refusal };
 
-    // Whether the calls below may fail for want of memory.
+    // Whether the calls below may fail because memory runs out.
     ghost wants_memory: { Bool };
 
     /// Writes the element as a JSON value.
     ///
     /// # Errors
     ///
-    /// `AllocError` where the type may want memory and none is found.
+    /// `AllocError` where the type may need memory and none is found.
     fn to_value(&self, alloc: Global) -> Result<Value, AllocError>
         ensures ok { IfOk result (λ v. view v ≡ written self.now) }
         ensures memory { OnErr result (IsTrue wants_memory) }
@@ -78,7 +78,7 @@ pub fn serialize<T: ArrayElement, const N: usize>(
 ) -> Result<Value, AllocError>
     ensures ok { IfOk result (λ v. view v ≡ array (items_of (map T.written items.now))) }
 
-    // Each answer that `deserialize` may give of it is the array, or want of memory.
+    // Each answer that `deserialize` may give of it is the array, or running out of memory.
     ensures reads_back { IfOk result (λ v. (r : Result (List T) ArrayError)
         → IsArrayAnswer T.reading T.wants_memory N (view v) r
         → IsSameOrMemory T.wants_memory items.now r) }
@@ -99,14 +99,14 @@ pub fn serialize<T: ArrayElement, const N: usize>(
 ///
 /// In this order: `NotArray` where the value is no list; `Element` for the first item among the first `N` that is
 /// refused, with its cause; `Length` where the list does not have `N` items. `Element` with the cause `Memory` comes
-/// only where the element's type may want memory.
+/// only where the element's type may need memory.
 pub fn deserialize<T: ArrayElement + Drop, const N: usize>(
     alloc: Global,
     v: &Value,
 ) -> Result<[T; N], ArrayError>
     ensures answer { IsArrayAnswer T.reading T.wants_memory N (view v.now) result }
 
-    // Where the element's type never wants memory, no other answer may be given.
+    // Where the element's type never needs memory, no other answer may be given.
     ensures only { ¬ IsTrue T.wants_memory → (r : Result (List T) ArrayError)
         → IsArrayAnswer T.reading T.wants_memory N (view v.now) r → r ≡ result }
 {

@@ -27,7 +27,7 @@ pub use views::{
     reconstitute_from_base,
 };
 
-/// A refusal for want of memory, with what the refused call was given, unchanged.
+/// A refusal where memory runs out, with what the refused call was given, unchanged.
 #[derive(Debug, Drop)]
 pub struct NoRoom<G> {
     pub given: G,

@@ -27,7 +27,7 @@ pub fn flat_len(count: usize, n: usize) -> Option<usize>
 
 /// Item `i` of the rows taken as one list, or `None` where there are no more than `i` items: item `i % N` of row `i / N`.
 ///
-/// Whether the number of items fits a `usize`, [`flat_len`] tells.
+/// Whether the number of items fits a `usize`, [`flat_len`] tests.
 pub fn flat_get<T, const N: usize>(rows: &[[T; N]], i: usize) -> Option<&T>
     requires { length rows.now * N < 2 ^ 64 }
     ensures item { option_copied result ≡ slice_get (flat rows.now) i }

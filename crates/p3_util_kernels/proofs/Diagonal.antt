@@ -13,7 +13,7 @@ use Rattle.p3_util_kernels.proofs.Strided.{length-swap_strided}
 use Rattle.p3_util_kernels.proofs.Exchange.{slice_get-swap_first, slice_get-swap_second, slice_get-swap_other}
 
 module _ {A : Type 0} (base stride : ℕ) where
-  -- the same pairs, told by other bounds
+  -- the same pairs, in other bounds
   pub SwapsAcross-same : (row row_end col col_end row' row_end' col' col_end' : ℕ) (old new : List A)
       → ((a b : ℕ) → IsInBlock row row_end col col_end a b → IsInBlock row' row_end' col' col_end' a b)
       → ((a b : ℕ) → IsInBlock row' row_end' col' col_end' a b → IsInBlock row row_end col col_end a b)

@@ -28,7 +28,7 @@ sum_below-same (suc n) f g h =
     let last : f n ≡ g n = h n (omega arith) in
     cc
 
--- a common factor stands before the sum
+-- a common factor goes before the sum
 pub sum_below-scale : (c n : ℕ) (f : ℕ → ℕ) → sum_below n (λ i. c * f i) ≡ c * sum_below n f
 unfolding sum_below
 sum_below-scale c zero f = omega arith

@@ -1,4 +1,4 @@
--- What stands at each place of a list after one exchange or one write.
+-- What is at each place of a list after one exchange or one write.
 use Rattle.std.proofs.Common.{ℕ, zero, suc, ◌≡◌, ◌≢◌, ◌<◌, List, [], ◌∷◌, length, set, get_or, Some, slice_get, refl, sym, ap, arith, inl, inr, length-set, ◌∙◌}
 use Rattle.std.specs.List.{swap}
 use Rattle.std.proofs.lemmas.Bool.{cases_eq}

@@ -47,7 +47,7 @@ RunsExchanged-more i j len old now next apart within swapped before =
           ∙ before.others p outside beyond;
     }
 
--- what stands at a place of two lists joined, of the first items and of the rest
+-- what is at a place of two lists joined, of the first items and of the rest
 get_front : {A : Type 0} (xs ys : List A) (p : ℕ) → p < length xs → slice_get (xs ++ ys) p ≡ slice_get xs p
 get_front [] ys p h = absurd (omega arith)
 get_front (x ∷ xs) ys zero h = refl

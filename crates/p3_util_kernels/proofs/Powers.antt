@@ -64,7 +64,7 @@ power-ones k =
     let e : 1 * 2 ^ k + 0 ≡ 2 ^ k = omega arith in
     sym (ap ones e) ∙ ones_cat k 1 0 (pow_pos k) ∙ omega (arith, ones_of_zero, ones_of_one)
 
--- `n.is_power_of_two()` tells whether n is a power of two
+-- `n.is_power_of_two()` says whether n is a power of two
 pub power_of_two_test : (n : ℕ) → IsTrue (is_power_of_two n) ↔ IsPowerOfTwo n
 power_of_two_test n = (
   λ t. from_ones (suc n) n (omega arith) (eqb-true (ones n) 1 t),

@@ -28,7 +28,7 @@ abbrev pub items_of : Region → ℕ
 items_of region = rows_of region * cols_of region
 
 -- `input` has `height` rows of `width` items. For each row y and column x of the region, `new` holds at x * height + y
--- what stands in `input` at y * width + x, and every other place holds what it held in `old`.
+-- what is in `input` at y * width + x, and every other place holds what it held in `old`.
 pub record IsRegionTransposed {A : Type 0} (region : Region) (width height : ℕ) (input old new : List A) : Type 0 where
   pub same_length : length new ≡ length old
   pub places : (x y : ℕ) → IsInRegion region x y → slice_get new (x * height + y) ≡ slice_get input (y * width + x)

@@ -7,7 +7,7 @@ unfoldable pub swap_strided : {A : Type 0} → (xs : List A) → (i j stride len
 swap_strided xs i j stride zero = xs
 swap_strided xs i j stride (suc n) = swap (swap_strided xs i j stride n) (i + n * stride) (j + n)
 
--- `new` holds at i + t, for each t below `len`, what stands in `input` at start + t * stride, and else what `old` holds.
+-- `new` holds at i + t, for each t below `len`, what is in `input` at start + t * stride, and else what `old` holds.
 pub record IsStridedPut {A : Type 0} (i start stride len : ℕ) (input old new : List A) : Type 0 where
   pub same_length : length new ≡ length old
   pub places : (t : ℕ) → t < len → slice_get new (i + t) ≡ slice_get input (start + t * stride)

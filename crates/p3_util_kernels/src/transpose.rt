@@ -44,7 +44,7 @@ pub fn fits_matrix(input_len: usize, output_len: usize, width: usize, height: us
 }
 
 /// Writes to `output` the transpose of `input`, a matrix of `height` rows of `width` items: what stood at
-/// `y * width + x` is put at `x * height + y`. Both lengths are `width` times `height`, which [`fits_matrix`] tells. The
+/// `y * width + x` is put at `x * height + y`. Both lengths are `width` times `height`, which [`fits_matrix`] tests. The
 /// transpose of `output` the other way round, with `height` for the width, is `input` again.
 #[tactic(auto, using(crate::proofs::Matrix::transposed_back))]
 pub fn transpose<T: Copy>(input: &[T], output: &mut [T], width: usize, height: usize)
@@ -75,7 +75,7 @@ fn transpose_over_fresh_count<C: Cells>(
 }
 
 /// Puts the transpose of `input` into `out`, as [`transpose`] does, in exactly `width * height` writes. Both lengths are
-/// `width` times `height`, which [`fits_matrix`] tells.
+/// `width` times `height`, which [`fits_matrix`] tests.
 pub fn transpose_on<C: Cells>(input: &[C::Item], out: &mut Writes<C>, width: usize, height: usize)
     requires input_fits { length input.now ≡ width * height }
     requires output_fits { length (C.items out.old.holder) ≡ width * height }
@@ -112,7 +112,7 @@ where
 
 /// Puts the transpose of `region`, a part of the matrix `input`, into `out`, in one write an item: what stood at
 /// `y * width + x` is put at `x * height + y`, for each row y and column x of the region. Every other place stays. Both
-/// lengths are `width` times `height`, which [`fits_matrix`] tells.
+/// lengths are `width` times `height`, which [`fits_matrix`] tests.
 pub fn transpose_region_on<C: Cells>(
     input: &[C::Item],
     out: &mut Writes<C>,

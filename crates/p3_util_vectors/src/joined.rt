@@ -6,7 +6,7 @@ ghost use Rattle.std.proofs.Common.{refl, ◌∙◌};
 use p3_util_kernels::places::Places;
 use std::mem;
 
-/// The items of one slice and then those of another. What it holds stands in the two when the borrows end.
+/// The items of one slice and then those of another. What it holds is in the two when the borrows end.
 #[derive(Drop)]
 pub struct Joined<'a, F> {
     front: &'a mut [F],

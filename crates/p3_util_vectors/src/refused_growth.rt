@@ -298,7 +298,7 @@ fn written_arrays(rt: HostRuntime) {
     }
 }
 
-/// The first element that memory runs out for is told with its place.
+/// The first element that memory runs out for is returned with its place.
 #[test]
 fn read_arrays(rt: HostRuntime) {
     if let Ok(value) = serialize(rt.alloc(), &[1u32, 2, 3]) {

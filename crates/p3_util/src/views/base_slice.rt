@@ -28,7 +28,7 @@ impl<'a, Base, const N: usize> Model for BaseSlice<'a, Base, N> {
 
 /// The items of the arrays in `buf`, array after array. Nothing is copied.
 ///
-/// Whether the number of items fits a `usize`, [`flat_len`](super::flat_len) tells.
+/// Whether the number of items fits a `usize`, [`flat_len`](super::flat_len) tests.
 pub fn as_base_slice<Base, const N: usize>(buf: &[[Base; N]]) -> BaseSlice<'_, Base, N>
     requires { length buf.now * N < 2 ^ 64 }
     ensures items { result ≡ flat buf.now }
@@ -90,7 +90,7 @@ impl<'a, Base: fmt::Debug, const N: usize> fmt::Debug for BaseSlice<'a, Base, N>
     }
 }
 
-/// Item `i`, which has to be there: `get` tells.
+/// Item `i`, which has to be there: `get` is the test.
 impl<'a, Base, const N: usize> Index<usize> for BaseSlice<'a, Base, N> {
     type Output = Base;
 

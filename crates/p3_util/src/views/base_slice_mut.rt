@@ -13,7 +13,7 @@ use std::ops::Index;
 
 /// Rows behind `S`, seen as the list of their items, row after row.
 ///
-/// What the view holds stands in the rows when the borrow ends. Contracts see the list as `S.items` of `rows`: for a `&mut`
+/// What the view holds is in the rows when the borrow ends. Contracts see the list as `S.items` of `rows`: for a `&mut`
 /// to arrays of `N` items, `flat` of those rows whose items a `usize` can count, which are all rows of a view that
 /// [`as_base_slice_mut`] makes.
 #[derive(Drop)]
@@ -27,7 +27,7 @@ pub type BaseSliceMut<'a, Base, const N: usize> = Flattened<&'a mut [[Base; N]]>
 
 /// The items of the arrays in `buf`, array after array, to be exchanged or written. Nothing is copied.
 ///
-/// Whether the number of items fits a `usize`, [`flat_len`](super::flat_len) tells.
+/// Whether the number of items fits a `usize`, [`flat_len`](super::flat_len) tests.
 pub fn as_base_slice_mut<Base, const N: usize>(buf: &mut [[Base; N]]) -> BaseSliceMut<'_, Base, N>
     requires { length buf.old * N < 2 ^ 64 }
     ensures rows { result.rows ≡ buf.entry }
@@ -87,7 +87,7 @@ impl<S: Rows> Flattened<S> {
     }
 }
 
-/// Item `i`, which has to be there: `get` tells.
+/// Item `i`, which has to be there: `get` is the test.
 impl<S: Rows> Index<usize> for Flattened<S> {
     type Output = S::Item;
 

@@ -15,7 +15,7 @@ use std::mem;
 pub trait Rows {
     ghost use Rattle.p3_util.specs.ViewLends.{lends_item};
 
-    /// What stands in the rows.
+    /// What is in the rows.
     type Item;
 
     ghost items: { Self → List Self.Item };
@@ -138,7 +138,7 @@ fn put_item<T: Drop, const N: usize>(rows: &mut [[T; N]], i: usize, v: T)
     put_in_row(&mut rows[r], c, v);
 }
 
-/// The row in which item `i` of all rows stands, and its place in that row.
+/// The row in which item `i` of all rows is, and its place in that row.
 pub(super) fn place_of<T, const N: usize>(rows: &[[T; N]], i: usize) -> (usize, usize)
     requires fits { length rows.now * N < 2 ^ 64 }
     requires item { i < length (flat rows.now) }

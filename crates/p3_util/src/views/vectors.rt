@@ -12,7 +12,7 @@ use std::{array, mem};
 
 /// The items of the arrays in `vec`, array after array, each moved once.
 ///
-/// The number of items fits a `usize`, which [`flat_len`](super::flat_len) tells.
+/// The number of items fits a `usize`, which [`flat_len`](super::flat_len) tests.
 ///
 /// # Errors
 ///

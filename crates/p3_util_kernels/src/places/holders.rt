@@ -70,7 +70,7 @@ impl<C: Cells> Cells for &mut C {
     ghost same_holder_trans = { λ a b c p q. (p.0 ∙ q.0, C.same_holder_trans a.now b.now c.now p.1 q.1) };
 }
 
-/// The items of a mutable slice. What it holds stands in the slice when the borrow ends.
+/// The items of a mutable slice. What it holds is in the slice when the borrow ends.
 #[derive(Drop)]
 pub struct SlicePlaces<'a, F> {
     pub items: &'a mut [F],
@@ -154,7 +154,7 @@ fn cross<F>(front: &mut [F], back: &mut [F], i: usize, stride: usize, len: usize
     }
 }
 
-/// The places of a mutable slice. What it holds stands in the slice when the borrow ends.
+/// The places of a mutable slice. What it holds is in the slice when the borrow ends.
 #[derive(Drop)]
 pub struct SliceCells<'a, T> {
     pub values: &'a mut [T],

@@ -11,7 +11,7 @@ use p3_util_kernels::places::{Cells, Writes};
 use p3_util_kernels::reverse::reverse_counted;
 use p3_util_kernels::transpose::transpose_on;
 
-/// Reverses the items of `rows`, taken as one list, by their index bits: what a kernel leaves in a view stands in the rows.
+/// Reverses the items of `rows`, taken as one list, by their index bits: what a kernel leaves in a view is in the rows.
 pub fn reverse_items<T, const N: usize>(rows: &mut [[T; N]])
     requires fits { length rows.old * N < 2 ^ 64 }
     requires power { IsZeroOrPowerOfTwo (length (flat rows.old)) }
@@ -48,7 +48,7 @@ fn transpose_to_cells<C: Cells>(input: &[C::Item], cells: &mut C, width: usize, 
     let _ = out.into_inner();
 }
 
-/// Sets item `i` of the rows taken as one list, if there is one: what is written through the loan stands in the rows in the
+/// Sets item `i` of the rows taken as one list, if there is one: what is written through the loan is in the rows in the
 /// place of that item alone.
 pub fn set_item<T: Drop, const N: usize>(rows: &mut [[T; N]], i: usize, item: T)
     requires { length rows.old * N < 2 ^ 64 }
