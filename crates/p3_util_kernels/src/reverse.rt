@@ -103,6 +103,7 @@ pub fn reverse_index_bits_on<S: Places>(m: &mut Swaps<S>)
 
 /// Reverses `m` by index bits, as [`reverse_slice_index_bits`] does, by one exchange of each two places that belong to
 /// each other. The length is zero or a power of two.
+#[inline(always)]
 pub fn reverse_index_bits_short<S: Places>(m: &mut Swaps<S>)
     requires { IsReversible (length (S.items m.old.holder)) }
     ensures order { IsReversal (S.items m.old.holder) (S.items m.new.holder) }

@@ -41,6 +41,7 @@ impl<S: Places> Swaps<S> {
     }
 
     /// Exchanges the items at places `i` and `j`, by one exchange, and counts it.
+    #[inline(always)]
     pub fn swap(&mut self, i: usize, j: usize)
         requires first { i < length (S.items self.old.holder) }
         requires second { j < length (S.items self.old.holder) }
@@ -127,6 +128,7 @@ impl<C: Cells> Writes<C> {
     }
 
     /// Puts `v` at place `i`, by one write, and counts it.
+    #[inline(always)]
     pub fn put(&mut self, i: usize, v: C::Item)
         requires { i < length (C.items self.old.holder) }
         ensures written { C.items self.new.holder ≡ slice_set (C.items self.old.holder) i v }

@@ -20,6 +20,7 @@ impl<S: Places> Places for &mut S {
         S::len(self)
     }
 
+    #[inline(always)]
     fn exchange(&mut self, i: usize, j: usize) {
         S::exchange(self, i, j);
     }
@@ -50,6 +51,7 @@ impl<C: Cells> Cells for &mut C {
         C::len(self)
     }
 
+    #[inline(always)]
     fn put(&mut self, i: usize, v: Self::Item) {
         C::put(self, i, v);
     }
@@ -96,6 +98,7 @@ impl<'a, F> Places for SlicePlaces<'a, F> {
         self.items.len()
     }
 
+    #[inline(always)]
     fn exchange(&mut self, i: usize, j: usize) {
         self.items.swap(i, j);
     }
@@ -180,6 +183,7 @@ impl<'a, T: Copy> Cells for SliceCells<'a, T> {
         self.values.len()
     }
 
+    #[inline(always)]
     fn put(&mut self, i: usize, v: T) {
         self.values[i] = v;
     }
@@ -224,6 +228,7 @@ impl<'a, T: Copy> Source for SliceSource<'a, T> {
         self.slice.len()
     }
 
+    #[inline(always)]
     fn at(&self, i: usize) -> T {
         self.slice[i]
     }

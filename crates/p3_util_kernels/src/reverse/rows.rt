@@ -30,6 +30,7 @@ const WIDE_ROW: usize = 8;
 /// has the k bits of `r` in reversed order. The number of rows is zero or a power of two, which [`fits_rows`] tests.
 ///
 /// [`fits_rows`]: crate::reverse::fits_rows
+#[inline(always)]
 pub fn reverse_row_index_bits_on<S: Places>(m: &mut Swaps<S>, row_width: usize)
     requires { FitsRows (length (S.items m.old.holder)) row_width }
     ensures order { IsRowReversal row_width (S.items m.old.holder) (S.items m.new.holder) }
@@ -54,6 +55,7 @@ pub fn reverse_row_index_bits_on<S: Places>(m: &mut Swaps<S>, row_width: usize)
 
 /// Exchanges the pairs of rows of one middle digit and one `b`, with each `a` below it. The rows have indices of `digits`
 /// digits, and the digits of `a` weigh `stride`.
+#[inline(always)]
 fn exchange_line<S: Places>(
     m: &mut Swaps<S>,
     row_width: usize,
@@ -86,6 +88,7 @@ fn exchange_line<S: Places>(
 }
 
 /// Exchanges the `row_width` items from place `i` on with those from place `j` on, one by one where they are few.
+#[inline(always)]
 fn exchange_rows<S: Places>(m: &mut Swaps<S>, i: usize, j: usize, row_width: usize)
     requires apart { i + row_width ≤ j }
     requires within { j + row_width ≤ length (S.items m.old.holder) }
@@ -105,6 +108,7 @@ fn exchange_rows<S: Places>(m: &mut Swaps<S>, i: usize, j: usize, row_width: usi
 }
 
 /// `x` with its binary digits, of which it has `digits` at most, in reversed order.
+#[inline(always)]
 fn reverse_digits(x: usize, digits: usize) -> usize
     requires few { digits < 64 }
     requires below { x < 2 ^ digits }
@@ -117,6 +121,7 @@ fn reverse_digits(x: usize, digits: usize) -> usize
     }
 }
 
+#[inline(always)]
 fn power_of_two(exponent: usize) -> usize
     requires { exponent < 64 }
     ensures { result ≡ 2 ^ exponent }
