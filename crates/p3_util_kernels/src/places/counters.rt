@@ -140,6 +140,7 @@ impl<C: Cells> Writes<C> {
     }
 
     /// Puts at `i + t` the item of `source` at `start + t * stride`, for each `t` below `len` in turn, and counts `len`.
+    #[inline(always)]
     pub fn put_strided<R: Source<Item = C::Item>>(
         &mut self,
         i: usize,

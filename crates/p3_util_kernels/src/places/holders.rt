@@ -56,6 +56,7 @@ impl<C: Cells> Cells for &mut C {
         C::put(self, i, v);
     }
 
+    #[inline(always)]
     fn put_strided<R: Source<Item = Self::Item>>(
         &mut self,
         i: usize,
@@ -188,6 +189,7 @@ impl<'a, T: Copy> Cells for SliceCells<'a, T> {
         self.values[i] = v;
     }
 
+    #[inline(always)]
     fn put_strided<R: Source<Item = T>>(
         &mut self,
         i: usize,
@@ -233,6 +235,7 @@ impl<'a, T: Copy> Source for SliceSource<'a, T> {
         self.slice[i]
     }
 
+    #[inline(always)]
     fn copy_strided(&self, start: usize, stride: usize, values: &mut [T], i: usize, len: usize) {
         copy_strided(self.slice, start, stride, values, i, len);
     }
@@ -242,6 +245,7 @@ impl<'a, T: Copy> Source for SliceSource<'a, T> {
 const BLOCK: usize = 8;
 
 /// Writes at `i + t` of `values` the item of `items` at `start + t * stride`, for each `t` below `len` in turn.
+#[inline(always)]
 fn copy_strided<T: Copy>(
     items: &[T],
     start: usize,

@@ -1,6 +1,6 @@
 //! Plain copies: the transpose of a region, column after column.
 
-ghost use Rattle.std.specs.Prelude.{◌≡◌, ◌+◌, ◌≤◌};
+ghost use Rattle.std.specs.Prelude.{◌≡◌};
 ghost use Rattle.p3_util_kernels.specs.Ready.{IsReady};
 ghost use Rattle.p3_util_kernels.specs.Region.{IsRegionTransposed, LiesInMatrix, items_of};
 ghost use Rattle.p3_util_kernels.specs.Steps.{counted};
@@ -42,7 +42,7 @@ where
     }
 }
 
-/// Puts `region` column after column.
+/// Puts `region` column after column. Each column of the region is a line of the output, which is put in one call.
 #[inline(always)]
 pub fn put_columns<R, C>(
     input: &R,
@@ -61,152 +61,10 @@ where
     ensures count { out.new.count ≡ counted out.old.count (items_of region) }
     ensures holder { C.same_holder out.old.holder out.new.holder }
 {
-    for x in region.col_start..region.col_end {
-        put_column(
-            input,
-            out,
-            Region {
-                col_start: x,
-                col_end: x + 1,
-                ..region
-            },
-            width,
-            height,
-        );
-    }
-}
-
-/// Puts a region of one column, four rows at a time.
-#[inline(always)]
-fn put_column<R, C>(input: &R, out: &mut Writes<C>, region: Region, width: usize, height: usize)
-where
-    C: Cells,
-    R: Source<Item = C::Item>,
-    requires ready { IsReady width height (R.items input.now) (C.items out.old.holder) out.old.count }
-    requires inside { LiesInMatrix region width height }
-    requires one { region.col_end ≡ region.col_start + 1 }
-    ensures transposed { IsRegionTransposed region width height (R.items input.now)
-        (C.items out.old.holder) (C.items out.new.holder) }
-    ensures count { out.new.count ≡ counted out.old.count (items_of region) }
-    ensures holder { C.same_holder out.old.holder out.new.holder }
-{
-    let rows = region.row_end - region.row_start;
-    let row = region.row_start + rows / 4 * 4;
-    for quarter in 0..rows / 4 {
-        let start = region.row_start + quarter * 4;
-        put_items(
-            input,
-            out,
-            Region {
-                row_start: start,
-                row_end: start + 4,
-                ..region
-            },
-            width,
-            height,
-        );
-    }
-    put_last_items(
-        input,
-        out,
-        Region {
-            row_start: row,
-            ..region
-        },
-        width,
-        height,
-    );
-}
-
-/// Puts a region of one column and at most three rows.
-#[inline(always)]
-fn put_last_items<R, C>(input: &R, out: &mut Writes<C>, region: Region, width: usize, height: usize)
-where
-    C: Cells,
-    R: Source<Item = C::Item>,
-    requires ready { IsReady width height (R.items input.now) (C.items out.old.holder) out.old.count }
-    requires inside { LiesInMatrix region width height }
-    requires one { region.col_end ≡ region.col_start + 1 }
-    requires few { region.row_end ≤ region.row_start + 3 }
-    ensures transposed { IsRegionTransposed region width height (R.items input.now)
-        (C.items out.old.holder) (C.items out.new.holder) }
-    ensures count { out.new.count ≡ counted out.old.count (items_of region) }
-    ensures holder { C.same_holder out.old.holder out.new.holder }
-{
-    if region.row_end - region.row_start >= 2 {
-        let row = region.row_start + 2;
-        put_items(
-            input,
-            out,
-            Region {
-                row_end: row,
-                ..region
-            },
-            width,
-            height,
-        );
-        put_last_item(
-            input,
-            out,
-            Region {
-                row_start: row,
-                ..region
-            },
-            width,
-            height,
-        );
-    } else {
-        put_last_item(input, out, region, width, height);
-    }
-}
-
-/// Puts a region of one column and at most one row.
-#[inline(always)]
-fn put_last_item<R, C>(input: &R, out: &mut Writes<C>, region: Region, width: usize, height: usize)
-where
-    C: Cells,
-    R: Source<Item = C::Item>,
-    requires ready { IsReady width height (R.items input.now) (C.items out.old.holder) out.old.count }
-    requires inside { LiesInMatrix region width height }
-    requires one { region.col_end ≡ region.col_start + 1 }
-    requires few { region.row_end ≤ region.row_start + 1 }
-    ensures transposed { IsRegionTransposed region width height (R.items input.now)
-        (C.items out.old.holder) (C.items out.new.holder) }
-    ensures count { out.new.count ≡ counted out.old.count (items_of region) }
-    ensures holder { C.same_holder out.old.holder out.new.holder }
-{
-    let row = region.row_start;
-    if row < region.row_end {
-        put_items(
-            input,
-            out,
-            Region {
-                row_end: row + 1,
-                ..region
-            },
-            width,
-            height,
-        );
-    }
-}
-
-/// Puts a region of one column. A caller gives a number of rows that is known when the call is compiled.
-#[inline(always)]
-pub fn put_items<R, C>(input: &R, out: &mut Writes<C>, region: Region, width: usize, height: usize)
-where
-    C: Cells,
-    R: Source<Item = C::Item>,
-    requires ready { IsReady width height (R.items input.now) (C.items out.old.holder) out.old.count }
-    requires inside { LiesInMatrix region width height }
-    requires one { region.col_end ≡ region.col_start + 1 }
-    ensures transposed { IsRegionTransposed region width height (R.items input.now)
-        (C.items out.old.holder) (C.items out.new.holder) }
-    ensures count { out.new.count ≡ counted out.old.count (items_of region) }
-    ensures holder { C.same_holder out.old.holder out.new.holder }
-{
-    let x = region.col_start;
-    for r in 0..region.row_end - region.row_start {
-        let y = region.row_start + r;
-        out.put(x * height + y, input.at(y * width + x));
+    if region.row_start < region.row_end {
+        let (row, rows) = (region.row_start, region.row_end - region.row_start);
+        for x in region.col_start..region.col_end {
+            out.put_strided(x * height + row, input, row * width + x, width, rows);
+        }
     }
 }

@@ -8,6 +8,7 @@ ghost use Rattle.p3_util_kernels.specs.Steps.{counted};
 
 use crate::places::{Cells, SliceSource, Source, Writes};
 use crate::transpose::Region;
+use crate::transpose::columns::put_columns;
 
 /// The greatest side of a part that is not halved where its other side is no longer.
 const LEAF_SIDE: usize = 128;
@@ -90,14 +91,9 @@ where
     ensures count { out.new.count ≡ counted out.old.count (items_of region) }
     ensures holder { C.same_holder out.old.holder out.new.holder }
 {
-    // Tells that the places fit a usize and the count a u128.
+    // The places fit a usize, and the count a u128.
     let _places = out.len();
-    if region.row_start < region.row_end {
-        let (row, rows) = (region.row_start, region.row_end - region.row_start);
-        for x in region.col_start..region.col_end {
-            out.put_strided(x * height + row, input, row * width + x, width, rows);
-        }
-    }
+    put_columns(input, out, region, width, height);
 }
 
 /// Whether `region` is put without a split.

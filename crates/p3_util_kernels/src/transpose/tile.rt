@@ -7,7 +7,7 @@ ghost use Rattle.p3_util_kernels.specs.Steps.{counted};
 
 use crate::places::{Cells, Source, Writes};
 use crate::transpose::Region;
-use crate::transpose::columns::put_items;
+use crate::transpose::columns::put_columns;
 
 /// The side of a tile.
 pub const TILE_SIDE: usize = 16;
@@ -113,7 +113,7 @@ where
     ensures holder { C.same_holder out.old.holder out.new.holder }
 {
     match form {
-        TileForm::Columns => put_square(input, out, region, width, height),
+        TileForm::Columns => put_columns(input, out, region, width, height),
         TileForm::Blocks => put_blocks(input, out, region, width, height),
     }
 }
@@ -167,41 +167,12 @@ where
 {
     for block in 0..TILE_SIDE / BLOCK_SIDE {
         let start = region.col_start + block * BLOCK_SIDE;
-        put_square(
+        put_columns(
             input,
             out,
             Region {
                 col_start: start,
                 col_end: start + BLOCK_SIDE,
-                ..region
-            },
-            width,
-            height,
-        );
-    }
-}
-
-/// Puts a region column after column. A caller gives sides that are known when the call is compiled.
-#[inline(always)]
-fn put_square<R, C>(input: &R, out: &mut Writes<C>, region: Region, width: usize, height: usize)
-where
-    C: Cells,
-    R: Source<Item = C::Item>,
-    requires ready { IsReady width height (R.items input.now) (C.items out.old.holder) out.old.count }
-    requires inside { LiesInMatrix region width height }
-    ensures transposed { IsRegionTransposed region width height (R.items input.now)
-        (C.items out.old.holder) (C.items out.new.holder) }
-    ensures count { out.new.count ≡ counted out.old.count (items_of region) }
-    ensures holder { C.same_holder out.old.holder out.new.holder }
-{
-    for c in 0..region.col_end - region.col_start {
-        let x = region.col_start + c;
-        put_items(
-            input,
-            out,
-            Region {
-                col_start: x,
-                col_end: x + 1,
                 ..region
             },
             width,

@@ -11,11 +11,11 @@ loop-block-preserved g c =
       transposed =
           rw more
           (IsRegionTransposed-more_cols c.args.width c.args.height _ r mid (mid + 4) _ _ _ (omega arith) (omega arith) (omega arith)
-          c.loop-block.invariant.transposed c.put_square.ensures.transposed);
+          c.loop-block.invariant.transposed c.put_columns.ensures.transposed);
       count =
-          counted-region (record r { col_start = mid; col_end = mid + 4 }) _ _ _ _ (4) (4) _ c.loop-block.invariant.count c.put_square.ensures.count
+          counted-region (record r { col_start = mid; col_end = mid + 4 }) _ _ _ _ (4) (4) _ c.loop-block.invariant.count c.put_columns.ensures.count
           (omega arith) (refl) (omega arith);
-      holder = g.met.C.Cells.same_holder_trans _ _ _ c.loop-block.invariant.holder c.put_square.ensures.holder;
+      holder = g.met.C.Cells.same_holder_trans _ _ _ c.loop-block.invariant.holder c.put_columns.ensures.holder;
     }
 
 pub returns-clause-transposed : goal.returns-clause-transposed
