@@ -24,6 +24,8 @@ mod reverse;
 #[cfg(test)]
 mod reverse_paths;
 #[cfg(test)]
+mod rows;
+#[cfg(test)]
 mod split;
 #[cfg(test)]
 mod square;

@@ -1,5 +1,6 @@
-//! The paths of bit reversal: what they leave, and their numbers of swaps.
+//! The paths of bit reversal: what they leave, their numbers of swaps, and the order of the long path's exchanges.
 
+use super::noted::{Note, Noted};
 use p3_util_kernels::bits::checked_log_size_sum;
 use p3_util_kernels::places::{Places, SlicePlaces, Swaps};
 use p3_util_kernels::reverse::{
@@ -132,5 +133,51 @@ fn worked_examples(rt: HostRuntime) -> Result<(), Fail> {
             );
         }
     }
+    Ok(())
+}
+
+/// The kind of an exchange on the long path of 16384 items, which are 128 chunks of 128.
+#[derive(Clone, Copy, Debug, PartialEq, Eq)]
+enum Kind {
+    Chunks,
+    Diagonal,
+    Other,
+}
+
+/// The kind of the exchange of `first` and `second`.
+fn kind_of(first: usize, second: usize) -> Kind {
+    if first == second {
+        Kind::Other
+    } else if first % 128 == second % 128 {
+        Kind::Chunks
+    } else if first / 128 == second % 128 && second / 128 == first % 128 {
+        Kind::Diagonal
+    } else {
+        Kind::Other
+    }
+}
+
+// 7168 exchanges of items of two chunks, 8128 across the diagonal of the square, and the first 7168 again.
+#[test]
+fn long_path_in_order(rt: HostRuntime) -> Result<(), Fail> {
+    let items = (0..16384).collect(rt.alloc())?;
+    let notes = Vec::with_capacity(rt.alloc(), 32768)?;
+    let mut m = Swaps::new(Noted { items, notes });
+    assert_eq!(rt; make(&rt, &mut m, Call::On), 22464);
+
+    let notes = m.into_inner().notes;
+    assert_eq!(rt; notes.len(), 22464);
+    for (k, note) in notes.iter().enumerate() {
+        let Note::Exchange(first, second) = *note else {
+            panic!(rt; "a write at {k}");
+        };
+        let wanted = if (7168..15296).contains(&k) {
+            Kind::Diagonal
+        } else {
+            Kind::Chunks
+        };
+        assert_eq!(rt; kind_of(first, second), wanted, "at {k}");
+    }
+    assert_eq!(rt; notes.get(..7168), notes.get(15296..));
     Ok(())
 }
