@@ -1,7 +1,9 @@
 #!/usr/bin/env bash
 # Each growth refused in turn: a run whose Nth request for memory is refused, for every N until none is refused any more.
 #
-#     tests/refused_growth.sh
+#     tests/refused_growth.sh [program]
+#
+# With the word `program` it runs the program alone, and else the tests of the library too.
 #
 # It takes what `rt ci` left in crates/*/out: the program, as each compiler built it, and the tests. What is not there it
 # builds. The program has to print that it is out of memory, end with status 3 and write nothing; a test has to pass,
@@ -13,6 +15,7 @@ cd "$(dirname "$0")/.."
 tests=(
     'p3_util_vectors refused_growth::'
 )
+[[ ${1-} != program ]] || tests=()
 
 work=$(mktemp -d)
 trap 'rm -rf "$work"' EXIT
