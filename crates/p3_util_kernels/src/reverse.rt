@@ -46,9 +46,13 @@ pub fn reverse_counted<S: Places>(places: &mut S) -> u128
     ensures order { IsReversal (S.items places.old) (S.items places.new) }
     ensures inverse { IsReversal (S.items places.new) (S.items places.old) }
     ensures count { result ≤ 3 * length (S.items places.old) / 2 }
+    ensures exact { (k : ℕ) → length (S.items places.old) ≡ 2 ^ k → result ≡ reversal_swaps k }
+    ensures empty { length (S.items places.old) ≡ 0 → result ≡ 0 }
     ensures holder { S.same_holder places.old places.new }
 {
     let mut swaps = Swaps::new(places);
+    // Tells that the length is a usize, so that the count stays below its greatest.
+    let _ = swaps.len();
     reverse_index_bits_on(&mut swaps);
     let count = swaps.swaps();
     let _ = swaps.into_inner();
@@ -74,9 +78,14 @@ pub fn reverse_rows_counted<S: Places>(places: &mut S, row_width: usize) -> u128
     ensures order { IsRowReversal row_width (S.items places.old) (S.items places.new) }
     ensures inverse { IsRowReversal row_width (S.items places.new) (S.items places.old) }
     ensures count { result ≤ length (S.items places.old) / 2 }
+    ensures exact { (k : ℕ) → length (S.items places.old) ≡ row_width * 2 ^ k
+        → result ≡ row_width * short_swaps k }
+    ensures empty { length (S.items places.old) ≡ 0 → result ≡ 0 }
     ensures holder { S.same_holder places.old places.new }
 {
     let mut swaps = Swaps::new(places);
+    // Tells that the length is a usize, so that the count stays below its greatest.
+    let _ = swaps.len();
     reverse_row_index_bits_on(&mut swaps, row_width);
     let count = swaps.swaps();
     let _ = swaps.into_inner();
