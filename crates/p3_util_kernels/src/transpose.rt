@@ -54,24 +54,28 @@ pub fn transpose<T: Copy>(input: &[T], output: &mut [T], width: usize, height: u
     ensures inverse { IsTranspose height width output.new input.now }
 {
     let mut cells = SliceCells::new(output);
-    transpose_over_fresh_count(input, &mut cells, width, height);
+    transpose_counted(input, &mut cells, width, height);
 }
 
-/// Puts the transpose of `input` into `cells`, and lets the number of writes go.
-fn transpose_over_fresh_count<C: Cells>(
+/// Puts the transpose of `input` into `cells`, as [`transpose_on`] does over a fresh counter, and returns the number of
+/// writes.
+pub fn transpose_counted<C: Cells>(
     input: &[C::Item],
     cells: &mut C,
     width: usize,
     height: usize,
-)
+) -> u128
     requires input_fits { length input.now ≡ width * height }
     requires output_fits { length (C.items cells.old) ≡ width * height }
     ensures order { IsTranspose width height input.now (C.items cells.new) }
+    ensures count { result ≡ width * height }
     ensures holder { C.same_holder cells.old cells.new }
 {
     let mut out = Writes::new(cells);
     transpose_on(input, &mut out, width, height);
+    let count = out.writes();
     let _ = out.into_inner();
+    count
 }
 
 /// Puts the transpose of `input` into `out`, as [`transpose`] does, in exactly `width * height` writes. Both lengths are

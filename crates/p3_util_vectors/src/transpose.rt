@@ -2,8 +2,8 @@
 
 use crate::oracle::transposes::{LARGE, OTHERS, SMALL, SMALL_SIDE};
 use crate::oracle::{hash, items};
-use p3_util_kernels::places::{SliceCells, Writes};
-use p3_util_kernels::transpose::{fits_matrix, transpose, transpose_on};
+use p3_util_kernels::places::SliceCells;
+use p3_util_kernels::transpose::{fits_matrix, transpose, transpose_counted};
 use std::alloc::{AllocError, Global};
 use std::process::Abort;
 use std::test::Fail;
@@ -17,12 +17,7 @@ fn count_writes(
     height: usize,
 ) -> u128 {
     assert!(rt; fits_matrix(input.len(), output.len(), width, height));
-    let mut cells = SliceCells::new(output);
-    let mut writes = Writes::new(&mut cells);
-    transpose_on(input, &mut writes, width, height);
-    let count = writes.writes();
-    let _ = writes.into_inner();
-    count
+    transpose_counted(input, &mut SliceCells::new(output), width, height)
 }
 
 /// The transpose of `input`, by the slice form and through a counter, which have to agree, with a write an item.

@@ -5,8 +5,8 @@ use crate::reverse::count_swaps_of;
 use p3_util::{
     as_base_slice, as_base_slice_mut, flat_len, flatten_to_base, reconstitute_from_base,
 };
-use p3_util_kernels::places::{Cells, Writes};
-use p3_util_kernels::transpose::{fits_matrix, transpose_on};
+use p3_util_kernels::places::Cells;
+use p3_util_kernels::transpose::{fits_matrix, transpose_counted};
 use std::alloc::Global;
 use std::process::Abort;
 use std::test::Fail;
@@ -19,12 +19,8 @@ fn count_writes<C: Cells>(
     width: usize,
     height: usize,
 ) -> u128 {
-    let mut out = Writes::new(cells);
-    assert!(rt; fits_matrix(input.len(), out.len(), width, height));
-    transpose_on(input, &mut out, width, height);
-    let count = out.writes();
-    let _ = out.into_inner();
-    count
+    assert!(rt; fits_matrix(input.len(), cells.len(), width, height));
+    transpose_counted(input, cells, width, height)
 }
 
 #[test]

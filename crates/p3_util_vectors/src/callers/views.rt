@@ -7,9 +7,8 @@ ghost use Rattle.p3_util_kernels.specs.Transpose.{IsTranspose};
 
 use p3_util::as_base_slice_mut;
 use p3_util::views::{Flattened, Rows};
-use p3_util_kernels::places::{Cells, Writes};
 use p3_util_kernels::reverse::reverse_counted;
-use p3_util_kernels::transpose::transpose_on;
+use p3_util_kernels::transpose::transpose_counted;
 
 /// Reverses the items of `rows`, taken as one list, by their index bits: what a kernel leaves in a view is in the rows.
 pub fn reverse_items<T, const N: usize>(rows: &mut [[T; N]])
@@ -34,18 +33,7 @@ pub fn transpose_to_items<T: Copy, const N: usize>(
     ensures { IsTranspose width height input.now (flat rows.new) }
 {
     let mut view = as_base_slice_mut(rows);
-    transpose_to_cells(input, &mut view, width, height);
-}
-
-fn transpose_to_cells<C: Cells>(input: &[C::Item], cells: &mut C, width: usize, height: usize)
-    requires input_fits { length input.now ≡ width * height }
-    requires output_fits { length (C.items cells.old) ≡ width * height }
-    ensures order { IsTranspose width height input.now (C.items cells.new) }
-    ensures holder { C.same_holder cells.old cells.new }
-{
-    let mut out = Writes::new(cells);
-    transpose_on(input, &mut out, width, height);
-    let _ = out.into_inner();
+    transpose_counted(input, &mut view, width, height);
 }
 
 /// Sets item `i` of the rows taken as one list, if there is one: what is written through the loan is in the rows in the
