@@ -77,6 +77,20 @@ fn items_of_views(rt: HostRuntime) {
     check_view_mut(&rt, &mut none, &[]);
 }
 
+/// The text of a view is that of the list of its items, and a clone has the same items. A `Debug` that writes nothing meets
+/// its contract, and fails here.
+#[test]
+fn a_view_as_text(rt: HostRuntime) -> Result<(), Fail> {
+    let rows = [[1u64, 2, 3], [4, 5, 6]];
+    let view = as_base_slice(&rows);
+    let text = format!(in rt.alloc(); "{view:?}")?;
+    assert_eq!(rt; text.as_str(), "[1, 2, 3, 4, 5, 6]");
+    let again = view.clone()?;
+    assert!(rt; again.iter().eq(view.iter()));
+    assert_eq!(rt; again[4], 5);
+    Ok(())
+}
+
 #[test]
 fn a_write_through_a_view(rt: HostRuntime) {
     let mut rows = [[1u64, 2], [3, 4]];

@@ -1,8 +1,10 @@
 //! Callers of the logarithms and powers. A test in front of a strict logarithm is enough, and a number that is written out
 //! needs none.
 
-ghost use Rattle.std.specs.Prelude.{◌≡◌, ◌^◌, ◌<◌, IsTrue, MatchOption};
+ghost use Rattle.std.specs.Prelude.{◌≡◌, ◌^◌, ◌<◌, IsTrue, IsFalse, MatchOption, slice_index};
 ghost use Rattle.std.specs.Int.{is_power_of_two};
+ghost use Rattle.p3_util_kernels.specs.Digits.{rev_word};
+ghost use Rattle.p3_util_kernels.specs.Powers.{IsPowerOfThree};
 ghost use Rattle.p3_util_vectors.specs.Padded.{IsLeastPower};
 
 use p3_util_kernels::bits::{
@@ -19,7 +21,8 @@ pub fn padded_len(len: usize) -> Option<usize>
 
 /// The logarithm of a power of two, and 0 for another number: std's test in front is enough.
 pub fn log2_or_zero(n: usize) -> usize
-    ensures { IsTrue (is_power_of_two n) → n ≡ 2 ^ result }
+    ensures power { IsTrue (is_power_of_two n) → n ≡ 2 ^ result }
+    ensures other { IsFalse (is_power_of_two n) → result ≡ 0 }
 {
     if n.is_power_of_two() {
         log2_strict_usize(n)
@@ -29,13 +32,19 @@ pub fn log2_or_zero(n: usize) -> usize
 }
 
 /// The logarithm of a power of three, where `n` is one.
-pub fn log3_of(n: usize) -> Option<usize> {
+pub fn log3_of(n: usize) -> Option<usize>
+    ensures { MatchOption result (¬ IsPowerOfThree n) (λ e. n ≡ 3 ^ e) }
+{
     is_power_of_three(n).then(|| log3_strict_usize(n))
 }
 
 /// Powers that are written out need no test.
 pub fn written_out(x: usize, k: usize) -> [usize; 4]
     requires { k < 64 }
+    ensures log2 { 2 ^ slice_index result 0 ≡ 16 }
+    ensures log3 { 3 ^ slice_index result 1 ≡ 9 }
+    ensures ten_digits { slice_index result 2 ≡ rev_word 10 x }
+    ensures digits { slice_index result 3 ≡ rev_word k x }
 {
     [
         log2_strict_usize(16),

@@ -1,6 +1,7 @@
 //! Callers of bit reversal. None of them has a proof by hand, but for `reverse_twice`: the test in front of a call is enough.
 
-ghost use Rattle.std.specs.Prelude.{◌≡◌, ◌^◌, ◌↔◌, IsTrue, IsFalse, length};
+ghost use Rattle.std.specs.Prelude.{◌≡◌, ◌+◌, ◌^◌, ◌<◌, ◌≤◌, ◌↔◌, [], ◌∷◌, IsTrue, IsFalse, length};
+ghost use Rattle.std.specs.Int.{is_power_of_two};
 ghost use Rattle.p3_util_kernels.specs.Reversal.{IsReversal, IsRowReversal, IsZeroOrPowerOfTwo};
 
 use p3_util_kernels::bits::checked_log_size_sum;
@@ -23,7 +24,10 @@ pub fn reverse_where_it_fits<F>(vals: &mut [F]) -> bool
 }
 
 /// Reverses `vals` by index bits where the length is a power of two, by std's test, and else leaves it.
-pub fn reverse_power_of_two<F>(vals: &mut [F]) {
+pub fn reverse_power_of_two<F>(vals: &mut [F])
+    ensures done { IsTrue (is_power_of_two (length vals.old)) → IsReversal vals.old vals.new }
+    ensures left { IsFalse (is_power_of_two (length vals.old)) → vals.new ≡ vals.old }
+{
     if vals.len().is_power_of_two() {
         reverse_slice_index_bits(vals);
     }
@@ -38,15 +42,20 @@ pub fn reversed_four<F: Copy>(mut items: [F; 4]) -> [F; 4]
 }
 
 /// Four numbers written out, in the order of their reversed index bits.
-pub fn reversed_literal() -> [u32; 4] {
+pub fn reversed_literal() -> [u32; 4]
+    ensures { IsReversal (10 ∷ 20 ∷ 30 ∷ 40 ∷ []) result }
+{
     let mut items = [10, 20, 30, 40];
     reverse_slice_index_bits(&mut items);
     items
 }
 
-/// Reverses `m` by the long path where its length is a power of two and at least 4.
+/// Reverses `m` by the long path where its length is a power of two and at least 4. `false`, and nothing done, elsewhere.
 pub fn reverse_long_where_it_fits<S: Places>(m: &mut Swaps<S>) -> bool
-    ensures { IsTrue result → IsReversal (S.items m.old.holder) (S.items m.new.holder) }
+    ensures done { IsTrue result → IsReversal (S.items m.old.holder) (S.items m.new.holder) }
+    ensures left { IsFalse result → m.new ≡ m.old }
+    ensures fits { let len = length (S.items m.old.holder) in
+        IsTrue result ↔ (IsTrue (is_power_of_two len) × (4 ≤ len)) }
 {
     let fits = m.len().is_power_of_two() && m.len() >= 4;
     if fits {
@@ -55,17 +64,22 @@ pub fn reverse_long_where_it_fits<S: Places>(m: &mut Swaps<S>) -> bool
     fits
 }
 
-/// Reverses the order of the `2^log_count` chunks of `2^log_size` items where `m` is as long as these.
+/// Reverses the order of the `2^log_count` chunks of `2^log_size` items where `m` is as long as these. `false`, and nothing
+/// done, elsewhere.
 pub fn reverse_chunks_where_they_fit<S: Places>(
     m: &mut Swaps<S>,
     log_count: usize,
     log_size: usize,
 ) -> bool
-    ensures { IsTrue result
+    ensures done { IsTrue result
         → IsRowReversal (2 ^ log_size) (S.items m.old.holder) (S.items m.new.holder) }
+    ensures left { IsFalse result → m.new ≡ m.old }
+    ensures fits { let log_len = log_count + log_size in
+        IsTrue result ↔ ((log_len < 64) × (length (S.items m.old.holder) ≡ 2 ^ log_len)) }
 {
+    let len = m.len();
     match checked_log_size_sum(log_count, log_size) {
-        Some((_, len)) if len == m.len() => {
+        Some((_, size)) if size == len => {
             reverse_chunks_on(m, log_count, log_size);
             true
         }
