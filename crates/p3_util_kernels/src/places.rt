@@ -9,11 +9,13 @@
 
 ghost use Rattle.std.specs.Prelude.{◌≡◌, ℕ, ◌+◌, ◌*◌, ◌<◌, ◌≤◌, List, Some, length, swap, slice_get, slice_set};
 ghost use Rattle.p3_util_kernels.specs.Exchanged.{RunsExchanged};
+ghost use Rattle.p3_util_kernels.specs.Region.{IsRegionTransposed, LiesInMatrix};
 ghost use Rattle.p3_util_kernels.specs.Strided.{IsStridedPut, swap_strided};
 
 mod counters;
 mod holders;
 
+use crate::transpose::Region;
 pub use counters::{Swaps, Writes};
 pub use holders::{SliceCells, SlicePlaces, SliceSource};
 
@@ -117,6 +119,32 @@ pub trait Cells {
         }
     }
 
+    /// Puts the transpose of `region`, a part of the matrix `source` of `height` rows of `width` items: what stands at
+    /// `y * width + x` is put at `x * height + y`, column after column. A holder may do so in a faster way than by its
+    /// `put_strided`.
+    fn put_columns<R: Source<Item = Self::Item>>(
+        &mut self,
+        source: &R,
+        region: Region,
+        width: usize,
+        height: usize,
+    )
+        requires source_fits { length (R.items source.now) ≡ width * height }
+        requires cells_fit { length (items self.old) ≡ width * height }
+        requires inside { LiesInMatrix region width height }
+        ensures transposed { IsRegionTransposed region width height (R.items source.now) (items self.old) (items self.new) }
+        ensures holder { same_holder self.old self.new }
+    {
+        // Tells that the places fit a usize.
+        let _ = self.len();
+        if region.row_start < region.row_end {
+            let (row, rows) = (region.row_start, region.row_end - region.row_start);
+            for x in region.col_start..region.col_end {
+                self.put_strided(x * height + row, source, row * width + x, width, rows);
+            }
+        }
+    }
+
     ghost same_holder_refl: { (a : Self) → same_holder a a };
 
     ghost same_holder_trans: { (a b c : Self) → same_holder a b → same_holder b c → same_holder a c };
@@ -157,6 +185,24 @@ pub trait Source {
         let _ = self.len();
         for t in 0..len {
             values[i + t] = self.at(start + t * stride);
+        }
+    }
+
+    /// Writes to `values` the transpose of `region`, a part of the matrix of `height` rows of `width` items that the source
+    /// is, as [`Cells::put_columns`] puts it. A source may do so in a faster way than by its `copy_strided`.
+    fn copy_columns(&self, region: Region, width: usize, height: usize, values: &mut [Self::Item])
+        requires source_fits { length (items self.now) ≡ width * height }
+        requires values_fit { length values.old ≡ width * height }
+        requires inside { LiesInMatrix region width height }
+        ensures { IsRegionTransposed region width height (items self.now) values.old values.new }
+    {
+        // Tells that the places fit a usize.
+        let _ = self.len();
+        if region.row_start < region.row_end {
+            let (row, rows) = (region.row_start, region.row_end - region.row_start);
+            for x in region.col_start..region.col_end {
+                self.copy_strided(row * width + x, width, values, x * height + row, rows);
+            }
         }
     }
 }

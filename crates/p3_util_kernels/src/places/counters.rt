@@ -2,10 +2,12 @@
 
 ghost use Rattle.std.specs.Prelude.{◌≡◌, ℕ, ◌+◌, ◌*◌, ◌^◌, ◌<◌, ◌≤◌, length, swap, slice_set};
 ghost use Rattle.p3_util_kernels.specs.Exchanged.{RunsExchanged};
+ghost use Rattle.p3_util_kernels.specs.Region.{IsRegionTransposed, LiesInMatrix, items_of};
 ghost use Rattle.p3_util_kernels.specs.Steps.{Counted, counted};
-ghost use Rattle.p3_util_kernels.specs.Strided.{IsStridedPut, swap_strided};
+ghost use Rattle.p3_util_kernels.specs.Strided.{swap_strided};
 
 use crate::places::{Cells, Places, Source};
+use crate::transpose::Region;
 use std::marker::Model;
 
 /// A holder of places that counts its exchanges. The count stays at `u128::MAX` once it is there.
@@ -139,25 +141,28 @@ impl<C: Cells> Writes<C> {
         self.writes = self.writes.saturating_add(1);
     }
 
-    /// Puts at `i + t` the item of `source` at `start + t * stride`, for each `t` below `len` in turn, and counts `len`.
+    /// Puts the transpose of `region`, a part of the matrix `source` of `height` rows of `width` items, as
+    /// [`Cells::put_columns`] does, and counts its items.
     #[inline(always)]
-    pub fn put_strided<R: Source<Item = C::Item>>(
+    pub fn put_columns<R: Source<Item = C::Item>>(
         &mut self,
-        i: usize,
         source: &R,
-        start: usize,
-        stride: usize,
-        len: usize,
+        region: Region,
+        width: usize,
+        height: usize,
     )
-        requires room { i + len ≤ length (C.items self.old.holder) }
-        requires inside { (t : ℕ) → t < len → start + t * stride < length (R.items source.now) }
-        ensures written { IsStridedPut i start stride len (R.items source.now)
+        requires source_fits { length (R.items source.now) ≡ width * height }
+        requires cells_fit { length (C.items self.old.holder) ≡ width * height }
+        requires inside { LiesInMatrix region width height }
+        ensures transposed { IsRegionTransposed region width height (R.items source.now)
             (C.items self.old.holder) (C.items self.new.holder) }
-        ensures count { self.new.count ≡ counted self.old.count len }
+        ensures count { self.new.count ≡ counted self.old.count (items_of region) }
         ensures holder { C.same_holder self.old.holder self.new.holder }
     {
-        self.cells.put_strided(i, source, start, stride, len);
-        self.writes = self.writes.saturating_add(len as u128);
+        self.cells.put_columns(source, region, width, height);
+        let rows = (region.row_end - region.row_start) as u128;
+        let cols = (region.col_end - region.col_start) as u128;
+        self.writes = self.writes.saturating_add(rows * cols);
     }
 
     /// How many writes were made, at most `u128::MAX`.

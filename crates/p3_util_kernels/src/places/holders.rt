@@ -3,9 +3,11 @@
 ghost use Rattle.std.specs.Prelude.{◌≡◌, ℕ, ◌+◌, ◌*◌, ◌<◌, ◌≤◌, ◌++◌, length};
 ghost use Rattle.std.proofs.Common.{refl, ◌∙◌};
 ghost use Rattle.p3_util_kernels.specs.Exchanged.{RunsExchanged};
+ghost use Rattle.p3_util_kernels.specs.Region.{IsRegionTransposed, LiesInMatrix};
 ghost use Rattle.p3_util_kernels.specs.Strided.{IsStridedPut, swap_strided};
 
 use crate::places::{Cells, Places, Source};
+use crate::transpose::Region;
 use std::mem;
 
 /// The holder behind the reference is the holder.
@@ -66,6 +68,17 @@ impl<C: Cells> Cells for &mut C {
         len: usize,
     ) {
         C::put_strided(self, i, source, start, stride, len);
+    }
+
+    #[inline(always)]
+    fn put_columns<R: Source<Item = Self::Item>>(
+        &mut self,
+        source: &R,
+        region: Region,
+        width: usize,
+        height: usize,
+    ) {
+        C::put_columns(self, source, region, width, height);
     }
 
     ghost same_holder_refl = { λ a. (refl, C.same_holder_refl a.now) };
@@ -190,15 +203,14 @@ impl<'a, T: Copy> Cells for SliceCells<'a, T> {
     }
 
     #[inline(always)]
-    fn put_strided<R: Source<Item = T>>(
+    fn put_columns<R: Source<Item = T>>(
         &mut self,
-        i: usize,
         source: &R,
-        start: usize,
-        stride: usize,
-        len: usize,
+        region: Region,
+        width: usize,
+        height: usize,
     ) {
-        source.copy_strided(start, stride, self.values, i, len);
+        source.copy_columns(region, width, height, self.values);
     }
 
     ghost same_holder_refl = { λ a. refl };
@@ -236,8 +248,34 @@ impl<'a, T: Copy> Source for SliceSource<'a, T> {
     }
 
     #[inline(always)]
-    fn copy_strided(&self, start: usize, stride: usize, values: &mut [T], i: usize, len: usize) {
-        copy_strided(self.slice, start, stride, values, i, len);
+    fn copy_columns(&self, region: Region, width: usize, height: usize, values: &mut [T]) {
+        copy_columns(self.slice, region, width, height, values);
+    }
+}
+
+/// Writes to `values` the transpose of `region`, a part of the matrix `items` of `height` rows of `width` items, column
+/// after column.
+#[inline(always)]
+fn copy_columns<T: Copy>(items: &[T], region: Region, width: usize, height: usize, values: &mut [T])
+    requires items_fit { length items.now ≡ width * height }
+    requires values_fit { length values.old ≡ width * height }
+    requires inside { LiesInMatrix region width height }
+    ensures { IsRegionTransposed region width height items.now values.old values.new }
+{
+    // Tells that the places fit a usize.
+    let _ = items.len();
+    if region.row_start < region.row_end {
+        let (row, rows) = (region.row_start, region.row_end - region.row_start);
+        for x in region.col_start..region.col_end {
+            copy_strided(
+                items,
+                row * width + x,
+                width,
+                values,
+                x * height + row,
+                rows,
+            );
+        }
     }
 }
 

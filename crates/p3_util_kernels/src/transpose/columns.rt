@@ -27,44 +27,12 @@ where
     let mut row = region.row_start;
     while row < region.row_end {
         let end = region.row_end.min(row.saturating_add(STRIP_ROWS));
-        put_columns(
-            input,
-            out,
-            Region {
-                row_start: row,
-                row_end: end,
-                ..region
-            },
-            width,
-            height,
-        );
+        let strip = Region {
+            row_start: row,
+            row_end: end,
+            ..region
+        };
+        out.put_columns(input, strip, width, height);
         row = end;
-    }
-}
-
-/// Puts `region` column after column. Each column of the region is a line of the output, which is put in one call.
-#[inline(always)]
-pub fn put_columns<R, C>(
-    input: &R,
-    out: &mut Writes<C>,
-    region: Region,
-    width: usize,
-    height: usize,
-)
-where
-    C: Cells,
-    R: Source<Item = C::Item>,
-    requires ready { IsReady width height (R.items input.now) (C.items out.old.holder) out.old.count }
-    requires inside { LiesInMatrix region width height }
-    ensures transposed { IsRegionTransposed region width height (R.items input.now)
-        (C.items out.old.holder) (C.items out.new.holder) }
-    ensures count { out.new.count ≡ counted out.old.count (items_of region) }
-    ensures holder { C.same_holder out.old.holder out.new.holder }
-{
-    if region.row_start < region.row_end {
-        let (row, rows) = (region.row_start, region.row_end - region.row_start);
-        for x in region.col_start..region.col_end {
-            out.put_strided(x * height + row, input, row * width + x, width, rows);
-        }
     }
 }

@@ -10,7 +10,7 @@ use crate::transpose::Region;
 use crate::transpose::columns::put_strips;
 use crate::transpose::tile::{TILE_SIDE, TileForm, put_tiles};
 
-/// The greatest height of a matrix whose tiles are put block by block.
+/// The greatest height of a matrix whose tiles are put block by block, where there are several side by side.
 const LOW: usize = 32;
 
 /// Puts the transpose of `region` into `out`, one write an item. Every other place stays.
@@ -70,7 +70,7 @@ where
         row_start: row,
         ..region
     };
-    let form = if height <= LOW {
+    let form = if height <= LOW && width > TILE_SIDE {
         TileForm::Blocks
     } else {
         TileForm::Columns

@@ -8,7 +8,6 @@ ghost use Rattle.p3_util_kernels.specs.Steps.{counted};
 
 use crate::places::{Cells, SliceSource, Source, Writes};
 use crate::transpose::Region;
-use crate::transpose::columns::put_columns;
 
 /// The greatest side of a part that is not halved where its other side is no longer.
 const LEAF_SIDE: usize = 128;
@@ -67,7 +66,7 @@ where
     ensures holder { C.same_holder out.old.holder out.new.holder }
 {
     if is_leaf(region) {
-        put_lines(input, out, region, width, height);
+        out.put_columns(input, region, width, height);
         return 0;
     }
     // Tells that the places fit a usize, so that there are at most 57 levels.
@@ -76,24 +75,6 @@ where
     let nested = transpose_source_split_on(input, out, first, width, height, levels - 1);
     let nested_after = transpose_source_split_on(input, out, second, width, height, levels - 1);
     1 + nested.max(nested_after)
-}
-
-/// Puts the transpose of `region` into `out`, a line of the output after another: each column of the region is one.
-fn put_lines<R, C>(input: &R, out: &mut Writes<C>, region: Region, width: usize, height: usize)
-where
-    C: Cells,
-    R: Source<Item = C::Item>,
-    requires input_fits { length (R.items input.now) ≡ width * height }
-    requires output_fits { length (C.items out.old.holder) ≡ width * height }
-    requires inside { LiesInMatrix region width height }
-    ensures transposed { IsRegionTransposed region width height (R.items input.now)
-        (C.items out.old.holder) (C.items out.new.holder) }
-    ensures count { out.new.count ≡ counted out.old.count (items_of region) }
-    ensures holder { C.same_holder out.old.holder out.new.holder }
-{
-    // The places fit a usize, and the count a u128.
-    let _places = out.len();
-    put_columns(input, out, region, width, height);
 }
 
 /// Whether `region` is put without a split.

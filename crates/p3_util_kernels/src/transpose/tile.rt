@@ -7,7 +7,6 @@ ghost use Rattle.p3_util_kernels.specs.Steps.{counted};
 
 use crate::places::{Cells, Source, Writes};
 use crate::transpose::Region;
-use crate::transpose::columns::put_columns;
 
 /// The side of a tile.
 pub const TILE_SIDE: usize = 16;
@@ -113,7 +112,7 @@ where
     ensures holder { C.same_holder out.old.holder out.new.holder }
 {
     match form {
-        TileForm::Columns => put_columns(input, out, region, width, height),
+        TileForm::Columns => out.put_columns(input, region, width, height),
         TileForm::Blocks => put_blocks(input, out, region, width, height),
     }
 }
@@ -167,16 +166,11 @@ where
 {
     for block in 0..TILE_SIDE / BLOCK_SIDE {
         let start = region.col_start + block * BLOCK_SIDE;
-        put_columns(
-            input,
-            out,
-            Region {
-                col_start: start,
-                col_end: start + BLOCK_SIDE,
-                ..region
-            },
-            width,
-            height,
-        );
+        let block = Region {
+            col_start: start,
+            col_end: start + BLOCK_SIDE,
+            ..region
+        };
+        out.put_columns(input, block, width, height);
     }
 }

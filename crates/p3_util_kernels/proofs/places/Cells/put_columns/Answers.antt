@@ -1,25 +1,23 @@
 use Rattle.std.proofs.Common.{◌≡◌, ◌+◌, ◌-◌, ◌*◌, ◌<◌, length, refl, arith}
 use Rattle.std.proofs.lemmas.Nat.{mul-add-lt}
 use Rattle.p3_util_kernels.proofs.Region.{IsRegionTransposed-cols, IsRegionTransposed-line}
-use Rattle.p3_util_kernels.proofs.transpose.columns.put_columns.Goals as goal
+use Rattle.p3_util_kernels.proofs.places.Cells.put_columns.Goals as goal
 
 pub loop-x-preserved : goal.loop-x-preserved
 loop-x-preserved g c =
     let x = c.loop-x.x in
-    let more : c.loop-x.x + 1 - c.args.region.col_start ≡ c.loop-x.x - c.args.region.col_start + 1 = omega arith in
     record {
       transposed =
           IsRegionTransposed-cols c.args.width c.args.height _ (record c.args.region { col_end = c.loop-x.x + 1 }) x _ _ _ (omega arith) (omega arith) (omega arith)
           c.loop-x.invariant.transposed
           (IsRegionTransposed-line c.args.width c.args.height _ (record c.args.region { col_start = x; col_end = x + 1 }) x _ _ refl refl c.put_strided.ensures.written);
-      count = rw more (omega arith);
-      holder = g.met.C.Cells.same_holder_trans _ _ _ c.loop-x.invariant.holder c.put_strided.ensures.holder;
+      holder = g.met.Self.Cells.same_holder_trans _ _ _ c.loop-x.invariant.holder c.put_strided.ensures.holder;
     }
 
 pub put_strided-requires-clause-inside : goal.put_strided-requires-clause-inside
 put_strided-requires-clause-inside g c t h =
     let row = c.args.region.row_start in
-    omega (arith, c.requires.ready.input_fits, mul-add-lt (row + t) c.args.width c.loop-x.x c.args.height (omega arith) (omega arith))
+    omega (arith, c.requires.source_fits, mul-add-lt (row + t) c.args.width c.loop-x.x c.args.height (omega arith) (omega arith))
 
 pub returns-after-loop-x-clause-transposed : goal.returns-after-loop-x-clause-transposed
 returns-after-loop-x-clause-transposed g c =
