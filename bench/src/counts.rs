@@ -3,7 +3,7 @@
 use std::path::Path;
 
 use crate::cases::Case;
-use crate::items::{CONTENDERS, Item, Lists, Visitor};
+use crate::items::{Item, Lists, Visitor, contenders};
 use crate::table::Row;
 
 pub struct CountEach;
@@ -13,7 +13,7 @@ impl Visitor for CountEach {
 
     fn visit<T: Item>(self, case: &Case) {
         let mut lists = Lists::<T>::new(case);
-        for &contender in CONTENDERS {
+        for &contender in contenders(case.work) {
             bench_counted(&mut || lists.run(contender));
         }
     }
@@ -28,12 +28,13 @@ fn bench_counted(work: &mut dyn FnMut()) {
 
 /// The rows of the cases, from the files `out.1`, `out.2` and so on.
 pub fn read(cases: &[Case], folder: &Path) -> Result<Vec<Row>, String> {
-    let row = |(k, case)| {
-        let files = (1..=CONTENDERS.len()).map(|it| folder.join(format!("out.{}", k * CONTENDERS.len() + it)));
-        let counts: Result<Vec<f64>, String> = files.map(|file| total(&file)).collect();
+    let mut files = (1..).map(|k| folder.join(format!("out.{k}")));
+    let row = |case: &Case| {
+        let of_case = files.by_ref().take(contenders(case.work).len());
+        let counts: Result<Vec<f64>, String> = of_case.map(|file| total(&file)).collect();
         Ok(Row::new(case, &counts?))
     };
-    cases.iter().enumerate().map(row).collect()
+    cases.iter().map(row).collect()
 }
 
 fn total(file: &Path) -> Result<f64, String> {

@@ -1,6 +1,7 @@
 //! Items of each size, and the calls on them.
 
 use crate::cases::{Case, Work};
+use crate::rows;
 
 pub trait Item: Copy + PartialEq + Send + Sync {
     fn numbered(i: usize) -> Self;
@@ -46,7 +47,7 @@ pub fn visit<V: Visitor>(case: &Case, visitor: V) -> V::Answer {
 
 /// The lists of one case. A reversal works in `to`; a transpose goes from `from` to `to`, and so does a copy.
 pub struct Lists<T> {
-    work: Work,
+    case: Case,
     from: Vec<T>,
     to: Vec<T>,
 }
@@ -59,18 +60,24 @@ pub enum Contender {
     Copy,
 }
 
-pub const CONTENDERS: &[Contender] = &[
-    Contender::Proved,
-    #[cfg(original)]
-    Contender::Original,
-    Contender::Copy,
-];
+/// What takes turns at a call. The original has no call for rows.
+pub fn contenders(work: Work) -> &'static [Contender] {
+    match work {
+        Work::Rows { .. } => &[Contender::Proved, Contender::Copy],
+        _ => &[
+            Contender::Proved,
+            #[cfg(original)]
+            Contender::Original,
+            Contender::Copy,
+        ],
+    }
+}
 
 impl<T: Item> Lists<T> {
     pub fn new(case: &Case) -> Self {
-        let from: Vec<T> = (0..case.work.items()).map(T::numbered).collect();
+        let from: Vec<T> = (0..case.items()).map(T::numbered).collect();
         Lists {
-            work: case.work,
+            case: *case,
             to: from.clone(),
             from,
         }
@@ -78,13 +85,16 @@ impl<T: Item> Lists<T> {
 
     pub fn run(&mut self, contender: Contender) {
         let (from, to) = (self.from.as_slice(), self.to.as_mut_slice());
-        match (contender, self.work) {
+        match (contender, self.case.work) {
             (Contender::Proved, Work::Reverse { .. }) => p3_util_proved::reverse_slice_index_bits(to),
+            (Contender::Proved, Work::Rows { .. }) => rows::reverse(to, self.case.row_width()),
             (Contender::Proved, Work::Transpose { width, height }) => {
                 p3_util_proved::transpose::transpose(from, to, width, height)
             }
             #[cfg(original)]
             (Contender::Original, Work::Reverse { .. }) => p3_util::reverse_slice_index_bits(to),
+            #[cfg(original)]
+            (Contender::Original, Work::Rows { .. }) => unreachable!("the original has no call for rows"),
             #[cfg(original)]
             (Contender::Original, Work::Transpose { width, height }) => {
                 p3_util::transpose::transpose(from, to, width, height)
@@ -100,12 +110,12 @@ impl<T: Item> Lists<T> {
         self.run(contender);
         let is_copy = contender == Contender::Copy;
         for (i, item) in self.to.iter().enumerate() {
-            let source = if is_copy { i } else { self.work.source(i) };
+            let source = if is_copy { i } else { self.case.source(i) };
             assert!(
                 *item == self.from[source],
                 "{} of {}: wrong at {i}",
-                self.work.call(),
-                self.work.shape()
+                self.case.work.call(),
+                self.case.work.shape()
             );
         }
     }

@@ -5,6 +5,7 @@ mod counts;
 mod items;
 mod options;
 mod picture;
+mod rows;
 mod table;
 mod timing;
 

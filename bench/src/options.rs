@@ -2,11 +2,14 @@
 
 use std::path::PathBuf;
 
+use crate::cases::CALLS;
+
 pub const USAGE: &str = "\
 options:
-  --calls reverse,transpose   which calls (all)
+  --calls reverse,rows,transpose   which calls (all)
   --items 1,4,8,32            sizes of an item in bytes, of 1 2 4 8 16 32 (1,4,8,32)
   --sizes 2-22                reversals of 2^2 to 2^22 items; also a list, as 3,7,13 (2-22)
+  --rows 64x16,1024x256       reversals of rows of so many bytes, a multiple of 32, by so many rows (the same table)
   --shapes 16x16,300x60       transposes of so many columns by so many rows (the table of docs/PERFORMANCE.md)
   --runs N                    at least N runs of each, of which the least counts (9)
   --wide                      one line for each shape, and a column for each size of an item
@@ -26,11 +29,16 @@ pub struct Options {
     pub calls: Vec<String>,
     pub items: Vec<usize>,
     pub sizes: Vec<u32>,
+    pub rows: Vec<(usize, usize)>,
     pub shapes: Vec<(usize, usize)>,
     pub runs: usize,
     pub wide: bool,
     pub svg: Option<PathBuf>,
 }
+
+/// Bytes of a row, and rows. The greatest list has 256 KB.
+const ROWS: &str = "64x16,64x64,64x256,64x1024,64x4096,128x16,128x64,128x256,128x1024,128x2048,256x16,256x64,256x256,\
+    256x1024,1024x16,1024x64,1024x256";
 
 /// Columns and rows.
 const SHAPES: &str = "4x4,8x8,15x17,16x16,17x19,64x64,63x50,300x60,512x512,1024x1024,1025x1024,2048x2048,2003x757,\
@@ -40,9 +48,10 @@ impl Options {
     pub fn from_words(mut words: impl Iterator<Item = String>) -> Result<Self, String> {
         let mut options = Options {
             mode: Mode::Time,
-            calls: vec!["reverse".into(), "transpose".into()],
+            calls: CALLS.map(String::from).into(),
             items: vec![1, 4, 8, 32],
             sizes: (2..=22).collect(),
+            rows: list(ROWS, rows)?,
             shapes: list(SHAPES, shape)?,
             runs: 9,
             wide: false,
@@ -55,6 +64,7 @@ impl Options {
                 "--calls" => options.calls = list(&value()?, call)?,
                 "--items" => options.items = list(&value()?, item)?,
                 "--sizes" => options.sizes = sizes(&value()?)?,
+                "--rows" => options.rows = list(&value()?, rows)?,
                 "--shapes" => options.shapes = list(&value()?, shape)?,
                 "--runs" => options.runs = number(&value()?)?,
                 "--wide" => options.wide = true,
@@ -77,9 +87,10 @@ fn number(text: &str) -> Result<usize, String> {
 }
 
 fn call(text: &str) -> Result<String, String> {
-    match text {
-        "reverse" | "transpose" => Ok(text.to_owned()),
-        _ => Err(format!("unknown call {text}")),
+    if CALLS.contains(&text) {
+        Ok(text.to_owned())
+    } else {
+        Err(format!("unknown call {text}"))
     }
 }
 
@@ -93,6 +104,13 @@ fn item(text: &str) -> Result<usize, String> {
 fn shape(text: &str) -> Result<(usize, usize), String> {
     let (width, height) = text.split_once('x').ok_or_else(|| format!("{text} is no shape"))?;
     Ok((number(width)?, number(height)?))
+}
+
+fn rows(text: &str) -> Result<(usize, usize), String> {
+    match shape(text)? {
+        (bytes, rows) if bytes > 0 && bytes.is_multiple_of(32) && rows.is_power_of_two() => Ok((bytes, rows)),
+        _ => Err(format!("{text} is no multiple of 32 bytes by a power of two")),
+    }
 }
 
 fn sizes(text: &str) -> Result<Vec<u32>, String> {

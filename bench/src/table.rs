@@ -2,8 +2,7 @@
 
 use std::fmt::Write;
 
-use crate::cases::Case;
-use crate::items::CONTENDERS;
+use crate::cases::{CALLS, Case};
 
 #[derive(Clone, Copy)]
 pub enum Unit {
@@ -20,10 +19,10 @@ pub struct Row {
 }
 
 impl Row {
-    /// A row of what each of `CONTENDERS` took.
+    /// A row of what each contender took.
     pub fn new(case: &Case, took: &[f64]) -> Self {
         let (first, last) = (took[0], took[took.len() - 1]);
-        let original = (CONTENDERS.len() == 3).then(|| took[1]);
+        let original = (took.len() == 3).then(|| took[1]);
         Row {
             case: *case,
             proved: first,
@@ -32,8 +31,9 @@ impl Row {
         }
     }
 
+    /// What an item took, or a row where rows move.
     fn an_item(&self) -> f64 {
-        self.proved / self.case.work.items() as f64
+        self.proved / self.case.work.units() as f64
     }
 
     fn copies(&self) -> f64 {
@@ -72,8 +72,6 @@ impl Unit {
     }
 }
 
-const CALLS: [&str; 2] = ["reverse", "transpose"];
-
 /// One line for each case.
 pub fn long(rows: &[Row], unit: Unit) -> String {
     let unit = unit.name();
@@ -93,8 +91,9 @@ pub fn long(rows: &[Row], unit: Unit) -> String {
     out
 }
 
-/// One table for each call, one line for each shape, and in it for each size of an item the ratio to the original, and
-/// in brackets what an item takes and the times of a copy.
+/// One table for each call, one line for each shape, and in it for each size of an item the ratio to the original,
+/// and in brackets what an item takes and the times of a copy. Without the original, the times of a copy come
+/// first.
 pub fn wide(rows: &[Row], unit: Unit) -> String {
     let mut out = String::new();
     for call in CALLS {
@@ -121,8 +120,11 @@ pub fn wide(rows: &[Row], unit: Unit) -> String {
 }
 
 fn cell(row: &Row, unit: Unit) -> String {
-    let ratio = row.ratio().map_or(String::new(), |it| format!("**{it:.2}** "));
-    format!("{ratio}({:.2} {}, {:.1})", row.an_item(), unit.name(), row.copies())
+    let (an_item, unit, copies) = (row.an_item(), unit.name(), row.copies());
+    match row.ratio() {
+        Some(ratio) => format!("**{ratio:.2}** ({an_item:.2} {unit}, {copies:.1})"),
+        None => format!("**{copies:.2}** ({an_item:.2} {unit})"),
+    }
 }
 
 /// The different values, in the order in which they first come.

@@ -3,7 +3,7 @@
 use std::time::Duration;
 
 use crate::cases::Case;
-use crate::items::{self, CONTENDERS, Contender, Item, Lists, Visitor};
+use crate::items::{self, Contender, Item, Lists, Visitor, contenders};
 use crate::table::Row;
 
 /// A run repeats its call until it takes at least this long.
@@ -25,13 +25,14 @@ impl Visitor for Measure {
 
     fn visit<T: Item>(self, case: &Case) -> Row {
         let mut lists = Lists::<T>::new(case);
-        CONTENDERS.iter().for_each(|&it| lists.check(it));
-        let repeats: Vec<u32> = CONTENDERS.iter().map(|&it| repeats(&mut lists, it)).collect();
-        let mut least = vec![f64::INFINITY; CONTENDERS.len()];
+        let contenders = contenders(case.work);
+        contenders.iter().for_each(|&it| lists.check(it));
+        let repeats: Vec<u32> = contenders.iter().map(|&it| repeats(&mut lists, it)).collect();
+        let mut least = vec![f64::INFINITY; contenders.len()];
         let start = processor_time();
         let mut done = 0;
         while done < self.runs || processor_time() - start < CASE {
-            for (k, &contender) in CONTENDERS.iter().enumerate() {
+            for (k, &contender) in contenders.iter().enumerate() {
                 let time = run(&mut lists, contender, repeats[k]).as_secs_f64() * 1e9;
                 least[k] = least[k].min(time / f64::from(repeats[k]));
             }

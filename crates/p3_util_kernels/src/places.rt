@@ -43,6 +43,7 @@ pub trait Places {
 
     /// Exchanges the `len` items from place `i` on with the `len` items from place `j` on, in order. The first run ends
     /// before the second begins. A holder may do so in a faster way than by its `exchange`.
+    #[inline(always)]
     fn exchange_runs(&mut self, i: usize, j: usize, len: usize)
         requires apart { i + len ≤ j }
         requires within { j + len ≤ length (items self.old) }
@@ -58,6 +59,7 @@ pub trait Places {
 
     /// Exchanges the items at places `i + t * stride` and `j + t`, for each `t` below `len` in turn. A holder may do so in a
     /// faster way than by its `exchange`.
+    #[inline(always)]
     fn exchange_strided(&mut self, i: usize, j: usize, stride: usize, len: usize)
         requires apart { (t : ℕ) → t < len → i + t * stride < j }
         requires within { j + len ≤ length (items self.old) }

@@ -57,6 +57,7 @@ impl<S: Places> Swaps<S> {
 
     /// Exchanges the `len` items from place `i` on with those from place `j` on, by one exchange of runs, and counts `len`.
     /// The first run ends before the second begins.
+    #[inline(always)]
     pub fn swap_runs(&mut self, i: usize, j: usize, len: usize)
         requires apart { i + len ≤ j }
         requires within { j + len ≤ length (S.items self.old.holder) }

@@ -27,6 +27,7 @@ impl<S: Places> Places for &mut S {
         S::exchange(self, i, j);
     }
 
+    #[inline(always)]
     fn exchange_runs(&mut self, i: usize, j: usize, len: usize) {
         S::exchange_runs(self, i, j, len);
     }
@@ -117,6 +118,7 @@ impl<'a, F> Places for SlicePlaces<'a, F> {
         self.items.swap(i, j);
     }
 
+    #[inline(always)]
     fn exchange_runs(&mut self, i: usize, j: usize, len: usize) {
         swap_runs(self.items, i, j, len);
     }
@@ -132,6 +134,7 @@ impl<'a, F> Places for SlicePlaces<'a, F> {
 }
 
 /// Exchanges the `len` items of `items` from place `i` on with those from place `j` on.
+#[inline(always)]
 fn swap_runs<F>(items: &mut [F], i: usize, j: usize, len: usize)
     requires apart { i + len ≤ j }
     requires within { j + len ≤ length items.old }

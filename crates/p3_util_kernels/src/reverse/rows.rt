@@ -23,9 +23,6 @@ static REVERSED_SIX: [u8; 64] = [
     19, 51, 11, 43, 27, 59, 7, 39, 23, 55, 15, 47, 31, 63,
 ];
 
-/// The number of items from which on two rows are exchanged as runs.
-const WIDE_ROW: usize = 8;
-
 /// Reverses the rows of `m`, of `row_width` items each, by index bits: with 2^k rows, row `r` becomes the row whose index
 /// has the k bits of `r` in reversed order. The number of rows is zero or a power of two, which [`fits_rows`] tests.
 ///
@@ -87,7 +84,7 @@ fn exchange_line<S: Places>(
     }
 }
 
-/// Exchanges the `row_width` items from place `i` on with those from place `j` on, one by one where they are few.
+/// Exchanges the `row_width` items from place `i` on with those from place `j` on: as runs, where there are several.
 #[inline(always)]
 fn exchange_rows<S: Places>(m: &mut Swaps<S>, i: usize, j: usize, row_width: usize)
     requires apart { i + row_width ≤ j }
@@ -98,10 +95,8 @@ fn exchange_rows<S: Places>(m: &mut Swaps<S>, i: usize, j: usize, row_width: usi
     ensures count { m.new.count ≡ counted m.old.count row_width }
     ensures holder { S.same_holder m.old.holder m.new.holder }
 {
-    if row_width < WIDE_ROW {
-        for t in 0..row_width {
-            m.swap(i + t, j + t);
-        }
+    if row_width == 1 {
+        m.swap(i, j);
     } else {
         m.swap_runs(i, j, row_width);
     }
