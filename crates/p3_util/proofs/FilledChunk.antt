@@ -1,4 +1,4 @@
--- The loop that fills one chunk: the items that came stand in front, and the others are still the filler.
+-- The loop that fills one chunk: the items that came are in front, and the others are still the filler.
 use Rattle.std.proofs.Common.{◌≡◌, ℕ, ◌+◌, ◌-◌, ◌<◌, ◌≤◌, Bool, true, false, true≢false, List, ◌++◌, Option, Some, None, length, take, drop, set, refl, sym, ap, ◌∙◌, arith, rules}
 use borrow.Author.Tests.{tests}
 use Rattle.std.proofs.lemmas.Grind.{take-set_at}

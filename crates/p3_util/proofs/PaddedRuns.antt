@@ -137,7 +137,7 @@ module _ {S A : Type 0} {n : ℕ} (steps : S → Option A → S → Type 0) wher
   nothing-more s t [] e y = (refl, y)
   nothing-more s t (p ∷ ps) e y = absurd (true≢false (sym e ∙ y.1.1.0))
 
-  -- behind the pieces ps stand items xs of the source, which follow on whole pieces
+  -- behind the pieces ps come items xs of the source, which follow on whole pieces
   Behind : ArrayChunksPadded S A n → ArrayChunksPadded S A n → List (List A) → List A → Type 0
   Behind s t ps front = (xs : List A) × (padded_pieces n (padded_fill s) (front ++ xs) ≡ padded_pieces n (padded_fill s) front ++ ps) × Pulled steps (padded_source s) xs (padded_done t) (padded_source t)
 

@@ -6,23 +6,23 @@ use Rattle.std.specs.Option.{option_map}
 use Rattle.std.proofs.iter.runs.Made.{run, took, at-is, run_of_turn}
 use Rattle.std.proofs.lemmas.List.{length-map}
 use Rattle.std.proofs.lemmas.Option.{slice_get-map}
-use Rattle.p3_util.specs.ZipEq.{TellsLength, zip_eq_first, zip_eq_second, zip_eq_left, zip_eq_steps, PairsRuns}
+use Rattle.p3_util.specs.ZipEq.{HasTrueLength, zip_eq_first, zip_eq_second, zip_eq_left, zip_eq_steps, PairsRuns}
 use Rattle.p3_util.specs.declared.zip_eq.ZipEq.{ZipEq}
 
 module _ {S A : Type 0} {steps : S → Option A → S → Type 0} {left : S → Count} where
   -- a length that is true is true after a call
-  TellsLength-next : {s t : S} {x : A} → TellsLength steps left s → steps s (Some x) t → TellsLength steps left t
-  TellsLength-next {s} {t} {x} h step = record {
+  HasTrueLength-next : {s t : S} {x : A} → HasTrueLength steps left s → steps s (Some x) t → HasTrueLength steps left t
+  HasTrueLength-next {s} {t} {x} h step = record {
     item = λ xs j y u came next. h.item (x ∷ xs) j y u (t, step, came) next;
     none = λ xs j u came next. h.none (x ∷ xs) j u (t, step, came) next;
   }
 
   -- and each item has lowered it
-  TellsLength-falls : (xs : List A) (s t : S) → TellsLength steps left s → Yields steps s xs t → size (left s) ≡ length xs + size (left t)
-  TellsLength-falls [] s t h came = ap (λ k. size (left k)) came ∙ (let e : size (left t) ≡ 0 + size (left t) = omega arith in e)
-  TellsLength-falls (x ∷ xs) s t h came =
+  HasTrueLength-falls : (xs : List A) (s t : S) → HasTrueLength steps left s → Yields steps s xs t → size (left s) ≡ length xs + size (left t)
+  HasTrueLength-falls [] s t h came = ap (λ k. size (left k)) came ∙ (let e : size (left t) ≡ 0 + size (left t) = omega arith in e)
+  HasTrueLength-falls (x ∷ xs) s t h came =
       let one : size (left s) ≡ size (left came.0) + 1 = h.item [] s x came.0 refl came.1 in
-      let more : size (left came.0) ≡ length xs + size (left t) = TellsLength-falls xs came.0 t (TellsLength-next h came.1) came.2 in
+      let more : size (left came.0) ≡ length xs + size (left t) = HasTrueLength-falls xs came.0 t (HasTrueLength-next h came.1) came.2 in
       omega arith
 
 module _ {S T A B : Type 0} (steps : S → Option A → S → Type 0) (others : T → Option B → T → Type 0) where
@@ -87,20 +87,20 @@ module _ {S T A B : Type 0} (steps : S → Option A → S → Type 0) (others : 
       )
 
   module _ (left : S → Count) (others_left : T → Count) where
-    -- where both sides tell true lengths, which are the same, the pairs end where the length that they tell is 0
-    none-at : (ps : List (A × B)) (z t u : ZipEq S T) (o : Option A) (p : Option B) → TellsLength steps left (zip_eq_first z) → TellsLength others others_left (zip_eq_second z)
+    -- where both sides state true lengths, which are the same, the pairs end where the length that they state is 0
+    none-at : (ps : List (A × B)) (z t u : ZipEq S T) (o : Option A) (p : Option B) → HasTrueLength steps left (zip_eq_first z) → HasTrueLength others others_left (zip_eq_second z)
         → size (left (zip_eq_first z)) ≡ size (others_left (zip_eq_second z)) → Yields (zip_eq_steps steps others) z ps t → steps (zip_eq_first t) o (zip_eq_first u) → others (zip_eq_second t) p (zip_eq_second u)
         → (o ≡ None) ⊎ (p ≡ None) → size (zip_eq_left left t) ≡ 0
     none-at ps z t u o p first second same came a b (inl e) = first.none (map (λ p. p.0) ps) (zip_eq_first t) (zip_eq_first u) (first-came ps z t came) (subst (λ k. steps (zip_eq_first t) k (zip_eq_first u)) e a)
     none-at ps z t u o p first second same came a b (inr e) =
-        let f : size (left (zip_eq_first z)) ≡ length (map (λ p. p.0) ps) + size (left (zip_eq_first t)) = TellsLength-falls (map (λ p. p.0) ps) (zip_eq_first z) (zip_eq_first t) first (first-came ps z t came) in
-        let g : size (others_left (zip_eq_second z)) ≡ length (map (λ p. p.1) ps) + size (others_left (zip_eq_second t)) = TellsLength-falls (map (λ p. p.1) ps) (zip_eq_second z) (zip_eq_second t) second (second-came ps z t came) in
+        let f : size (left (zip_eq_first z)) ≡ length (map (λ p. p.0) ps) + size (left (zip_eq_first t)) = HasTrueLength-falls (map (λ p. p.0) ps) (zip_eq_first z) (zip_eq_first t) first (first-came ps z t came) in
+        let g : size (others_left (zip_eq_second z)) ≡ length (map (λ p. p.1) ps) + size (others_left (zip_eq_second t)) = HasTrueLength-falls (map (λ p. p.1) ps) (zip_eq_second z) (zip_eq_second t) second (second-came ps z t came) in
         let d : size (others_left (zip_eq_second t)) ≡ 0 = second.none (map (λ p. p.1) ps) (zip_eq_second t) (zip_eq_second u) (second-came ps z t came) (subst (λ k. others (zip_eq_second t) k (zip_eq_second u)) e b) in
         omega (arith, length-map ps (λ p. p.0), length-map ps (λ p. p.1), f, g, d, same)
 
-    pub pairs-tell : (z : ZipEq S T) → size (left (zip_eq_first z)) ≡ size (others_left (zip_eq_second z)) → TellsLength steps left (zip_eq_first z) → TellsLength others others_left (zip_eq_second z)
-        → TellsLength (zip_eq_steps steps others) (zip_eq_left left) z
-    pairs-tell z same first second = record {
+    pub pairs-length : (z : ZipEq S T) → size (left (zip_eq_first z)) ≡ size (others_left (zip_eq_second z)) → HasTrueLength steps left (zip_eq_first z) → HasTrueLength others others_left (zip_eq_second z)
+        → HasTrueLength (zip_eq_steps steps others) (zip_eq_left left) z
+    pairs-length z same first second = record {
       item = λ ps t p u came next. first.item (map (λ p. p.0) ps) (zip_eq_first t) p.0 (zip_eq_first u) (first-came ps z t came) (both-came t u p next).0;
       none = λ ps t u came next. none-at ps z t u next.0 next.1 first second same came next.2 next.3 next.4;
     }

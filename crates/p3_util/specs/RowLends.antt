@@ -1,5 +1,5 @@
 -- What rows end as where a `&mut` to one of their items is returned. Only the private clauses of `views::loans` cite these words,
--- which have to stand in `specs` all the same.
+-- which have to be in `specs` all the same.
 use Rattle.std.specs.Prelude.{ℕ, Option, List, [], ◌≡◌, slice_index_or, slice_set}
 use Rattle.std.specs.Option.{OnSome}
 use Rattle.std.specs.Borrow.{Lends, LendsSo, MutBor, Fml, RattleType, Array}

@@ -6,7 +6,7 @@ use Rattle.std.specs.Iterator.Runs.{Run, SomeRun, EachRunFrom, ProjectsRun}
 use Rattle.p3_util.specs.declared.zip_eq.ZipEq.{ZipEq}
 
 -- The length that an iterator says is true, now and after any calls: each item lowers it by one, and `None` comes where it is 0.
-pub record TellsLength {S A : Type 0} (steps : S → Option A → S → Type 0) (left : S → Count) (s : S) : Type 0 where
+pub record HasTrueLength {S A : Type 0} (steps : S → Option A → S → Type 0) (left : S → Count) (s : S) : Type 0 where
   pub item : (xs : List A) (t : S) (x : A) (u : S) → Yields steps s xs t → steps t (Some x) u → size (left t) ≡ size (left u) + 1
   pub none : (xs : List A) (t u : S) → Yields steps s xs t → steps t None u → size (left t) ≡ 0
 
@@ -35,7 +35,7 @@ module _ {S T : Type 0} where
     zip_eq_steps s r t = (o : Option A) × (p : Option B) × steps (zip_eq_first s) o (zip_eq_first t) × others (zip_eq_second s) p (zip_eq_second t)
         × MatchOption r ((o ≡ None) ⊎ (p ≡ None)) (λ x. (o ≡ Some x.0) × (p ≡ Some x.1))
 
-    -- behind each run of z stand a run of its first side and a run of its second, whose items it pairs by place
+    -- behind each run of z are a run of its first side and a run of its second, whose items it pairs by place
     abbrev pub PairsRuns : ZipEq S T → Type 0
     PairsRuns z = EachRunFrom zip_eq_steps z (λ p. SomeRun steps (zip_eq_first z) (λ u. SomeRun others (zip_eq_second z) (λ v. IsPairsRun p u v)))
 

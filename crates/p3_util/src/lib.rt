@@ -1,7 +1,7 @@
 //! The small calls at the bottom of a proof system: bit reversal, transposes, logarithms, chunks, flattened views, a map
 //! in insertion order, a zip of equal lengths, and arrays as JSON.
 //!
-//! The kernels and the arithmetic on words stand in `p3_util_kernels` and are named again here.
+//! The kernels and the arithmetic on words are those of `p3_util_kernels`, named again here.
 #![tactic(auto)]
 
 pub mod array_serialization;

@@ -2,7 +2,7 @@
 ghost use Rattle.std.specs.Prelude.{◌≡◌, MatchResult, IfOk, IfSome, Some};
 ghost use Rattle.std.specs.Iterator.{size, UpTo};
 ghost use Rattle.std.specs.Iterator.SizeHint.{IsWithinCount};
-ghost use Rattle.p3_util.specs.ZipEq.{TellsLength, zip_eq_first, zip_eq_second, zip_eq_left, zip_eq_steps, PairsRuns};
+ghost use Rattle.p3_util.specs.ZipEq.{HasTrueLength, zip_eq_first, zip_eq_second, zip_eq_left, zip_eq_steps, PairsRuns};
 
 /// Pairs the items of `a` and `b` by place, or answers `err` where they have not the same length.
 pub fn zip_eq<A, B, Error>(a: A, b: B, err: Error) -> Result<ZipEq<A::IntoIter, B::IntoIter>, Error>
@@ -22,11 +22,11 @@ where
         (λ e. (e ≡ err) × ¬ same)) }
     ensures runs { IfOk result (PairsRuns A.IntoIter.next_gives B.IntoIter.next_gives) }
 
-    // The length that the pairs tell is true where those of the two iterators are.
-    ensures told { IfOk result (λ z.
-        TellsLength A.IntoIter.next_gives A.IntoIter.remaining (zip_eq_first z)
-        → TellsLength B.IntoIter.next_gives B.IntoIter.remaining (zip_eq_second z)
-        → TellsLength (zip_eq_steps A.IntoIter.next_gives B.IntoIter.next_gives)
+    // The length that the pairs state is true where those of the two iterators are.
+    ensures length { IfOk result (λ z.
+        HasTrueLength A.IntoIter.next_gives A.IntoIter.remaining (zip_eq_first z)
+        → HasTrueLength B.IntoIter.next_gives B.IntoIter.remaining (zip_eq_second z)
+        → HasTrueLength (zip_eq_steps A.IntoIter.next_gives B.IntoIter.next_gives)
         (zip_eq_left A.IntoIter.remaining) z) }
 {
     let first = a.into_iter();

@@ -7,15 +7,6 @@ use Rattle.std.proofs.lemmas.List.Edits.{length-swap}
 use Rattle.p3_util_kernels.specs.Exchanged.{RunsExchanged}
 use Rattle.p3_util_kernels.proofs.Exchange.{slice_get-swap_first, slice_get-swap_second, slice_get-swap_other}
 
--- runs of no places
-pub RunsExchanged-none : {A : Type 0} (i j : ℕ) (xs : List A) → RunsExchanged i j 0 xs xs
-RunsExchanged-none i j xs = record {
-  same_length = refl;
-  first = λ t h. absurd (omega arith);
-  second = λ t h. absurd (omega arith);
-  others = λ p h k. refl;
-}
-
 -- one pair of places more
 pub RunsExchanged-more : {A : Type 0} (i j len : ℕ) (old now next : List A) → i + len < j → j + len < length old
     → next ≡ swap now (i + len) (j + len) → RunsExchanged i j len old now → RunsExchanged i j (len + 1) old next

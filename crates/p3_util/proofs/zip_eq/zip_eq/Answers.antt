@@ -1,9 +1,9 @@
 use Rattle.std.proofs.Common.{rules}
-use Rattle.p3_util.proofs.ZipEqRuns.{pairs-runs, pairs-tell}
+use Rattle.p3_util.proofs.ZipEqRuns.{pairs-runs, pairs-length}
 use Rattle.p3_util.proofs.zip_eq.zip_eq.Goals as goal
 
 pub returns-clause-runs : goal.returns-clause-runs
 returns-clause-runs g c = pairs-runs g.A.IntoIter.Iterator.next_gives g.B.IntoIter.Iterator.next_gives _
 
-pub returns-clause-told : goal.returns-clause-told
-returns-clause-told g c = pairs-tell g.A.IntoIter.Iterator.next_gives g.B.IntoIter.Iterator.next_gives g.A.IntoIter.Iterator.remaining g.B.IntoIter.Iterator.remaining _ (search rules)
+pub returns-clause-length : goal.returns-clause-length
+returns-clause-length g c = pairs-length g.A.IntoIter.Iterator.next_gives g.B.IntoIter.Iterator.next_gives g.A.IntoIter.Iterator.remaining g.B.IntoIter.Iterator.remaining _ (search rules)

@@ -2,7 +2,7 @@ use Rattle.std.proofs.Common.{◌≡◌, length}
 use denote.Text.{Utf8}
 use denote.Shadow.{shadow}
 use Rattle.p3_util_kernels.specs.Names.{last_part}
-use Rattle.p3_util_kernels.proofs.bits.last_part.Given as goal
+use Rattle.p3_util_kernels.proofs.bits.names.last_part.Given as goal
 
 abbrev pub invariant-loop-after : goal.invariant-loop-after
 invariant-loop-after l = shadow (Utf8 l.part) × (last_part l.part ≡ last_part l.text)

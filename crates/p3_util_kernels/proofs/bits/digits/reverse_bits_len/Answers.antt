@@ -1,7 +1,7 @@
 use Rattle.std.proofs.Common.{◌≡◌, ℕ, ◌-◌, ◌≤◌, ◌/◌, ◌^◌, ◌∙◌, sym, ap, arith}
 use Rattle.p3_util_kernels.specs.Digits.{rev, rev_word}
 use Rattle.p3_util_kernels.proofs.Digits.{rev-word-shr, rev-rev, rev-lt, rev_word-zero, rev_word-above, rev_word-twice}
-use Rattle.p3_util_kernels.proofs.bits.reverse_bits_len.Goals as goal
+use Rattle.p3_util_kernels.proofs.bits.digits.reverse_bits_len.Goals as goal
 
 -- the reversed word r, shifted
 shifted : (r k x : ℕ) → r ≡ rev 64 x → k ≤ 64 → r / 2 ^ (64 - k) ≡ rev k x

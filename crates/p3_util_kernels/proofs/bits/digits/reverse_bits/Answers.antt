@@ -1,7 +1,7 @@
 use Rattle.std.proofs.Common.{◌∙◌, ap, sym}
 use Rattle.p3_util_kernels.specs.Digits.{rev_word}
 use Rattle.p3_util_kernels.proofs.Powers.{exponent-same}
-use Rattle.p3_util_kernels.proofs.bits.reverse_bits.Goals as goal
+use Rattle.p3_util_kernels.proofs.bits.digits.reverse_bits.Goals as goal
 
 pub returns : goal.returns
 returns c k is =

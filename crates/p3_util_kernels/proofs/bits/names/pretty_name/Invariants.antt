@@ -2,7 +2,7 @@ use Rattle.std.proofs.Common.{◌≡◌, ◌+◌, ◌≤◌, ◌++◌, length, s
 use denote.Text.{Utf8}
 use denote.Shadow.{shadow}
 use Rattle.p3_util_kernels.specs.Names.{short_name}
-use Rattle.p3_util_kernels.proofs.bits.pretty_name.Given as goal
+use Rattle.p3_util_kernels.proofs.bits.names.pretty_name.Given as goal
 
 abbrev pub invariant-loop-end : goal.invariant-loop-end
 invariant-loop-end l = record {
