@@ -273,6 +273,25 @@ fn each_write_is_one_put(rt: HostRuntime) -> Result<(), Fail> {
     Ok(())
 }
 
+/// Each put asks its holder for one put, also where an item is put twice at one place.
+#[test]
+fn one_put_a_write(rt: HostRuntime) -> Result<(), Fail> {
+    let items = (0..4).collect(rt.alloc())?;
+    let notes = Vec::with_capacity(rt.alloc(), 4)?;
+    let mut m = Writes::new(Noted { items, notes });
+    assert!(rt; m.len() == 4);
+    m.put(2, 7);
+    m.put(2, 9);
+    assert_eq!(rt; m.writes(), 2);
+    let noted = m.into_inner();
+    assert_eq!(rt; noted.items.as_slice(), [0, 1, 9, 3].as_slice());
+    assert_eq!(rt;
+        noted.notes.as_slice(),
+        [Note::Put(2), Note::Put(2)].as_slice()
+    );
+    Ok(())
+}
+
 #[test]
 fn order_of_32_by_32(rt: HostRuntime) -> Result<(), Fail> {
     let noted = noted(&rt, rt.alloc(), 32, 32)?;
