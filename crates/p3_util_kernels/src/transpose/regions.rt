@@ -7,16 +7,16 @@ ghost use Rattle.p3_util_kernels.specs.Steps.{counted};
 
 use crate::places::{Cells, Source, Writes};
 use crate::transpose::Region;
-use crate::transpose::columns::put_strips;
+use crate::transpose::columns::{STRIP_ROWS, put_strips};
 use crate::transpose::tile::{TILE_SIDE, TileForm, put_tiles};
 
-/// The greatest height of a matrix whose tiles are put block by block, where there are several side by side.
+/// The greatest height of a low matrix.
 const LOW: usize = 32;
 
 /// Puts the transpose of `region` into `out`, one write an item. Every other place stays.
 ///
 /// Where the rows of the matrix begin a multiple of a tile's side apart, many of them meet in one set of a cache, and tiles
-/// are faster than columns.
+/// are faster than columns, unless the matrix is far higher than wide.
 #[inline(always)]
 pub fn put_region<R, C>(input: &R, out: &mut Writes<C>, region: Region, width: usize, height: usize)
 where
@@ -33,11 +33,23 @@ where
     // Tells that the places fit a usize and the count a u128.
     let _places = out.len();
     if region.row_start < region.row_end && region.col_start < region.col_end {
-        if width % TILE_SIDE == 0 {
+        if width % TILE_SIDE == 0 && height / TILE_SIDE < width {
             put_tiles_and_edges(input, out, region, width, height);
         } else {
-            put_strips(input, out, region, width, height);
+            put_strips(input, out, region, STRIP_ROWS, width, height);
         }
+    }
+}
+
+/// The form of the tiles of a matrix. The lines of the output lie close together in a low one, and fewer rows at once are
+/// faster, where there are several tiles side by side.
+fn form_of_tiles(width: usize, height: usize) -> TileForm {
+    if height > LOW || width == TILE_SIDE {
+        TileForm::Columns
+    } else if width > LOW {
+        TileForm::Halves
+    } else {
+        TileForm::Blocks
     }
 }
 
@@ -70,11 +82,7 @@ where
         row_start: row,
         ..region
     };
-    let form = if height <= LOW && width > TILE_SIDE {
-        TileForm::Blocks
-    } else {
-        TileForm::Columns
-    };
+    let form = form_of_tiles(width, height);
     let tiles = Region {
         col_end: col,
         ..upper
@@ -92,7 +100,7 @@ where
         ..lower
     };
     put_tiles(input, out, tiles, form, width, height);
-    put_strips(input, out, right, width, height);
-    put_strips(input, out, below, width, height);
-    put_strips(input, out, corner, width, height);
+    put_strips(input, out, right, STRIP_ROWS, width, height);
+    put_strips(input, out, below, STRIP_ROWS, width, height);
+    put_strips(input, out, corner, STRIP_ROWS, width, height);
 }

@@ -8,12 +8,22 @@ ghost use Rattle.p3_util_kernels.specs.Steps.{counted};
 
 use crate::places::{Cells, SliceSource, Source, Writes};
 use crate::transpose::Region;
+use crate::transpose::columns::{STRIP_ROWS, put_strips};
 
 /// The greatest side of a part that is not halved where its other side is no longer.
 const LEAF_SIDE: usize = 128;
 
 /// The greatest side of a part that is not halved, however long its other side is.
 const NARROW_SIDE: usize = 2;
+
+/// The greatest height of a matrix whose lines of output lie close together.
+const LOW: usize = 64;
+
+/// Rows that begin a multiple of so many items apart meet in one set of a cache, whatever the size of an item.
+const FAR: usize = 4096;
+
+/// The greatest number of such rows that are put at once in a low matrix.
+const FEW_ROWS: usize = 16;
 
 /// Puts the transpose of `region` into `out` as [`transpose_region_on`](crate::transpose::transpose_region_on) does, by
 /// halves, and returns how many splits are nested on the longest path, which is at most 57. Where both sides of the
@@ -66,7 +76,7 @@ where
     ensures holder { C.same_holder out.old.holder out.new.holder }
 {
     if is_leaf(region) {
-        out.put_columns(input, region, width, height);
+        put_leaf(input, out, region, width, height);
         return 0;
     }
     // Tells that the places fit a usize, so that there are at most 57 levels.
@@ -75,6 +85,44 @@ where
     let nested = transpose_source_split_on(input, out, first, width, height, levels - 1);
     let nested_after = transpose_source_split_on(input, out, second, width, height, levels - 1);
     1 + nested.max(nested_after)
+}
+
+/// Puts the transpose of a region that is not split.
+fn put_leaf<R, C>(input: &R, out: &mut Writes<C>, region: Region, width: usize, height: usize)
+where
+    C: Cells,
+    R: Source<Item = C::Item>,
+    requires input_fits { length (R.items input.now) ≡ width * height }
+    requires output_fits { length (C.items out.old.holder) ≡ width * height }
+    requires inside { LiesInMatrix region width height }
+    ensures transposed { IsRegionTransposed region width height (R.items input.now)
+        (C.items out.old.holder) (C.items out.new.holder) }
+    ensures count { out.new.count ≡ counted out.old.count (items_of region) }
+    ensures holder { C.same_holder out.old.holder out.new.holder }
+{
+    // The places fit a usize, and the count a u128.
+    let _places = out.len();
+    put_strips(
+        input,
+        out,
+        region,
+        rows_at_once(width, height),
+        width,
+        height,
+    );
+}
+
+/// How many rows of a matrix are put at once.
+fn rows_at_once(width: usize, height: usize) -> usize
+    ensures { 0 < result }
+{
+    if height > LOW || width % FAR != 0 {
+        STRIP_ROWS
+    } else if height < FEW_ROWS {
+        FEW_ROWS / 2
+    } else {
+        FEW_ROWS
+    }
 }
 
 /// Whether `region` is put without a split.

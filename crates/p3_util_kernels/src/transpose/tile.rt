@@ -19,6 +19,8 @@ const BLOCK_SIDE: usize = 4;
 pub enum TileForm {
     /// The 16 items of each column.
     Columns,
+    /// The 8 items of each column of the upper half, and then those of the lower half.
+    Halves,
     /// Blocks of 4 by 4 items.
     Blocks,
 }
@@ -113,8 +115,37 @@ where
 {
     match form {
         TileForm::Columns => out.put_columns(input, region, width, height),
+        TileForm::Halves => put_halves(input, out, region, width, height),
         TileForm::Blocks => put_blocks(input, out, region, width, height),
     }
+}
+
+/// Puts a tile by its upper and its lower half.
+#[inline(always)]
+fn put_halves<R, C>(input: &R, out: &mut Writes<C>, region: Region, width: usize, height: usize)
+where
+    C: Cells,
+    R: Source<Item = C::Item>,
+    requires ready { IsReady width height (R.items input.now) (C.items out.old.holder) out.old.count }
+    requires inside { LiesInMatrix region width height }
+    requires rows { region.row_end ≡ region.row_start + TILE_SIDE }
+    requires cols { region.col_end ≡ region.col_start + TILE_SIDE }
+    ensures transposed { IsRegionTransposed region width height (R.items input.now)
+        (C.items out.old.holder) (C.items out.new.holder) }
+    ensures count { out.new.count ≡ counted out.old.count (items_of region) }
+    ensures holder { C.same_holder out.old.holder out.new.holder }
+{
+    let middle = region.row_start + TILE_SIDE / 2;
+    let upper = Region {
+        row_end: middle,
+        ..region
+    };
+    let lower = Region {
+        row_start: middle,
+        ..region
+    };
+    out.put_columns(input, upper, width, height);
+    out.put_columns(input, lower, width, height);
 }
 
 /// Puts a tile by its blocks.
