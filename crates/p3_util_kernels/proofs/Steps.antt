@@ -1,5 +1,5 @@
 -- The law of adding counts.
-use Rattle.std.proofs.Common.{ℕ, ◌≡◌, ◌+◌, ◌^◌, ◌<◌, ◌≤◌, ◌∙◌, ap, arith}
+use Rattle.std.proofs.Common.{ℕ, ◌≡◌, ◌+◌, ◌^◌, ◌<◌, ◌∙◌, ap, arith}
 use Rattle.p3_util_kernels.specs.Steps.{counted}
 
 -- no step leaves a count that the machine can hold as it is

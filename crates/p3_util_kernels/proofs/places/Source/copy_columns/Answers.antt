@@ -1,4 +1,4 @@
-use Rattle.std.proofs.Common.{◌≡◌, ◌+◌, ◌-◌, ◌*◌, ◌<◌, length, refl, arith}
+use Rattle.std.proofs.Common.{◌≡◌, ◌+◌, refl, arith}
 use Rattle.std.proofs.lemmas.Nat.{mul-add-lt}
 use Rattle.p3_util_kernels.proofs.Region.{IsRegionTransposed-cols, IsRegionTransposed-line}
 use Rattle.p3_util_kernels.proofs.places.Source.copy_columns.Goals as goal
