@@ -50,7 +50,7 @@ pub trait Places {
         ensures exchanged { RunsExchanged i j len (items self.old) (items self.new) }
         ensures holder { same_holder self.old self.new }
     {
-        // Tells that the length is a usize.
+        // Its contract says that the length is a usize.
         let _ = self.len();
         for t in 0..len {
             self.exchange(i + t, j + t);
@@ -66,7 +66,7 @@ pub trait Places {
         ensures exchanged { items self.new ≡ swap_strided (items self.old) i j stride len }
         ensures holder { same_holder self.old self.new }
     {
-        // Tells that the length is a usize.
+        // Its contract says that the length is a usize.
         let _ = self.len();
         for t in 0..len {
             self.exchange(i + t * stride, j + t);
@@ -113,7 +113,7 @@ pub trait Cells {
         ensures written { IsStridedPut i start stride len (R.items source.now) (items self.old) (items self.new) }
         ensures holder { same_holder self.old self.new }
     {
-        // Tell that the lengths are a usize.
+        // Their contracts say that the lengths are a usize.
         let _ = self.len();
         let _ = source.len();
         for t in 0..len {
@@ -137,7 +137,7 @@ pub trait Cells {
         ensures transposed { IsRegionTransposed region width height (R.items source.now) (items self.old) (items self.new) }
         ensures holder { same_holder self.old self.new }
     {
-        // Tells that the places fit a usize.
+        // Its contract says that the places fit a usize.
         let _ = self.len();
         if region.row_start < region.row_end {
             let (row, rows) = (region.row_start, region.row_end - region.row_start);
@@ -183,7 +183,7 @@ pub trait Source {
         requires room { i + len ≤ length values.old }
         ensures { IsStridedPut i start stride len (items self.now) values.old values.new }
     {
-        // Tells that the length is a usize.
+        // Its contract says that the length is a usize.
         let _ = self.len();
         for t in 0..len {
             values[i + t] = self.at(start + t * stride);
@@ -198,7 +198,7 @@ pub trait Source {
         requires inside { LiesInMatrix region width height }
         ensures { IsRegionTransposed region width height (items self.now) values.old values.new }
     {
-        // Tells that the places fit a usize.
+        // Its contract says that the places fit a usize.
         let _ = self.len();
         if region.row_start < region.row_end {
             let (row, rows) = (region.row_start, region.row_end - region.row_start);

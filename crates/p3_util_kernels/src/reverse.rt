@@ -51,7 +51,7 @@ pub fn reverse_counted<S: Places>(places: &mut S) -> u128
     ensures holder { S.same_holder places.old places.new }
 {
     let mut swaps = Swaps::new(places);
-    // Tells that the length is a usize, so that the count stays below its greatest.
+    // Its contract says that the length is a usize, so that the count stays below its greatest.
     let _ = swaps.len();
     reverse_index_bits_on(&mut swaps);
     let count = swaps.swaps();
@@ -84,7 +84,7 @@ pub fn reverse_rows_counted<S: Places>(places: &mut S, row_width: usize) -> u128
     ensures holder { S.same_holder places.old places.new }
 {
     let mut swaps = Swaps::new(places);
-    // Tells that the length is a usize, so that the count stays below its greatest.
+    // Its contract says that the length is a usize, so that the count stays below its greatest.
     let _ = swaps.len();
     reverse_row_index_bits_on(&mut swaps, row_width);
     let count = swaps.swaps();

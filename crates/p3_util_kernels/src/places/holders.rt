@@ -265,7 +265,7 @@ fn copy_columns<T: Copy>(items: &[T], region: Region, width: usize, height: usiz
     requires inside { LiesInMatrix region width height }
     ensures { IsRegionTransposed region width height items.now values.old values.new }
 {
-    // Tells that the places fit a usize.
+    // Its contract says that the places fit a usize.
     let _ = items.len();
     if region.row_start < region.row_end {
         let (row, rows) = (region.row_start, region.row_end - region.row_start);

@@ -44,7 +44,7 @@ pub fn reverse_chunks_on<S: Places>(m: &mut Swaps<S>, lb_num_chunks: usize, lb_c
     ensures exact { m.new.count ≡ counted m.old.count (short_swaps lb_num_chunks * 2 ^ lb_chunk_size) }
     ensures holder { S.same_holder m.old.holder m.new.holder }
 {
-    // Tells that the length is a usize.
+    // Its contract says that the length is a usize.
     let _ = m.len();
     reverse_row_index_bits_on(m, 1 << lb_chunk_size);
 }
@@ -61,7 +61,7 @@ fn transpose_squares<S: Places>(m: &mut Swaps<S>, log_stride: usize, log_size: u
         m.new.count ≡ counted m.old.count (squares * square_swaps (2 ^ log_size)) }
     ensures holder { S.same_holder m.old.holder m.new.holder }
 {
-    // Tells that the length is a usize and the count a u128.
+    // Its contract says that the length is a usize and the count a u128.
     let _ = m.len();
     let side = 1 << log_size;
     let squares = 1 << (log_stride - log_size);

@@ -30,7 +30,7 @@ where
     ensures count { out.new.count ≡ counted out.old.count (items_of region) }
     ensures holder { C.same_holder out.old.holder out.new.holder }
 {
-    // Tells that the places fit a usize and the count a u128.
+    // Its contract says that the places fit a usize and the count a u128.
     let _places = out.len();
     if region.row_start < region.row_end && region.col_start < region.col_end {
         if width % TILE_SIDE == 0 && height / TILE_SIDE < width {

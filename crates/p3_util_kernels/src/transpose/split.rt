@@ -79,7 +79,7 @@ where
         put_leaf(input, out, region, width, height);
         return 0;
     }
-    // Tells that the places fit a usize, so that there are at most 57 levels.
+    // Its contract says that the places fit a usize, so that there are at most 57 levels.
     let _places = out.len();
     let (first, second) = halves(region);
     let nested = transpose_source_split_on(input, out, first, width, height, levels - 1);

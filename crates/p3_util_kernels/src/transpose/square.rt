@@ -1,6 +1,6 @@
 //! The transpose of a square of items in place.
 //!
-//! Row `a` and column `b` of the square stand at place `base + a * stride + b` of the list. Each exchange is of two places
+//! Row `a` and column `b` of the square are at place `base + a * stride + b` of the list. Each exchange is of two places
 //! that mirror one another across the diagonal, and each such pair is exchanged once.
 
 ghost use Rattle.std.specs.Prelude.{◌≡◌, ℕ, ◌+◌, ◌-◌, ◌*◌, ◌/◌, ◌^◌, ◌<◌, ◌≤◌, length};
@@ -32,7 +32,7 @@ pub fn transpose_square_on<S: Places>(
     ensures count { let s = 2 ^ log_size in m.new.count ≡ counted m.old.count (s * (s - 1) / 2) }
     ensures holder { S.same_holder m.old.holder m.new.holder }
 {
-    // Tells that the length is a usize and the count a u128.
+    // Its contract says that the length is a usize and the count a u128.
     let _ = m.len();
     transpose_part(m, base, 1 << log_stride, 0, 1 << log_size);
 }
