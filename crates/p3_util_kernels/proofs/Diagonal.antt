@@ -12,6 +12,13 @@ use Rattle.p3_util_kernels.specs.Strided.{swap_strided}
 use Rattle.p3_util_kernels.proofs.Strided.{length-swap_strided}
 use Rattle.p3_util_kernels.proofs.Exchange.{slice_get-swap_first, slice_get-swap_second, slice_get-swap_other}
 
+-- the rows of a block are above its line
+pub above-line : (base stride row rows line t : ℕ) → row + rows ≤ line → line < stride → t < rows
+    → base + row * stride + line + t * stride < base + line * stride + row
+above-line base stride row rows line t above within h =
+    let below : (row + t + 1) * stride ≤ line * stride = mul-le-mul_right stride (omega arith) in
+    omega arith
+
 module _ {A : Type 0} (base stride : ℕ) where
   -- the same pairs, in other bounds
   pub SwapsAcross-same : (row row_end col col_end row' row_end' col' col_end' : ℕ) (old new : List A)
@@ -124,6 +131,18 @@ module _ {A : Type 0} (base stride : ℕ) where
       let before = SwapsAcross-strided start line n xs (omega arith) hl room in
       let step = SwapsAcross-swap (start + n) line ys (omega arith) hl (omega arith) (omega arith) in
       rw (upper, lower, end) (SwapsAcross-rows start (start + n) (start + n + 1) line (line + 1) _ _ _ (omega arith) (omega arith) before step)
+
+  -- one more line of a block, below which the square has room
+  pub SwapsAcross-more : (row rows col cols line : ℕ) (xs ys zs : List A) → row + rows ≤ col → col + cols ≤ stride
+      → base + (col + cols - 1) * stride + (col + cols - 1) < length xs → col ≤ line → line < col + cols
+      → SwapsAcross base stride row (row + rows) col line xs ys
+      → zs ≡ swap_strided ys (base + row * stride + line) (base + line * stride + row) stride rows
+      → SwapsAcross base stride row (row + rows) col (line + 1) xs zs
+  SwapsAcross-more row rows col cols line xs ys zs above within room from to before step =
+      let lines : line * stride ≤ (col + cols - 1) * stride = mul-le-mul_right stride (omega arith) in
+      let inside : base + line * stride + line < length ys = omega (arith, before.same_length) in
+      SwapsAcross-cols row (row + rows) col line (line + 1) xs ys zs from (omega arith) before
+      (rw step (SwapsAcross-strided row line rows ys (omega arith) (omega arith) inside))
 
   -- the upper left quadrant, the upper right one with its mirror image, and the lower right one make the square
   pub SwapsAcross-quadrants : (start mid end : ℕ) (xs ys zs ws : List A) → start ≤ mid → mid ≤ end

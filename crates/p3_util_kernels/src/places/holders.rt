@@ -1,7 +1,8 @@
 //! The holders of this crate: a reference to a holder, and slices.
 
-ghost use Rattle.std.specs.Prelude.{◌≡◌, ℕ, ◌+◌, ◌*◌, ◌<◌, ◌≤◌, ◌++◌, length};
+ghost use Rattle.std.specs.Prelude.{◌≡◌, ℕ, ◌+◌, ◌-◌, ◌*◌, ◌<◌, ◌≤◌, ◌++◌, length};
 ghost use Rattle.std.proofs.Common.{refl, ◌∙◌};
+ghost use Rattle.p3_util_kernels.specs.Diagonal.{SwapsAcross};
 ghost use Rattle.p3_util_kernels.specs.Exchanged.{RunsExchanged};
 ghost use Rattle.p3_util_kernels.specs.Region.{IsRegionTransposed, LiesInMatrix};
 ghost use Rattle.p3_util_kernels.specs.Strided.{IsStridedPut, swap_strided};
@@ -35,6 +36,19 @@ impl<S: Places> Places for &mut S {
     #[inline(always)]
     fn exchange_strided(&mut self, i: usize, j: usize, stride: usize, len: usize) {
         S::exchange_strided(self, i, j, stride, len);
+    }
+
+    #[inline(always)]
+    fn exchange_across(
+        &mut self,
+        base: usize,
+        stride: usize,
+        row: usize,
+        rows: usize,
+        col: usize,
+        cols: usize,
+    ) {
+        S::exchange_across(self, base, stride, row, rows, col, cols);
     }
 
     ghost same_holder_refl = { λ a. (refl, S.same_holder_refl a.now) };
@@ -128,6 +142,19 @@ impl<'a, F> Places for SlicePlaces<'a, F> {
         swap_strided(self.items, i, j, stride, len);
     }
 
+    #[inline(always)]
+    fn exchange_across(
+        &mut self,
+        base: usize,
+        stride: usize,
+        row: usize,
+        rows: usize,
+        col: usize,
+        cols: usize,
+    ) {
+        swap_across(self.items, base, stride, row, rows, col, cols);
+    }
+
     ghost same_holder_refl = { λ a. refl };
 
     ghost same_holder_trans = { λ a b c p q. p ∙ q };
@@ -159,6 +186,30 @@ fn swap_strided<F>(items: &mut [F], i: usize, j: usize, stride: usize, len: usiz
         cross(front, back, i, stride, LINE);
     } else {
         cross(front, back, i, stride, len);
+    }
+}
+
+/// Exchanges a block of a square with its mirror image across the diagonal, as [`Places::exchange_across`] does.
+#[inline(always)]
+fn swap_across<F>(
+    items: &mut [F],
+    base: usize,
+    stride: usize,
+    row: usize,
+    rows: usize,
+    col: usize,
+    cols: usize,
+)
+    requires above { row + rows ≤ col }
+    requires within { col + cols ≤ stride }
+    requires room { base + (col + cols - 1) * stride + (col + cols - 1) < length items.old }
+    ensures { SwapsAcross base stride row (row + rows) col (col + cols) items.old items.new }
+{
+    // Its contract says that the length is a usize.
+    let _ = items.len();
+    for line in col..col + cols {
+        let (column, start) = (base + row * stride + line, base + line * stride + row);
+        swap_strided(items, column, start, stride, rows);
     }
 }
 

@@ -108,7 +108,7 @@ fn swap_block<S: Places>(
     ensures holder { S.same_holder m.old.holder m.new.holder }
 {
     if rows * cols < LARGE_BLOCK {
-        swap_small_block(m, base, stride, row, rows, col, cols);
+        m.swap_across(base, stride, row, rows, col, cols);
     } else if rows > cols {
         let half = rows / 2;
         swap_block(m, base, stride, row, half, col, cols);
@@ -117,32 +117,6 @@ fn swap_block<S: Places>(
         let half = cols / 2;
         swap_block(m, base, stride, row, rows, col, half);
         swap_block(m, base, stride, row, rows, col + half, cols - half);
-    }
-}
-
-/// Exchanges a block above the diagonal, `rows` rows from `row` on and `cols` columns from `col` on, with its mirror image
-/// below, line by line.
-fn swap_small_block<S: Places>(
-    m: &mut Swaps<S>,
-    base: usize,
-    stride: usize,
-    row: usize,
-    rows: usize,
-    col: usize,
-    cols: usize,
-)
-    requires above { row + rows ≤ col }
-    requires within { col + cols ≤ stride }
-    requires room { base + (col + cols - 1) * stride + (col + cols - 1) < length (S.items m.old.holder) }
-    requires length_fits { length (S.items m.old.holder) < 2 ^ 64 }
-    requires count_fits { m.old.count < 2 ^ 128 }
-    ensures swapped { SwapsAcross base stride row (row + rows) col (col + cols)
-        (S.items m.old.holder) (S.items m.new.holder) }
-    ensures count { m.new.count ≡ counted m.old.count (rows * cols) }
-    ensures holder { S.same_holder m.old.holder m.new.holder }
-{
-    for line in col..col + cols {
-        swap_line(m, base, stride, line, row, rows);
     }
 }
 

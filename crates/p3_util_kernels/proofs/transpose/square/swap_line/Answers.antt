@@ -1,12 +1,8 @@
-use Rattle.std.proofs.Common.{◌+◌, ◌*◌, ◌≤◌, arith}
-use Rattle.std.proofs.Math.Nat.{mul-le-mul_right}
-use Rattle.p3_util_kernels.proofs.Diagonal.{SwapsAcross-strided}
+use Rattle.p3_util_kernels.proofs.Diagonal.{SwapsAcross-strided, above-line}
 use Rattle.p3_util_kernels.proofs.transpose.square.swap_line.Goals as goal
 
 pub swap_strided-requires-clause-apart : goal.swap_strided-requires-clause-apart
-swap_strided-requires-clause-apart g c t h =
-    let rows : (c.args.start + t + 1) * c.args.stride ≤ c.args.line * c.args.stride = mul-le-mul_right c.args.stride (omega arith) in
-    omega arith
+swap_strided-requires-clause-apart g c t h = above-line c.args.base c.args.stride c.args.start c.args.len c.args.line t c.requires.left c.requires.within h
 
 pub returns-clause-swapped : goal.returns-clause-swapped
 returns-clause-swapped g c =
