@@ -2,7 +2,6 @@
 use Rattle.std.proofs.Common.{◌≡◌, ℕ, zero, suc, ◌+◌, ◌*◌, ◌/◌, ◌%◌, ◌<◌, List, [], ◌∷◌, length, get_or, slice_get, Some, refl, sym, ap, ◌∙◌, arith}
 use Rattle.std.specs.Option.{option_and_then}
 use Rattle.std.proofs.lemmas.Option.{slice_get-get_or}
-use Rattle.std.proofs.lemmas.Nat.{div-add-mod', mod_below}
 use Rattle.p3_util_kernels.specs.Stages.{item_at, IsStageOne, IsStageTwo, IsBlockTransposed}
 
 item_at-read : {A : Type 0} (rows : List (List A)) (r c : ℕ) (d : A) → r < length rows → c < length (get_or rows r [])

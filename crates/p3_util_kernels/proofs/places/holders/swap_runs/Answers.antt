@@ -1,4 +1,4 @@
-use Rattle.std.proofs.Common.{refl, arith}
+use Rattle.std.proofs.Common.{arith}
 use Rattle.p3_util_kernels.proofs.ExchangedRuns.{RunsExchanged-slices}
 use Rattle.p3_util_kernels.proofs.places.holders.swap_runs.Goals as goal
 

@@ -1,8 +1,5 @@
-use Rattle.std.proofs.Common.{◌≡◌, ℕ, ◌+◌, ◌*◌, ◌/◌, ◌%◌, ◌^◌, ◌<◌, ◌≤◌, length, refl, sym, ap, ◌∙◌, arith}
-use Rattle.std.proofs.Math.Nat.{mul-zero}
-use Rattle.p3_util_kernels.specs.Crossing.{IsCrossed, row_of, turn_of}
-use Rattle.p3_util_kernels.specs.Digits.{rev}
-use Rattle.p3_util_kernels.proofs.Crossing.{IsCrossed-join, IsCrossed-none, IsCrossed-pair, RowFits, RowFits-at, line_rest, row-apart, turn-on_line}
+use Rattle.std.proofs.Common.{◌≡◌, ◌+◌, ◌*◌, ◌/◌, ◌%◌, ◌^◌, sym, arith}
+use Rattle.p3_util_kernels.proofs.Crossing.{IsCrossed-join, IsCrossed-none, IsCrossed-pair, RowFits-at, line_rest, row-apart, turn-on_line}
 use Rattle.p3_util_kernels.proofs.Steps.{counted-more, counted-zero}
 use Rattle.p3_util_kernels.proofs.reverse.rows.exchange_line.Goals as goal
 

@@ -1,12 +1,10 @@
-use Rattle.std.proofs.Common.{◌≡◌, ℕ, ◌+◌, ◌*◌, ◌/◌, ◌%◌, ◌^◌, ◌<◌, ◌≤◌, length, inl, sym, ap, ◌∙◌, arith}
+use Rattle.std.proofs.Common.{◌≡◌, ℕ, ◌+◌, ◌*◌, ◌/◌, ◌%◌, ◌^◌, ◌≤◌, length, inl, sym, ap, ◌∙◌, arith}
 use Rattle.std.proofs.lemmas.Nat.{div_below, div-add-mod', mod_below, pow-add, pow_pos, shl-shr}
 use Rattle.p3_util_kernels.specs.Digits.{sum_below}
-use Rattle.p3_util_kernels.specs.Reversal.{FitsRows}
 use Rattle.p3_util_kernels.specs.SwapCounts.{short_swaps}
 use Rattle.p3_util_kernels.proofs.Crossing.{IsCrossed-join, IsCrossed-none, IsRowReversal-crossed}
 use Rattle.p3_util_kernels.proofs.Lengths.{IsPowerOfRows, IsPowerOfRows-from, rows-same}
 use Rattle.p3_util_kernels.proofs.Lines.{lines-short, row_swaps-le, sum_below-more, sum_below-none}
-use Rattle.p3_util_kernels.proofs.Powers.{exponent-same}
 use Rattle.p3_util_kernels.proofs.Steps.{counted-more, counted-zero}
 use Rattle.p3_util_kernels.proofs.reverse.rows.reverse_row_index_bits_on.Goals as goal
 
