@@ -1,5 +1,5 @@
 -- Items of a square exchanged across its diagonal. Row a and column b is the place base + a * stride + b.
-use Rattle.std.specs.Prelude.{ℕ, ◌≡◌, ◌+◌, ◌*◌, ◌<◌, ◌≤◌, min, max, List, length, slice_get}
+use Rattle.std.specs.Prelude.{ℕ, ◌≡◌, ◌+◌, ◌*◌, ◌^◌, ◌<◌, ◌≤◌, min, max, List, length, slice_get}
 
 -- Row a and column b, or row b and column a, lies above the diagonal, in the rows from `row` to below `row_end` and the
 -- columns from `col` to below `col_end`.
@@ -18,3 +18,10 @@ pub record SwapsAcross {A : Type 0} (base stride row row_end col col_end : ℕ) 
   pub kept : (a b : ℕ) → b < stride → (IsInBlock row row_end col col_end a b → ⊥)
       → slice_get new (base + a * stride + b) ≡ slice_get old (base + a * stride + b)
   pub before : (k : ℕ) → k < base → slice_get new k ≡ slice_get old k
+
+-- The list holds the place where row `last` meets column `last`, and the machine can hold its places and the count. It serves
+-- the private contracts of the square's transpose alone.
+pub record HoldsSquare {A : Type 0} (base stride last : ℕ) (items : List A) (count : ℕ) : Type 0 where
+  pub room : base + last * stride + last < length items
+  pub length_fits : length items < 2 ^ 64
+  pub count_fits : count < 2 ^ 128

@@ -4,7 +4,7 @@
 //! that mirror one another across the diagonal, and each such pair is exchanged once.
 
 ghost use Rattle.std.specs.Prelude.{◌≡◌, ℕ, ◌+◌, ◌-◌, ◌*◌, ◌/◌, ◌^◌, ◌<◌, ◌≤◌, length};
-ghost use Rattle.p3_util_kernels.specs.Diagonal.{SwapsAcross};
+ghost use Rattle.p3_util_kernels.specs.Diagonal.{HoldsSquare, SwapsAcross};
 ghost use Rattle.p3_util_kernels.specs.Square.{IsSquareTransposed};
 ghost use Rattle.p3_util_kernels.specs.Steps.{counted};
 
@@ -46,9 +46,7 @@ fn transpose_part<S: Places>(
     size: usize,
 )
     requires within { start + size ≤ stride }
-    requires room { base + (start + size - 1) * stride + (start + size - 1) < length (S.items m.old.holder) }
-    requires length_fits { length (S.items m.old.holder) < 2 ^ 64 }
-    requires count_fits { m.old.count < 2 ^ 128 }
+    requires ready { HoldsSquare base stride (start + size - 1) (S.items m.old.holder) m.old.count }
     ensures swapped { SwapsAcross base stride start (start + size) start (start + size)
         (S.items m.old.holder) (S.items m.new.holder) }
     ensures count { m.new.count ≡ counted m.old.count (size * (size - 1) / 2) }
@@ -73,9 +71,7 @@ fn transpose_small<S: Places>(
     size: usize,
 )
     requires within { start + size ≤ stride }
-    requires room { base + (start + size - 1) * stride + (start + size - 1) < length (S.items m.old.holder) }
-    requires length_fits { length (S.items m.old.holder) < 2 ^ 64 }
-    requires count_fits { m.old.count < 2 ^ 128 }
+    requires ready { HoldsSquare base stride (start + size - 1) (S.items m.old.holder) m.old.count }
     ensures swapped { SwapsAcross base stride start (start + size) start (start + size)
         (S.items m.old.holder) (S.items m.new.holder) }
     ensures count { m.new.count ≡ counted m.old.count (size * (size - 1) / 2) }
@@ -99,9 +95,7 @@ fn swap_block<S: Places>(
 )
     requires above { row + rows ≤ col }
     requires within { col + cols ≤ stride }
-    requires room { base + (col + cols - 1) * stride + (col + cols - 1) < length (S.items m.old.holder) }
-    requires length_fits { length (S.items m.old.holder) < 2 ^ 64 }
-    requires count_fits { m.old.count < 2 ^ 128 }
+    requires ready { HoldsSquare base stride (col + cols - 1) (S.items m.old.holder) m.old.count }
     ensures swapped { SwapsAcross base stride row (row + rows) col (col + cols)
         (S.items m.old.holder) (S.items m.new.holder) }
     ensures count { m.new.count ≡ counted m.old.count (rows * cols) }
@@ -132,9 +126,7 @@ fn swap_line<S: Places>(
 )
     requires left { start + len ≤ line }
     requires within { line < stride }
-    requires room { base + line * stride + line < length (S.items m.old.holder) }
-    requires length_fits { length (S.items m.old.holder) < 2 ^ 64 }
-    requires count_fits { m.old.count < 2 ^ 128 }
+    requires ready { HoldsSquare base stride line (S.items m.old.holder) m.old.count }
     ensures swapped { SwapsAcross base stride start (start + len) line (line + 1)
         (S.items m.old.holder) (S.items m.new.holder) }
     ensures count { m.new.count ≡ counted m.old.count len }

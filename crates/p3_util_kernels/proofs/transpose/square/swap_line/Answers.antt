@@ -7,4 +7,4 @@ swap_strided-requires-clause-apart g c t h = above-line c.args.base c.args.strid
 pub returns-clause-swapped : goal.returns-clause-swapped
 returns-clause-swapped g c =
     rw c.swap_strided.ensures.exchanged
-    (SwapsAcross-strided c.args.base c.args.stride c.args.start c.args.line c.args.len _ c.requires.left c.requires.within c.requires.room)
+    (SwapsAcross-strided c.args.base c.args.stride c.args.start c.args.line c.args.len _ c.requires.left c.requires.within c.requires.ready.room)
