@@ -9,8 +9,8 @@ mod long;
 mod rows;
 
 use crate::places::{Places, SlicePlaces, Swaps};
-pub use long::{reverse_chunks_on, reverse_index_bits_long};
-pub use rows::reverse_row_index_bits_on;
+pub use long::reverse_index_bits_long;
+pub use rows::{reverse_chunks_on, reverse_row_index_bits_on};
 
 /// The greatest number of items for which the short path is picked.
 const SHORT_PATH_ITEMS: usize = 8192;

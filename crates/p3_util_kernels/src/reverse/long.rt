@@ -5,14 +5,14 @@
 //! the chunks, reverse the bits of the row; the transposes between them exchange row and column.
 
 ghost use Rattle.std.specs.Prelude.{◌≡◌, ℕ, ◌+◌, ◌-◌, ◌*◌, ◌/◌, ◌^◌, ◌≤◌, length};
-ghost use Rattle.p3_util_kernels.specs.Reversal.{IsReversal, IsReversible, IsRowReversal};
+ghost use Rattle.p3_util_kernels.specs.Reversal.{IsReversal, IsReversible};
 ghost use Rattle.p3_util_kernels.specs.Steps.{RoseByAtMost, counted};
 ghost use Rattle.p3_util_kernels.specs.SwapCounts.{long_swaps, short_swaps, square_swaps};
 ghost use Rattle.p3_util_kernels.specs.Squares.{AreTransposed};
 
 use crate::bits::log2_strict_usize;
 use crate::places::{Places, Swaps};
-use crate::reverse::reverse_row_index_bits_on;
+use crate::reverse::rows::reverse_chunks_on;
 use crate::transpose::transpose_square_on;
 
 /// Reverses `m` by index bits, as [`reverse_slice_index_bits`](crate::reverse::reverse_slice_index_bits) does, by chunks
@@ -33,20 +33,6 @@ pub fn reverse_index_bits_long<S: Places>(m: &mut Swaps<S>)
     reverse_chunks_on(m, log_size, log_stride);
     transpose_squares(m, log_stride, log_size);
     reverse_chunks_on(m, log_size, log_stride);
-}
-
-/// Reverses the order of the `2^lb_num_chunks` chunks of `2^lb_chunk_size` items: with both lengths written as h and c,
-/// place `i` gets the item from `rev(h, i / 2^c) * 2^c + i mod 2^c`. The length is `2^(h + c)`. It makes at most n/2 swaps.
-pub fn reverse_chunks_on<S: Places>(m: &mut Swaps<S>, lb_num_chunks: usize, lb_chunk_size: usize)
-    requires { length (S.items m.old.holder) ≡ 2 ^ (lb_num_chunks + lb_chunk_size) }
-    ensures order { IsRowReversal (2 ^ lb_chunk_size) (S.items m.old.holder) (S.items m.new.holder) }
-    ensures count { RoseByAtMost m.old.count m.new.count (length (S.items m.old.holder) / 2) }
-    ensures exact { m.new.count ≡ counted m.old.count (short_swaps lb_num_chunks * 2 ^ lb_chunk_size) }
-    ensures holder { S.same_holder m.old.holder m.new.holder }
-{
-    // Its contract says that the length is a usize.
-    let _ = m.len();
-    reverse_row_index_bits_on(m, 1 << lb_chunk_size);
 }
 
 /// Transposes each of the squares of `2^log_size` rows and columns that lie side by side, where `m` is `2^log_size` rows of

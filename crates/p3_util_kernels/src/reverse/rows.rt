@@ -50,6 +50,20 @@ pub fn reverse_row_index_bits_on<S: Places>(m: &mut Swaps<S>, row_width: usize)
     }
 }
 
+/// Reverses the order of the `2^lb_num_chunks` chunks of `2^lb_chunk_size` items: with both lengths written as h and c,
+/// place `i` gets the item from `rev(h, i / 2^c) * 2^c + i mod 2^c`. The length is `2^(h + c)`. It makes at most n/2 swaps.
+pub fn reverse_chunks_on<S: Places>(m: &mut Swaps<S>, lb_num_chunks: usize, lb_chunk_size: usize)
+    requires { length (S.items m.old.holder) ≡ 2 ^ (lb_num_chunks + lb_chunk_size) }
+    ensures order { IsRowReversal (2 ^ lb_chunk_size) (S.items m.old.holder) (S.items m.new.holder) }
+    ensures count { RoseByAtMost m.old.count m.new.count (length (S.items m.old.holder) / 2) }
+    ensures exact { m.new.count ≡ counted m.old.count (short_swaps lb_num_chunks * 2 ^ lb_chunk_size) }
+    ensures holder { S.same_holder m.old.holder m.new.holder }
+{
+    // Its contract says that the length is a usize.
+    let _ = m.len();
+    reverse_row_index_bits_on(m, 1 << lb_chunk_size);
+}
+
 /// Exchanges the pairs of rows of one middle digit and one `b`, with each `a` below it. The rows have indices of `digits`
 /// digits, and the digits of `a` weigh `stride`.
 #[inline(always)]

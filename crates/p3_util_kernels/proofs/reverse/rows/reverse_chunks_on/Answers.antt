@@ -1,7 +1,7 @@
 use Rattle.std.proofs.Common.{◌≡◌, ℕ, ◌+◌, ◌*◌, ◌%◌, ◌^◌, ◌<◌, ◌∙◌, inr, refl, arith}
 use Rattle.std.proofs.lemmas.Nat.{one_shl, pow-add}
 use Rattle.p3_util_kernels.proofs.Powers.{exponent-lt}
-use Rattle.p3_util_kernels.proofs.reverse.long.reverse_chunks_on.Goals as goal
+use Rattle.p3_util_kernels.proofs.reverse.rows.reverse_chunks_on.Goals as goal
 
 pub overflow_shl-lb_chunk_size : goal.overflow_shl-lb_chunk_size
 overflow_shl-lb_chunk_size g c = omega (arith, exponent-lt (c.args.lb_num_chunks + c.args.lb_chunk_size) 63 (omega arith))
