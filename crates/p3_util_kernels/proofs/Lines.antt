@@ -1,11 +1,9 @@
 -- How many pairs of rows the lines before one have: as many as each line's number has low digits' worth.
 use Rattle.std.proofs.Common.{◌≡◌, ℕ, zero, suc, ◌+◌, ◌-◌, ◌*◌, ◌/◌, ◌%◌, ◌^◌, ◌≤◌, refl, ap, ◌∙◌, arith}
-use Rattle.std.proofs.Math.Nat.{mul-le-mul_left}
 use Rattle.std.proofs.lemmas.Nat.{mod-mul-add, pow-add}
 use Rattle.p3_util_kernels.specs.Digits.{sum_below}
 use Rattle.p3_util_kernels.specs.SwapCounts.{short_swaps}
 use Rattle.p3_util_kernels.proofs.Pairs.{pairs-add, twice-pairs}
-use Rattle.p3_util_kernels.proofs.SwapCounts.{short_swaps-le}
 
 pub sum_below-none : (f : ℕ → ℕ) → sum_below 0 f ≡ 0
 unfolding sum_below
@@ -42,9 +40,3 @@ lines-short q d few =
     let whole : 2 ^ (q + (d + q)) ≡ n * (e * n) = pow-add 2 q (d + q) ∙ ap (λ x. n * x) (pow-add 2 d q) in
     let lines : 2 ^ (d + q) ≡ e * n = pow-add 2 d q in
     rw lines (sum-lines n e ∙ rw (half, whole, lines) (omega arith))
-
--- at most half as many swaps as items
-pub row_swaps-le : (row_width k : ℕ) → row_width * short_swaps k ≤ row_width * 2 ^ k / 2
-row_swaps-le row_width k =
-    let scaled : row_width * (2 * short_swaps k) ≤ row_width * 2 ^ k = mul-le-mul_left row_width (short_swaps-le k) in
-    omega arith

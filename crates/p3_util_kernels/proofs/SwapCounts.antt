@@ -1,6 +1,6 @@
 -- Bounds of the numbers of swaps, from their closed forms.
 use Rattle.std.proofs.Common.{◌≡◌, ℕ, ◌+◌, ◌-◌, ◌*◌, ◌/◌, ◌^◌, ◌≤◌, ◌∙◌, ap, arith}
-use Rattle.std.proofs.Math.Nat.{mul-le-mul_right, mul-le-mul_left}
+use Rattle.std.proofs.Math.Nat.{mul-le-mul_left}
 use Rattle.std.proofs.lemmas.Nat.{pow-add}
 use Rattle.p3_util_kernels.specs.SwapCounts.{short_swaps, long_swaps, square_swaps}
 use Rattle.p3_util_kernels.proofs.Pairs.{twice-pairs}
@@ -9,11 +9,15 @@ use Rattle.p3_util_kernels.proofs.Pairs.{twice-pairs}
 pub short_swaps-le : (k : ℕ) → 2 * short_swaps k ≤ 2 ^ k
 short_swaps-le k = omega arith
 
--- the 2 ^ count chunks of 2 ^ size items
-pub chunk_swaps-le : (count size : ℕ) → short_swaps count * 2 ^ size ≤ 2 ^ (count + size) / 2
-chunk_swaps-le count size =
-    let scaled : 2 * short_swaps count * 2 ^ size ≤ 2 ^ count * 2 ^ size = mul-le-mul_right (2 ^ size) (short_swaps-le count) in
-    omega (arith, pow-add 2 count size)
+-- rows: at most half as many swaps as items
+pub row_swaps-le : (row_width k : ℕ) → row_width * short_swaps k ≤ row_width * 2 ^ k / 2
+row_swaps-le row_width k =
+    let scaled : row_width * (2 * short_swaps k) ≤ row_width * 2 ^ k = mul-le-mul_left row_width (short_swaps-le k) in
+    omega arith
+
+-- the 2 ^ count chunks of 2 ^ size items are rows
+chunk_swaps-le : (count size : ℕ) → short_swaps count * 2 ^ size ≤ 2 ^ (count + size) / 2
+chunk_swaps-le count size = omega (arith, row_swaps-le (2 ^ size) count, pow-add 2 count size)
 
 -- the squares side by side in 2 ^ size rows of 2 ^ stride items
 pub squares_swaps-le : (stride size : ℕ) → size ≤ stride → 2 ^ (stride - size) * square_swaps (2 ^ size) ≤ 2 ^ (size + stride) / 2

@@ -4,8 +4,9 @@ use Rattle.p3_util_kernels.specs.Digits.{sum_below}
 use Rattle.p3_util_kernels.specs.SwapCounts.{short_swaps}
 use Rattle.p3_util_kernels.proofs.Crossing.{IsCrossed-join, IsCrossed-none, IsRowReversal-crossed}
 use Rattle.p3_util_kernels.proofs.Lengths.{IsPowerOfRows, IsPowerOfRows-from, rows-same}
-use Rattle.p3_util_kernels.proofs.Lines.{lines-short, row_swaps-le, sum_below-more, sum_below-none}
+use Rattle.p3_util_kernels.proofs.Lines.{lines-short, sum_below-more, sum_below-none}
 use Rattle.p3_util_kernels.proofs.Steps.{counted-more, counted-zero}
+use Rattle.p3_util_kernels.proofs.SwapCounts.{row_swaps-le}
 use Rattle.p3_util_kernels.proofs.reverse.rows.reverse_row_index_bits_on.Goals as goal
 
 -- the length by the number of digits that the code finds
