@@ -1,4 +1,4 @@
-use Rattle.std.proofs.Common.{◌≡◌, ◌-◌, arith}
+use Rattle.std.proofs.Common.{◌≡◌, ◌-◌, ◌*◌, arith}
 use Rattle.p3_util_kernels.specs.Region.{cols_of}
 use Rattle.p3_util_kernels.proofs.Pairs.{mul-parts_left}
 use Rattle.p3_util_kernels.proofs.Region.{IsRegionTransposed-more_rows, counted-region}
@@ -16,7 +16,7 @@ loop-row-preserved g c =
           IsRegionTransposed-more_rows c.args.width c.args.height _ r row end _ _ _ (omega arith) (omega arith) (omega arith)
           c.loop-row.invariant.transposed c.put_columns.ensures.transposed;
       count =
-          counted-region (record r { row_start = row; row_end = end }) _ _ _ _ (end - row) (cols_of r) _ c.loop-row.invariant.count c.put_columns.ensures.count
+          counted-region (record r { row_start = row; row_end = end }) _ _ _ ((row - r.row_start) * cols_of r) (end - row) (cols_of r) _ c.loop-row.invariant.count c.put_columns.ensures.count
           (omega arith) (omega arith) (mul-parts_left (row - r.row_start) (end - row) (end - r.row_start) (cols_of r) (omega arith));
       holder = g.met.C.Cells.same_holder_trans _ _ _ c.loop-row.invariant.holder c.put_columns.ensures.holder;
     }
