@@ -7,7 +7,7 @@ use Rattle.p3_util_kernels.specs.Squares.{AreTransposed}
 use Rattle.p3_util_kernels.specs.Steps.{counted}
 use Rattle.p3_util_kernels.proofs.Digits.{rev-lt, rev-around}
 use Rattle.p3_util_kernels.proofs.Matrix.{each_place}
-use Rattle.p3_util_kernels.proofs.Reversal.{IsReversal-from_rearranged}
+use Rattle.p3_util_kernels.proofs.Reversal.{IsReversal-from_power}
 use Rattle.p3_util_kernels.proofs.Squares.{row_length, in_row}
 
 -- A list of 2 ^ size chunks of 2 ^ stride items, which are one square or two. Where its chunks are reversed, each square is
@@ -38,15 +38,13 @@ module _ {A : Type 0} (size stride : ℕ) (within : size ≤ stride) (few : stri
   pub IsReversal-composed : IsReversal old new
   IsReversal-composed =
       let k = size + stride in
-      IsReversal-from_rearranged k old new fits (record {
-        same_length = again.same_length ∙ same;
-        places = λ p h.
-            each_place (λ p. slice_get new p ≡ slice_get old (rev k p)) (2 ^ size) (2 ^ stride) p (rw (fits, pow-add 2 size stride) at h)
-            (λ a j ha hj.
-            each_place (λ j. slice_get new (a * 2 ^ stride + j) ≡ slice_get old (rev k (a * 2 ^ stride + j))) (2 ^ (stride - size)) (2 ^ size) j
-            (rw (← row_length stride size within) at hj)
-            (λ s y hs hy. at_place a s y ha hs hy));
-      })
+      IsReversal-from_power k old new fits (again.same_length ∙ same)
+      (λ p h.
+      each_place (λ p. slice_get new p ≡ slice_get old (rev k p)) (2 ^ size) (2 ^ stride) p (rw (fits, pow-add 2 size stride) at h)
+      (λ a j ha hj.
+      each_place (λ j. slice_get new (a * 2 ^ stride + j) ≡ slice_get old (rev k (a * 2 ^ stride + j))) (2 ^ (stride - size)) (2 ^ size) j
+      (rw (← row_length stride size within) at hj)
+      (λ s y hs hy. at_place a s y ha hs hy)))
 
 -- one number of steps, another, and the first again
 pub counted-around : (c0 c1 c2 c3 a b : ℕ) → c1 ≡ counted c0 a → c2 ≡ counted c1 b → c3 ≡ counted c2 a → c3 ≡ counted c0 (2 * a + b)

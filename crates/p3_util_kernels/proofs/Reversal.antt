@@ -1,7 +1,6 @@
--- Reversal of rows and of items: as a rearrangement, as its own inverse, and that a list has one.
+-- Reversal of rows and of items: place by place, as its own inverse, and that a list has one.
 use Rattle.std.proofs.Common.{◌≡◌, ℕ, ◌+◌, ◌*◌, ◌^◌, ◌<◌, List, length, slice_get, inl, inr, refl, sym, ap, ◌∙◌, arith}
 use Rattle.p3_util_kernels.specs.Digits.{rev}
-use Rattle.p3_util_kernels.specs.Rearranged.{IsRearranged}
 use Rattle.p3_util_kernels.specs.Reversal.{FitsRows, IsReversal, IsRowReversal, IsZeroOrPowerOfTwo}
 use Rattle.p3_util_kernels.proofs.Digits.{rev-lt, rev-rev-below}
 use Rattle.p3_util_kernels.proofs.Lengths.{FitsRows-one}
@@ -26,12 +25,14 @@ IsReversal-from_places old new same at = record {
       rw (from, to) (at k r (omega arith) h);
 }
 
-pub IsReversal-from_rearranged : {A : Type 0} (k : ℕ) (old new : List A) → length old ≡ 2 ^ k → IsRearranged (rev k) old new → IsReversal old new
-IsReversal-from_rearranged k old new e at =
-    IsReversal-from_places old new at.same_length
+-- for a list of 2 ^ k items
+pub IsReversal-from_power : {A : Type 0} (k : ℕ) (old new : List A) → length old ≡ 2 ^ k → length new ≡ length old
+    → ((i : ℕ) → i < length old → slice_get new i ≡ slice_get old (rev k i)) → IsReversal old new
+IsReversal-from_power k old new e same at =
+    IsReversal-from_places old new same
     (λ j i ej h.
-    let same : j ≡ k = exponent-same j k (sym ej ∙ e) in
-    at.places i (omega arith) ∙ ap (λ b. slice_get old (rev b i)) (sym same))
+    let power : j ≡ k = exponent-same j k (sym ej ∙ e) in
+    at i (omega arith) ∙ ap (λ b. slice_get old (rev b i)) (sym power))
 
 -- the reversal of the reversal is the list
 pub IsRowReversal-inverse : {A : Type 0} (row_width : ℕ) (old new : List A) → IsRowReversal row_width old new → IsRowReversal row_width new old

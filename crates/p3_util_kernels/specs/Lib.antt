@@ -6,7 +6,6 @@ pub mod Levels
 pub mod Names
 pub mod Powers
 pub mod Ready
-pub mod Rearranged
 pub mod Region
 pub mod Reversal
 pub mod Runs
