@@ -27,7 +27,7 @@ module _ {T : Type 0} (wants_memory : Bool) where
   IsCause r Float = r ≡ Err a_float
   IsCause r Memory = IsTrue wants_memory
 
-  -- what may be answered where one value is read: its reading, or running out of memory
+  -- what may be returned where one value is read: its reading, or running out of memory
   abbrev pub IsElementAnswer : Result T Refusal → Result T ElementError → Type 0
   IsElementAnswer r (Ok x) = r ≡ Ok x
   IsElementAnswer r (Err e) = IsCause r e
@@ -38,7 +38,7 @@ module _ {T : Type 0} (reading : Data → Result T Refusal) where
   AreReadAs ds xs = map reading ds ≡ map Ok xs
 
   module _ (wants_memory : Bool) (n : ℕ) where
-    -- What may be answered where a JSON list is read as n elements. In this order: the first refused item among the
+    -- What may be returned where a JSON list is read as n elements. In this order: the first refused item among the
     -- first n, with its cause; another length; the elements.
     abbrev pub IsListAnswer : List Data → Result (List T) ArrayError → Type 0
     IsListAnswer ds (Err NotArray) = ⊥
@@ -46,7 +46,7 @@ module _ {T : Type 0} (reading : Data → Result T Refusal) where
     IsListAnswer ds (Err (Length got)) = ((xs : List T) × AreReadAs (take n ds) xs) × (got ≡ length ds) × (got ≢ n)
     IsListAnswer ds (Ok xs) = AreReadAs ds xs × (length ds ≡ n)
 
-    -- what may be answered where any value is read as n elements
+    -- what may be returned where any value is read as n elements
     abbrev pub IsArrayAnswer : Data → Result (List T) ArrayError → Type 0
     IsArrayAnswer d r = MatchOption (option_map listed (as_array d)) (r ≡ Err NotArray) (λ ds. IsListAnswer ds r)
 

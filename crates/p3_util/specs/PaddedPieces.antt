@@ -11,7 +11,7 @@ abbrev pub TakesPiece : {S A : Type 0} → (S → Option A → S → Type 0) →
 TakesPiece steps n s xs ended t = (0 < length xs) × MatchBool ended ((length xs < n) × YieldsThen steps s xs None t) ((length xs ≡ n) × Yields steps s xs t)
 
 module _ {S A : Type 0} {n : ℕ} where
-  -- the iterator inside, and whether it has answered `None`, after which it is not asked again
+  -- the iterator inside, and whether it has returned `None`, after which it is not asked again
   abbrev pub padded_source : ArrayChunksPadded S A n → S
   padded_source s = s.iter
 
@@ -51,6 +51,6 @@ pub record IsPaddedRun {S T A : Type 0} {steps : S → Option (List A) → S →
 abbrev pub PadsRuns : {S A : Type 0} {n : ℕ} → (S → Option A → S → Type 0) → A → ArrayChunksPadded S A n → Type 0
 PadsRuns {n = n} steps fill s = EachRunFrom (padded_steps steps) s (λ p. SomeRun steps (padded_source s) (IsPaddedRun n fill p))
 
--- once it has answered `None` it answers nothing else
+-- once it has returned `None` it returns nothing else
 abbrev pub EndsForGood : {S A : Type 0} → (S → Option A → S → Type 0) → Type 0
 EndsForGood {S} {A} steps = (s t u : S) (r : Option A) → steps s None t → steps t r u → r ≡ None

@@ -126,8 +126,8 @@ impl<K: Eq, V> LinearMap<K, V> {
 }
 
 impl<K: Eq + Drop, V> LinearMap<K, V> {
-    /// Gives `k` the value `v`. A known key keeps its place and its stored spelling, its old value is the answer, and `k`
-    /// is dropped. A new pair goes last. Only a new pair can need memory: `NoRoom` hands it back, and the map stays as it
+    /// Gives `k` the value `v`. A known key keeps its place and its stored spelling, its old value is returned, and `k` is
+    /// dropped. A new pair goes last. Only a new pair can need memory: `NoRoom` hands it back, and the map stays as it
     /// was.
     pub fn insert(&mut self, k: K, v: V) -> Result<Option<V>, NoRoom<(K, V)>>
         ensures old { IfOk result (λ old. old ≡ value_at K.eq self.old k) }
@@ -150,7 +150,7 @@ impl<K: Eq + Drop, V> LinearMap<K, V> {
         Ok(None)
     }
 
-    /// The value at the key `k`, to write to. For a new key, first room is asked for, and then the answer of `f` is added
+    /// The value at the key `k`, to write to. For a new key, first room is asked for, and then what `f` returns is added
     /// last. Under a known key `f` is not called. Only a new key can need memory: `NoRoom` hands it back, and the map stays
     /// as it was.
     pub fn get_or_insert_with<F: FnOnce() -> V>(&mut self, k: K, f: F) -> Result<&mut V, NoRoom<K>>

@@ -4,7 +4,7 @@ ghost use Rattle.std.specs.Iterator.{size, UpTo};
 ghost use Rattle.std.specs.Iterator.SizeHint.{IsWithinCount};
 ghost use Rattle.p3_util.specs.ZipEq.{HasTrueLength, zip_eq_first, zip_eq_second, zip_eq_left, zip_eq_steps, PairsRuns};
 
-/// Pairs the items of `a` and `b` by place, or answers `err` where they have not the same length.
+/// Pairs the items of `a` and `b` by place, or returns `err` where their lengths differ.
 pub fn zip_eq<A, B, Error>(a: A, b: B, err: Error) -> Result<ZipEq<A::IntoIter, B::IntoIter>, Error>
 where
     A: IntoIterator,

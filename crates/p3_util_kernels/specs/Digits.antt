@@ -15,7 +15,7 @@ sum_below (suc n) f = sum_below n f + f n
 unfoldable pub rev : (k x : ℕ) → ℕ
 rev k x = sum_below k (λ i. bit x i * 2 ^ (k - 1 - i))
 
--- what `reverse_bits_len` answers: for 0 bits the whole word of 64 bits is reversed
+-- what `reverse_bits_len` returns: for 0 bits the whole word of 64 bits is reversed
 unfoldable pub rev_word : (bit_len x : ℕ) → ℕ
 rev_word zero x = rev 64 x
 rev_word (suc k) x = rev (suc k) x

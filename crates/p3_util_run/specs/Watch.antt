@@ -14,7 +14,7 @@ pub record Watch (T : Type 0) : Type 0 where
 abbrev pub noted : ℕ → ℕ
 noted count = min (2 ^ 64 - 1) (count + 1)
 
--- the count after a call that fails where it answers an error
+-- the count after a call that fails where it returns an error
 abbrev pub count_after_call : {T E : Type 0} → Result T E → ℕ → ℕ
 count_after_call (Ok _) count = count
 count_after_call (Err _) count = noted count
