@@ -33,6 +33,7 @@ while kill -0 "$gate" 2>/dev/null; do
 done
 status=0
 wait "$gate" || status=$?
+[ "$status" -eq 0 ] || cat "$room/log"
 
 tail -n 1 "$room/log"
 printf '%-16s %7s %7s %7s %7s\n' crate proofs tests edits number
