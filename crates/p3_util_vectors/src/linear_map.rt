@@ -1,5 +1,5 @@
 //! Worked rows and vectors of `LinearMap`.
-ghost use Rattle.std.specs.Prelude.{◌==◌};
+ghost use Rattle.std.specs.Prelude.{◌==◌, nat_eq};
 ghost use Rattle.std.proofs.Common.{rules};
 ghost use Rattle.std.specs.Cmp.Rules.{comparing};
 ghost use Rattle.std.specs.Ordering.{on};
@@ -170,6 +170,54 @@ fn keeps_the_first_spelling(rt: HostRuntime) -> Result<(), Fail> {
         assert_eq!(rt; key.0, "Key");
     }
     Ok(())
+}
+
+/// A key that counts its drops.
+struct Owned<'a> {
+    number: u32,
+    drops: &'a Cell<u32>,
+}
+
+impl Drop for Owned<'_> {
+    fn drop(self) {
+        let Owned { number: _, drops } = self;
+        drops.set(drops.get().wrapping_add(1));
+    }
+}
+
+impl PartialEq for Owned<'_> {
+    ghost eq = { on (λ k. k.number) nat_eq };
+
+    ghost laws = { Prim.search (comparing, rules) };
+
+    fn eq(&self, other: &Self) -> bool {
+        self.number == other.number
+    }
+}
+
+impl Eq for Owned<'_> {
+    ghost laws = { Prim.search (comparing, rules) };
+}
+
+fn counted_key(drops: &Cell<u32>) -> Owned<'_> {
+    Owned { number: 1, drops }
+}
+
+/// The key of a known pair is dropped by the call that gives it, and the stored one with the map.
+#[test]
+fn drops_known_keys(rt: HostRuntime) {
+    let drops = Cell::new(0u32);
+    let mut map = LinearMap::new(rt.alloc());
+    if map.insert(counted_key(&drops), 10u32).is_err() {
+        return;
+    }
+    assert_eq!(rt; drops.get(), 0);
+    assert!(rt; map.insert(counted_key(&drops), 20).is_ok());
+    assert_eq!(rt; drops.get(), 1);
+    assert!(rt; map.get_or_insert_with(counted_key(&drops), || 30).is_ok());
+    assert_eq!(rt; drops.get(), 2);
+    drop(map);
+    assert_eq!(rt; drops.get(), 3);
 }
 
 /// Asserts that an insert of a new key, where it is refused, hands back the pair and leaves the map as it was.

@@ -2,7 +2,7 @@
 
 use super::noted::{Note, Noted};
 use p3_util::{as_base_slice, as_base_slice_mut, flat_len};
-use p3_util_kernels::places::{Cells, SliceCells, Source, Writes};
+use p3_util_kernels::places::{Cells, SliceCells, SliceSource, Source, Writes};
 use p3_util_kernels::transpose::{
     Region, butterfly_4x4, butterfly_stage1, butterfly_stage2, fits_matrix, transpose,
     transpose_on, transpose_region_on, transpose_source_on,
@@ -251,17 +251,19 @@ const WRITES: [(usize, usize, u128); 5] = [
     (17, 19, 323),
 ];
 
-/// Puts the transpose of so many numbers into a list that notes each put.
+/// Puts the transpose of so many numbers into a list that notes each put, through a reference.
 fn noted(rt: &impl Abort, alloc: Global, width: usize, height: usize) -> Result<Noted, AllocError> {
     let len = width.saturating_mul(height);
     let input: Vec<u64> = (0..len as u64).collect(alloc)?;
     let items = vec![in alloc; 0u64; len]?;
     let notes = Vec::with_capacity(alloc, len.saturating_add(1))?;
-    let mut writes = Writes::new(Noted { items, notes });
+    let mut noted = Noted { items, notes };
+    let mut writes = Writes::new(&mut noted);
     assert!(rt; fits_matrix(input.len(), writes.len(), width, height));
     transpose_on(input.as_slice(), &mut writes, width, height);
     assert_eq!(rt; writes.writes(), len as u128, "{width} by {height}");
-    Ok(writes.into_inner())
+    let _ = writes.into_inner();
+    Ok(noted)
 }
 
 #[test]
@@ -273,21 +275,24 @@ fn each_write_is_one_put(rt: HostRuntime) -> Result<(), Fail> {
     Ok(())
 }
 
-/// Each put asks its holder for one put, also where an item is put twice at one place.
+/// Each put asks its holder for one put, also through a reference, and where an item is put twice at one place. So does
+/// each item of a line.
 #[test]
 fn one_put_a_write(rt: HostRuntime) -> Result<(), Fail> {
     let items = (0..4).collect(rt.alloc())?;
-    let notes = Vec::with_capacity(rt.alloc(), 4)?;
-    let mut m = Writes::new(Noted { items, notes });
+    let notes = Vec::with_capacity(rt.alloc(), 8)?;
+    let mut noted = Noted { items, notes };
+    let mut m = Writes::new(&mut noted);
     assert!(rt; m.len() == 4);
     m.put(2, 7);
     m.put(2, 9);
     assert_eq!(rt; m.writes(), 2);
-    let noted = m.into_inner();
-    assert_eq!(rt; noted.items.as_slice(), [0, 1, 9, 3].as_slice());
+    let mut cells = m.into_inner();
+    Cells::put_strided(&mut cells, 0, &SliceSource::new(&[5, 6]), 0, 1, 2);
+    assert_eq!(rt; noted.items.as_slice(), [5, 6, 9, 3].as_slice());
     assert_eq!(rt;
         noted.notes.as_slice(),
-        [Note::Put(2), Note::Put(2)].as_slice()
+        [Note::Put(2), Note::Put(2), Note::Put(0), Note::Put(1)].as_slice()
     );
     Ok(())
 }

@@ -94,7 +94,7 @@ fn puts(
     Ok(puts)
 }
 
-/// How many of the first puts of the split belong to its first part.
+/// How many puts of the split belong to each of its first parts.
 const FIRST: usize = 128 * 128;
 
 #[test]
@@ -116,8 +116,23 @@ fn a_matrix_of_1025_by_1024_is_split(rt: HostRuntime) -> Result<(), Fail> {
             assert_eq!(rt; Some((*x, *y)), before, "at {k}");
         }
     }
+    // The third part lies below the first. Without a split it would be to the right of the second.
+    for (k, (x, y)) in puts.iter().enumerate().skip(2 * FIRST).take(FIRST) {
+        assert!(rt; *x < 128 && 128 <= *y && *y < 256, "at {k}");
+    }
     for (k, (x, y)) in puts.iter().enumerate().skip(1_049_600 - 8320) {
         assert!(rt; *x >= 960 && *y >= 896, "at {k}");
+    }
+    Ok(())
+}
+
+/// The least number of items that is split: the first part has 120 rows, where a strip without a split has 128.
+#[test]
+fn a_matrix_of_17_by_61681_is_split(rt: HostRuntime) -> Result<(), Fail> {
+    let puts = puts(&rt, rt.alloc(), 17, 61681)?;
+    assert_eq!(rt; puts.len(), 1_048_577);
+    for (k, (_, y)) in puts.iter().take(17 * 120).enumerate() {
+        assert!(rt; *y < 120, "at {k}");
     }
     Ok(())
 }

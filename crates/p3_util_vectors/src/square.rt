@@ -82,17 +82,19 @@ fn whole_squares(rt: HostRuntime) -> Result<(), Fail> {
     Ok(())
 }
 
-/// 28 exchanges within the upper left quadrant, 64 across the diagonal, 28 within the lower right quadrant.
+/// 28 exchanges within the upper left quadrant, 64 across the diagonal, 28 within the lower right quadrant. The counter is
+/// over a reference to the list, so that both make the same calls.
 #[test]
 fn quadrants_in_order(rt: HostRuntime) -> Result<(), Fail> {
     let items = (0..256).collect(rt.alloc())?;
     let notes = Vec::with_capacity(rt.alloc(), 256)?;
-    let mut m = Swaps::new(Noted { items, notes });
+    let mut noted = Noted { items, notes };
+    let mut m = Swaps::new(&mut noted);
     assert_eq!(rt; transpose(&rt, &mut m, 0, 4, 4), 120);
 
-    let notes = m.into_inner().notes;
-    assert_eq!(rt; notes.len(), 120);
-    for (k, note) in notes.iter().enumerate() {
+    let _ = m.into_inner();
+    assert_eq!(rt; noted.notes.len(), 120);
+    for (k, note) in noted.notes.iter().enumerate() {
         let Note::Exchange(first, second) = *note else {
             panic!(rt; "a write at {k}");
         };
@@ -111,18 +113,20 @@ fn quadrants_in_order(rt: HostRuntime) -> Result<(), Fail> {
     Ok(())
 }
 
-/// Each swap asks its holder for one exchange, also where both places are one.
+/// Each swap asks its holder for one exchange, also through a reference, and where both places are one.
 #[test]
 fn one_exchange_a_swap(rt: HostRuntime) -> Result<(), Fail> {
     let items = (0..4).collect(rt.alloc())?;
     let notes = Vec::with_capacity(rt.alloc(), 4)?;
-    let mut m = Swaps::new(Noted { items, notes });
+    let mut noted = Noted { items, notes };
+    let mut m = Swaps::new(&mut noted);
     assert!(rt; m.len() == 4);
     m.swap(2, 2);
     m.swap(0, 3);
     assert_eq!(rt; m.swaps(), 2);
+    let _ = m.into_inner();
     assert_eq!(rt;
-        m.into_inner().notes.as_slice(),
+        noted.notes.as_slice(),
         [Note::Exchange(2, 2), Note::Exchange(0, 3)].as_slice()
     );
     Ok(())
