@@ -1,28 +1,27 @@
 //! Arrays as JSON lists: worked examples over values that are read from JSON text.
 
 use crate::callers::array_serialization::written_and_read;
+use crate::checks::same;
 use p3_util::array_serialization::ArrayError::{Element, Length, NotArray};
 use p3_util::array_serialization::ElementError::{Float, Kind, Range};
 use p3_util::array_serialization::{
     ArrayElement, ArrayError, ElementError, deserialize, serialize,
 };
 use serde_json::Value;
-use std::alloc::Global;
-use std::process::Abort;
-use std::test::Fail;
+use std::alloc::{AllocError, Global};
 
 type Read<T, const N: usize> = Result<[T; N], ArrayError>;
 
-/// Asserts what is read of a JSON text.
-fn check_read<T: ArrayElement + PartialEq + Drop, const N: usize>(
-    rt: &impl Abort,
+/// Whether `wanted` is read of a JSON text.
+fn reads<T: ArrayElement + PartialEq + Drop, const N: usize>(
     alloc: Global,
     text: &str,
     wanted: &Read<T, N>,
-) -> Result<(), Fail> {
-    let value = Value::from_str(alloc, text)?;
-    assert!(rt; deserialize::<T, N>(alloc, &value) == *wanted, "{text}");
-    Ok(())
+) -> bool {
+    match Value::from_str(alloc, text) {
+        Ok(value) => deserialize::<T, N>(alloc, &value) == *wanted,
+        Err(_) => false,
+    }
 }
 
 /// JSON texts, with what is read of them as three numbers.
@@ -55,19 +54,18 @@ const THREE_NUMBERS: [(&str, Read<u32, 3>); 7] = [
 ];
 
 #[test]
-fn three_numbers(rt: HostRuntime) -> Result<(), Fail> {
+fn three_numbers(rt: HostRuntime) {
     for (text, wanted) in &THREE_NUMBERS {
-        check_read(&rt, rt.alloc(), text, wanted)?;
+        assert!(rt; reads(rt.alloc(), text, wanted), "{text}");
     }
-    Ok(())
 }
 
 #[test]
-fn other_lengths(rt: HostRuntime) -> Result<(), Fail> {
+fn other_lengths(rt: HostRuntime) {
     let alloc = rt.alloc();
-    check_read::<u32, 0>(&rt, alloc, "[]", &Ok([]))?;
-    check_read::<u32, 0>(&rt, alloc, "[1]", &Err(Length { got: 1 }))?;
-    check_read::<u32, 2>(&rt, alloc, "[]", &Err(Length { got: 0 }))
+    assert!(rt; reads::<u32, 0>(alloc, "[]", &Ok([])));
+    assert!(rt; reads::<u32, 0>(alloc, "[1]", &Err(Length { got: 1 })));
+    assert!(rt; reads::<u32, 2>(alloc, "[]", &Err(Length { got: 0 })));
 }
 
 /// The answer where the item at `index` is refused.
@@ -76,33 +74,35 @@ fn refused<T, const N: usize>(index: usize, cause: ElementError) -> Read<T, N> {
 }
 
 #[test]
-fn other_types(rt: HostRuntime) -> Result<(), Fail> {
+fn other_types(rt: HostRuntime) {
     let alloc = rt.alloc();
-    check_read::<u64, 1>(&rt, alloc, "[-1]", &refused(0, Range))?;
-    check_read::<i64, 1>(&rt, alloc, "[-1]", &Ok([-1]))?;
-    check_read::<i64, 1>(&rt, alloc, "[9223372036854775808]", &refused(0, Range))?;
-    check_read::<bool, 1>(&rt, alloc, "[1.0]", &refused(0, Float))?;
-    check_read::<bool, 2>(&rt, alloc, "[true,1]", &refused(1, Kind))
+    assert!(rt; reads::<u64, 1>(alloc, "[-1]", &refused(0, Range)));
+    assert!(rt; reads::<i64, 1>(alloc, "[-1]", &Ok([-1])));
+    assert!(rt; reads::<i64, 1>(alloc, "[9223372036854775808]", &refused(0, Range)));
+    assert!(rt; reads::<bool, 1>(alloc, "[1.0]", &refused(0, Float)));
+    assert!(rt; reads::<bool, 2>(alloc, "[true,1]", &refused(1, Kind)));
 }
 
-/// Asserts that an array that is written is read back.
-fn check_written<T: ArrayElement + PartialEq + Copy, const N: usize>(
-    rt: &impl Abort,
+/// Whether an array that is written is read back.
+fn is_read_back<T: ArrayElement + PartialEq + Copy, const N: usize>(
     alloc: Global,
     items: &[T; N],
-) -> Result<(), Fail> {
-    assert!(rt; written_and_read(alloc, items)? == Ok(*items));
-    Ok(())
+) -> bool {
+    match written_and_read(alloc, items) {
+        Ok(Ok(again)) => again == *items,
+        _ => false,
+    }
 }
 
 #[test]
-fn written(rt: HostRuntime) -> Result<(), Fail> {
+fn written(rt: HostRuntime) -> Result<(), AllocError> {
     let alloc = rt.alloc();
     let text = serialize(alloc, &[10u32, 20, 30])?.to_string(alloc)?;
-    assert_eq!(rt; text.as_str(), "[10,20,30]");
-    check_written(&rt, alloc, &[10u32, 20, 30])?;
-    check_written::<u32, 0>(&rt, alloc, &[])?;
-    check_written(&rt, alloc, &[0, u64::MAX])?;
-    check_written(&rt, alloc, &[i64::MIN, 7])?;
-    check_written(&rt, alloc, &[true, false])
+    same(&rt, 0, &text.as_str(), &"[10,20,30]");
+    assert!(rt; is_read_back(alloc, &[10u32, 20, 30]));
+    assert!(rt; is_read_back::<u32, 0>(alloc, &[]));
+    assert!(rt; is_read_back(alloc, &[0, u64::MAX]));
+    assert!(rt; is_read_back(alloc, &[i64::MIN, 7]));
+    assert!(rt; is_read_back(alloc, &[true, false]));
+    Ok(())
 }

@@ -1,5 +1,6 @@
 //! Logarithms, powers, reversed digits and short names against worked examples and the original crate.
 
+use crate::checks::{found, same};
 use crate::oracle::words::{
     CHECKED_POWERS, CHECKED_SUMS, LOGARITHMS, NAMES, POWERS_OF_THREE, POWERS_OF_TWO,
     REVERSED_BELOW_POWERS, REVERSED_LOW_DIGITS,
@@ -10,7 +11,6 @@ use p3_util_kernels::bits::{
     pretty_name, reverse_bits, reverse_bits_len,
 };
 use std::process::Abort;
-use std::test::Fail;
 
 /// The strict logarithm of `n`, which must be a power of two.
 fn log2_of(rt: &impl Abort, n: usize) -> usize {
@@ -39,24 +39,24 @@ fn reversed_below_power(rt: &impl Abort, x: usize, n: usize) -> usize {
 #[test]
 fn logarithms(rt: HostRuntime) {
     for (n, ceil, floor) in &LOGARITHMS {
-        assert_eq!(rt; log2_ceil_usize(*n), *ceil, "ceil of {n}");
-        assert_eq!(rt; log2_floor_usize(*n), *floor, "floor of {n}");
-        assert_eq!(rt; log2_ceil_u64(*n as u64), *ceil as u64, "ceil of {n}");
+        same(&rt, *n, &log2_ceil_usize(*n), ceil);
+        same(&rt, *n, &log2_floor_usize(*n), floor);
+        same(&rt, *n, &log2_ceil_u64(*n as u64), &(*ceil as u64));
     }
 }
 
 #[test]
 fn strict_logarithms_of_powers_of_two(rt: HostRuntime) {
     for (exponent, n) in POWERS_OF_TWO.iter().enumerate() {
-        assert_eq!(rt; log2_of(&rt, *n), exponent, "of {n}");
-        assert_eq!(rt; log2_ceil_usize(*n), exponent, "ceil of {n}");
+        same(&rt, *n, &log2_of(&rt, *n), &exponent);
+        same(&rt, *n, &log2_ceil_usize(*n), &exponent);
     }
 }
 
 #[test]
 fn strict_logarithms_of_powers_of_three(rt: HostRuntime) {
     for (exponent, n) in POWERS_OF_THREE.iter().enumerate() {
-        assert_eq!(rt; log3_of(&rt, *n), exponent, "of {n}");
+        same(&rt, *n, &log3_of(&rt, *n), &exponent);
     }
 }
 
@@ -70,58 +70,50 @@ fn no_powers_of_three(rt: HostRuntime) {
         9_223_372_036_854_775_808,
         18_446_744_073_709_551_615,
     ] {
-        assert!(rt; !is_power_of_three(n), "{n}");
+        same(&rt, n, &is_power_of_three(n), &false);
     }
 }
 
 #[test]
 fn powers_that_fit(rt: HostRuntime) {
     for (exponent, power) in &CHECKED_POWERS {
-        assert_eq!(rt; checked_pow2(*exponent), *power, "2^{exponent}");
+        same(&rt, *exponent, &checked_pow2(*exponent), power);
     }
 }
 
 #[test]
 fn sums_that_fit(rt: HostRuntime) {
-    for (a, b, sum) in &CHECKED_SUMS {
-        assert_eq!(rt; checked_log_size_sum(*a, *b), *sum, "{a} and {b}");
+    for (row, (a, b, sum)) in CHECKED_SUMS.iter().enumerate() {
+        same(&rt, row, &checked_log_size_sum(*a, *b), sum);
     }
 }
 
 #[test]
 fn low_digits(rt: HostRuntime) {
-    for (x, bit_len, reversed) in &REVERSED_LOW_DIGITS {
-        assert_eq!(rt;
-            reversed_low_digits(&rt, *x, *bit_len),
-            *reversed,
-            "{bit_len} of {x}"
-        );
+    for (row, (x, bit_len, reversed)) in REVERSED_LOW_DIGITS.iter().enumerate() {
+        same(&rt, row, &reversed_low_digits(&rt, *x, *bit_len), reversed);
     }
 }
 
 #[test]
 fn digits_below_powers(rt: HostRuntime) {
-    for (x, n, reversed) in &REVERSED_BELOW_POWERS {
-        assert_eq!(rt;
-            reversed_below_power(&rt, *x, *n),
-            *reversed,
-            "{x} below {n}"
-        );
+    for (row, (x, n, reversed)) in REVERSED_BELOW_POWERS.iter().enumerate() {
+        same(&rt, row, &reversed_below_power(&rt, *x, *n), reversed);
     }
 }
 
 #[test]
 fn indices_and_marks(rt: HostRuntime) {
-    assert_eq!(rt; indices_arr::<3>(), [0, 1, 2]);
-    assert_eq!(rt; indices_arr::<0>(), []);
+    same(&rt, 3, &indices_arr::<3>(), &[0, 1, 2]);
+    same(&rt, 0, &indices_arr::<0>(), &[]);
     branch_hint();
     assert_clone::<u64>();
 }
 
 #[test]
-fn short_names(rt: HostRuntime) -> Result<(), Fail> {
-    for (name, short) in &NAMES {
-        assert_eq!(rt; pretty_name(rt.alloc(), name)?.as_str(), *short, "{name}");
+fn short_names(rt: HostRuntime) {
+    for (row, (name, short)) in NAMES.iter().enumerate() {
+        let got = found(&rt, pretty_name(rt.alloc(), name));
+        same(&rt, row, &got.as_str(), short);
     }
-    Ok(())
 }

@@ -2,6 +2,7 @@
 ghost use Rattle.std.specs.Prelude.{◌<◌, ◌^◌, length};
 ghost use Rattle.std.specs.Iterator.{at_most};
 
+use crate::checks::same;
 use crate::oracle::pieces::{BY_FOUR, PADDED_BY_THREE};
 use p3_util::chunks::{apply_to_chunks, iter_array_chunks_padded};
 use std::cell::Cell;
@@ -45,17 +46,16 @@ fn check_pieces<const BUFLEN: usize>(
     requires { BUFLEN < 2 ^ 63 }
 {
     let asked = Cell::new(0);
-    let input = Asked {
-        answers,
-        asks: &asked,
-    };
     let count = Cell::new(0);
     apply_to_chunks::<BUFLEN, _, _>(
-        input,
+        Asked {
+            answers,
+            asks: &asked,
+        },
         |piece| count.set(count_wanted(wanted, count.get(), piece)),
     );
-    assert_eq!(rt; count.get(), wanted.len(), "pieces of {BUFLEN}");
-    assert_eq!(rt; asked.get(), asks, "asks for pieces of {BUFLEN}");
+    same(rt, BUFLEN, &count.get(), &wanted.len());
+    same(rt, BUFLEN, &asked.get(), &asks);
 }
 
 /// Asserts the padded pieces of what an iterator gives, that `None` follows for good, and that the iterator is asked `asks`
@@ -74,12 +74,12 @@ fn check_padded<const N: usize>(
     };
     let mut padded = iter_array_chunks_padded::<u8, N, _>(input, fill);
     for piece in wanted {
-        assert_eq!(rt; padded.next(), Some(*piece), "padded by {N}");
+        same(rt, N, &padded.next(), &Some(*piece));
     }
     for _ in 0..3 {
-        assert_eq!(rt; padded.next(), None, "padded by {N}");
+        same(rt, N, &padded.next(), &None);
     }
-    assert_eq!(rt; asked.get(), asks, "asks for pieces of {N}");
+    same(rt, N, &asked.get(), &asks);
 }
 
 /// The numbers from 0 to 20.

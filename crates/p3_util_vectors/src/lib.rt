@@ -7,6 +7,8 @@ mod array_serialization;
 mod bits;
 pub mod callers;
 #[cfg(test)]
+mod checks;
+#[cfg(test)]
 mod chunks;
 pub mod joined;
 #[cfg(test)]

@@ -2,7 +2,10 @@
 
 ghost use Rattle.std.specs.Prelude.{◌≡◌};
 
+use crate::checks::{found, numbers};
 use p3_util_kernels::places::{Cells, Places};
+use std::alloc::Global;
+use std::process::Abort;
 
 /// The places of one call.
 #[derive(Clone, Copy, Debug, PartialEq, Eq)]
@@ -19,6 +22,13 @@ pub struct Noted {
 }
 
 impl Noted {
+    /// The numbers from 0 to below `count`, with room for so many notes.
+    pub(crate) fn numbered(rt: &impl Abort, alloc: Global, count: usize, room: usize) -> Self {
+        let items = numbers(rt, alloc, count);
+        let notes = found(rt, Vec::with_capacity(alloc, room));
+        Noted { items, notes }
+    }
+
     fn note(&mut self, note: Note)
         ensures { self.new.items ≡ self.old.items }
     {

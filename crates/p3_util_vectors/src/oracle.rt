@@ -9,21 +9,23 @@ pub mod reversals;
 pub mod transposes;
 pub mod words;
 
-use std::alloc::{AllocError, Global};
+use crate::checks::found;
+use std::alloc::Global;
+use std::process::Abort;
 
 /// Item `i` of a list of vectors: `i * 2654435761 mod 2^32`.
-pub fn item(i: usize) -> u64 {
+pub(crate) fn item(i: usize) -> u64 {
     (i as u64).wrapping_mul(2_654_435_761) % 4_294_967_296
 }
 
 /// The items with the numbers 0 to `count - 1`.
-pub fn items(alloc: Global, count: usize) -> Result<Vec<u64>, AllocError> {
-    (0..count).map(item).collect(alloc)
+pub(crate) fn items(rt: &impl Abort, alloc: Global, count: usize) -> Vec<u64> {
+    found(rt, (0..count).map(item).collect(alloc))
 }
 
 /// The hash of a list: it starts at 14695981039346656037, and for each item becomes the exclusive or with the item, times
 /// 1099511628211, without what does not fit 64 bits.
-pub fn hash(list: &[u64]) -> u64 {
+pub(crate) fn hash(list: &[u64]) -> u64 {
     let mut hash = 14_695_981_039_346_656_037u64;
     for x in list {
         hash = (hash ^ *x).wrapping_mul(1_099_511_628_211);

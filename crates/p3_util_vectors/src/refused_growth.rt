@@ -4,11 +4,16 @@
 //! refuses that one. Where a test's own list is refused, it ends.
 
 ghost use Rattle.serde_json.specs.Data.{array, item, no_items, number, unsigned};
-ghost use Rattle.std.specs.Prelude.{true};
+ghost use Rattle.std.specs.Prelude.{◌==◌, true};
+ghost use Rattle.std.proofs.Common.{rules};
+ghost use Rattle.std.specs.Cmp.Rules.{comparing};
+ghost use Rattle.std.specs.Ordering.{on};
+ghost use Rattle.std.specs.Str.{bytes_eq, str_to_ascii_lowercase};
 ghost use Rattle.p3_util.specs.JsonElements.{u32_reading};
 ghost use Rattle.p3_util_vectors.specs.Pairs.{map_ok, pair_reading};
 
-use crate::linear_map::Spelling;
+use crate::checks::{Owner, same};
+use crate::linear_map::lent;
 use p3_util::array_serialization::{
     ArrayElement, ArrayError, ElementError, deserialize, serialize,
 };
@@ -19,23 +24,22 @@ use std::alloc::{AllocError, Global};
 use std::cell::Cell;
 use std::process::Abort;
 
-/// A value that counts its drops.
-struct Owner<'a> {
-    number: u32,
-    drops: &'a Cell<u32>,
-}
-
-impl Drop for Owner<'_> {
-    fn drop(self) {
-        let Owner { number: _, drops } = self;
-        drops.set(drops.get().wrapping_add(1));
-    }
-}
-
 #[test]
 fn names(rt: HostRuntime) {
     if let Ok(name) = pretty_name(rt.alloc(), "alloc::vec::Vec<core::option::Option<u32>>") {
-        assert_eq!(rt; name.as_str(), "Vec<Option<u32>>");
+        same(&rt, 0, &name.as_str(), &"Vec<Option<u32>>");
+    }
+}
+
+/// What `insert` answers, or the pair that it hands back.
+fn inserted(
+    map: &mut LinearMap<u32, u32>,
+    key: u32,
+    value: u32,
+) -> Result<Option<u32>, (u32, u32)> {
+    match map.insert(key, value) {
+        Ok(old) => Ok(old),
+        Err(NoRoom { given }) => Err(given),
     }
 }
 
@@ -47,14 +51,33 @@ fn maps_with_room(rt: HostRuntime) {
         return;
     };
     for key in 0u32..3 {
-        assert_eq!(rt; map.insert(key, key).ok(), Some(None));
+        same(&rt, 0, &inserted(&mut map, key, key), &Ok(None));
     }
     for key in 0u32..3 {
-        assert_eq!(rt; map.insert(key, 9u32).ok(), Some(Some(key)));
-        match map.get_or_insert_with(key, || 7u32) {
-            Ok(value) => assert_eq!(rt; *value, 9),
-            Err(_) => panic!(rt; "a known key was refused"),
+        same(&rt, 1, &inserted(&mut map, key, 9), &Ok(Some(key)));
+        same(&rt, 2, &lent(&mut map, key, 7), &(Ok(9), 0));
+    }
+}
+
+/// Asserts that a map has the keys from 0 to 9 in order, but for the one that was refused, and each with its value.
+fn check_kept(rt: &impl Abort, map: &LinearMap<u32, u32>, refused: Option<u32>) {
+    let count = if refused.is_some() { 9 } else { 10 };
+    same(rt, 0, &map.len(), &count);
+    let mut wanted = 0u32;
+    for key in map.keys() {
+        if refused == Some(wanted) {
+            wanted = wanted.wrapping_add(1);
         }
+        same(rt, 1, key, &wanted);
+        wanted = wanted.wrapping_add(1);
+    }
+    for key in 0u32..10 {
+        let value = if refused == Some(key) {
+            None
+        } else {
+            Some(key ^ 64)
+        };
+        same(rt, 2, &map.get(&key).copied(), &value);
     }
 }
 
@@ -64,24 +87,15 @@ fn inserted_pairs(rt: HostRuntime) {
     let mut map = LinearMap::new(rt.alloc());
     let mut refused = None;
     for key in 0u32..10 {
-        match map.insert(key, key ^ 64) {
-            Ok(old) => assert_eq!(rt; old, None),
-            Err(NoRoom { given }) => {
-                assert_eq!(rt; given, (key, key ^ 64));
+        match inserted(&mut map, key, key ^ 64) {
+            Ok(old) => same(&rt, 0, &old, &None),
+            Err(given) => {
+                same(&rt, 1, &given, &(key, key ^ 64));
                 refused = Some(key);
             }
         }
     }
-    let kept = (0u32..10).filter(|key| Some(*key) != refused);
-    assert!(rt; map.keys().copied().eq(kept));
-    for key in 0u32..10 {
-        let value = if Some(key) == refused {
-            None
-        } else {
-            Some(key ^ 64)
-        };
-        assert_eq!(rt; map.get(&key).copied(), value);
-    }
+    check_kept(&rt, &map, refused);
 }
 
 /// The same by `get_or_insert_with`, whose closure is called for each pair that is added and for no other: room is asked for
@@ -91,75 +105,127 @@ fn closures_of_new_keys(rt: HostRuntime) {
     let mut map = LinearMap::new(rt.alloc());
     let mut refused = None;
     for key in 0u32..10 {
-        let called = Cell::new(0u32);
-        let answer = || {
-            called.set(called.get().wrapping_add(1));
-            key ^ 64
-        };
-        match map.get_or_insert_with(key, answer) {
-            Ok(value) => {
-                assert_eq!(rt; *value, key ^ 64);
-                assert_eq!(rt; called.get(), 1);
-            }
-            Err(NoRoom { given }) => {
-                assert_eq!(rt; given, key);
-                assert_eq!(rt; called.get(), 0);
+        match lent(&mut map, key, key ^ 64) {
+            (Ok(value), calls) => same(&rt, 0, &(value, calls), &(key ^ 64, 1)),
+            (Err(given), calls) => {
+                same(&rt, 1, &(given, calls), &(key, 0));
                 refused = Some(key);
             }
         }
     }
-    let kept = (0u32..10).filter(|key| Some(*key) != refused);
-    assert!(rt; map.keys().copied().eq(kept));
+    check_kept(&rt, &map, refused);
 }
 
-/// A known key in another spelling, and a new one whose growth is refused.
+/// A key that is equal to any other spelling of it in capital and small letters.
+#[derive(Drop)]
+struct Spelling(&'static str);
+
+impl PartialEq for Spelling {
+    ghost eq = { on (λ w. str_to_ascii_lowercase w.0.now) bytes_eq };
+
+    ghost laws = { Prim.search (comparing, rules) };
+
+    fn eq(&self, other: &Spelling) -> bool {
+        self.0.eq_ignore_ascii_case(other.0)
+    }
+}
+
+impl Eq for Spelling {
+    ghost laws = { Prim.search (comparing, rules) };
+}
+
+/// Asserts that a key goes into a map, or comes back, with its value 3, from one that is as before.
+fn insert_spelling(rt: &impl Abort, map: &mut LinearMap<Spelling, u32>, name: &'static str) {
+    let before = map.len();
+    if let Err(NoRoom { given }) = map.insert(Spelling(name), 3) {
+        same(rt, before, &given.0.0, &name);
+        same(rt, before, &given.1, &3);
+        same(rt, before, &map.len(), &before);
+    }
+}
+
+/// A known key in another spelling finds the pair, which keeps the spelling that came first, also where the growth for a new
+/// key is refused.
 #[test]
 fn spellings(rt: HostRuntime) {
     let mut map = LinearMap::new(rt.alloc());
     if map.insert(Spelling("Key"), 1u32).is_err() {
         return;
     }
-    assert_eq!(rt; map.insert(Spelling("KEY"), 2).ok(), Some(Some(1)));
-    for (place, name) in ["a", "b", "c", "d", "e", "f", "g", "h"].iter().enumerate() {
-        let before = map.len();
-        if let Err(NoRoom { given }) = map.insert(Spelling(*name), 3) {
-            assert_eq!(rt; given.0.0, *name, "at {place}");
-            assert_eq!(rt; given.1, 3);
-            assert_eq!(rt; map.len(), before);
-        }
+    same(&rt, 0, &map.insert(Spelling("KEY"), 2).ok(), &Some(Some(1)));
+    same(&rt, 0, &map.len(), &1);
+    for name in ["a", "b", "c", "d", "e", "f", "g", "h"] {
+        insert_spelling(&rt, &mut map, name);
     }
-    assert_eq!(rt; map.get(&Spelling("kEy")).copied(), Some(2));
-    assert_eq!(rt; map.keys().next().map(|key| key.0), Some("Key"));
+    same(&rt, 0, &map.get(&Spelling("kEy")).copied(), &Some(2));
+    match map.keys().next() {
+        Some(key) => same(&rt, 0, &key.0, &"Key"),
+        None => panic!(rt; "the map has no key"),
+    }
+}
+
+/// A map of an owner for each of these counters, and in `taken` how many owners it was given.
+fn map_of_owners<'a>(
+    alloc: Global,
+    drops: &'a [Cell<usize>],
+    taken: &Cell<usize>,
+) -> Result<LinearMap<usize, Owner<'a>>, AllocError> {
+    let pairs = drops.iter().enumerate().map(|(number, drops)| {
+        taken.set(taken.get().wrapping_add(1));
+        (number, Owner { number, drops })
+    });
+    LinearMap::try_from_iter(alloc, pairs)
+}
+
+/// Asserts that the first `count` owners were dropped once, and no other.
+fn check_drops(rt: &impl Abort, drops: &[Cell<usize>], count: usize) {
+    for (number, drops) in drops.iter().enumerate() {
+        same(rt, number, &drops.get(), &usize::from(number < count));
+    }
 }
 
 /// Each pair that a refused `try_from_iter` took is dropped once, and no other.
 #[test]
 fn maps_of_pairs(rt: HostRuntime) {
-    let drops = [const { 0u32 }; 8].map(Cell::new);
-    let taken = Cell::new(0u32);
-    let pairs = drops.iter().enumerate().map(|(key, drops)| {
-        taken.set(taken.get().wrapping_add(1));
-        (key, Owner { number: 0, drops })
-    });
-    match LinearMap::try_from_iter(rt.alloc(), pairs) {
+    let drops = [const { 0usize }; 8].map(Cell::new);
+    let taken = Cell::new(0);
+    match map_of_owners(rt.alloc(), &drops, &taken) {
         Ok(map) => {
-            assert_eq!(rt; taken.get(), 8);
-            assert!(rt; drops.iter().all(|count| count.get() == 0));
+            same(&rt, 0, &taken.get(), &8);
+            check_drops(&rt, &drops, 0);
             drop(map);
-            assert!(rt; drops.iter().all(|count| count.get() == 1));
+            check_drops(&rt, &drops, 8);
         }
-        Err(AllocError) => {
-            for (key, count) in (0u32..8).zip(drops.iter()) {
-                assert_eq!(rt; count.get(), u32::from(key < taken.get()), "pair {key}");
-            }
-        }
+        Err(AllocError) => check_drops(&rt, &drops, taken.get()),
     }
 }
 
 type Row<'a> = [Option<Owner<'a>>; 2];
 
+/// The owners with the numbers from 0 to 5.
+fn six_owners(alloc: Global, drops: &Cell<usize>) -> Result<Vec<Option<Owner<'_>>>, AllocError> {
+    let mut list = Vec::with_capacity(alloc, 6)?;
+    for number in 0..6 {
+        list.push(Some(Owner { number, drops }))?;
+    }
+    Ok(list)
+}
+
+/// The same in three rows of two.
+fn three_rows(alloc: Global, drops: &Cell<usize>) -> Result<Vec<Row<'_>>, AllocError> {
+    let mut rows = Vec::with_capacity(alloc, 3)?;
+    for (number, next) in [(0, 1), (2, 3), (4, 5)] {
+        let second = Owner {
+            number: next,
+            drops,
+        };
+        rows.push([Some(Owner { number, drops }), Some(second)])?;
+    }
+    Ok(rows)
+}
+
 /// Whether these are owners with the numbers `first`, `first + 1` and so on, in order.
-fn are_numbered(items: &[Option<Owner<'_>>], first: u32) -> bool {
+fn are_numbered(items: &[Option<Owner<'_>>], first: usize) -> bool {
     let mut number = first;
     for item in items {
         match item {
@@ -170,76 +236,65 @@ fn are_numbered(items: &[Option<Owner<'_>>], first: u32) -> bool {
     true
 }
 
-fn assert_rows(rt: &impl Abort, rows: &[Row<'_>]) {
-    assert_eq!(rt; rows.len(), 3);
-    for (row, first) in rows.iter().zip([0u32, 2, 4]) {
+/// Asserts that these are the six owners in three rows.
+fn check_rows(rt: &impl Abort, rows: &[Row<'_>]) {
+    same(rt, 0, &rows.len(), &3);
+    for (row, first) in rows.iter().zip([0, 2, 4]) {
         assert!(rt; are_numbered(row, first), "the row of owner {first}");
     }
 }
 
-fn assert_items(rt: &impl Abort, items: &[Option<Owner<'_>>]) {
-    assert_eq!(rt; items.len(), 6);
-    assert!(rt; are_numbered(items, 0));
+/// Asserts that these are the six owners.
+fn check_items(rt: &impl Abort, items: &[Option<Owner<'_>>]) {
+    same(rt, 0, &items.len(), &6);
+    same(rt, 0, &are_numbered(items, 0), &true);
 }
 
 /// A refused `flatten_to_base` hands the vector back, with each item in its place and none of them dropped.
 #[test]
 fn flattened_rows(rt: HostRuntime) {
-    let drops = Cell::new(0u32);
-    let owner = |number: u32| Some(Owner {
-        number,
-        drops: &drops,
-    });
-    let rows: [Row<'_>; 3] = [
-        [owner(0), owner(1)],
-        [owner(2), owner(3)],
-        [owner(4), owner(5)],
-    ];
-    let Ok(rows) = rows.into_iter().collect::<Vec<_>>(rt.alloc()) else {
+    let drops = Cell::new(0);
+    let Ok(rows) = three_rows(rt.alloc(), &drops) else {
         return;
     };
     assert!(rt; flat_len(rows.len(), 2).is_some());
     match flatten_to_base(rt.alloc(), rows) {
         Ok(items) => {
-            assert_items(&rt, &items);
-            assert_eq!(rt; drops.get(), 0);
+            check_items(&rt, &items);
+            same(&rt, 0, &drops.get(), &0);
         }
         Err(NoRoom { given }) => {
-            assert_rows(&rt, &given);
-            assert_eq!(rt; drops.get(), 0);
+            check_rows(&rt, &given);
+            same(&rt, 1, &drops.get(), &0);
         }
     }
-    assert_eq!(rt; drops.get(), 6);
+    same(&rt, 2, &drops.get(), &6);
 }
 
 /// The same of `reconstitute_from_base`.
 #[test]
 fn reconstituted_items(rt: HostRuntime) {
-    let drops = Cell::new(0u32);
-    let owner = |number: u32| Some(Owner {
-        number,
-        drops: &drops,
-    });
-    let Ok(items) = (0u32..6).map(owner).collect::<Vec<_>>(rt.alloc()) else {
+    let drops = Cell::new(0);
+    let Ok(items) = six_owners(rt.alloc(), &drops) else {
         return;
     };
-    assert_eq!(rt; items.len() % 2, 0);
+    assert!(rt; items.len() % 2 == 0);
     match reconstitute_from_base::<_, 2>(rt.alloc(), items) {
         Ok(rows) => {
-            assert_rows(&rt, &rows);
-            assert_eq!(rt; drops.get(), 0);
+            check_rows(&rt, &rows);
+            same(&rt, 0, &drops.get(), &0);
         }
         Err(NoRoom { given }) => {
-            assert_items(&rt, &given);
-            assert_eq!(rt; drops.get(), 0);
+            check_items(&rt, &given);
+            same(&rt, 1, &drops.get(), &0);
         }
     }
-    assert_eq!(rt; drops.get(), 6);
+    same(&rt, 2, &drops.get(), &6);
 }
 
 /// Two numbers, written as a JSON list of two, which takes memory. It is only written: a call that reads one answers that
 /// memory ran out.
-#[derive(Debug, Default, PartialEq, Drop)]
+#[derive(Default, Drop)]
 struct Two(u32, u32);
 
 impl ArrayElement for Two {
@@ -285,15 +340,20 @@ impl ArrayElement for NoTwo {
 #[test]
 fn written_arrays(rt: HostRuntime) {
     if let Ok(value) = serialize(rt.alloc(), &[10u32, 20, 30]) {
-        assert_eq!(rt; deserialize(rt.alloc(), &value), Ok([10u32, 20, 30]));
+        same(
+            &rt,
+            0,
+            &deserialize(rt.alloc(), &value),
+            &Ok([10u32, 20, 30]),
+        );
     }
     if let Ok(value) = serialize(rt.alloc(), &[Two(1, 2), Two(3, 4)]) {
         let Some(pairs) = value.as_array() else {
             panic!(rt; "the list was not written as one");
         };
-        assert_eq!(rt; pairs.len(), 2);
-        for (pair, want) in pairs.iter().zip([[1u32, 2], [3, 4]]) {
-            assert_eq!(rt; deserialize(rt.alloc(), pair), Ok(want));
+        same(&rt, 1, &pairs.len(), &2);
+        for (pair, wanted) in pairs.iter().zip([[1u32, 2], [3, 4]]) {
+            same(&rt, 2, &deserialize(rt.alloc(), pair), &Ok(wanted));
         }
     }
 }
@@ -306,6 +366,11 @@ fn read_arrays(rt: HostRuntime) {
             index: 1,
             cause: ElementError::Memory,
         };
-        assert_eq!(rt; deserialize::<NoTwo, 3>(rt.alloc(), &value), Err(refused));
+        same(
+            &rt,
+            0,
+            &deserialize::<NoTwo, 3>(rt.alloc(), &value),
+            &Err(refused),
+        );
     }
 }

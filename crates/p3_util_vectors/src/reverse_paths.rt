@@ -1,13 +1,15 @@
 //! The paths of bit reversal: what they leave, their numbers of swaps, and the order of the long path's exchanges.
 
 use super::noted::{Note, Noted};
+use crate::checks::{numbers, same};
 use p3_util_kernels::bits::checked_log_size_sum;
 use p3_util_kernels::places::{Places, SlicePlaces, Swaps};
 use p3_util_kernels::reverse::{
-    reverse_chunks_on, reverse_index_bits_long, reverse_index_bits_on, reverse_index_bits_short,
+    fits_rows, reverse_chunks_on, reverse_index_bits_long, reverse_index_bits_on,
+    reverse_index_bits_short,
 };
+use std::alloc::Global;
 use std::process::Abort;
-use std::test::Fail;
 
 /// A call that reverses a list, item by item or chunk by chunk.
 #[derive(Clone, Copy, Debug)]
@@ -20,11 +22,12 @@ enum Call {
 }
 
 /// A call, the number of items, the number of swaps, and places with what they hold where place i held i.
-const EXAMPLES: [(Call, u64, u128, &[(usize, u64)]); 13] = [
+const EXAMPLES: [(Call, usize, u128, &[(usize, u64)]); 14] = [
     (Call::On, 8192, 4032, &[(1, 4096), (2, 2048)]),
     (Call::On, 16384, 22464, &[(1, 8192), (2, 4096)]),
     (Call::On, 32768, 44928, &[(1, 16384), (3, 24576), (256, 64)]),
     (Call::On, 65536, 94080, &[(1, 32768), (3, 49152)]),
+    (Call::Short, 0, 0, &[]),
     (Call::Short, 16384, 8128, &[(1, 8192), (2, 4096)]),
     (Call::Long, 4, 1, &[(0, 0), (1, 2), (2, 1), (3, 3)]),
     (
@@ -97,43 +100,54 @@ const EXAMPLES: [(Call, u64, u128, &[(usize, u64)]); 13] = [
     ),
 ];
 
+fn make_on<S: Places>(rt: &impl Abort, m: &mut Swaps<S>) {
+    assert!(rt; fits_rows(m.len(), 1));
+    reverse_index_bits_on(m);
+}
+
+fn make_short<S: Places>(rt: &impl Abort, m: &mut Swaps<S>) {
+    assert!(rt; fits_rows(m.len(), 1));
+    reverse_index_bits_short(m);
+}
+
+fn make_long<S: Places>(rt: &impl Abort, m: &mut Swaps<S>) {
+    assert!(rt; m.len().is_power_of_two() && m.len() >= 4);
+    reverse_index_bits_long(m);
+}
+
+fn make_chunks<S: Places>(rt: &impl Abort, m: &mut Swaps<S>, log_count: usize, log_size: usize) {
+    let (_, size) = checked_log_size_sum(log_count, log_size).expect(rt, "too many chunks");
+    assert!(rt; size == m.len());
+    reverse_chunks_on(m, log_count, log_size);
+}
+
 /// Makes `call` on `m`, whose length meets its condition, and returns the number of swaps.
 fn make<S: Places>(rt: &impl Abort, m: &mut Swaps<S>, call: Call) -> u128 {
-    let len = m.len();
-    assert!(rt; len.is_power_of_two());
     match call {
-        Call::On => reverse_index_bits_on(m),
-        Call::Short => reverse_index_bits_short(m),
-        Call::Long => {
-            assert!(rt; len >= 4);
-            reverse_index_bits_long(m);
-        }
-        Call::Chunks(log_count, log_size) => {
-            let (_, size) = checked_log_size_sum(log_count, log_size).expect(rt, "too many chunks");
-            assert!(rt; size == len);
-            reverse_chunks_on(m, log_count, log_size);
-        }
+        Call::On => make_on(rt, m),
+        Call::Short => make_short(rt, m),
+        Call::Long => make_long(rt, m),
+        Call::Chunks(log_count, log_size) => make_chunks(rt, m, log_count, log_size),
     }
     m.swaps()
 }
 
+/// The numbers from 0 to below `len` after a call, and the number of swaps.
+fn after(rt: &impl Abort, alloc: Global, call: Call, len: usize) -> (Vec<u64>, u128) {
+    let mut items = numbers(rt, alloc, len);
+    let swaps = make(rt, &mut Swaps::new(SlicePlaces::new(&mut items)), call);
+    (items, swaps)
+}
+
 #[test]
-fn worked_examples(rt: HostRuntime) -> Result<(), Fail> {
-    for (call, len, wanted, places) in &EXAMPLES {
-        let mut items: Vec<u64> = (0..*len).collect(rt.alloc())?;
-        let mut m = Swaps::new(SlicePlaces::new(items.as_mut_slice()));
-        let swaps = make(&rt, &mut m, *call);
-        drop(m);
-        assert_eq!(rt; swaps, *wanted, "{call:?} of {len}");
+fn worked_examples(rt: HostRuntime) {
+    for (row, (call, len, wanted, places)) in EXAMPLES.iter().enumerate() {
+        let (items, swaps) = after(&rt, rt.alloc(), *call, *len);
+        same(&rt, row, &swaps, wanted);
         for (place, held) in *places {
-            assert_eq!(rt;
-                items.get(*place),
-                Some(held),
-                "{call:?} of {len}, at {place}"
-            );
+            same(&rt, row, &items.get(*place), &Some(held));
         }
     }
-    Ok(())
 }
 
 /// The kind of an exchange on the long path of 16384 items, which are 128 chunks of 128.
@@ -159,14 +173,12 @@ fn kind_of(first: usize, second: usize) -> Kind {
 
 // 7168 exchanges of items of two chunks, 8128 across the diagonal of the square, and the first 7168 again.
 #[test]
-fn long_path_in_order(rt: HostRuntime) -> Result<(), Fail> {
-    let items = (0..16384).collect(rt.alloc())?;
-    let notes = Vec::with_capacity(rt.alloc(), 32768)?;
-    let mut m = Swaps::new(Noted { items, notes });
-    assert_eq!(rt; make(&rt, &mut m, Call::On), 22464);
+fn long_path_in_order(rt: HostRuntime) {
+    let mut m = Swaps::new(Noted::numbered(&rt, rt.alloc(), 16384, 32768));
+    same(&rt, 0, &make(&rt, &mut m, Call::On), &22464);
 
     let notes = m.into_inner().notes;
-    assert_eq!(rt; notes.len(), 22464);
+    same(&rt, 0, &notes.len(), &22464);
     for (k, note) in notes.iter().enumerate() {
         let Note::Exchange(first, second) = *note else {
             panic!(rt; "a write at {k}");
@@ -176,8 +188,7 @@ fn long_path_in_order(rt: HostRuntime) -> Result<(), Fail> {
         } else {
             Kind::Chunks
         };
-        assert_eq!(rt; kind_of(first, second), wanted, "at {k}");
+        same(&rt, k, &kind_of(first, second), &wanted);
     }
-    assert_eq!(rt; notes.get(..7168), notes.get(15296..));
-    Ok(())
+    same(&rt, 0, &notes.get(..7168), &notes.get(15296..));
 }

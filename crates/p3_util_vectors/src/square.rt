@@ -1,11 +1,11 @@
 //! Squares transposed in place.
 
 use super::noted::{Note, Noted};
+use crate::checks::{numbers, same};
 use p3_util_kernels::places::{Places, SlicePlaces, Swaps};
 use p3_util_kernels::transpose::transpose_square_on;
-use std::alloc::{AllocError, Global};
+use std::alloc::Global;
 use std::process::Abort;
-use std::test::Fail;
 
 /// Transposes a square that lies in the list, and answers the number of exchanges.
 fn transpose<S: Places>(
@@ -18,10 +18,13 @@ fn transpose<S: Places>(
     assert!(rt; log_size <= log_stride && log_stride < 64);
     let side = 1usize << log_size;
     let stride = 1usize << log_stride;
-    let last = (side - 1)
+    let from_first = (side - 1)
         .checked_mul(stride + 1)
-        .and_then(|last| last.checked_add(base));
-    assert!(rt; last.expect(rt, "the square is too long") < m.len());
+        .expect(rt, "the square is too long");
+    let last = from_first
+        .checked_add(base)
+        .expect(rt, "the square is too far");
+    assert!(rt; last < m.len());
     transpose_square_on(m, base, log_stride, log_size);
     m.swaps()
 }
@@ -30,20 +33,20 @@ fn transpose<S: Places>(
 fn transposed(
     alloc: Global,
     rt: &impl Abort,
-    len: u64,
+    len: usize,
     base: usize,
     log_stride: usize,
     log_size: usize,
-) -> Result<(Vec<u64>, u128), AllocError> {
-    let mut items: Vec<u64> = (0..len).collect(alloc)?;
+) -> (Vec<u64>, u128) {
+    let mut items = numbers(rt, alloc, len);
     let mut m = Swaps::new(SlicePlaces::new(items.as_mut_slice()));
     let swaps = transpose(rt, &mut m, base, log_stride, log_size);
-    Ok((items, swaps))
+    (items, swaps)
 }
 
 /// A length, the base and the logarithms of the stride and the side of a square; the number of exchanges; and places with
 /// what they hold in the end.
-const EXAMPLES: [(u64, usize, usize, usize, u128, &[(usize, u64)]); 4] = [
+const EXAMPLES: [(usize, usize, usize, usize, u128, &[(usize, u64)]); 4] = [
     (8, 2, 2, 1, 1, &[(2, 2), (3, 6), (5, 5), (6, 3), (7, 7)]),
     (4, 1, 1, 0, 0, &[(0, 0), (1, 1), (2, 2), (3, 3)]),
     (256, 0, 4, 4, 120, &[(1, 16), (16, 1)]),
@@ -51,55 +54,51 @@ const EXAMPLES: [(u64, usize, usize, usize, u128, &[(usize, u64)]); 4] = [
 ];
 
 #[test]
-fn worked_squares(rt: HostRuntime) -> Result<(), Fail> {
-    for (len, base, log_stride, log_size, wanted, places) in &EXAMPLES {
-        let (items, swaps) = transposed(rt.alloc(), &rt, *len, *base, *log_stride, *log_size)?;
+fn worked_squares(rt: HostRuntime) {
+    for (row, (len, base, log_stride, log_size, wanted, places)) in EXAMPLES.iter().enumerate() {
+        let (items, swaps) = transposed(rt.alloc(), &rt, *len, *base, *log_stride, *log_size);
+        same(&rt, row, &swaps, wanted);
         for (place, held) in *places {
-            assert_eq!(rt; items.get(*place), Some(held), "at {place} of {len}");
+            same(&rt, *place, &items.get(*place), &Some(held));
         }
-        assert_eq!(rt; swaps, *wanted, "of {len}");
     }
-    Ok(())
+}
+
+/// Asserts that a whole square of `2^log` rows of the numbers from 0 on is transposed in so many exchanges.
+fn check_whole_square(rt: &impl Abort, alloc: Global, log: usize, wanted: u128) {
+    assert!(rt; log < 32);
+    let (items, swaps) = transposed(alloc, rt, 1 << (2 * log), 0, log, log);
+    same(rt, log, &swaps, &wanted);
+    for (place, held) in items.iter().enumerate() {
+        let row = place >> log;
+        let column = place & ((1 << log) - 1);
+        same(rt, place, held, &(((column << log) | row) as u64));
+    }
 }
 
 #[test]
-fn whole_squares(rt: HostRuntime) -> Result<(), Fail> {
-    let numbers = [1, 6, 28, 120, 496, 2016, 8128, 32640, 130816, 523776];
-    for (k, number) in numbers.iter().enumerate() {
-        let log = k + 1;
-        let (items, swaps) = transposed(rt.alloc(), &rt, 1 << (2 * log), 0, log, log)?;
-        for (place, held) in items.iter().enumerate() {
-            let row = place >> log;
-            let column = place & ((1 << log) - 1);
-            assert_eq!(rt;
-                *held,
-                ((column << log) | row) as u64,
-                "at {place} of logarithm {log}"
-            );
-        }
-        assert_eq!(rt; swaps, *number, "at logarithm {log}");
+fn whole_squares(rt: HostRuntime) {
+    let exchanges = [1, 6, 28, 120, 496, 2016, 8128, 32640, 130816, 523776];
+    for (log, wanted) in (1usize..).zip(exchanges) {
+        check_whole_square(&rt, rt.alloc(), log, wanted);
     }
-    Ok(())
 }
 
 /// 28 exchanges within the upper left quadrant, 64 across the diagonal, 28 within the lower right quadrant. The counter is
 /// over a reference to the list, so that both make the same calls.
 #[test]
-fn quadrants_in_order(rt: HostRuntime) -> Result<(), Fail> {
-    let items = (0..256).collect(rt.alloc())?;
-    let notes = Vec::with_capacity(rt.alloc(), 256)?;
-    let mut noted = Noted { items, notes };
+fn quadrants_in_order(rt: HostRuntime) {
+    let mut noted = Noted::numbered(&rt, rt.alloc(), 256, 256);
     let mut m = Swaps::new(&mut noted);
-    assert_eq!(rt; transpose(&rt, &mut m, 0, 4, 4), 120);
-
+    same(&rt, 0, &transpose(&rt, &mut m, 0, 4, 4), &120);
     let _ = m.into_inner();
-    assert_eq!(rt; noted.notes.len(), 120);
+    same(&rt, 0, &noted.notes.len(), &120);
     for (k, note) in noted.notes.iter().enumerate() {
         let Note::Exchange(first, second) = *note else {
             panic!(rt; "a write at {k}");
         };
         let (row, column) = (first / 16, first % 16);
-        assert_eq!(rt; second, column * 16 + row, "at {k}");
+        same(&rt, k, &second, &(column * 16 + row));
         let below = usize::from(row < 8) + usize::from(column < 8);
         let wanted = if k < 28 {
             2
@@ -108,26 +107,20 @@ fn quadrants_in_order(rt: HostRuntime) -> Result<(), Fail> {
         } else {
             0
         };
-        assert_eq!(rt; below, wanted, "at {k}");
+        same(&rt, k, &below, &wanted);
     }
-    Ok(())
 }
 
 /// Each swap asks its holder for one exchange, also through a reference, and where both places are one.
 #[test]
-fn one_exchange_a_swap(rt: HostRuntime) -> Result<(), Fail> {
-    let items = (0..4).collect(rt.alloc())?;
-    let notes = Vec::with_capacity(rt.alloc(), 4)?;
-    let mut noted = Noted { items, notes };
+fn one_exchange_a_swap(rt: HostRuntime) {
+    let mut noted = Noted::numbered(&rt, rt.alloc(), 4, 4);
     let mut m = Swaps::new(&mut noted);
     assert!(rt; m.len() == 4);
     m.swap(2, 2);
     m.swap(0, 3);
-    assert_eq!(rt; m.swaps(), 2);
+    same(&rt, 0, &m.swaps(), &2);
     let _ = m.into_inner();
-    assert_eq!(rt;
-        noted.notes.as_slice(),
-        [Note::Exchange(2, 2), Note::Exchange(0, 3)].as_slice()
-    );
-    Ok(())
+    let wanted = [Note::Exchange(2, 2), Note::Exchange(0, 3)];
+    same(&rt, 0, &noted.notes.as_slice(), &wanted.as_slice());
 }

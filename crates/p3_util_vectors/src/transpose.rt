@@ -1,78 +1,108 @@
 //! Transposes against worked examples and the original crate.
 
+use crate::checks::{numbers, repeated, same};
 use crate::oracle::transposes::{LARGE, OTHERS, SMALL, SMALL_SIDE};
 use crate::oracle::{hash, items};
-use p3_util_kernels::places::SliceCells;
+use p3_util_kernels::places::{Cells, SliceCells};
 use p3_util_kernels::transpose::{fits_matrix, transpose, transpose_counted};
-use std::alloc::{AllocError, Global};
+use std::alloc::Global;
 use std::process::Abort;
-use std::test::Fail;
 
-/// Puts the transpose of `input` into `output` through a counter, and answers the number of writes.
-fn count_writes(
+/// Puts the transpose of `input` into `cells`, and returns the number of writes.
+pub(crate) fn count_writes<C: Cells>(
     rt: &impl Abort,
-    input: &[u64],
-    output: &mut [u64],
+    input: &[C::Item],
+    cells: &mut C,
     width: usize,
     height: usize,
 ) -> u128 {
-    assert!(rt; fits_matrix(input.len(), output.len(), width, height));
-    transpose_counted(input, &mut SliceCells::new(output), width, height)
+    assert!(rt; fits_matrix(input.len(), cells.len(), width, height));
+    transpose_counted(input, cells, width, height)
 }
 
-/// The transpose of `input`, by the slice form and through a counter, which have to agree, with a write an item.
+/// Puts the transpose of `input` into `output` by the slice form.
+pub(crate) fn transpose_slice<T: Copy>(
+    rt: &impl Abort,
+    input: &[T],
+    output: &mut [T],
+    width: usize,
+    height: usize,
+) {
+    assert!(rt; fits_matrix(input.len(), output.len(), width, height));
+    transpose(input, output, width, height);
+}
+
+/// The transpose of `input`, by the slice form.
+fn by_slice(
+    rt: &impl Abort,
+    alloc: Global,
+    input: &[u64],
+    width: usize,
+    height: usize,
+) -> Vec<u64> {
+    let mut output = repeated(rt, alloc, 0, input.len());
+    transpose_slice(rt, input, &mut output, width, height);
+    output
+}
+
+/// The same through a counter, with a write an item.
+fn by_counter(
+    rt: &impl Abort,
+    alloc: Global,
+    input: &[u64],
+    width: usize,
+    height: usize,
+) -> Vec<u64> {
+    let mut output = repeated(rt, alloc, 0, input.len());
+    let mut cells = SliceCells::new(&mut output);
+    let writes = count_writes(rt, input, &mut cells, width, height);
+    same(rt, width, &writes, &(input.len() as u128));
+    output
+}
+
+/// The transpose of `input` by both, which have to agree.
 fn transposed(
     rt: &impl Abort,
     alloc: Global,
     input: &[u64],
     width: usize,
     height: usize,
-) -> Result<Vec<u64>, AllocError> {
-    let mut counted = vec![in alloc; 0u64; input.len()]?;
-    let writes = count_writes(rt, input, &mut counted, width, height);
-    assert_eq!(rt; writes, input.len() as u128, "{width} by {height}");
-    let mut output = vec![in alloc; 0u64; input.len()]?;
-    assert!(rt; fits_matrix(input.len(), output.len(), width, height));
-    transpose(input, &mut output, width, height);
-    assert_eq!(rt;
-        counted.as_slice(),
-        output.as_slice(),
-        "{width} by {height}"
-    );
-    Ok(output)
+) -> Vec<u64> {
+    let output = by_slice(rt, alloc, input, width, height);
+    let counted = by_counter(rt, alloc, input, width, height);
+    same(rt, width, &counted.as_slice(), &output.as_slice());
+    output
+}
+
+/// Asserts that the transpose of the first items has the hash `wanted`.
+fn check_hash(rt: &impl Abort, alloc: Global, width: usize, height: usize, wanted: u64) {
+    let input = items(rt, alloc, width.saturating_mul(height));
+    let output = transposed(rt, alloc, &input, width, height);
+    same(rt, width, &hash(&output), &wanted);
 }
 
 #[test]
-fn hashes_of_small_shapes(rt: HostRuntime) -> Result<(), Fail> {
+fn hashes_of_small_shapes(rt: HostRuntime) {
     for (k, wanted) in SMALL.iter().enumerate() {
         let (width, height) = (k / SMALL_SIDE + 1, k % SMALL_SIDE + 1);
-        let input = items(rt.alloc(), width.saturating_mul(height))?;
-        let output = transposed(&rt, rt.alloc(), &input, width, height)?;
-        assert_eq!(rt; hash(&output), *wanted, "{width} by {height}");
+        check_hash(&rt, rt.alloc(), width, height, *wanted);
     }
-    Ok(())
 }
 
 #[test]
-fn hashes_of_other_shapes(rt: HostRuntime) -> Result<(), Fail> {
+fn hashes_of_other_shapes(rt: HostRuntime) {
     for (width, height, wanted) in &OTHERS {
-        let input = items(rt.alloc(), width.saturating_mul(*height))?;
-        let output = transposed(&rt, rt.alloc(), &input, *width, *height)?;
-        assert_eq!(rt; hash(&output), *wanted, "{width} by {height}");
+        check_hash(&rt, rt.alloc(), *width, *height, *wanted);
     }
-    Ok(())
 }
 
 #[test]
-fn hashes_of_large_shapes(rt: HostRuntime) -> Result<(), Fail> {
+fn hashes_of_large_shapes(rt: HostRuntime) {
     for (width, height, wanted) in &LARGE {
-        let input = items(rt.alloc(), width.saturating_mul(*height))?;
-        let mut output = vec![in rt.alloc(); 0u64; input.len()]?;
-        assert!(rt; fits_matrix(input.len(), output.len(), *width, *height));
-        transpose(&input, &mut output, *width, *height);
-        assert_eq!(rt; hash(&output), *wanted, "{width} by {height}");
+        let input = items(&rt, rt.alloc(), width.saturating_mul(*height));
+        let output = by_slice(&rt, rt.alloc(), &input, *width, *height);
+        same(&rt, *width, &hash(&output), wanted);
     }
-    Ok(())
 }
 
 /// Width, height, matrices and their transposes.
@@ -83,36 +113,38 @@ const EXAMPLES: [(usize, usize, &[u64], &[u64]); 3] = [
 ];
 
 #[test]
-fn worked_examples(rt: HostRuntime) -> Result<(), Fail> {
-    for (width, height, input, wanted) in &EXAMPLES {
-        let output = transposed(&rt, rt.alloc(), input, *width, *height)?;
-        assert_eq!(rt; output.as_slice(), *wanted, "{width} by {height}");
+fn worked_examples(rt: HostRuntime) {
+    for (row, (width, height, input, wanted)) in EXAMPLES.iter().enumerate() {
+        let output = transposed(&rt, rt.alloc(), input, *width, *height);
+        same(&rt, row, &output.as_slice(), wanted);
     }
-    Ok(())
 }
 
 #[test]
-fn edges_of_17_by_19(rt: HostRuntime) -> Result<(), Fail> {
-    let input: Vec<u64> = (0..323u64).collect(rt.alloc())?;
-    let output = transposed(&rt, rt.alloc(), &input, 17, 19)?;
+fn edges_of_17_by_19(rt: HostRuntime) {
+    let input = numbers(&rt, rt.alloc(), 323);
+    let output = transposed(&rt, rt.alloc(), &input, 17, 19);
     for (place, wanted) in [(1, 17), (19, 1), (304, 16), (322, 322)] {
-        assert_eq!(rt; output.get(place).copied(), Some(wanted), "at {place}");
+        same(&rt, place, &output.get(place).copied(), &Some(wanted));
     }
-    Ok(())
 }
+
+/// The lengths of two lists, widths and heights, and whether both lists have as many items as such a matrix.
+const LENGTHS: [(usize, usize, usize, usize, bool); 4] = [
+    (0, 0, 4_294_967_296, 4_294_967_296, false),
+    (0, 0, 0, usize::MAX, true),
+    (1, 0, 1, 1, false),
+    (0, 0, 9_223_372_036_854_775_808, 2, false),
+];
 
 #[test]
 fn products_that_wrap_do_not_fit(rt: HostRuntime) {
-    for (input, output, width, height, wanted) in [
-        (0, 0, 4_294_967_296, 4_294_967_296, false),
-        (0, 0, 0, usize::MAX, true),
-        (1, 0, 1, 1, false),
-        (0, 0, 9_223_372_036_854_775_808, 2, false),
-    ] {
-        assert_eq!(rt;
-            fits_matrix(input, output, width, height),
+    for (row, (input, output, width, height, wanted)) in LENGTHS.iter().enumerate() {
+        same(
+            &rt,
+            row,
+            &fits_matrix(*input, *output, *width, *height),
             wanted,
-            "{width} by {height}"
         );
     }
 }

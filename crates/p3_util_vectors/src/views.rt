@@ -1,37 +1,27 @@
 //! Views of arrays and moved vectors against worked examples, and the kernels over views.
 ghost use Rattle.std.specs.Prelude.{◌≤◌};
 
+use crate::checks::{copied, numbers, same};
 use crate::reverse::count_swaps_of;
+use crate::transpose::count_writes;
 use p3_util::{
     as_base_slice, as_base_slice_mut, flat_len, flatten_to_base, reconstitute_from_base,
 };
-use p3_util_kernels::places::Cells;
-use p3_util_kernels::transpose::{fits_matrix, transpose_counted};
-use std::alloc::Global;
+use std::alloc::{AllocError, Global};
 use std::process::Abort;
-use std::test::Fail;
 
-/// Writes the transpose of `input` to `cells`, and answers the number of writes.
-fn count_writes<C: Cells>(
-    rt: &impl Abort,
-    input: &[C::Item],
-    cells: &mut C,
-    width: usize,
-    height: usize,
-) -> u128 {
-    assert!(rt; fits_matrix(input.len(), cells.len(), width, height));
-    transpose_counted(input, cells, width, height)
-}
+/// Numbers of arrays and their lengths, and the number of their items.
+const LENGTHS: [(usize, usize, Option<usize>); 4] = [
+    (3, 4, Some(12)),
+    (9223372036854775808, 2, None),
+    (9223372036854775808, 1, Some(9223372036854775808)),
+    (usize::MAX, 0, Some(0)),
+];
 
 #[test]
 fn lengths(rt: HostRuntime) {
-    for (count, n, wanted) in [
-        (3, 4, Some(12)),
-        (9223372036854775808, 2, None),
-        (9223372036854775808, 1, Some(9223372036854775808)),
-        (usize::MAX, 0, Some(0)),
-    ] {
-        assert_eq!(rt; flat_len(count, n), wanted, "{count} arrays of {n}");
+    for (row, (count, n, wanted)) in LENGTHS.iter().enumerate() {
+        same(&rt, row, &flat_len(*count, *n), wanted);
     }
 }
 
@@ -39,55 +29,53 @@ fn lengths(rt: HostRuntime) {
 fn check_view<const N: usize>(rt: &impl Abort, rows: &[[u64; N]], wanted: &[u64]) {
     assert!(rt; flat_len(rows.len(), N).is_some());
     let view = as_base_slice(rows);
-    assert_eq!(rt; view.len(), wanted.len());
-    assert_eq!(rt; view.is_empty(), wanted.is_empty());
-    let mut items = view.iter();
+    same(rt, 0, &view.len(), &wanted.len());
+    same(rt, 0, &view.is_empty(), &wanted.is_empty());
     for (place, item) in wanted.iter().enumerate() {
-        assert_eq!(rt; view.get(place), Some(item));
-        assert_eq!(rt; items.next(), Some(item));
+        same(rt, place, &view.get(place).copied(), &Some(*item));
     }
-    assert_eq!(rt; items.size_hint(), (0, Some(0)));
-    assert_eq!(rt; view.get(wanted.len()), None);
+    same(rt, 0, &view.get(wanted.len()).copied(), &None);
+    assert!(rt; view.iter().eq(wanted.iter()));
 }
 
 /// The same of a view that can be written.
 fn check_view_mut<const N: usize>(rt: &impl Abort, rows: &mut [[u64; N]], wanted: &[u64]) {
     assert!(rt; flat_len(rows.len(), N).is_some());
     let mut view = as_base_slice_mut(rows);
-    assert_eq!(rt; view.len(), wanted.len());
-    assert_eq!(rt; view.is_empty(), wanted.is_empty());
+    same(rt, 0, &view.len(), &wanted.len());
+    same(rt, 0, &view.is_empty(), &wanted.is_empty());
     for (place, item) in wanted.iter().enumerate() {
-        assert_eq!(rt; view.get(place), Some(item));
+        same(rt, place, &view.get(place).copied(), &Some(*item));
     }
+    same(rt, 0, &view.get(wanted.len()).copied(), &None);
     assert!(rt; view.iter().eq(wanted.iter()));
-    assert_eq!(rt; view.get(wanted.len()), None);
     assert!(rt; view.get_mut(wanted.len()).is_none());
+}
+
+/// The same of both views.
+fn check_views<const N: usize>(rt: &impl Abort, rows: &mut [[u64; N]], wanted: &[u64]) {
+    check_view(rt, rows, wanted);
+    check_view_mut(rt, rows, wanted);
 }
 
 #[test]
 fn items_of_views(rt: HostRuntime) {
-    let mut rows = [[1, 2, 3], [4, 5, 6]];
-    check_view(&rt, &rows, &[1, 2, 3, 4, 5, 6]);
-    check_view_mut(&rt, &mut rows, &[1, 2, 3, 4, 5, 6]);
-    let mut ones = [[7], [8], [9]];
-    check_view(&rt, &ones, &[7, 8, 9]);
-    check_view_mut(&rt, &mut ones, &[7, 8, 9]);
-    let mut none: [[u64; 0]; 5] = [[]; 5];
-    check_view(&rt, &none, &[]);
-    check_view_mut(&rt, &mut none, &[]);
+    check_views(&rt, &mut [[1, 2, 3], [4, 5, 6]], &[1, 2, 3, 4, 5, 6]);
+    check_views(&rt, &mut [[7], [8], [9]], &[7, 8, 9]);
+    check_views::<0>(&rt, &mut [[], [], [], [], []], &[]);
 }
 
 /// The text of a view is that of the list of its items, and a clone has the same items. A `Debug` that writes nothing meets
 /// its contract, and fails here.
 #[test]
-fn a_view_as_text(rt: HostRuntime) -> Result<(), Fail> {
+fn a_view_as_text(rt: HostRuntime) -> Result<(), AllocError> {
     let rows = [[1u64, 2, 3], [4, 5, 6]];
     let view = as_base_slice(&rows);
     let text = format!(in rt.alloc(); "{view:?}")?;
-    assert_eq!(rt; text.as_str(), "[1, 2, 3, 4, 5, 6]");
+    same(&rt, 0, &text.as_str(), &"[1, 2, 3, 4, 5, 6]");
     let again = view.clone()?;
     assert!(rt; again.iter().eq(view.iter()));
-    assert_eq!(rt; again[4], 5);
+    same(&rt, 4, &again[4], &5);
     Ok(())
 }
 
@@ -98,61 +86,71 @@ fn a_write_through_a_view(rt: HostRuntime) {
     if let Some(item) = view.get_mut(3) {
         *item = 9;
     }
-    assert_eq!(rt; view.get(3).copied(), Some(9));
-    assert_eq!(rt; rows, [[1, 2], [3, 9]]);
+    same(&rt, 3, &view.get(3).copied(), &Some(9));
+    same(&rt, 0, &rows, &[[1, 2], [3, 9]]);
 }
 
 #[test]
 fn a_reversal_of_a_view(rt: HostRuntime) {
     let mut rows = [[0u64, 1], [2, 3], [4, 5], [6, 7]];
     let mut view = as_base_slice_mut(&mut rows);
-    assert_eq!(rt; count_swaps_of(&rt, &mut view), 2);
-    assert_eq!(rt; rows, [[0, 4], [2, 6], [1, 5], [3, 7]]);
+    same(&rt, 0, &count_swaps_of(&rt, &mut view), &2);
+    same(&rt, 0, &rows, &[[0, 4], [2, 6], [1, 5], [3, 7]]);
 }
 
 #[test]
 fn a_transpose_into_a_view(rt: HostRuntime) {
     let mut rows = [[0u64; 2]; 3];
     let mut view = as_base_slice_mut(&mut rows);
-    assert_eq!(rt; count_writes(&rt, &[1, 2, 3, 4, 5, 6], &mut view, 3, 2), 6);
-    assert_eq!(rt; rows, [[1, 4], [2, 5], [3, 6]]);
+    let writes = count_writes(&rt, &[1, 2, 3, 4, 5, 6], &mut view, 3, 2);
+    same(&rt, 0, &writes, &6);
+    same(&rt, 0, &rows, &[[1, 4], [2, 5], [3, 6]]);
+}
+
+/// `items` moved to arrays.
+fn to_rows<const N: usize>(rt: &impl Abort, alloc: Global, items: Vec<u64>) -> Vec<[u64; N]>
+    requires { 1 ≤ N }
+{
+    assert!(rt; items.len() % N == 0);
+    match reconstitute_from_base::<u64, N>(alloc, items) {
+        Ok(rows) => rows,
+        Err(_) => panic!(rt; "no room for the arrays"),
+    }
+}
+
+/// The items of `rows`, moved out of them.
+fn to_items<const N: usize>(rt: &impl Abort, alloc: Global, rows: Vec<[u64; N]>) -> Vec<u64> {
+    assert!(rt; flat_len(rows.len(), N).is_some());
+    match flatten_to_base(alloc, rows) {
+        Ok(items) => items,
+        Err(_) => panic!(rt; "no room for the items"),
+    }
 }
 
 /// Asserts that numbers from 0 on are moved to arrays, to the rows `wanted`, and back.
-fn there_and_back<const N: usize>(
-    rt: &impl Abort,
-    alloc: Global,
-    wanted: &[[u64; N]],
-) -> Result<(), Fail>
+fn there_and_back<const N: usize>(rt: &impl Abort, alloc: Global, wanted: &[[u64; N]])
     requires { 1 ≤ N }
 {
-    let count = wanted.len().saturating_mul(N) as u64;
-    let items: Vec<u64> = (0..count).collect(alloc)?;
-    assert!(rt; items.len() % N == 0);
-    let Ok(rows) = reconstitute_from_base::<u64, N>(alloc, items) else {
-        return Err(Fail::from("no room for the arrays"));
-    };
-    assert_eq!(rt; rows.as_slice(), wanted);
-    assert!(rt; flat_len(rows.len(), N).is_some());
-    let Ok(items) = flatten_to_base(alloc, rows) else {
-        return Err(Fail::from("no room for the items"));
-    };
-    assert!(rt; items.iter().copied().eq(0..count));
-    Ok(())
+    let items = numbers(rt, alloc, wanted.len().saturating_mul(N));
+    let rows = to_rows::<N>(rt, alloc, copied(rt, alloc, &items));
+    same(rt, 0, &rows.as_slice(), &wanted);
+    same(
+        rt,
+        1,
+        &to_items(rt, alloc, rows).as_slice(),
+        &items.as_slice(),
+    );
 }
 
 #[test]
-fn vectors_there_and_back(rt: HostRuntime) -> Result<(), Fail> {
-    there_and_back(&rt, rt.alloc(), &[[0, 1], [2, 3], [4, 5], [6, 7]])?;
-    there_and_back::<2>(&rt, rt.alloc(), &[])
+fn vectors_there_and_back(rt: HostRuntime) {
+    there_and_back(&rt, rt.alloc(), &[[0, 1], [2, 3], [4, 5], [6, 7]]);
+    there_and_back::<2>(&rt, rt.alloc(), &[]);
 }
 
 #[test]
-fn arrays_without_items(rt: HostRuntime) -> Result<(), Fail> {
+fn arrays_without_items(rt: HostRuntime) -> Result<(), AllocError> {
     let none: Vec<[u64; 0]> = vec![in rt.alloc(); [], [], []]?;
-    let Ok(items) = flatten_to_base(rt.alloc(), none) else {
-        return Err(Fail::from("no room for no items"));
-    };
-    assert!(rt; items.is_empty());
+    same(&rt, 0, &to_items(&rt, rt.alloc(), none).len(), &0);
     Ok(())
 }

@@ -1,39 +1,45 @@
 //! The zip of two lists of one length.
 
+use crate::checks::same;
 use p3_util::zip_eq::zip_eq;
-use std::process::Abort;
-use std::test::Fail;
 
-/// Asserts the pairs of two lists of one length, and how many are left after each.
-fn check_pairs<A: Copy + PartialEq, B: Copy + PartialEq>(
-    rt: &impl Abort,
+/// Whether the zip of two lists states the length of `wanted`, and gives these pairs; "oops" where the lists differ in length.
+fn gives<A: Copy + PartialEq, B: Copy + PartialEq>(
     first: &[A],
     second: &[B],
     wanted: &[(A, B)],
-) -> Result<(), Fail> {
-    let Ok(mut pairs) = zip_eq(first.iter().copied(), second.iter().copied(), ()) else {
-        return Err(Fail::from("the lengths agree"));
-    };
-    let mut left = wanted.len();
-    for pair in wanted {
-        assert_eq!(rt; pairs.size_hint(), (left, Some(left)));
-        assert!(rt; pairs.next() == Some(*pair));
-        left = left.saturating_sub(1);
-        assert_eq!(rt; pairs.len(), left);
-    }
-    assert!(rt; pairs.next().is_none());
-    Ok(())
+) -> Result<bool, &'static str> {
+    let pairs = zip_eq(first.iter().copied(), second.iter().copied(), "oops")?;
+    Ok(pairs.len() == wanted.len() && pairs.eq(wanted.iter().copied()))
 }
 
 #[test]
-fn pairs_by_place(rt: HostRuntime) -> Result<(), Fail> {
-    assert_eq!(rt;
-        zip_eq([1u8, 2], ['x', 'y', 'z'], "oops").err(),
-        Some("oops")
-    );
+fn pairs_by_place(rt: HostRuntime) {
     let letters = [(1, 'a'), (2, 'b'), (3, 'c')];
-    check_pairs(&rt, &[1u32, 2, 3], &['a', 'b', 'c'], &letters)?;
-    check_pairs(&rt, &[10u32, 20], &[100u32, 200], &[(10, 100), (20, 200)])?;
-    check_pairs(&rt, &[1u32, 2], &[3u32, 4], &[(1, 3), (2, 4)])?;
-    check_pairs::<u8, u8>(&rt, &[], &[], &[])
+    same(
+        &rt,
+        0,
+        &gives(&[1u8, 2], &['x', 'y', 'z'], &[]),
+        &Err("oops"),
+    );
+    same(
+        &rt,
+        1,
+        &gives(&[1u32, 2, 3], &['a', 'b', 'c'], &letters),
+        &Ok(true),
+    );
+    let hundreds = [(10, 100), (20, 200)];
+    same(
+        &rt,
+        2,
+        &gives(&[10u32, 20], &[100u32, 200], &hundreds),
+        &Ok(true),
+    );
+    same(
+        &rt,
+        3,
+        &gives(&[1u32, 2], &[3u32, 4], &[(1, 3), (2, 4)]),
+        &Ok(true),
+    );
+    same(&rt, 4, &gives::<u8, u8>(&[], &[], &[]), &Ok(true));
 }

@@ -9,7 +9,7 @@ use std::alloc::{AllocError, Global};
 use std::mem::replace;
 
 /// A call on a map.
-#[derive(Clone, Copy)]
+#[derive(Drop)]
 pub enum Call<K, V> {
     Insert(K, V),
     Get(K),
