@@ -4,10 +4,10 @@ use crate::fault::RunFault;
 use crate::program::run;
 use crate::watched::Watched;
 use std::alloc::{AllocError, Global};
+use std::fmt::Debug;
 use std::io;
 use std::io::{ErrorKind, Read, Write};
 use std::process::Abort;
-use std::test::Fail;
 
 const NOT_AN_ARRAY: &str = "error: input is not a JSON array of u64";
 
@@ -88,12 +88,57 @@ impl Write for ByteWriter {
     }
 }
 
+/// Asserts that `got` is `wanted`, in the row `row`.
+fn same<T: PartialEq + Debug>(rt: &impl Abort, row: usize, got: &T, wanted: &T) {
+    assert_eq!(rt; *got, *wanted, "in row {row}");
+}
+
 fn owned(alloc: Global, texts: &[&str]) -> Result<Vec<String>, AllocError> {
     let mut words = Vec::new(alloc);
     for text in texts {
         words.push(String::from_str(alloc, text)?)?;
     }
     Ok(words)
+}
+
+/// What a run ended with, its reader and writer, and the numbers of their failures.
+#[derive(Drop)]
+struct Outcome<R, W> {
+    result: Result<(), RunFault>,
+    reader: R,
+    writer: W,
+    failures: (u64, u64),
+}
+
+/// Runs the program on these words.
+fn outcome_of<R: Read + Drop, W: Write + Drop>(
+    alloc: Global,
+    texts: &[&str],
+    reader: R,
+    writer: W,
+) -> Result<Outcome<R, W>, AllocError> {
+    let words = owned(alloc, texts)?;
+    let mut reader = Watched::new(reader);
+    let mut writer = Watched::new(writer);
+    let result = run(alloc, words.as_slice(), &mut reader, &mut writer);
+    let failures = (reader.failures(), writer.failures());
+    Ok(Outcome {
+        result,
+        reader: reader.into_inner(),
+        writer: writer.into_inner(),
+        failures,
+    })
+}
+
+/// Asserts the text of a fault.
+fn check_text(
+    rt: &impl Abort,
+    alloc: Global,
+    fault: &RunFault,
+    text: &str,
+) -> Result<(), AllocError> {
+    same(rt, 0, &fault.to_string(alloc)?.as_str(), &text);
+    Ok(())
 }
 
 /// Asserts that a run over memory writes `output` with status 0, or that its fault has this text and status.
@@ -105,18 +150,15 @@ fn prints(
     output: &str,
     status: u8,
 ) -> Result<(), AllocError> {
-    let words = owned(alloc, texts)?;
-    let mut reader = Watched::new(input);
-    let mut writer = Watched::new(Vec::new(alloc));
-    match run(alloc, words.as_slice(), &mut reader, &mut writer) {
+    let outcome = outcome_of(alloc, texts, input, Vec::new(alloc))?;
+    match outcome.result {
         Ok(()) => {
-            assert_eq!(rt; status, 0, "{output}");
-            let written = writer.into_inner();
-            assert_eq!(rt; written.as_slice(), output.as_bytes(), "{output}");
+            same(rt, 0, &status, &0);
+            same(rt, 0, &outcome.writer.as_slice(), &output.as_bytes());
         }
         Err(fault) => {
-            assert_eq!(rt; fault.status(), status, "{output}");
-            assert_eq!(rt; fault.to_string(alloc)?.as_str(), output);
+            same(rt, 0, &fault.status(), &status);
+            check_text(rt, alloc, &fault, output)?;
         }
     }
     Ok(())
@@ -124,7 +166,7 @@ fn prints(
 
 /// A `run` that always answers that memory was refused fails here.
 #[test]
-fn reversals(rt: HostRuntime) -> Result<(), Fail> {
+fn reversals(rt: HostRuntime) -> Result<(), AllocError> {
     let alloc = rt.alloc();
     for (input, output, status) in [
         ("[10,20,30,40]", "[10,30,20,40]\n", 0),
@@ -144,63 +186,97 @@ fn reversals(rt: HostRuntime) -> Result<(), Fail> {
     Ok(())
 }
 
+/// Widths, inputs, what is printed of the reversal of their rows, and the status.
+const ROWS: [(&str, &str, &str, u8); 14] = [
+    ("2", "[0,1,2,3,4,5,6,7]", "[0,1,4,5,2,3,6,7]\n", 0),
+    ("1", "[0,1,2,3,4,5,6,7]", "[0,4,2,6,1,5,3,7]\n", 0),
+    ("8", "[0,1,2,3,4,5,6,7]", "[0,1,2,3,4,5,6,7]\n", 0),
+    (
+        "003",
+        "[0,1,2,3,4,5,6,7,8,9,10,11]",
+        "[0,1,2,6,7,8,3,4,5,9,10,11]\n",
+        0,
+    ),
+    ("0", "[]", "[]\n", 0),
+    ("18446744073709551615", "[]", "[]\n", 0),
+    (
+        "0",
+        "[1]",
+        "error: length 1 is not 0 times zero or a power of two",
+        2,
+    ),
+    (
+        "3",
+        "[1,2,3,4]",
+        "error: length 4 is not 3 times zero or a power of two",
+        2,
+    ),
+    (
+        "3",
+        "[1,2,3,4,5,6,7,8,9]",
+        "error: length 9 is not 3 times zero or a power of two",
+        2,
+    ),
+    (
+        "18446744073709551615",
+        "[0,1,2,3,4,5,6,7]",
+        "error: length 8 is not 18446744073709551615 times zero or a power of two",
+        2,
+    ),
+    ("1", "[1,", NOT_AN_ARRAY, 2),
+    ("x", "[]", UNKNOWN, 2),
+    ("", "[]", UNKNOWN, 2),
+    ("18446744073709551616", "[]", UNKNOWN, 2),
+];
+
 #[test]
-fn reversals_of_rows(rt: HostRuntime) -> Result<(), Fail> {
-    let twelve = "[0,1,2,3,4,5,6,7,8,9,10,11]";
-    let twelve_by_three = "[0,1,2,6,7,8,3,4,5,9,10,11]\n";
-    let nine = "error: length 9 is not 3 times zero or a power of two";
-    let one = "error: length 1 is not 0 times zero or a power of two";
-    let four = "error: length 4 is not 3 times zero or a power of two";
-    let eight = "error: length 8 is not 18446744073709551615 times zero or a power of two";
-    for (width, input, output, status) in [
-        ("2", "[0,1,2,3,4,5,6,7]", "[0,1,4,5,2,3,6,7]\n", 0),
-        ("1", "[0,1,2,3,4,5,6,7]", "[0,4,2,6,1,5,3,7]\n", 0),
-        ("8", "[0,1,2,3,4,5,6,7]", "[0,1,2,3,4,5,6,7]\n", 0),
-        ("003", twelve, twelve_by_three, 0),
-        ("0", "[]", "[]\n", 0),
-        ("18446744073709551615", "[]", "[]\n", 0),
-        ("0", "[1]", one, 2),
-        ("3", "[1,2,3,4]", four, 2),
-        ("3", "[1,2,3,4,5,6,7,8,9]", nine, 2),
-        ("18446744073709551615", "[0,1,2,3,4,5,6,7]", eight, 2),
-        ("1", "[1,", NOT_AN_ARRAY, 2),
-        ("x", "[]", UNKNOWN, 2),
-        ("", "[]", UNKNOWN, 2),
-        ("18446744073709551616", "[]", UNKNOWN, 2),
-    ] {
-        let words = ["revrows", width];
-        prints(&rt, rt.alloc(), &words, input.as_bytes(), output, status)?;
+fn reversals_of_rows(rt: HostRuntime) -> Result<(), AllocError> {
+    for (width, input, output, status) in &ROWS {
+        let words = ["revrows", *width];
+        prints(&rt, rt.alloc(), &words, input.as_bytes(), output, *status)?;
+    }
+    Ok(())
+}
+
+/// Widths, heights, inputs, what is printed of their transpose, and the status.
+const TRANSPOSES: [(&str, &str, &str, &str, u8); 12] = [
+    ("3", "2", "[1,2,3,4,5,6]", "[1,4,2,5,3,6]\n", 0),
+    ("0", "5", "[]", "[]\n", 0),
+    ("1", "6", "[1,2,3,4,5,6]", "[1,2,3,4,5,6]\n", 0),
+    ("007", "1", "[1,2,3,4,5,6,7]", "[1,2,3,4,5,6,7]\n", 0),
+    ("2", "2", "[1]", "error: 2 by 2 is not the length 1", 2),
+    (
+        "4294967296",
+        "4294967296",
+        "[]",
+        "error: 4294967296 by 4294967296 is not the length 0",
+        2,
+    ),
+    (
+        "18446744073709551615",
+        "2",
+        "[]",
+        "error: 18446744073709551615 by 2 is not the length 0",
+        2,
+    ),
+    ("2", "x", "[]", UNKNOWN, 2),
+    ("+1", "1", "[1]", UNKNOWN, 2),
+    ("1", "", "[]", UNKNOWN, 2),
+    ("18446744073709551616", "1", "[]", UNKNOWN, 2),
+    ("1", "1", "[1.0]", NOT_AN_ARRAY, 2),
+];
+
+#[test]
+fn transposes(rt: HostRuntime) -> Result<(), AllocError> {
+    for (width, height, input, output, status) in &TRANSPOSES {
+        let words = ["transpose", *width, *height];
+        prints(&rt, rt.alloc(), &words, input.as_bytes(), output, *status)?;
     }
     Ok(())
 }
 
 #[test]
-fn transposes(rt: HostRuntime) -> Result<(), Fail> {
-    let alloc = rt.alloc();
-    let huge = "error: 4294967296 by 4294967296 is not the length 0";
-    let longest = "error: 18446744073709551615 by 2 is not the length 0";
-    for (width, height, input, output, status) in [
-        ("3", "2", "[1,2,3,4,5,6]", "[1,4,2,5,3,6]\n", 0),
-        ("0", "5", "[]", "[]\n", 0),
-        ("1", "6", "[1,2,3,4,5,6]", "[1,2,3,4,5,6]\n", 0),
-        ("007", "1", "[1,2,3,4,5,6,7]", "[1,2,3,4,5,6,7]\n", 0),
-        ("2", "2", "[1]", "error: 2 by 2 is not the length 1", 2),
-        ("4294967296", "4294967296", "[]", huge, 2),
-        ("18446744073709551615", "2", "[]", longest, 2),
-        ("2", "x", "[]", UNKNOWN, 2),
-        ("+1", "1", "[1]", UNKNOWN, 2),
-        ("1", "", "[]", UNKNOWN, 2),
-        ("18446744073709551616", "1", "[]", UNKNOWN, 2),
-        ("1", "1", "[1.0]", NOT_AN_ARRAY, 2),
-    ] {
-        let words = ["transpose", width, height];
-        prints(&rt, alloc, &words, input.as_bytes(), output, status)?;
-    }
-    Ok(())
-}
-
-#[test]
-fn unknown_words(rt: HostRuntime) -> Result<(), Fail> {
+fn unknown_words(rt: HostRuntime) -> Result<(), AllocError> {
     let words: [&[&str]; 8] = [
         &[],
         &["revbits", "x"],
@@ -218,7 +294,7 @@ fn unknown_words(rt: HostRuntime) -> Result<(), Fail> {
 }
 
 #[test]
-fn no_arrays(rt: HostRuntime) -> Result<(), Fail> {
+fn no_arrays(rt: HostRuntime) -> Result<(), AllocError> {
     let alloc = rt.alloc();
     for input in [
         "",
@@ -242,130 +318,149 @@ fn no_arrays(rt: HostRuntime) -> Result<(), Fail> {
     Ok(())
 }
 
-#[test]
-fn a_byte_a_call(rt: HostRuntime) -> Result<(), Fail> {
-    let alloc = rt.alloc();
-    let words = owned(alloc, &["transpose", "3", "2"])?;
-    let mut reader = Watched::new(ByteReader {
-        rest: b"[1,2,3,4,5,6]",
+/// A reader of bytes that never fails.
+fn reader(rest: &[u8]) -> ByteReader<'_> {
+    ByteReader {
+        rest,
         good_reads: u8::MAX,
         failure: ErrorKind::Other,
-    });
-    let mut writer = Watched::new(ByteWriter {
+    }
+}
+
+#[test]
+fn a_byte_a_call(rt: HostRuntime) -> Result<(), AllocError> {
+    let alloc = rt.alloc();
+    let writer = ByteWriter {
         taken: Vec::new(alloc),
         good_writes: u8::MAX,
         refusal: Refusal::TakesNone,
         good_flushes: u8::MAX,
-    });
-    let result = run(alloc, words.as_slice(), &mut reader, &mut writer);
-    assert_eq!(rt; result, Ok(()));
-    let taken = writer.into_inner().taken;
-    assert_eq!(rt; taken.as_slice(), b"[1,4,2,5,3,6]\n".as_slice());
+    };
+    let words = ["transpose", "3", "2"];
+    let outcome = outcome_of(alloc, &words, reader(b"[1,2,3,4,5,6]"), writer)?;
+    same(&rt, 0, &outcome.result, &Ok(()));
+    let output = b"[1,4,2,5,3,6]\n".as_slice();
+    same(&rt, 0, &outcome.writer.taken.as_slice(), &output);
     Ok(())
 }
 
 /// The input ends at the first read of no byte, and no read follows it.
 #[test]
-fn reads_of_no_byte(rt: HostRuntime) -> Result<(), Fail> {
+fn reads_of_no_byte(rt: HostRuntime) -> Result<(), AllocError> {
     let alloc = rt.alloc();
-    let words = owned(alloc, &["revbits"])?;
-    for (rest, wanted, output) in [
-        ("[1,2]|,3,4]", Ok(()), "[1,2]\n"),
-        ("[1,2|,3,4]", Err(RunFault::NotAnArray), ""),
-        ("|[1,2,3,4]", Err(RunFault::NotAnArray), ""),
+    for (row, rest, wanted, left, output) in [
+        (0, "[1,2]|,3,4]", Ok(()), ",3,4]", "[1,2]\n"),
+        (1, "[1,2|,3,4]", Err(RunFault::NotAnArray), ",3,4]", ""),
+        (2, "|[1,2,3,4]", Err(RunFault::NotAnArray), "[1,2,3,4]", ""),
     ] {
-        let mut reader = Watched::new(ByteReader {
-            rest: rest.as_bytes(),
-            good_reads: u8::MAX,
-            failure: ErrorKind::Other,
-        });
-        let mut writer = Watched::new(Vec::new(alloc));
-        let result = run(alloc, words.as_slice(), &mut reader, &mut writer);
-        assert_eq!(rt; result, wanted, "{rest}");
-        let left = reader.into_inner().rest;
-        assert_eq!(rt;
-            Some(left),
-            rest.split_once('|').map(|parts| parts.1.as_bytes())
-        );
-        assert_eq!(rt; writer.into_inner().as_slice(), output.as_bytes(), "{rest}");
+        let outcome = outcome_of(
+            alloc,
+            &["revbits"],
+            reader(rest.as_bytes()),
+            Vec::new(alloc),
+        )?;
+        same(&rt, row, &outcome.result, &wanted);
+        same(&rt, row, &outcome.reader.rest, &left.as_bytes());
+        same(&rt, row, &outcome.writer.as_slice(), &output.as_bytes());
     }
+    Ok(())
+}
+
+/// Asserts that the first failure of a reader, after so many reads, ends the run and is counted once.
+fn check_failing_reader(
+    rt: &impl Abort,
+    alloc: Global,
+    good_reads: u8,
+    failure: ErrorKind,
+) -> Result<(), AllocError> {
+    let reader = ByteReader {
+        rest: b"[1,2]",
+        good_reads,
+        failure,
+    };
+    let outcome = outcome_of(alloc, &["revbits"], reader, Vec::new(alloc))?;
+    let row = usize::from(good_reads);
+    same(rt, row, &outcome.result, &Err(RunFault::Read));
+    same(rt, row, &outcome.failures, &(1, 0));
+    same(rt, row, &outcome.writer.len(), &0);
     Ok(())
 }
 
 /// The first failure ends the run, and is counted once, also where the next call would succeed.
 #[test]
-fn failing_readers(rt: HostRuntime) -> Result<(), Fail> {
-    let alloc = rt.alloc();
-    let words = owned(alloc, &["revbits"])?;
+fn failing_readers(rt: HostRuntime) -> Result<(), AllocError> {
     for good_reads in 0..6 {
-        for failure in [ErrorKind::Other, ErrorKind::Interrupted] {
-            let rest = b"[1,2]";
-            let mut reader = Watched::new(ByteReader {
-                rest,
-                good_reads,
-                failure,
-            });
-            let mut writer = Watched::new(Vec::new(alloc));
-            let result = run(alloc, words.as_slice(), &mut reader, &mut writer);
-            assert_eq!(rt; result, Err(RunFault::Read), "{good_reads}");
-            assert_eq!(rt; reader.failures(), 1, "{good_reads}");
-            assert!(rt; writer.into_inner().is_empty(), "{good_reads}");
-        }
+        check_failing_reader(&rt, rt.alloc(), good_reads, ErrorKind::Other)?;
+        check_failing_reader(&rt, rt.alloc(), good_reads, ErrorKind::Interrupted)?;
     }
+    Ok(())
+}
+
+/// Asserts that the first failure of a writer, after so many writes, ends the run and is counted once.
+fn check_failing_writer(
+    rt: &impl Abort,
+    alloc: Global,
+    good_writes: u8,
+    refusal: Refusal,
+) -> Result<(), AllocError> {
+    let writer = ByteWriter {
+        taken: Vec::new(alloc),
+        good_writes,
+        refusal,
+        good_flushes: 0,
+    };
+    let outcome = outcome_of(alloc, &["revbits"], b"[1,2]".as_slice(), writer)?;
+    let row = usize::from(good_writes);
+    same(rt, row, &outcome.result, &Err(RunFault::Write));
+    same(rt, row, &outcome.failures, &(0, 1));
+    same(rt, row, &outcome.writer.taken.len(), &row);
     Ok(())
 }
 
 /// The same of the writer: after its first failure nothing more is written.
 #[test]
-fn failing_writers(rt: HostRuntime) -> Result<(), Fail> {
-    let alloc = rt.alloc();
-    let words = owned(alloc, &["revbits"])?;
+fn failing_writers(rt: HostRuntime) -> Result<(), AllocError> {
     for good_writes in 0..7 {
         for refusal in [
             Refusal::Fails(ErrorKind::Other),
             Refusal::Fails(ErrorKind::Interrupted),
             Refusal::TakesNone,
         ] {
-            let mut reader = Watched::new(b"[1,2]".as_slice());
-            let mut writer = Watched::new(ByteWriter {
-                taken: Vec::new(alloc),
-                good_writes,
-                refusal,
-                good_flushes: 0,
-            });
-            let result = run(alloc, words.as_slice(), &mut reader, &mut writer);
-            assert_eq!(rt; result, Err(RunFault::Write), "{good_writes}");
-            assert_eq!(rt; writer.failures(), 1, "{good_writes}");
-            let taken = writer.into_inner().taken;
-            assert_eq!(rt; taken.len(), usize::from(good_writes));
+            check_failing_writer(&rt, rt.alloc(), good_writes, refusal)?;
         }
     }
     Ok(())
 }
 
+/// The text of a list of `count` times 1000003.
+fn long_list(alloc: Global, count: usize) -> Result<String, AllocError> {
+    let mut text = String::from_str(alloc, "[1000003")?;
+    for _ in 1..count {
+        text.push_str(",1000003")?;
+    }
+    text.push_str("]")?;
+    Ok(text)
+}
+
 /// An input of four megabytes. A `run` that refuses what is long as `Memory` fails here.
 #[test]
-fn a_long_input(rt: HostRuntime) -> Result<(), Fail> {
+fn a_long_input(rt: HostRuntime) -> Result<(), AllocError> {
     let alloc = rt.alloc();
-    let words = owned(alloc, &["revbits"])?;
-    let mut input = String::from_str(alloc, "[1000003")?;
-    for _ in 1..524_288 {
-        input.push_str(",1000003")?;
-    }
-    input.push_str("]")?;
-    let mut reader = Watched::new(input.as_bytes());
-    let mut writer = Watched::new(Vec::new(alloc));
-    let result = run(alloc, words.as_slice(), &mut reader, &mut writer);
-    assert_eq!(rt; result, Ok(()));
-    input.push_str("\n")?;
-    let written = writer.into_inner();
-    assert!(rt; written.as_slice() == input.as_bytes());
+    let mut text = long_list(alloc, 524_288)?;
+    let Outcome { result, writer, .. } = outcome_of(
+        alloc,
+        &["revbits"],
+        text.as_bytes(),
+        Vec::new(alloc),
+    )?;
+    same(&rt, 0, &result, &Ok(()));
+    text.push_str("\n")?;
+    assert!(rt; writer.as_slice() == text.as_bytes());
     Ok(())
 }
 
 #[test]
-fn fault_texts(rt: HostRuntime) -> Result<(), Fail> {
-    let alloc = rt.alloc();
+fn fault_texts(rt: HostRuntime) -> Result<(), AllocError> {
     for (fault, text) in [
         (RunFault::UnknownCommand, UNKNOWN),
         (RunFault::Read, "error: input cannot be read"),
@@ -373,7 +468,7 @@ fn fault_texts(rt: HostRuntime) -> Result<(), Fail> {
         (RunFault::Memory, "error: out of memory"),
         (RunFault::Write, "error: output cannot be written"),
     ] {
-        assert_eq!(rt; fault.to_string(alloc)?.as_str(), text);
+        check_text(&rt, rt.alloc(), &fault, text)?;
     }
     Ok(())
 }
