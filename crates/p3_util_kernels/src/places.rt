@@ -13,6 +13,7 @@ ghost use Rattle.p3_util_kernels.specs.Exchanged.{RunsExchanged};
 ghost use Rattle.p3_util_kernels.specs.Region.{IsRegionTransposed, LiesInMatrix};
 ghost use Rattle.p3_util_kernels.specs.Strided.{IsStridedPut, swap_strided};
 
+mod copies;
 mod counters;
 mod holders;
 

@@ -4,9 +4,9 @@ ghost use Rattle.std.specs.Prelude.{◌≡◌, ℕ, ◌+◌, ◌-◌, ◌*◌, �
 ghost use Rattle.std.proofs.Common.{refl, ◌∙◌};
 ghost use Rattle.p3_util_kernels.specs.Diagonal.{SwapsAcross};
 ghost use Rattle.p3_util_kernels.specs.Exchanged.{RunsExchanged};
-ghost use Rattle.p3_util_kernels.specs.Region.{IsRegionTransposed, LiesInMatrix};
-ghost use Rattle.p3_util_kernels.specs.Strided.{IsStridedPut, swap_strided};
+ghost use Rattle.p3_util_kernels.specs.Strided.{swap_strided};
 
+use crate::places::copies::copy_columns;
 use crate::places::{Cells, Places, Source};
 use crate::transpose::Region;
 use std::mem;
@@ -304,91 +304,5 @@ impl<'a, T: Copy> Source for SliceSource<'a, T> {
     #[inline(always)]
     fn copy_columns(&self, region: Region, width: usize, height: usize, values: &mut [T]) {
         copy_columns(self.slice, region, width, height, values);
-    }
-}
-
-/// Writes to `values` the transpose of `region`, a part of the matrix `items` of `height` rows of `width` items, column
-/// after column.
-#[inline(always)]
-fn copy_columns<T: Copy>(items: &[T], region: Region, width: usize, height: usize, values: &mut [T])
-    requires items_fit { length items.now ≡ width * height }
-    requires values_fit { length values.old ≡ width * height }
-    requires inside { LiesInMatrix region width height }
-    ensures { IsRegionTransposed region width height items.now values.old values.new }
-{
-    // Its contract says that the places fit a usize.
-    let _ = items.len();
-    if region.row_start < region.row_end {
-        let (row, rows) = (region.row_start, region.row_end - region.row_start);
-        for x in region.col_start..region.col_end {
-            copy_strided(
-                items,
-                row * width + x,
-                width,
-                values,
-                x * height + row,
-                rows,
-            );
-        }
-    }
-}
-
-/// How many items are copied between two tests.
-const BLOCK: usize = 8;
-
-/// Writes at `i + t` of `values` the item of `items` at `start + t * stride`, for each `t` below `len` in turn.
-#[inline(always)]
-fn copy_strided<T: Copy>(
-    items: &[T],
-    start: usize,
-    stride: usize,
-    values: &mut [T],
-    i: usize,
-    len: usize,
-)
-    requires inside { (t : ℕ) → t < len → start + t * stride < length items.now }
-    requires room { i + len ≤ length values.old }
-    ensures { IsStridedPut i start stride len items.now values.old values.new }
-{
-    for block in 0..len / BLOCK {
-        let done = block * BLOCK;
-        copy_few(
-            items,
-            start + done * stride,
-            stride,
-            values,
-            i + done,
-            BLOCK,
-        );
-    }
-    let done = len / BLOCK * BLOCK;
-    if done < len {
-        copy_few(
-            items,
-            start + done * stride,
-            stride,
-            values,
-            i + done,
-            len - done,
-        );
-    }
-}
-
-/// As [`copy_strided`], for a number of items that is small or known where the call is compiled.
-#[inline(always)]
-fn copy_few<T: Copy>(
-    items: &[T],
-    start: usize,
-    stride: usize,
-    values: &mut [T],
-    i: usize,
-    len: usize,
-)
-    requires inside { (t : ℕ) → t < len → start + t * stride < length items.now }
-    requires room { i + len ≤ length values.old }
-    ensures { IsStridedPut i start stride len items.now values.old values.new }
-{
-    for t in 0..len {
-        values[i + t] = items[start + t * stride];
     }
 }

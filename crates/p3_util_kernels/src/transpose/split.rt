@@ -16,15 +16,6 @@ const LEAF_SIDE: usize = 128;
 /// The greatest side of a part that is not halved, however long its other side is.
 const NARROW_SIDE: usize = 2;
 
-/// The greatest height of a matrix whose lines of output lie close together.
-const LOW: usize = 64;
-
-/// Rows that begin a multiple of so many items apart meet in one set of a cache, whatever the size of an item.
-const FAR: usize = 4096;
-
-/// The greatest number of such rows that are put at once in a low matrix.
-const FEW_ROWS: usize = 16;
-
 /// Puts the transpose of `region` into `out` as [`transpose_region_on`](crate::transpose::transpose_region_on) does, by
 /// halves, and returns how many splits are nested on the longest path, which is at most 57. Where both sides of the
 /// region are at most 128 or one of them is at most 2 there is no split. Else the longer side is halved, the rows where
@@ -102,27 +93,7 @@ where
 {
     // The places fit a usize, and the count a u128.
     let _places = out.len();
-    put_strips(
-        input,
-        out,
-        region,
-        rows_at_once(width, height),
-        width,
-        height,
-    );
-}
-
-/// How many rows of a matrix are put at once.
-fn rows_at_once(width: usize, height: usize) -> usize
-    ensures { 0 < result }
-{
-    if height > LOW || width % FAR != 0 {
-        STRIP_ROWS
-    } else if height < FEW_ROWS {
-        FEW_ROWS / 2
-    } else {
-        FEW_ROWS
-    }
+    put_strips(input, out, region, STRIP_ROWS, width, height);
 }
 
 /// Whether `region` is put without a split.

@@ -1,7 +1,7 @@
 use Rattle.std.proofs.Common.{◌≡◌, ◌+◌, refl, arith}
 use Rattle.std.proofs.lemmas.Nat.{mul-add-lt}
 use Rattle.p3_util_kernels.proofs.Region.{IsRegionTransposed-cols, IsRegionTransposed-line}
-use Rattle.p3_util_kernels.proofs.places.holders.copy_columns.Goals as goal
+use Rattle.p3_util_kernels.proofs.places.copies.copy_each_column.Goals as goal
 
 pub loop-x-preserved : goal.loop-x-preserved
 loop-x-preserved g c =

@@ -1,7 +1,7 @@
 use Rattle.std.proofs.Common.{◌≡◌, ◌+◌, ◌*◌, ◌<◌, length, refl, arith}
 use Rattle.std.proofs.lemmas.Option.{slice_get_read}
 use Rattle.p3_util_kernels.proofs.StridedPuts.{IsStridedPut-none, IsStridedPut-more}
-use Rattle.p3_util_kernels.proofs.places.holders.copy_few.Goals as goal
+use Rattle.p3_util_kernels.proofs.places.copies.copy_few.Goals as goal
 
 pub loop-t-init : goal.loop-t-init
 loop-t-init g c = IsStridedPut-none _ _ _ _ _

@@ -1,6 +1,6 @@
 use Rattle.std.proofs.Common.{◌≡◌, ◌+◌, ◌-◌, ◌*◌, ◌/◌, arith}
 use Rattle.p3_util_kernels.proofs.StridedPuts.{IsStridedPut-none, IsStridedPut-join}
-use Rattle.p3_util_kernels.proofs.places.holders.copy_strided.Goals as goal
+use Rattle.p3_util_kernels.proofs.places.copies.copy_strided.Goals as goal
 
 pub loop-block-init : goal.loop-block-init
 loop-block-init g c = IsStridedPut-none _ _ _ _ _
