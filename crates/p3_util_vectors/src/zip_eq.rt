@@ -1,45 +1,42 @@
-//! The zip of two lists of one length.
+//! The zip of two lists of one length, by way of its caller.
 
+use crate::callers::zip_eq::{PairError, weighted};
 use crate::checks::same;
-use p3_util::zip_eq::zip_eq;
+use std::alloc::Global;
+use std::process::Abort;
 
-/// Whether the zip of two lists states the length of `wanted`, and gives these pairs; "oops" where the lists differ in length.
-fn gives<A: Copy + PartialEq, B: Copy + PartialEq>(
-    first: &[A],
-    second: &[B],
-    wanted: &[(A, B)],
-) -> Result<bool, &'static str> {
-    let pairs = zip_eq(first.iter().copied(), second.iter().copied(), "oops")?;
-    Ok(pairs.len() == wanted.len() && pairs.eq(wanted.iter().copied()))
+/// Two lists, and their pairs by place where the lists have one length.
+const EXAMPLES: [(&[u32], &[u16], Option<&[(u32, u16)]>); 5] = [
+    (&[1, 2], &[120, 121, 122], None),
+    (
+        &[1, 2, 3],
+        &[97, 98, 99],
+        Some(&[(1, 97), (2, 98), (3, 99)]),
+    ),
+    (&[10, 20], &[100, 200], Some(&[(10, 100), (20, 200)])),
+    (&[1, 2], &[3, 4], Some(&[(1, 3), (2, 4)])),
+    (&[], &[], Some(&[])),
+];
+
+/// Asserts the pairs of two lists, or the error where there are none.
+fn check_pairs(
+    rt: &impl Abort,
+    alloc: Global,
+    first: &[u32],
+    second: &[u16],
+    wanted: &Option<&[(u32, u16)]>,
+) {
+    match (weighted(alloc, first, second), wanted) {
+        (Ok(pairs), Some(wanted)) => same(rt, first.len(), &pairs.as_slice(), wanted),
+        (Err(error), None) => same(rt, first.len(), &error, &PairError::Unequal),
+        (Ok(_), None) => panic!(rt; "pairs of lists of two lengths"),
+        (Err(_), Some(_)) => panic!(rt; "no pairs of {first:?}"),
+    }
 }
 
 #[test]
 fn pairs_by_place(rt: HostRuntime) {
-    let letters = [(1, 'a'), (2, 'b'), (3, 'c')];
-    same(
-        &rt,
-        0,
-        &gives(&[1u8, 2], &['x', 'y', 'z'], &[]),
-        &Err("oops"),
-    );
-    same(
-        &rt,
-        1,
-        &gives(&[1u32, 2, 3], &['a', 'b', 'c'], &letters),
-        &Ok(true),
-    );
-    let hundreds = [(10, 100), (20, 200)];
-    same(
-        &rt,
-        2,
-        &gives(&[10u32, 20], &[100u32, 200], &hundreds),
-        &Ok(true),
-    );
-    same(
-        &rt,
-        3,
-        &gives(&[1u32, 2], &[3u32, 4], &[(1, 3), (2, 4)]),
-        &Ok(true),
-    );
-    same(&rt, 4, &gives::<u8, u8>(&[], &[], &[]), &Ok(true));
+    for (first, second, wanted) in &EXAMPLES {
+        check_pairs(&rt, rt.alloc(), first, second, wanted);
+    }
 }
