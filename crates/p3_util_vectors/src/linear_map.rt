@@ -190,18 +190,28 @@ fn counted_key(drops: &Cell<usize>) -> Owner<'_> {
     Owner { number: 1, drops }
 }
 
+/// Inserts a key that counts its drops, and returns whether there was room.
+fn insert_key<'a>(map: &mut LinearMap<Owner<'a>, u32>, drops: &'a Cell<usize>) -> bool {
+    map.insert(counted_key(drops), 10).is_ok()
+}
+
+/// The same by `get_or_insert_with`.
+fn lend_key<'a>(map: &mut LinearMap<Owner<'a>, u32>, drops: &'a Cell<usize>) -> bool {
+    map.get_or_insert_with(counted_key(drops), || 30).is_ok()
+}
+
 /// The key of a known pair is dropped by the call that gives it, and the stored one with the map.
 #[test]
 fn drops_known_keys(rt: HostRuntime) {
     let drops = Cell::new(0);
     let mut map = LinearMap::new(rt.alloc());
-    if map.insert(counted_key(&drops), 10u32).is_err() {
+    if !insert_key(&mut map, &drops) {
         return;
     }
     same(&rt, 0, &drops.get(), &0);
-    assert!(rt; map.insert(counted_key(&drops), 20).is_ok());
+    assert!(rt; insert_key(&mut map, &drops));
     same(&rt, 1, &drops.get(), &1);
-    assert!(rt; map.get_or_insert_with(counted_key(&drops), || 30).is_ok());
+    assert!(rt; lend_key(&mut map, &drops));
     same(&rt, 2, &drops.get(), &2);
     drop(map);
     same(&rt, 3, &drops.get(), &3);

@@ -21,6 +21,14 @@ pub struct Noted {
     pub notes: Vec<Note>,
 }
 
+/// The places of an exchange.
+pub(crate) fn exchange_of(rt: &impl Abort, note: &Note) -> (usize, usize) {
+    match note {
+        Note::Exchange(first, second) => (*first, *second),
+        Note::Put(_) => panic!(rt; "a write"),
+    }
+}
+
 impl Noted {
     /// The numbers from 0 to below `count`, with room for so many notes.
     pub(crate) fn numbered(rt: &impl Abort, alloc: Global, count: usize, room: usize) -> Self {

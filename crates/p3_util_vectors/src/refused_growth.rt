@@ -134,13 +134,34 @@ impl Eq for Spelling {
     ghost laws = { Prim.search (comparing, rules) };
 }
 
-/// Asserts that a key goes into a map, or comes back, with its value 3, from one that is as before.
+/// What `insert` answers under a spelling, or the spelling and the value that it hands back.
+fn spelled(
+    map: &mut LinearMap<Spelling, u32>,
+    name: &'static str,
+    value: u32,
+) -> Result<Option<u32>, (&'static str, u32)> {
+    match map.insert(Spelling(name), value) {
+        Ok(old) => Ok(old),
+        Err(NoRoom { given }) => Err((given.0.0, given.1)),
+    }
+}
+
+/// Asserts that a key goes into a map, or comes back with its value from one that has as many pairs as before.
 fn insert_spelling(rt: &impl Abort, map: &mut LinearMap<Spelling, u32>, name: &'static str) {
     let before = map.len();
-    if let Err(NoRoom { given }) = map.insert(Spelling(name), 3) {
-        same(rt, before, &given.0.0, &name);
-        same(rt, before, &given.1, &3);
-        same(rt, before, &map.len(), &before);
+    match spelled(map, name, 3) {
+        Ok(old) => same(rt, before, &old, &None),
+        Err(given) => {
+            same(rt, before, &given, &(name, 3));
+            same(rt, before, &map.len(), &before);
+        }
+    }
+}
+
+fn first_key(map: &LinearMap<Spelling, u32>) -> &'static str {
+    match map.keys().next() {
+        Some(key) => key.0,
+        None => "",
     }
 }
 
@@ -149,19 +170,16 @@ fn insert_spelling(rt: &impl Abort, map: &mut LinearMap<Spelling, u32>, name: &'
 #[test]
 fn spellings(rt: HostRuntime) {
     let mut map = LinearMap::new(rt.alloc());
-    if map.insert(Spelling("Key"), 1u32).is_err() {
+    if spelled(&mut map, "Key", 1).is_err() {
         return;
     }
-    same(&rt, 0, &map.insert(Spelling("KEY"), 2).ok(), &Some(Some(1)));
+    same(&rt, 0, &spelled(&mut map, "KEY", 2), &Ok(Some(1)));
     same(&rt, 0, &map.len(), &1);
     for name in ["a", "b", "c", "d", "e", "f", "g", "h"] {
         insert_spelling(&rt, &mut map, name);
     }
     same(&rt, 0, &map.get(&Spelling("kEy")).copied(), &Some(2));
-    match map.keys().next() {
-        Some(key) => same(&rt, 0, &key.0, &"Key"),
-        None => panic!(rt; "the map has no key"),
-    }
+    same(&rt, 0, &first_key(&map), &"Key");
 }
 
 /// A map of an owner for each of these counters, and in `taken` how many owners it was given.

@@ -307,18 +307,30 @@ fn each_write_is_one_put(rt: HostRuntime) {
     }
 }
 
+/// Puts two numbers at place 2 of four through a counter, and returns the number of writes.
+fn put_twice<C: Cells<Item = u64>>(rt: &impl Abort, cells: &mut C) -> u128 {
+    let mut m = Writes::new(cells);
+    assert!(rt; m.len() == 4);
+    m.put(2, 7);
+    m.put(2, 9);
+    let count = m.writes();
+    let _ = m.into_inner();
+    count
+}
+
+/// Puts a line of two numbers at the front of four.
+fn put_line<C: Cells<Item = u64> + Drop>(rt: &impl Abort, mut cells: C) {
+    assert!(rt; cells.len() == 4);
+    Cells::put_strided(&mut cells, 0, &SliceSource::new(&[5, 6]), 0, 1, 2);
+}
+
 /// Each put asks its holder for one put, also through a reference, and where an item is put twice at one place. So does
 /// each item of a line.
 #[test]
 fn one_put_a_write(rt: HostRuntime) {
     let mut noted = Noted::numbered(&rt, rt.alloc(), 4, 8);
-    let mut m = Writes::new(&mut noted);
-    assert!(rt; m.len() == 4);
-    m.put(2, 7);
-    m.put(2, 9);
-    same(&rt, 0, &m.writes(), &2);
-    let mut cells = m.into_inner();
-    Cells::put_strided(&mut cells, 0, &SliceSource::new(&[5, 6]), 0, 1, 2);
+    same(&rt, 0, &put_twice(&rt, &mut noted), &2);
+    put_line(&rt, &mut noted);
     same(&rt, 0, &noted.items.as_slice(), &[5, 6, 9, 3].as_slice());
     let wanted = [Note::Put(2), Note::Put(2), Note::Put(0), Note::Put(1)];
     same(&rt, 0, &noted.notes.as_slice(), &wanted.as_slice());

@@ -1,6 +1,6 @@
 //! The paths of bit reversal: what they leave, their numbers of swaps, and the order of the long path's exchanges.
 
-use super::noted::{Note, Noted};
+use super::noted::{Noted, exchange_of};
 use crate::checks::{numbers, same};
 use p3_util_kernels::bits::checked_log_size_sum;
 use p3_util_kernels::places::{Places, SlicePlaces, Swaps};
@@ -180,9 +180,7 @@ fn long_path_in_order(rt: HostRuntime) {
     let notes = m.into_inner().notes;
     same(&rt, 0, &notes.len(), &22464);
     for (k, note) in notes.iter().enumerate() {
-        let Note::Exchange(first, second) = *note else {
-            panic!(rt; "a write at {k}");
-        };
+        let (first, second) = exchange_of(&rt, note);
         let wanted = if (7168..15296).contains(&k) {
             Kind::Diagonal
         } else {

@@ -1,6 +1,6 @@
 //! Squares transposed in place.
 
-use super::noted::{Note, Noted};
+use super::noted::{Note, Noted, exchange_of};
 use crate::checks::{numbers, same};
 use p3_util_kernels::places::{Places, SlicePlaces, Swaps};
 use p3_util_kernels::transpose::transpose_square_on;
@@ -84,43 +84,51 @@ fn whole_squares(rt: HostRuntime) {
     }
 }
 
+/// Transposes a square of `noted` by way of a reference, and returns the number of exchanges.
+fn count_exchanges(rt: &impl Abort, noted: &mut Noted, log_stride: usize, log_size: usize) -> u128 {
+    let mut m = Swaps::new(noted);
+    let count = transpose(rt, &mut m, 0, log_stride, log_size);
+    let _ = m.into_inner();
+    count
+}
+
 /// 28 exchanges within the upper left quadrant, 64 across the diagonal, 28 within the lower right quadrant. The counter is
 /// over a reference to the list, so that both make the same calls.
 #[test]
 fn quadrants_in_order(rt: HostRuntime) {
     let mut noted = Noted::numbered(&rt, rt.alloc(), 256, 256);
-    let mut m = Swaps::new(&mut noted);
-    same(&rt, 0, &transpose(&rt, &mut m, 0, 4, 4), &120);
-    let _ = m.into_inner();
+    same(&rt, 0, &count_exchanges(&rt, &mut noted, 4, 4), &120);
     same(&rt, 0, &noted.notes.len(), &120);
     for (k, note) in noted.notes.iter().enumerate() {
-        let Note::Exchange(first, second) = *note else {
-            panic!(rt; "a write at {k}");
-        };
+        let (first, second) = exchange_of(&rt, note);
         let (row, column) = (first / 16, first % 16);
         same(&rt, k, &second, &(column * 16 + row));
-        let below = usize::from(row < 8) + usize::from(column < 8);
-        let wanted = if k < 28 {
-            2
-        } else if k < 28 + 64 {
-            1
-        } else {
-            0
-        };
-        same(&rt, k, &below, &wanted);
+        let wanted = (k < 28 + 64, k < 28);
+        same(
+            &rt,
+            k,
+            &(row < 8 || column < 8, row < 8 && column < 8),
+            &wanted,
+        );
     }
+}
+
+/// Exchanges place 2 with itself and place 0 with place 3 of four, and returns the number of exchanges.
+fn swap_twice<S: Places>(rt: &impl Abort, places: &mut S) -> u128 {
+    let mut m = Swaps::new(places);
+    assert!(rt; m.len() == 4);
+    m.swap(2, 2);
+    m.swap(0, 3);
+    let count = m.swaps();
+    let _ = m.into_inner();
+    count
 }
 
 /// Each swap asks its holder for one exchange, also through a reference, and where both places are one.
 #[test]
 fn one_exchange_a_swap(rt: HostRuntime) {
     let mut noted = Noted::numbered(&rt, rt.alloc(), 4, 4);
-    let mut m = Swaps::new(&mut noted);
-    assert!(rt; m.len() == 4);
-    m.swap(2, 2);
-    m.swap(0, 3);
-    same(&rt, 0, &m.swaps(), &2);
-    let _ = m.into_inner();
+    same(&rt, 0, &swap_twice(&rt, &mut noted), &2);
     let wanted = [Note::Exchange(2, 2), Note::Exchange(0, 3)];
     same(&rt, 0, &noted.notes.as_slice(), &wanted.as_slice());
 }
