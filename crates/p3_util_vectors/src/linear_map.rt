@@ -56,6 +56,14 @@ fn check_pairs<K: Eq + Debug, V: PartialEq + Debug>(
     assert!(rt; map.into_iter().eq(pairs.iter()));
     check_keys(rt, map, pairs);
     check_values(rt, map, pairs);
+    check_index(rt, map, pairs);
+}
+
+fn check_index<K: Eq, V: PartialEq + Debug>(
+    rt: &impl Abort,
+    map: &LinearMap<K, V>,
+    pairs: &[(K, V)],
+) {
     for (place, (key, value)) in pairs.iter().enumerate() {
         assert!(rt; map.get(key).is_some());
         same(rt, place, &map[key], value);

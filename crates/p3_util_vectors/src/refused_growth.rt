@@ -354,6 +354,17 @@ impl ArrayElement for NoTwo {
     }
 }
 
+/// Asserts that a list of two pairs was written so.
+fn check_written(rt: &impl Abort, alloc: Global, value: &Value) {
+    let Some(pairs) = value.as_array() else {
+        panic!(rt; "the list was not written as one");
+    };
+    same(rt, 0, &pairs.len(), &2);
+    for (pair, wanted) in pairs.iter().zip([[1u32, 2], [3, 4]]) {
+        same(rt, 1, &deserialize(alloc, pair), &Ok(wanted));
+    }
+}
+
 /// A refused growth of the list, or of one of its elements, refuses the whole.
 #[test]
 fn written_arrays(rt: HostRuntime) {
@@ -366,13 +377,7 @@ fn written_arrays(rt: HostRuntime) {
         );
     }
     if let Ok(value) = serialize(rt.alloc(), &[Two(1, 2), Two(3, 4)]) {
-        let Some(pairs) = value.as_array() else {
-            panic!(rt; "the list was not written as one");
-        };
-        same(&rt, 1, &pairs.len(), &2);
-        for (pair, wanted) in pairs.iter().zip([[1u32, 2], [3, 4]]) {
-            same(&rt, 2, &deserialize(rt.alloc(), pair), &Ok(wanted));
-        }
+        check_written(&rt, rt.alloc(), &value);
     }
 }
 

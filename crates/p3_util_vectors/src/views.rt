@@ -44,18 +44,24 @@ fn check_view_mut<const N: usize>(rt: &impl Abort, rows: &mut [[u64; N]], wanted
     let mut view = as_base_slice_mut(rows);
     same(rt, 0, &view.len(), &wanted.len());
     same(rt, 0, &view.is_empty(), &wanted.is_empty());
+    assert!(rt; view.iter().eq(wanted.iter()));
+    assert!(rt; view.get_mut(wanted.len()).is_none());
+}
+
+fn check_places_mut<const N: usize>(rt: &impl Abort, rows: &mut [[u64; N]], wanted: &[u64]) {
+    assert!(rt; flat_len(rows.len(), N).is_some());
+    let view = as_base_slice_mut(rows);
     for (place, item) in wanted.iter().enumerate() {
         same(rt, place, &view.get(place).copied(), &Some(*item));
     }
     same(rt, 0, &view.get(wanted.len()).copied(), &None);
-    assert!(rt; view.iter().eq(wanted.iter()));
-    assert!(rt; view.get_mut(wanted.len()).is_none());
 }
 
 /// The same of both views.
 fn check_views<const N: usize>(rt: &impl Abort, rows: &mut [[u64; N]], wanted: &[u64]) {
     check_view(rt, rows, wanted);
     check_view_mut(rt, rows, wanted);
+    check_places_mut(rt, rows, wanted);
 }
 
 #[test]
