@@ -151,8 +151,8 @@ fn rows_at_once(size: usize, width: usize, height: usize) -> usize
     }
 }
 
-/// As [`copy_columns`], by strips of few rows, so that the rows of a strip stay in the cache from one column to the next. The
-/// items have `size` bytes.
+/// As [`copy_columns`], by strips of few rows, so that the rows of a strip stay in the cache from one column to the next.
+/// The items have `size` bytes.
 #[inline(always)]
 fn copy_strips<T: Copy>(
     items: &[T],
