@@ -1,6 +1,6 @@
 //! Plain copies: the transpose of a region, column after column.
 
-ghost use Rattle.std.specs.Prelude.{◌≡◌, ◌<◌};
+ghost use Rattle.std.specs.Prelude.{◌≡◌};
 ghost use Rattle.p3_util_kernels.specs.Ready.{IsReady};
 ghost use Rattle.p3_util_kernels.specs.Region.{IsRegionTransposed, LiesInMatrix, items_of};
 ghost use Rattle.p3_util_kernels.specs.Steps.{counted};
@@ -9,22 +9,14 @@ use crate::places::{Cells, Source, Writes};
 use crate::transpose::Region;
 
 /// The greatest number of rows that are put at once.
-pub const STRIP_ROWS: usize = 128;
+const STRIP_ROWS: usize = 128;
 
-/// Puts `region` by strips of `rows` rows, so that the rows of a strip stay in the cache from one column to the next.
+/// Puts `region` by strips of 128 rows, so that the rows of a strip stay in the cache from one column to the next.
 #[inline(always)]
-pub fn put_strips<R, C>(
-    input: &R,
-    out: &mut Writes<C>,
-    region: Region,
-    rows: usize,
-    width: usize,
-    height: usize,
-)
+pub fn put_strips<R, C>(input: &R, out: &mut Writes<C>, region: Region, width: usize, height: usize)
 where
     C: Cells,
     R: Source<Item = C::Item>,
-    requires some { 0 < rows }
     requires ready { IsReady width height (R.items input.now) (C.items out.old.holder) out.old.count }
     requires inside { LiesInMatrix region width height }
     ensures transposed { IsRegionTransposed region width height (R.items input.now)
@@ -34,7 +26,7 @@ where
 {
     let mut row = region.row_start;
     while row < region.row_end {
-        let end = region.row_end.min(row.saturating_add(rows));
+        let end = region.row_end.min(row.saturating_add(STRIP_ROWS));
         let strip = Region {
             row_start: row,
             row_end: end,

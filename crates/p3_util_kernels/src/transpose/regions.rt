@@ -7,7 +7,7 @@ ghost use Rattle.p3_util_kernels.specs.Steps.{counted};
 
 use crate::places::{Cells, Source, Writes};
 use crate::transpose::Region;
-use crate::transpose::columns::{STRIP_ROWS, put_strips};
+use crate::transpose::columns::put_strips;
 use crate::transpose::tile::{TILE_SIDE, TileForm, put_tiles};
 
 /// The greatest height of a low matrix.
@@ -36,7 +36,7 @@ where
         if width % TILE_SIDE == 0 && height / TILE_SIDE < width {
             put_tiles_and_edges(input, out, region, width, height);
         } else {
-            put_strips(input, out, region, STRIP_ROWS, width, height);
+            put_strips(input, out, region, width, height);
         }
     }
 }
@@ -100,7 +100,7 @@ where
         ..lower
     };
     put_tiles(input, out, tiles, form, width, height);
-    put_strips(input, out, right, STRIP_ROWS, width, height);
-    put_strips(input, out, below, STRIP_ROWS, width, height);
-    put_strips(input, out, corner, STRIP_ROWS, width, height);
+    put_strips(input, out, right, width, height);
+    put_strips(input, out, below, width, height);
+    put_strips(input, out, corner, width, height);
 }

@@ -8,7 +8,7 @@ ghost use Rattle.p3_util_kernels.specs.Steps.{counted};
 
 use crate::places::{Cells, SliceSource, Source, Writes};
 use crate::transpose::Region;
-use crate::transpose::columns::{STRIP_ROWS, put_strips};
+use crate::transpose::columns::put_strips;
 
 /// The greatest side of a part that is not halved where its other side is no longer.
 const LEAF_SIDE: usize = 128;
@@ -93,7 +93,7 @@ where
 {
     // The places fit a usize, and the count a u128.
     let _places = out.len();
-    put_strips(input, out, region, STRIP_ROWS, width, height);
+    put_strips(input, out, region, width, height);
 }
 
 /// Whether `region` is put without a split.
