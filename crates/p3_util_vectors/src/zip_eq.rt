@@ -1,42 +1,39 @@
-//! The zip of two lists of one length, by way of its caller.
+//! The zip of two lists of one length.
 
-use crate::callers::zip_eq::{PairError, weighted};
-use crate::checks::same;
-use std::alloc::Global;
+use p3_util::zip_eq::zip_eq;
 use std::process::Abort;
+use std::test::Fail;
 
-/// Two lists, and their pairs by place where the lists have one length.
-const EXAMPLES: [(&[u32], &[u16], Option<&[(u32, u16)]>); 5] = [
-    (&[1, 2], &[120, 121, 122], None),
-    (
-        &[1, 2, 3],
-        &[97, 98, 99],
-        Some(&[(1, 97), (2, 98), (3, 99)]),
-    ),
-    (&[10, 20], &[100, 200], Some(&[(10, 100), (20, 200)])),
-    (&[1, 2], &[3, 4], Some(&[(1, 3), (2, 4)])),
-    (&[], &[], Some(&[])),
-];
-
-/// Asserts the pairs of two lists, or the error where there are none.
-fn check_pairs(
+/// Asserts the pairs of two lists of one length, and how many are left after each.
+fn check_pairs<A: Copy + PartialEq, B: Copy + PartialEq>(
     rt: &impl Abort,
-    alloc: Global,
-    first: &[u32],
-    second: &[u16],
-    wanted: &Option<&[(u32, u16)]>,
-) {
-    match (weighted(alloc, first, second), wanted) {
-        (Ok(pairs), Some(wanted)) => same(rt, first.len(), &pairs.as_slice(), wanted),
-        (Err(error), None) => same(rt, first.len(), &error, &PairError::Unequal),
-        (Ok(_), None) => panic!(rt; "pairs of lists of two lengths"),
-        (Err(_), Some(_)) => panic!(rt; "no pairs of {first:?}"),
+    first: &[A],
+    second: &[B],
+    wanted: &[(A, B)],
+) -> Result<(), Fail> {
+    let Ok(mut pairs) = zip_eq(first.iter().copied(), second.iter().copied(), ()) else {
+        return Err(Fail::from("the lengths agree"));
+    };
+    let mut left = wanted.len();
+    for pair in wanted {
+        assert_eq!(rt; pairs.size_hint(), (left, Some(left)));
+        assert!(rt; pairs.next() == Some(*pair));
+        left = left.saturating_sub(1);
+        assert_eq!(rt; pairs.len(), left);
     }
+    assert!(rt; pairs.next().is_none());
+    Ok(())
 }
 
 #[test]
-fn pairs_by_place(rt: HostRuntime) {
-    for (first, second, wanted) in &EXAMPLES {
-        check_pairs(&rt, rt.alloc(), first, second, wanted);
-    }
+fn pairs_by_place(rt: HostRuntime) -> Result<(), Fail> {
+    assert_eq!(rt;
+        zip_eq([1u8, 2], ['x', 'y', 'z'], "oops").err(),
+        Some("oops")
+    );
+    let letters = [(1, 'a'), (2, 'b'), (3, 'c')];
+    check_pairs(&rt, &[1u32, 2, 3], &['a', 'b', 'c'], &letters)?;
+    check_pairs(&rt, &[10u32, 20], &[100u32, 200], &[(10, 100), (20, 200)])?;
+    check_pairs(&rt, &[1u32, 2], &[3u32, 4], &[(1, 3), (2, 4)])?;
+    check_pairs::<u8, u8>(&rt, &[], &[], &[])
 }
