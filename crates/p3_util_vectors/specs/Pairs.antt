@@ -1,6 +1,6 @@
 -- A JSON list of two numbers as one element of a test's own.
 use Rattle.std.specs.Prelude.{ℕ, Result, Ok, Err}
-use Rattle.serde_json.specs.Data.{Data, null, boolean, number, string, array, object, unsigned, negative, float, Items, no_items, item}
+use Rattle.serde_json.specs.Data.{Data, number, array, unsigned, Items, no_items, item}
 use Rattle.p3_util.specs.JsonArray.{Refusal, wrong_kind}
 
 module _ {T : Type 0} (make : ℕ → ℕ → T) where

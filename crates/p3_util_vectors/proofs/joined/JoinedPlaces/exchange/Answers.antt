@@ -1,4 +1,3 @@
-use Rattle.std.proofs.Common.{ap, sym, ◌++◌, ◌∙◌}
 use Rattle.p3_util_vectors.proofs.TwoLists.{in-back, in-both, in-both-turned, in-front}
 use Rattle.p3_util_vectors.proofs.joined.JoinedPlaces.exchange.Goals as goal
 
