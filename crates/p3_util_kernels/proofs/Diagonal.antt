@@ -1,5 +1,5 @@
 -- Blocks of a square exchanged across its diagonal, one after another.
-use Rattle.std.proofs.Common.{◌≡◌, ℕ, zero, suc, ◌+◌, ◌-◌, ◌*◌, ◌/◌, ◌%◌, ◌^◌, ◌<◌, ◌≤◌, min, max, List, length, inl, inr, refl, ◌∙◌, arith}
+use Rattle.std.proofs.Common.{◌≡◌, ℕ, zero, suc, ◌+◌, ◌-◌, ◌*◌, ◌/◌, ◌%◌, ◌^◌, ◌<◌, ◌≤◌, ◌++◌, min, max, List, length, length-append, get_or, set, inl, inr, refl, ◌∙◌, arith}
 use Rattle.std.specs.List.{swap}
 use Rattle.std.proofs.lemmas.Bool.{cases_eq, cases_lt}
 use Rattle.std.proofs.lemmas.Nat.{same_from_place, pow_pos, mod_below, div-add-mod'}
@@ -9,7 +9,7 @@ use Rattle.std.proofs.Math.Pow.{pow_mono}
 use Rattle.p3_util_kernels.specs.Diagonal.{IsInBlock, SwapsAcross}
 use Rattle.p3_util_kernels.specs.Square.{IsSquareTransposed}
 use Rattle.p3_util_kernels.specs.Strided.{swap_strided}
-use Rattle.p3_util_kernels.proofs.Strided.{length-swap_strided}
+use Rattle.p3_util_kernels.proofs.Strided.{length-swap_strided, swap-across}
 use Rattle.p3_util_kernels.proofs.Exchange.{slice_get-swap_first, slice_get-swap_second, slice_get-swap_other}
 
 -- the rows of a block are above its line
@@ -17,6 +17,19 @@ pub above-line : (base stride row rows line t : ℕ) → row + rows ≤ line →
     → base + row * stride + line + t * stride < base + line * stride + row
 above-line base stride row rows line t above within h =
     let below : (row + t + 1) * stride ≤ line * stride = mul-le-mul_right stride (omega arith) in
+    omega arith
+
+-- A row of a block lies before the first row of the lower block, and its mirror image from there on.
+pub in-front : (base stride line col cols t : ℕ) → line < col → col + cols ≤ stride → t < cols
+    → base + line * stride + col + t < base + col * stride
+in-front base stride line col cols t above within h =
+    let below : (line + 1) * stride ≤ col * stride = mul-le-mul_right stride (omega arith) in
+    omega arith
+
+pub in-back : (stride line col cols t room : ℕ) → line < col → t < cols → (cols - 1) * stride + col < room
+    → line + t * stride < room
+in-back stride line col cols t room above h fits =
+    let lines : t * stride ≤ (cols - 1) * stride = mul-le-mul_right stride (omega arith) in
     omega arith
 
 module _ {A : Type 0} (base stride : ℕ) where
@@ -143,6 +156,24 @@ module _ {A : Type 0} (base stride : ℕ) where
       let inside : base + line * stride + line < length ys = omega (arith, before.same_length) in
       SwapsAcross-cols row (row + rows) col line (line + 1) xs ys zs from (omega arith) before
       (rw step (SwapsAcross-strided row line rows ys (omega arith) (omega arith) inside))
+
+  -- one more item of a row of a block, in two lists of which the second begins with the lower block
+  pub SwapsAcross-item : (line col cols t : ℕ) (xs front back : List A) (x y : A) → line < col → col + cols ≤ stride → t < cols
+      → length front ≡ base + col * stride → (cols - 1) * stride + col < length back
+      → x ≡ get_or front (base + line * stride + col + t) x → y ≡ get_or back (line + t * stride) y
+      → SwapsAcross base stride line (line + 1) col (col + t) xs (front ++ back)
+      → SwapsAcross base stride line (line + 1) col (col + (t + 1)) xs
+      (set front (base + line * stride + col + t) y ++ set back (line + t * stride) x)
+  SwapsAcross-item line col cols t xs front back x y above within h cut room xe ye before =
+      let upper : base + line * stride + col + t < base + col * stride = in-front base stride line col cols t above within h in
+      let lower : line + t * stride < length back = in-back stride line col cols t (length back) above h room in
+      let first : base + line * stride + (col + t) ≡ base + line * stride + col + t = omega arith in
+      let second : base + (col + t) * stride + line ≡ length front + (line + t * stride) = omega arith in
+      let all : length (front ++ back) ≡ length front + length back = length-append front back in
+      let end : col + (t + 1) ≡ col + t + 1 = omega arith in
+      let step = SwapsAcross-swap line (col + t) (front ++ back) (omega arith) (omega arith) (omega arith) (omega arith) in
+      rw (end, ← swap-across front back (base + line * stride + col + t) (line + t * stride) x y (omega arith) lower xe ye, ← first, ← second)
+      (SwapsAcross-cols line (line + 1) col (col + t) (col + t + 1) _ _ _ (omega arith) (omega arith) before step)
 
   -- the upper left quadrant, the upper right one with its mirror image, and the lower right one make the square
   pub SwapsAcross-quadrants : (start mid end : ℕ) (xs ys zs ws : List A) → start ≤ mid → mid ≤ end

@@ -207,9 +207,64 @@ fn swap_across<F>(
 {
     // Its contract says that the length is a usize.
     let _ = items.len();
-    for line in col..col + cols {
-        let (column, start) = (base + row * stride + line, base + line * stride + row);
-        swap_strided(items, column, start, stride, rows);
+    if cols > 0 {
+        let (front, back) = items.split_at_mut(base + col * stride);
+        cross_rows(front, back, base, stride, row, rows, col, cols);
+    }
+}
+
+/// The number of columns of a block that is exchanged in loops of known length.
+const COLUMNS: usize = 4;
+
+/// As [`swap_across`], where `front` ends before the first row of the lower block, and `back` is the rest.
+#[inline(always)]
+fn cross_rows<F>(
+    front: &mut [F],
+    back: &mut [F],
+    base: usize,
+    stride: usize,
+    row: usize,
+    rows: usize,
+    col: usize,
+    cols: usize,
+)
+    requires above { row + rows ≤ col }
+    requires within { col + cols ≤ stride }
+    requires cut { length front.old ≡ base + col * stride }
+    requires room { (cols - 1) * stride + col < length back.old }
+    ensures { SwapsAcross base stride row (row + rows) col (col + cols) (front.old ++ back.old) (front.new ++ back.new) }
+{
+    for line in row..row + rows {
+        if cols == COLUMNS {
+            cross_row(front, back, base, stride, line, col, COLUMNS);
+        } else {
+            cross_row(front, back, base, stride, line, col, cols);
+        }
+    }
+}
+
+/// As [`cross_rows`], for the single row `line` of the upper block and the column of the lower one that is its mirror image.
+#[inline(always)]
+fn cross_row<F>(
+    front: &mut [F],
+    back: &mut [F],
+    base: usize,
+    stride: usize,
+    line: usize,
+    col: usize,
+    cols: usize,
+)
+    requires above { line < col }
+    requires within { col + cols ≤ stride }
+    requires cut { length front.old ≡ base + col * stride }
+    requires room { (cols - 1) * stride + col < length back.old }
+    ensures { SwapsAcross base stride line (line + 1) col (col + cols) (front.old ++ back.old) (front.new ++ back.new) }
+{
+    // Their contracts say that the lengths are usizes.
+    let _ = (front.len(), back.len());
+    let first = base + line * stride + col;
+    for t in 0..cols {
+        mem::swap(&mut front[first + t], &mut back[line + t * stride]);
     }
 }
 
