@@ -44,6 +44,8 @@ awk '
         kind = / [^ ]*rt-edits?-/ ? "edits" : / --test / ? "tests" : "proofs"
         if (crate == "") next
         check = $1 " " crate " " kind
+        # what was seen but once is too short to count, or ended while it was looked at
+        if (!(check in ticks)) { ticks[check] = 0; next }
         # a process with a number that another one had
         if ($2 < ticks[check]) took[crate, kind] += ticks[check]
         ticks[check] = $2
