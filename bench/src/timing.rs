@@ -32,7 +32,8 @@ impl Visitor for Measure {
         let start = processor_time();
         let mut done = 0;
         while done < self.runs || processor_time() - start < CASE {
-            for (k, &contender) in contenders.iter().enumerate() {
+            for k in turn(done, contenders.len()) {
+                let contender = contenders[k];
                 let time = run(&mut lists, contender, repeats[k]).as_secs_f64() * 1e9;
                 // On a virtual machine the clock may stay for a while.
                 if time > 0.0 {
@@ -43,6 +44,13 @@ impl Visitor for Measure {
         }
         Row::new(case, &least)
     }
+}
+
+/// The order of `len` contenders in a round: each one comes first in turn, and each other round goes backwards, so that
+/// each comes after each other one. What the one before left in the caches is thus shared out evenly.
+fn turn(round: usize, len: usize) -> impl Iterator<Item = usize> {
+    let step = if round % 2 == 0 { 1 } else { len - 1 };
+    (0..len).map(move |i| (round / 2 + i * step) % len)
 }
 
 /// How often a call is repeated in one run.
