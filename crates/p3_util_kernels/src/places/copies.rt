@@ -1,7 +1,7 @@
 //! The transpose of a region of a slice into another slice.
 
 ghost use Rattle.std.specs.Prelude.{◌≡◌, ℕ, ◌+◌, ◌*◌, ◌%◌, ◌<◌, ◌≤◌, length};
-ghost use Rattle.p3_util_kernels.specs.Region.{IsRegionTransposed, LiesInMatrix, cols_of};
+ghost use Rattle.p3_util_kernels.specs.Region.{IsRegionTransposed, LiesInMatrix, cols_of, rows_of};
 ghost use Rattle.p3_util_kernels.specs.Strided.{IsStridedPut};
 
 use crate::transpose::Region;
@@ -28,8 +28,11 @@ const LOW: usize = 64;
 /// Rows that begin a multiple of so many items apart meet in one set of a cache, whatever the size of an item.
 const FAR_ROWS: usize = 4096;
 
-/// How many such rows are copied at once in a low matrix, and how many rows of a narrow and high matrix of long items.
+/// The greatest width of a narrow matrix, and how many rows are copied at once where lines of output are far apart.
 const FEW: usize = 16;
+
+/// The bytes of a first cache.
+const FIRST_CACHE: usize = 32_768;
 
 /// How many of them where the matrix has fewer.
 const FEWEST: usize = 8;
@@ -53,44 +56,36 @@ pub fn copy_columns<T: Copy>(
     requires inside { LiesInMatrix region width height }
     ensures { IsRegionTransposed region width height items.now values.old values.new }
 {
-    let size = size_of_items(items);
     let rows = region.row_end - region.row_start;
-    if rows > FEWEST
-        && (is_far(size, height) || rows != FEW && rows > rows_at_once(size, width, height))
-    {
-        copy_parts(items, region, size, width, height, values);
+    if rows > FEWEST && (rows != FEW || is_far(size_of_items(items), width, height)) {
+        copy_parts(items, region, width, height, values);
     } else {
-        copy_each_column(items, region, width, height, values);
+        copy_each_column(items, region, rows, width, height, values);
     }
 }
 
-/// As [`copy_columns`], part after part. The items have `size` bytes. A call of its own, since it would make calls for
-/// small matrices slower.
+/// As [`copy_columns`], part after part. A call of its own, since it would make calls for small matrices slower.
 #[inline(never)]
-fn copy_parts<T: Copy>(
-    items: &[T],
-    region: Region,
-    size: usize,
-    width: usize,
-    height: usize,
-    values: &mut [T],
-)
+fn copy_parts<T: Copy>(items: &[T], region: Region, width: usize, height: usize, values: &mut [T])
     requires items_fit { length items.now ≡ width * height }
     requires values_fit { length values.old ≡ width * height }
     requires inside { LiesInMatrix region width height }
     ensures { IsRegionTransposed region width height items.now values.old values.new }
 {
-    if is_far(size, height) {
+    let size = size_of_items(items);
+    if is_far(size, width, height) {
         copy_wide(items, region, width, height, values);
+    } else if rows_at_once(size, width, height) == FEW {
+        copy_narrow(items, region, width, height, values);
     } else {
         copy_strips(items, region, size, width, height, values);
     }
 }
 
-/// Whether items of `size` bytes are wide and the lines of an output of this height meet in few sets of a cache.
+/// Whether items of `size` bytes are wide and the many lines of an output of this height meet in few sets of a cache.
 #[inline(always)]
-fn is_far(size: usize, height: usize) -> bool {
-    size >= WIDE && height % FAR == 0
+fn is_far(size: usize, width: usize, height: usize) -> bool {
+    size >= WIDE && width > FEW && height % FAR == 0
 }
 
 /// As [`copy_columns`], several columns at once.
@@ -119,7 +114,8 @@ fn copy_wide<T: Copy>(items: &[T], region: Region, width: usize, height: usize, 
     };
     copy_bands(items, first, BAND, width, height, values);
     copy_bands(items, second, NARROW_BAND, width, height, values);
-    copy_each_column(items, third, width, height, values);
+    let rows = region.row_end - region.row_start;
+    copy_each_column(items, third, rows, width, height, values);
 }
 
 /// The size in bytes of an item, where there is one.
@@ -144,7 +140,7 @@ fn rows_at_once(size: usize, width: usize, height: usize) -> usize
         } else {
             FEW
         }
-    } else if size >= LONG && width <= FEW && height > FAR_ROWS {
+    } else if size >= LONG && width <= FEW && height > FIRST_CACHE / size {
         FEW
     } else {
         MANY
@@ -176,20 +172,70 @@ fn copy_strips<T: Copy>(
             row_end: end,
             ..region
         };
-        copy_each_column(items, strip, width, height, values);
+        copy_each_column(items, strip, end - row, width, height, values);
         row = end;
     }
 }
 
-/// As [`copy_columns`], column after column.
+/// As [`copy_columns`], by strips of `FEW` rows, whose columns are copied in loops of known length.
 #[inline(always)]
-fn copy_each_column<T: Copy>(
+fn copy_narrow<T: Copy>(items: &[T], region: Region, width: usize, height: usize, values: &mut [T])
+    requires items_fit { length items.now ≡ width * height }
+    requires values_fit { length values.old ≡ width * height }
+    requires inside { LiesInMatrix region width height }
+    ensures { IsRegionTransposed region width height items.now values.old values.new }
+{
+    let rows = region.row_end - region.row_start;
+    let end = region.row_start + rows / FEW * FEW;
+    let whole = Region {
+        row_end: end,
+        ..region
+    };
+    let rest = Region {
+        row_start: end,
+        ..region
+    };
+    copy_whole_strips(items, whole, width, height, values);
+    copy_each_column(items, rest, rows % FEW, width, height, values);
+}
+
+/// As [`copy_narrow`], where no rows are left over.
+#[inline(always)]
+fn copy_whole_strips<T: Copy>(
     items: &[T],
     region: Region,
     width: usize,
     height: usize,
     values: &mut [T],
 )
+    requires whole { rows_of region % FEW ≡ 0 }
+    requires items_fit { length items.now ≡ width * height }
+    requires values_fit { length values.old ≡ width * height }
+    requires inside { LiesInMatrix region width height }
+    ensures { IsRegionTransposed region width height items.now values.old values.new }
+{
+    for strip in 0..(region.row_end - region.row_start) / FEW {
+        let start = region.row_start + strip * FEW;
+        let strip = Region {
+            row_start: start,
+            row_end: start + FEW,
+            ..region
+        };
+        copy_each_column(items, strip, FEW, width, height, values);
+    }
+}
+
+/// As [`copy_columns`], column after column. The region has `rows` rows.
+#[inline(always)]
+fn copy_each_column<T: Copy>(
+    items: &[T],
+    region: Region,
+    rows: usize,
+    width: usize,
+    height: usize,
+    values: &mut [T],
+)
+    requires rows { rows ≡ rows_of region }
     requires items_fit { length items.now ≡ width * height }
     requires values_fit { length values.old ≡ width * height }
     requires inside { LiesInMatrix region width height }
@@ -197,8 +243,8 @@ fn copy_each_column<T: Copy>(
 {
     // Its contract says that the places fit a usize.
     let _ = items.len();
-    if region.row_start < region.row_end {
-        let (row, rows) = (region.row_start, region.row_end - region.row_start);
+    if rows > 0 {
+        let row = region.row_start;
         for x in region.col_start..region.col_end {
             copy_strided(
                 items,

@@ -8,7 +8,8 @@ loop-x-preserved g c =
     let x = c.loop-x.x in
     IsRegionTransposed-cols c.args.width c.args.height _ (record c.args.region { col_end = c.loop-x.x + 1 }) x _ _ _ (omega arith) (omega arith) (omega arith)
     c.loop-x.invariant
-    (IsRegionTransposed-line c.args.width c.args.height _ (record c.args.region { col_start = x; col_end = x + 1 }) x _ _ refl refl c.copy_strided.ensures)
+    (IsRegionTransposed-line c.args.width c.args.height _ (record c.args.region { col_start = x; col_end = x + 1 }) x _ _ refl refl
+    (rw c.requires.rows at c.copy_strided.ensures))
 
 pub copy_strided-requires-clause-inside : goal.copy_strided-requires-clause-inside
 copy_strided-requires-clause-inside g c t h =
