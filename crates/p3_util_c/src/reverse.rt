@@ -3,8 +3,8 @@
 ghost use Rattle.p3_util_c.specs.Tried.{IsTriedReversal};
 
 use crate::words::WordPlaces;
-use p3_util_kernels::places::{Places, SlicePlaces};
-use p3_util_kernels::reverse::{fits_rows, reverse_counted};
+use p3_util_kernels::places::Places;
+use p3_util_kernels::reverse::{fits_rows, reverse_counted, reverse_slice_index_bits};
 
 /// Reverses the order of `vals`, items of one byte, by index bits, where the length is zero or a power of two. Returns
 /// whether it is.
@@ -12,8 +12,7 @@ use p3_util_kernels::reverse::{fits_rows, reverse_counted};
 pub extern "C" fn p3_util_reverse_1(vals: &mut [u8]) -> bool
     ensures { IsTriedReversal result vals.old vals.new }
 {
-    let mut places = SlicePlaces::new(vals);
-    reverse_where_it_fits(&mut places)
+    reverse_slice_where_it_fits(vals)
 }
 
 /// Reverses the order of `vals`, items of 2 bytes, by index bits, where the length is zero or a power of two. Returns
@@ -22,8 +21,7 @@ pub extern "C" fn p3_util_reverse_1(vals: &mut [u8]) -> bool
 pub extern "C" fn p3_util_reverse_2(vals: &mut [[u8; 2]]) -> bool
     ensures { IsTriedReversal result vals.old vals.new }
 {
-    let mut places = SlicePlaces::new(vals);
-    reverse_where_it_fits(&mut places)
+    reverse_slice_where_it_fits(vals)
 }
 
 /// Reverses the order of `vals`, items of 4 bytes, by index bits, where the length is zero or a power of two. Returns
@@ -32,8 +30,7 @@ pub extern "C" fn p3_util_reverse_2(vals: &mut [[u8; 2]]) -> bool
 pub extern "C" fn p3_util_reverse_4(vals: &mut [[u8; 4]]) -> bool
     ensures { IsTriedReversal result vals.old vals.new }
 {
-    let mut places = SlicePlaces::new(vals);
-    reverse_where_it_fits(&mut places)
+    reverse_slice_where_it_fits(vals)
 }
 
 /// Reverses the order of `vals`, items of 8 bytes, by index bits, where the length is zero or a power of two. Returns
@@ -42,8 +39,7 @@ pub extern "C" fn p3_util_reverse_4(vals: &mut [[u8; 4]]) -> bool
 pub extern "C" fn p3_util_reverse_8(vals: &mut [[u8; 8]]) -> bool
     ensures { IsTriedReversal result vals.old vals.new }
 {
-    let mut places = SlicePlaces::new(vals);
-    reverse_where_it_fits(&mut places)
+    reverse_slice_where_it_fits(vals)
 }
 
 /// Reverses the order of `vals`, items of 16 bytes, by index bits, where the length is zero or a power of two. Returns
@@ -64,6 +60,16 @@ pub extern "C" fn p3_util_reverse_32(vals: &mut [[[u8; 8]; 4]]) -> bool
 {
     let mut places = WordPlaces::new(vals);
     reverse_where_it_fits(&mut places)
+}
+
+fn reverse_slice_where_it_fits<F>(vals: &mut [F]) -> bool
+    ensures { IsTriedReversal result vals.old vals.new }
+{
+    let fits = fits_rows(vals.len(), 1);
+    if fits {
+        reverse_slice_index_bits(vals);
+    }
+    fits
 }
 
 fn reverse_where_it_fits<S: Places>(places: &mut S) -> bool

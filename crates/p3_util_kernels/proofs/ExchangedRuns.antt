@@ -1,11 +1,39 @@
 -- Runs of places exchanged, place by place or as slices.
-use Rattle.std.proofs.Common.{◌≡◌, ◌≢◌, ℕ, ◌+◌, ◌-◌, ◌<◌, ◌≤◌, ◌⊎◌, List, [], ◌∷◌, ◌++◌, zero, suc, length, slice_get, take, drop, length-append, length-drop, inl, inr, refl, ap, ◌∙◌, arith}
+use Rattle.std.proofs.Common.{◌≡◌, ◌≢◌, ℕ, ◌+◌, ◌-◌, ◌*◌, min, max, ◌<◌, ◌≤◌, ◌⊎◌, List, [], ◌∷◌, ◌++◌, zero, suc, length, slice_get, take, drop, length-append, length-drop, inl, inr, refl, ap, ◌∙◌, arith}
 use Rattle.std.specs.List.{swap}
 use Rattle.std.proofs.Math.ListN.{length-take}
 use Rattle.std.proofs.lemmas.Bool.{cases_lt, cases_eq}
 use Rattle.std.proofs.lemmas.List.Edits.{length-swap}
 use Rattle.p3_util_kernels.specs.Exchanged.{RunsExchanged}
 use Rattle.p3_util_kernels.proofs.Exchange.{slice_get-swap_first, slice_get-swap_second, slice_get-swap_other}
+
+-- the runs named in the other order
+pub RunsExchanged-turned : {A : Type 0} (i j len : ℕ) (old new : List A) → RunsExchanged i j len old new → RunsExchanged j i len old new
+RunsExchanged-turned i j len old new h = record { same_length = h.same_length; first = h.second; second = h.first; others = λ p k l. h.others p l k }
+
+-- rows, named in either order
+pub RunsExchanged-ordered : {A : Type 0} (i j width : ℕ) (old new : List A) → RunsExchanged (min i j * width) (max i j * width) width old new
+    → RunsExchanged (i * width) (j * width) width old new
+RunsExchanged-ordered i j width old new h =
+    elim (cases_lt i j) [
+      | inl up ↦
+          let less : min i j ≡ i = omega arith in
+          let more : max i j ≡ j = omega arith in
+          rw (less, more) at h
+      | inr down ↦
+          let less : min i j ≡ j = omega arith in
+          let more : max i j ≡ i = omega arith in
+          RunsExchanged-turned (j * width) (i * width) width old new (rw (less, more) at h)
+    ]
+
+-- one pair of places
+pub RunsExchanged-one : {A : Type 0} (i j : ℕ) (old new : List A) → i < length old → j < length old → new ≡ swap old i j → RunsExchanged i j 1 old new
+RunsExchanged-one i j old new first_in second_in swapped = record {
+  same_length = ap length swapped ∙ length-swap old i j;
+  first = λ t h. let e : i + t ≡ i = omega arith in let f : j + t ≡ j = omega arith in rw (swapped, e, f) (slice_get-swap_first old i j first_in second_in);
+  second = λ t h. let e : i + t ≡ i = omega arith in let f : j + t ≡ j = omega arith in rw (swapped, e, f) (slice_get-swap_second old i j first_in second_in);
+  others = λ p h k. rw swapped (slice_get-swap_other old i j p (elim h [ inl l ↦ omega arith | inr r ↦ omega arith ]) (elim k [ inl l ↦ omega arith | inr r ↦ omega arith ]));
+}
 
 -- one pair of places more
 pub RunsExchanged-more : {A : Type 0} (i j len : ℕ) (old now next : List A) → i + len < j → j + len < length old

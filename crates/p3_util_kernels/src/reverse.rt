@@ -35,8 +35,26 @@ pub fn reverse_slice_index_bits<F>(vals: &mut [F])
     ensures order { IsReversal vals.old vals.new }
     ensures inverse { IsReversal vals.new vals.old }
 {
-    let mut places = SlicePlaces::new(vals);
-    reverse_counted(&mut places);
+    if vals.len() <= SHORT_PATH_ITEMS {
+        let mut places = SlicePlaces::new(vals);
+        reverse_short(&mut places);
+    } else {
+        let mut places = SlicePlaces::new(vals);
+        reverse_counted(&mut places);
+    }
+}
+
+/// Reverses `places` by index bits, by the short path alone, without a call that would keep their address in memory.
+#[inline(always)]
+fn reverse_short<S: Places>(places: &mut S)
+    requires { IsReversible (length (S.items places.old)) }
+    ensures order { IsReversal (S.items places.old) (S.items places.new) }
+    ensures inverse { IsReversal (S.items places.new) (S.items places.old) }
+    ensures holder { S.same_holder places.old places.new }
+{
+    let mut swaps = Swaps::new(places);
+    reverse_index_bits_short(&mut swaps);
+    let _ = swaps.into_inner();
 }
 
 /// Reverses `places` by index bits, as [`reverse_index_bits_on`] does over a fresh counter, and returns the number of

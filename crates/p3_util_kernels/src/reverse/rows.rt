@@ -1,11 +1,13 @@
 //! Bit reversal of rows, by exchanging each two rows that belong to each other.
 //!
-//! With 2^k rows the index of a row has three parts: the `half = k / 2` high digits `a`, one digit in the middle where k
-//! is odd, and `half` low digits `y`. Its reverse has the reverse of `y`, the same middle digit and the reverse of `a`. So
-//! the rows to be exchanged are, for each middle digit and all `a` below `b`, the row of `a` and the reverse of `b`, and the
-//! row of `b` and the reverse of `a`.
+//! With 2^k rows the index of a row has three parts: `half = k / 2` high digits, whose reverse is `x`, one digit in the
+//! middle where k is odd, and `half` low digits `y`. Its reverse has the reverse of `y`, the same middle digit and `x`. So the
+//! rows to be exchanged are, for each middle digit and all `x` below `y`, the row of `x` and `y` and the row of `y` and `x`.
+//!
+//! The pairs of two neighbours `y` come together: their rows lie side by side, so that both are in the cache at once where
+//! rows are short.
 
-ghost use Rattle.std.specs.Prelude.{◌≡◌, ℕ, ◌+◌, ◌*◌, ◌/◌, ◌%◌, ◌^◌, ◌<◌, ◌≤◌, length};
+ghost use Rattle.std.specs.Prelude.{◌≡◌, ◌≢◌, ℕ, ◌+◌, ◌*◌, ◌/◌, ◌%◌, ◌^◌, ◌<◌, ◌≤◌, length};
 ghost use Rattle.p3_util_kernels.specs.Crossing.{IsCrossed};
 ghost use Rattle.p3_util_kernels.specs.Digits.{rev};
 ghost use Rattle.p3_util_kernels.specs.Exchanged.{RunsExchanged};
@@ -43,10 +45,14 @@ pub fn reverse_row_index_bits_on<S: Places>(m: &mut Swaps<S>, row_width: usize)
     }
     let rows = len / row_width;
     let digits = log2_strict_usize(rows);
+    if digits < 2 {
+        return;
+    }
     let side = power_of_two(digits / 2);
     let stride = rows >> (digits / 2);
-    for line in 0..stride {
-        exchange_line(m, row_width, digits, stride, line / side, line % side);
+    for two in 0..stride / 2 {
+        let line = two * 2;
+        exchange_lines(m, row_width, digits, stride, line / side, line % side);
     }
 }
 
@@ -64,55 +70,69 @@ pub fn reverse_chunks_on<S: Places>(m: &mut Swaps<S>, lb_num_chunks: usize, lb_c
     reverse_row_index_bits_on(m, 1 << lb_chunk_size);
 }
 
-/// Exchanges the pairs of rows of one middle digit and one `b`, with each `a` below it. The rows have indices of `digits`
-/// digits, and the digits of `a` weigh `stride`.
+/// Exchanges the pairs of rows of one middle digit and of `y` and `y + 1`, with each `x` below them. The rows have indices of
+/// `digits` digits, and the high ones weigh `stride`.
 #[inline(always)]
-fn exchange_line<S: Places>(
+fn exchange_lines<S: Places>(
     m: &mut Swaps<S>,
     row_width: usize,
     digits: usize,
     stride: usize,
     digit: usize,
-    b: usize,
+    y: usize,
 )
     requires wide { 0 < row_width }
     requires stride { stride ≡ 2 ^ (digits % 2 + digits / 2) }
     requires digit { digit < 2 ^ (digits % 2) }
-    requires b { b < 2 ^ (digits / 2) }
+    requires even { y % 2 ≡ 0 }
+    requires y { y + 1 < 2 ^ (digits / 2) }
     requires rows { length (S.items m.old.holder) ≡ row_width * 2 ^ (digits / 2 + (digits % 2 + digits / 2)) }
     requires length_fits { length (S.items m.old.holder) < 2 ^ 64 }
     requires count_fits { m.old.count < 2 ^ 128 }
-    ensures crossed { let line = digit * 2 ^ (digits / 2) + b in
-        IsCrossed (digits / 2) (digits % 2) row_width (line * 2 ^ (digits / 2)) ((line + 1) * 2 ^ (digits / 2))
+    ensures crossed { let two = (digit * 2 ^ (digits / 2) + y) / 2 in
+        IsCrossed (digits / 2) (digits % 2) row_width (two * 2 ^ (digits / 2) * 2) ((two + 1) * 2 ^ (digits / 2) * 2)
         (S.items m.old.holder) (S.items m.new.holder) }
-    ensures count { m.new.count ≡ counted m.old.count (row_width * b) }
+    ensures count { m.new.count ≡ counted m.old.count (row_width * (y + (y + 1))) }
     ensures holder { S.same_holder m.old.holder m.new.holder }
 {
     let half = digits / 2;
     let offset = digit * power_of_two(half);
-    let reversed = reverse_digits(b, half);
-    for a in 0..b {
-        let i = a * stride + (offset + reversed);
-        let j = b * stride + (offset + reverse_digits(a, half));
-        exchange_rows(m, i * row_width, j * row_width, row_width);
+    let first = reverse_digits(y, half) * stride;
+    let second = reverse_digits(y + 1, half) * stride;
+    for x in 0..y {
+        let row = reverse_digits(x, half) * stride;
+        exchange_rows(m, row + (offset + y), first + (offset + x), row_width);
+        exchange_rows(
+            m,
+            row + (offset + (y + 1)),
+            second + (offset + x),
+            row_width,
+        );
     }
+    exchange_rows(
+        m,
+        first + (offset + (y + 1)),
+        second + (offset + y),
+        row_width,
+    );
 }
 
-/// Exchanges the `row_width` items from place `i` on with those from place `j` on: as runs, where there are several.
+/// Exchanges rows `i` and `j`, of `row_width` items each: as runs, where they have several.
 #[inline(always)]
 fn exchange_rows<S: Places>(m: &mut Swaps<S>, i: usize, j: usize, row_width: usize)
-    requires apart { i + row_width ≤ j }
-    requires within { j + row_width ≤ length (S.items m.old.holder) }
+    requires apart { i ≢ j }
+    requires first { (i + 1) * row_width ≤ length (S.items m.old.holder) }
+    requires second { (j + 1) * row_width ≤ length (S.items m.old.holder) }
     requires length_fits { length (S.items m.old.holder) < 2 ^ 64 }
     requires count_fits { m.old.count < 2 ^ 128 }
-    ensures exchanged { RunsExchanged i j row_width (S.items m.old.holder) (S.items m.new.holder) }
+    ensures exchanged { RunsExchanged (i * row_width) (j * row_width) row_width (S.items m.old.holder) (S.items m.new.holder) }
     ensures count { m.new.count ≡ counted m.old.count row_width }
     ensures holder { S.same_holder m.old.holder m.new.holder }
 {
     if row_width == 1 {
         m.swap(i, j);
     } else {
-        m.swap_runs(i, j, row_width);
+        m.swap_runs(i.min(j) * row_width, i.max(j) * row_width, row_width);
     }
 }
 

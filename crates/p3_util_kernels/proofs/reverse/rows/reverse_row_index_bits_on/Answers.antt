@@ -1,8 +1,8 @@
-use Rattle.std.proofs.Common.{◌≡◌, ℕ, ◌+◌, ◌*◌, ◌/◌, ◌%◌, ◌^◌, ◌≤◌, length, inl, sym, ap, ◌∙◌, arith}
-use Rattle.std.proofs.lemmas.Nat.{div_below, div-add-mod', mod_below, pow-add, pow_pos, shl-shr}
+use Rattle.std.proofs.Common.{◌≡◌, ℕ, zero, suc, ◌+◌, ◌-◌, ◌*◌, ◌/◌, ◌%◌, ◌^◌, ◌<◌, ◌≤◌, length, inl, refl, sym, ap, ◌∙◌, arith}
+use Rattle.std.proofs.lemmas.Nat.{div_below, div-add-mod', mod-mul-add, mod_below, pow-add, pow_pos, shl-shr}
 use Rattle.p3_util_kernels.specs.Digits.{sum_below}
 use Rattle.p3_util_kernels.specs.SwapCounts.{short_swaps}
-use Rattle.p3_util_kernels.proofs.Crossing.{IsCrossed-join, IsCrossed-none, IsRowReversal-crossed}
+use Rattle.p3_util_kernels.proofs.Crossing.{IsCrossed-join, IsCrossed-none, IsRowReversal-crossed, IsRowReversal-own, turn-before}
 use Rattle.p3_util_kernels.proofs.Lengths.{IsPowerOfRows, IsPowerOfRows-from, rows-same}
 use Rattle.p3_util_kernels.proofs.Lines.{lines-short, sum_below-more, sum_below-none}
 use Rattle.p3_util_kernels.proofs.Steps.{counted-more, counted-zero}
@@ -33,93 +33,138 @@ weight rows x e =
     let parts : 2 ^ x ≡ 2 ^ (x % 2 + x / 2) * 2 ^ (x / 2) = ap (λ n. 2 ^ n) digits ∙ pow-add 2 (x % 2 + x / 2) (x / 2) in
     rw (e, parts) (shl-shr (2 ^ (x % 2 + x / 2)) (x / 2))
 
-pub exchange_line-requires-clause-stride : goal.exchange_line-requires-clause-stride
-exchange_line-requires-clause-stride g c = weight _ _ c.log2_strict_usize-digits.ensures.power
+-- a power of two above 1 is even
+power-even : (q : ℕ) → 0 < q → 2 ^ q ≡ 2 * 2 ^ (q - 1)
+power-even q some = let digits : q ≡ 1 + (q - 1) = omega arith in ap (λ n. 2 ^ n) digits ∙ pow-add 2 1 (q - 1)
 
-pub nonzero_div-line : goal.nonzero_div-line
-nonzero_div-line g c = rw c.power_of_two-side.ensures (pow_pos _)
+-- the lower of two neighbours, and the higher
+lower-even : (two q : ℕ) → 0 < q → two * 2 % 2 ^ q % 2 ≡ 0
+lower-even two q some =
+    let split : two * 2 / 2 ^ q * 2 ^ q + two * 2 % 2 ^ q ≡ two * 2 = div-add-mod' (two * 2) (2 ^ q) in
+    let even : two * 2 / 2 ^ q * 2 ^ q ≡ 2 * (two * 2 / 2 ^ q * 2 ^ (q - 1)) = ap (λ n. two * 2 / 2 ^ q * n) (power-even q some) ∙ omega arith in
+    omega (arith, split, even)
 
-pub nonzero_rem-line : goal.nonzero_rem-line
-nonzero_rem-line g c = rw c.power_of_two-side.ensures (pow_pos _)
+higher-fits : (two q : ℕ) → 0 < q → two * 2 % 2 ^ q + 1 < 2 ^ q
+higher-fits two q some = omega (arith, lower-even two q some, power-even q some, mod_below (two * 2) (2 ^ q) (pow_pos q))
 
-pub loop-line-init : goal.loop-line-init
-loop-line-init g c = record {
-  crossed = IsCrossed-none _ _ c.args.row_width _ _ _ (λ m a b ha hb from to. absurd (omega arith));
+higher : (two q : ℕ) → 0 < q → (two * 2 + 1) % 2 ^ q ≡ two * 2 % 2 ^ q + 1
+higher two q some =
+    let split : two * 2 + 1 ≡ two * 2 / 2 ^ q * 2 ^ q + (two * 2 % 2 ^ q + 1) = omega (arith, div-add-mod' (two * 2) (2 ^ q)) in
+    rw split (mod-mul-add (two * 2 / 2 ^ q) (2 ^ q) (two * 2 % 2 ^ q + 1) (higher-fits two q some))
+
+-- one row or two have no pairs
+short_none : (k : ℕ) → k < 2 → short_swaps k ≡ 0
+short_none zero h = refl
+short_none (suc zero) h = refl
+short_none (suc (suc k)) h = absurd (omega arith)
+
+pub returns-then-digits-lt2-clause-order : goal.returns-then-digits-lt2-clause-order
+returns-then-digits-lt2-clause-order g c =
+    let x = c.log2_strict_usize-digits.result in
+    let rows = IsPowerOfRows-from _ _ (λ e. c.if-len-eq0.false (c.len-len.ensures.len ∙ e)) c.requires in
+    IsRowReversal-own (x / 2) (x % 2) c.args.row_width _ (omega arith) (omega arith) (whole _ _ _ _ c.len-len.ensures.len rows c.log2_strict_usize-digits.ensures.power)
+
+pub returns-then-digits-lt2-clause-exact : goal.returns-then-digits-lt2-clause-exact
+returns-then-digits-lt2-clause-exact g c k e =
+    let x = c.log2_strict_usize-digits.result in
+    let rows = IsPowerOfRows-from _ _ (λ e. c.if-len-eq0.false (c.len-len.ensures.len ∙ e)) c.requires in
+    let length_is = whole _ _ _ _ c.len-len.ensures.len rows c.log2_strict_usize-digits.ensures.power in
+    let same : x / 2 + (x % 2 + x / 2) ≡ k = rows-same c.args.row_width (x / 2 + (x % 2 + x / 2)) k rows.wide (sym length_is ∙ e) in
+    let none : c.args.row_width * short_swaps k ≡ 0 = omega (arith, ap (λ n. c.args.row_width * n) (short_none k (omega arith))) in
+    rw none (sym (counted-zero _ c.len-len.ensures.count_fits))
+
+pub exchange_lines-requires-clause-stride : goal.exchange_lines-requires-clause-stride
+exchange_lines-requires-clause-stride g c = weight _ _ c.log2_strict_usize-digits.ensures.power
+
+pub loop-two-init : goal.loop-two-init
+loop-two-init g c = record {
+  crossed = IsCrossed-none _ _ c.args.row_width _ _ _ (λ m x y hx hy from to. absurd (omega arith));
   count = rw sum_below-none (let none : c.args.row_width * 0 ≡ 0 = omega arith in rw none (sym (counted-zero _ c.len-len.ensures.count_fits)));
   holder = g.met.S.Places.same_holder_refl _;
 }
 
-pub exchange_line-requires-clause-wide : goal.exchange_line-requires-clause-wide
-exchange_line-requires-clause-wide g c =
+pub exchange_lines-requires-clause-digit : goal.exchange_lines-requires-clause-digit
+exchange_lines-requires-clause-digit g c =
+    let x = c.log2_strict_usize-digits.result in
+    let below : c.loop-two.two * 2 < 2 ^ (x % 2 + x / 2) = omega (arith, weight _ _ c.log2_strict_usize-digits.ensures.power) in
+    rw c.power_of_two-side.ensures (div_below (c.loop-two.two * 2) (2 ^ (x / 2)) (2 ^ (x % 2)) (pow_pos (x / 2)) (rw (pow-add 2 (x % 2) (x / 2)) at below))
+
+pub exchange_lines-requires-clause-even : goal.exchange_lines-requires-clause-even
+exchange_lines-requires-clause-even g c = rw c.power_of_two-side.ensures (lower-even c.loop-two.two (c.log2_strict_usize-digits.result / 2) (omega arith))
+
+pub exchange_lines-requires-clause-y : goal.exchange_lines-requires-clause-y
+exchange_lines-requires-clause-y g c = rw c.power_of_two-side.ensures (higher-fits c.loop-two.two (c.log2_strict_usize-digits.result / 2) (omega arith))
+
+pub exchange_lines-requires-clause-rows : goal.exchange_lines-requires-clause-rows
+exchange_lines-requires-clause-rows g c =
     let rows = IsPowerOfRows-from _ _ (λ e. c.if-len-eq0.false (c.len-len.ensures.len ∙ e)) c.requires in
-    rows.wide
+    c.loop-two.invariant.crossed.same_length ∙ whole _ _ _ _ c.len-len.ensures.len rows c.log2_strict_usize-digits.ensures.power
 
-pub exchange_line-requires-clause-digit : goal.exchange_line-requires-clause-digit
-exchange_line-requires-clause-digit g c =
+pub exchange_lines-requires-clause-length_fits : goal.exchange_lines-requires-clause-length_fits
+exchange_lines-requires-clause-length_fits g c = omega (arith, c.loop-two.invariant.crossed.same_length, c.len-len.ensures.len)
+
+pub exchange_lines-requires-clause-count_fits : goal.exchange_lines-requires-clause-count_fits
+exchange_lines-requires-clause-count_fits g c = omega (arith, c.loop-two.invariant.count)
+
+pub loop-two-preserved : goal.loop-two-preserved
+loop-two-preserved g c =
     let x = c.log2_strict_usize-digits.result in
-    rw c.power_of_two-side.ensures
-    (div_below c.loop-line.line (2 ^ (x / 2)) (2 ^ (x % 2)) (pow_pos (x / 2)) (rw (weight _ _ c.log2_strict_usize-digits.ensures.power, pow-add 2 (x % 2) (x / 2)) at c.loop-line-test.true))
-
-pub exchange_line-requires-clause-b : goal.exchange_line-requires-clause-b
-exchange_line-requires-clause-b g c =
-    let x = c.log2_strict_usize-digits.result in
-    rw c.power_of_two-side.ensures (mod_below c.loop-line.line (2 ^ (x / 2)) (pow_pos (x / 2)))
-
-pub exchange_line-requires-clause-rows : goal.exchange_line-requires-clause-rows
-exchange_line-requires-clause-rows g c =
-    let rows = IsPowerOfRows-from _ _ (λ e. c.if-len-eq0.false (c.len-len.ensures.len ∙ e)) c.requires in
-    c.loop-line.invariant.crossed.same_length ∙ whole _ _ _ _ c.len-len.ensures.len rows c.log2_strict_usize-digits.ensures.power
-
-pub exchange_line-requires-clause-length_fits : goal.exchange_line-requires-clause-length_fits
-exchange_line-requires-clause-length_fits g c = omega (arith, c.loop-line.invariant.crossed.same_length, c.len-len.ensures.len)
-
-pub exchange_line-requires-clause-count_fits : goal.exchange_line-requires-clause-count_fits
-exchange_line-requires-clause-count_fits g c = omega (arith, c.loop-line.invariant.count)
-
-pub loop-line-preserved : goal.loop-line-preserved
-loop-line-preserved g c =
-    let x = c.log2_strict_usize-digits.result in
+    let q = x / 2 in
+    let two = c.loop-two.two in
     let side = c.power_of_two-side.ensures in
-    let split : c.loop-line.line / 2 ^ (x / 2) * 2 ^ (x / 2) + c.loop-line.line % 2 ^ (x / 2) ≡ c.loop-line.line = div-add-mod' c.loop-line.line (2 ^ (x / 2)) in
-    let step = rw (side, split) at c.exchange_line.ensures.crossed in
-    let more : c.args.row_width * sum_below c.loop-line.line (λ n. n % 2 ^ (x / 2)) + c.args.row_width * (c.loop-line.line % 2 ^ (x / 2))
-    ≡ c.args.row_width * sum_below (c.loop-line.line + 1) (λ n. n % 2 ^ (x / 2)) = rw sum_below-more (omega arith) in
-    let up : c.loop-line.line * 2 ^ (x / 2) ≤ (c.loop-line.line + 1) * 2 ^ (x / 2) = omega arith in
+    let split : two * 2 / 2 ^ q * 2 ^ q + two * 2 % 2 ^ q ≡ two * 2 = div-add-mod' (two * 2) (2 ^ q) in
+    let half : two * 2 / 2 ≡ two = omega arith in
+    let step = rw (side, split, half) at c.exchange_lines.ensures.crossed in
+    let next : (two + 1) * 2 ≡ two * 2 + 1 + 1 = omega arith in
+    let more : c.args.row_width * sum_below (two * 2) (λ n. n % 2 ^ q) + c.args.row_width * (two * 2 % 2 ^ q + (two * 2 % 2 ^ q + 1))
+    ≡ c.args.row_width * sum_below ((two + 1) * 2) (λ n. n % 2 ^ q) = rw (next, sum_below-more, sum_below-more, higher two q (omega arith)) (omega arith) in
+    let up : two * 2 ^ q * 2 ≤ (two + 1) * 2 ^ q * 2 = omega arith in
     record {
-      crossed = IsCrossed-join _ _ c.args.row_width _ _ _ _ _ _ (omega arith) up c.loop-line.invariant.crossed step;
-      count = rw more at (counted-more _ _ _ _ _ c.loop-line.invariant.count (rw side at c.exchange_line.ensures.count));
-      holder = g.met.S.Places.same_holder_trans _ _ _ c.loop-line.invariant.holder c.exchange_line.ensures.holder;
+      crossed = IsCrossed-join _ _ c.args.row_width _ _ _ _ _ _ (omega arith) up c.loop-two.invariant.crossed step;
+      count = rw more at (counted-more _ _ _ _ _ c.loop-two.invariant.count (rw side at c.exchange_lines.ensures.count));
+      holder = g.met.S.Places.same_holder_trans _ _ _ c.loop-two.invariant.holder c.exchange_lines.ensures.holder;
     }
+
+-- all lines came up, two at a time
+all_lines : (two rows x : ℕ) → 2 ≤ x → rows ≡ 2 ^ x → two ≡ rows / 2 ^ (x / 2) / 2 → two * 2 ≡ 2 ^ (x % 2 + x / 2)
+all_lines two rows x some power e =
+    let even : 2 ^ (x % 2 + x / 2) ≡ 2 * 2 ^ (x % 2 + x / 2 - 1) = power-even (x % 2 + x / 2) (omega arith) in
+    omega (arith, weight rows x power)
 
 pub returns-clause-order : goal.returns-clause-order
 returns-clause-order g c =
     let x = c.log2_strict_usize-digits.result in
     let rows = IsPowerOfRows-from _ _ (λ e. c.if-len-eq0.false (c.len-len.ensures.len ∙ e)) c.requires in
-    let all : c.loop-line.line ≡ 2 ^ (x % 2 + x / 2) = omega (arith, weight _ _ c.log2_strict_usize-digits.ensures.power) in
-    IsRowReversal-crossed (x / 2) (x % 2) c.args.row_width _ _ (omega arith)
+    let lines = all_lines c.loop-two.two _ x (omega arith) c.log2_strict_usize-digits.ensures.power (omega arith) in
+    let half : c.loop-two.two ≡ 2 ^ (x % 2 + x / 2) / 2 = omega (arith, lines) in
+    IsRowReversal-crossed (x / 2) (x % 2) c.args.row_width _ _ _ (omega arith)
     (whole _ _ _ _ c.len-len.ensures.len rows c.log2_strict_usize-digits.ensures.power)
-    (rw all at c.loop-line.invariant.crossed)
+    (λ m a b hm ha hb. turn-before (x / 2) (x % 2) m a b (omega arith) hm ha hb)
+    (rw half at c.loop-two.invariant.crossed)
 
 pub returns-clause-exact : goal.returns-clause-exact
 returns-clause-exact g c k e =
     let x = c.log2_strict_usize-digits.result in
     let rows = IsPowerOfRows-from _ _ (λ e. c.if-len-eq0.false (c.len-len.ensures.len ∙ e)) c.requires in
-    let all : c.loop-line.line ≡ 2 ^ (x % 2 + x / 2) = omega (arith, weight _ _ c.log2_strict_usize-digits.ensures.power) in
+    let lines = all_lines c.loop-two.two _ x (omega arith) c.log2_strict_usize-digits.ensures.power (omega arith) in
     let length_is = whole _ _ _ _ c.len-len.ensures.len rows c.log2_strict_usize-digits.ensures.power in
     let same : x / 2 + (x % 2 + x / 2) ≡ k = rows-same c.args.row_width (x / 2 + (x % 2 + x / 2)) k rows.wide (sym length_is ∙ e) in
-    let count = rw (all, lines-short (x / 2) (x % 2) (omega arith), same) at c.loop-line.invariant.count in
+    let count = rw (lines, lines-short (x / 2) (x % 2) (omega arith), same) at c.loop-two.invariant.count in
     count
 
 pub returns-clause-count : goal.returns-clause-count
 returns-clause-count g c =
     let x = c.log2_strict_usize-digits.result in
     let rows = IsPowerOfRows-from _ _ (λ e. c.if-len-eq0.false (c.len-len.ensures.len ∙ e)) c.requires in
-    let all : c.loop-line.line ≡ 2 ^ (x % 2 + x / 2) = omega (arith, weight _ _ c.log2_strict_usize-digits.ensures.power) in
+    let lines = all_lines c.loop-two.two _ x (omega arith) c.log2_strict_usize-digits.ensures.power (omega arith) in
     let k = x / 2 + (x % 2 + x / 2) in
     let length_is = whole _ _ _ _ c.len-len.ensures.len rows c.log2_strict_usize-digits.ensures.power in
     let half : c.args.row_width * short_swaps k ≤ length (g.S.Places.items c.args.m.now.holder) / 2 = rw length_is (row_swaps-le c.args.row_width k) in
     record {
       steps = c.args.row_width * short_swaps k;
-      count = rw (all, lines-short (x / 2) (x % 2) (omega arith)) at c.loop-line.invariant.count;
+      count = rw (lines, lines-short (x / 2) (x % 2) (omega arith)) at c.loop-two.invariant.count;
       bound = half;
     }
+
+pub returns-clause-holder : goal.returns-clause-holder
+returns-clause-holder g c = c.loop-two.invariant.holder

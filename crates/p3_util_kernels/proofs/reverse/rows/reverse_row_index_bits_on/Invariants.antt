@@ -4,11 +4,11 @@ use Rattle.p3_util_kernels.specs.Digits.{sum_below}
 use Rattle.p3_util_kernels.specs.Steps.{counted}
 use Rattle.p3_util_kernels.proofs.reverse.rows.reverse_row_index_bits_on.Given as goal
 
--- the pairs of the lines before this one are exchanged
-abbrev pub invariant-loop-line : goal.invariant-loop-line
-invariant-loop-line g l = record {
-  crossed : IsCrossed (l.digits / 2) (l.digits % 2) l.row_width 0 (l.line * 2 ^ (l.digits / 2))
+-- the pairs of the lines before these two are exchanged
+abbrev pub invariant-loop-two : goal.invariant-loop-two
+invariant-loop-two g l = record {
+  crossed : IsCrossed (l.digits / 2) (l.digits % 2) l.row_width 0 (l.two * 2 ^ (l.digits / 2) * 2)
       (g.S.Places.items l.initial.m.holder) (g.S.Places.items l.m.holder);
-  count : l.m.count ≡ counted l.initial.m.count (l.row_width * sum_below l.line (λ n. n % 2 ^ (l.digits / 2)));
+  count : l.m.count ≡ counted l.initial.m.count (l.row_width * sum_below (l.two * 2) (λ n. n % 2 ^ (l.digits / 2)));
   holder : g.S.Places.same_holder l.initial.m.holder l.m.holder;
 }
