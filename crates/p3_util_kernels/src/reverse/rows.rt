@@ -48,6 +48,11 @@ pub fn reverse_row_index_bits_on<S: Places>(m: &mut Swaps<S>, row_width: usize)
     if digits < 2 {
         return;
     }
+    if digits == 2 {
+        // With numbers that the compiler knows, the single pair of four rows is exchanged at once.
+        exchange_lines(m, row_width, 2, 2, 0, 0);
+        return;
+    }
     let side = power_of_two(digits / 2);
     let stride = rows >> (digits / 2);
     for two in 0..stride / 2 {

@@ -73,8 +73,30 @@ returns-then-digits-lt2-clause-exact g c k e =
     let none : c.args.row_width * short_swaps k ≡ 0 = omega (arith, ap (λ n. c.args.row_width * n) (short_none k (omega arith))) in
     rw none (sym (counted-zero _ c.len-len.ensures.count_fits))
 
-pub exchange_lines-requires-clause-stride : goal.exchange_lines-requires-clause-stride
-exchange_lines-requires-clause-stride g c = weight _ _ c.log2_strict_usize-digits.ensures.power
+-- four rows, by the length
+four_rows : (len len' row_width x : ℕ) → len' ≡ len → IsPowerOfRows len row_width → len' / row_width ≡ 2 ^ x → x ≡ 2 → len ≡ row_width * 4
+four_rows len len' row_width x same rows e two = rw two at (whole len len' row_width x same rows e)
+
+pub exchange_lines-requires-clause-rows : goal.exchange_lines-requires-clause-rows
+exchange_lines-requires-clause-rows g c =
+    let rows = IsPowerOfRows-from _ _ (λ e. c.if-len-eq0.false (c.len-len.ensures.len ∙ e)) c.requires in
+    four_rows _ _ _ _ c.len-len.ensures.len rows c.log2_strict_usize-digits.ensures.power c.if-digits-eq2.true
+
+pub returns-then-digits-eq2-clause-order : goal.returns-then-digits-eq2-clause-order
+returns-then-digits-eq2-clause-order g c =
+    let rows = IsPowerOfRows-from _ _ (λ e. c.if-len-eq0.false (c.len-len.ensures.len ∙ e)) c.requires in
+    IsRowReversal-crossed 1 0 c.args.row_width _ _ 4 (omega arith) (four_rows _ _ _ _ c.len-len.ensures.len rows c.log2_strict_usize-digits.ensures.power c.if-digits-eq2.true)
+    (λ m x y hm hx hy. turn-before 1 0 m x y (omega arith) hm hx hy) c.exchange_lines.ensures.crossed
+
+pub returns-then-digits-eq2-clause-exact : goal.returns-then-digits-eq2-clause-exact
+returns-then-digits-eq2-clause-exact g c k e =
+    let rows = IsPowerOfRows-from _ _ (λ e. c.if-len-eq0.false (c.len-len.ensures.len ∙ e)) c.requires in
+    let length_is = four_rows _ _ _ _ c.len-len.ensures.len rows c.log2_strict_usize-digits.ensures.power c.if-digits-eq2.true in
+    let same : 2 ≡ k = rows-same c.args.row_width 2 k rows.wide (sym length_is ∙ e) in
+    rw (← same) c.exchange_lines.ensures.count
+
+pub exchange_lines-requires-in-loop-two-clause-stride : goal.exchange_lines-requires-in-loop-two-clause-stride
+exchange_lines-requires-in-loop-two-clause-stride g c = weight _ _ c.log2_strict_usize-digits.ensures.power
 
 pub loop-two-init : goal.loop-two-init
 loop-two-init g c = record {
@@ -83,28 +105,28 @@ loop-two-init g c = record {
   holder = g.met.S.Places.same_holder_refl _;
 }
 
-pub exchange_lines-requires-clause-digit : goal.exchange_lines-requires-clause-digit
-exchange_lines-requires-clause-digit g c =
+pub exchange_lines-requires-in-loop-two-clause-digit : goal.exchange_lines-requires-in-loop-two-clause-digit
+exchange_lines-requires-in-loop-two-clause-digit g c =
     let x = c.log2_strict_usize-digits.result in
     let below : c.loop-two.two * 2 < 2 ^ (x % 2 + x / 2) = omega (arith, weight _ _ c.log2_strict_usize-digits.ensures.power) in
     rw c.power_of_two-side.ensures (div_below (c.loop-two.two * 2) (2 ^ (x / 2)) (2 ^ (x % 2)) (pow_pos (x / 2)) (rw (pow-add 2 (x % 2) (x / 2)) at below))
 
-pub exchange_lines-requires-clause-even : goal.exchange_lines-requires-clause-even
-exchange_lines-requires-clause-even g c = rw c.power_of_two-side.ensures (lower-even c.loop-two.two (c.log2_strict_usize-digits.result / 2) (omega arith))
+pub exchange_lines-requires-in-loop-two-clause-even : goal.exchange_lines-requires-in-loop-two-clause-even
+exchange_lines-requires-in-loop-two-clause-even g c = rw c.power_of_two-side.ensures (lower-even c.loop-two.two (c.log2_strict_usize-digits.result / 2) (omega arith))
 
-pub exchange_lines-requires-clause-y : goal.exchange_lines-requires-clause-y
-exchange_lines-requires-clause-y g c = rw c.power_of_two-side.ensures (higher-fits c.loop-two.two (c.log2_strict_usize-digits.result / 2) (omega arith))
+pub exchange_lines-requires-in-loop-two-clause-y : goal.exchange_lines-requires-in-loop-two-clause-y
+exchange_lines-requires-in-loop-two-clause-y g c = rw c.power_of_two-side.ensures (higher-fits c.loop-two.two (c.log2_strict_usize-digits.result / 2) (omega arith))
 
-pub exchange_lines-requires-clause-rows : goal.exchange_lines-requires-clause-rows
-exchange_lines-requires-clause-rows g c =
+pub exchange_lines-requires-in-loop-two-clause-rows : goal.exchange_lines-requires-in-loop-two-clause-rows
+exchange_lines-requires-in-loop-two-clause-rows g c =
     let rows = IsPowerOfRows-from _ _ (λ e. c.if-len-eq0.false (c.len-len.ensures.len ∙ e)) c.requires in
     c.loop-two.invariant.crossed.same_length ∙ whole _ _ _ _ c.len-len.ensures.len rows c.log2_strict_usize-digits.ensures.power
 
-pub exchange_lines-requires-clause-length_fits : goal.exchange_lines-requires-clause-length_fits
-exchange_lines-requires-clause-length_fits g c = omega (arith, c.loop-two.invariant.crossed.same_length, c.len-len.ensures.len)
+pub exchange_lines-requires-in-loop-two-clause-length_fits : goal.exchange_lines-requires-in-loop-two-clause-length_fits
+exchange_lines-requires-in-loop-two-clause-length_fits g c = omega (arith, c.loop-two.invariant.crossed.same_length, c.len-len.ensures.len)
 
-pub exchange_lines-requires-clause-count_fits : goal.exchange_lines-requires-clause-count_fits
-exchange_lines-requires-clause-count_fits g c = omega (arith, c.loop-two.invariant.count)
+pub exchange_lines-requires-in-loop-two-clause-count_fits : goal.exchange_lines-requires-in-loop-two-clause-count_fits
+exchange_lines-requires-in-loop-two-clause-count_fits g c = omega (arith, c.loop-two.invariant.count)
 
 pub loop-two-preserved : goal.loop-two-preserved
 loop-two-preserved g c =
@@ -114,15 +136,15 @@ loop-two-preserved g c =
     let side = c.power_of_two-side.ensures in
     let split : two * 2 / 2 ^ q * 2 ^ q + two * 2 % 2 ^ q ≡ two * 2 = div-add-mod' (two * 2) (2 ^ q) in
     let half : two * 2 / 2 ≡ two = omega arith in
-    let step = rw (side, split, half) at c.exchange_lines.ensures.crossed in
+    let step = rw (side, split, half) at c.exchange_lines-in-loop-two.ensures.crossed in
     let next : (two + 1) * 2 ≡ two * 2 + 1 + 1 = omega arith in
     let more : c.args.row_width * sum_below (two * 2) (λ n. n % 2 ^ q) + c.args.row_width * (two * 2 % 2 ^ q + (two * 2 % 2 ^ q + 1))
     ≡ c.args.row_width * sum_below ((two + 1) * 2) (λ n. n % 2 ^ q) = rw (next, sum_below-more, sum_below-more, higher two q (omega arith)) (omega arith) in
     let up : two * 2 ^ q * 2 ≤ (two + 1) * 2 ^ q * 2 = omega arith in
     record {
       crossed = IsCrossed-join _ _ c.args.row_width _ _ _ _ _ _ (omega arith) up c.loop-two.invariant.crossed step;
-      count = rw more at (counted-more _ _ _ _ _ c.loop-two.invariant.count (rw side at c.exchange_lines.ensures.count));
-      holder = g.met.S.Places.same_holder_trans _ _ _ c.loop-two.invariant.holder c.exchange_lines.ensures.holder;
+      count = rw more at (counted-more _ _ _ _ _ c.loop-two.invariant.count (rw side at c.exchange_lines-in-loop-two.ensures.count));
+      holder = g.met.S.Places.same_holder_trans _ _ _ c.loop-two.invariant.holder c.exchange_lines-in-loop-two.ensures.holder;
     }
 
 -- all lines came up, two at a time
