@@ -28,14 +28,15 @@ const LOW: usize = 64;
 /// Rows that begin a multiple of so many items apart meet in one set of a cache, whatever the size of an item.
 const FAR_ROWS: usize = 4096;
 
-/// The greatest width of a narrow matrix, and how many rows are copied at once where lines of output are far apart.
+/// How many such rows are copied at once in a low matrix. A narrow matrix has at most so many columns, and as many of its
+/// rows are copied at once where lines of output are far apart.
 const FEW: usize = 16;
 
-/// The bytes of a first cache.
-const FIRST_CACHE: usize = 32_768;
-
-/// How many of them where the matrix has fewer.
+/// How many rows of a low matrix are copied at once where it has fewer than that.
 const FEWEST: usize = 8;
+
+/// The bytes of a first cache: longer lines of output are far apart.
+const FIRST_CACHE: usize = 32_768;
 
 /// How many rows of another matrix are copied at once.
 const MANY: usize = 128;
