@@ -7,7 +7,7 @@
 //! - A kernel has a counter and nothing else, so the count is all that it did to the list.
 //! - A *source* is a list that is only read ([`Source`]).
 
-ghost use Rattle.std.specs.Prelude.{◌≡◌, ℕ, ◌+◌, ◌-◌, ◌*◌, ◌<◌, ◌≤◌, List, Some, length, swap, slice_get, slice_set};
+ghost use Rattle.std.specs.Prelude.{◌≡◌, ℕ, ◌+◌, ◌-◌, ◌*◌, ◌<◌, ◌≤◌, ◌⊎◌, List, Some, length, swap, slice_get, slice_set};
 ghost use Rattle.p3_util_kernels.specs.Diagonal.{SwapsAcross};
 ghost use Rattle.p3_util_kernels.specs.Exchanged.{RunsExchanged};
 ghost use Rattle.p3_util_kernels.specs.Region.{IsRegionTransposed, LiesInMatrix};
@@ -43,12 +43,13 @@ pub trait Places {
         ensures exchanged { items self.new ≡ swap (items self.old) i j }
         ensures holder { same_holder self.old self.new };
 
-    /// Exchanges the `len` items from place `i` on with the `len` items from place `j` on, in order. The first run ends
-    /// before the second begins. A holder may do so in a faster way than by its `exchange`.
+    /// Exchanges the `len` items from place `i` on with the `len` items from place `j` on, in order. The two runs have no
+    /// place in common. A holder may do so in a faster way than by its `exchange`.
     #[inline(always)]
     fn exchange_runs(&mut self, i: usize, j: usize, len: usize)
-        requires apart { i + len ≤ j }
-        requires within { j + len ≤ length (items self.old) }
+        requires apart { (i + len ≤ j) ⊎ (j + len ≤ i) }
+        requires first { i + len ≤ length (items self.old) }
+        requires second { j + len ≤ length (items self.old) }
         ensures exchanged { RunsExchanged i j len (items self.old) (items self.new) }
         ensures holder { same_holder self.old self.new }
     {

@@ -91,6 +91,7 @@ pub fn reverse_slice_row_index_bits<F>(vals: &mut [F], row_width: usize)
 
 /// Reverses the rows of `places` by index bits, as [`reverse_row_index_bits_on`] does over a fresh counter, and returns the
 /// number of exchanges.
+#[inline(always)]
 pub fn reverse_rows_counted<S: Places>(places: &mut S, row_width: usize) -> u128
     requires { FitsRows (length (S.items places.old)) row_width }
     ensures order { IsRowReversal row_width (S.items places.old) (S.items places.new) }

@@ -1,6 +1,6 @@
 //! Counters over holders, which see each exchange and each write.
 
-ghost use Rattle.std.specs.Prelude.{◌≡◌, ℕ, ◌+◌, ◌-◌, ◌*◌, ◌^◌, ◌<◌, ◌≤◌, length, swap, slice_set};
+ghost use Rattle.std.specs.Prelude.{◌≡◌, ℕ, ◌+◌, ◌-◌, ◌*◌, ◌^◌, ◌<◌, ◌≤◌, ◌⊎◌, length, swap, slice_set};
 ghost use Rattle.p3_util_kernels.specs.Diagonal.{SwapsAcross};
 ghost use Rattle.p3_util_kernels.specs.Exchanged.{RunsExchanged};
 ghost use Rattle.p3_util_kernels.specs.Region.{IsRegionTransposed, LiesInMatrix, items_of};
@@ -57,11 +57,12 @@ impl<S: Places> Swaps<S> {
     }
 
     /// Exchanges the `len` items from place `i` on with those from place `j` on, by one exchange of runs, and counts `len`.
-    /// The first run ends before the second begins.
+    /// The two runs have no place in common.
     #[inline(always)]
     pub fn swap_runs(&mut self, i: usize, j: usize, len: usize)
-        requires apart { i + len ≤ j }
-        requires within { j + len ≤ length (S.items self.old.holder) }
+        requires apart { (i + len ≤ j) ⊎ (j + len ≤ i) }
+        requires first { i + len ≤ length (S.items self.old.holder) }
+        requires second { j + len ≤ length (S.items self.old.holder) }
         ensures exchanged { RunsExchanged i j len (S.items self.old.holder) (S.items self.new.holder) }
         ensures count { self.new.count ≡ counted self.old.count len }
         ensures holder { S.same_holder self.old.holder self.new.holder }

@@ -1,6 +1,6 @@
 //! The holders of this crate: a reference to a holder, and slices.
 
-ghost use Rattle.std.specs.Prelude.{◌≡◌, ℕ, ◌+◌, ◌-◌, ◌*◌, ◌<◌, ◌≤◌, ◌++◌, length};
+ghost use Rattle.std.specs.Prelude.{◌≡◌, ℕ, ◌+◌, ◌-◌, ◌*◌, ◌<◌, ◌≤◌, ◌⊎◌, ◌++◌, length};
 ghost use Rattle.std.proofs.Common.{refl, ◌∙◌};
 ghost use Rattle.p3_util_kernels.specs.Diagonal.{SwapsAcross};
 ghost use Rattle.p3_util_kernels.specs.Exchanged.{RunsExchanged};
@@ -163,12 +163,14 @@ impl<'a, F> Places for SlicePlaces<'a, F> {
 /// Exchanges the `len` items of `items` from place `i` on with those from place `j` on.
 #[inline(always)]
 fn swap_runs<F>(items: &mut [F], i: usize, j: usize, len: usize)
-    requires apart { i + len ≤ j }
-    requires within { j + len ≤ length items.old }
+    requires apart { (i + len ≤ j) ⊎ (j + len ≤ i) }
+    requires first { i + len ≤ length items.old }
+    requires second { j + len ≤ length items.old }
     ensures { RunsExchanged i j len items.old items.new }
 {
-    let (front, back) = items.split_at_mut(j);
-    front[i..i + len].swap_with_slice(&mut back[..len]);
+    let (low, high) = (i.min(j), i.max(j));
+    let (front, back) = items.split_at_mut(high);
+    front[low..low + len].swap_with_slice(&mut back[..len]);
 }
 
 /// The number of steps of a line that is exchanged in a loop of known length.

@@ -137,7 +137,7 @@ fn exchange_rows<S: Places>(m: &mut Swaps<S>, i: usize, j: usize, row_width: usi
     if row_width == 1 {
         m.swap(i, j);
     } else {
-        m.swap_runs(i.min(j) * row_width, i.max(j) * row_width, row_width);
+        m.swap_runs(i * row_width, j * row_width, row_width);
     }
 }
 

@@ -1,5 +1,5 @@
 use Rattle.std.proofs.Common.{◌≡◌, ◌*◌, arith}
-use Rattle.p3_util_kernels.proofs.ExchangedRuns.{RunsExchanged-one, RunsExchanged-ordered}
+use Rattle.p3_util_kernels.proofs.ExchangedRuns.{RunsExchanged-one}
 use Rattle.p3_util_kernels.proofs.reverse.rows.exchange_rows.Goals as goal
 
 pub returns-then-row_width-eq1-clause-exchanged : goal.returns-then-row_width-eq1-clause-exchanged
@@ -10,7 +10,3 @@ returns-then-row_width-eq1-clause-exchanged g c =
     let first = rw one at c.requires.first in
     let second = rw one at c.requires.second in
     rw (one, i, j) (RunsExchanged-one c.args.i c.args.j _ _ (omega arith) (omega arith) c.swap.ensures.exchanged)
-
-pub returns-else-row_width-eq1-clause-exchanged : goal.returns-else-row_width-eq1-clause-exchanged
-returns-else-row_width-eq1-clause-exchanged g c =
-    RunsExchanged-ordered c.args.i c.args.j c.args.row_width _ _ (rw (c.min.ensures, c.max.ensures) at c.swap_runs.ensures.exchanged)
