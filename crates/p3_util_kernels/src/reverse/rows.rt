@@ -44,20 +44,15 @@ pub fn reverse_row_index_bits_on<S: Places>(m: &mut Swaps<S>, row_width: usize)
         return;
     }
     let rows = len / row_width;
-    let digits = log2_strict_usize(rows);
-    if digits < 2 {
-        return;
-    }
-    if digits == 2 {
-        // With numbers that the compiler knows, the single pair of four rows is exchanged at once.
-        exchange_lines(m, row_width, 2, 2, 0, 0);
-        return;
-    }
-    let side = power_of_two(digits / 2);
-    let stride = rows >> (digits / 2);
-    for two in 0..stride / 2 {
-        let line = two * 2;
-        exchange_lines(m, row_width, digits, stride, line / side, line % side);
+    // With numbers that the compiler knows, the pairs of few rows are exchanged one after the other.
+    match log2_strict_usize(rows) {
+        0 | 1 => {}
+        2 => exchange_pairs(m, row_width, 4, 2),
+        3 => exchange_pairs(m, row_width, 8, 3),
+        4 => exchange_pairs(m, row_width, 16, 4),
+        5 if row_width == 1 => exchange_pairs(m, 1, 32, 5),
+        6 if row_width == 1 => exchange_pairs(m, 1, 64, 6),
+        digits => exchange_pairs(m, row_width, rows, digits),
     }
 }
 
@@ -73,6 +68,30 @@ pub fn reverse_chunks_on<S: Places>(m: &mut Swaps<S>, lb_num_chunks: usize, lb_c
     // Its contract says that the length is a usize.
     let _ = m.len();
     reverse_row_index_bits_on(m, 1 << lb_chunk_size);
+}
+
+/// Exchanges all pairs of the `rows` rows, whose indices have `digits` digits.
+#[inline(always)]
+fn exchange_pairs<S: Places>(m: &mut Swaps<S>, row_width: usize, rows: usize, digits: usize)
+    requires wide { 0 < row_width }
+    requires several { 2 ≤ digits }
+    requires few { digits < 64 }
+    requires power { rows ≡ 2 ^ digits }
+    requires rows { length (S.items m.old.holder) ≡ row_width * 2 ^ digits }
+    requires length_fits { length (S.items m.old.holder) < 2 ^ 64 }
+    requires count_fits { m.old.count < 2 ^ 128 }
+    ensures order { IsRowReversal row_width (S.items m.old.holder) (S.items m.new.holder) }
+    ensures count { RoseByAtMost m.old.count m.new.count (length (S.items m.old.holder) / 2) }
+    ensures exact { (k : ℕ) → length (S.items m.old.holder) ≡ row_width * 2 ^ k
+        → m.new.count ≡ counted m.old.count (row_width * short_swaps k) }
+    ensures holder { S.same_holder m.old.holder m.new.holder }
+{
+    let side = power_of_two(digits / 2);
+    let stride = rows >> (digits / 2);
+    for two in 0..stride / 2 {
+        let line = two * 2;
+        exchange_lines(m, row_width, digits, stride, line / side, line % side);
+    }
 }
 
 /// Exchanges the pairs of rows of one middle digit and of `y` and `y + 1`, with each `x` below them. The rows have indices of

@@ -1,4 +1,4 @@
-use Rattle.std.proofs.Common.{◌+◌, ◌≤◌, ◌⊎◌, inl, inr, arith}
+use Rattle.std.proofs.Common.{inl, inr, arith}
 use Rattle.p3_util_kernels.proofs.ExchangedRuns.{RunsExchanged-joined, RunsExchanged-one}
 use Rattle.p3_util_kernels.proofs.places.Places.exchange_runs.Goals as goal
 

@@ -10,4 +10,4 @@ returns g c =
     let high = c.max-high.result in
     RunsExchanged-ordered c.args.i c.args.j low high c.args.len _ _ c.min-low.ensures c.max-high.ensures
     (RunsExchanged-slices low high c.args.len _ c.args.items.now _ _ _ _ (omega arith) (omega arith) (omega arith) cut.front cut.back
-        swapped.after swapped.other_after)
+    swapped.after swapped.other_after)

@@ -2,7 +2,7 @@ use Rattle.std.proofs.Common.{◌≡◌, ◌*◌, ◌/◌, ◌%◌, ◌^◌}
 use Rattle.p3_util_kernels.specs.Crossing.{IsCrossed}
 use Rattle.p3_util_kernels.specs.Digits.{sum_below}
 use Rattle.p3_util_kernels.specs.Steps.{counted}
-use Rattle.p3_util_kernels.proofs.reverse.rows.reverse_row_index_bits_on.Given as goal
+use Rattle.p3_util_kernels.proofs.reverse.rows.exchange_pairs.Given as goal
 
 -- the pairs of the lines before these two are exchanged
 abbrev pub invariant-loop-two : goal.invariant-loop-two

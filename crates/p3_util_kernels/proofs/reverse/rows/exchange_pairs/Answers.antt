@@ -1,0 +1,124 @@
+use Rattle.std.proofs.Common.{◌≡◌, ℕ, ◌+◌, ◌-◌, ◌*◌, ◌/◌, ◌%◌, ◌^◌, ◌<◌, ◌≤◌, sym, ap, ◌∙◌, arith}
+use Rattle.std.proofs.lemmas.Nat.{div_below, div-add-mod', mod-mul-add, mod_below, pow-add, pow_pos, shl-shr}
+use Rattle.p3_util_kernels.specs.Digits.{sum_below}
+use Rattle.p3_util_kernels.specs.SwapCounts.{short_swaps}
+use Rattle.p3_util_kernels.proofs.Crossing.{IsCrossed-join, IsCrossed-none, IsRowReversal-crossed, turn-before}
+use Rattle.p3_util_kernels.proofs.Lengths.{rows-same}
+use Rattle.p3_util_kernels.proofs.Lines.{lines-short, sum_below-more, sum_below-none}
+use Rattle.p3_util_kernels.proofs.Steps.{counted-more, counted-zero}
+use Rattle.p3_util_kernels.proofs.SwapCounts.{row_swaps-le}
+use Rattle.p3_util_kernels.proofs.reverse.rows.exchange_pairs.Goals as goal
+
+-- the digits by their parts
+parts : (x : ℕ) → x / 2 + (x % 2 + x / 2) ≡ x
+parts x = omega arith
+
+-- the weight of the high digits
+weight : (rows x : ℕ) → rows ≡ 2 ^ x → rows / 2 ^ (x / 2) ≡ 2 ^ (x % 2 + x / 2)
+weight rows x e =
+    let digits : x ≡ x % 2 + x / 2 + x / 2 = omega arith in
+    let split : 2 ^ x ≡ 2 ^ (x % 2 + x / 2) * 2 ^ (x / 2) = ap (λ n. 2 ^ n) digits ∙ pow-add 2 (x % 2 + x / 2) (x / 2) in
+    rw (e, split) (shl-shr (2 ^ (x % 2 + x / 2)) (x / 2))
+
+rows_in_parts : (len row_width x : ℕ) → len ≡ row_width * 2 ^ x → len ≡ row_width * 2 ^ (x / 2 + (x % 2 + x / 2))
+rows_in_parts len row_width x e = rw (parts x) e
+
+-- a power of two above 1 is even
+power-even : (q : ℕ) → 0 < q → 2 ^ q ≡ 2 * 2 ^ (q - 1)
+power-even q some = let digits : q ≡ 1 + (q - 1) = omega arith in ap (λ n. 2 ^ n) digits ∙ pow-add 2 1 (q - 1)
+
+-- the lower of two neighbours, and the higher
+lower-even : (two q : ℕ) → 0 < q → two * 2 % 2 ^ q % 2 ≡ 0
+lower-even two q some =
+    let split : two * 2 / 2 ^ q * 2 ^ q + two * 2 % 2 ^ q ≡ two * 2 = div-add-mod' (two * 2) (2 ^ q) in
+    let even : two * 2 / 2 ^ q * 2 ^ q ≡ 2 * (two * 2 / 2 ^ q * 2 ^ (q - 1)) = ap (λ n. two * 2 / 2 ^ q * n) (power-even q some) ∙ omega arith in
+    omega (arith, split, even)
+
+higher-fits : (two q : ℕ) → 0 < q → two * 2 % 2 ^ q + 1 < 2 ^ q
+higher-fits two q some = omega (arith, lower-even two q some, power-even q some, mod_below (two * 2) (2 ^ q) (pow_pos q))
+
+higher : (two q : ℕ) → 0 < q → (two * 2 + 1) % 2 ^ q ≡ two * 2 % 2 ^ q + 1
+higher two q some =
+    let split : two * 2 + 1 ≡ two * 2 / 2 ^ q * 2 ^ q + (two * 2 % 2 ^ q + 1) = omega (arith, div-add-mod' (two * 2) (2 ^ q)) in
+    rw split (mod-mul-add (two * 2 / 2 ^ q) (2 ^ q) (two * 2 % 2 ^ q + 1) (higher-fits two q some))
+
+pub loop-two-init : goal.loop-two-init
+loop-two-init g c = record {
+  crossed = IsCrossed-none _ _ c.args.row_width _ _ _ (λ m x y hx hy from to. absurd (omega arith));
+  count = rw sum_below-none (let none : c.args.row_width * 0 ≡ 0 = omega arith in rw none (sym (counted-zero _ c.requires.count_fits)));
+  holder = g.met.S.Places.same_holder_refl _;
+}
+
+pub exchange_lines-requires-clause-stride : goal.exchange_lines-requires-clause-stride
+exchange_lines-requires-clause-stride g c = weight _ _ c.requires.power
+
+pub exchange_lines-requires-clause-digit : goal.exchange_lines-requires-clause-digit
+exchange_lines-requires-clause-digit g c =
+    let x = c.args.digits in
+    let below : c.loop-two.two * 2 < 2 ^ (x % 2 + x / 2) = omega (arith, weight _ _ c.requires.power) in
+    rw c.power_of_two-side.ensures (div_below (c.loop-two.two * 2) (2 ^ (x / 2)) (2 ^ (x % 2)) (pow_pos (x / 2)) (rw (pow-add 2 (x % 2) (x / 2)) at below))
+
+pub exchange_lines-requires-clause-even : goal.exchange_lines-requires-clause-even
+exchange_lines-requires-clause-even g c = rw c.power_of_two-side.ensures (lower-even c.loop-two.two (c.args.digits / 2) (omega arith))
+
+pub exchange_lines-requires-clause-y : goal.exchange_lines-requires-clause-y
+exchange_lines-requires-clause-y g c = rw c.power_of_two-side.ensures (higher-fits c.loop-two.two (c.args.digits / 2) (omega arith))
+
+pub exchange_lines-requires-clause-rows : goal.exchange_lines-requires-clause-rows
+exchange_lines-requires-clause-rows g c = c.loop-two.invariant.crossed.same_length ∙ rows_in_parts _ _ c.args.digits c.requires.rows
+
+pub exchange_lines-requires-clause-length_fits : goal.exchange_lines-requires-clause-length_fits
+exchange_lines-requires-clause-length_fits g c = omega (arith, c.loop-two.invariant.crossed.same_length)
+
+pub exchange_lines-requires-clause-count_fits : goal.exchange_lines-requires-clause-count_fits
+exchange_lines-requires-clause-count_fits g c = omega (arith, c.loop-two.invariant.count)
+
+pub loop-two-preserved : goal.loop-two-preserved
+loop-two-preserved g c =
+    let q = c.args.digits / 2 in
+    let two = c.loop-two.two in
+    let side = c.power_of_two-side.ensures in
+    let split : two * 2 / 2 ^ q * 2 ^ q + two * 2 % 2 ^ q ≡ two * 2 = div-add-mod' (two * 2) (2 ^ q) in
+    let half : two * 2 / 2 ≡ two = omega arith in
+    let step = rw (side, split, half) at c.exchange_lines.ensures.crossed in
+    let next : (two + 1) * 2 ≡ two * 2 + 1 + 1 = omega arith in
+    let more : c.args.row_width * sum_below (two * 2) (λ n. n % 2 ^ q) + c.args.row_width * (two * 2 % 2 ^ q + (two * 2 % 2 ^ q + 1))
+    ≡ c.args.row_width * sum_below ((two + 1) * 2) (λ n. n % 2 ^ q) = rw (next, sum_below-more, sum_below-more, higher two q (omega arith)) (omega arith) in
+    let up : two * 2 ^ q * 2 ≤ (two + 1) * 2 ^ q * 2 = omega arith in
+    record {
+      crossed = IsCrossed-join _ _ c.args.row_width _ _ _ _ _ _ (omega arith) up c.loop-two.invariant.crossed step;
+      count = rw more at (counted-more _ _ _ _ _ c.loop-two.invariant.count (rw side at c.exchange_lines.ensures.count));
+      holder = g.met.S.Places.same_holder_trans _ _ _ c.loop-two.invariant.holder c.exchange_lines.ensures.holder;
+    }
+
+-- all lines came up, two at a time
+all_lines : (two rows x : ℕ) → 2 ≤ x → rows ≡ 2 ^ x → two ≡ rows / 2 ^ (x / 2) / 2 → two * 2 ≡ 2 ^ (x % 2 + x / 2)
+all_lines two rows x some power e =
+    let even : 2 ^ (x % 2 + x / 2) ≡ 2 * 2 ^ (x % 2 + x / 2 - 1) = power-even (x % 2 + x / 2) (omega arith) in
+    omega (arith, weight rows x power)
+
+pub returns-clause-order : goal.returns-clause-order
+returns-clause-order g c =
+    let x = c.args.digits in
+    let lines = all_lines c.loop-two.two _ x (omega arith) c.requires.power (omega arith) in
+    let half : c.loop-two.two ≡ 2 ^ (x % 2 + x / 2) / 2 = omega (arith, lines) in
+    IsRowReversal-crossed (x / 2) (x % 2) c.args.row_width _ _ _ (omega arith) (rows_in_parts _ _ x c.requires.rows)
+    (λ m a b hm ha hb. turn-before (x / 2) (x % 2) m a b (omega arith) hm ha hb)
+    (rw half at c.loop-two.invariant.crossed)
+
+pub returns-clause-exact : goal.returns-clause-exact
+returns-clause-exact g c k e =
+    let x = c.args.digits in
+    let lines = all_lines c.loop-two.two _ x (omega arith) c.requires.power (omega arith) in
+    let same : x ≡ k = rows-same c.args.row_width x k c.requires.wide (sym c.requires.rows ∙ e) in
+    rw (lines, lines-short (x / 2) (x % 2) (omega arith), parts x, same) at c.loop-two.invariant.count
+
+pub returns-clause-count : goal.returns-clause-count
+returns-clause-count g c =
+    let x = c.args.digits in
+    let lines = all_lines c.loop-two.two _ x (omega arith) c.requires.power (omega arith) in
+    record {
+      steps = c.args.row_width * short_swaps x;
+      count = rw (lines, lines-short (x / 2) (x % 2) (omega arith), parts x) at c.loop-two.invariant.count;
+      bound = rw c.requires.rows (row_swaps-le c.args.row_width x);
+    }
