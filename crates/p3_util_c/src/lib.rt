@@ -6,5 +6,6 @@
 pub mod bits;
 pub mod reverse;
 pub mod rows;
+mod runs;
 pub mod transpose;
 mod words;

@@ -48,7 +48,7 @@ pub extern "C" fn p3_util_reverse_8(vals: &mut [[u8; 8]]) -> bool
 pub extern "C" fn p3_util_reverse_16(vals: &mut [[[u8; 8]; 2]]) -> bool
     ensures { IsTriedReversal result vals.old vals.new }
 {
-    let mut places = WordPlaces::new(vals);
+    let mut places = WordPlaces::<_, 0>::new(vals);
     reverse_where_it_fits(&mut places)
 }
 
@@ -58,7 +58,7 @@ pub extern "C" fn p3_util_reverse_16(vals: &mut [[[u8; 8]; 2]]) -> bool
 pub extern "C" fn p3_util_reverse_32(vals: &mut [[[u8; 8]; 4]]) -> bool
     ensures { IsTriedReversal result vals.old vals.new }
 {
-    let mut places = WordPlaces::new(vals);
+    let mut places = WordPlaces::<_, 0>::new(vals);
     reverse_where_it_fits(&mut places)
 }
 

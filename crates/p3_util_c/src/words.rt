@@ -29,13 +29,14 @@ impl Words for [[u8; 8]; 4] {
     }
 }
 
-/// The items of a mutable slice. What it holds is in the slice when the borrow ends.
+/// The items of a mutable slice. What it holds is in the slice when the borrow ends. Holders of different `LINES` are
+/// different types, so that the compiler makes code of its own for rows of so many lines of the cache.
 #[derive(Drop)]
-pub struct WordPlaces<'a, T> {
+pub struct WordPlaces<'a, T, const LINES: usize> {
     pub items: &'a mut [T],
 }
 
-impl<'a, T> WordPlaces<'a, T> {
+impl<'a, T, const LINES: usize> WordPlaces<'a, T, LINES> {
     pub fn new(items: &'a mut [T]) -> Self
         ensures { result.items ≡ items.entry }
     {
@@ -43,7 +44,7 @@ impl<'a, T> WordPlaces<'a, T> {
     }
 }
 
-impl<'a, T: Words> Places for WordPlaces<'a, T> {
+impl<'a, T: Words, const LINES: usize> Places for WordPlaces<'a, T, LINES> {
     type Item = T;
 
     ghost items = { λ s. s.items.now };

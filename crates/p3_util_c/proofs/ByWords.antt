@@ -1,0 +1,59 @@
+-- Runs exchanged word by word.
+use Rattle.std.proofs.Common.{◌≡◌, ℕ, ◌+◌, ◌-◌, ◌*◌, ◌≤◌, ◌⊎◌, List, ◌++◌, length, slice_get, take, drop, length-append, length-drop, inl, inr, ap, ◌∙◌, arith}
+use Rattle.std.proofs.Math.ListN.{length-take}
+use Rattle.p3_util_kernels.specs.Exchanged.{RunsExchanged}
+use Rattle.p3_util_kernels.specs.Strided.{IsStridedPut}
+use Rattle.p3_util_kernels.proofs.Cuts.{slice_get-append_left, slice_get-append_right, slice_get-take, slice_get-drop}
+use Rattle.p3_util_kernels.proofs.StridedPuts.{IsStridedPut-join}
+
+-- a word of one list that is put into another
+IsStridedPut-word : {A : Type 0} (i start n : ℕ) (input old new word : List A) → i + n ≤ length old → start + n ≤ length input
+    → word ≡ take n (drop start input) → new ≡ take i old ++ (word ++ drop (i + n) old) → IsStridedPut i start 1 n input old new
+IsStridedPut-word i start n input old new word room inside is_word put =
+    let before : length (take i old) ≡ i = omega (arith, length-take i old) in
+    let wide : length word ≡ n = omega (arith, ap length is_word, length-take n (drop start input), length-drop start input) in
+    let rest : length (drop (i + n) old) + (i + n) ≡ length old = omega (arith, length-drop (i + n) old) in
+    let tail = word ++ drop (i + n) old in
+    rw put (record {
+      same_length = omega (arith, length-append (take i old) tail, length-append word (drop (i + n) old));
+      places = λ t h.
+          slice_get-append_right (take i old) tail (i + t) t (omega arith)
+          ∙ slice_get-append_left word (drop (i + n) old) t (omega arith)
+          ∙ ap (λ xs. slice_get xs t) is_word ∙ slice_get-take n (drop start input) t h
+          ∙ slice_get-drop start input t (start + t * 1) (omega arith);
+      others = λ p h.
+          elim h [
+            | inl l ↦ slice_get-append_left (take i old) tail p (omega arith) ∙ slice_get-take i old p l
+            | inr r ↦
+                slice_get-append_right (take i old) tail p (p - i) (omega arith)
+                ∙ slice_get-append_right word (drop (i + n) old) (p - i) (p - (i + n)) (omega arith)
+                ∙ slice_get-drop (i + n) old (p - (i + n)) p (omega arith)
+          ];
+    })
+
+-- each run put in the place of the other
+RunsExchanged-puts : {A : Type 0} (i j len : ℕ) (old now new : List A) → (i + len ≤ j) ⊎ (j + len ≤ i) → IsStridedPut i j 1 len old old now
+    → IsStridedPut j i 1 len old now new → RunsExchanged i j len old new
+RunsExchanged-puts i j len old now new apart one other = record {
+  same_length = other.same_length ∙ one.same_length;
+  first = λ t h. other.others (i + t) (elim apart [ inl up ↦ inl (omega arith) | inr down ↦ inr (omega arith) ]) ∙ one.places t h ∙ ap (slice_get old) (omega arith);
+  second = λ t h. other.places t h ∙ ap (slice_get old) (omega arith);
+  others = λ p h k. other.others p k ∙ one.others p h;
+}
+
+-- two words from i on and two from j on, each put in the place of the other
+pub RunsExchanged-words : {A : Type 0} (i j n : ℕ) (xs ys zs us vs a b c d : List A) → (i + 2 * n ≤ j) ⊎ (j + 2 * n ≤ i)
+    → i + 2 * n ≤ length xs → j + 2 * n ≤ length xs
+    → a ≡ take n (drop i xs) → b ≡ take n (drop (i + n) xs) → c ≡ take n (drop j xs) → d ≡ take n (drop (j + n) xs)
+    → ys ≡ take i xs ++ (c ++ drop (i + n) xs) → zs ≡ take (i + n) ys ++ (d ++ drop (i + n + n) ys)
+    → us ≡ take j zs ++ (a ++ drop (j + n) zs) → vs ≡ take (j + n) us ++ (b ++ drop (j + n + n) us)
+    → RunsExchanged i j (2 * n) xs vs
+RunsExchanged-words i j n xs ys zs us vs a b c d apart room_i room_j is_a is_b is_c is_d put_c put_d put_a put_b =
+    let two : 2 * n ≡ n + n = omega arith in
+    let past : (p : ℕ) → p + n * 1 ≡ p + n = λ p. omega arith in
+    let first = IsStridedPut-word i j n xs xs ys c (omega arith) (omega arith) is_c put_c in
+    let second = IsStridedPut-word (i + n) (j + n * 1) n xs ys zs d (omega (arith, first.same_length)) (omega arith) (rw past is_d) put_d in
+    let third = IsStridedPut-word j i n xs zs us a (omega (arith, first.same_length, second.same_length)) (omega arith) is_a put_a in
+    let fourth = IsStridedPut-word (j + n) (i + n * 1) n xs us vs b (omega (arith, first.same_length, second.same_length, third.same_length)) (omega arith) (rw past is_b) put_b in
+    rw two (RunsExchanged-puts i j (n + n) xs zs vs (elim apart [ inl up ↦ inl (omega arith) | inr down ↦ inr (omega arith) ]) (IsStridedPut-join i j 1 xs n n xs ys zs first second)
+    (IsStridedPut-join j i 1 xs n n zs us vs third fourth))
