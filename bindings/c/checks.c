@@ -67,6 +67,28 @@ static int check(size_t size, reverse_call *reverse, reverse_rows_call *reverse_
     return 0;
 }
 
+/* Rows of widths that go by loops of their own, and of others, in lists of four to 64 rows. */
+static int check_rows(size_t size, reverse_rows_call *reverse_rows) {
+    static const size_t WIDTHS[] = {32, 64, 96, 128, 256, 320};
+    enum { MOST_ROWS = 64, WIDEST = 320 };
+    static unsigned char room[1 + MOST_ROWS * WIDEST];
+    for (size_t w = 0; w < sizeof WIDTHS / sizeof WIDTHS[0]; w++) {
+        for (unsigned digits = 2; digits <= 6; digits++) {
+            size_t rows = (size_t)1 << digits, width = WIDTHS[w];
+            for (size_t i = 0; i < rows * width; i++) {
+                room[1 + i] = (unsigned char)(i / width + i % width);
+            }
+            CHECK(reverse_rows(room + 1, rows * width / size, width / size));
+            for (size_t i = 0; i < rows * width; i++) {
+                size_t row = 0;
+                CHECK(p3_util_reverse_bits_len(i / width, digits, &row));
+                CHECK(room[1 + i] == (unsigned char)(row + i % width));
+            }
+        }
+    }
+    return 0;
+}
+
 static int check_bits(void) {
     size_t number = 7;
     CHECK(p3_util_log2_ceil(0) == 0 && p3_util_log2_ceil(9) == 4 && p3_util_log2_floor(9) == 3);
@@ -78,12 +100,17 @@ static int check_bits(void) {
     return 0;
 }
 
+static int check_size(size_t size, reverse_call *reverse, reverse_rows_call *reverse_rows, transpose_call *transpose) {
+    int status = check(size, reverse, reverse_rows, transpose);
+    return status ? status : check_rows(size, reverse_rows);
+}
+
 int main(void) {
     int status = check_bits();
-    status = status ? status : check(1, p3_util_reverse_1, p3_util_reverse_rows_1, p3_util_transpose_1);
-    status = status ? status : check(2, p3_util_reverse_2, p3_util_reverse_rows_2, p3_util_transpose_2);
-    status = status ? status : check(4, p3_util_reverse_4, p3_util_reverse_rows_4, p3_util_transpose_4);
-    status = status ? status : check(8, p3_util_reverse_8, p3_util_reverse_rows_8, p3_util_transpose_8);
-    status = status ? status : check(16, p3_util_reverse_16, p3_util_reverse_rows_16, p3_util_transpose_16);
-    return status ? status : check(32, p3_util_reverse_32, p3_util_reverse_rows_32, p3_util_transpose_32);
+    status = status ? status : check_size(1, p3_util_reverse_1, p3_util_reverse_rows_1, p3_util_transpose_1);
+    status = status ? status : check_size(2, p3_util_reverse_2, p3_util_reverse_rows_2, p3_util_transpose_2);
+    status = status ? status : check_size(4, p3_util_reverse_4, p3_util_reverse_rows_4, p3_util_transpose_4);
+    status = status ? status : check_size(8, p3_util_reverse_8, p3_util_reverse_rows_8, p3_util_transpose_8);
+    status = status ? status : check_size(16, p3_util_reverse_16, p3_util_reverse_rows_16, p3_util_transpose_16);
+    return status ? status : check_size(32, p3_util_reverse_32, p3_util_reverse_rows_32, p3_util_transpose_32);
 }
