@@ -15,11 +15,12 @@ ghost use Rattle.p3_util_kernels.specs.Strided.{IsStridedPut, swap_strided};
 
 mod copies;
 mod counters;
-mod holders;
+mod references;
+mod slices;
 
 use crate::transpose::Region;
 pub use counters::{Swaps, Writes};
-pub use holders::{SliceCells, SlicePlaces, SliceSource};
+pub use slices::{SliceCells, SlicePlaces, SliceSource};
 
 /// A list whose items can be exchanged, and neither read nor moved in another way.
 ///

@@ -1,6 +1,6 @@
 use Rattle.std.proofs.Common.{◌+◌, ◌++◌}
 use Rattle.p3_util_kernels.specs.Diagonal.{SwapsAcross}
-use Rattle.p3_util_kernels.proofs.places.holders.cross_rows.Given as goal
+use Rattle.p3_util_kernels.proofs.places.slices.cross_rows.Given as goal
 
 -- the rows before `line` are exchanged
 abbrev pub invariant-loop-line : goal.invariant-loop-line

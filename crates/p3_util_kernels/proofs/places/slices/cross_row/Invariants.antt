@@ -1,6 +1,6 @@
 use Rattle.std.proofs.Common.{◌+◌, ◌++◌}
 use Rattle.p3_util_kernels.specs.Diagonal.{SwapsAcross}
-use Rattle.p3_util_kernels.proofs.places.holders.cross_row.Given as goal
+use Rattle.p3_util_kernels.proofs.places.slices.cross_row.Given as goal
 
 -- the columns before `t` are exchanged
 abbrev pub invariant-loop-t : goal.invariant-loop-t

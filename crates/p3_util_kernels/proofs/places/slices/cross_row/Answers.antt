@@ -1,6 +1,6 @@
 use Rattle.std.proofs.Common.{rules, ◌≡◌, ◌+◌, ◌*◌, ◌<◌, length, arith}
 use Rattle.p3_util_kernels.proofs.Diagonal.{SwapsAcross-item, in-front}
-use Rattle.p3_util_kernels.proofs.places.holders.cross_row.Goals as goal
+use Rattle.p3_util_kernels.proofs.places.slices.cross_row.Goals as goal
 
 pub offset_bounds-front-first : goal.offset_bounds-front-first
 offset_bounds-front-first g c =

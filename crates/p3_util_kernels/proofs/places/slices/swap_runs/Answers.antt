@@ -1,6 +1,6 @@
 use Rattle.std.proofs.Common.{arith}
 use Rattle.p3_util_kernels.proofs.ExchangedRuns.{RunsExchanged-ordered, RunsExchanged-slices}
-use Rattle.p3_util_kernels.proofs.places.holders.swap_runs.Goals as goal
+use Rattle.p3_util_kernels.proofs.places.slices.swap_runs.Goals as goal
 
 pub returns : goal.returns
 returns g c =

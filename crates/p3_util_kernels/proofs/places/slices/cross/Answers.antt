@@ -1,7 +1,7 @@
 use Rattle.std.proofs.Common.{◌≡◌, ◌+◌, ◌*◌, ◌<◌, ◌++◌, length, set, sym, ap, ◌∙◌, arith}
 use Rattle.std.specs.List.{swap}
 use Rattle.p3_util_kernels.proofs.Strided.{swap_strided-none, swap_strided-more, swap-across}
-use Rattle.p3_util_kernels.proofs.places.holders.cross.Goals as goal
+use Rattle.p3_util_kernels.proofs.places.slices.cross.Goals as goal
 
 pub loop-t-init : goal.loop-t-init
 loop-t-init g c = sym (swap_strided-none _ _ _ _)

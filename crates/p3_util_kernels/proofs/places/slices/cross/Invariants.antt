@@ -1,6 +1,6 @@
 use Rattle.std.proofs.Common.{◌≡◌, ◌++◌, length}
 use Rattle.p3_util_kernels.specs.Strided.{swap_strided}
-use Rattle.p3_util_kernels.proofs.places.holders.cross.Given as goal
+use Rattle.p3_util_kernels.proofs.places.slices.cross.Given as goal
 
 abbrev pub invariant-loop-t : goal.invariant-loop-t
 invariant-loop-t g l =

@@ -1,0 +1,97 @@
+//! A reference to a holder is a holder too.
+
+ghost use Rattle.std.specs.Prelude.{◌≡◌};
+ghost use Rattle.std.proofs.Common.{◌∙◌, refl};
+
+use crate::places::{Cells, Places, Source};
+use crate::transpose::Region;
+
+/// The holder behind the reference is the holder.
+impl<S: Places> Places for &mut S {
+    type Item = S::Item;
+
+    ghost items = { λ m. S.items m.now };
+
+    ghost same_holder = { λ a b. (a.ghost_name ≡ b.ghost_name) × S.same_holder a.now b.now };
+
+    fn len(&self) -> usize {
+        S::len(self)
+    }
+
+    #[inline(always)]
+    fn exchange(&mut self, i: usize, j: usize) {
+        S::exchange(self, i, j);
+    }
+
+    #[inline(always)]
+    fn exchange_runs(&mut self, i: usize, j: usize, len: usize) {
+        S::exchange_runs(self, i, j, len);
+    }
+
+    #[inline(always)]
+    fn exchange_strided(&mut self, i: usize, j: usize, stride: usize, len: usize) {
+        S::exchange_strided(self, i, j, stride, len);
+    }
+
+    #[inline(always)]
+    fn exchange_across(
+        &mut self,
+        base: usize,
+        stride: usize,
+        row: usize,
+        rows: usize,
+        col: usize,
+        cols: usize,
+    ) {
+        S::exchange_across(self, base, stride, row, rows, col, cols);
+    }
+
+    ghost same_holder_refl = { λ a. (refl, S.same_holder_refl a.now) };
+
+    ghost same_holder_trans = { λ a b c p q. (p.0 ∙ q.0, S.same_holder_trans a.now b.now c.now p.1 q.1) };
+}
+
+/// The holder behind the reference is the holder.
+impl<C: Cells> Cells for &mut C {
+    type Item = C::Item;
+
+    ghost items = { λ m. C.items m.now };
+
+    ghost same_holder = { λ a b. (a.ghost_name ≡ b.ghost_name) × C.same_holder a.now b.now };
+
+    fn len(&self) -> usize {
+        C::len(self)
+    }
+
+    #[inline(always)]
+    fn put(&mut self, i: usize, v: Self::Item) {
+        C::put(self, i, v);
+    }
+
+    #[inline(always)]
+    fn put_strided<R: Source<Item = Self::Item>>(
+        &mut self,
+        i: usize,
+        source: &R,
+        start: usize,
+        stride: usize,
+        len: usize,
+    ) {
+        C::put_strided(self, i, source, start, stride, len);
+    }
+
+    #[inline(always)]
+    fn put_columns<R: Source<Item = Self::Item>>(
+        &mut self,
+        source: &R,
+        region: Region,
+        width: usize,
+        height: usize,
+    ) {
+        C::put_columns(self, source, region, width, height);
+    }
+
+    ghost same_holder_refl = { λ a. (refl, C.same_holder_refl a.now) };
+
+    ghost same_holder_trans = { λ a b c p q. (p.0 ∙ q.0, C.same_holder_trans a.now b.now c.now p.1 q.1) };
+}
