@@ -4,27 +4,56 @@ use std::env;
 use std::path::{Path, PathBuf};
 use std::process::exit;
 
-/// Names the folder of the static library where it is not in `crates/p3_util_c/out` of the checkout.
+/// The variable that names a folder with the library.
 const FOLDER: &str = "P3_UTIL_C_DIR";
+
+/// What is linked where there is no library. A check and the documentation need none; rustc's message about a build
+/// contains this name.
+const MISSING: &str = "p3_util_c_is_missing__take_a_release_of_p3-util-proved_or_run_rt_lib_in_crates_p3_util_c";
 
 fn main() {
     println!("cargo::rerun-if-env-changed={FOLDER}");
     let package = env::var_os("CARGO_MANIFEST_DIR").map(PathBuf::from).unwrap_or_default();
-    let folder = match env::var_os(FOLDER) {
-        Some(folder) => PathBuf::from(folder),
-        None => package.join("../../crates/p3_util_c/out"),
-    };
-    let library = folder.join("libp3_util_c.a");
-    println!("cargo::rerun-if-changed={}", library.display());
-    if !library.is_file() {
-        stop(&library);
+    let mut folders = vec![package.join("lib"), package.join("../../crates/p3_util_c/out")];
+    if let Some(named) = env::var_os(FOLDER).map(PathBuf::from) {
+        if named.is_relative() {
+            refuse(&named, &package);
+        }
+        folders.push(named);
     }
-    println!("cargo::rustc-link-search=native={}", folder.display());
-    println!("cargo::rustc-link-lib=static=p3_util_c");
+    match folders.iter().find(|folder| library_in(folder).is_file()) {
+        Some(folder) => {
+            println!("cargo::rerun-if-changed={}", library_in(folder).display());
+            println!("cargo::rustc-link-search=native={}", folder.display());
+            println!("cargo::rustc-link-lib=static=p3_util_c");
+        }
+        None => {
+            warn(&folders);
+            println!("cargo::rustc-link-lib=static={MISSING}");
+        }
+    }
 }
 
-fn stop(library: &Path) {
-    eprintln!("There is no {}.", library.display());
-    eprintln!("Build it with `rt lib` in crates/p3_util_c, or set {FOLDER} to the folder that has it.");
+fn library_in(folder: &Path) -> PathBuf {
+    folder.join("libp3_util_c.a")
+}
+
+fn refuse(named: &Path, package: &Path) -> ! {
+    eprintln!("{FOLDER} is {}, which is relative.", named.display());
+    eprintln!(
+        "It would have to be relative to {}, where this script runs, and not to where cargo was called: give an absolute path.",
+        package.display()
+    );
     exit(1);
+}
+
+fn warn(folders: &[PathBuf]) {
+    for folder in folders {
+        // A file that is not there lets cargo run this script again.
+        println!("cargo::rerun-if-changed={}", library_in(folder).display());
+        println!("cargo::warning=there is no {}", library_in(folder).display());
+    }
+    println!(
+        "cargo::warning=Nothing that uses p3-util-proved will link. A release of the package has the library in its folder lib. With the Rattle kit, `rt lib` in crates/p3_util_c of the checkout builds it. Or set {FOLDER} to the absolute path of a folder that has it."
+    );
 }

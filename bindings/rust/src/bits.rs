@@ -1,23 +1,46 @@
-//! Logarithms of single words, and the reversal of their binary digits.
-
-use crate::library;
+//! Logarithms and powers of single words, and the reversal of their binary digits.
+//!
+//! These are `const fn`, which a call of the library cannot be. So each is a second body beside a proved export: it is
+//! not proved, and the tests compare the two.
 
 /// The least `e` with `n <= 2^e`, which is 0 for 0 and 1.
-#[must_use]
-pub fn log2_ceil_usize(n: usize) -> usize {
-    library::log2_ceil(n)
+#[inline]
+pub const fn log2_ceil_usize(n: usize) -> usize {
+    log2_ceil_u64(n as u64) as usize
 }
 
 /// The greatest `e` with `2^e <= n`, and 0 for 0.
-#[must_use]
-pub fn log2_floor_usize(n: usize) -> usize {
-    library::log2_floor(n)
+#[inline]
+pub const fn log2_floor_usize(n: usize) -> usize {
+    (n | 1).ilog2() as usize
 }
 
 /// The least `e` with `n <= 2^e`, which is 0 for 0 and 1.
-#[must_use]
-pub fn log2_ceil_u64(n: u64) -> u64 {
-    library::log2_ceil(n as usize) as u64
+#[inline]
+pub const fn log2_ceil_u64(n: u64) -> u64 {
+    (u64::BITS - n.saturating_sub(1).leading_zeros()) as u64
+}
+
+/// `2^log_degree`, where a word holds it.
+#[inline]
+pub const fn checked_pow2(log_degree: usize) -> Option<usize> {
+    if log_degree < usize::BITS as usize {
+        Some(1 << log_degree)
+    } else {
+        None
+    }
+}
+
+/// The sum of two logarithms, and 2 to the power of it, where words hold both.
+#[inline]
+pub const fn checked_log_size_sum(a: usize, b: usize) -> Option<(usize, usize)> {
+    let Some(sum) = a.checked_add(b) else {
+        return None;
+    };
+    match checked_pow2(sum) {
+        Some(size) => Some((sum, size)),
+        None => None,
+    }
 }
 
 /// The logarithm to base 2 of a power of two.
@@ -25,13 +48,11 @@ pub fn log2_ceil_u64(n: u64) -> u64 {
 /// # Panics
 ///
 /// Where `n` is no power of two.
-#[must_use]
+#[inline]
 #[track_caller]
-pub fn log2_strict_usize(n: usize) -> usize {
-    match library::log2_strict(n) {
-        Some(exponent) => exponent,
-        None => panic!("{n} is no power of two"),
-    }
+pub const fn log2_strict_usize(n: usize) -> usize {
+    assert!(n.is_power_of_two(), "the number is not a power of two");
+    n.trailing_zeros() as usize
 }
 
 /// The logarithm to base 3 of a power of three.
@@ -39,13 +60,41 @@ pub fn log2_strict_usize(n: usize) -> usize {
 /// # Panics
 ///
 /// Where `n` is no power of three.
-#[must_use]
+#[inline]
 #[track_caller]
-pub fn log3_strict_usize(n: usize) -> usize {
-    match library::log3_strict(n) {
-        Some(exponent) => exponent,
-        None => panic!("{n} is no power of three"),
+pub const fn log3_strict_usize(n: usize) -> usize {
+    assert!(n != 0, "input must be non-zero");
+    // Between two powers of two there is at most one power of three.
+    let exponent = LOG3_CEIL[n.ilog2() as usize];
+    assert!(3usize.pow(exponent) == n, "the number is not a power of 3");
+    exponent as usize
+}
+
+/// At place `i` the least `e` with `2^i <= 3^e`.
+const LOG3_CEIL: [u32; 64] = {
+    let mut exponents = [0; 64];
+    let (mut i, mut exponent, mut power) = (0, 0, 1usize);
+    while i < 64 {
+        if power < 1 << i {
+            exponent += 1;
+            power *= 3;
+        }
+        exponents[i] = exponent;
+        i += 1;
     }
+    exponents
+};
+
+/// The list `[0, 1, .., N - 1]`.
+#[inline]
+pub const fn indices_arr<const N: usize>() -> [usize; N] {
+    let mut indices = [0; N];
+    let mut i = 0;
+    while i < N {
+        indices[i] = i;
+        i += 1;
+    }
+    indices
 }
 
 /// Reverses as many low binary digits of `x` as `n`, a power of two, has below its set digit, and drops the others. For
@@ -54,9 +103,9 @@ pub fn log3_strict_usize(n: usize) -> usize {
 /// # Panics
 ///
 /// Where `n` is no power of two.
-#[must_use]
+#[inline]
 #[track_caller]
-pub fn reverse_bits(x: usize, n: usize) -> usize {
+pub const fn reverse_bits(x: usize, n: usize) -> usize {
     reverse_bits_len(x, log2_strict_usize(n))
 }
 
@@ -66,11 +115,10 @@ pub fn reverse_bits(x: usize, n: usize) -> usize {
 /// # Panics
 ///
 /// Where `bit_len` is above 64.
-#[must_use]
+#[inline]
 #[track_caller]
-pub fn reverse_bits_len(x: usize, bit_len: usize) -> usize {
-    match library::reverse_bits_len(x, bit_len) {
-        Some(reversed) => reversed,
-        None => panic!("a word has no {bit_len} bits"),
-    }
+pub const fn reverse_bits_len(x: usize, bit_len: usize) -> usize {
+    assert!(bit_len <= usize::BITS as usize);
+    // A shift by 64, for no digits, is a shift by none.
+    x.reverse_bits().wrapping_shr(usize::BITS - bit_len as u32)
 }

@@ -2,10 +2,13 @@
 
 use core::ffi::c_void;
 
+/// Reverses `len` items, or returns false.
 type Reverse = unsafe extern "C" fn(vals: *mut c_void, len: usize) -> bool;
 
+/// Reverses rows of `row_width` items, `len` items in all, or returns false.
 type ReverseRows = unsafe extern "C" fn(vals: *mut c_void, len: usize, row_width: usize) -> bool;
 
+/// Transposes `height` rows of `width` items, or returns false.
 type Transpose = unsafe extern "C" fn(
     input: *const c_void,
     input_len: usize,
@@ -15,16 +18,28 @@ type Transpose = unsafe extern "C" fn(
     height: usize,
 ) -> bool;
 
-/// Declares calls of the library. The number at the end of a name is the size of an item in bytes.
-macro_rules! declare {
-    ($($reverse:ident $reverse_rows:ident $transpose:ident)*) => {
-        // It is proved of each call that it touches its lists alone, that it moves whole items, and that it returns
-        // false, with nothing changed, where its condition does not hold. A list may begin at any address.
-        unsafe extern "C" {
-            $(
-                fn $reverse(vals: *mut c_void, len: usize) -> bool;
-                fn $reverse_rows(vals: *mut c_void, len: usize, row_width: usize) -> bool;
-                fn $transpose(
+/// The calls of the library for items of `size` bytes.
+#[derive(Clone, Copy)]
+struct Calls {
+    size: usize,
+    reverse: Reverse,
+    reverse_rows: ReverseRows,
+    transpose: Transpose,
+}
+
+/// Declares the calls for items of each size, the smallest first.
+macro_rules! serve {
+    ($($size:literal)*) => {
+        const SERVED: &[Calls] = &[$({
+            // It is proved of each call that it touches its lists alone, that it moves whole items, and that it returns
+            // false, with nothing changed, where its condition does not hold. A list may begin at any address.
+            unsafe extern "C" {
+                #[link_name = concat!("p3_util_reverse_", $size)]
+                fn reverse(vals: *mut c_void, len: usize) -> bool;
+                #[link_name = concat!("p3_util_reverse_rows_", $size)]
+                fn reverse_rows(vals: *mut c_void, len: usize, row_width: usize) -> bool;
+                #[link_name = concat!("p3_util_transpose_", $size)]
+                fn transpose(
                     input: *const c_void,
                     input_len: usize,
                     output: *mut c_void,
@@ -32,134 +47,98 @@ macro_rules! declare {
                     width: usize,
                     height: usize,
                 ) -> bool;
-            )*
-        }
+            }
+            Calls { size: $size, reverse, reverse_rows, transpose }
+        }),*];
     };
 }
 
+serve! { 1 2 4 8 16 32 }
+
 unsafe extern "C" {
-    safe fn p3_util_log2_ceil(n: usize) -> usize;
-    safe fn p3_util_log2_floor(n: usize) -> usize;
-    // The references are the library's own type of these parameters; nothing else is asked of a caller.
-    safe fn p3_util_log2_strict(n: usize, exponent: &mut usize) -> bool;
-    safe fn p3_util_log3_strict(n: usize, exponent: &mut usize) -> bool;
-    safe fn p3_util_reverse_bits_len(x: usize, bit_len: usize, reversed: &mut usize) -> bool;
+    safe fn p3_util_c_interface_1_library_and_bindings_are_of_one_version() -> usize;
 }
 
-declare! {
-    p3_util_reverse_1 p3_util_reverse_rows_1 p3_util_transpose_1
-    p3_util_reverse_2 p3_util_reverse_rows_2 p3_util_transpose_2
-    p3_util_reverse_4 p3_util_reverse_rows_4 p3_util_transpose_4
-    p3_util_reverse_8 p3_util_reverse_rows_8 p3_util_transpose_8
-    p3_util_reverse_16 p3_util_reverse_rows_16 p3_util_transpose_16
-    p3_util_reverse_32 p3_util_reverse_rows_32 p3_util_transpose_32
-}
+/// Keeps the name of the interface in every program, so that none links with a library of another one.
+#[used]
+static INTERFACE: extern "C" fn() -> usize = p3_util_c_interface_1_library_and_bindings_are_of_one_version;
 
-/// The size of the largest items of the library that items of `size` bytes are made of.
-const fn word_of(size: usize) -> usize {
-    let mut word = 32;
-    while !size.is_multiple_of(word) {
-        word /= 2;
+/// The calls for the largest items of the library that items of `size` bytes, at least one, are made of.
+const fn calls_for_parts(size: usize) -> Calls {
+    let mut found = SERVED[0];
+    let mut i = 1;
+    while i < SERVED.len() {
+        if size.is_multiple_of(SERVED[i].size) {
+            found = SERVED[i];
+        }
+        i += 1;
     }
-    word
+    found
 }
 
-const fn reverse_for(word: usize) -> Reverse {
-    match word {
-        1 => p3_util_reverse_1,
-        2 => p3_util_reverse_2,
-        4 => p3_util_reverse_4,
-        8 => p3_util_reverse_8,
-        16 => p3_util_reverse_16,
-        _ => p3_util_reverse_32,
+/// The calls for items of `size` bytes, where the library has them.
+const fn calls_for(size: usize) -> Option<Calls> {
+    let mut i = 0;
+    while i < SERVED.len() {
+        if SERVED[i].size == size {
+            return Some(SERVED[i]);
+        }
+        i += 1;
     }
+    None
 }
 
-const fn reverse_rows_for(word: usize) -> ReverseRows {
-    match word {
-        1 => p3_util_reverse_rows_1,
-        2 => p3_util_reverse_rows_2,
-        4 => p3_util_reverse_rows_4,
-        8 => p3_util_reverse_rows_8,
-        16 => p3_util_reverse_rows_16,
-        _ => p3_util_reverse_rows_32,
-    }
-}
-
-const fn transpose_for(size: usize) -> Transpose {
-    match size {
-        1 => p3_util_transpose_1,
-        2 => p3_util_transpose_2,
-        4 => p3_util_transpose_4,
-        8 => p3_util_transpose_8,
-        16 => p3_util_transpose_16,
-        32 => p3_util_transpose_32,
-        _ => panic!("items have 0, 1, 2, 4, 8, 16 or 32 bytes"),
-    }
-}
-
-pub(crate) fn log2_ceil(n: usize) -> usize {
-    p3_util_log2_ceil(n)
-}
-
-pub(crate) fn log2_floor(n: usize) -> usize {
-    p3_util_log2_floor(n)
-}
-
-/// The logarithm to base 2 of a power of two.
-pub(crate) fn log2_strict(n: usize) -> Option<usize> {
-    let mut exponent = 0;
-    p3_util_log2_strict(n, &mut exponent).then_some(exponent)
-}
-
-/// The logarithm to base 3 of a power of three.
-pub(crate) fn log3_strict(n: usize) -> Option<usize> {
-    let mut exponent = 0;
-    p3_util_log3_strict(n, &mut exponent).then_some(exponent)
-}
-
-/// The low digits of `x` in reversed order, for at most 64 of them.
-pub(crate) fn reverse_bits_len(x: usize, bit_len: usize) -> Option<usize> {
-    let mut reversed = 0;
-    p3_util_reverse_bits_len(x, bit_len, &mut reversed).then_some(reversed)
+/// Whether the library transposes items of type `T`. Items without bytes need no call.
+pub(crate) const fn transposes<T>() -> bool {
+    size_of::<T>() == 0 || calls_for(size_of::<T>()).is_some()
 }
 
 /// Reverses the order of `vals` by index bits, where the length is zero or a power of two. Returns whether it is.
 pub(crate) fn reverse<F>(vals: &mut [F]) -> bool {
+    reverse_rows(vals, 1)
+}
+
+/// Reverses the order of rows of `row_width` items by index bits, where the length is `row_width` times zero or a power
+/// of two. Returns whether it is.
+pub(crate) fn reverse_rows<F>(vals: &mut [F], row_width: usize) -> bool {
     if size_of::<F>() == 0 {
         // Items without bytes are all one: no order is another.
-        return vals.is_empty() || vals.len().is_power_of_two();
+        let rows = vals.len().checked_div(row_width).unwrap_or(0);
+        return vals.is_empty() || (rows.is_power_of_two() && rows * row_width == vals.len());
     }
-    let word = const { word_of(size_of::<F>()) };
-    let call = const { reverse_for(word_of(size_of::<F>())) };
-    let rows_call = const { reverse_rows_for(word_of(size_of::<F>())) };
-    let (at, len, row_width) = (vals.as_mut_ptr().cast(), vals.len(), size_of::<F>() / word);
-    // SAFETY: the pointer and the number of words are those of one exclusive slice, whose items are rows of words. A slice
+    let calls = const { calls_for_parts(size_of::<F>()) };
+    let parts = size_of::<F>() / calls.size;
+    let Some(width) = row_width.checked_mul(parts) else {
+        // No slice has a row of so many bytes.
+        return vals.is_empty();
+    };
+    let (at, len) = (vals.as_mut_ptr().cast(), vals.len() * parts);
+    // SAFETY: the pointer and the number of parts are those of one exclusive slice, whose items are rows of parts. A slice
     // has fewer than 2^63 bytes, so the product does not wrap. Either call does what a series of `slice::swap` does:
     // afterwards each place holds all bytes of one item, padding included, and each item is at one place. So it moves
     // items of any type, and none is copied or dropped.
     unsafe {
-        if row_width == 1 {
-            call(at, len)
+        if width == 1 {
+            (calls.reverse)(at, len)
         } else {
-            rows_call(at, len * row_width, row_width)
+            (calls.reverse_rows)(at, len, width)
         }
     }
 }
 
 /// Writes to `output` the transpose of `input`, a matrix of `height` rows of `width` items, where both lengths are the
-/// product of the two. Returns whether they are.
-pub(crate) fn transpose<T: Copy>(input: &[T], output: &mut [T], width: usize, height: usize) -> bool {
+/// product of the two. Returns whether they are, and `None` where the library does not transpose items of type `T`.
+pub(crate) fn transpose<T: Copy>(input: &[T], output: &mut [T], width: usize, height: usize) -> Option<bool> {
     if size_of::<T>() == 0 {
         let items = width.checked_mul(height);
-        return items == Some(input.len()) && items == Some(output.len());
+        return Some(items == Some(input.len()) && items == Some(output.len()));
     }
-    let call = const { transpose_for(if size_of::<T>() == 0 { 1 } else { size_of::<T>() }) };
+    let calls = const { calls_for(size_of::<T>()) }?;
     // SAFETY: the pointers and lengths are those of a shared and of an exclusive slice, which therefore do not overlap,
-    // and whose items have the size in the call's name. The call reads the input and writes to each place of the output
+    // and whose items have the size that the call is for. The call reads the input and writes to each place of the output
     // all bytes of one item of the input, padding included, which is a copy, as `T: Copy` allows.
-    unsafe {
-        call(
+    let fits = unsafe {
+        (calls.transpose)(
             input.as_ptr().cast(),
             input.len(),
             output.as_mut_ptr().cast(),
@@ -167,5 +146,6 @@ pub(crate) fn transpose<T: Copy>(input: &[T], output: &mut [T], width: usize, he
             width,
             height,
         )
-    }
+    };
+    Some(fits)
 }

@@ -1,43 +1,176 @@
-//! Logarithms and the reversal of digits: the original's answers, and the panics.
+//! The calls on single words: the original's answers, the proved exports' answers, constants and panics.
 
 use std::panic::catch_unwind;
 
 use p3_util_proved::*;
 
-#[test]
-fn logarithms() {
-    assert_eq!(
-        [0, 1, 2, 3, 4, 5, 0x14fe_901b, usize::MAX].map(log2_ceil_usize),
-        [0, 0, 1, 2, 2, 3, 29, 64]
-    );
-    assert_eq!(
-        [0, 1, 2, 3, 4, 5, usize::MAX].map(log2_floor_usize),
-        [0, 0, 1, 1, 2, 2, 63]
-    );
-    assert_eq!([1, (1 << 63) + 1].map(log2_ceil_u64), [0, 64]);
-    assert!((0..64).all(|e| log2_strict_usize(1 << e) == e));
-    assert!((0..=40).all(|e| log3_strict_usize(3usize.pow(e)) == e as usize));
+/// The proved exports, to compare with. The references are the library's own types of these parameters.
+mod proved {
+    unsafe extern "C" {
+        pub safe fn p3_util_log2_ceil(n: usize) -> usize;
+        pub safe fn p3_util_log2_floor(n: usize) -> usize;
+        pub safe fn p3_util_log2_strict(n: usize, exponent: &mut usize) -> bool;
+        pub safe fn p3_util_log3_strict(n: usize, exponent: &mut usize) -> bool;
+        pub safe fn p3_util_reverse_bits_len(x: usize, bit_len: usize, reversed: &mut usize) -> bool;
+    }
+}
+
+/// What an export wrote, where it returned true.
+fn written(call: impl FnOnce(&mut usize) -> bool) -> Option<usize> {
+    let mut answer = 0;
+    call(&mut answer).then_some(answer)
+}
+
+fn compare_logarithms(n: usize) {
+    assert_eq!(log2_ceil_usize(n), proved::p3_util_log2_ceil(n), "{n}");
+    assert_eq!(log2_ceil_u64(n as u64), proved::p3_util_log2_ceil(n) as u64, "{n}");
+    assert_eq!(log2_floor_usize(n), proved::p3_util_log2_floor(n), "{n}");
+    if let Some(exponent) = written(|to| proved::p3_util_log2_strict(n, to)) {
+        assert_eq!(log2_strict_usize(n), exponent, "{n}");
+    }
+    if let Some(exponent) = written(|to| proved::p3_util_log3_strict(n, to)) {
+        assert_eq!(log3_strict_usize(n), exponent, "{n}");
+    }
+}
+
+fn compare_reversals(x: usize, bit_len: usize) {
+    let reversed = written(|to| proved::p3_util_reverse_bits_len(x, bit_len, to));
+    assert_eq!(Some(reverse_bits_len(x, bit_len)), reversed, "{x} {bit_len}");
+    if bit_len < 64 {
+        assert_eq!(Some(reverse_bits(x, 1 << bit_len)), reversed, "{x} {bit_len}");
+    }
+}
+
+/// The powers of two and of three, and what is beside them.
+fn powers_and_neighbours() -> impl Iterator<Item = usize> {
+    let twos = (0..64).map(|e| 1 << e);
+    let threes = (0..=40).map(|e| 3usize.pow(e));
+    let near = |n: usize| [n - 1, n, n.wrapping_add(1)];
+    twos.chain(threes).flat_map(near).chain([usize::MAX])
+}
+
+/// The same words in each run, of all lengths.
+fn random_words(count: usize) -> impl Iterator<Item = usize> {
+    let mut state = 1usize;
+    (0..count).map(move |_| {
+        state = state
+            .wrapping_mul(6_364_136_223_846_793_005)
+            .wrapping_add(1_442_695_040_888_963_407);
+        (state ^ state >> 29) >> (state >> 58)
+    })
 }
 
 #[test]
-fn digits() {
-    let cases = [(0b01011, 5), (0b10101, 3), (1, 0), (0, 0), (1, 64)];
-    assert_eq!(
-        cases.map(|(x, len)| reverse_bits_len(x, len)),
-        [0b11010, 0b101, 1 << 63, 0, 1 << 63]
-    );
-    assert_eq!(reverse_bits(9, 8), 4);
-    assert_eq!(reverse_bits(0b01011, 32), 0b11010);
+fn powers_and_neighbours_are_the_proved_ones() {
+    for n in powers_and_neighbours() {
+        compare_logarithms(n);
+        (0..=64).for_each(|bit_len| compare_reversals(n, bit_len));
+    }
 }
 
 #[test]
-fn panics() {
-    for n in [0, 3, 6, usize::MAX] {
-        assert!(catch_unwind(|| log2_strict_usize(n)).is_err());
-        assert!(catch_unwind(|| reverse_bits(1, n)).is_err());
+fn random_words_are_the_proved_ones() {
+    for (i, n) in random_words(1_000_000).enumerate() {
+        compare_logarithms(n);
+        compare_reversals(n, i % 65);
     }
-    for n in [0, 2, 4, usize::MAX] {
-        assert!(catch_unwind(|| log3_strict_usize(n)).is_err());
+}
+
+/// A strict logarithm panics exactly where its export returns false.
+#[test]
+fn strict_logarithms_panic_where_the_proved_ones_refuse() {
+    for n in powers_and_neighbours().chain(random_words(100)) {
+        let two = written(|to| proved::p3_util_log2_strict(n, to));
+        assert_eq!(catch_unwind(|| log2_strict_usize(n)).ok(), two, "{n}");
+        assert_eq!(catch_unwind(|| reverse_bits(1, n)).is_ok(), two.is_some(), "{n}");
+        let three = written(|to| proved::p3_util_log3_strict(n, to));
+        assert_eq!(catch_unwind(|| log3_strict_usize(n)).ok(), three, "{n}");
     }
-    assert!(catch_unwind(|| reverse_bits_len(1, 65)).is_err());
+}
+
+/// The answer as the original's list has it.
+fn answer(call: &str, n: &[usize]) -> String {
+    match call {
+        "log2_ceil_usize" => log2_ceil_usize(n[0]).to_string(),
+        "log2_floor_usize" => log2_floor_usize(n[0]).to_string(),
+        "log2_ceil_u64" => log2_ceil_u64(n[0] as u64).to_string(),
+        "log2_strict_usize" => log2_strict_usize(n[0]).to_string(),
+        "log3_strict_usize" => log3_strict_usize(n[0]).to_string(),
+        "checked_pow2" => format!("{:?}", checked_pow2(n[0])),
+        "checked_log_size_sum" => format!("{:?}", checked_log_size_sum(n[0], n[1])),
+        "reverse_bits" => reverse_bits(n[0], n[1]).to_string(),
+        "reverse_bits_len" => reverse_bits_len(n[0], n[1]).to_string(),
+        _ => panic!("{call} is no call"),
+    }
+}
+
+#[test]
+fn answers_are_the_originals() {
+    let lines = include_str!("data/bits.tsv")
+        .lines()
+        .filter(|line| !line.starts_with('#'));
+    let mut count = 0;
+    for line in lines {
+        let [call, arguments, wanted] = line.split('\t').collect::<Vec<_>>()[..] else {
+            panic!("{line}")
+        };
+        let arguments: Vec<usize> = arguments.split(' ').map(|word| word.parse().unwrap()).collect();
+        assert_eq!(answer(call, &arguments), wanted, "{line}");
+        count += 1;
+    }
+    assert_eq!(count, 302);
+}
+
+const ROWS: usize = 1 << 5;
+const LOG_ROWS: usize = log2_strict_usize(ROWS);
+static PLACES: [usize; ROWS] = {
+    let mut places = indices_arr::<ROWS>();
+    let mut i = 0;
+    while i < ROWS {
+        places[i] = reverse_bits_len(places[i], LOG_ROWS);
+        i += 1;
+    }
+    places
+};
+const OTHERS: (usize, usize, u64, usize, usize) = (
+    log2_ceil_usize(9),
+    log2_floor_usize(9),
+    log2_ceil_u64(9),
+    log3_strict_usize(531_441),
+    reverse_bits(0b01011, ROWS),
+);
+const CHECKED: (Option<usize>, Option<(usize, usize)>) = (checked_pow2(64), checked_log_size_sum(20, 3));
+
+#[test]
+fn constants() {
+    assert_eq!(LOG_ROWS, 5);
+    assert_eq!(PLACES[..5], [0, 16, 8, 24, 4]);
+    assert_eq!(OTHERS, (4, 3, 4, 12, 0b11010));
+    assert_eq!(CHECKED, (None, Some((23, 8_388_608))));
+    assert_eq!(indices_arr::<0>(), [0; 0]);
+    assert_eq!(indices_arr::<4>(), [0, 1, 2, 3]);
+}
+
+#[test]
+#[should_panic(expected = "input must be non-zero")]
+fn log3_of_zero() {
+    log3_strict_usize(0);
+}
+
+#[test]
+#[should_panic(expected = "is not a power of 3")]
+fn log3_of_six() {
+    log3_strict_usize(6);
+}
+
+#[test]
+#[should_panic(expected = "bit_len <= usize::BITS")]
+fn more_bits_than_a_word() {
+    reverse_bits_len(1, 65);
+}
+
+#[test]
+#[should_panic(expected = "bit_len <= usize::BITS")]
+fn more_bits_than_32_bits_count() {
+    reverse_bits_len(1, 1 << 32);
 }

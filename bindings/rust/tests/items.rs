@@ -3,8 +3,8 @@
 use std::fmt::Debug;
 use std::sync::atomic::{AtomicUsize, Ordering};
 
-use p3_util_proved::reverse_slice_index_bits;
-use p3_util_proved::transpose::transpose;
+use p3_util_proved::transpose::{transpose, transpose_if_served};
+use p3_util_proved::{reverse_slice_index_bits, reverse_slice_row_index_bits};
 
 fn reversed(bits: u32, i: usize) -> usize {
     if bits == 0 {
@@ -24,6 +24,22 @@ fn reverses<F: Debug + PartialEq + Send + Sync>(item: impl Fn(usize) -> F) {
                 *got,
                 item(reversed(bits, i)),
                 "place {i} of 2^{bits} items of {} bytes",
+                size_of::<F>()
+            );
+        }
+    }
+}
+
+/// Reverses rows of several widths and compares each place.
+fn reverses_rows<F: Debug + PartialEq + Send + Sync>(item: impl Fn(usize) -> F) {
+    for (bits, width) in [(0, 5), (1, 1), (3, 2), (4, 3), (5, 32), (7, 5)] {
+        let mut list: Vec<F> = (0..width << bits).map(&item).collect();
+        reverse_slice_row_index_bits(&mut list, width);
+        for (i, got) in list.iter().enumerate() {
+            assert_eq!(
+                *got,
+                item(reversed(bits, i / width) * width + i % width),
+                "place {i} of 2^{bits} rows of {width} items of {} bytes",
                 size_of::<F>()
             );
         }
@@ -50,7 +66,18 @@ fn transposes<T: Copy + Debug + PartialEq + Send + Sync>(item: impl Fn(usize) ->
 
 fn serves<T: Copy + Debug + PartialEq + Send + Sync>(item: impl Fn(usize) -> T) {
     reverses(&item);
+    reverses_rows(&item);
     transposes(&item);
+}
+
+/// Items that are reversed, and not transposed.
+fn reverses_alone<T: Copy + Debug + PartialEq + Send + Sync>(item: impl Fn(usize) -> T) {
+    reverses(&item);
+    reverses_rows(&item);
+    let mut output = [item(0); 6];
+    assert!(!transpose_if_served(&[item(1); 6], &mut output, 2, 3));
+    assert!(!transpose_if_served(&[item(1); 6], &mut output, 2, 4));
+    assert_eq!(output, [item(0); 6]);
 }
 
 #[test]
@@ -79,17 +106,22 @@ fn arrays_of_each_alignment() {
 
 #[test]
 fn other_sizes_are_reversed() {
-    reverses(|i| [i as u8; 3]);
-    reverses(|i| [i as u8, 1, 2, 3, 4]);
-    reverses(|i| [i as u16; 3]);
-    reverses(|i| [i as u32, 1, 2]);
-    reverses(|i| [i as u32; 5]);
-    reverses(|i| [i as u64, 1, 2]);
-    reverses(|i| [i as u64; 5]);
-    reverses(|i| [i as u128, 1, 2]);
-    reverses(|i| [i as u64; 8]);
-    reverses(|i| (i as u8, [i as u64; 12]));
+    reverses_alone(|i| [i as u8, 1, 2, 3, 4]);
+    reverses_alone(|i| [i as u16; 5]);
+    reverses_alone(|i| [i as u32; 7]);
+    reverses_alone(|i| [i as u64; 9]);
+    reverses_alone(|i| [i as u128, 1, 2, 3, 4]);
+    reverses_alone(|i| (i as u8, [i as u64; 12]));
     reverses(|i| i.to_string());
+    reverses_rows(|i| i.to_string());
+}
+
+#[test]
+fn transposes_that_are_served() {
+    let mut output = [0; 6];
+    assert!(transpose_if_served(&[1u32, 2, 3, 4, 5, 6], &mut output, 3, 2));
+    assert_eq!(output, [1, 4, 2, 5, 3, 6]);
+    assert!(transpose_if_served(&[(); 6], &mut [(); 6], 3, 2));
 }
 
 #[derive(Clone, Copy, Debug, PartialEq)]
@@ -169,9 +201,15 @@ fn items_without_bytes_and_lists_without_items() {
     for bits in 0..6 {
         reverse_slice_index_bits(&mut vec![(); 1 << bits]);
     }
+    reverse_slice_row_index_bits(&mut [(); 24], 3);
     transpose(&[(); 6], &mut [(); 6], 2, 3);
     reverse_slice_index_bits::<()>(&mut []);
     reverse_slice_index_bits::<u64>(&mut []);
+    for width in [0, 1, 5, usize::MAX] {
+        reverse_slice_row_index_bits::<()>(&mut [], width);
+        reverse_slice_row_index_bits::<u64>(&mut [], width);
+        reverse_slice_row_index_bits::<[u8; 5]>(&mut [], width);
+    }
     for (width, height) in [(0, 0), (0, 5), (usize::MAX, 0)] {
         transpose::<u32>(&[], &mut [], width, height);
         transpose::<()>(&[], &mut [], width, height);

@@ -2,8 +2,8 @@
 
 use std::panic::{AssertUnwindSafe, catch_unwind};
 
-use p3_util_proved::reverse_slice_index_bits;
-use p3_util_proved::transpose::transpose;
+use p3_util_proved::transpose::{transpose, transpose_if_served};
+use p3_util_proved::{reverse_slice_index_bits, reverse_slice_row_index_bits};
 
 fn panics(call: impl FnOnce()) -> bool {
     catch_unwind(AssertUnwindSafe(call)).is_err()
@@ -26,11 +26,44 @@ fn reversal_of_each_length() {
 }
 
 #[test]
+fn reversal_of_rows_of_each_length_and_width() {
+    for (len, width) in (0..70).flat_map(|len| (0..9).map(move |width| (len, width))) {
+        let mut list: Vec<[u8; 5]> = (0..len).map(|i| [i; 5]).collect();
+        let mut empty_items = vec![(); len as usize];
+        let fits = len == 0 || (width > 0 && len % width == 0 && (len / width).is_power_of_two());
+        let width = width as usize;
+        assert_eq!(
+            panics(|| reverse_slice_row_index_bits(&mut list, width)),
+            !fits,
+            "{len} {width}"
+        );
+        assert_eq!(
+            panics(|| reverse_slice_row_index_bits(&mut empty_items, width)),
+            !fits,
+            "{len} {width}"
+        );
+        assert!(fits || list.into_iter().eq((0..len).map(|i| [i; 5])));
+    }
+}
+
+#[test]
+fn reversal_of_rows_where_a_row_is_past_the_memory() {
+    for width in [1 << 61, 1 << 63, usize::MAX] {
+        assert!(panics(|| reverse_slice_row_index_bits(&mut [1u64; 8], width)));
+        assert!(panics(|| reverse_slice_row_index_bits(&mut [[1u8; 5]; 8], width)));
+        assert!(panics(|| reverse_slice_row_index_bits(&mut [(); 8], width)));
+    }
+}
+
+#[test]
 fn transpose_of_other_lengths() {
     let input: Vec<u16> = (0..30).collect();
     for (input_len, output_len) in [(29, 30), (30, 29), (29, 29), (0, 30), (30, 0)] {
         let mut output = vec![7; output_len];
         assert!(panics(|| transpose(&input[..input_len], &mut output, 5, 6)));
+        assert!(panics(|| {
+            transpose_if_served(&input[..input_len], &mut output, 5, 6);
+        }));
         assert!(output.iter().all(|it| *it == 7));
         assert!(panics(|| transpose(
             &vec![(); input_len],
