@@ -53,7 +53,12 @@ fn warn(folders: &[PathBuf]) {
         println!("cargo::rerun-if-changed={}", library_in(folder).display());
         println!("cargo::warning=there is no {}", library_in(folder).display());
     }
-    println!(
-        "cargo::warning=Nothing that uses p3-util-proved will link. A release of the package has the library in its folder lib. With the Rattle kit, `rt lib` in crates/p3_util_c of the checkout builds it. Or set {FOLDER} to the absolute path of a folder that has it."
-    );
+    for line in [
+        "What uses p3-util-proved will not link. To get the library:",
+        "- take a release of the package, which has it in its folder lib,",
+        "- or call `rt lib` in crates/p3_util_c of the checkout, with the Rattle kit,",
+    ] {
+        println!("cargo::warning={line}");
+    }
+    println!("cargo::warning=- or set {FOLDER} to the absolute path of a folder that has it.");
 }
