@@ -1,18 +1,14 @@
 -- What a write or an exchange in the rows does to the list of their items.
-use Rattle.std.proofs.Common.{ℕ, zero, suc, ◌≡◌, ◌+◌, ◌-◌, ◌*◌, ◌<◌, ◌≤◌, ◌≢◌, List, [], ◌∷◌, ◌++◌, length, get_or, set, take, drop, refl, sym, ap, ◌∙◌, arith, length-append, get_or-set_other, get_or-set_same, zero-add, add_assoc, ◌^◌, ◌/◌, max, subst, Some, slice_get}
-use Rattle.std.proofs.lemmas.Nat.{le-div}
+use Rattle.std.proofs.Common.{ℕ, zero, suc, ◌≡◌, ◌+◌, ◌-◌, ◌*◌, ◌<◌, ◌≤◌, ◌≢◌, List, [], ◌∷◌, ◌++◌, length, get_or, set, take, drop, refl, sym, ap, ◌∙◌, arith, length-append, get_or-set_other, get_or-set_same, zero-add, add_assoc, ◌^◌, ◌/◌, ◌%◌, max, subst, Some, slice_get, nat_lt, cond, true, false}
 use Rattle.std.proofs.Math.Nat.{mul-le-mul_right}
-use Rattle.std.proofs.Math.Seq.{take-set-lt}
 use Rattle.std.specs.List.{swap}
+use Rattle.std.proofs.Math.Seq.{take-set-lt}
 use Rattle.std.proofs.lemmas.List.{length-set, set-append_left, set-append_right, set-set, set_comm, take-set, drop-set-add, drop-set-lt, take-append-drop, get_or-take, get_or_default, length-take, take_all, get_or-drop}
-use Rattle.std.proofs.lemmas.Option.{get_or_from_slice_get, slice_get-get_or}
-use Rattle.std.proofs.lemmas.List.Edits.{swap_is}
+use Rattle.std.proofs.lemmas.Option.{get_or_from_slice_get, slice_get-get_or, slice_get_read}
+use Rattle.std.proofs.lemmas.List.Edits.{length-swap, swap_is}
 use Rattle.std.proofs.lemmas.List.Concat.{get_or-flat_map}
-use Rattle.p3_util.specs.Flat.{countable_rows, flat}
-
-counts_all : (l n : ℕ) → l < 2 ^ 64 → l * n < 2 ^ 64 → l * max n 1 ≤ 2 ^ 64 - 1
-counts_all l zero few fits = omega arith
-counts_all l (suc n) few fits = let same : max (suc n) 1 ≡ suc n = omega arith in rw same (omega arith)
+use Rattle.std.proofs.lemmas.Bool.{lt-ltb, le-ltb, ltb-true}
+use Rattle.p3_util.specs.Flat.{countable_items, flat}
 
 module _ {A : Type 0} where
   -- where row r begins
@@ -190,39 +186,52 @@ module _ {A : Type 0} where
         let below : i < length (flat rows) = subst (λ (k : ℕ). k < length (flat rows)) place (start-below rows r c lr inside) in
         slice_get-get_or (flat rows) i x below ∙ ap Some (item-at rows r c n i y x lr lc len row begins at ∙ get_or_from_slice_get y c x x read)
 
-  -- item c of row r, where the rows seen are those whose items a usize can count
-  module _ (rows seen : List (List A)) (r c n i : ℕ) (is : seen ≡ countable_rows n rows) (lr : r < length seen) (lc : c < n) (len : length (get_or rows r []) ≡ n)
-      (begins : start seen r ≡ r * n) (at : i ≡ r * n + c) where
-    abbrev count : ℕ
-    count = (2 ^ 64 - 1) / max n 1
+  -- a usize can count the items
+  pub countable-all : (rows : List (List A)) → length (flat rows) < 2 ^ 64 → countable_items rows ≡ flat rows
+  countable-all rows fits = rw (lt-ltb (length (flat rows)) (2 ^ 64) fits) refl
 
-    among : r < length (take count rows)
-    among = rw is at lr
+  -- it cannot
+  pub countable-none : (rows : List (List A)) → 2 ^ 64 ≤ length (flat rows) → countable_items rows ≡ []
+  countable-none rows many = rw (le-ltb (length (flat rows)) (2 ^ 64) many) refl
 
-    counted : r < count
-    counted = omega (arith, among, length-take count rows)
+  -- it cannot, since behind as many rows of n items as it can count there is one more
+  pub countable-past : (rows : List (List A)) (n m : ℕ) (row all : List A) → m ≡ max n 1 → (2 ^ 64 - 1) / m < length rows → length rows < 2 ^ 64 → row ≡ get_or rows ((2 ^ 64 - 1) / m) row → length row ≡ n
+      → all ≡ flat (take ((2 ^ 64 - 1) / m) rows) → length all ≡ (2 ^ 64 - 1) / m * n → countable_items rows ≡ []
+  countable-past rows zero m row all at-least lt few is len before begins = let one : m ≡ 1 = omega arith in absurd (omega (arith, rw one at lt))
+  countable-past rows (suc k) m row all at-least lt few is len before begins =
+      let n = suc k in
+      let most = (2 ^ 64 - 1) / m in
+      let same : m ≡ n = omega arith in
+      let there : get_or rows most [] ≡ row = sym (get_or_default rows most row [] lt) ∙ sym is in
+      let inside : k < length (get_or rows most []) = rw there (omega arith) in
+      let last : start rows most + k < length (flat rows) = start-below rows most k lt inside in
+      let starts : start rows most ≡ most * n = ap length (sym before) ∙ begins in
+      let whole : n * most + (2 ^ 64 - 1) % n ≡ 2 ^ 64 - 1 = rw same (omega arith) in
+      countable-none rows (omega arith)
 
-    same : get_or rows r [] ≡ get_or seen r []
-    same = sym (get_or-take count rows r [] counted) ∙ ap (λ l. get_or l r []) (sym is)
+  -- an item is written
+  pub flat-set-len : (new old : List (List A)) (i : ℕ) (v : A) → flat new ≡ set (flat old) i v → length (flat old) ≡ length (flat new)
+  flat-set-len new old i v is = sym (ap length is ∙ length-set (flat old) i v)
 
-    -- it is written among all rows, and so among those
-    pub set-at-countable : (w : A) → flat (countable_rows n (set rows r (set (get_or rows r []) c w))) ≡ set (flat (countable_rows n rows)) i w
-    set-at-countable w =
-        let row = set (get_or rows r []) c w in
-        let written : take count (set rows r row) ≡ set seen r row = take-set-lt count rows r row counted ∙ ap (λ l. set l r row) (sym is) in
-        ap flat written ∙ put-at seen r c n i row w lr lc (ap length (sym same) ∙ len) begins at (ap (λ l. set l c w) same) ∙ ap (λ l. set (flat l) i w) is
+  pub countable-set : (new old : List (List A)) (i : ℕ) (v : A) → flat new ≡ set (flat old) i v → countable_items new ≡ set (countable_items old) i v
+  countable-set new old i v is =
+      rw (sym (flat-set-len new old i v is)) (elim (nat_lt (length (flat old)) (2 ^ 64)) as (λ b. cond b (flat new) [] ≡ set (cond b (flat old) []) i v) [ true ↦ is | false ↦ refl ])
 
-    -- it is read among all rows, and so among those
-    pub get-at-countable : (x : A) → x ≡ get_or (get_or rows r []) c x → slice_get (flat (countable_rows n rows)) i ≡ Some x
-    get-at-countable x read =
-        let inside : c < length (get_or seen r []) = rw (sym same) (omega (arith, len)) in
-        let place : start seen r + c ≡ i = omega (arith, begins, at) in
-        let below : i < length (flat seen) = subst (λ (k : ℕ). k < length (flat seen)) place (start-below seen r c lr inside) in
-        ap (λ l. slice_get (flat l) i) (sym is) ∙ slice_get-get_or (flat seen) i x below
-        ∙ ap Some (item-at seen r c n i (get_or seen r []) x lr lc (ap length (sym same) ∙ len) (get_or_default seen r [] (get_or seen r []) lr) begins at
-        ∙ ap (λ l. get_or l c x) (sym same) ∙ sym read)
+  -- two items are exchanged
+  pub flat-swap-len : (new old : List (List A)) (i j : ℕ) → flat new ≡ swap (flat old) i j → length (flat old) ≡ length (flat new)
+  flat-swap-len new old i j is = sym (ap length is ∙ length-swap (flat old) i j)
 
-  -- a usize can count the items of all the rows
-  pub countable-all : (n : ℕ) (rows : List (List A)) → length rows < 2 ^ 64 → length rows * n < 2 ^ 64 → countable_rows n rows ≡ rows
-  countable-all n rows few fits =
-      take_all ((2 ^ 64 - 1) / max n 1) rows (le-div (length rows) (2 ^ 64 - 1) (max n 1) (omega arith) (counts_all (length rows) n few fits))
+  pub countable-swap : (new old : List (List A)) (i j : ℕ) → flat new ≡ swap (flat old) i j → countable_items new ≡ swap (countable_items old) i j
+  countable-swap new old i j is =
+      rw (sym (flat-swap-len new old i j is)) (elim (nat_lt (length (flat old)) (2 ^ 64)) as (λ b. cond b (flat new) [] ≡ swap (cond b (flat old) []) i j) [ true ↦ is | false ↦ refl ])
+
+  -- where there is an item, it can
+  pub countable-some : (rows : List (List A)) (i : ℕ) → i < length (countable_items rows) → countable_items rows ≡ flat rows
+  countable-some rows i lt =
+      elim (nat_lt (length (flat rows)) (2 ^ 64)) as (λ b. i < length (cond b (flat rows) []) → cond b (flat rows) [] ≡ flat rows) [ true ↦ λ h. refl | false ↦ λ h. absurd (omega arith) ] lt
+
+  -- an item is read, where row r begins at place r * n
+  pub get-at : (rows : List (List A)) (r c n i : ℕ) (x : A) → r < length rows → c < n → length (get_or rows r []) ≡ n → start rows r ≡ r * n → i ≡ r * n + c
+      → x ≡ get_or (get_or rows r []) c x → i < length (countable_items rows) → slice_get (countable_items rows) i ≡ Some x
+  get-at rows r c n i x lr lc len begins at read inside =
+      rw (countable-some rows i inside) (slice_get-flat rows r c n i (get_or rows r []) x lr lc len (get_or_default rows r [] (get_or rows r []) lr) begins at (slice_get_read (get_or rows r []) n c x (sym len) lc read))

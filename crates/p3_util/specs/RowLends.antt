@@ -3,7 +3,7 @@
 use Rattle.std.specs.Prelude.{ℕ, Option, List, [], ◌≡◌, slice_index_or, slice_set}
 use Rattle.std.specs.Option.{OnSome}
 use Rattle.std.specs.Borrow.{Lends, LendsSo, MutBor, Fml, RattleType, Array}
-use Rattle.p3_util.specs.Flat.{countable_rows, flat}
+use Rattle.p3_util.specs.Flat.{flat}
 
 -- rows end with row r set to what is last behind l
 abbrev pub lends_row : (R : RattleType) → MutBor (List R.Denot) → ℕ → MutBor R.Denot → Fml
@@ -18,8 +18,7 @@ module _ (T : RattleType) (n : ℕ) where
   abbrev pub lends_place : MutBor (List (List T.Denot)) → ℕ → ℕ → MutBor T.Denot → Fml
   lends_place rows r c l = Lends (Array (Array T n) 0) T rows l (λ w. slice_set rows.now r (slice_set (slice_index_or rows.now r []) c w))
 
-  -- rows of n items end with item i of those that a usize can count set to what is last behind l, and as they were where
-  -- l has none
+  -- rows of n items end with item i of all rows set to what is last behind l, and as they were where l has none
   abbrev pub lends_item_of_rows : MutBor (List (List T.Denot)) → ℕ → Option (MutBor T.Denot) → Fml
   lends_item_of_rows rows i l = LendsSo (Array (Array T n) 0) T rows l
-      (λ last w. OnSome l (flat (countable_rows n last) ≡ slice_set (flat (countable_rows n rows.now)) i w)) (λ last. last ≡ rows.now)
+      (λ last w. OnSome l (flat last ≡ slice_set (flat rows.now) i w)) (λ last. last ≡ rows.now)

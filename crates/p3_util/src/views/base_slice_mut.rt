@@ -2,7 +2,7 @@
 
 ghost use Rattle.std.specs.Prelude.{◌≡◌, ◌==◌, ◌*◌, ◌^◌, ◌<◌, ◌≤◌, List, Some, length, slice_get};
 ghost use Rattle.std.specs.Map.Iter.{ShowsInOrder, deref};
-ghost use Rattle.p3_util.specs.Flat.{countable_rows, flat};
+ghost use Rattle.p3_util.specs.Flat.{countable_items, flat};
 ghost use Rattle.std.specs.Borrow.{sem};
 ghost use Rattle.std.specs.Option.{option_copied, option_copied_mut};
 
@@ -14,7 +14,7 @@ use std::ops::Index;
 /// Rows behind `S`, seen as the list of their items, row after row.
 ///
 /// What the view holds is in the rows when the borrow ends. Contracts see the list as `S.items` of `rows`: for a `&mut`
-/// to arrays of `N` items, `flat` of those rows whose items a `usize` can count, which are all rows of a view that
+/// to arrays, `flat` of the rows, as long as a `usize` can count their items, as it can in each view that
 /// [`as_base_slice_mut`] makes.
 #[derive(Drop)]
 pub struct Flattened<S> {
@@ -31,11 +31,8 @@ pub type BaseSliceMut<'a, Base, const N: usize> = Flattened<&'a mut [[Base; N]]>
 pub fn as_base_slice_mut<Base, const N: usize>(buf: &mut [[Base; N]]) -> BaseSliceMut<'_, Base, N>
     requires { length buf.old * N < 2 ^ 64 }
     ensures rows { result.rows ≡ buf.entry }
-    ensures items { flat (countable_rows N result.rows.now) ≡ flat buf.old }
-    ensures len { length (flat (countable_rows N result.rows.now)) ≡ length buf.old * N }
-
-    // The view's list is `flat` of its rows now, and of the rows that it leaves, which are as many.
-    ensures list { (rows : List (List Base)) → length rows ≡ length buf.old → flat (countable_rows N rows) ≡ flat rows }
+    ensures items { countable_items result.rows.now ≡ flat buf.old }
+    ensures len { length (countable_items result.rows.now) ≡ length buf.old * N }
 {
     prove!(buf.as_flattened().len() == buf.len() * N);
     Flattened { rows: buf }
@@ -106,7 +103,7 @@ impl<'v, 'a: 'v, Base, const N: usize> IntoIterator for &'v Flattened<&'a mut [[
 
     type IntoIter = BaseIter<'v, Base>;
 
-    ghost into_iter_gives = { λ v r. (r ≡ flat (countable_rows N v.now.rows.now)) × ShowsInOrder (deref {X = Base}) };
+    ghost into_iter_gives = { λ v r. (r ≡ countable_items v.now.rows.now) × ShowsInOrder (deref {X = Base}) };
 
     fn into_iter(self) -> BaseIter<'v, Base> {
         self.iter()

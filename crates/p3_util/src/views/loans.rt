@@ -6,19 +6,18 @@
 ghost use Rattle.std.specs.Prelude.{◌≡◌, ◌<◌, [], length, slice_get, slice_index_or};
 ghost use Rattle.std.specs.Borrow.{sem};
 ghost use Rattle.std.specs.Option.{option_copied_mut};
-ghost use Rattle.p3_util.specs.Flat.{countable_rows, flat};
+ghost use Rattle.p3_util.specs.Flat.{countable_items};
 ghost use Rattle.p3_util.specs.RowLends.{lends_item_of_row, lends_item_of_rows, lends_place, lends_row};
 
 use super::rows::{countable, place_of};
 
-/// Item `i` of all rows whose items a `usize` can count, to be written, or `None` where there are no more.
+/// Item `i` of all rows, to be written, or `None` where there are no more than `i`.
 pub(super) fn item_of_rows<T, const N: usize>(rows: &mut [[T; N]], i: usize) -> Option<&mut T>
     ensures* writes_back { sem 𝓛 (lends_item_of_rows T.row N rows.entry i result) }
-    ensures item { option_copied_mut result ≡ slice_get (flat (countable_rows N rows.old)) i }
+    ensures item { option_copied_mut result ≡ slice_get (countable_items rows.old) i }
 {
-    let seen = countable(rows);
-    if i < seen.as_flattened().len() {
-        let (r, c) = place_of(seen, i);
+    if i < countable(rows).len() {
+        let (r, c) = place_of(rows, i);
         Some(item_at(rows, r, c))
     } else {
         None

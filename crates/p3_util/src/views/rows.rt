@@ -1,17 +1,18 @@
 //! Arrays as rows of one list of items.
 
-ghost use Rattle.std.specs.Prelude.{◌≡◌, ℕ, ◌+◌, ◌*◌, ◌/◌, ◌%◌, ◌^◌, ◌<◌, ◌≤◌, List, Some, length, slice_get, slice_index_or, slice_set, swap, take};
+ghost use Rattle.std.specs.Prelude.{◌≡◌, ℕ, ◌+◌, ◌*◌, ◌/◌, ◌%◌, ◌^◌, ◌<◌, List, Some, length, slice_get, slice_index_or, slice_set, swap, take};
 ghost use Rattle.std.proofs.Common.{refl, ◌∙◌};
 ghost use Rattle.std.specs.Borrow.{sem};
 ghost use Rattle.std.specs.Option.{option_copied_mut};
-ghost use Rattle.p3_util.specs.Flat.{countable_rows, flat};
+ghost use Rattle.p3_util.specs.Flat.{countable_items, flat};
 
 use super::loans::item_of_rows;
 use std::mem;
 
 /// A reference to rows of as many items as each other, to be exchanged or written.
 ///
-/// Contracts see it as the list of the items, row after row, as far as a `usize` can count them.
+/// Contracts see it as the list of the items, row after row, where a `usize` can count them. `same_rows a b` says that b is a
+/// after some steps: it is the same reference, with as many items behind it.
 pub trait Rows {
     ghost use Rattle.p3_util.specs.ViewLends.{lends_item};
 
@@ -54,60 +55,80 @@ pub trait Rows {
 impl<'a, T, const N: usize> Rows for &'a mut [[T; N]] {
     type Item = T;
 
-    ghost items = { λ rows. flat (countable_rows N rows.now) };
+    ghost items = { λ rows. countable_items rows.now };
 
-    ghost same_rows = { λ a b. a.ghost_name ≡ b.ghost_name };
+    ghost same_rows = { λ a b. (a.ghost_name ≡ b.ghost_name) × (length (flat a.now) ≡ length (flat b.now)) };
 
     fn items_of(&self) -> &[T] {
-        countable(self).as_flattened()
+        countable(self)
     }
 
     fn item_mut(&mut self, i: usize) -> Option<&mut T> {
         item_of_rows(self, i)
     }
 
+    #[inline(always)]
     fn exchange(&mut self, i: usize, j: usize) {
-        exchange_countable(self, i, j);
+        exchange_items(self, i, j);
     }
 
+    #[inline(always)]
     fn put(&mut self, i: usize, v: T)
     where
         T: Drop,
     {
-        put_countable(self, i, v);
+        put_item(self, i, v);
     }
 
-    ghost same_rows_refl = { λ a. refl };
+    ghost same_rows_refl = { λ a. (refl, refl) };
 
-    ghost same_rows_trans = { λ a b c p q. p ∙ q };
+    ghost same_rows_trans = { λ a b c p q. (p.0 ∙ q.0, p.1 ∙ q.1) };
 }
 
-/// The rows whose items a `usize` can count.
-pub(super) fn countable<T, const N: usize>(rows: &[[T; N]]) -> &[[T; N]]
-    ensures rows { result.now ≡ countable_rows N rows.now }
-    ensures fits { length result.now * N < 2 ^ 64 }
+/// The items of all rows, or none where a `usize` cannot count them.
+pub(super) fn countable<T, const N: usize>(rows: &[[T; N]]) -> &[T]
+    ensures items { result.now ≡ countable_items rows.now }
+    ensures fits { 0 < length result.now → length rows.now * N < 2 ^ 64 }
+    ensures len { 0 < length result.now → length result.now ≡ length rows.now * N }
 {
-    let count = usize::MAX / N.max(1);
-    if count < rows.len() {
-        &rows[..count]
-    } else {
-        rows
+    let most = usize::MAX / N.max(1);
+    if rows.len() <= most {
+        return rows.as_flattened();
     }
+    // So many rows have as many items as fit, and there is one row more.
+    prove!(rows[..most].as_flattened().len() == most * N);
+    prove!(width_of(&rows[most]) == N);
+    rows[..0].as_flattened()
 }
 
-fn exchange_countable<T, const N: usize>(rows: &mut [[T; N]], i: usize, j: usize)
-    requires first { i < length (flat (countable_rows N rows.old)) }
-    requires second { j < length (flat (countable_rows N rows.old)) }
-    ensures { flat (countable_rows N rows.new) ≡ swap (flat (countable_rows N rows.old)) i j }
+/// The number of items of a row.
+fn width_of<T, const N: usize>(row: &[T; N]) -> usize
+    ensures width { result ≡ N }
+    ensures row { length row.now ≡ N }
 {
-    let count = countable(rows).len();
-    exchange_items(&mut rows[..count], i, j);
+    row.len()
 }
 
+/// The row in which item `i` of all rows is, and its place in that row.
+#[inline(always)]
+pub(super) fn place_of<T, const N: usize>(rows: &[[T; N]], i: usize) -> (usize, usize)
+    requires { i < length (countable_items rows.now) }
+    ensures row { result.0 < length rows.now }
+    ensures place { result.1 < N }
+    ensures before { length (flat (take result.0 rows.now)) ≡ result.0 * N }
+    ensures item { i ≡ result.0 * N + result.1 }
+    ensures is { result ≡ (i / N, i % N) }
+{
+    prove!(i < countable(rows).len());
+    let (row, place) = (i / N, i % N);
+    prove!(rows[..row].as_flattened().len() <= i);
+    (row, place)
+}
+
+#[inline(always)]
 fn exchange_items<T, const N: usize>(rows: &mut [[T; N]], i: usize, j: usize)
-    requires fits { length rows.old * N < 2 ^ 64 }
-    requires first { i < length (flat rows.old) }
-    requires second { j < length (flat rows.old) }
+    requires first { i < length (countable_items rows.old) }
+    requires second { j < length (countable_items rows.old) }
     ensures { flat rows.new ≡ swap (flat rows.old) i j }
 {
     let (r, c) = place_of(rows, i);
@@ -121,37 +142,13 @@ fn exchange_items<T, const N: usize>(rows: &mut [[T; N]], i: usize, j: usize)
     }
 }
 
-fn put_countable<T: Drop, const N: usize>(rows: &mut [[T; N]], i: usize, v: T)
-    requires { i < length (flat (countable_rows N rows.old)) }
-    ensures { flat (countable_rows N rows.new) ≡ slice_set (flat (countable_rows N rows.old)) i v }
-{
-    let count = countable(rows).len();
-    put_item(&mut rows[..count], i, v);
-}
-
+#[inline(always)]
 fn put_item<T: Drop, const N: usize>(rows: &mut [[T; N]], i: usize, v: T)
-    requires fits { length rows.old * N < 2 ^ 64 }
-    requires place { i < length (flat rows.old) }
+    requires { i < length (countable_items rows.old) }
     ensures { flat rows.new ≡ slice_set (flat rows.old) i v }
 {
     let (r, c) = place_of(rows, i);
     put_in_row(&mut rows[r], c, v);
-}
-
-/// The row in which item `i` of all rows is, and its place in that row.
-pub(super) fn place_of<T, const N: usize>(rows: &[[T; N]], i: usize) -> (usize, usize)
-    requires fits { length rows.now * N < 2 ^ 64 }
-    requires item { i < length (flat rows.now) }
-    ensures row { result.0 < length rows.now }
-    ensures place { result.1 < N }
-    ensures before { length (flat (take result.0 rows.now)) ≡ result.0 * N }
-    ensures item { i ≡ result.0 * N + result.1 }
-    ensures is { result ≡ (i / N, i % N) }
-{
-    prove!(i < rows.as_flattened().len());
-    let row = i / N;
-    let before = rows[..row].as_flattened().len();
-    (row, i - before)
 }
 
 /// Item `c` of a row.
@@ -163,6 +160,7 @@ pub(super) fn item_in_row<T, const N: usize>(row: &[T; N], c: usize) -> &T
     &row[c]
 }
 
+#[inline(always)]
 fn exchange_in_row<T, const N: usize>(row: &mut [T; N], i: usize, j: usize)
     requires first { i < N }
     requires second { j < N }
@@ -172,6 +170,7 @@ fn exchange_in_row<T, const N: usize>(row: &mut [T; N], i: usize, j: usize)
     row.swap(i, j);
 }
 
+#[inline(always)]
 fn exchange_in_two_rows<T, const N: usize>(
     rows: &mut [[T; N]],
     r: usize,
@@ -190,6 +189,7 @@ fn exchange_in_two_rows<T, const N: usize>(
     exchange_between(&mut front[r], c, &mut back[0], d);
 }
 
+#[inline(always)]
 fn exchange_between<T, const N: usize>(a: &mut [T; N], i: usize, b: &mut [T; N], j: usize)
     requires first { i < N }
     requires second { j < N }
@@ -201,6 +201,7 @@ fn exchange_between<T, const N: usize>(a: &mut [T; N], i: usize, b: &mut [T; N],
     mem::swap(&mut a[i], &mut b[j]);
 }
 
+#[inline(always)]
 fn put_in_row<T: Drop, const N: usize>(row: &mut [T; N], i: usize, v: T)
     requires { i < N }
     ensures written { row.new ≡ slice_set row.old i v }

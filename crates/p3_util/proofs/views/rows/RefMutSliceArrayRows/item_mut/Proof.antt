@@ -42,7 +42,8 @@ use denote.Triple.Walked.{says, Stays, stay_dropped, walk_of, ends_at, Goes-drop
 use Rattle.std.specs.contracts.option.Option as option
 use Rattle.std.proofs.option.Option.TheLaws.{the_row_laws as option-laws}
 use Rattle.std.specs.Option.{option_copied_mut, ghost_name_of, OnSome}
-use Rattle.p3_util.specs.Flat.{countable_rows, flat}
+use Rattle.p3_util.specs.Flat.{countable_items, flat}
+use Rattle.p3_util.proofs.Flat.{countable-set, flat-set-len}
 use Rattle.p3_util.specs.RowLends.{lends_item_of_rows}
 use Rattle.p3_util.specs.ViewLends.{HasWritten, HasKept, lends_item}
 use Rattle.p3_util.proofs.Loans.{inst, Row, ItemArg, item_laws, known, on_some, so_then}
@@ -111,18 +112,20 @@ item_mut_spec 𝓤 𝓛 𝓜 𝓡 wired X n L small =
     let LOut = option-laws Ref LRef in
     use1 𝓛 (later (some (λ (x : Option (MutBor X.Denot)). ((‵ (flft κ q) ⊛ ‵ (flft κT qT) ⊛ ‵ (flft κN qN) ⊛ ‵ ftrue) ⊛ ‵ (Out.own_val x (u ∷ [])))
     ⊛ some (λ (ws : Lasts (item.ended T (number n)) z.0.0 z.0.3). ‵ (lasts (item.ended T (number n)) z.0.0 z.0.3 ws) ⊛ ‵ (lends_item_of_rows T n s i x)
-    ⊛ raw (fact 𝓤 (option_copied_mut x ≡ slice_get (flat (countable_rows n rows.now)) i)))))) (id⊢ 𝓤 _) $
+    ⊛ raw (fact 𝓤 (option_copied_mut x ≡ slice_get (countable_items rows.now) i)))))) (id⊢ 𝓤 _) $
     await ! tt $ pick ! (λ x. split ! $ split ! $ move ! (2 ∷ []) $ pick ! (λ _. split ! $ drop ! $ split ! $ move ! (1 ∷ []) $ heard ! _ (λ read.
     move ! (2 ∷ []) $ peeks ! Out _ (shows 𝓛 Out) x (u ∷ []) (λ at.
     lands_as ! refl refl ((LOut.lawful 𝓛).typed x (u ∷ []) at).0 $
     -- [the item; how the rows follow it; the tokens; the rows' token; how the reference follows the rows]
     returns ! (look_at ! 0 refl) $ free_all ! refl $
-    let list : List (List X.Denot) → List X.Denot = λ ls. flat (countable_rows n ls) in
-    move ! (4 ∷ 1 ∷ []) $ use2 𝓛 (‵ (lends_item Sl T (λ ls. list ls.now) (λ k l. k.ghost_name ≡ l.ghost_name) self i x))
+    let items : MutBor (List (List X.Denot)) → List X.Denot = λ k. countable_items k.now in
+    let same_rows : MutBor (List (List X.Denot)) → MutBor (List (List X.Denot)) → Type 0 = λ k l. (k.ghost_name ≡ l.ghost_name) × (length (flat k.now) ≡ length (flat l.now)) in
+    move ! (4 ∷ 1 ∷ []) $ use2 𝓛 (‵ (lends_item Sl T items same_rows self i x))
     (so_then 𝓛 Sl (Array (Array T n) 0) T (at_last rows) self.ghost_name δ (ghost_name_of x)
-    (λ w ls. OnSome x (list ls ≡ slice_set (list rows.now) i w)) (λ ls. ls ≡ rows.now)
-    (λ w last. HasWritten Sl T (λ ls. list ls.now) (λ k l. k.ghost_name ≡ l.ghost_name) self i x last w) (λ last. HasKept Sl T (λ ls. list ls.now) (λ k l. k.ghost_name ≡ l.ghost_name) self i x last)
-    (λ w ls. on_some x (λ same. (refl, same))) (λ ls same. (refl, ap list same))) $
+    (λ w ls. OnSome x (flat ls ≡ slice_set (flat rows.now) i w)) (λ ls. ls ≡ rows.now)
+    (λ w last. HasWritten Sl T items same_rows self i x last w) (λ last. HasKept Sl T items same_rows self i x last)
+    (λ w ls. on_some x (λ same. ((refl, flat-set-len ls rows.now i w same), countable-set ls rows.now i w same)))
+    (λ ls same. ((refl, ap (λ l. length (flat l)) (sym same)), ap countable_items same))) $
     move ! (2 ∷ []) $ split ! $ move ! (4 ∷ 1 ∷ []) $ join ! $ move ! (1 ∷ 0 ∷ []) $ join ! $
     suffices ! _ (ends_at 𝓛 (ended X n) (stayed X n) c y u x (tt, (tt, tt)) (tt, (tt, tt))) $
     nothing ! $ nothing ! $ fjoin ! $ nothing ! $ fjoin ! $ move ! (0 ∷ 3 ∷ []) $ join ! $ move ! (1 ∷ 0 ∷ []) $ join ! $ frame ! $ says ! read $ done !)))))))))))))
