@@ -1,5 +1,6 @@
--- Items of a square exchanged across its diagonal. Row a and column b is the place base + a * stride + b.
-use Rattle.std.specs.Prelude.{ℕ, ◌≡◌, ◌+◌, ◌*◌, ◌^◌, ◌<◌, ◌≤◌, min, max, List, length, slice_get}
+-- Items of a square exchanged across its diagonal, for the private contracts of the square's transpose. Row a and column b is
+-- the place base + a * stride + b.
+use Rattle.std.specs.Prelude.{ℕ, ◌≡◌, ◌≢◌, ◌+◌, ◌*◌, ◌^◌, ◌<◌, ◌≤◌, min, max, List, length, slice_get}
 
 -- Row a and column b, or row b and column a, lies above the diagonal, in the rows from `row` to below `row_end` and the
 -- columns from `col` to below `col_end`.
@@ -15,12 +16,10 @@ pub record SwapsAcross {A : Type 0} (base stride row row_end col col_end : ℕ) 
   pub same_length : length new ≡ length old
   pub crossed : (a b : ℕ) → a < stride → b < stride → IsInBlock row row_end col col_end a b
       → slice_get new (base + a * stride + b) ≡ slice_get old (base + b * stride + a)
-  pub kept : (a b : ℕ) → b < stride → (IsInBlock row row_end col col_end a b → ⊥)
-      → slice_get new (base + a * stride + b) ≡ slice_get old (base + a * stride + b)
-  pub before : (k : ℕ) → k < base → slice_get new k ≡ slice_get old k
+  pub others : (k : ℕ) → ((a b : ℕ) → a < stride → b < stride → IsInBlock row row_end col col_end a b → k ≢ base + a * stride + b)
+      → slice_get new k ≡ slice_get old k
 
--- The list holds the place where row `last` meets column `last`, and the machine can hold its places and the count. It serves
--- the private contracts of the square's transpose alone.
+-- The list holds the place where row `last` meets column `last`, and the machine can hold its places and the count.
 pub record HoldsSquare {A : Type 0} (base stride last : ℕ) (items : List A) (count : ℕ) : Type 0 where
   pub room : base + last * stride + last < length items
   pub length_fits : length items < 2 ^ 64

@@ -1,11 +1,5 @@
 -- Lines of items: in one line the places follow one another, in the other they are a stride apart.
-use Rattle.std.specs.Prelude.{ℕ, zero, suc, ◌≡◌, ◌+◌, ◌*◌, ◌<◌, ◌≤◌, ◌⊎◌, List, length, slice_get}
-use Rattle.std.specs.List.{swap}
-
--- For each t below `len` in turn the items at i + t * stride and at j + t are exchanged.
-unfoldable pub swap_strided : {A : Type 0} → (xs : List A) → (i j stride len : ℕ) → List A
-swap_strided xs i j stride zero = xs
-swap_strided xs i j stride (suc n) = swap (swap_strided xs i j stride n) (i + n * stride) (j + n)
+use Rattle.std.specs.Prelude.{ℕ, ◌≡◌, ◌+◌, ◌*◌, ◌<◌, ◌≤◌, ◌⊎◌, List, length, slice_get}
 
 -- `new` holds at i + t, for each t below `len`, what is in `input` at start + t * stride, and else what `old` holds.
 pub record IsStridedPut {A : Type 0} (i start stride len : ℕ) (input old new : List A) : Type 0 where

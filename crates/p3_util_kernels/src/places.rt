@@ -8,10 +8,9 @@
 //! - A *source* is a list that is only read ([`Source`]).
 
 ghost use Rattle.std.specs.Prelude.{◌≡◌, ℕ, ◌+◌, ◌-◌, ◌*◌, ◌<◌, ◌≤◌, ◌⊎◌, List, Some, length, swap, slice_get, slice_set};
-ghost use Rattle.p3_util_kernels.specs.Diagonal.{SwapsAcross};
 ghost use Rattle.p3_util_kernels.specs.Exchanged.{RunsExchanged};
 ghost use Rattle.p3_util_kernels.specs.Region.{IsRegionTransposed, LiesInMatrix};
-ghost use Rattle.p3_util_kernels.specs.Strided.{IsStridedPut, swap_strided};
+ghost use Rattle.p3_util_kernels.specs.Strided.{IsStridedPut};
 
 mod copies;
 mod counters;
@@ -58,49 +57,6 @@ pub trait Places {
         let _ = self.len();
         for t in 0..len {
             self.exchange(i + t, j + t);
-        }
-    }
-
-    /// Exchanges the items at places `i + t * stride` and `j + t`, for each `t` below `len` in turn. A holder may do so in a
-    /// faster way than by its `exchange`.
-    #[inline(always)]
-    fn exchange_strided(&mut self, i: usize, j: usize, stride: usize, len: usize)
-        requires apart { (t : ℕ) → t < len → i + t * stride < j }
-        requires within { j + len ≤ length (items self.old) }
-        ensures exchanged { items self.new ≡ swap_strided (items self.old) i j stride len }
-        ensures holder { same_holder self.old self.new }
-    {
-        // Its contract says that the length is a usize.
-        let _ = self.len();
-        for t in 0..len {
-            self.exchange(i + t * stride, j + t);
-        }
-    }
-
-    /// Exchanges a block above the diagonal of a square with its mirror image below. Row `a` and column `b` of the square are
-    /// at place `base + a * stride + b`; the block has `rows` rows from `row` on and `cols` columns from `col` on. A holder
-    /// may do so in a faster way than by its `exchange`.
-    #[inline(always)]
-    fn exchange_across(
-        &mut self,
-        base: usize,
-        stride: usize,
-        row: usize,
-        rows: usize,
-        col: usize,
-        cols: usize,
-    )
-        requires above { row + rows ≤ col }
-        requires within { col + cols ≤ stride }
-        requires room { base + (col + cols - 1) * stride + (col + cols - 1) < length (items self.old) }
-        ensures exchanged { SwapsAcross base stride row (row + rows) col (col + cols) (items self.old) (items self.new) }
-        ensures holder { same_holder self.old self.new }
-    {
-        // Its contract says that the length is a usize.
-        let _ = self.len();
-        for line in col..col + cols {
-            let (column, start) = (base + row * stride + line, base + line * stride + row);
-            self.exchange_strided(column, start, stride, rows);
         }
     }
 

@@ -1,11 +1,9 @@
 //! Counters over holders, which see each exchange and each write.
 
 ghost use Rattle.std.specs.Prelude.{◌≡◌, ℕ, ◌+◌, ◌-◌, ◌*◌, ◌^◌, ◌<◌, ◌≤◌, ◌⊎◌, length, swap, slice_set};
-ghost use Rattle.p3_util_kernels.specs.Diagonal.{SwapsAcross};
 ghost use Rattle.p3_util_kernels.specs.Exchanged.{RunsExchanged};
 ghost use Rattle.p3_util_kernels.specs.Region.{IsRegionTransposed, LiesInMatrix, items_of};
 ghost use Rattle.p3_util_kernels.specs.Steps.{Counted, counted};
-ghost use Rattle.p3_util_kernels.specs.Strided.{swap_strided};
 
 use crate::places::{Cells, Places, Source};
 use crate::transpose::Region;
@@ -14,8 +12,8 @@ use std::marker::Model;
 /// A holder of places that counts its exchanges. The count stays at `u128::MAX` once it is there.
 #[derive(Drop)]
 pub struct Swaps<S> {
-    places: S,
-    swaps: u128,
+    pub(crate) places: S,
+    pub(crate) swaps: u128,
 }
 
 impl<S> Model for Swaps<S> {
@@ -69,44 +67,6 @@ impl<S: Places> Swaps<S> {
     {
         self.places.exchange_runs(i, j, len);
         self.swaps = self.swaps.saturating_add(len as u128);
-    }
-
-    /// Exchanges the items at places `i + t * stride` and `j + t`, for each `t` below `len` in turn, and counts `len`.
-    #[inline(always)]
-    pub fn swap_strided(&mut self, i: usize, j: usize, stride: usize, len: usize)
-        requires apart { (t : ℕ) → t < len → i + t * stride < j }
-        requires within { j + len ≤ length (S.items self.old.holder) }
-        ensures exchanged { S.items self.new.holder ≡ swap_strided (S.items self.old.holder) i j stride len }
-        ensures count { self.new.count ≡ counted self.old.count len }
-        ensures holder { S.same_holder self.old.holder self.new.holder }
-    {
-        self.places.exchange_strided(i, j, stride, len);
-        self.swaps = self.swaps.saturating_add(len as u128);
-    }
-
-    /// Exchanges a block of a square with its mirror image across the diagonal, as [`Places::exchange_across`] does, and
-    /// counts its items.
-    #[inline(always)]
-    pub fn swap_across(
-        &mut self,
-        base: usize,
-        stride: usize,
-        row: usize,
-        rows: usize,
-        col: usize,
-        cols: usize,
-    )
-        requires above { row + rows ≤ col }
-        requires within { col + cols ≤ stride }
-        requires room { base + (col + cols - 1) * stride + (col + cols - 1) < length (S.items self.old.holder) }
-        ensures exchanged { SwapsAcross base stride row (row + rows) col (col + cols)
-            (S.items self.old.holder) (S.items self.new.holder) }
-        ensures count { self.new.count ≡ counted self.old.count (rows * cols) }
-        ensures holder { S.same_holder self.old.holder self.new.holder }
-    {
-        self.places
-            .exchange_across(base, stride, row, rows, col, cols);
-        self.swaps = self.swaps.saturating_add(rows as u128 * cols as u128);
     }
 
     /// How many exchanges were made, at most `u128::MAX`.

@@ -28,24 +28,6 @@ impl<S: Places> Places for &mut S {
         S::exchange_runs(self, i, j, len);
     }
 
-    #[inline(always)]
-    fn exchange_strided(&mut self, i: usize, j: usize, stride: usize, len: usize) {
-        S::exchange_strided(self, i, j, stride, len);
-    }
-
-    #[inline(always)]
-    fn exchange_across(
-        &mut self,
-        base: usize,
-        stride: usize,
-        row: usize,
-        rows: usize,
-        col: usize,
-        cols: usize,
-    ) {
-        S::exchange_across(self, base, stride, row, rows, col, cols);
-    }
-
     ghost same_holder_refl = { λ a. (refl, S.same_holder_refl a.now) };
 
     ghost same_holder_trans = { λ a b c p q. (p.0 ∙ q.0, S.same_holder_trans a.now b.now c.now p.1 q.1) };

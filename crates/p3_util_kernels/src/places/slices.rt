@@ -2,14 +2,11 @@
 
 ghost use Rattle.std.specs.Prelude.{◌≡◌, ℕ, ◌+◌, ◌-◌, ◌*◌, ◌<◌, ◌≤◌, ◌⊎◌, ◌++◌, length};
 ghost use Rattle.std.proofs.Common.{refl, ◌∙◌};
-ghost use Rattle.p3_util_kernels.specs.Diagonal.{SwapsAcross};
 ghost use Rattle.p3_util_kernels.specs.Exchanged.{RunsExchanged};
-ghost use Rattle.p3_util_kernels.specs.Strided.{swap_strided};
 
 use crate::places::copies::copy_columns;
 use crate::places::{Cells, Places, Source};
 use crate::transpose::Region;
-use std::mem;
 
 /// The items of a mutable slice. What it holds is in the slice when the borrow ends.
 #[derive(Drop)]
@@ -47,24 +44,6 @@ impl<'a, F> Places for SlicePlaces<'a, F> {
         swap_runs(self.items, i, j, len);
     }
 
-    #[inline(always)]
-    fn exchange_strided(&mut self, i: usize, j: usize, stride: usize, len: usize) {
-        swap_strided(self.items, i, j, stride, len);
-    }
-
-    #[inline(always)]
-    fn exchange_across(
-        &mut self,
-        base: usize,
-        stride: usize,
-        row: usize,
-        rows: usize,
-        col: usize,
-        cols: usize,
-    ) {
-        swap_across(self.items, base, stride, row, rows, col, cols);
-    }
-
     ghost same_holder_refl = { λ a. refl };
 
     ghost same_holder_trans = { λ a b c p q. p ∙ q };
@@ -81,115 +60,6 @@ fn swap_runs<F>(items: &mut [F], i: usize, j: usize, len: usize)
     let (low, high) = (i.min(j), i.max(j));
     let (front, back) = items.split_at_mut(high);
     front[low..low + len].swap_with_slice(&mut back[..len]);
-}
-
-/// The number of steps of a line that is exchanged in a loop of known length.
-const LINE: usize = 8;
-
-/// Exchanges the items at places `i + t * stride` and `j + t` of `items`, for each `t` below `len` in turn.
-#[inline(always)]
-fn swap_strided<F>(items: &mut [F], i: usize, j: usize, stride: usize, len: usize)
-    requires apart { (t : ℕ) → t < len → i + t * stride < j }
-    requires within { j + len ≤ length items.old }
-    ensures { items.new ≡ swap_strided items.old i j stride len }
-{
-    let (front, back) = items.split_at_mut(j);
-    if len == LINE {
-        cross(front, back, i, stride, LINE);
-    } else {
-        cross(front, back, i, stride, len);
-    }
-}
-
-/// Exchanges a block of a square with its mirror image across the diagonal, as [`Places::exchange_across`] does.
-#[inline(always)]
-fn swap_across<F>(
-    items: &mut [F],
-    base: usize,
-    stride: usize,
-    row: usize,
-    rows: usize,
-    col: usize,
-    cols: usize,
-)
-    requires above { row + rows ≤ col }
-    requires within { col + cols ≤ stride }
-    requires room { base + (col + cols - 1) * stride + (col + cols - 1) < length items.old }
-    ensures { SwapsAcross base stride row (row + rows) col (col + cols) items.old items.new }
-{
-    // Its contract says that the length is a usize.
-    let _ = items.len();
-    if cols > 0 {
-        let (front, back) = items.split_at_mut(base + col * stride);
-        cross_rows(front, back, base, stride, row, rows, col, cols);
-    }
-}
-
-/// The number of columns of a block that is exchanged in loops of known length.
-const COLUMNS: usize = 4;
-
-/// As [`swap_across`], where `front` ends before the first row of the lower block, and `back` is the rest.
-#[inline(always)]
-fn cross_rows<F>(
-    front: &mut [F],
-    back: &mut [F],
-    base: usize,
-    stride: usize,
-    row: usize,
-    rows: usize,
-    col: usize,
-    cols: usize,
-)
-    requires above { row + rows ≤ col }
-    requires within { col + cols ≤ stride }
-    requires cut { length front.old ≡ base + col * stride }
-    requires room { (cols - 1) * stride + col < length back.old }
-    ensures { SwapsAcross base stride row (row + rows) col (col + cols) (front.old ++ back.old) (front.new ++ back.new) }
-{
-    for line in row..row + rows {
-        if cols == COLUMNS {
-            cross_row(front, back, base, stride, line, col, COLUMNS);
-        } else {
-            cross_row(front, back, base, stride, line, col, cols);
-        }
-    }
-}
-
-/// As [`cross_rows`], for the single row `line` of the upper block and the column of the lower one that is its mirror image.
-#[inline(always)]
-fn cross_row<F>(
-    front: &mut [F],
-    back: &mut [F],
-    base: usize,
-    stride: usize,
-    line: usize,
-    col: usize,
-    cols: usize,
-)
-    requires above { line < col }
-    requires within { col + cols ≤ stride }
-    requires cut { length front.old ≡ base + col * stride }
-    requires room { (cols - 1) * stride + col < length back.old }
-    ensures { SwapsAcross base stride line (line + 1) col (col + cols) (front.old ++ back.old) (front.new ++ back.new) }
-{
-    // Their contracts say that the lengths are usizes.
-    let _ = (front.len(), back.len());
-    let first = base + line * stride + col;
-    for t in 0..cols {
-        mem::swap(&mut front[first + t], &mut back[line + t * stride]);
-    }
-}
-
-/// Exchanges the items at places `i + t * stride` of `front` and `t` of `back`, for each `t` below `len` in turn.
-#[inline(always)]
-fn cross<F>(front: &mut [F], back: &mut [F], i: usize, stride: usize, len: usize)
-    requires first { (t : ℕ) → t < len → i + t * stride < length front.old }
-    requires second { len ≤ length back.old }
-    ensures { front.new ++ back.new ≡ swap_strided (front.old ++ back.old) i (length front.old) stride len }
-{
-    for t in 0..len {
-        mem::swap(&mut front[i + t * stride], &mut back[t]);
-    }
 }
 
 /// The places of a mutable slice. What it holds is in the slice when the borrow ends.

@@ -10,11 +10,8 @@ ghost use Rattle.p3_util_kernels.specs.Steps.{counted};
 
 use crate::places::{Places, Swaps};
 
-/// The greatest side of a square that is transposed line by line.
-const SMALL_SIDE: usize = 8;
-
-/// The number of items from which on a block is halved.
-const LARGE_BLOCK: usize = 64;
+/// The greatest side of a block that is exchanged item by item.
+const LEAF_SIDE: usize = 8;
 
 /// Transposes in place the square of `s = 2^log_size` rows and columns whose first place is `base` and whose rows begin
 /// `2^log_stride` places apart, by `s * (s - 1) / 2` exchanges. All other places stay.
@@ -34,105 +31,130 @@ pub fn transpose_square_on<S: Places>(
 {
     // Its contract says that the length is a usize and the count a u128.
     let _ = m.len();
-    transpose_part(m, base, 1 << log_stride, 0, 1 << log_size);
+    let count = transpose_counted(&mut m.places, base, 1 << log_stride, 1 << log_size);
+    m.swaps = m.swaps.saturating_add(count);
 }
 
-/// Transposes the `size` rows and columns from row and column `start` on, by quadrants where there are many.
+/// Transposes the square of `size` rows and columns, and returns the number of exchanges.
+fn transpose_counted<S: Places>(places: &mut S, base: usize, stride: usize, size: usize) -> u128
+    requires within { size ≤ stride }
+    requires room { base + (size - 1) * stride + (size - 1) < length (S.items places.old) }
+    ensures swapped { SwapsAcross base stride 0 size 0 size (S.items places.old) (S.items places.new) }
+    ensures count { result ≡ counted 0 (size * (size - 1) / 2) }
+    ensures holder { S.same_holder places.old places.new }
+{
+    // Its contract says that the length is a usize.
+    let _ = places.len();
+    let m = transpose_part(Swaps::new(places), base, stride, 0, size);
+    let count = m.swaps();
+    let _ = m.into_inner();
+    count
+}
+
+/// Transposes the `size` rows and columns from row and column `start` on, by quadrants.
 fn transpose_part<S: Places>(
-    m: &mut Swaps<S>,
+    m: Swaps<S>,
     base: usize,
     stride: usize,
     start: usize,
     size: usize,
-)
+) -> Swaps<S>
     requires within { start + size ≤ stride }
-    requires ready { HoldsSquare base stride (start + size - 1) (S.items m.old.holder) m.old.count }
-    ensures swapped { SwapsAcross base stride start (start + size) start (start + size)
-        (S.items m.old.holder) (S.items m.new.holder) }
-    ensures count { m.new.count ≡ counted m.old.count (size * (size - 1) / 2) }
-    ensures holder { S.same_holder m.old.holder m.new.holder }
+    requires ready { HoldsSquare base stride (start + size - 1) (S.items m.holder) m.count }
+    ensures swapped { SwapsAcross base stride start (start + size) start (start + size) (S.items m.holder) (S.items result.holder) }
+    ensures count { result.count ≡ counted m.count (size * (size - 1) / 2) }
+    ensures holder { S.same_holder m.holder result.holder }
 {
-    if size <= SMALL_SIDE {
-        transpose_small(m, base, stride, start, size);
-    } else {
-        let half = size / 2;
-        transpose_part(m, base, stride, start, half);
-        swap_block(m, base, stride, start, half, start + half, size - half);
-        transpose_part(m, base, stride, start + half, size - half);
+    if size <= 1 {
+        return m;
     }
-}
-
-/// Transposes the `size` rows and columns from row and column `start` on, line by line.
-fn transpose_small<S: Places>(
-    m: &mut Swaps<S>,
-    base: usize,
-    stride: usize,
-    start: usize,
-    size: usize,
-)
-    requires within { start + size ≤ stride }
-    requires ready { HoldsSquare base stride (start + size - 1) (S.items m.old.holder) m.old.count }
-    ensures swapped { SwapsAcross base stride start (start + size) start (start + size)
-        (S.items m.old.holder) (S.items m.new.holder) }
-    ensures count { m.new.count ≡ counted m.old.count (size * (size - 1) / 2) }
-    ensures holder { S.same_holder m.old.holder m.new.holder }
-{
-    for line in start..start + size {
-        swap_line(m, base, stride, line, start, line - start);
-    }
+    let half = size / 2;
+    let m = transpose_part(m, base, stride, start, half);
+    let m = swap_block(m, base, stride, start, half, start + half, size - half);
+    transpose_part(m, base, stride, start + half, size - half)
 }
 
 /// Exchanges a block above the diagonal, `rows` rows from `row` on and `cols` columns from `col` on, with its mirror image
 /// below. The longer side of a large block is halved.
 fn swap_block<S: Places>(
-    m: &mut Swaps<S>,
+    m: Swaps<S>,
     base: usize,
     stride: usize,
     row: usize,
     rows: usize,
     col: usize,
     cols: usize,
-)
+) -> Swaps<S>
     requires above { row + rows ≤ col }
     requires within { col + cols ≤ stride }
-    requires ready { HoldsSquare base stride (col + cols - 1) (S.items m.old.holder) m.old.count }
-    ensures swapped { SwapsAcross base stride row (row + rows) col (col + cols)
-        (S.items m.old.holder) (S.items m.new.holder) }
-    ensures count { m.new.count ≡ counted m.old.count (rows * cols) }
-    ensures holder { S.same_holder m.old.holder m.new.holder }
+    requires ready { HoldsSquare base stride (col + cols - 1) (S.items m.holder) m.count }
+    ensures swapped { SwapsAcross base stride row (row + rows) col (col + cols) (S.items m.holder) (S.items result.holder) }
+    ensures count { result.count ≡ counted m.count (rows * cols) }
+    ensures holder { S.same_holder m.holder result.holder }
 {
-    if rows * cols < LARGE_BLOCK {
-        m.swap_across(base, stride, row, rows, col, cols);
+    if rows <= LEAF_SIDE && cols == LEAF_SIDE {
+        swap_leaf(m, base, stride, row, rows, col, LEAF_SIDE)
+    } else if rows <= LEAF_SIDE && cols < LEAF_SIDE {
+        swap_leaf(m, base, stride, row, rows, col, cols)
     } else if rows > cols {
         let half = rows / 2;
-        swap_block(m, base, stride, row, half, col, cols);
-        swap_block(m, base, stride, row + half, rows - half, col, cols);
+        let m = swap_block(m, base, stride, row, half, col, cols);
+        swap_block(m, base, stride, row + half, rows - half, col, cols)
     } else {
         let half = cols / 2;
-        swap_block(m, base, stride, row, rows, col, half);
-        swap_block(m, base, stride, row, rows, col + half, cols - half);
+        let m = swap_block(m, base, stride, row, rows, col, half);
+        swap_block(m, base, stride, row, rows, col + half, cols - half)
     }
 }
 
-/// Exchanges the `len` items of row `line` from column `start` on with those of column `line` from row `start` on.
+/// As [`swap_block`], row after row of the block above the diagonal.
 #[inline(always)]
-fn swap_line<S: Places>(
-    m: &mut Swaps<S>,
+fn swap_leaf<S: Places>(
+    m: Swaps<S>,
+    base: usize,
+    stride: usize,
+    row: usize,
+    rows: usize,
+    col: usize,
+    cols: usize,
+) -> Swaps<S>
+    requires above { row + rows ≤ col }
+    requires within { col + cols ≤ stride }
+    requires ready { HoldsSquare base stride (col + cols - 1) (S.items m.holder) m.count }
+    ensures swapped { SwapsAcross base stride row (row + rows) col (col + cols) (S.items m.holder) (S.items result.holder) }
+    ensures count { result.count ≡ counted m.count (rows * cols) }
+    ensures holder { S.same_holder m.holder result.holder }
+{
+    let mut m = m;
+    for t in 0..rows {
+        m = swap_row(m, base, stride, row + t, col, cols);
+    }
+    m
+}
+
+/// Exchanges `cols` items of row `line` from column `col` on, which is right of the diagonal, with their mirror images.
+#[inline(always)]
+fn swap_row<S: Places>(
+    m: Swaps<S>,
     base: usize,
     stride: usize,
     line: usize,
-    start: usize,
-    len: usize,
-)
-    requires left { start + len ≤ line }
-    requires within { line < stride }
-    requires ready { HoldsSquare base stride line (S.items m.old.holder) m.old.count }
-    ensures swapped { SwapsAcross base stride start (start + len) line (line + 1)
-        (S.items m.old.holder) (S.items m.new.holder) }
-    ensures count { m.new.count ≡ counted m.old.count len }
-    ensures holder { S.same_holder m.old.holder m.new.holder }
+    col: usize,
+    cols: usize,
+) -> Swaps<S>
+    requires above { line < col }
+    requires within { col + cols ≤ stride }
+    requires ready { HoldsSquare base stride (col + cols - 1) (S.items m.holder) m.count }
+    ensures swapped { SwapsAcross base stride line (line + 1) col (col + cols) (S.items m.holder) (S.items result.holder) }
+    ensures count { result.count ≡ counted m.count cols }
+    ensures holder { S.same_holder m.holder result.holder }
 {
-    let first_of_column = base + start * stride + line;
-    let first_of_row = base + line * stride + start;
-    m.swap_strided(first_of_column, first_of_row, stride, len);
+    let mut m = m;
+    for t in 0..cols {
+        m.swap(
+            base + line * stride + (col + t),
+            base + (col + t) * stride + line,
+        );
+    }
+    m
 }

@@ -7,11 +7,7 @@ pub returns-then-rows-cols-clause-swapped : goal.returns-then-rows-cols-clause-s
 returns-then-rows-cols-clause-swapped g t c =
     let half = c.args.rows / 2 in
     let end : c.args.row + half + (c.args.rows - half) ≡ c.args.row + c.args.rows = omega arith in
-    SwapsAcross-rows c.args.base c.args.stride c.args.row (c.args.row + half) (c.args.row + c.args.rows) c.args.col (c.args.col + c.args.cols)
-    (g.S.Places.items c.args.m.now.holder) (g.S.Places.items c.swap_block.new.m.holder) (g.S.Places.items c.swap_block-then-rows-cols.new.m.holder)
-    (omega arith) (omega arith)
-    c.swap_block.ensures.swapped
-    (rw end at c.swap_block-then-rows-cols.ensures.swapped)
+    SwapsAcross-rows _ _ _ (c.args.row + half) _ _ _ _ _ _ (omega arith) (omega arith) c.swap_block-m.ensures.swapped (rw end at c.swap_block.ensures.swapped)
 
 pub returns-then-rows-cols-clause-count : goal.returns-then-rows-cols-clause-count
 returns-then-rows-cols-clause-count g t c =
@@ -21,11 +17,7 @@ pub returns-else-rows-cols-clause-swapped : goal.returns-else-rows-cols-clause-s
 returns-else-rows-cols-clause-swapped g t c =
     let half = c.args.cols / 2 in
     let end : c.args.col + half + (c.args.cols - half) ≡ c.args.col + c.args.cols = omega arith in
-    SwapsAcross-cols c.args.base c.args.stride c.args.row (c.args.row + c.args.rows) c.args.col (c.args.col + half) (c.args.col + c.args.cols)
-    (g.S.Places.items c.args.m.now.holder) (g.S.Places.items c.swap_block-else-rows-cols.new.m.holder) (g.S.Places.items c.swap_block-else-rows-cols-2.new.m.holder)
-    (omega arith) (omega arith)
-    c.swap_block-else-rows-cols.ensures.swapped
-    (rw end at c.swap_block-else-rows-cols-2.ensures.swapped)
+    SwapsAcross-cols _ _ _ _ _ (c.args.col + half) _ _ _ _ (omega arith) (omega arith) c.swap_block-m-else-rows-cols.ensures.swapped (rw end at c.swap_block-else-rows-cols.ensures.swapped)
 
 pub returns-else-rows-cols-clause-count : goal.returns-else-rows-cols-clause-count
 returns-else-rows-cols-clause-count g t c =

@@ -3,20 +3,15 @@ use Rattle.p3_util_kernels.proofs.Diagonal.{SwapsAcross-quadrants}
 use Rattle.p3_util_kernels.proofs.Pairs.{pairs-add}
 use Rattle.p3_util_kernels.proofs.transpose.square.+transpose_part.Goals as goal
 
-pub returns-else-size-le-SMALL_SIDE-clause-swapped : goal.returns-else-size-le-SMALL_SIDE-clause-swapped
-returns-else-size-le-SMALL_SIDE-clause-swapped g t c =
+pub returns-clause-swapped : goal.returns-clause-swapped
+returns-clause-swapped g t c =
     let half = c.args.size / 2 in
     let end : c.args.start + half + (c.args.size - half) ≡ c.args.start + c.args.size = omega arith in
-    SwapsAcross-quadrants c.args.base c.args.stride c.args.start (c.args.start + half) (c.args.start + c.args.size)
-    (g.S.Places.items c.args.m.now.holder) (g.S.Places.items c.transpose_part.new.m.holder)
-    (g.S.Places.items c.swap_block.new.m.holder) (g.S.Places.items c.transpose_part-else-size-le-SMALL_SIDE.new.m.holder)
-    (omega arith) (omega arith)
-    c.transpose_part.ensures.swapped
-    (rw end at c.swap_block.ensures.swapped)
-    (rw end at c.transpose_part-else-size-le-SMALL_SIDE.ensures.swapped)
+    SwapsAcross-quadrants _ _ _ (c.args.start + half) _ _ _ _ _ (omega arith) (omega arith) c.transpose_part-m.ensures.swapped
+    (rw end at c.swap_block-m.ensures.swapped) (rw end at c.transpose_part.ensures.swapped)
 
-pub returns-else-size-le-SMALL_SIDE-clause-count : goal.returns-else-size-le-SMALL_SIDE-clause-count
-returns-else-size-le-SMALL_SIDE-clause-count g t c =
+pub returns-clause-count : goal.returns-clause-count
+returns-clause-count g t c =
     let half = c.args.size / 2 in
     let whole : half + (c.args.size - half) ≡ c.args.size = omega arith in
     let parts = rw whole at (pairs-add half (c.args.size - half)) in
