@@ -3,7 +3,7 @@ use Rattle.std.proofs.Common.{◌≡◌, ℕ, ◌+◌, ◌-◌, ◌*◌, ◌/◌
 use Rattle.std.proofs.Math.Nat.{mul_comm}
 use Rattle.std.proofs.lemmas.Bool.{cases_lt}
 use Rattle.std.proofs.lemmas.Nat.{mul-le}
-use Rattle.p3_util_kernels.specs.declared.transpose.Region.{Region}
+use Rattle.p3_util_kernels.specs.declared.regions.Region.{Region}
 use Rattle.p3_util_kernels.specs.Levels.{lev, nest}
 use Rattle.p3_util_kernels.specs.Region.{LiesInMatrix, cols_of, items_of, rows_of}
 use Rattle.p3_util_kernels.proofs.Levels.{clog-le, lev-comm, lev-half, lev_le, nest-deep}
@@ -18,6 +18,13 @@ lev-of_region region width height lies wide tall fits =
     let cols = cols_of region in
     let items : rows * cols ≤ height * width = mul-le rows cols height width (omega (arith, lies.rows_inside)) (omega (arith, lies.cols_inside)) in
     lev_le rows cols (omega (arith, lies.rows_inside)) (omega (arith, lies.cols_inside)) (omega (arith, mul_comm width height))
+
+-- 64 levels are enough for a whole matrix
+pub lev-of_whole : (whole : Region) (width height : ℕ) → whole ≡ record { row_start = 0; row_end = height; col_start = 0; col_end = width }
+    → width < 2 ^ 64 → height < 2 ^ 64 → width * height < 2 ^ 64 → lev (rows_of whole) (cols_of whole) ≤ 64
+lev-of_whole whole width height is wide tall fits =
+    let lies : LiesInMatrix whole width height = rw is (record { rows_in_order = omega arith; rows_inside = omega arith; cols_in_order = omega arith; cols_inside = omega arith }) in
+    omega (arith, lev-of_region whole width height lies wide tall fits)
 
 -- One region is cut into two. The splits of each nest at least one level less, and those of one of them just one less.
 pub record AreHalves (whole first second : Region) : Type 0 where
@@ -61,7 +68,7 @@ AreHalves-rows whole deep high order =
     let rest : whole.row_end - middle ≡ rows - rows / 2 = omega arith in
     let s = IsHalved-of rows (middle - whole.row_start) (whole.row_end - middle) (cols_of whole) high half rest in
     record {
-      cut = IsCut-rows whole middle (omega arith) (omega arith);
+      cut = IsCut-rows whole middle middle (omega arith) (omega arith) (omega arith);
       items = mul-parts_left (middle - whole.row_start) (whole.row_end - middle) rows (cols_of whole) (omega arith);
       first_inside = λ w h k. record { rows_in_order = omega arith; rows_inside = omega (arith, k.rows_inside); cols_in_order = k.cols_in_order; cols_inside = k.cols_inside };
       second_inside = λ w h k. record { rows_in_order = omega arith; rows_inside = k.rows_inside; cols_in_order = k.cols_in_order; cols_inside = k.cols_inside };
@@ -79,7 +86,7 @@ AreHalves-cols whole deep wide order =
     let rest : whole.col_end - middle ≡ cols - cols / 2 = omega arith in
     let s = IsHalved-of cols (middle - whole.col_start) (whole.col_end - middle) (rows_of whole) wide half rest in
     record {
-      cut = IsCut-cols whole middle (omega arith) (omega arith);
+      cut = IsCut-cols whole middle middle (omega arith) (omega arith) (omega arith);
       items = mul-parts_right (middle - whole.col_start) (whole.col_end - middle) cols (rows_of whole) (omega arith);
       first_inside = λ w h k. record { rows_in_order = k.rows_in_order; rows_inside = k.rows_inside; cols_in_order = omega arith; cols_inside = omega (arith, k.cols_inside) };
       second_inside = λ w h k. record { rows_in_order = k.rows_in_order; rows_inside = k.rows_inside; cols_in_order = omega arith; cols_inside = k.cols_inside };

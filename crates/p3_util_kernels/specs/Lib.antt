@@ -4,8 +4,8 @@ pub mod Digits
 pub mod Exchanged
 pub mod Levels
 pub mod Names
+pub mod Pieces
 pub mod Powers
-pub mod Ready
 pub mod Region
 pub mod Reversal
 pub mod Runs
@@ -13,6 +13,5 @@ pub mod Square
 pub mod Squares
 pub mod Stages
 pub mod Steps
-pub mod Strided
 pub mod SwapCounts
 pub mod Transpose

@@ -4,5 +4,6 @@
 pub mod bits;
 pub mod laws;
 pub mod places;
+mod regions;
 pub mod reverse;
 pub mod transpose;

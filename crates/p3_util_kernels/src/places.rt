@@ -9,15 +9,11 @@
 
 ghost use Rattle.std.specs.Prelude.{◌≡◌, ℕ, ◌+◌, ◌-◌, ◌*◌, ◌<◌, ◌≤◌, ◌⊎◌, List, Some, length, swap, slice_get, slice_set};
 ghost use Rattle.p3_util_kernels.specs.Exchanged.{RunsExchanged};
-ghost use Rattle.p3_util_kernels.specs.Region.{IsRegionTransposed, LiesInMatrix};
-ghost use Rattle.p3_util_kernels.specs.Strided.{IsStridedPut};
 
-mod copies;
 mod counters;
 mod references;
 mod slices;
 
-use crate::transpose::Region;
 pub use counters::{Swaps, Writes};
 pub use slices::{SliceCells, SlicePlaces, SliceSource};
 
@@ -85,55 +81,6 @@ pub trait Cells {
         ensures written { items self.new ≡ slice_set (items self.old) i v }
         ensures holder { same_holder self.old self.new };
 
-    /// Puts at `i + t` the item of `source` at `start + t * stride`, for each `t` below `len` in turn. A holder may do so
-    /// in a faster way than by its `put`.
-    fn put_strided<R: Source<Item = Self::Item>>(
-        &mut self,
-        i: usize,
-        source: &R,
-        start: usize,
-        stride: usize,
-        len: usize,
-    )
-        requires room { i + len ≤ length (items self.old) }
-        requires inside { (t : ℕ) → t < len → start + t * stride < length (R.items source.now) }
-        ensures written { IsStridedPut i start stride len (R.items source.now) (items self.old) (items self.new) }
-        ensures holder { same_holder self.old self.new }
-    {
-        // Their contracts say that the lengths are a usize.
-        let _ = self.len();
-        let _ = source.len();
-        for t in 0..len {
-            self.put(i + t, source.at(start + t * stride));
-        }
-    }
-
-    /// Puts the transpose of `region`, a part of the matrix `source` of `height` rows of `width` items: what stands at
-    /// `y * width + x` is put at `x * height + y`, column after column. A holder may do so in a faster way than by its
-    /// `put_strided`.
-    fn put_columns<R: Source<Item = Self::Item>>(
-        &mut self,
-        source: &R,
-        region: Region,
-        width: usize,
-        height: usize,
-    )
-        requires source_fits { length (R.items source.now) ≡ width * height }
-        requires cells_fit { length (items self.old) ≡ width * height }
-        requires inside { LiesInMatrix region width height }
-        ensures transposed { IsRegionTransposed region width height (R.items source.now) (items self.old) (items self.new) }
-        ensures holder { same_holder self.old self.new }
-    {
-        // Its contract says that the places fit a usize.
-        let _ = self.len();
-        if region.row_start < region.row_end {
-            let (row, rows) = (region.row_start, region.row_end - region.row_start);
-            for x in region.col_start..region.col_end {
-                self.put_strided(x * height + row, source, row * width + x, width, rows);
-            }
-        }
-    }
-
     ghost same_holder_refl: { (a : Self) → same_holder a a };
 
     ghost same_holder_trans: { (a b c : Self) → same_holder a b → same_holder b c → same_holder a c };
@@ -155,43 +102,4 @@ pub trait Source {
     fn at(&self, i: usize) -> Self::Item
         requires { i < length (items self.now) }
         ensures { slice_get (items self.now) i ≡ Some result };
-
-    /// Writes at `i + t` of `values` the item at `start + t * stride`, for each `t` below `len` in turn. A source may do so
-    /// in a faster way than by its `at`.
-    fn copy_strided(
-        &self,
-        start: usize,
-        stride: usize,
-        values: &mut [Self::Item],
-        i: usize,
-        len: usize,
-    )
-        requires inside { (t : ℕ) → t < len → start + t * stride < length (items self.now) }
-        requires room { i + len ≤ length values.old }
-        ensures { IsStridedPut i start stride len (items self.now) values.old values.new }
-    {
-        // Its contract says that the length is a usize.
-        let _ = self.len();
-        for t in 0..len {
-            values[i + t] = self.at(start + t * stride);
-        }
-    }
-
-    /// Writes to `values` the transpose of `region`, a part of the matrix of `height` rows of `width` items that the source
-    /// is, as [`Cells::put_columns`] puts it. A source may do so in a faster way than by its `copy_strided`.
-    fn copy_columns(&self, region: Region, width: usize, height: usize, values: &mut [Self::Item])
-        requires source_fits { length (items self.now) ≡ width * height }
-        requires values_fit { length values.old ≡ width * height }
-        requires inside { LiesInMatrix region width height }
-        ensures { IsRegionTransposed region width height (items self.now) values.old values.new }
-    {
-        // Its contract says that the places fit a usize.
-        let _ = self.len();
-        if region.row_start < region.row_end {
-            let (row, rows) = (region.row_start, region.row_end - region.row_start);
-            for x in region.col_start..region.col_end {
-                self.copy_strided(row * width + x, width, values, x * height + row, rows);
-            }
-        }
-    }
 }

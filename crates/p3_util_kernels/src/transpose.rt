@@ -1,20 +1,21 @@
 //! Transposes of matrices that are held as flat lists, row after row.
 
 ghost use Rattle.std.specs.Prelude.{◌≡◌, ◌+◌, ◌*◌, ◌^◌, ◌<◌, ◌↔◌, IsTrue, length};
-ghost use Rattle.p3_util_kernels.specs.Steps.{counted};
+ghost use Rattle.p3_util_kernels.specs.Pieces.{IsReady};
 ghost use Rattle.p3_util_kernels.specs.Region.{IsRegionTransposed, LiesInMatrix, items_of};
+ghost use Rattle.p3_util_kernels.specs.Steps.{counted};
 ghost use Rattle.p3_util_kernels.specs.Transpose.{IsTranspose};
 
 mod butterfly;
-mod columns;
-mod regions;
+mod pieces;
 mod split;
 mod square;
-mod tile;
 
 use crate::places::{Cells, SliceCells, SliceSource, Source, Writes};
+pub use crate::regions::Region;
 pub use butterfly::{butterfly_4x4, butterfly_stage1, butterfly_stage2};
-use regions::put_region;
+use pieces::{STRIP_ROWS, TILE_SIDE, put_pieces};
+use split::split_counted;
 pub use split::{transpose_source_split_on, transpose_split_on};
 pub use square::transpose_square_on;
 
@@ -23,15 +24,6 @@ const LARGE_MATRIX: usize = 1_048_576;
 
 /// As many levels as the split of any matrix needs, and more.
 const ENOUGH_LEVELS: u32 = 64;
-
-/// The rows from `row_start` to below `row_end` of a matrix, and of these the columns from `col_start` to below `col_end`.
-#[derive(Clone, Copy, Debug, PartialEq, Eq)]
-pub struct Region {
-    pub row_start: usize,
-    pub row_end: usize,
-    pub col_start: usize,
-    pub col_end: usize,
-}
 
 /// Whether an input and an output of these lengths hold a matrix of `width` by `height` items, with the product as a
 /// whole number that does not wrap. It is the test for the condition of [`transpose`] and [`transpose_on`].
@@ -53,8 +45,15 @@ pub fn transpose<T: Copy>(input: &[T], output: &mut [T], width: usize, height: u
     ensures order { IsTranspose width height input.now output.new }
     ensures inverse { IsTranspose height width output.new input.now }
 {
-    let mut cells = SliceCells::new(output);
-    transpose_counted(input, &mut cells, width, height);
+    let source = SliceSource::new(input);
+    let whole = whole(width, height);
+    if is_large(output.len()) {
+        let mut cells = SliceCells::new(output);
+        let _ = split_counted(&source, &mut cells, whole, width, height, ENOUGH_LEVELS);
+    } else {
+        let mut cells = SliceCells::new(output);
+        let _ = region_counted(&source, &mut cells, whole, width, height);
+    }
 }
 
 /// Puts the transpose of `input` into `cells`, as [`transpose_on`] does over a fresh counter, and returns the number of
@@ -101,16 +100,11 @@ where
     ensures count { out.new.count ≡ counted out.old.count (width * height) }
     ensures holder { C.same_holder out.old.holder out.new.holder }
 {
-    let whole = Region {
-        row_start: 0,
-        row_end: height,
-        col_start: 0,
-        col_end: width,
-    };
-    if out.len() > LARGE_MATRIX {
+    let whole = whole(width, height);
+    if is_large(out.len()) {
         let _ = transpose_source_split_on(input, out, whole, width, height, ENOUGH_LEVELS);
     } else {
-        put_region(input, out, whole, width, height);
+        put_region_on(input, out, whole, width, height);
     }
 }
 
@@ -132,5 +126,96 @@ pub fn transpose_region_on<C: Cells>(
     ensures count { out.new.count ≡ counted out.old.count (items_of region) }
     ensures holder { C.same_holder out.old.holder out.new.holder }
 {
-    put_region(&SliceSource::new(input), out, region, width, height);
+    put_region_on(&SliceSource::new(input), out, region, width, height);
+}
+
+/// Puts the transpose of a region of any source into `out`, as [`transpose_region_on`] does that of a slice.
+fn put_region_on<R, C>(input: &R, out: &mut Writes<C>, region: Region, width: usize, height: usize)
+where
+    C: Cells,
+    R: Source<Item = C::Item>,
+    requires input_fits { length (R.items input.now) ≡ width * height }
+    requires output_fits { length (C.items out.old.holder) ≡ width * height }
+    requires inside { LiesInMatrix region width height }
+    ensures transposed { IsRegionTransposed region width height (R.items input.now)
+        (C.items out.old.holder) (C.items out.new.holder) }
+    ensures count { out.new.count ≡ counted out.old.count (items_of region) }
+    ensures holder { C.same_holder out.old.holder out.new.holder }
+{
+    // Its contract says that the count is a u128.
+    let _ = out.len();
+    let count = region_counted(input, &mut out.cells, region, width, height);
+    out.writes = out.writes.saturating_add(count);
+}
+
+/// Puts the transpose of `region` into `cells`, and returns the number of writes.
+#[inline(always)]
+fn region_counted<R, C>(
+    input: &R,
+    cells: &mut C,
+    region: Region,
+    width: usize,
+    height: usize,
+) -> u128
+where
+    C: Cells,
+    R: Source<Item = C::Item>,
+    requires input_fits { length (R.items input.now) ≡ width * height }
+    requires output_fits { length (C.items cells.old) ≡ width * height }
+    requires inside { LiesInMatrix region width height }
+    ensures transposed { IsRegionTransposed region width height (R.items input.now) (C.items cells.old) (C.items cells.new) }
+    ensures count { result ≡ counted 0 (items_of region) }
+    ensures holder { C.same_holder cells.old cells.new }
+{
+    // Its contract says that the places fit a usize.
+    let _ = cells.len();
+    let out = put_region(Writes::new(cells), input, region, width, height);
+    let count = out.writes();
+    let _ = out.into_inner();
+    count
+}
+
+/// Puts the transpose of `region`, by tiles or by strips.
+///
+/// Where the rows of the matrix begin a multiple of a tile's side apart, many of them meet in one set of a cache, and tiles
+/// are faster than strips, unless the matrix is far higher than wide.
+#[inline(always)]
+fn put_region<R, C>(
+    out: Writes<C>,
+    input: &R,
+    region: Region,
+    width: usize,
+    height: usize,
+) -> Writes<C>
+where
+    C: Cells,
+    R: Source<Item = C::Item>,
+    requires ready { IsReady region width height (R.items input.now) (C.items out.holder) out.count }
+    ensures transposed { IsRegionTransposed region width height (R.items input.now)
+        (C.items out.holder) (C.items result.holder) }
+    ensures count { result.count ≡ counted out.count (items_of region) }
+    ensures holder { C.same_holder out.holder result.holder }
+{
+    if width % TILE_SIDE == 0 && height / TILE_SIDE < width {
+        put_pieces(out, input, region, TILE_SIDE, TILE_SIDE, width, height)
+    } else {
+        put_pieces(out, input, region, STRIP_ROWS, usize::MAX, width, height)
+    }
+}
+
+/// The region that is a whole matrix.
+fn whole(width: usize, height: usize) -> Region
+    ensures { result ≡ record { row_start = 0; row_end = height; col_start = 0; col_end = width } }
+{
+    Region {
+        row_start: 0,
+        row_end: height,
+        col_start: 0,
+        col_end: width,
+    }
+}
+
+/// Whether a matrix of so many items is split.
+fn is_large(items: usize) -> bool {
+    items > LARGE_MATRIX
 }

@@ -2,11 +2,9 @@
 
 ghost use Rattle.std.specs.Prelude.{◌≡◌, ℕ, ◌+◌, ◌-◌, ◌*◌, ◌^◌, ◌<◌, ◌≤◌, ◌⊎◌, length, swap, slice_set};
 ghost use Rattle.p3_util_kernels.specs.Exchanged.{RunsExchanged};
-ghost use Rattle.p3_util_kernels.specs.Region.{IsRegionTransposed, LiesInMatrix, items_of};
 ghost use Rattle.p3_util_kernels.specs.Steps.{Counted, counted};
 
-use crate::places::{Cells, Places, Source};
-use crate::transpose::Region;
+use crate::places::{Cells, Places};
 use std::marker::Model;
 
 /// A holder of places that counts its exchanges. The count stays at `u128::MAX` once it is there.
@@ -88,8 +86,8 @@ impl<S: Places> Swaps<S> {
 /// A holder of places that counts its writes. The count stays at `u128::MAX` once it is there.
 #[derive(Drop)]
 pub struct Writes<C> {
-    cells: C,
-    writes: u128,
+    pub(crate) cells: C,
+    pub(crate) writes: u128,
 }
 
 impl<C> Model for Writes<C> {
@@ -127,30 +125,6 @@ impl<C: Cells> Writes<C> {
     {
         self.cells.put(i, v);
         self.writes = self.writes.saturating_add(1);
-    }
-
-    /// Puts the transpose of `region`, a part of the matrix `source` of `height` rows of `width` items, as
-    /// [`Cells::put_columns`] does, and counts its items.
-    #[inline(always)]
-    pub fn put_columns<R: Source<Item = C::Item>>(
-        &mut self,
-        source: &R,
-        region: Region,
-        width: usize,
-        height: usize,
-    )
-        requires source_fits { length (R.items source.now) ≡ width * height }
-        requires cells_fit { length (C.items self.old.holder) ≡ width * height }
-        requires inside { LiesInMatrix region width height }
-        ensures transposed { IsRegionTransposed region width height (R.items source.now)
-            (C.items self.old.holder) (C.items self.new.holder) }
-        ensures count { self.new.count ≡ counted self.old.count (items_of region) }
-        ensures holder { C.same_holder self.old.holder self.new.holder }
-    {
-        self.cells.put_columns(source, region, width, height);
-        let rows = (region.row_end - region.row_start) as u128;
-        let cols = (region.col_end - region.col_start) as u128;
-        self.writes = self.writes.saturating_add(rows * cols);
     }
 
     /// How many writes were made, at most `u128::MAX`.

@@ -3,8 +3,7 @@
 ghost use Rattle.std.specs.Prelude.{◌≡◌};
 ghost use Rattle.std.proofs.Common.{◌∙◌, refl};
 
-use crate::places::{Cells, Places, Source};
-use crate::transpose::Region;
+use crate::places::{Cells, Places};
 
 /// The holder behind the reference is the holder.
 impl<S: Places> Places for &mut S {
@@ -48,29 +47,6 @@ impl<C: Cells> Cells for &mut C {
     #[inline(always)]
     fn put(&mut self, i: usize, v: Self::Item) {
         C::put(self, i, v);
-    }
-
-    #[inline(always)]
-    fn put_strided<R: Source<Item = Self::Item>>(
-        &mut self,
-        i: usize,
-        source: &R,
-        start: usize,
-        stride: usize,
-        len: usize,
-    ) {
-        C::put_strided(self, i, source, start, stride, len);
-    }
-
-    #[inline(always)]
-    fn put_columns<R: Source<Item = Self::Item>>(
-        &mut self,
-        source: &R,
-        region: Region,
-        width: usize,
-        height: usize,
-    ) {
-        C::put_columns(self, source, region, width, height);
     }
 
     ghost same_holder_refl = { λ a. (refl, C.same_holder_refl a.now) };

@@ -4,9 +4,7 @@ ghost use Rattle.std.specs.Prelude.{◌≡◌, ℕ, ◌+◌, ◌-◌, ◌*◌, �
 ghost use Rattle.std.proofs.Common.{refl, ◌∙◌};
 ghost use Rattle.p3_util_kernels.specs.Exchanged.{RunsExchanged};
 
-use crate::places::copies::copy_columns;
 use crate::places::{Cells, Places, Source};
-use crate::transpose::Region;
 
 /// The items of a mutable slice. What it holds is in the slice when the borrow ends.
 #[derive(Drop)]
@@ -93,17 +91,6 @@ impl<'a, T: Copy> Cells for SliceCells<'a, T> {
         self.values[i] = v;
     }
 
-    #[inline(always)]
-    fn put_columns<R: Source<Item = T>>(
-        &mut self,
-        source: &R,
-        region: Region,
-        width: usize,
-        height: usize,
-    ) {
-        source.copy_columns(region, width, height, self.values);
-    }
-
     ghost same_holder_refl = { λ a. refl };
 
     ghost same_holder_trans = { λ a b c p q. p ∙ q };
@@ -136,10 +123,5 @@ impl<'a, T: Copy> Source for SliceSource<'a, T> {
     #[inline(always)]
     fn at(&self, i: usize) -> T {
         self.slice[i]
-    }
-
-    #[inline(always)]
-    fn copy_columns(&self, region: Region, width: usize, height: usize, values: &mut [T]) {
-        copy_columns(self.slice, region, width, height, values);
     }
 }

@@ -3,12 +3,13 @@
 ghost use Rattle.std.specs.Prelude.{◌≡◌, ◌+◌, ◌*◌, ◌/◌, ◌<◌, ◌≤◌, max, length};
 ghost use Rattle.std.specs.Bool.{MatchBool};
 ghost use Rattle.p3_util_kernels.specs.Levels.{lev, nest};
+ghost use Rattle.p3_util_kernels.specs.Pieces.{IsReady};
 ghost use Rattle.p3_util_kernels.specs.Region.{IsRegionTransposed, LiesInMatrix, cols_of, items_of, rows_of};
 ghost use Rattle.p3_util_kernels.specs.Steps.{counted};
 
 use crate::places::{Cells, SliceSource, Source, Writes};
-use crate::transpose::Region;
-use crate::transpose::columns::put_strips;
+use crate::regions::Region;
+use crate::transpose::put_region;
 
 /// The greatest side of a part that is not halved where its other side is no longer.
 const LEAF_SIDE: usize = 128;
@@ -66,34 +67,71 @@ where
     ensures bound { result ≤ 57 }
     ensures holder { C.same_holder out.old.holder out.new.holder }
 {
-    if is_leaf(region) {
-        put_leaf(input, out, region, width, height);
-        return 0;
-    }
-    // Its contract says that the places fit a usize, so that there are at most 57 levels.
-    let _places = out.len();
-    let (first, second) = halves(region);
-    let nested = transpose_source_split_on(input, out, first, width, height, levels - 1);
-    let nested_after = transpose_source_split_on(input, out, second, width, height, levels - 1);
-    1 + nested.max(nested_after)
+    // Its contract says that the count is a u128.
+    let _ = out.len();
+    let (count, nested) = split_counted(input, &mut out.cells, region, width, height, levels);
+    out.writes = out.writes.saturating_add(count);
+    nested
 }
 
-/// Puts the transpose of a region that is not split.
-fn put_leaf<R, C>(input: &R, out: &mut Writes<C>, region: Region, width: usize, height: usize)
+/// Puts the transpose of `region` into `cells` by halves, and returns the number of writes and how many splits are nested.
+pub fn split_counted<R, C>(
+    input: &R,
+    cells: &mut C,
+    region: Region,
+    width: usize,
+    height: usize,
+    levels: u32,
+) -> (u128, u32)
 where
     C: Cells,
     R: Source<Item = C::Item>,
     requires input_fits { length (R.items input.now) ≡ width * height }
-    requires output_fits { length (C.items out.old.holder) ≡ width * height }
+    requires output_fits { length (C.items cells.old) ≡ width * height }
     requires inside { LiesInMatrix region width height }
-    ensures transposed { IsRegionTransposed region width height (R.items input.now)
-        (C.items out.old.holder) (C.items out.new.holder) }
-    ensures count { out.new.count ≡ counted out.old.count (items_of region) }
-    ensures holder { C.same_holder out.old.holder out.new.holder }
+    requires enough { lev (rows_of region) (cols_of region) ≤ levels }
+    ensures transposed { IsRegionTransposed region width height (R.items input.now) (C.items cells.old) (C.items cells.new) }
+    ensures count { result.0 ≡ counted 0 (items_of region) }
+    ensures nested { result.1 ≡ nest (rows_of region) (cols_of region) }
+    ensures bound { result.1 ≤ 57 }
+    ensures holder { C.same_holder cells.old cells.new }
 {
-    // The places fit a usize, and the count a u128.
-    let _places = out.len();
-    put_strips(input, out, region, width, height);
+    // Its contract says that the places fit a usize.
+    let _ = cells.len();
+    let (out, nested) = put_split(Writes::new(cells), input, region, width, height, levels);
+    let count = out.writes();
+    let _ = out.into_inner();
+    (count, nested)
+}
+
+/// Puts `region` by halves, with so many levels at most, and returns how many splits are nested too.
+fn put_split<R, C>(
+    out: Writes<C>,
+    input: &R,
+    region: Region,
+    width: usize,
+    height: usize,
+    levels: u32,
+) -> (Writes<C>, u32)
+where
+    C: Cells,
+    R: Source<Item = C::Item>,
+    requires ready { IsReady region width height (R.items input.now) (C.items out.holder) out.count }
+    requires enough { lev (rows_of region) (cols_of region) ≤ levels }
+    ensures transposed { IsRegionTransposed region width height (R.items input.now)
+        (C.items out.holder) (C.items result.0.holder) }
+    ensures count { result.0.count ≡ counted out.count (items_of region) }
+    ensures nested { result.1 ≡ nest (rows_of region) (cols_of region) }
+    ensures bound { result.1 ≤ 57 }
+    ensures holder { C.same_holder out.holder result.0.holder }
+{
+    if is_leaf(region) {
+        return (put_region(out, input, region, width, height), 0);
+    }
+    let (first, second) = halves(region);
+    let (out, nested) = put_split(out, input, first, width, height, levels - 1);
+    let (out, nested_after) = put_split(out, input, second, width, height, levels - 1);
+    (out, 1 + nested.max(nested_after))
 }
 
 /// Whether `region` is put without a split.
@@ -102,10 +140,9 @@ fn is_leaf(region: Region) -> bool
     requires rows_in_order { region.row_start ≤ region.row_end }
     requires cols_in_order { region.col_start ≤ region.col_end }
     ensures { let rows = rows_of region in let cols = cols_of region in
-        MatchBool result (nest rows cols ≡ 0) ((2 < rows) × (2 < cols) × (128 < max rows cols)) }
+        MatchBool result (nest rows cols ≡ 0) ((NARROW_SIDE < rows) × (NARROW_SIDE < cols) × (LEAF_SIDE < max rows cols)) }
 {
-    let rows = region.row_end - region.row_start;
-    let cols = region.col_end - region.col_start;
+    let (rows, cols) = (region.rows(), region.cols());
     rows.min(cols) <= NARROW_SIDE || rows.max(cols) <= LEAF_SIDE
 }
 
@@ -118,33 +155,14 @@ fn halves(region: Region) -> (Region, Region)
     ensures cols { rows_of region < cols_of region → let middle = region.col_start + cols_of region / 2 in
         result ≡ (record region { col_end = middle }, record region { col_start = middle }) }
 {
-    let rows = region.row_end - region.row_start;
-    let cols = region.col_end - region.col_start;
+    let (rows, cols) = (region.rows(), region.cols());
     if rows >= cols {
         let middle = region.row_start + rows / 2;
-        let upper = Region {
-            row_end: middle,
-            ..region
-        };
-        (
-            upper,
-            Region {
-                row_start: middle,
-                ..region
-            },
-        )
+        let upper = region.with_rows(region.row_start, middle);
+        (upper, region.with_rows(middle, region.row_end))
     } else {
         let middle = region.col_start + cols / 2;
-        let left = Region {
-            col_end: middle,
-            ..region
-        };
-        (
-            left,
-            Region {
-                col_start: middle,
-                ..region
-            },
-        )
+        let left = region.with_cols(region.col_start, middle);
+        (left, region.with_cols(middle, region.col_end))
     }
 }

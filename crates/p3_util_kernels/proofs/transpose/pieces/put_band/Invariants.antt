@@ -1,0 +1,17 @@
+use Rattle.std.proofs.Common.{◌≡◌, ◌-◌, ◌*◌, ◌≤◌}
+use Rattle.p3_util_kernels.specs.Region.{IsRegionTransposed, rows_of}
+use Rattle.p3_util_kernels.specs.Steps.{counted}
+use Rattle.p3_util_kernels.proofs.transpose.pieces.put_band.Given as goal
+
+abbrev pub invariant-loop-col : goal.invariant-loop-col
+invariant-loop-col g l = record {
+  from : l.region.col_start ≤ l.col;
+  to : l.col ≤ l.region.col_end;
+  transposed : IsRegionTransposed (record l.region { col_end = l.col }) l.width l.height (g.R.Source.items l.source)
+      (g.C.Cells.items l.fn.out.holder) (g.C.Cells.items l.out.holder);
+  count : l.out.count ≡ counted l.fn.out.count (rows_of l.region * (l.col - l.region.col_start));
+  holder : g.C.Cells.same_holder l.fn.out.holder l.out.holder;
+}
+
+abbrev pub decreases-loop-col : goal.decreases-loop-col
+decreases-loop-col g l = l.region.col_end - l.col

@@ -1,0 +1,12 @@
+use Rattle.std.proofs.Common.{◌≡◌, ◌*◌}
+use Rattle.p3_util_kernels.specs.Pieces.{IsPiecePut}
+use Rattle.p3_util_kernels.specs.Steps.{counted}
+use Rattle.p3_util_kernels.specs.declared.transpose.pieces.TheConstants.{LINE_ITEMS}
+use Rattle.p3_util_kernels.proofs.transpose.pieces.put_line.Given as goal
+
+abbrev pub invariant-loop-line : goal.invariant-loop-line
+invariant-loop-line g l = record {
+  put : IsPiecePut (l.line * LINE_ITEMS) 1 l.from l.width l.to l.height (g.R.Source.items l.source) (g.C.Cells.items l.fn.out.holder) (g.C.Cells.items l.out.holder);
+  count : l.out.count ≡ counted l.fn.out.count (l.line * LINE_ITEMS);
+  holder : g.C.Cells.same_holder l.fn.out.holder l.out.holder;
+}

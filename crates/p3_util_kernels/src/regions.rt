@@ -1,0 +1,57 @@
+//! Regions of a matrix, and the parts that they are cut into.
+
+ghost use Rattle.std.specs.Prelude.{◌≡◌, ◌≤◌};
+ghost use Rattle.p3_util_kernels.specs.Region.{cols_of, rows_of};
+
+/// The rows from `row_start` to below `row_end` of a matrix, and of these the columns from `col_start` to below `col_end`.
+#[derive(Clone, Copy, Debug, PartialEq, Eq)]
+pub struct Region {
+    pub row_start: usize,
+    pub row_end: usize,
+    pub col_start: usize,
+    pub col_end: usize,
+}
+
+impl Region {
+    /// The number of rows.
+    #[inline(always)]
+    pub(crate) fn rows(self) -> usize
+        requires in_order { self.row_start ≤ self.row_end }
+        ensures { result ≡ rows_of self }
+    {
+        self.row_end - self.row_start
+    }
+
+    /// The number of columns.
+    #[inline(always)]
+    pub(crate) fn cols(self) -> usize
+        requires in_order { self.col_start ≤ self.col_end }
+        ensures { result ≡ cols_of self }
+    {
+        self.col_end - self.col_start
+    }
+
+    /// The rows of the region from `start` to below `end`, rows of the matrix.
+    #[inline(always)]
+    pub(crate) fn with_rows(self, start: usize, end: usize) -> Region
+        ensures { result ≡ record self { row_start = start; row_end = end } }
+    {
+        Region {
+            row_start: start,
+            row_end: end,
+            ..self
+        }
+    }
+
+    /// The columns of the region from `start` to below `end`, columns of the matrix.
+    #[inline(always)]
+    pub(crate) fn with_cols(self, start: usize, end: usize) -> Region
+        ensures { result ≡ record self { col_start = start; col_end = end } }
+    {
+        Region {
+            col_start: start,
+            col_end: end,
+            ..self
+        }
+    }
+}
