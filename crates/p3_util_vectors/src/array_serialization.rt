@@ -1,7 +1,7 @@
 //! Arrays as JSON lists: worked examples over values that are read from JSON text.
 
 use crate::callers::array_serialization::written_and_read;
-use crate::checks::same;
+use crate::checks::equal;
 use p3_util::array_serialization::ArrayError::{Element, Length, NotArray};
 use p3_util::array_serialization::ElementError::{Float, Kind, Range};
 use p3_util::array_serialization::{
@@ -98,7 +98,7 @@ fn is_read_back<T: ArrayElement + PartialEq + Copy, const N: usize>(
 fn written(rt: HostRuntime) -> Result<(), AllocError> {
     let alloc = rt.alloc();
     let text = serialize(alloc, &[10u32, 20, 30])?.to_string(alloc)?;
-    same(&rt, 0, &text.as_str(), &"[10,20,30]");
+    equal(&rt, &text.as_str(), &"[10,20,30]");
     assert!(rt; is_read_back(alloc, &[10u32, 20, 30]));
     assert!(rt; is_read_back::<u32, 0>(alloc, &[]));
     assert!(rt; is_read_back(alloc, &[0, u64::MAX]));

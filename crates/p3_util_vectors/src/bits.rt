@@ -1,6 +1,6 @@
 //! Logarithms, powers, reversed digits and short names against worked examples and the original crate.
 
-use crate::checks::{found, same};
+use crate::checks::{equal, found, same};
 use crate::oracle::words::{
     CHECKED_POWERS, CHECKED_SUMS, LOGARITHMS, NAMES, POWERS_OF_THREE, POWERS_OF_TWO,
     REVERSED_BELOW_POWERS, REVERSED_LOW_DIGITS,
@@ -10,31 +10,6 @@ use p3_util_kernels::bits::{
     log2_ceil_u64, log2_ceil_usize, log2_floor_usize, log2_strict_usize, log3_strict_usize,
     pretty_name, reverse_bits, reverse_bits_len,
 };
-use std::process::Abort;
-
-/// The strict logarithm of `n`, which must be a power of two.
-fn log2_of(rt: &impl Abort, n: usize) -> usize {
-    assert!(rt; n.is_power_of_two(), "{n}");
-    log2_strict_usize(n)
-}
-
-/// The strict logarithm of `n`, which must be a power of three.
-fn log3_of(rt: &impl Abort, n: usize) -> usize {
-    assert!(rt; is_power_of_three(n), "{n}");
-    log3_strict_usize(n)
-}
-
-/// Reverses the `bit_len` low digits of `x`, of which there must be no more than 64.
-fn reversed_low_digits(rt: &impl Abort, x: usize, bit_len: usize) -> usize {
-    assert!(rt; bit_len <= 64, "{bit_len}");
-    reverse_bits_len(x, bit_len)
-}
-
-/// Reverses the digits of `x` below the set digit of `n`, which must be a power of two.
-fn reversed_below_power(rt: &impl Abort, x: usize, n: usize) -> usize {
-    assert!(rt; n.is_power_of_two(), "{n}");
-    reverse_bits(x, n)
-}
 
 #[test]
 fn logarithms(rt: HostRuntime) {
@@ -48,7 +23,8 @@ fn logarithms(rt: HostRuntime) {
 #[test]
 fn strict_logarithms_of_powers_of_two(rt: HostRuntime) {
     for (exponent, n) in POWERS_OF_TWO.iter().enumerate() {
-        same(&rt, *n, &log2_of(&rt, *n), &exponent);
+        assert!(rt; n.is_power_of_two());
+        same(&rt, *n, &log2_strict_usize(*n), &exponent);
         same(&rt, *n, &log2_ceil_usize(*n), &exponent);
     }
 }
@@ -56,7 +32,8 @@ fn strict_logarithms_of_powers_of_two(rt: HostRuntime) {
 #[test]
 fn strict_logarithms_of_powers_of_three(rt: HostRuntime) {
     for (exponent, n) in POWERS_OF_THREE.iter().enumerate() {
-        same(&rt, *n, &log3_of(&rt, *n), &exponent);
+        assert!(rt; is_power_of_three(*n));
+        same(&rt, *n, &log3_strict_usize(*n), &exponent);
     }
 }
 
@@ -91,21 +68,23 @@ fn sums_that_fit(rt: HostRuntime) {
 #[test]
 fn low_digits(rt: HostRuntime) {
     for (row, (x, bit_len, reversed)) in REVERSED_LOW_DIGITS.iter().enumerate() {
-        same(&rt, row, &reversed_low_digits(&rt, *x, *bit_len), reversed);
+        assert!(rt; *bit_len <= 64);
+        same(&rt, row, &reverse_bits_len(*x, *bit_len), reversed);
     }
 }
 
 #[test]
 fn digits_below_powers(rt: HostRuntime) {
     for (row, (x, n, reversed)) in REVERSED_BELOW_POWERS.iter().enumerate() {
-        same(&rt, row, &reversed_below_power(&rt, *x, *n), reversed);
+        assert!(rt; n.is_power_of_two());
+        same(&rt, row, &reverse_bits(*x, *n), reversed);
     }
 }
 
 #[test]
 fn indices_and_marks(rt: HostRuntime) {
-    same(&rt, 3, &indices_arr::<3>(), &[0, 1, 2]);
-    same(&rt, 0, &indices_arr::<0>(), &[]);
+    equal(&rt, &indices_arr::<3>(), &[0, 1, 2]);
+    equal(&rt, &indices_arr::<0>(), &[]);
     branch_hint();
     assert_clone::<u64>();
 }

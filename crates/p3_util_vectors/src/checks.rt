@@ -6,6 +6,11 @@ use std::cell::Cell;
 use std::fmt::Debug;
 use std::process::Abort;
 
+/// Asserts that `got` is `wanted`.
+pub(crate) fn equal<T: PartialEq + Debug>(rt: &impl Abort, got: &T, wanted: &T) {
+    assert_eq!(rt; *got, *wanted);
+}
+
 /// Asserts that `got` is `wanted`, at the row or the place `at`.
 pub(crate) fn same<T: PartialEq + Debug>(rt: &impl Abort, at: usize, got: &T, wanted: &T) {
     assert_eq!(rt; *got, *wanted, "at {at}");

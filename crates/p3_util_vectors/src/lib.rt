@@ -4,8 +4,14 @@
 #[cfg(test)]
 mod array_serialization;
 #[cfg(test)]
+mod between_views;
+#[cfg(test)]
 mod bits;
+#[cfg(test)]
+mod butterfly;
 pub mod callers;
+#[cfg(test)]
+mod calls;
 #[cfg(test)]
 mod checks;
 #[cfg(test)]
@@ -18,6 +24,8 @@ mod noted;
 #[cfg(test)]
 mod oracle;
 #[cfg(test)]
+mod puts;
+#[cfg(test)]
 mod refused_growth;
 #[cfg(test)]
 mod regions;
@@ -27,6 +35,8 @@ mod reverse;
 mod reverse_paths;
 #[cfg(test)]
 mod rows;
+#[cfg(test)]
+mod shapes;
 #[cfg(test)]
 mod split;
 #[cfg(test)]

@@ -5,7 +5,7 @@ ghost use Rattle.std.specs.Cmp.Rules.{comparing};
 ghost use Rattle.std.specs.Ordering.{on};
 
 use crate::callers::linear_map::{Call, run_call};
-use crate::checks::{Owner, found, same};
+use crate::checks::{Owner, equal, found, same};
 use crate::oracle::map::{SCRIPT, SCRIPT_PAIRS};
 use Call::{Get, Insert, Write};
 use p3_util::linear_map::LinearMap;
@@ -51,7 +51,7 @@ fn check_pairs<K: Eq + Debug, V: PartialEq + Debug>(
     map: &LinearMap<K, V>,
     pairs: &[(K, V)],
 ) {
-    same(rt, 0, &map.len(), &pairs.len());
+    equal(rt, &map.len(), &pairs.len());
     assert!(rt; map.iter().eq(pairs.iter()));
     assert!(rt; map.into_iter().eq(pairs.iter()));
     check_keys(rt, map, pairs);
@@ -144,7 +144,7 @@ fn maps_of_pairs(rt: HostRuntime) {
     let letters = [("a", 1u32), ("b", 2), ("c", 3)];
     check_made(&rt, rt.alloc(), &letters, &letters);
     let with_room = found(&rt, LinearMap::<u32, u32>::with_capacity(rt.alloc(), 3));
-    same(&rt, 0, &with_room.len(), &0);
+    equal(&rt, &with_room.len(), &0);
 }
 
 /// What `get_or_insert_with` lends under `key`, or the key that it hands back; and how often it called the closure, which
@@ -216,13 +216,13 @@ fn drops_known_keys(rt: HostRuntime) {
     if !insert_key(&mut map, &drops) {
         return;
     }
-    same(&rt, 0, &drops.get(), &0);
+    equal(&rt, &drops.get(), &0);
     assert!(rt; insert_key(&mut map, &drops));
-    same(&rt, 1, &drops.get(), &1);
+    equal(&rt, &drops.get(), &1);
     assert!(rt; lend_key(&mut map, &drops));
-    same(&rt, 2, &drops.get(), &2);
+    equal(&rt, &drops.get(), &2);
     drop(map);
-    same(&rt, 3, &drops.get(), &3);
+    equal(&rt, &drops.get(), &3);
 }
 
 /// Room that no memory has is refused.

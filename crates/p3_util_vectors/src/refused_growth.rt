@@ -12,7 +12,7 @@ ghost use Rattle.std.specs.Str.{bytes_eq, str_to_ascii_lowercase};
 ghost use Rattle.p3_util.specs.JsonElements.{u32_reading};
 ghost use Rattle.p3_util_vectors.specs.Pairs.{map_ok, pair_reading};
 
-use crate::checks::{Owner, same};
+use crate::checks::{Owner, equal, same};
 use crate::linear_map::lent;
 use p3_util::array_serialization::{
     ArrayElement, ArrayError, ElementError, deserialize, serialize,
@@ -27,7 +27,7 @@ use std::process::Abort;
 #[test]
 fn names(rt: HostRuntime) {
     if let Ok(name) = pretty_name(rt.alloc(), "alloc::vec::Vec<core::option::Option<u32>>") {
-        same(&rt, 0, &name.as_str(), &"Vec<Option<u32>>");
+        equal(&rt, &name.as_str(), &"Vec<Option<u32>>");
     }
 }
 
@@ -51,24 +51,24 @@ fn maps_with_room(rt: HostRuntime) {
         return;
     };
     for key in 0u32..3 {
-        same(&rt, 0, &inserted(&mut map, key, key), &Ok(None));
+        equal(&rt, &inserted(&mut map, key, key), &Ok(None));
     }
     for key in 0u32..3 {
-        same(&rt, 1, &inserted(&mut map, key, 9), &Ok(Some(key)));
-        same(&rt, 2, &lent(&mut map, key, 7), &(Ok(9), 0));
+        equal(&rt, &inserted(&mut map, key, 9), &Ok(Some(key)));
+        equal(&rt, &lent(&mut map, key, 7), &(Ok(9), 0));
     }
 }
 
 /// Asserts that a map has the keys from 0 to 9 in order, but for the one that was refused, and each with its value.
 fn check_kept(rt: &impl Abort, map: &LinearMap<u32, u32>, refused: Option<u32>) {
     let count = if refused.is_some() { 9 } else { 10 };
-    same(rt, 0, &map.len(), &count);
+    equal(rt, &map.len(), &count);
     let mut wanted = 0u32;
     for key in map.keys() {
         if refused == Some(wanted) {
             wanted = wanted.wrapping_add(1);
         }
-        same(rt, 1, key, &wanted);
+        equal(rt, key, &wanted);
         wanted = wanted.wrapping_add(1);
     }
     for key in 0u32..10 {
@@ -77,7 +77,7 @@ fn check_kept(rt: &impl Abort, map: &LinearMap<u32, u32>, refused: Option<u32>) 
         } else {
             Some(key ^ 64)
         };
-        same(rt, 2, &map.get(&key).copied(), &value);
+        equal(rt, &map.get(&key).copied(), &value);
     }
 }
 
@@ -88,9 +88,9 @@ fn inserted_pairs(rt: HostRuntime) {
     let mut refused = None;
     for key in 0u32..10 {
         match inserted(&mut map, key, key ^ 64) {
-            Ok(old) => same(&rt, 0, &old, &None),
+            Ok(old) => equal(&rt, &old, &None),
             Err(given) => {
-                same(&rt, 1, &given, &(key, key ^ 64));
+                equal(&rt, &given, &(key, key ^ 64));
                 refused = Some(key);
             }
         }
@@ -106,9 +106,9 @@ fn closures_of_new_keys(rt: HostRuntime) {
     let mut refused = None;
     for key in 0u32..10 {
         match lent(&mut map, key, key ^ 64) {
-            (Ok(value), calls) => same(&rt, 0, &(value, calls), &(key ^ 64, 1)),
+            (Ok(value), calls) => equal(&rt, &(value, calls), &(key ^ 64, 1)),
             (Err(given), calls) => {
-                same(&rt, 1, &(given, calls), &(key, 0));
+                equal(&rt, &(given, calls), &(key, 0));
                 refused = Some(key);
             }
         }
@@ -173,13 +173,13 @@ fn spellings(rt: HostRuntime) {
     if spelled(&mut map, "Key", 1).is_err() {
         return;
     }
-    same(&rt, 0, &spelled(&mut map, "KEY", 2), &Ok(Some(1)));
-    same(&rt, 0, &map.len(), &1);
+    equal(&rt, &spelled(&mut map, "KEY", 2), &Ok(Some(1)));
+    equal(&rt, &map.len(), &1);
     for name in ["a", "b", "c", "d", "e", "f", "g", "h"] {
         insert_spelling(&rt, &mut map, name);
     }
-    same(&rt, 0, &map.get(&Spelling("kEy")).copied(), &Some(2));
-    same(&rt, 0, &first_key(&map), &"Key");
+    equal(&rt, &map.get(&Spelling("kEy")).copied(), &Some(2));
+    equal(&rt, &first_key(&map), &"Key");
 }
 
 /// A map of an owner for each of these counters, and in `taken` how many owners it was given.
@@ -209,7 +209,7 @@ fn maps_of_pairs(rt: HostRuntime) {
     let taken = Cell::new(0);
     match map_of_owners(rt.alloc(), &drops, &taken) {
         Ok(map) => {
-            same(&rt, 0, &taken.get(), &8);
+            equal(&rt, &taken.get(), &8);
             check_drops(&rt, &drops, 0);
             drop(map);
             check_drops(&rt, &drops, 8);
@@ -256,7 +256,7 @@ fn are_numbered(items: &[Option<Owner<'_>>], first: usize) -> bool {
 
 /// Asserts that these are the six owners in three rows.
 fn check_rows(rt: &impl Abort, rows: &[Row<'_>]) {
-    same(rt, 0, &rows.len(), &3);
+    equal(rt, &rows.len(), &3);
     for (row, first) in rows.iter().zip([0, 2, 4]) {
         assert!(rt; are_numbered(row, first), "the row of owner {first}");
     }
@@ -264,8 +264,8 @@ fn check_rows(rt: &impl Abort, rows: &[Row<'_>]) {
 
 /// Asserts that these are the six owners.
 fn check_items(rt: &impl Abort, items: &[Option<Owner<'_>>]) {
-    same(rt, 0, &items.len(), &6);
-    same(rt, 0, &are_numbered(items, 0), &true);
+    equal(rt, &items.len(), &6);
+    equal(rt, &are_numbered(items, 0), &true);
 }
 
 /// A refused `flatten_to_base` hands the vector back, with each item in its place and none of them dropped.
@@ -279,14 +279,14 @@ fn flattened_rows(rt: HostRuntime) {
     match flatten_to_base(rt.alloc(), rows) {
         Ok(items) => {
             check_items(&rt, &items);
-            same(&rt, 0, &drops.get(), &0);
+            equal(&rt, &drops.get(), &0);
         }
         Err(NoRoom { given }) => {
             check_rows(&rt, &given);
-            same(&rt, 1, &drops.get(), &0);
+            equal(&rt, &drops.get(), &0);
         }
     }
-    same(&rt, 2, &drops.get(), &6);
+    equal(&rt, &drops.get(), &6);
 }
 
 /// The same of `reconstitute_from_base`.
@@ -300,14 +300,14 @@ fn reconstituted_items(rt: HostRuntime) {
     match reconstitute_from_base::<_, 2>(rt.alloc(), items) {
         Ok(rows) => {
             check_rows(&rt, &rows);
-            same(&rt, 0, &drops.get(), &0);
+            equal(&rt, &drops.get(), &0);
         }
         Err(NoRoom { given }) => {
             check_items(&rt, &given);
-            same(&rt, 1, &drops.get(), &0);
+            equal(&rt, &drops.get(), &0);
         }
     }
-    same(&rt, 2, &drops.get(), &6);
+    equal(&rt, &drops.get(), &6);
 }
 
 /// Two numbers, written as a JSON list of two, which takes memory. It is only written: a call that reads one answers that
@@ -359,9 +359,9 @@ fn check_written(rt: &impl Abort, alloc: Global, value: &Value) {
     let Some(pairs) = value.as_array() else {
         panic!(rt; "the list was not written as one");
     };
-    same(rt, 0, &pairs.len(), &2);
+    equal(rt, &pairs.len(), &2);
     for (pair, wanted) in pairs.iter().zip([[1u32, 2], [3, 4]]) {
-        same(rt, 1, &deserialize(alloc, pair), &Ok(wanted));
+        equal(rt, &deserialize(alloc, pair), &Ok(wanted));
     }
 }
 
@@ -369,12 +369,7 @@ fn check_written(rt: &impl Abort, alloc: Global, value: &Value) {
 #[test]
 fn written_arrays(rt: HostRuntime) {
     if let Ok(value) = serialize(rt.alloc(), &[10u32, 20, 30]) {
-        same(
-            &rt,
-            0,
-            &deserialize(rt.alloc(), &value),
-            &Ok([10u32, 20, 30]),
-        );
+        equal(&rt, &deserialize(rt.alloc(), &value), &Ok([10u32, 20, 30]));
     }
     if let Ok(value) = serialize(rt.alloc(), &[Two(1, 2), Two(3, 4)]) {
         check_written(&rt, rt.alloc(), &value);
@@ -389,9 +384,8 @@ fn read_arrays(rt: HostRuntime) {
             index: 1,
             cause: ElementError::Memory,
         };
-        same(
+        equal(
             &rt,
-            0,
             &deserialize::<NoTwo, 3>(rt.alloc(), &value),
             &Err(refused),
         );

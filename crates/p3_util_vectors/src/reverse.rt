@@ -1,11 +1,11 @@
 //! Bit reversal against worked examples and the original crate.
 
-use crate::checks::{Owner, copied, found, numbers, owners, reversed, same};
+use crate::calls::{count_swaps_of, reverse_slice};
+use crate::checks::{Owner, copied, equal, found, numbers, owners, reversed, same};
 use crate::joined::Joined;
 use crate::oracle::reversals::REVERSALS;
 use crate::oracle::{hash, items};
-use p3_util_kernels::places::{Places, SlicePlaces};
-use p3_util_kernels::reverse::{fits_rows, reverse_counted, reverse_slice_index_bits};
+use p3_util_kernels::places::SlicePlaces;
 use std::alloc::{AllocError, Global};
 use std::cell::Cell;
 use std::process::Abort;
@@ -17,18 +17,6 @@ const EXAMPLES: [(&[u64], &[u64], u128); 4] = [
     (&[10, 20, 30, 40], &[10, 30, 20, 40], 1),
     (&[0, 1, 2, 3, 4, 5, 6, 7], &[0, 4, 2, 6, 1, 5, 3, 7], 2),
 ];
-
-/// Reverses `list`, of no items or a power of two, as a slice.
-fn reverse_slice<F>(rt: &impl Abort, list: &mut [F]) {
-    assert!(rt; fits_rows(list.len(), 1));
-    reverse_slice_index_bits(list);
-}
-
-/// Reverses `places`, of no items or a power of two, and returns the number of swaps.
-pub(crate) fn count_swaps_of<S: Places>(rt: &impl Abort, places: &mut S) -> u128 {
-    assert!(rt; fits_rows(places.len(), 1));
-    reverse_counted(places)
-}
 
 /// The reversal of `list` by the slice form.
 fn by_slice(rt: &impl Abort, alloc: Global, list: &[u64]) -> Vec<u64> {
@@ -70,32 +58,32 @@ fn hashes_of_the_original(rt: HostRuntime) {
     }
 }
 
-/// Lists of more types than u64 are made of their numbers.
-trait Numbered {
+/// Items that are made of a number.
+trait HasNumber {
     /// The number that the item was made of.
     fn number(&self) -> usize;
 }
 
-impl Numbered for u64 {
+impl HasNumber for u64 {
     fn number(&self) -> usize {
         *self as usize
     }
 }
 
-impl Numbered for String {
+impl HasNumber for String {
     fn number(&self) -> usize {
         self.parse().unwrap_or(usize::MAX)
     }
 }
 
-impl Numbered for Owner<'_> {
+impl HasNumber for Owner<'_> {
     fn number(&self) -> usize {
         self.number
     }
 }
 
 /// Asserts that each place has the item whose number is the place, with its `bits` low digits reversed where there are any.
-fn check_numbers<T: Numbered>(rt: &impl Abort, list: &[T], bits: Option<u32>) {
+fn check_numbers<T: HasNumber>(rt: &impl Abort, list: &[T], bits: Option<u32>) {
     for (place, item) in list.iter().enumerate() {
         let wanted = match bits {
             Some(bits) => reversed(place, bits),
@@ -106,7 +94,7 @@ fn check_numbers<T: Numbered>(rt: &impl Abort, list: &[T], bits: Option<u32>) {
 }
 
 /// Asserts that a reversal puts at each place the item with the reversed number, and a second one each item back.
-fn reverse_numbered<T: Numbered>(rt: &impl Abort, list: &mut [T], bits: u32) {
+fn reverse_numbered<T: HasNumber>(rt: &impl Abort, list: &mut [T], bits: u32) {
     reverse_slice(rt, list);
     check_numbers(rt, list, Some(bits));
     reverse_slice(rt, list);
@@ -150,11 +138,11 @@ fn owners_by_the_long_path(rt: HostRuntime) {
     let drops = Cell::new(0);
     let mut list = owners(&rt, rt.alloc(), 32768, &drops);
     let swaps = count_swaps_of(&rt, &mut SlicePlaces::new(&mut list));
-    same(&rt, 0, &swaps, &44928);
+    equal(&rt, &swaps, &44928);
     for (place, held) in [(1, 16384), (3, 24576), (256, 64)] {
         same(&rt, place, &number_at(&list, place), &Some(held));
     }
-    same(&rt, 0, &drops.get(), &0);
+    equal(&rt, &drops.get(), &0);
 }
 
 #[test]
@@ -163,9 +151,9 @@ fn owners_without_clone(rt: HostRuntime) {
         let drops = Cell::new(0);
         let mut list = owners(&rt, rt.alloc(), 1usize << bits, &drops);
         reverse_numbered(&rt, &mut list, bits);
-        same(&rt, 0, &drops.get(), &0);
+        equal(&rt, &drops.get(), &0);
         drop(list);
-        same(&rt, 0, &drops.get(), &(1usize << bits));
+        equal(&rt, &drops.get(), &(1usize << bits));
     }
 }
 
@@ -175,7 +163,7 @@ fn joined_slices(rt: HostRuntime) {
     let mut front = [0u64, 1, 2];
     let mut back = [3u64, 4, 5, 6, 7];
     let mut joined = Joined::new(&mut front, &mut back);
-    same(&rt, 0, &count_swaps_of(&rt, &mut joined), &2);
-    same(&rt, 0, &front, &[0, 4, 2]);
-    same(&rt, 0, &back, &[6, 1, 5, 3, 7]);
+    equal(&rt, &count_swaps_of(&rt, &mut joined), &2);
+    equal(&rt, &front, &[0, 4, 2]);
+    equal(&rt, &back, &[6, 1, 5, 3, 7]);
 }

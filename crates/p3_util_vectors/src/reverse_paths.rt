@@ -1,7 +1,7 @@
 //! The paths of bit reversal: what they leave, their numbers of swaps, and the order of the long path's exchanges.
 
 use super::noted::{Noted, exchange_of};
-use crate::checks::{numbers, same};
+use crate::checks::{equal, numbers, same};
 use p3_util_kernels::bits::checked_log_size_sum;
 use p3_util_kernels::places::{Places, SlicePlaces, Swaps};
 use p3_util_kernels::reverse::{
@@ -175,10 +175,10 @@ fn kind_of(first: usize, second: usize) -> Kind {
 #[test]
 fn long_path_in_order(rt: HostRuntime) {
     let mut m = Swaps::new(Noted::numbered(&rt, rt.alloc(), 16384, 32768));
-    same(&rt, 0, &make(&rt, &mut m, Call::On), &22464);
+    equal(&rt, &make(&rt, &mut m, Call::On), &22464);
 
     let notes = m.into_inner().notes;
-    same(&rt, 0, &notes.len(), &22464);
+    equal(&rt, &notes.len(), &22464);
     for (k, note) in notes.iter().enumerate() {
         let (first, second) = exchange_of(&rt, note);
         let wanted = if (7168..15296).contains(&k) {
@@ -188,5 +188,5 @@ fn long_path_in_order(rt: HostRuntime) {
         };
         same(&rt, k, &kind_of(first, second), &wanted);
     }
-    same(&rt, 0, &notes.get(..7168), &notes.get(15296..));
+    equal(&rt, &notes.get(..7168), &notes.get(15296..));
 }

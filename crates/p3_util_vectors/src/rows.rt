@@ -1,10 +1,11 @@
 //! Reversal of rows against worked examples and the definition.
 
 use super::noted::{Note, Noted};
-use crate::checks::{Owner, copied, numbers, owners, reversed, same};
+use crate::calls::{count_row_swaps, reverse_slice_rows};
+use crate::checks::{Owner, copied, equal, numbers, owners, reversed, same};
 use p3_util::as_base_slice_mut;
-use p3_util_kernels::places::{Places, SlicePlaces};
-use p3_util_kernels::reverse::{fits_rows, reverse_rows_counted, reverse_slice_row_index_bits};
+use p3_util_kernels::places::SlicePlaces;
+use p3_util_kernels::reverse::fits_rows;
 use std::cell::Cell;
 use std::process::Abort;
 
@@ -35,18 +36,6 @@ const EXAMPLES: [(&[u64], usize, &[u64], u128); 4] = [
     (&[0, 1, 2, 3, 4, 5, 6, 7], 1, &[0, 4, 2, 6, 1, 5, 3, 7], 2),
 ];
 
-/// Reverses the rows of `places`, which fit, and returns the number of swaps.
-fn count_swaps<S: Places>(rt: &impl Abort, places: &mut S, row_width: usize) -> u128 {
-    assert!(rt; fits_rows(places.len(), row_width));
-    reverse_rows_counted(places, row_width)
-}
-
-/// Reverses the rows of `list`, which fit, as a slice.
-fn reverse_slice<F>(rt: &impl Abort, list: &mut [F], row_width: usize) {
-    assert!(rt; fits_rows(list.len(), row_width));
-    reverse_slice_row_index_bits(list, row_width);
-}
-
 #[test]
 fn lengths_of_rows(rt: HostRuntime) {
     for (row, (len, row_width, wanted)) in LENGTHS.iter().enumerate() {
@@ -58,10 +47,10 @@ fn lengths_of_rows(rt: HostRuntime) {
 fn worked_examples(rt: HostRuntime) {
     for (row, (list, row_width, wanted, swaps)) in EXAMPLES.iter().enumerate() {
         let mut counted = copied(&rt, rt.alloc(), list);
-        let count = count_swaps(&rt, &mut SlicePlaces::new(&mut counted), *row_width);
+        let count = count_row_swaps(&rt, &mut SlicePlaces::new(&mut counted), *row_width);
         same(&rt, row, &count, swaps);
         same(&rt, row, &counted.as_slice(), wanted);
-        reverse_slice(&rt, &mut counted, *row_width);
+        reverse_slice_rows(&rt, &mut counted, *row_width);
         same(&rt, row, &counted.as_slice(), list);
     }
 }
@@ -69,16 +58,16 @@ fn worked_examples(rt: HostRuntime) {
 #[test]
 fn exact_number(rt: HostRuntime) {
     let mut list = numbers(&rt, rt.alloc(), 80);
-    let count = count_swaps(&rt, &mut SlicePlaces::new(&mut list), 5);
-    same(&rt, 0, &count, &30);
+    let count = count_row_swaps(&rt, &mut SlicePlaces::new(&mut list), 5);
+    equal(&rt, &count, &30);
 }
 
 #[test]
 fn rows_of_a_view(rt: HostRuntime) {
     let mut rows = [[0, 1], [2, 3], [4, 5], [6, 7]];
     let mut view = as_base_slice_mut(&mut rows);
-    same(&rt, 0, &count_swaps(&rt, &mut view, 2), &2);
-    same(&rt, 0, &rows, &[[0, 1], [4, 5], [2, 3], [6, 7]]);
+    equal(&rt, &count_row_swaps(&rt, &mut view, 2), &2);
+    equal(&rt, &rows, &[[0, 1], [4, 5], [2, 3], [6, 7]]);
 }
 
 /// Asserts that so wide rows of owners, `2^bits` of them, stand in the order of their reversed numbers.
@@ -97,7 +86,7 @@ fn owners_in_rows(rt: HostRuntime) {
         for bits in 0..11u32 {
             let drops = Cell::new(0);
             let mut list = owners(&rt, rt.alloc(), row_width << bits, &drops);
-            reverse_slice(&rt, &mut list, row_width);
+            reverse_slice_rows(&rt, &mut list, row_width);
             check_rows(&rt, &list, row_width, bits);
             same(&rt, row_width, &drops.get(), &0);
         }
@@ -119,6 +108,6 @@ const RUN: [Note; 8] = [
 #[test]
 fn each_exchange_of_a_run(rt: HostRuntime) {
     let mut noted = Noted::numbered(&rt, rt.alloc(), 32, 32);
-    same(&rt, 0, &count_swaps(&rt, &mut noted, 8), &8);
-    same(&rt, 0, &noted.notes.as_slice(), &RUN.as_slice());
+    equal(&rt, &count_row_swaps(&rt, &mut noted, 8), &8);
+    equal(&rt, &noted.notes.as_slice(), &RUN.as_slice());
 }

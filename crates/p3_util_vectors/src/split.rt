@@ -1,8 +1,8 @@
 //! The recursive split of a transpose.
 
 use crate::callers::transpose::levels_of;
-use crate::checks::{numbers, repeated, same};
-use crate::regions::puts;
+use crate::checks::{equal, numbers, repeated, same};
+use crate::puts::puts;
 use p3_util_kernels::places::{SliceCells, Writes};
 use p3_util_kernels::transpose::{Region, fits_matrix, transpose_split_on};
 use std::alloc::Global;
@@ -66,8 +66,8 @@ fn nested_splits(rt: HostRuntime) {
 #[test]
 fn split_of_1025_by_1024(rt: HostRuntime) {
     let (output, nested) = split(&rt, rt.alloc(), 1025, 1024, 64);
-    same(&rt, 0, &output.len(), &1_049_600);
-    same(&rt, 0, &nested, &7);
+    equal(&rt, &output.len(), &1_049_600);
+    equal(&rt, &nested, &7);
     same(&rt, 1, &output.get(1), &Some(&1025));
     same(&rt, 1024, &output.get(1024), &Some(&1));
 }
@@ -81,7 +81,7 @@ const LAST: usize = 1_049_600 - 8320;
 #[test]
 fn a_matrix_of_1024_by_1024_is_not_split(rt: HostRuntime) {
     let puts = puts(&rt, rt.alloc(), 1024, 1024);
-    same(&rt, 0, &puts.len(), &1_048_576);
+    equal(&rt, &puts.len(), &1_048_576);
     let mut leaves = false;
     for (k, (x, y)) in puts.iter().enumerate() {
         leaves = leaves || k < FIRST && (*x >= 128 || *y >= 128);
@@ -92,7 +92,7 @@ fn a_matrix_of_1024_by_1024_is_not_split(rt: HostRuntime) {
 #[test]
 fn a_matrix_of_1025_by_1024_is_split(rt: HostRuntime) {
     let puts = puts(&rt, rt.alloc(), 1025, 1024);
-    same(&rt, 0, &puts.len(), &1_049_600);
+    equal(&rt, &puts.len(), &1_049_600);
     let mut next = (0, 0);
     for (k, (x, y)) in puts.iter().enumerate() {
         if k < FIRST {
@@ -116,7 +116,7 @@ fn a_matrix_of_1025_by_1024_is_split(rt: HostRuntime) {
 #[test]
 fn a_matrix_of_17_by_61681_is_split(rt: HostRuntime) {
     let puts = puts(&rt, rt.alloc(), 17, 61681);
-    same(&rt, 0, &puts.len(), &1_048_577);
+    equal(&rt, &puts.len(), &1_048_577);
     for (k, (_, y)) in puts.iter().enumerate() {
         if k < 17 * 120 {
             same(&rt, k, &(*y < 120), &true);

@@ -1,7 +1,7 @@
 //! Squares transposed in place.
 
 use super::noted::{Note, Noted, exchange_of};
-use crate::checks::{numbers, same};
+use crate::checks::{equal, numbers, same};
 use p3_util_kernels::places::{Places, SlicePlaces, Swaps};
 use p3_util_kernels::transpose::transpose_square_on;
 use std::alloc::Global;
@@ -97,8 +97,8 @@ fn count_exchanges(rt: &impl Abort, noted: &mut Noted, log_stride: usize, log_si
 #[test]
 fn quadrants_in_order(rt: HostRuntime) {
     let mut noted = Noted::numbered(&rt, rt.alloc(), 256, 256);
-    same(&rt, 0, &count_exchanges(&rt, &mut noted, 4, 4), &120);
-    same(&rt, 0, &noted.notes.len(), &120);
+    equal(&rt, &count_exchanges(&rt, &mut noted, 4, 4), &120);
+    equal(&rt, &noted.notes.len(), &120);
     for (k, note) in noted.notes.iter().enumerate() {
         let (first, second) = exchange_of(&rt, note);
         let (row, column) = (first / 16, first % 16);
@@ -128,7 +128,7 @@ fn swap_twice<S: Places>(rt: &impl Abort, places: &mut S) -> u128 {
 #[test]
 fn one_exchange_a_swap(rt: HostRuntime) {
     let mut noted = Noted::numbered(&rt, rt.alloc(), 4, 4);
-    same(&rt, 0, &swap_twice(&rt, &mut noted), &2);
+    equal(&rt, &swap_twice(&rt, &mut noted), &2);
     let wanted = [Note::Exchange(2, 2), Note::Exchange(0, 3)];
-    same(&rt, 0, &noted.notes.as_slice(), &wanted.as_slice());
+    equal(&rt, &noted.notes.as_slice(), &wanted.as_slice());
 }

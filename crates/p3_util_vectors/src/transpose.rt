@@ -1,36 +1,13 @@
 //! Transposes against worked examples and the original crate.
 
+use crate::calls::{count_writes, transpose_slice};
 use crate::checks::{numbers, repeated, same};
 use crate::oracle::transposes::{LARGE, OTHERS, SMALL, SMALL_SIDE};
 use crate::oracle::{hash, items};
-use p3_util_kernels::places::{Cells, SliceCells};
-use p3_util_kernels::transpose::{fits_matrix, transpose, transpose_counted};
+use p3_util_kernels::places::SliceCells;
+use p3_util_kernels::transpose::fits_matrix;
 use std::alloc::Global;
 use std::process::Abort;
-
-/// Puts the transpose of `input` into `cells`, and returns the number of writes.
-pub(crate) fn count_writes<C: Cells>(
-    rt: &impl Abort,
-    input: &[C::Item],
-    cells: &mut C,
-    width: usize,
-    height: usize,
-) -> u128 {
-    assert!(rt; fits_matrix(input.len(), cells.len(), width, height));
-    transpose_counted(input, cells, width, height)
-}
-
-/// Puts the transpose of `input` into `output` by the slice form.
-pub(crate) fn transpose_slice<T: Copy>(
-    rt: &impl Abort,
-    input: &[T],
-    output: &mut [T],
-    width: usize,
-    height: usize,
-) {
-    assert!(rt; fits_matrix(input.len(), output.len(), width, height));
-    transpose(input, output, width, height);
-}
 
 /// The transpose of `input`, by the slice form.
 fn by_slice(
