@@ -1,10 +1,37 @@
 -- Runs exchanged word by word.
-use Rattle.std.proofs.Common.{◌≡◌, ℕ, ◌+◌, ◌-◌, ◌*◌, ◌≤◌, ◌⊎◌, List, ◌++◌, length, slice_get, take, drop, length-append, length-drop, inl, inr, ap, ◌∙◌, arith}
+use Rattle.std.proofs.Common.{◌≡◌, ℕ, ◌+◌, ◌-◌, ◌*◌, ◌<◌, ◌≤◌, ◌⊎◌, List, ◌++◌, length, slice_get, take, drop, length-append, length-drop, inl, inr, ap, ◌∙◌, arith}
 use Rattle.std.proofs.Math.ListN.{length-take}
+use Rattle.std.proofs.lemmas.Bool.{cases_lt}
 use Rattle.p3_util_kernels.specs.Exchanged.{RunsExchanged}
-use Rattle.p3_util_kernels.specs.Strided.{IsStridedPut}
 use Rattle.p3_util_kernels.proofs.Cuts.{slice_get-append_left, slice_get-append_right, slice_get-take, slice_get-drop}
-use Rattle.p3_util_kernels.proofs.StridedPuts.{IsStridedPut-join}
+
+-- `new` holds at i + t, for each t below `len`, what is in `input` at start + t * stride, and else what `old` holds.
+record IsStridedPut {A : Type 0} (i start stride len : ℕ) (input old new : List A) : Type 0 where
+  same_length : length new ≡ length old
+  places : (t : ℕ) → t < len → slice_get new (i + t) ≡ slice_get input (start + t * stride)
+  others : (p : ℕ) → (p < i) ⊎ (i + len ≤ p) → slice_get new p ≡ slice_get old p
+
+apart : (p i n m : ℕ) → (p < i) ⊎ (i + (n + m) ≤ p) → ((p < i + n) ⊎ (i + n + m ≤ p)) × ((p < i) ⊎ (i + n ≤ p))
+apart p i n m (inl h) = (inl (omega arith), inl h)
+apart p i n m (inr h) = (inr (omega arith), inr (omega arith))
+
+-- so many items, and then some more
+module _ {A : Type 0} (i start stride : ℕ) (input : List A) where
+  IsStridedPut-join : (n m : ℕ) (old mid new : List A) → IsStridedPut i start stride n input old mid
+      → IsStridedPut (i + n) (start + n * stride) stride m input mid new → IsStridedPut i start stride (n + m) input old new
+  IsStridedPut-join n m old mid new s t = record {
+    same_length = t.same_length ∙ s.same_length;
+    places = λ k h.
+        elim (cases_lt k n) [
+          | inl before ↦ t.others (i + k) (inl (omega arith)) ∙ s.places k before
+          | inr after ↦
+              let to : i + n + (k - n) ≡ i + k = omega arith in
+              let same : n + (k - n) ≡ k = omega arith in
+              let from : start + n * stride + (k - n) * stride ≡ start + k * stride = omega (arith, ap (λ x. x * stride) same) in
+              rw (from, to) at (t.places (k - n) (omega arith))
+        ];
+    others = λ p h. let out = apart p i n m h in t.others p out.0 ∙ s.others p out.1;
+  }
 
 -- a word of one list that is put into another
 IsStridedPut-word : {A : Type 0} (i start n : ℕ) (input old new word : List A) → i + n ≤ length old → start + n ≤ length input
