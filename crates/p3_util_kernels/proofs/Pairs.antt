@@ -1,7 +1,7 @@
 -- How many pairs of places blocks and squares exchange.
 use Rattle.std.proofs.Common.{◌≡◌, ℕ, zero, suc, ◌+◌, ◌-◌, ◌*◌, ◌/◌, arith}
 
-mul-pred : (n : ℕ) → n * (n - 1) + n ≡ n * n
+pub mul-pred : (n : ℕ) → n * (n - 1) + n ≡ n * n
 mul-pred zero = omega arith
 mul-pred (suc n) = let e : suc n - 1 ≡ n = omega arith in rw e (omega arith)
 

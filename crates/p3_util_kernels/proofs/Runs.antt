@@ -1,17 +1,20 @@
 -- How many places a run of exchanges or of writes changes, how many numbers are their own reverse, and what follows for
 -- the least number of steps.
-use Rattle.std.proofs.Common.{◌≡◌, ◌≢◌, ℕ, zero, suc, Bool, true, false, not, ◌==◌, ◌&&◌, ◌+◌, ◌*◌, ◌/◌, ◌%◌, ◌^◌, ◌<◌, ◌≤◌, IsTrue, List, [], ◌∷◌, length, slice_get, slice_set, refl, sym, ◌∙◌, ap, arith, inl, inr}
+use Rattle.std.proofs.Common.{◌≡◌, ◌≢◌, ◌↔◌, ◌⊎◌, ℕ, zero, suc, Bool, true, false, not, ◌==◌, ◌&&◌, ◌+◌, ◌-◌, ◌*◌, ◌/◌, ◌%◌, ◌^◌, ◌<◌, ◌≤◌, IsTrue, List, [], ◌∷◌, length, slice_get, slice_set, refl, sym, ◌∙◌, ap, arith, inl, inr}
 use Rattle.std.specs.List.{swap}
 use Rattle.std.proofs.Math.Nat.{pow-suc, mul-le-mul_right}
 use Rattle.std.proofs.lemmas.Bool.{cases_Bool, cases_eq, eqb-true, eq-eqb, ne_eqb, eqb-false, and_from, and_parts, not-true, both_ways, false_from_ne_true}
 use Rattle.std.proofs.lemmas.Nat.{same_from_place, div-add-mod', div-mul-add}
 use Rattle.p3_util_kernels.specs.Digits.{bit, rev, sum_below}
+use Rattle.p3_util_kernels.specs.Reversal.{IsReversal}
+use Rattle.p3_util_kernels.specs.SwapCounts.{short_swaps}
+use Rattle.p3_util_kernels.specs.Transpose.{IsTranspose}
 use Rattle.p3_util_kernels.proofs.Reversal.{IsReversal-places}
-use Rattle.p3_util_kernels.specs.Runs.{after_swaps, after_puts, count_below, DifferWhere, SwapsChange, PutsChange, Palindromes, LeastReversal, LeastSquare, LeastPuts}
+use Rattle.p3_util_kernels.specs.Runs.{after_swaps, after_puts, count_below, AllDiffer, AreApart, DifferWhere, SwapsChange, PutsChange, Palindromes, LeastReversal, LeastSquare, LeastPuts, ReversalDiffers, SquareDiffers}
 use Rattle.p3_util_kernels.proofs.Digits.{rev-zero, rev-suc, rev-lt, rev-mod, rev-add}
 use Rattle.p3_util_kernels.proofs.Exchange.{slice_get-set_other, slice_get-swap_other}
 use Rattle.p3_util_kernels.proofs.Matrix.{each_place}
-use Rattle.p3_util_kernels.proofs.Pairs.{twice-pairs}
+use Rattle.p3_util_kernels.proofs.Pairs.{mul-pred, twice-pairs}
 
 -- a number that passes is counted, and no other
 count-pass : (n : ℕ) (t : ℕ → Bool) → t n ≡ true → count_below (suc n) t ≡ count_below n t + 1
@@ -146,29 +149,56 @@ swaps-change-from (pair ∷ run) xs n test differ =
 pub swaps-change : {A : Type 0} → SwapsChange A
 swaps-change {A} xs run n test differ = swaps-change-from run xs n test differ
 
+-- the number of a place, or no number has it
+named-or-not : (n a : ℕ) (place : ℕ → ℕ) → ((i : ℕ) × (i < n) × (place i ≡ a)) ⊎ ((i : ℕ) → i < n → place i ≢ a)
+named-or-not zero a place = inr (λ i less e. absurd (omega arith))
+named-or-not (suc n) a place = elim (cases_eq (place n) a) [
+  | inl e ↦ inl (n, omega arith, e)
+  | inr ne ↦
+      elim (named-or-not n a place) [
+        | inl found ↦ inl (found.0, omega arith, found.2)
+        | inr none ↦
+            inr (λ i less e.
+            elim (cases_eq i n) [
+              | inl last ↦ ne (ap place (sym last) ∙ e)
+              | inr before ↦ none i (omega arith) e
+            ])
+      ]
+]
+
 -- one write changes at most one place
-puts-change-from : {A : Type 0} (run : List (ℕ × A)) (xs : List A) (n : ℕ) (test : ℕ → Bool)
-    → DifferWhere n test xs (after_puts xs run) → count_below n test ≤ length run
+puts-change-from : {A : Type 0} (run : List (ℕ × A)) (xs : List A) (n : ℕ) (place : ℕ → ℕ) (test : ℕ → Bool) → AreApart n place
+    → ((i : ℕ) → i < n → IsTrue (test i) → slice_get xs (place i) ≢ slice_get (after_puts xs run) (place i)) → count_below n test ≤ length run
 unfolding after_puts
-puts-change-from [] xs n test differ = omega (arith, count-none n test (λ i less t. differ i less t refl))
-puts-change-from (put ∷ run) xs n test differ =
+puts-change-from [] xs n place test apart differ = omega (arith, count-none n test (λ i less t. differ i less t refl))
+puts-change-from (put ∷ run) xs n place test apart differ =
     let a : ℕ = put.0 in
-    let but_a : ℕ → Bool = λ i. test i && not (i == a) in
     let next : List _ = slice_set xs a put.1 in
-    let rest : DifferWhere n but_a next (after_puts next run) =
-    λ i less t e.
-    let parts = and_parts (test i) (not (i == a)) t in
-    let apart : i ≢ a = eqb-false i a (not-true (i == a) parts.1) in
-    differ i less parts.0 (sym (slice_get-set_other xs a i put.1 apart) ∙ e) in
-    let below : count_below n but_a ≤ length run = puts-change-from run next n but_a rest in
-    omega (arith, count-without n a test)
+    elim (named-or-not n a place) [
+      | inl found ↦
+          let but_a : ℕ → Bool = λ i. test i && not (i == found.0) in
+          let rest : (i : ℕ) → i < n → IsTrue (but_a i) → slice_get next (place i) ≢ slice_get (after_puts next run) (place i) =
+          λ i less t e.
+          let parts = and_parts (test i) (not (i == found.0)) t in
+          let other : i ≢ found.0 = eqb-false i found.0 (not-true (i == found.0) parts.1) in
+          let away : place i ≢ a = λ same. other (apart i found.0 less found.1 (same ∙ sym found.2)) in
+          differ i less parts.0 (sym (slice_get-set_other xs a (place i) put.1 away) ∙ e) in
+          let below : count_below n but_a ≤ length run = puts-change-from run next n place but_a apart rest in
+          omega (arith, count-without n found.0 test)
+      | inr none ↦
+          let rest : (i : ℕ) → i < n → IsTrue (test i) → slice_get next (place i) ≢ slice_get (after_puts next run) (place i) =
+          λ i less t e. differ i less t (sym (slice_get-set_other xs a (place i) put.1 (none i less)) ∙ e) in
+          let below : count_below n test ≤ length run = puts-change-from run next n place test apart rest in
+          omega arith
+    ]
 
 pub puts-change : {A : Type 0} → PutsChange A
-puts-change {A} xs run n test differ = puts-change-from run xs n test differ
+puts-change {A} xs run n test differ = puts-change-from run xs n (λ i. i) test (λ i j hi hj e. e) differ
 
 pub least-puts : {A : Type 0} → LeastPuts A
-least-puts {A} n xs run differ =
-    let changed : count_below n (λ i. true) ≤ length run = puts-change-from run xs n (λ i. true) (λ i less t. differ i less) in
+least-puts {A} n place xs run apart differ =
+    let changed : count_below n (λ i. true) ≤ length run =
+    puts-change-from run xs n place (λ i. true) apart (λ i less t. differ i less) in
     omega (arith, count-all n)
 
 -- The reverse of a number between two ends: the ends change places, and what is between them is reversed.
@@ -256,28 +286,49 @@ pub palindromes : Palindromes
 unfolding is_palindrome
 palindromes k = palindromes-of k
 
+-- a number and its reverse differ where the lists do
+reversal-differs-where : {A : Type 0} (k : ℕ) (old new : List A) → length old ≡ 2 ^ k → AllDiffer old → IsReversal old new
+    → (i : ℕ) → i < 2 ^ k → IsTrue (not (rev k i == i)) ↔ (slice_get old i ≢ slice_get new i)
+reversal-differs-where k old new len apart reversed i h =
+    let moved : slice_get new i ≡ slice_get old (rev k i) = IsReversal-places old new reversed k i len h in
+    let below : rev k i < length old = omega (arith, rev-lt k i) in (
+      λ t e.
+          let same : i ≡ rev k i = apart i (rev k i) (omega arith) below (e ∙ moved) in
+          both_ways (rev k i == i) (not-true (rev k i == i) t) (eq-eqb (rev k i) i (sym same)),
+      λ ne. rw (ne_eqb (rev k i) i (λ e. ne (ap (slice_get old) (sym e) ∙ sym moved))) refl,
+    )
+
+-- the numbers of k bits that are not their own reverse come in pairs
+count-moved : (k : ℕ) → count_below (2 ^ k) (λ i. not (rev k i == i)) ≡ 2 * short_swaps k
+count-moved zero = omega (arith, count-not (2 ^ 0) (λ i. rev 0 i == i), palindromes 0)
+count-moved (suc k) =
+    let half : (suc k + 1) / 2 ≡ suc (k / 2) = omega arith in
+    omega (arith, count-not (2 ^ suc k) (λ i. rev (suc k) i == i), palindromes (suc k), pow-suc 2 k, pow-suc 2 (k / 2), ap (λ c. 2 ^ c) half)
+
+pub reversal-differs : {A : Type 0} → ReversalDiffers A
+reversal-differs {A} k old new len apart reversed =
+    (λ i. not (rev k i == i), count-moved k, reversal-differs-where k old new len apart reversed)
+
 -- as many exchanges as pairs of numbers that are each other's reverse
 pub least-reversal : {A : Type 0} → LeastReversal A
 least-reversal {A} k xs run len apart reversed =
-    let test : ℕ → Bool = λ i. not (rev k i == i) in
-    let differ : DifferWhere (2 ^ k) test xs (after_swaps xs run) =
-    λ i h t e.
-    let moved : slice_get xs i ≡ slice_get xs (rev k i) = e ∙ IsReversal-places xs (after_swaps xs run) reversed k i len h in
-    let below : rev k i < length xs = omega (arith, rev-lt k i) in
-    let same : i ≡ rev k i = apart i (rev k i) (omega arith) below moved in
-    both_ways (rev k i == i) (not-true (rev k i == i) t) (eq-eqb (rev k i) i (sym same)) in
-    omega (arith, swaps-change xs run (2 ^ k) test differ, count-not (2 ^ k) (λ i. rev k i == i), palindromes k)
+    let differ : DifferWhere (2 ^ k) (λ i. not (rev k i == i)) xs (after_swaps xs run) =
+    λ i h. (reversal-differs-where k xs (after_swaps xs run) len apart reversed i h).0 in
+    omega (arith, swaps-change xs run (2 ^ k) (λ i. not (rev k i == i)) differ, count-moved k)
 
 -- one number is r
-count-one : (n r : ℕ) → count_below n (λ y. r == y) ≤ 1
-count-one n r =
+count-one : (n r : ℕ) → r < n → count_below n (λ y. r == y) ≡ 1
+count-one zero r h = absurd (omega arith)
+count-one (suc n) r h =
     let t : ℕ → Bool = λ y. r == y in
-    let others : count_below n (λ i. t i && not (i == r)) ≡ 0 =
-    count-none n (λ i. t i && not (i == r))
-    (λ i h y.
-    let parts = and_parts (t i) (not (i == r)) y in
-    eqb-false i r (not-true (i == r) parts.1) (sym (eqb-true r i parts.0))) in
-    omega (arith, count-without n r t)
+    elim (cases_eq r n) [
+      | inl e ↦
+          let none : count_below n t ≡ 0 = count-none n t (λ i less y. absurd (omega (arith, eqb-true r i y))) in
+          omega (arith, count-pass n t (eq-eqb r n e))
+      | inr ne ↦
+          let before : count_below n t ≡ 1 = count-one n r (omega arith) in
+          omega (arith, count-skip n t (ne_eqb r n ne))
+    ]
 
 -- a place's row and column
 row-of : (side r y : ℕ) → y < side → (r * side + y) / side ≡ r
@@ -286,34 +337,55 @@ row-of side r y h = div-mul-add r side y h
 col-of : (side r y : ℕ) → y < side → (r * side + y) % side ≡ y
 col-of side r y h = omega (arith, div-add-mod' (r * side + y) side, ap (λ q. q * side) (row-of side r y h))
 
--- a row of a square has at most one place on the diagonal
-count-diagonal : (rows side : ℕ) → count_below (rows * side) (λ p. p / side == p % side) ≤ rows
-count-diagonal zero side = let e : zero * side ≡ 0 = omega arith in rw e (omega (arith, count-zero (λ p. p / side == p % side)))
-count-diagonal (suc r) side =
+-- a row of a square has one place on the diagonal
+count-diagonal : (rows side : ℕ) → rows ≤ side → count_below (rows * side) (λ p. p / side == p % side) ≡ rows
+count-diagonal zero side h = let e : zero * side ≡ 0 = omega arith in rw e (count-zero (λ p. p / side == p % side))
+count-diagonal (suc r) side h =
     let t : ℕ → Bool = λ p. p / side == p % side in
     let e : suc r * side ≡ r * side + side = omega arith in
-    let before : count_below (r * side) t ≤ r = count-diagonal r side in
+    let before : count_below (r * side) t ≡ r = count-diagonal r side (omega arith) in
     let row : count_below side (λ y. t (r * side + y)) ≡ count_below side (λ y. r == y) =
     count-same side (λ y. t (r * side + y)) (λ y. r == y) (λ y h. rw (row-of side r y h, col-of side r y h) refl) in
-    rw e (omega (arith, count-add (r * side) side t, count-one side r))
+    rw e (omega (arith, count-add (r * side) side t, count-one side r (omega arith)))
 
 place-below : (side x y : ℕ) → x < side → y < side → x * side + y < side * side
 place-below side x y hx hy = let up : suc x * side ≤ side * side = mul-le-mul_right side hx in omega arith
 
+-- a place off the diagonal is one where the lists differ
+square-differs-where : {A : Type 0} (side : ℕ) (old new : List A) → length old ≡ side * side → AllDiffer old → IsTranspose side side old new
+    → (p : ℕ) → p < side * side → IsTrue (not (p / side == p % side)) ↔ (slice_get old p ≢ slice_get new p)
+square-differs-where side old new len apart turned p h =
+    each_place (λ q. IsTrue (not (q / side == q % side)) ↔ (slice_get old q ≢ slice_get new q)) side side p h
+    (λ x y hx hy.
+    let q : ℕ = x * side + y in
+    let row : q / side ≡ x = row-of side x y hy in
+    let col : q % side ≡ y = col-of side x y hy in
+    let moved : slice_get new q ≡ slice_get old (y * side + x) = turned.places x y hx hy in
+    let here : q < length old = rw len (place-below side x y hx hy) in
+    let there : y * side + x < length old = rw len (place-below side y x hy hx) in (
+      λ t e.
+          let same : q ≡ y * side + x = apart q (y * side + x) here there (e ∙ moved) in
+          let diagonal : x ≡ y = (same_from_place x y y x side hy hx same).0 in
+          both_ways (q / side == q % side) (not-true (q / side == q % side) t) (eq-eqb (q / side) (q % side) (row ∙ diagonal ∙ sym col)),
+      λ ne.
+          let off : q / side ≢ q % side =
+          λ e. let diagonal : x ≡ y = sym row ∙ e ∙ col in
+          let mirrored : q ≡ y * side + x = rw diagonal refl in
+          ne (ap (slice_get old) mirrored ∙ sym moved) in
+          rw (ne_eqb (q / side) (q % side) off) refl,
+    ))
+
+count-off-diagonal : (side : ℕ) → count_below (side * side) (λ p. not (p / side == p % side)) ≡ side * (side - 1)
+count-off-diagonal side =
+    omega (arith, count-not (side * side) (λ p. p / side == p % side), count-diagonal side side (omega arith), mul-pred side)
+
+pub square-differs : {A : Type 0} → SquareDiffers A
+square-differs {A} side old new len apart turned =
+    (λ p. not (p / side == p % side), count-off-diagonal side, square-differs-where side old new len apart turned)
+
 -- as many exchanges as pairs of places that mirror one another
 pub least-square : {A : Type 0} → LeastSquare A
 least-square {A} side xs run len apart turned =
-    let test : ℕ → Bool = λ p. not (p / side == p % side) in
-    let differ : DifferWhere (side * side) test xs (after_swaps xs run) =
-    λ p h.
-    each_place (λ q. IsTrue (test q) → slice_get xs q ≢ slice_get (after_swaps xs run) q) side side p h
-    (λ x y hx hy t e.
-    let moved : slice_get xs (x * side + y) ≡ slice_get xs (y * side + x) = e ∙ turned.places x y hx hy in
-    let here : x * side + y < length xs = rw len (place-below side x y hx hy) in
-    let there : y * side + x < length xs = rw len (place-below side y x hy hx) in
-    let same : x * side + y ≡ y * side + x = apart (x * side + y) (y * side + x) here there moved in
-    let diagonal : x ≡ y = (same_from_place x y y x side hy hx same).0 in
-    let q : ℕ = x * side + y in
-    both_ways (q / side == q % side) (not-true (q / side == q % side) t)
-    (eq-eqb (q / side) (q % side) (row-of side x y hy ∙ diagonal ∙ sym (col-of side x y hy)))) in
-    omega (arith, swaps-change xs run (side * side) test differ, count-not (side * side) (λ p. p / side == p % side), count-diagonal side side, twice-pairs side)
+    let differ : DifferWhere (side * side) (λ p. not (p / side == p % side)) xs (after_swaps xs run) =
+    λ p h. (square-differs-where side xs (after_swaps xs run) len apart turned p h).0 in
+    omega (arith, swaps-change xs run (side * side) (λ p. not (p / side == p % side)) differ, count-off-diagonal side, twice-pairs side, mul-pred side)

@@ -1,5 +1,5 @@
 -- Runs of exchanges and of writes, and the least number of steps in which a list can be rearranged.
-use Rattle.std.specs.Prelude.{ℕ, Bool, ◌==◌, ◌≡◌, ◌≢◌, ◌+◌, ◌*◌, ◌/◌, ◌^◌, ◌<◌, ◌≤◌, IsTrue, if◌then◌else◌, List, [], ◌∷◌, length, slice_get, slice_set, swap}
+use Rattle.std.specs.Prelude.{ℕ, Bool, ◌==◌, ◌≡◌, ◌≢◌, ◌↔◌, ◌+◌, ◌-◌, ◌*◌, ◌/◌, ◌^◌, ◌<◌, ◌≤◌, IsTrue, if◌then◌else◌, List, [], ◌∷◌, length, slice_get, slice_set, swap}
 use Rattle.p3_util_kernels.specs.Digits.{rev, sum_below}
 use Rattle.p3_util_kernels.specs.Reversal.{IsReversal}
 use Rattle.p3_util_kernels.specs.SwapCounts.{short_swaps, square_swaps}
@@ -22,6 +22,15 @@ count_below n test = sum_below n (λ i. if test i then 1 else 0)
 -- the lists differ at each place below n that passes the test
 abbrev pub DifferWhere : {A : Type 0} → ℕ → (ℕ → Bool) → List A → List A → Type 0
 DifferWhere n test old new = (i : ℕ) → i < n → IsTrue (test i) → slice_get old i ≢ slice_get new i
+
+-- the lists differ at exactly `count` of the places below n
+abbrev pub DifferAt : {A : Type 0} → (n count : ℕ) → List A → List A → Type 0
+DifferAt n count old new = (test : ℕ → Bool) × (count_below n test ≡ count)
+    × ((i : ℕ) → i < n → IsTrue (test i) ↔ (slice_get old i ≢ slice_get new i))
+
+-- the places with the numbers below n are n different ones
+abbrev pub AreApart : ℕ → (ℕ → ℕ) → Type 0
+AreApart n place = (i j : ℕ) → i < n → j < n → place i ≡ place j → i ≡ j
 
 -- the items at different places differ
 abbrev pub AllDiffer : {A : Type 0} → List A → Type 0
@@ -51,7 +60,17 @@ abbrev pub LeastSquare : Type 0 → Type 0
 LeastSquare A = (side : ℕ) (xs : List A) (run : List (ℕ × ℕ)) → length xs ≡ side * side → AllDiffer xs
     → IsTranspose side side xs (after_swaps xs run) → square_swaps side ≤ length run
 
--- every run of writes that leaves another item at each of the first n places
+-- every run of writes that leaves another item at each of n different places
 abbrev pub LeastPuts : Type 0 → Type 0
-LeastPuts A = (n : ℕ) (xs : List A) (run : List (ℕ × A))
-    → ((i : ℕ) → i < n → slice_get xs i ≢ slice_get (after_puts xs run) i) → n ≤ length run
+LeastPuts A = (n : ℕ) (place : ℕ → ℕ) (xs : List A) (run : List (ℕ × A)) → AreApart n place
+    → ((i : ℕ) → i < n → slice_get xs (place i) ≢ slice_get (after_puts xs run) (place i)) → n ≤ length run
+
+-- 2 ^ k different items and their reversal differ at two places for each exchange of the least run
+abbrev pub ReversalDiffers : Type 0 → Type 0
+ReversalDiffers A = (k : ℕ) (old new : List A) → length old ≡ 2 ^ k → AllDiffer old
+    → IsReversal old new → DifferAt (2 ^ k) (2 * short_swaps k) old new
+
+-- so do the different items of a square and their transpose
+abbrev pub SquareDiffers : Type 0 → Type 0
+SquareDiffers A = (side : ℕ) (old new : List A) → length old ≡ side * side → AllDiffer old
+    → IsTranspose side side old new → DifferAt (side * side) (side * (side - 1)) old new

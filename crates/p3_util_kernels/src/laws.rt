@@ -1,7 +1,7 @@
 //! Laws of the definitions. Each is the contract of a call that does nothing.
 
 ghost use Rattle.std.specs.Prelude.{ℕ};
-ghost use Rattle.p3_util_kernels.specs.Runs.{LeastPuts, LeastReversal, LeastSquare, Palindromes, PutsChange, SwapsChange};
+ghost use Rattle.p3_util_kernels.specs.Runs.{LeastPuts, LeastReversal, LeastSquare, Palindromes, PutsChange, ReversalDiffers, SquareDiffers, SwapsChange};
 
 /// The law of least numbers, over lists of numbers: that of [`least_runs_of`] for them.
 pub fn least_runs()
@@ -11,6 +11,8 @@ pub fn least_runs()
     ensures reversal { LeastReversal ℕ }
     ensures square { LeastSquare ℕ }
     ensures puts { LeastPuts ℕ }
+    ensures reversal_differs { ReversalDiffers ℕ }
+    ensures square_differs { SquareDiffers ℕ }
 {
     least_runs_of::<usize>();
 }
@@ -20,9 +22,11 @@ pub fn least_runs()
 ///
 /// - A run of m exchanges changes at most 2m places, and a run of m writes at most m.
 /// - 2^ceil(k/2) numbers of k bits are their own reverse.
-/// - So every run of exchanges that reverses 2^k items by their index bits has at least `short_swaps k` of them, every one
-///   that transposes a square of `side` rows at least `side * (side - 1) / 2`, and every run of writes that changes n places
-///   has at least n. The short path, a whole square and the transpose meet these numbers.
+/// - So 2^k items and their reversal by index bits differ at exactly `2 * short_swaps k` places, and a square of `side` rows
+///   and its transpose at exactly `side * (side - 1)`.
+/// - So every run of exchanges that reverses 2^k items has at least `short_swaps k` of them, every one that transposes a
+///   square at least `side * (side - 1) / 2`, and every run of writes that changes n places, whichever they are, at least n.
+///   The short path, a whole square and the transpose meet these numbers.
 pub fn least_runs_of<T>()
     ensures swaps_change { SwapsChange T }
     ensures puts_change { PutsChange T }
@@ -30,4 +34,6 @@ pub fn least_runs_of<T>()
     ensures reversal { LeastReversal T }
     ensures square { LeastSquare T }
     ensures puts { LeastPuts T }
+    ensures reversal_differs { ReversalDiffers T }
+    ensures square_differs { SquareDiffers T }
 {}

@@ -1,4 +1,4 @@
-use Rattle.p3_util_kernels.proofs.Runs.{swaps-change, puts-change, palindromes, least-reversal, least-square, least-puts}
+use Rattle.p3_util_kernels.proofs.Runs.{swaps-change, puts-change, palindromes, least-reversal, least-square, least-puts, reversal-differs, square-differs}
 use Rattle.p3_util_kernels.proofs.laws.least_runs_of.Goals as goal
 
 pub returns : goal.returns
@@ -9,4 +9,6 @@ returns g c = record {
   reversal = least-reversal;
   square = least-square;
   puts = least-puts;
+  reversal_differs = reversal-differs;
+  square_differs = square-differs;
 }
