@@ -18,8 +18,7 @@ use std::ops::Index;
 /// [`as_base_slice_mut`] makes.
 #[derive(Drop)]
 pub struct Flattened<S> {
-    /// The rows.
-    pub rows: S,
+    rows: S,
 }
 
 /// A mutable slice of arrays of `N` items, seen as the list of their items, array after array. For `N` = 0 it is empty.
