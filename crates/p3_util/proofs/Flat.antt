@@ -1,6 +1,6 @@
 -- What a write or an exchange in the rows does to the list of their items.
 use Rattle.std.proofs.Common.{ℕ, zero, suc, ◌≡◌, ◌+◌, ◌-◌, ◌*◌, ◌<◌, ◌≤◌, ◌≢◌, List, [], ◌∷◌, ◌++◌, length, get_or, set, take, drop, refl, sym, ap, ◌∙◌, arith, length-append, get_or-set_other, get_or-set_same, zero-add, add_assoc, ◌^◌, ◌/◌, ◌%◌, max, subst, Some, slice_get, nat_lt, cond, true, false}
-use Rattle.std.proofs.Math.Nat.{mul-le-mul_right}
+use Rattle.std.proofs.Math.Nat.{div-lt_iff_lt-mul, mul-le-mul_right}
 use Rattle.std.specs.List.{swap}
 use Rattle.std.proofs.Math.Seq.{take-set-lt}
 use Rattle.std.proofs.lemmas.List.{length-set, set-append_left, set-append_right, set-set, set_comm, take-set, drop-set-add, drop-set-lt, take-append-drop, get_or-take, get_or_default, length-take, take_all, get_or-drop}
@@ -8,7 +8,7 @@ use Rattle.std.proofs.lemmas.Option.{get_or_from_slice_get, slice_get-get_or, sl
 use Rattle.std.proofs.lemmas.List.Edits.{length-swap, swap_is}
 use Rattle.std.proofs.lemmas.List.Concat.{get_or-flat_map}
 use Rattle.std.proofs.lemmas.Bool.{lt-ltb, le-ltb, ltb-true}
-use Rattle.p3_util.specs.Flat.{countable_items, flat}
+use Rattle.p3_util.specs.Flat.{IsFlat, countable_items, flat}
 
 module _ {A : Type 0} where
   -- where row r begins
@@ -235,3 +235,35 @@ module _ {A : Type 0} where
       → x ≡ get_or (get_or rows r []) c x → i < length (countable_items rows) → slice_get (countable_items rows) i ≡ Some x
   get-at rows r c n i x lr lc len begins at read inside =
       rw (countable-some rows i inside) (slice_get-flat rows r c n i (get_or rows r []) x lr lc len (get_or_default rows r [] (get_or rows r []) lr) begins at (slice_get_read (get_or rows r []) n c x (sym len) lc read))
+
+  -- rows of n items, place by place
+  starts : (n : ℕ) (rows : List (List A)) → ((k : ℕ) → k < length rows → length (get_or rows k []) ≡ n) → (r : ℕ) → r ≤ length rows → start rows r ≡ r * n
+  starts n [] width r le = let none : r ≡ 0 = omega arith in rw none (omega arith)
+  starts n (x ∷ xs) width zero le = omega arith
+  starts n (x ∷ xs) width (suc r) le =
+      let first : length x ≡ n = width 0 (omega arith) in
+      let rest : start xs r ≡ r * n = starts n xs (λ k lt. width (suc k) (omega arith)) r (omega arith) in
+      rw (length-append x (flat (take r xs))) (omega (arith, first, rest))
+
+  place-of : (n : ℕ) (rows : List (List A)) → ((k : ℕ) → k < length rows → length (get_or rows k []) ≡ n) → (i : ℕ) → i < length rows * n
+      → slice_get (flat rows) i ≡ slice_get (get_or rows (i / n) []) (i % n)
+  place-of zero rows width i lt = absurd (omega arith)
+  place-of (suc k) rows width i lt =
+      let n = suc k in
+      let r = i / n in
+      let c = i % n in
+      let at : n * r + c ≡ i = omega arith in
+      let lr : r < length rows = (div-lt_iff_lt-mul {k = n} {x = i} {y = length rows} (omega arith)).1 lt in
+      let inside : c < length (get_or rows r []) = rw (width r lr) (omega arith) in
+      let place : start rows r + c ≡ i = omega (arith, starts n rows width r (omega arith)) in
+      let below : i < length (flat rows) = subst (λ (k : ℕ). k < length (flat rows)) place (start-below rows r c lr inside) in
+      let any : A = item (flat rows) i below in
+      slice_get-get_or (flat rows) i any below ∙ ap Some (ap (λ k. get_or (flat rows) k any) (sym place) ∙ get_or-flat rows r c any lr inside) ∙ sym (slice_get-get_or (get_or rows r []) c any inside)
+
+  pub IsFlat-width : (n : ℕ) (rows : List (List A)) → ((k : ℕ) → k < length rows → length (get_or rows k []) ≡ n) → IsFlat n rows (flat rows)
+  IsFlat-width n rows width =
+      let whole : length (flat rows) ≡ length rows * n = ap (λ l. length (flat l)) (sym (take_all (length rows) rows (omega arith))) ∙ starts n rows width (length rows) (omega arith) in
+      record {
+        len = whole;
+        places = λ i lt. place-of n rows width i (omega (arith, whole));
+      }

@@ -3,9 +3,10 @@
 ghost use Rattle.std.specs.Prelude.{◌≡◌, ◌==◌, ◌*◌, ◌^◌, ◌<◌, ◌≤◌, List, Some, length, slice_get};
 ghost use Rattle.std.specs.Map.Iter.{ShowsInOrder, deref};
 ghost use Rattle.std.specs.Option.{option_copied};
-ghost use Rattle.p3_util.specs.Flat.{flat};
+ghost use Rattle.p3_util.specs.Flat.{IsFlat, flat};
 
 use super::BaseIter;
+use super::rows::each_in_its_row;
 use p3_util_kernels::places::{SliceSource, Source};
 use std::alloc::AllocError;
 use std::fmt;
@@ -33,7 +34,9 @@ pub fn as_base_slice<Base, const N: usize>(buf: &[[Base; N]]) -> BaseSlice<'_, B
     requires { length buf.now * N < 2 ^ 64 }
     ensures items { result ≡ flat buf.now }
     ensures len { length result ≡ length buf.now * N }
+    ensures places { IsFlat N buf.now result }
 {
+    prove!(each_in_its_row(buf));
     BaseSlice {
         items: buf.as_flattened(),
     }

@@ -2,12 +2,12 @@
 
 ghost use Rattle.std.specs.Prelude.{◌≡◌, ◌==◌, ◌*◌, ◌^◌, ◌<◌, ◌≤◌, List, Some, length, slice_get};
 ghost use Rattle.std.specs.Map.Iter.{ShowsInOrder, deref};
-ghost use Rattle.p3_util.specs.Flat.{countable_items, flat};
+ghost use Rattle.p3_util.specs.Flat.{IsFlat, countable_items, flat};
 ghost use Rattle.std.specs.Borrow.{sem};
 ghost use Rattle.std.specs.Option.{option_copied, option_copied_mut};
 
 use super::BaseIter;
-use super::rows::Rows;
+use super::rows::{Rows, each_in_its_row};
 use p3_util_kernels::places::{Cells, Places};
 use std::ops::Index;
 
@@ -32,8 +32,10 @@ pub fn as_base_slice_mut<Base, const N: usize>(buf: &mut [[Base; N]]) -> BaseSli
     ensures rows { result.rows ≡ buf.entry }
     ensures items { countable_items result.rows.now ≡ flat buf.old }
     ensures len { length (countable_items result.rows.now) ≡ length buf.old * N }
+    ensures places { IsFlat N buf.old (countable_items result.rows.now) }
 {
     prove!(buf.as_flattened().len() == buf.len() * N);
+    prove!(each_in_its_row(buf));
     Flattened { rows: buf }
 }
 

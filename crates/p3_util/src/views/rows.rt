@@ -1,10 +1,10 @@
 //! Arrays as rows of one list of items.
 
-ghost use Rattle.std.specs.Prelude.{◌≡◌, ℕ, ◌+◌, ◌*◌, ◌/◌, ◌%◌, ◌^◌, ◌<◌, List, Some, length, slice_get, slice_index_or, slice_set, swap, take};
+ghost use Rattle.std.specs.Prelude.{◌≡◌, ℕ, ◌+◌, ◌*◌, ◌/◌, ◌%◌, ◌^◌, ◌<◌, List, [], IsTrue, Some, length, slice_get, slice_index_or, slice_set, swap, take};
 ghost use Rattle.std.proofs.Common.{refl, ◌∙◌};
 ghost use Rattle.std.specs.Borrow.{sem};
 ghost use Rattle.std.specs.Option.{option_copied_mut};
-ghost use Rattle.p3_util.specs.Flat.{countable_items, flat};
+ghost use Rattle.p3_util.specs.Flat.{IsFlat, countable_items, flat};
 
 use super::loans::item_of_rows;
 use std::mem;
@@ -102,11 +102,25 @@ pub(super) fn countable<T, const N: usize>(rows: &[[T; N]]) -> &[T]
 }
 
 /// The number of items of a row.
+#[inline(always)]
 fn width_of<T, const N: usize>(row: &[T; N]) -> usize
     ensures width { result ≡ N }
     ensures row { length row.now ≡ N }
 {
     row.len()
+}
+
+/// Whether item `i` of all rows is item `i % N` of row `i / N`, as it always is. For a `prove!` alone: its loop does nothing,
+/// and the compiler removes it.
+#[inline(always)]
+pub(super) fn each_in_its_row<T, const N: usize>(rows: &[[T; N]]) -> bool
+    ensures yes { IsTrue result }
+    ensures places { IsFlat N rows.now (flat rows.now) }
+{
+    for r in 0..rows.len() {
+        let _ = width_of(&rows[r]);
+    }
+    true
 }
 
 /// The row in which item `i` of all rows is, and its place in that row.

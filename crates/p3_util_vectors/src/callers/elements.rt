@@ -6,6 +6,7 @@ ghost use Rattle.p3_util.specs.Flat.{flat};
 ghost use Rattle.p3_util_kernels.specs.Reversal.{FitsRows, IsReversal, IsReversible, IsRowReversal, IsZeroOrPowerOfTwo};
 ghost use Rattle.p3_util_kernels.specs.Transpose.{IsTranspose};
 
+use super::views::set_item_of_view;
 use p3_util::{as_base_slice, as_base_slice_mut, flat_len};
 use p3_util_kernels::places::{Cells, Places, Writes};
 use p3_util_kernels::reverse::{
@@ -122,17 +123,6 @@ pub fn number_at(elements: &mut [[u64; 4]], i: usize) -> u64
     as_base_slice_mut(elements)[i]
 }
 
-/// Sets number `i`, if there is one.
-pub fn set_number(elements: &mut [[u64; 4]], i: usize, number: u64)
-    requires { length elements.old * 4 < 2 ^ 64 }
-    ensures { flat elements.new ≡ slice_set (flat elements.old) i number }
-{
-    let mut view = as_base_slice_mut(elements);
-    if let Some(place) = view.get_mut(i) {
-        *place = number;
-    }
-}
-
 /// Puts a number in the place of number `i`, which is there.
 pub fn put_number(elements: &mut [[u64; 4]], i: usize, number: u64)
     requires fits { length elements.old * 4 < 2 ^ 64 }
@@ -150,4 +140,13 @@ pub fn exchange_numbers(elements: &mut [[u64; 4]], i: usize, j: usize)
     ensures { flat elements.new ≡ swap (flat elements.old) i j }
 {
     as_base_slice_mut(elements).exchange(i, j);
+}
+
+/// Sets number `i`, if there is one.
+pub fn set_number(elements: &mut [[u64; 4]], i: usize, number: u64)
+    requires { length elements.old * 4 < 2 ^ 64 }
+    ensures { flat elements.new ≡ slice_set (flat elements.old) i number }
+{
+    let mut view = as_base_slice_mut(elements);
+    set_item_of_view(&mut view, i, number);
 }

@@ -46,7 +46,7 @@ pub fn set_item<T: Drop, const N: usize>(rows: &mut [[T; N]], i: usize, item: T)
     set_item_of_view(&mut view, i, item);
 }
 
-fn set_item_of_view<S: Rows>(view: &mut Flattened<S>, i: usize, item: S::Item)
+pub fn set_item_of_view<S: Rows>(view: &mut Flattened<S>, i: usize, item: S::Item)
 where
     S::Item: Drop,
     ensures items { S.items view.new.rows ≡ slice_set (S.items view.old.rows) i item }
