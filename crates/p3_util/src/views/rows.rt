@@ -147,12 +147,12 @@ fn exchange_items<T, const N: usize>(rows: &mut [[T; N]], i: usize, j: usize)
 {
     let (r, c) = place_of(rows, i);
     let (s, d) = place_of(rows, j);
-    if r == s {
-        exchange_in_row(&mut rows[r], c, d);
-    } else if r < s {
+    if r < s {
         exchange_in_two_rows(rows, r, c, s, d);
-    } else {
+    } else if s < r {
         exchange_in_two_rows(rows, s, d, r, c);
+    } else {
+        exchange_in_row(&mut rows[r], c, d);
     }
 }
 
