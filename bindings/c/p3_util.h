@@ -82,6 +82,16 @@ bool p3_util_log3_strict(size_t n, size_t *exponent);
  */
 bool p3_util_reverse_bits_len(size_t x, size_t bit_len, size_t *reversed);
 
+/*
+ * Returns the number of the interface, which is in the name. What includes this header refers to it, so that it does not
+ * link with a library of another version.
+ */
+size_t p3_util_c_interface_1_library_and_bindings_are_of_one_version(void);
+#ifdef __GNUC__
+__attribute__((used)) static size_t (*const p3_util_c_interface)(void) =
+    p3_util_c_interface_1_library_and_bindings_are_of_one_version;
+#endif
+
 #ifdef __cplusplus
 }
 #endif

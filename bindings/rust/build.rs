@@ -15,14 +15,21 @@ fn main() {
     println!("cargo::rerun-if-env-changed={FOLDER}");
     let package = env::var_os("CARGO_MANIFEST_DIR").map(PathBuf::from).unwrap_or_default();
     let mut folders = vec![package.join("lib"), package.join("../../crates/p3_util_c/out")];
-    if let Some(named) = env::var_os(FOLDER).map(PathBuf::from) {
+    let named = env::var_os(FOLDER).map(PathBuf::from);
+    if let Some(named) = &named {
         if named.is_relative() {
-            refuse(&named, &package);
+            refuse(named, &package);
         }
-        folders.push(named);
+        folders.push(named.clone());
     }
     match folders.iter().find(|folder| library_in(folder).is_file()) {
         Some(folder) => {
+            if named.is_some_and(|named| named != *folder) {
+                println!(
+                    "cargo::warning={FOLDER} is not used: {} has a library",
+                    folder.display()
+                );
+            }
             println!("cargo::rerun-if-changed={}", library_in(folder).display());
             println!("cargo::rustc-link-search=native={}", folder.display());
             println!("cargo::rustc-link-lib=static=p3_util_c");
