@@ -65,24 +65,25 @@ pub const fn log2_strict_usize(n: usize) -> usize {
 pub const fn log3_strict_usize(n: usize) -> usize {
     assert!(n != 0, "input must be non-zero");
     // Between two powers of two there is at most one power of three.
-    let exponent = LOG3_CEIL[n.ilog2() as usize];
-    assert!(3usize.pow(exponent) == n, "the number is not a power of 3");
-    exponent as usize
+    let (exponent, power) = POWERS_OF_3[n.ilog2() as usize];
+    assert!(power == n, "the number is not a power of 3");
+    exponent
 }
 
-/// At place `i` the least `e` with `2^i <= 3^e`.
-const LOG3_CEIL: [u32; 64] = {
-    let mut exponents = [0; 64];
-    let (mut i, mut exponent, mut power) = (0, 0, 1usize);
+/// At place `i` the least `e` with `2^i <= 3^e`, and `3^e`.
+const POWERS_OF_3: [(usize, usize); 64] = {
+    let mut table = [(0, 1); 64];
+    let mut i = 1;
     while i < 64 {
-        if power < 1 << i {
-            exponent += 1;
-            power *= 3;
-        }
-        exponents[i] = exponent;
+        let (exponent, power) = table[i - 1];
+        table[i] = if power < 1 << i {
+            (exponent + 1, 3 * power)
+        } else {
+            (exponent, power)
+        };
         i += 1;
     }
-    exponents
+    table
 };
 
 /// The list `[0, 1, .., N - 1]`.
