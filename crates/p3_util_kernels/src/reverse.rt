@@ -9,6 +9,7 @@ mod long;
 mod rows;
 
 use crate::places::{Places, SlicePlaces, Swaps};
+use long::long_counted;
 pub use long::reverse_index_bits_long;
 pub use rows::{reverse_chunks_on, reverse_row_index_bits_on};
 
@@ -27,6 +28,14 @@ pub fn fits_rows(len: usize, row_width: usize) -> bool
     len == 0 || (len % row_width == 0 && (len / row_width).is_power_of_two())
 }
 
+/// Whether the short path is picked.
+#[inline(always)]
+fn is_short(len: usize) -> bool
+    ensures { IsTrue result ↔ (len ≤ SHORT_PATH_ITEMS) }
+{
+    len <= SHORT_PATH_ITEMS
+}
+
 /// Reverses the order of `vals` by index bits: with 2^k items, place `i` gets the item from the place whose index has
 /// the k bits of `i` in reversed order. The length is zero or a power of two, which `fits_rows(vals.len(), 1)` tests, and
 /// std's `is_power_of_two`. The same call restores the order. No item is cloned or dropped.
@@ -35,12 +44,12 @@ pub fn reverse_slice_index_bits<F>(vals: &mut [F])
     ensures order { IsReversal vals.old vals.new }
     ensures inverse { IsReversal vals.new vals.old }
 {
-    if vals.len() <= SHORT_PATH_ITEMS {
+    if is_short(vals.len()) {
         let mut places = SlicePlaces::new(vals);
         reverse_short(&mut places);
     } else {
         let mut places = SlicePlaces::new(vals);
-        reverse_counted(&mut places);
+        long_counted(&mut places);
     }
 }
 
@@ -122,7 +131,7 @@ pub fn reverse_index_bits_on<S: Places>(m: &mut Swaps<S>)
     ensures empty { length (S.items m.old.holder) ≡ 0 → m.new.count ≡ m.old.count }
     ensures holder { S.same_holder m.old.holder m.new.holder }
 {
-    if m.len() <= SHORT_PATH_ITEMS {
+    if is_short(m.len()) {
         reverse_index_bits_short(m);
     } else {
         reverse_index_bits_long(m);

@@ -17,6 +17,7 @@ pub use butterfly::{butterfly_4x4, butterfly_stage1, butterfly_stage2};
 use pieces::{STRIP_ROWS, TILE_SIDE, put_pieces};
 use split::split_counted;
 pub use split::{transpose_source_split_on, transpose_split_on};
+pub(crate) use square::transpose_square;
 pub use square::transpose_square_on;
 
 /// The number of items above which a matrix is split.

@@ -1,14 +1,19 @@
 //! Bit reversal of rows, by exchanging each two rows that belong to each other.
 //!
-//! With 2^k rows the index of a row has three parts: `half = k / 2` high digits, whose reverse is `x`, one digit in the
-//! middle where k is odd, and `half` low digits `y`. Its reverse has the reverse of `y`, the same middle digit and `x`. So the
-//! rows to be exchanged are, for each middle digit and all `x` below `y`, the row of `x` and `y` and the row of `y` and `x`.
+//! With 2^k rows and `half = k / 2`, the index of a row has three parts: `half` high digits, whose reverse is `x`, one digit
+//! `middle` where k is odd, and `half` low digits `y`. Its reverse has the reverse of `y`, the same middle digit and `x`:
 //!
-//! The pairs of two neighbours `y` come together: their rows lie side by side, so that both are in the cache at once where
-//! rows are short.
+//! ```text
+//!     index      rev(x)  middle  y         k = 5, x = 01, middle = 1, y = 11:   10 1 11
+//!     reversed   rev(y)  middle  x                                              11 1 01
+//! ```
+//!
+//! So the rows to be exchanged are, for each middle digit and all `x` below `y`, the row of `x` and `y` and the row of `y`
+//! and `x`. A middle digit and a `y` are a line. Two neighbouring lines come together, by their `x`: their rows lie side by
+//! side, so that both are in the cache at once where rows are short.
 
-ghost use Rattle.std.specs.Prelude.{◌≡◌, ◌≢◌, ℕ, ◌+◌, ◌*◌, ◌/◌, ◌%◌, ◌^◌, ◌<◌, ◌≤◌, length};
-ghost use Rattle.p3_util_kernels.specs.Crossing.{IsCrossed};
+ghost use Rattle.std.specs.Prelude.{◌≡◌, ℕ, ◌+◌, ◌*◌, ◌/◌, ◌%◌, ◌^◌, ◌<◌, ◌≤◌, ◌⊎◌, length};
+ghost use Rattle.p3_util_kernels.specs.Crossing.{HoldsRows, IsCrossed, row_of, turn_of};
 ghost use Rattle.p3_util_kernels.specs.Digits.{rev};
 ghost use Rattle.p3_util_kernels.specs.Exchanged.{RunsExchanged};
 ghost use Rattle.p3_util_kernels.specs.Reversal.{FitsRows, IsRowReversal};
@@ -43,16 +48,13 @@ pub fn reverse_row_index_bits_on<S: Places>(m: &mut Swaps<S>, row_width: usize)
     if len == 0 {
         return;
     }
-    let rows = len / row_width;
-    // With numbers that the compiler knows, the pairs of few rows are exchanged one after the other.
-    match log2_strict_usize(rows) {
+    // With a number that the compiler knows, the pairs of few rows are exchanged one after the other.
+    match log2_strict_usize(len / row_width) {
         0 | 1 => {}
-        2 => exchange_pairs(m, row_width, 4, 2),
-        3 => exchange_pairs(m, row_width, 8, 3),
-        4 => exchange_pairs(m, row_width, 16, 4),
-        5 if row_width == 1 => exchange_pairs(m, 1, 32, 5),
-        6 if row_width == 1 => exchange_pairs(m, 1, 64, 6),
-        digits => exchange_pairs(m, row_width, rows, digits),
+        2 => exchange_pairs(m, row_width, 2),
+        3 => exchange_pairs(m, row_width, 3),
+        4 => exchange_pairs(m, row_width, 4),
+        digits => exchange_pairs(m, row_width, digits),
     }
 }
 
@@ -70,85 +72,83 @@ pub fn reverse_chunks_on<S: Places>(m: &mut Swaps<S>, lb_num_chunks: usize, lb_c
     reverse_row_index_bits_on(m, 1 << lb_chunk_size);
 }
 
-/// Exchanges all pairs of the `rows` rows, whose indices have `digits` digits.
+/// Exchanges all pairs of the rows, whose indices have `digits` digits.
 #[inline(always)]
-fn exchange_pairs<S: Places>(m: &mut Swaps<S>, row_width: usize, rows: usize, digits: usize)
-    requires wide { 0 < row_width }
+fn exchange_pairs<S: Places>(m: &mut Swaps<S>, row_width: usize, digits: usize)
     requires several { 2 ≤ digits }
-    requires few { digits < 64 }
-    requires power { rows ≡ 2 ^ digits }
-    requires rows { length (S.items m.old.holder) ≡ row_width * 2 ^ digits }
-    requires length_fits { length (S.items m.old.holder) < 2 ^ 64 }
-    requires count_fits { m.old.count < 2 ^ 128 }
+    requires ready { HoldsRows row_width digits (S.items m.old.holder) m.old.count }
     ensures order { IsRowReversal row_width (S.items m.old.holder) (S.items m.new.holder) }
     ensures count { RoseByAtMost m.old.count m.new.count (length (S.items m.old.holder) / 2) }
     ensures exact { (k : ℕ) → length (S.items m.old.holder) ≡ row_width * 2 ^ k
         → m.new.count ≡ counted m.old.count (row_width * short_swaps k) }
     ensures holder { S.same_holder m.old.holder m.new.holder }
 {
-    let side = power_of_two(digits / 2);
-    let stride = rows >> (digits / 2);
-    for two in 0..stride / 2 {
+    let half = digits / 2;
+    let lines = 1 << (digits - half);
+    let side = 1 << half;
+    for two in 0..lines / 2 {
         let line = two * 2;
-        exchange_lines(m, row_width, digits, stride, line / side, line % side);
+        exchange_lines(m, row_width, digits, line / side, line % side);
     }
 }
 
-/// Exchanges the pairs of rows of one middle digit and of `y` and `y + 1`, with each `x` below them. The rows have indices of
-/// `digits` digits, and the high ones weigh `stride`.
+/// Exchanges the pairs of rows of one middle digit and of `y` and `y + 1`, with each `x` below them.
 #[inline(always)]
 fn exchange_lines<S: Places>(
     m: &mut Swaps<S>,
     row_width: usize,
     digits: usize,
-    stride: usize,
-    digit: usize,
+    middle: usize,
     y: usize,
 )
-    requires wide { 0 < row_width }
-    requires stride { stride ≡ 2 ^ (digits % 2 + digits / 2) }
-    requires digit { digit < 2 ^ (digits % 2) }
+    requires middle { middle < 2 ^ (digits % 2) }
     requires even { y % 2 ≡ 0 }
     requires y { y + 1 < 2 ^ (digits / 2) }
-    requires rows { length (S.items m.old.holder) ≡ row_width * 2 ^ (digits / 2 + (digits % 2 + digits / 2)) }
-    requires length_fits { length (S.items m.old.holder) < 2 ^ 64 }
-    requires count_fits { m.old.count < 2 ^ 128 }
-    ensures crossed { let two = (digit * 2 ^ (digits / 2) + y) / 2 in
+    requires ready { HoldsRows row_width digits (S.items m.old.holder) m.old.count }
+    ensures crossed { let two = (middle * 2 ^ (digits / 2) + y) / 2 in
         IsCrossed (digits / 2) (digits % 2) row_width (two * 2 ^ (digits / 2) * 2) ((two + 1) * 2 ^ (digits / 2) * 2)
         (S.items m.old.holder) (S.items m.new.holder) }
     ensures count { m.new.count ≡ counted m.old.count (row_width * (y + (y + 1))) }
     ensures holder { S.same_holder m.old.holder m.new.holder }
 {
-    let half = digits / 2;
-    let offset = digit * power_of_two(half);
-    let first = reverse_digits(y, half) * stride;
-    let second = reverse_digits(y + 1, half) * stride;
     for x in 0..y {
-        let row = reverse_digits(x, half) * stride;
-        exchange_rows(m, row + (offset + y), first + (offset + x), row_width);
-        exchange_rows(
-            m,
-            row + (offset + (y + 1)),
-            second + (offset + x),
-            row_width,
-        );
+        exchange_pair(m, row_width, digits, middle, x, y);
+        exchange_pair(m, row_width, digits, middle, x, y + 1);
     }
-    exchange_rows(
-        m,
-        first + (offset + (y + 1)),
-        second + (offset + y),
-        row_width,
-    );
+    exchange_pair(m, row_width, digits, middle, y, y + 1);
 }
 
-/// Exchanges rows `i` and `j`, of `row_width` items each: as runs, where they have several.
+/// Exchanges the row of `x` and `y` with the row of `y` and `x`.
 #[inline(always)]
-fn exchange_rows<S: Places>(m: &mut Swaps<S>, i: usize, j: usize, row_width: usize)
-    requires apart { i ≢ j }
-    requires first { (i + 1) * row_width ≤ length (S.items m.old.holder) }
-    requires second { (j + 1) * row_width ≤ length (S.items m.old.holder) }
+fn exchange_pair<S: Places>(
+    m: &mut Swaps<S>,
+    row_width: usize,
+    digits: usize,
+    middle: usize,
+    x: usize,
+    y: usize,
+)
+    requires middle { middle < 2 ^ (digits % 2) }
+    requires less { x < y }
+    requires y { y < 2 ^ (digits / 2) }
+    requires ready { HoldsRows row_width digits (S.items m.old.holder) m.old.count }
+    ensures crossed { let turn = turn_of (digits / 2) middle x y in
+        IsCrossed (digits / 2) (digits % 2) row_width turn (turn + 1) (S.items m.old.holder) (S.items m.new.holder) }
+    ensures count { m.new.count ≡ counted m.old.count row_width }
+    ensures holder { S.same_holder m.old.holder m.new.holder }
+{
+    let i = row_at(digits, middle, x, y);
+    let j = row_at(digits, middle, y, x);
+    exchange_rows(m, row_width, i, j);
+}
+
+/// Exchanges rows `i` and `j`: as runs, where a row has several items.
+#[inline(always)]
+fn exchange_rows<S: Places>(m: &mut Swaps<S>, row_width: usize, i: usize, j: usize)
+    requires apart { (i * row_width + row_width ≤ j * row_width) ⊎ (j * row_width + row_width ≤ i * row_width) }
+    requires first { i * row_width + row_width ≤ length (S.items m.old.holder) }
+    requires second { j * row_width + row_width ≤ length (S.items m.old.holder) }
     requires length_fits { length (S.items m.old.holder) < 2 ^ 64 }
-    requires count_fits { m.old.count < 2 ^ 128 }
     ensures exchanged { RunsExchanged (i * row_width) (j * row_width) row_width (S.items m.old.holder) (S.items m.new.holder) }
     ensures count { m.new.count ≡ counted m.old.count row_width }
     ensures holder { S.same_holder m.old.holder m.new.holder }
@@ -160,7 +160,22 @@ fn exchange_rows<S: Places>(m: &mut Swaps<S>, i: usize, j: usize, row_width: usi
     }
 }
 
-/// `x` with its binary digits, of which it has `digits` at most, in reversed order.
+/// The row of `x`, a middle digit and `y`.
+#[inline(always)]
+fn row_at(digits: usize, middle: usize, x: usize, y: usize) -> usize
+    requires few { digits < 64 }
+    requires middle { middle < 2 ^ (digits % 2) }
+    requires x { x < 2 ^ (digits / 2) }
+    requires y { y < 2 ^ (digits / 2) }
+    ensures row { result ≡ row_of (digits / 2) (digits % 2) middle x y }
+    ensures below { result < 2 ^ digits }
+{
+    let half = digits / 2;
+    reverse_digits(x, half) * (1 << (digits - half)) + (middle * (1 << half) + y)
+}
+
+/// `x` with its binary digits, of which it has `digits` at most, in reversed order. std's `reverse_bits` runs bit by bit, some
+/// 20 ns a call.
 #[inline(always)]
 fn reverse_digits(x: usize, digits: usize) -> usize
     requires few { digits < 64 }
@@ -172,12 +187,4 @@ fn reverse_digits(x: usize, digits: usize) -> usize
     } else {
         reverse_bits_len(x, digits)
     }
-}
-
-#[inline(always)]
-fn power_of_two(exponent: usize) -> usize
-    requires { exponent < 64 }
-    ensures { result ≡ 2 ^ exponent }
-{
-    1 << exponent
 }

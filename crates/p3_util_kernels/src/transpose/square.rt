@@ -29,26 +29,47 @@ pub fn transpose_square_on<S: Places>(
     ensures count { let s = 2 ^ log_size in m.new.count ≡ counted m.old.count (s * (s - 1) / 2) }
     ensures holder { S.same_holder m.old.holder m.new.holder }
 {
-    // Its contract says that the length is a usize and the count a u128.
-    let _ = m.len();
-    let count = transpose_counted(&mut m.places, base, 1 << log_stride, 1 << log_size);
+    let count = transpose_counted(&mut m.places, base, log_stride, log_size);
     m.swaps = m.swaps.saturating_add(count);
 }
 
-/// Transposes the square of `size` rows and columns, and returns the number of exchanges.
-fn transpose_counted<S: Places>(places: &mut S, base: usize, stride: usize, size: usize) -> u128
-    requires within { size ≤ stride }
-    requires room { base + (size - 1) * stride + (size - 1) < length (S.items places.old) }
-    ensures swapped { SwapsAcross base stride 0 size 0 size (S.items places.old) (S.items places.new) }
-    ensures count { result ≡ counted 0 (size * (size - 1) / 2) }
+/// As [`transpose_square_on`] over a fresh counter, and returns the number of exchanges.
+fn transpose_counted<S: Places>(
+    places: &mut S,
+    base: usize,
+    log_stride: usize,
+    log_size: usize,
+) -> u128
+    requires rows_apart { log_size ≤ log_stride }
+    requires stride_fits { log_stride < 64 }
+    requires room { let s = 2 ^ log_size in base + (s - 1) * 2 ^ log_stride + (s - 1) < length (S.items places.old) }
+    ensures transposed { IsSquareTransposed base log_stride log_size (S.items places.old) (S.items places.new) }
+    ensures count { let s = 2 ^ log_size in result ≡ counted 0 (s * (s - 1) / 2) }
     ensures holder { S.same_holder places.old places.new }
 {
-    // Its contract says that the length is a usize.
-    let _ = places.len();
-    let m = transpose_part(Swaps::new(places), base, stride, 0, size);
+    let m = transpose_square(Swaps::new(places), base, log_stride, log_size);
     let count = m.swaps();
     let _ = m.into_inner();
     count
+}
+
+/// As [`transpose_square_on`], with the counter by value, so that its count and the holder stay in registers.
+pub(crate) fn transpose_square<S: Places>(
+    m: Swaps<S>,
+    base: usize,
+    log_stride: usize,
+    log_size: usize,
+) -> Swaps<S>
+    requires rows_apart { log_size ≤ log_stride }
+    requires stride_fits { log_stride < 64 }
+    requires room { let s = 2 ^ log_size in base + (s - 1) * 2 ^ log_stride + (s - 1) < length (S.items m.holder) }
+    ensures transposed { IsSquareTransposed base log_stride log_size (S.items m.holder) (S.items result.holder) }
+    ensures count { let s = 2 ^ log_size in result.count ≡ counted m.count (s * (s - 1) / 2) }
+    ensures holder { S.same_holder m.holder result.holder }
+{
+    // Its contract says that the length is a usize and the count a u128.
+    let _ = m.len();
+    transpose_part(m, base, 1 << log_stride, 0, 1 << log_size)
 }
 
 /// Transposes the `size` rows and columns from row and column `start` on, by quadrants.

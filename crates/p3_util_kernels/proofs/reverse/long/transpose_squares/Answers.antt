@@ -3,7 +3,6 @@ use Rattle.std.proofs.lemmas.Nat.{one_shl}
 use Rattle.p3_util_kernels.specs.Steps.{counted}
 use Rattle.p3_util_kernels.specs.SwapCounts.{square_swaps}
 use Rattle.p3_util_kernels.proofs.Powers.{exponent-lt}
-use Rattle.p3_util_kernels.proofs.SwapCounts.{squares_swaps-le}
 use Rattle.p3_util_kernels.proofs.Squares.{AreTransposed-more, square_room}
 use Rattle.p3_util_kernels.proofs.Steps.{counted-more}
 use Rattle.p3_util_kernels.proofs.reverse.long.transpose_squares.Goals as goal
@@ -36,12 +35,12 @@ overflow_mul-square g c =
     let s = shifts c.args.log_stride c.args.log_size _ c.requires.within c.requires.whole (omega arith) in
     rw s.side (omega (arith, square_room c.args.log_stride c.args.log_size c.requires.within c.loop-square.square _ c.requires.whole (omega arith)))
 
-pub transpose_square_on-requires-clause-stride_fits : goal.transpose_square_on-requires-clause-stride_fits
-transpose_square_on-requires-clause-stride_fits g c =
+pub transpose_square-m-requires-clause-stride_fits : goal.transpose_square-m-requires-clause-stride_fits
+transpose_square-m-requires-clause-stride_fits g c =
     (shifts c.args.log_stride c.args.log_size _ c.requires.within c.requires.whole (omega arith)).stride_fits
 
-pub transpose_square_on-requires-clause-room : goal.transpose_square_on-requires-clause-room
-transpose_square_on-requires-clause-room g c =
+pub transpose_square-m-requires-clause-room : goal.transpose_square-m-requires-clause-room
+transpose_square-m-requires-clause-room g c =
     let s = shifts c.args.log_stride c.args.log_size _ c.requires.within c.requires.whole (omega arith) in
     let now = c.loop-square.invariant.transposed.same_length ∙ c.requires.whole in
     rw s.side (square_room c.args.log_stride c.args.log_size c.requires.within c.loop-square.square _ now (omega arith))
@@ -52,9 +51,9 @@ loop-square-preserved g c =
     record {
       transposed =
           AreTransposed-more c.args.log_stride c.args.log_size c.requires.within c.loop-square.square _ _ _ (omega arith)
-          c.loop-square.invariant.transposed (rw s.side at c.transpose_square_on.ensures.transposed);
+          c.loop-square.invariant.transposed (rw s.side at c.transpose_square-m.ensures.transposed);
       count = grind (arith, counted-more);
-      holder = g.met.S.Places.same_holder_trans _ _ _ c.loop-square.invariant.holder c.transpose_square_on.ensures.holder;
+      holder = g.met.S.Places.same_holder_trans _ _ _ c.loop-square.invariant.holder c.transpose_square-m.ensures.holder;
     }
 
 pub returns-clause-transposed : goal.returns-clause-transposed
@@ -67,16 +66,7 @@ swaps : (log_stride log_size squares old now : ℕ) → squares ≡ 2 ^ (log_str
     → now ≡ counted old (squares * square_swaps (2 ^ log_size)) → now ≡ counted old (2 ^ (log_stride - log_size) * square_swaps (2 ^ log_size))
 swaps log_stride log_size squares old now all count = rw (← all) count
 
-pub returns-clause-exact : goal.returns-clause-exact
-returns-clause-exact g c =
-    let s = shifts c.args.log_stride c.args.log_size _ c.requires.within c.requires.whole (omega arith) in
-    swaps c.args.log_stride c.args.log_size c.loop-square.square _ _ (omega arith) c.loop-square.invariant.count
-
 pub returns-clause-count : goal.returns-clause-count
 returns-clause-count g c =
     let s = shifts c.args.log_stride c.args.log_size _ c.requires.within c.requires.whole (omega arith) in
-    record {
-      steps = 2 ^ (c.args.log_stride - c.args.log_size) * square_swaps (2 ^ c.args.log_size);
-      count = swaps c.args.log_stride c.args.log_size c.loop-square.square _ _ (omega arith) c.loop-square.invariant.count;
-      bound = rw c.requires.whole (squares_swaps-le c.args.log_stride c.args.log_size c.requires.within);
-    }
+    swaps c.args.log_stride c.args.log_size c.loop-square.square _ _ (omega arith) c.loop-square.invariant.count

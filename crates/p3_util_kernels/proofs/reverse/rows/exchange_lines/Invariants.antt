@@ -5,7 +5,7 @@ use Rattle.p3_util_kernels.proofs.reverse.rows.exchange_lines.Given as goal
 
 -- the pairs of these lines below `x` are exchanged
 abbrev pub invariant-loop-x : goal.invariant-loop-x
-invariant-loop-x g l = let two = (l.digit * 2 ^ (l.digits / 2) + l.y) / 2 in record {
+invariant-loop-x g l = let two = (l.middle * 2 ^ (l.digits / 2) + l.y) / 2 in record {
   crossed : IsCrossed (l.digits / 2) (l.digits % 2) l.row_width (two * 2 ^ (l.digits / 2) * 2) ((two * 2 ^ (l.digits / 2) + l.x) * 2)
       (g.S.Places.items l.fn.m.holder) (g.S.Places.items l.m.holder);
   count : l.m.count ≡ counted l.fn.m.count (l.row_width * (l.x + l.x));

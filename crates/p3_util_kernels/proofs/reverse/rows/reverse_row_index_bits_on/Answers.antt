@@ -22,15 +22,21 @@ log2_strict_usize-requires g c =
     let rows = IsPowerOfRows-from _ _ (λ e. c.if-len-eq0.false (c.len-len.ensures.len ∙ e)) c.requires in
     inl (rows.exponent, ap (λ n. n / c.args.row_width) c.len-len.ensures.len ∙ rows.rows)
 
-pub nonzero_div-rows : goal.nonzero_div-rows
-nonzero_div-rows g c =
+pub nonzero_div-len : goal.nonzero_div-len
+nonzero_div-len g c =
     let rows = IsPowerOfRows-from _ _ (λ e. c.if-len-eq0.false (c.len-len.ensures.len ∙ e)) c.requires in
     rows.wide
 
-pub exchange_pairs-requires-in_default-clause-rows : goal.exchange_pairs-requires-in_default-clause-rows
-exchange_pairs-requires-in_default-clause-rows g c =
+pub exchange_pairs-requires-in_default-clause-ready : goal.exchange_pairs-requires-in_default-clause-ready
+exchange_pairs-requires-in_default-clause-ready g c =
     let rows = IsPowerOfRows-from _ _ (λ e. c.if-len-eq0.false (c.len-len.ensures.len ∙ e)) c.requires in
-    whole _ _ _ _ c.len-len.ensures.len rows c.log2_strict_usize.ensures.power
+    record {
+      wide = rows.wide;
+      few = c.log2_strict_usize.ensures.bound;
+      rows = whole _ _ _ _ c.len-len.ensures.len rows c.log2_strict_usize.ensures.power;
+      length_fits = omega arith;
+      count_fits = c.len-len.ensures.count_fits;
+    }
 
 pub returns-in-0-clause-order : goal.returns-in-0-clause-order
 returns-in-0-clause-order g c =
