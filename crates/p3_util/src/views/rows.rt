@@ -152,7 +152,8 @@ fn exchange_items<T, const N: usize>(rows: &mut [[T; N]], i: usize, j: usize)
     } else if s < r {
         exchange_in_two_rows(rows, s, d, r, c);
     } else {
-        exchange_in_row(&mut rows[r], c, d);
+        prove!(width_of(&rows[r]) == N);
+        rows[r].swap(c, d);
     }
 }
 
@@ -162,7 +163,8 @@ fn put_item<T: Drop, const N: usize>(rows: &mut [[T; N]], i: usize, v: T)
     ensures { flat rows.new ≡ slice_set (flat rows.old) i v }
 {
     let (r, c) = place_of(rows, i);
-    put_in_row(&mut rows[r], c, v);
+    prove!(width_of(&rows[r]) == N);
+    rows[r][c] = v;
 }
 
 /// Item `c` of a row.
@@ -200,7 +202,9 @@ fn exchange_in_two_rows<T, const N: usize>(
         (length (flat (take r rows.old)) + c) (length (flat (take s rows.old)) + d) }
 {
     let (front, back) = rows.split_at_mut(s);
-    exchange_between(&mut front[r], c, &mut back[0], d);
+    prove!(width_of(&front[r]) == N);
+    prove!(width_of(&back[0]) == N);
+    mem::swap(&mut front[r][c], &mut back[0][d]);
 }
 
 #[inline(always)]

@@ -12,5 +12,4 @@ pub returns-else-s-r : goal.returns-else-s-r
 returns-else-s-r g c =
     let place = c.place_of-r.ensures in
     let place' = c.place_of-s.ensures in
-    let row = c.exchange_in_row.ensures in
-    swap-at _ _ _ _ _ _ _ _ _ (omega arith) place.row place.place place'.place row.len place.before place.item place'.item row.exchanged
+    swap-at _ _ _ _ _ _ _ _ _ (omega arith) place.row place.place place'.place c.width_of.ensures.row place.before place.item place'.item c.swap.ensures.after
