@@ -1,7 +1,7 @@
 #!/usr/bin/env bash
 # The program and its surroundings: words that are no text, standard streams that are closed, full or cut short, an input
 # that never ends. Each run has to end with the right text and status, or as the system ends a program, and never with a
-# wrong list.
+# wrong list. And how much memory a long input takes: at most 3.75 times its length.
 #
 #     tests/program.sh [PROGRAM]..
 #
@@ -116,11 +116,40 @@ output() {
     rm "$work/pipe"
 }
 
+# peak WORD..: runs the program on the long list, and compares the memory that it held at most with 3.75 times the input.
+# Nothing is written before the whole text is there, so the program waits for a reader when the most was held.
+peak() {
+    local process first held allowed=$((15 * $(stat -c %s "$work/long") / 4096))
+    rm -f "$work/pipe"
+    mkfifo "$work/pipe"
+    "$program" "$@" <"$work/long" >"$work/pipe" 2>"$work/err" &
+    process=$!
+    exec 5<"$work/pipe"
+    IFS= read -r -n 1 -u 5 first
+    held=$(awk '/^VmHWM:/ { print $2 }' "/proc/$process/status")
+    if { printf '%s' "$first" && cat <&5; } | cmp -s - "$work/long" && wait "$process" && ((held <= allowed)); then
+        echo "ok      the memory of $*: $held kilobytes of $allowed"
+    else
+        echo "FAILED  the memory of $*: $held kilobytes of $allowed"
+        bad=1
+    fi
+    exec 5<&-
+}
+
+# 2^22 numbers of 20 digits, all equal, so that each command gives them again.
+memory() {
+    echo "[$(yes 18446744073709551615 | head -n 4194304 | paste -sd,)]" >"$work/long"
+    peak revbits
+    peak revrows 2
+    peak transpose 2048 2048
+}
+
 for program in "$@"; do
     program=$(realpath "$program")
     echo "$program"
     words
     input
     output
+    memory
 done
 exit "$bad"

@@ -7,13 +7,15 @@
 #
 # It takes what `rt ci` left in crates/*/out: the program, as each compiler built it, and the tests. What is not there it
 # builds. The program has to print that it is out of memory, end with status 3 and write nothing; a test has to pass,
-# whatever is refused.
+# whatever is refused. Calls that take no memory have tests of their own, which make them as often as TIMES says: once and
+# twice have to make as many requests.
 set -uo pipefail
 cd "$(dirname "$0")/.."
 
 # The tests that are run so: a crate, and how the names of its tests begin.
 tests=(
     'p3_util_vectors refused_growth::'
+    'p3_util_vectors no_memory::'
 )
 [[ ${1-} != program ]] || tests=()
 
@@ -39,15 +41,17 @@ failed() {
     bad=1
 }
 
-# of_program PROGRAM INPUT OUTPUT WORD..
+# of_program PROGRAM INPUT STATUS OUTPUT WORD..: with ample memory the program ends with the status, and prints OUTPUT, which
+# is a fault where the status is not 0.
 of_program() {
-    local program=$1 input=$2 output=$3 name="${1##*/} ${*:4}" n=0 status
+    local program=$1 input=$2 wanted=$3 output=$4 name="${1##*/} ${*:5}" n=0 status
     while :; do
         n=$((n + 1))
-        refusing "$n" "$program" "${@:4}" <<<"$input"
+        refusing "$n" "$program" "${@:5}" <<<"$input"
         status=$?
         if [[ ! -e $work/refused ]]; then
-            [[ $status == 0 && $(<"$work/out") == "$output" ]] || failed "$name" "status $status with ample memory"
+            [[ $status == "$wanted" && $(cat "$work/out" "$work/err") == "$output" ]] ||
+                failed "$name" "status $status with ample memory"
             break
         fi
         [[ $status == 3 && ! -s $work/out && $(<"$work/err") == 'error: out of memory' ]] ||
@@ -57,7 +61,7 @@ of_program() {
     ((n > 1)) || failed "$name" 'no growth was refused'
 }
 
-# of_test PROGRAM TEST
+# of_test PROGRAM TEST: leaves the number of growths in `growths`.
 of_test() {
     local n=0 status
     while :; do
@@ -67,16 +71,31 @@ of_test() {
         ((status == 0)) || failed "$2" "status $status where growth $n was refused"
         [[ -e $work/refused ]] || break
     done
-    echo "$2: $((n - 1)) growths, each refused once"
+    growths=$((n - 1))
+    echo "$2: $growths growths, each refused once"
+}
+
+# of_calls PROGRAM TEST: calls that take no memory make no more requests when they are made twice.
+of_calls() {
+    local once
+    export TIMES
+    TIMES=1 && of_test "$@"
+    once=$growths
+    TIMES=2 && of_test "$@"
+    unset TIMES
+    ((growths == once)) || failed "$2" "$((growths - once)) growths of calls that take no memory"
 }
 
 program=crates/p3_util_run/out/p3_util_run
 [[ -x $program ]] || (cd crates/p3_util_run && rt run -- revbits <stdin) || exit 1
 for program in $program{,.by-rattle}; do
     [[ -x $program ]] || continue
-    of_program "$program" '[10,20,30,40]' '[10,30,20,40]' revbits
-    of_program "$program" '[0,1,2,3,4,5,6,7]' '[0,1,4,5,2,3,6,7]' revrows 2
-    of_program "$program" '[1,2,3,4,5,6]' '[1,4,2,5,3,6]' transpose 3 2
+    of_program "$program" '[10,20,30,40]' 0 '[10,30,20,40]' revbits
+    of_program "$program" '[0,1,2,3,4,5,6,7]' 0 '[0,1,4,5,2,3,6,7]' revrows 2
+    of_program "$program" '[1,2,3,4,5,6]' 0 '[1,4,2,5,3,6]' transpose 3 2
+    of_program "$program" '[1,2,3]' 2 'error: length 3 is neither zero nor a power of two' revbits
+    of_program "$program" '[1,2,3]' 2 'error: length 3 is not 2 times zero or a power of two' revrows 2
+    of_program "$program" '[1,2,3]' 2 'error: 2 by 2 is not the length 3' transpose 2 2
 done
 
 for line in "${tests[@]}"; do
@@ -88,7 +107,11 @@ for line in "${tests[@]}"; do
         continue
     fi
     for name in $names; do
-        of_test "$built" "$name"
+        if [[ $prefix == no_memory::* ]]; then
+            of_calls "$built" "$name"
+        else
+            of_test "$built" "$name"
+        fi
     done
 done
 exit "$bad"

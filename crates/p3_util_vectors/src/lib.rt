@@ -2,6 +2,8 @@
 #![tactic(auto)]
 
 #[cfg(test)]
+mod ample_memory;
+#[cfg(test)]
 mod array_serialization;
 #[cfg(test)]
 mod between_views;
@@ -19,6 +21,8 @@ mod chunks;
 pub mod joined;
 #[cfg(test)]
 mod linear_map;
+#[cfg(test)]
+mod no_memory;
 #[cfg(test)]
 mod noted;
 #[cfg(test)]

@@ -1,0 +1,142 @@
+//! Calls that take no memory.
+//!
+//! A plain run makes each of them once. `tests/refused_growth.sh` sets TIMES to 1 and to 2, counts the requests for memory of
+//! both runs, and finds as many: a body that makes a request and goes on where it is refused fails there. Where a test's own
+//! list is refused, it ends.
+
+use crate::calls::{count_writes, reverse_slice, reverse_slice_rows, transpose_slice};
+use crate::checks::equal;
+use crate::linear_map::lent;
+use p3_util::array_serialization::{ArrayElement, ArrayError, deserialize, serialize};
+use p3_util::chunks::{apply_to_chunks, iter_array_chunks_padded};
+use p3_util::linear_map::LinearMap;
+use p3_util::zip_eq::zip_eq;
+use p3_util_kernels::places::SliceCells;
+use std::alloc::{AllocError, Global};
+use std::cell::Cell;
+use std::env::Env;
+use std::fmt::Debug;
+use std::process::Abort;
+
+/// How often a test makes its calls: twice where TIMES says so, else once.
+fn times(rt: &HostRuntime) -> usize {
+    let mut word = [0];
+    match rt.var("TIMES", &mut word) {
+        Ok(1) if word == [b'2'] => 2,
+        _ => 1,
+    }
+}
+
+#[test]
+fn read_arrays(rt: HostRuntime) {
+    let Ok(value) = serialize(rt.alloc(), &[1u32, 2, 3]) else {
+        return;
+    };
+    for _ in 0..times(&rt) {
+        equal(&rt, &deserialize(rt.alloc(), &value), &Ok([1u32, 2, 3]));
+        let shorter = deserialize::<u64, 2>(rt.alloc(), &value);
+        equal(&rt, &shorter, &Err(ArrayError::Length { got: 3 }));
+    }
+}
+
+/// Asserts that an element is written and read back.
+fn check_element<T: ArrayElement + PartialEq + Copy + Debug>(
+    rt: &impl Abort,
+    alloc: Global,
+    element: T,
+) {
+    match element.to_value(alloc) {
+        Ok(value) => equal(rt, &T::from_value(alloc, &value).ok(), &Some(element)),
+        Err(AllocError) => panic!(rt; "no memory is wanted"),
+    }
+}
+
+#[test]
+fn elements(rt: HostRuntime) {
+    for _ in 0..times(&rt) {
+        check_element(&rt, rt.alloc(), 7u32);
+        check_element(&rt, rt.alloc(), u64::MAX);
+        check_element(&rt, rt.alloc(), i64::MIN);
+        check_element(&rt, rt.alloc(), true);
+    }
+}
+
+/// How many pairs two lists of one length make.
+fn count_pairs(first: &[u8], second: &[u8]) -> Option<usize> {
+    match zip_eq(first, second, ()) {
+        Ok(pairs) => Some(pairs.count()),
+        Err(()) => None,
+    }
+}
+
+#[test]
+fn pairs(rt: HostRuntime) {
+    for _ in 0..times(&rt) {
+        equal(&rt, &count_pairs(&[1, 2, 3], &[4, 5, 6]), &Some(3));
+        equal(&rt, &count_pairs(&[1, 2], &[3]), &None);
+    }
+}
+
+#[test]
+fn pieces(rt: HostRuntime) {
+    for _ in 0..times(&rt) {
+        let count = Cell::new(0usize);
+        apply_to_chunks::<4, _, _>(0..10u8, |_| count.set(count.get().wrapping_add(1)));
+        equal(&rt, &count.get(), &3);
+        let mut padded = iter_array_chunks_padded::<_, 2, _>([1, 2, 3], 9u8);
+        equal(&rt, &padded.next(), &Some([1, 2]));
+        equal(&rt, &padded.next(), &Some([3, 9]));
+    }
+}
+
+/// The list of the short and the long path, one after the other.
+const LENGTHS: [usize; 2] = [64, 32768];
+
+#[test]
+fn reversals(rt: HostRuntime) {
+    for len in LENGTHS {
+        let Ok(mut list) = vec![in rt.alloc(); 5u64; len] else {
+            return;
+        };
+        for _ in 0..times(&rt) {
+            reverse_slice(&rt, &mut list);
+            reverse_slice_rows(&rt, &mut list, 4);
+        }
+    }
+}
+
+#[test]
+fn transposes(rt: HostRuntime) {
+    let Ok(input) = vec![in rt.alloc(); 5u64; 4800] else {
+        return;
+    };
+    let Ok(mut output) = vec![in rt.alloc(); 0u64; 4800] else {
+        return;
+    };
+    for _ in 0..times(&rt) {
+        transpose_slice(&rt, &input, &mut output, 60, 80);
+        let mut cells = SliceCells::new(&mut output);
+        equal(&rt, &count_writes(&rt, &input, &mut cells, 60, 80), &4800);
+    }
+}
+
+/// A map of one pair that has no room for another.
+fn full_map(alloc: Global) -> Option<LinearMap<u32, u32>> {
+    let mut map = LinearMap::with_capacity(alloc, 1).ok()?;
+    match map.insert(7, 1) {
+        Ok(_) => Some(map),
+        Err(_) => None,
+    }
+}
+
+#[test]
+fn known_keys(rt: HostRuntime) {
+    let Some(mut map) = full_map(rt.alloc()) else {
+        return;
+    };
+    for _ in 0..times(&rt) {
+        equal(&rt, &map.insert(7, 1).is_ok(), &true);
+        equal(&rt, &lent(&mut map, 7, 9), &(Ok(1), 0));
+        equal(&rt, &map.get(&7).copied(), &Some(1));
+    }
+}
