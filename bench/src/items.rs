@@ -1,7 +1,7 @@
 //! Items of each size, and the calls on them.
 
 use crate::cases::{Case, Work};
-use crate::rows;
+use crate::library;
 
 pub trait Item: Copy + PartialEq + Send + Sync {
     fn numbered(i: usize) -> Self;
@@ -21,9 +21,9 @@ macro_rules! number_items {
 
 number_items!(u8 u16 u32 u64);
 
-impl<const N: usize> Item for [u64; N] {
+impl<T: Item, const N: usize> Item for [T; N] {
     fn numbered(i: usize) -> Self {
-        std::array::from_fn(|k| u64::numbered(i) + k as u64)
+        std::array::from_fn(|k| T::numbered(i + k))
     }
 }
 
@@ -38,10 +38,21 @@ pub fn visit<V: Visitor>(case: &Case, visitor: V) -> V::Answer {
     match case.item_size {
         1 => visitor.visit::<u8>(case),
         2 => visitor.visit::<u16>(case),
+        3 => visitor.visit::<[u8; 3]>(case),
         4 => visitor.visit::<u32>(case),
+        6 => visitor.visit::<[u16; 3]>(case),
         8 => visitor.visit::<u64>(case),
+        12 => visitor.visit::<[u32; 3]>(case),
         16 => visitor.visit::<[u64; 2]>(case),
-        _ => visitor.visit::<[u64; 4]>(case),
+        20 => visitor.visit::<[u32; 5]>(case),
+        24 => visitor.visit::<[u64; 3]>(case),
+        32 => visitor.visit::<[u64; 4]>(case),
+        40 => visitor.visit::<[u64; 5]>(case),
+        48 => visitor.visit::<[u64; 6]>(case),
+        64 => visitor.visit::<[u64; 8]>(case),
+        96 => visitor.visit::<[u64; 12]>(case),
+        128 => visitor.visit::<[u64; 16]>(case),
+        size => unreachable!("there are no items of {size} bytes"),
     }
 }
 
@@ -86,11 +97,9 @@ impl<T: Item> Lists<T> {
     pub fn run(&mut self, contender: Contender) {
         let (from, to) = (self.from.as_slice(), self.to.as_mut_slice());
         match (contender, self.case.work) {
-            (Contender::Proved, Work::Reverse { .. }) => p3_util_proved::reverse_slice_index_bits(to),
-            (Contender::Proved, Work::Rows { .. }) => rows::reverse(to, self.case.row_width()),
-            (Contender::Proved, Work::Transpose { width, height }) => {
-                p3_util_proved::transpose::transpose(from, to, width, height)
-            }
+            (Contender::Proved, Work::Reverse { .. }) => library::reverse(to),
+            (Contender::Proved, Work::Rows { .. }) => library::reverse_rows(to, self.case.row_width()),
+            (Contender::Proved, Work::Transpose { width, height }) => library::transpose(from, to, width, height),
             #[cfg(original)]
             (Contender::Original, Work::Reverse { .. }) => p3_util::reverse_slice_index_bits(to),
             #[cfg(original)]

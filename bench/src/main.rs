@@ -3,9 +3,9 @@
 mod cases;
 mod counts;
 mod items;
+mod library;
 mod options;
 mod picture;
-mod rows;
 mod table;
 mod timing;
 

@@ -3,11 +3,13 @@
 use std::path::PathBuf;
 
 use crate::cases::CALLS;
+use crate::library::SIZES;
 
 pub const USAGE: &str = "\
 options:
   --calls reverse,transpose   which calls, of reverse rows transpose (all)
-  --items 1,4,8,32            sizes of an item in bytes, of 1 2 4 8 16 32 (1,4,8,32)
+  --items 1,4,8,32            sizes of an item in bytes, of 1 2 3 4 6 8 12 16 20 24 32 40 48 64 96 128 (1,4,8,32); rows
+                              have those of 1 2 4 8 16 32
   --sizes 2-22                reversals of 2^2 to 2^22 items; also a list, as 3,7,13 (2-22)
   --rows 64x16,1024x256       reversals of rows of so many bytes, a multiple of 32, by so many rows, a power of two
                               (the table of docs/PERFORMANCE.md); the time is that of a row
@@ -42,7 +44,7 @@ const ROWS: &str = "64x16,64x64,64x256,64x1024,64x4096,128x16,128x64,128x256,128
     256x1024,1024x16,1024x64,1024x256";
 
 /// Columns and rows.
-const SHAPES: &str = "4x4,8x8,15x17,16x16,17x19,64x64,63x50,300x60,512x512,1024x1024,1025x1024,2048x2048,2003x757,\
+const SHAPES: &str = "2x2,3x3,4x4,5x5,6x6,7x7,8x8,15x17,16x16,17x19,64x64,63x50,300x60,512x512,1024x1024,1025x1024,2048x2048,2003x757,\
     4096x16,16x65536,1000x1024,300x4096,100x16384,40x65536,12x262144,65536x40,4096x4096,262144x12";
 
 impl Options {
@@ -97,7 +99,7 @@ fn call(text: &str) -> Result<String, String> {
 
 fn item(text: &str) -> Result<usize, String> {
     match number(text)? {
-        size @ (1 | 2 | 4 | 8 | 16 | 32) => Ok(size),
+        size if SIZES.contains(&size) => Ok(size),
         _ => Err(format!("no items of {text} bytes are measured")),
     }
 }

@@ -9,13 +9,23 @@ const PANEL: f64 = 330.0;
 const LEFT: f64 = 60.0;
 const TOP: f64 = 40.0;
 const PLOT_HEIGHT: f64 = 200.0;
-const COLORS: [(usize, &str); 6] = [
+const COLORS: [(usize, &str); 16] = [
     (1, "#1b6ca8"),
     (2, "#7a4fa3"),
+    (3, "#b5651d"),
     (4, "#2a9d5c"),
+    (6, "#0f7173"),
     (8, "#d1495b"),
+    (12, "#5c6b00"),
     (16, "#7f7f7f"),
+    (20, "#c71585"),
+    (24, "#4b0082"),
     (32, "#e08e1b"),
+    (40, "#008b8b"),
+    (48, "#8b4513"),
+    (64, "#2f4f4f"),
+    (96, "#ff6f61"),
+    (128, "#000000"),
 ];
 
 /// The time of each row beside the original's, or beside a copy's where the original was not measured.

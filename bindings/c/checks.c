@@ -1,4 +1,7 @@
-/* Each call on items of its size, on lists that it refuses and on empty lists. The status is the line that failed. */
+/*
+ * Each call beside plain loops, on items of its size at any address, on lists that it refuses and on empty lists. The status
+ * is the line that failed.
+ */
 #include <string.h>
 
 #include "p3_util.h"
@@ -10,82 +13,87 @@
         }                    \
     } while (0)
 
-enum { ROWS = 4, COLUMNS = 8, ITEMS = ROWS * COLUMNS, LARGEST = 32 };
+enum { MOST_ITEMS = 1 << 15, LARGEST = 128, ROOM = 1 + MOST_ITEMS * LARGEST };
 
-static const unsigned char REVERSED[8] = {0, 4, 2, 6, 1, 5, 3, 7};
+static unsigned char before[ROOM], after[ROOM], wanted[ROOM];
 
-/* Makes item i of `size` bytes of the byte i + 1, at an address that no larger number lies at. */
-static unsigned char *items(unsigned char *room, size_t size) {
-    for (size_t i = 0; i < ITEMS; i++) {
-        memset(room + 1 + i * size, (int)i + 1, size);
+/* Fills `len` bytes, always the same, at an odd address. */
+static unsigned char *filled(unsigned char *room, size_t len) {
+    unsigned long long state = 1;
+    for (size_t i = 0; i < len; i++) {
+        state = state * 6364136223846793005ULL + 1442695040888963407ULL;
+        room[1 + i] = (unsigned char)(state >> 56);
     }
     return room + 1;
 }
 
-static bool is_item(const unsigned char *at, size_t size, size_t i) {
-    for (size_t k = 0; k < size; k++) {
-        if (at[k] != i + 1) {
-            return false;
-        }
+static size_t reversed(size_t index, unsigned digits) {
+    size_t result = 0;
+    for (unsigned k = 0; k < digits; k++) {
+        result = result * 2 + (index >> k) % 2;
     }
-    return true;
+    return result;
 }
 
 typedef bool reverse_call(void *, size_t);
 typedef bool reverse_rows_call(void *, size_t, size_t);
 typedef bool transpose_call(const void *, size_t, void *, size_t, size_t, size_t);
 
-static int check(size_t size, reverse_call *reverse, reverse_rows_call *reverse_rows, transpose_call *transpose) {
-    unsigned char room[1 + ITEMS * LARGEST], other[1 + ITEMS * LARGEST] = {0};
-    unsigned char *list = items(room, size), *output = other + 1;
-    CHECK(!reverse(list, 7) && !reverse(list, 12));
-    CHECK(!reverse_rows(list, 12, 5) && !reverse_rows(list, 12, 4) && !reverse_rows(list, 12, 0));
-    for (size_t i = 0; i < ITEMS; i++) {
-        CHECK(is_item(list + i * size, size, i));
+/* Lists of no item, of each power of two on the short path, and of two powers on the long one. */
+static int check_reverse(size_t size, reverse_call *reverse) {
+    static const unsigned DIGITS[] = {0, 1, 2, 3, 4, 5, 6, 7, 8, 9, 10, 14, 15};
+    for (size_t d = 0; d < sizeof DIGITS / sizeof DIGITS[0]; d++) {
+        size_t items = (size_t)1 << DIGITS[d];
+        unsigned char *list = filled(after, items * size), *old = filled(before, items * size);
+        for (size_t i = 0; i < items; i++) {
+            memcpy(wanted + i * size, old + reversed(i, DIGITS[d]) * size, size);
+        }
+        CHECK(reverse(list, items));
+        CHECK(memcmp(list, wanted, items * size) == 0);
     }
-    CHECK(reverse(list, 8));
-    for (size_t i = 0; i < ITEMS; i++) {
-        CHECK(is_item(list + i * size, size, i < 8 ? REVERSED[i] : i));
-    }
-    items(room, size);
-    CHECK(reverse_rows(list, 24, 3));
-    for (size_t i = 0; i < ITEMS; i++) {
-        CHECK(is_item(list + i * size, size, i < 24 ? REVERSED[i / 3] * 3u + i % 3 : i));
-    }
-    items(room, size);
-    CHECK(!transpose(list, ITEMS - 1, output, ITEMS, COLUMNS, ROWS));
-    CHECK(!transpose(list, ITEMS, output, ITEMS - 1, COLUMNS, ROWS));
-    CHECK(!transpose(list, 0, output, 0, (size_t)1 << 32, (size_t)1 << 32));
-    for (size_t i = 0; i < sizeof other; i++) {
-        CHECK(other[i] == 0);
-    }
-    CHECK(transpose(list, ITEMS, output, ITEMS, COLUMNS, ROWS));
-    for (size_t i = 0; i < ITEMS; i++) {
-        CHECK(is_item(output + i * size, size, i % ROWS * COLUMNS + i / ROWS));
-    }
-    CHECK(reverse(NULL, 0) && reverse_rows(NULL, 0, 7) && transpose(NULL, 0, NULL, 0, 0, 5));
+    unsigned char *list = filled(after, 12 * size), *old = filled(before, 12 * size);
+    CHECK(!reverse(list, 7) && !reverse(list, 12) && memcmp(list, old, 12 * size) == 0);
+    CHECK(reverse(NULL, 0));
     return 0;
 }
 
-/* Rows of widths that go by loops of their own, and of others, in lists of four to 64 rows. */
 static int check_rows(size_t size, reverse_rows_call *reverse_rows) {
-    static const size_t WIDTHS[] = {32, 64, 96, 128, 256, 320};
-    enum { MOST_ROWS = 64, WIDEST = 320 };
-    static unsigned char room[1 + MOST_ROWS * WIDEST];
+    static const size_t WIDTHS[] = {1, 2, 3, 7, 8, 16, 33};
     for (size_t w = 0; w < sizeof WIDTHS / sizeof WIDTHS[0]; w++) {
-        for (unsigned digits = 2; digits <= 6; digits++) {
-            size_t rows = (size_t)1 << digits, width = WIDTHS[w];
-            for (size_t i = 0; i < rows * width; i++) {
-                room[1 + i] = (unsigned char)(i / width + i % width);
+        for (unsigned digits = 0; digits <= 7; digits++) {
+            size_t rows = (size_t)1 << digits, row = WIDTHS[w] * size;
+            unsigned char *list = filled(after, rows * row), *old = filled(before, rows * row);
+            for (size_t i = 0; i < rows; i++) {
+                memcpy(wanted + i * row, old + reversed(i, digits) * row, row);
             }
-            CHECK(reverse_rows(room + 1, rows * width / size, width / size));
-            for (size_t i = 0; i < rows * width; i++) {
-                size_t row = 0;
-                CHECK(p3_util_reverse_bits_len(i / width, digits, &row));
-                CHECK(room[1 + i] == (unsigned char)(row + i % width));
-            }
+            CHECK(reverse_rows(list, rows * WIDTHS[w], WIDTHS[w]));
+            CHECK(memcmp(list, wanted, rows * row) == 0);
         }
     }
+    unsigned char *list = filled(after, 12 * size), *old = filled(before, 12 * size);
+    CHECK(!reverse_rows(list, 12, 5) && !reverse_rows(list, 12, 4) && !reverse_rows(list, 12, 0));
+    CHECK(memcmp(list, old, 12 * size) == 0);
+    CHECK(reverse_rows(NULL, 0, 7) && reverse_rows(NULL, 0, 0));
+    return 0;
+}
+
+static int check_transpose(size_t size, transpose_call *transpose) {
+    static const size_t SHAPES[][2] = {{1, 1}, {2, 2}, {3, 5}, {8, 8}, {1, 40}, {40, 1}, {17, 19}, {64, 48}, {150, 130}};
+    for (size_t s = 0; s < sizeof SHAPES / sizeof SHAPES[0]; s++) {
+        size_t width = SHAPES[s][0], height = SHAPES[s][1], items = width * height;
+        unsigned char *input = filled(before, items * size), *output = after + 1;
+        for (size_t i = 0; i < items; i++) {
+            memcpy(wanted + (i % width * height + i / width) * size, input + i * size, size);
+        }
+        CHECK(transpose(input, items, output, items, width, height));
+        CHECK(memcmp(output, wanted, items * size) == 0);
+    }
+    unsigned char *output = filled(after, 32 * size);
+    memcpy(wanted, output, 32 * size);
+    CHECK(!transpose(before, 31, output, 32, 8, 4) && !transpose(before, 32, output, 31, 8, 4));
+    CHECK(!transpose(before, 0, output, 0, (size_t)1 << 32, (size_t)1 << 32));
+    CHECK(memcmp(output, wanted, 32 * size) == 0);
+    CHECK(transpose(NULL, 0, NULL, 0, 0, 5));
     return 0;
 }
 
@@ -100,17 +108,46 @@ static int check_bits(void) {
     return 0;
 }
 
-static int check_size(size_t size, reverse_call *reverse, reverse_rows_call *reverse_rows, transpose_call *transpose) {
-    int status = check(size, reverse, reverse_rows, transpose);
-    return status ? status : check_rows(size, reverse_rows);
-}
+#define CHECK_CALL(check, size, call)   \
+    do {                                \
+        int failed = check(size, call); \
+        if (failed) {                   \
+            return failed;              \
+        }                               \
+    } while (0)
+
+#define CHECK_SIZE(size)                                             \
+    do {                                                             \
+        CHECK_CALL(check_reverse, size, p3_util_reverse_##size);     \
+        CHECK_CALL(check_transpose, size, p3_util_transpose_##size); \
+    } while (0)
 
 int main(void) {
     int status = check_bits();
-    status = status ? status : check_size(1, p3_util_reverse_1, p3_util_reverse_rows_1, p3_util_transpose_1);
-    status = status ? status : check_size(2, p3_util_reverse_2, p3_util_reverse_rows_2, p3_util_transpose_2);
-    status = status ? status : check_size(4, p3_util_reverse_4, p3_util_reverse_rows_4, p3_util_transpose_4);
-    status = status ? status : check_size(8, p3_util_reverse_8, p3_util_reverse_rows_8, p3_util_transpose_8);
-    status = status ? status : check_size(16, p3_util_reverse_16, p3_util_reverse_rows_16, p3_util_transpose_16);
-    return status ? status : check_size(32, p3_util_reverse_32, p3_util_reverse_rows_32, p3_util_transpose_32);
+    if (status) {
+        return status;
+    }
+    CHECK_SIZE(1);
+    CHECK_SIZE(2);
+    CHECK_SIZE(3);
+    CHECK_SIZE(4);
+    CHECK_SIZE(6);
+    CHECK_SIZE(8);
+    CHECK_SIZE(12);
+    CHECK_SIZE(16);
+    CHECK_SIZE(20);
+    CHECK_SIZE(24);
+    CHECK_SIZE(32);
+    CHECK_SIZE(40);
+    CHECK_SIZE(48);
+    CHECK_SIZE(64);
+    CHECK_SIZE(96);
+    CHECK_SIZE(128);
+    CHECK_CALL(check_rows, 1, p3_util_reverse_rows_1);
+    CHECK_CALL(check_rows, 2, p3_util_reverse_rows_2);
+    CHECK_CALL(check_rows, 4, p3_util_reverse_rows_4);
+    CHECK_CALL(check_rows, 8, p3_util_reverse_rows_8);
+    CHECK_CALL(check_rows, 16, p3_util_reverse_rows_16);
+    CHECK_CALL(check_rows, 32, p3_util_reverse_rows_32);
+    return 0;
 }

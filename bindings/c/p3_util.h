@@ -31,15 +31,25 @@ extern "C" {
  */
 bool p3_util_reverse_1(void *vals, size_t len);
 bool p3_util_reverse_2(void *vals, size_t len);
+bool p3_util_reverse_3(void *vals, size_t len);
 bool p3_util_reverse_4(void *vals, size_t len);
+bool p3_util_reverse_6(void *vals, size_t len);
 bool p3_util_reverse_8(void *vals, size_t len);
+bool p3_util_reverse_12(void *vals, size_t len);
 bool p3_util_reverse_16(void *vals, size_t len);
+bool p3_util_reverse_20(void *vals, size_t len);
+bool p3_util_reverse_24(void *vals, size_t len);
 bool p3_util_reverse_32(void *vals, size_t len);
+bool p3_util_reverse_40(void *vals, size_t len);
+bool p3_util_reverse_48(void *vals, size_t len);
+bool p3_util_reverse_64(void *vals, size_t len);
+bool p3_util_reverse_96(void *vals, size_t len);
+bool p3_util_reverse_128(void *vals, size_t len);
 
 /*
  * Reverses the order of rows of row_width items by index bits, each row as one item, where len, the number of items, is
- * row_width times zero or a power of two. Items of another size are rows of smaller ones: 12 bytes are a row of three
- * items of 4.
+ * row_width times zero or a power of two. Items that no call above serves are rows of smaller ones: 36 bytes are a row of
+ * nine items of 4. Rows of a size that a call above serves go faster as items of that call: 64 bytes by p3_util_reverse_64.
  */
 bool p3_util_reverse_rows_1(void *vals, size_t len, size_t row_width);
 bool p3_util_reverse_rows_2(void *vals, size_t len, size_t row_width);
@@ -57,13 +67,33 @@ bool p3_util_transpose_1(const void *input, size_t input_len, void *output, size
     size_t height);
 bool p3_util_transpose_2(const void *input, size_t input_len, void *output, size_t output_len, size_t width,
     size_t height);
+bool p3_util_transpose_3(const void *input, size_t input_len, void *output, size_t output_len, size_t width,
+    size_t height);
 bool p3_util_transpose_4(const void *input, size_t input_len, void *output, size_t output_len, size_t width,
+    size_t height);
+bool p3_util_transpose_6(const void *input, size_t input_len, void *output, size_t output_len, size_t width,
     size_t height);
 bool p3_util_transpose_8(const void *input, size_t input_len, void *output, size_t output_len, size_t width,
     size_t height);
+bool p3_util_transpose_12(const void *input, size_t input_len, void *output, size_t output_len, size_t width,
+    size_t height);
 bool p3_util_transpose_16(const void *input, size_t input_len, void *output, size_t output_len, size_t width,
     size_t height);
+bool p3_util_transpose_20(const void *input, size_t input_len, void *output, size_t output_len, size_t width,
+    size_t height);
+bool p3_util_transpose_24(const void *input, size_t input_len, void *output, size_t output_len, size_t width,
+    size_t height);
 bool p3_util_transpose_32(const void *input, size_t input_len, void *output, size_t output_len, size_t width,
+    size_t height);
+bool p3_util_transpose_40(const void *input, size_t input_len, void *output, size_t output_len, size_t width,
+    size_t height);
+bool p3_util_transpose_48(const void *input, size_t input_len, void *output, size_t output_len, size_t width,
+    size_t height);
+bool p3_util_transpose_64(const void *input, size_t input_len, void *output, size_t output_len, size_t width,
+    size_t height);
+bool p3_util_transpose_96(const void *input, size_t input_len, void *output, size_t output_len, size_t width,
+    size_t height);
+bool p3_util_transpose_128(const void *input, size_t input_len, void *output, size_t output_len, size_t width,
     size_t height);
 
 /* The least e with n <= 2^e, which is 0 for 0 and 1. */

@@ -5,8 +5,7 @@
 
 pub mod bits;
 mod interface;
+mod items;
 pub mod reverse;
 pub mod rows;
-mod runs;
 pub mod transpose;
-mod words;

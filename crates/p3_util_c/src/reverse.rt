@@ -1,9 +1,9 @@
 //! Bit reversal of lists.
 
+ghost use Rattle.std.specs.Prelude.{◌≤◌};
 ghost use Rattle.p3_util_c.specs.Tried.{IsTriedReversal};
 
-use crate::words::WordPlaces;
-use p3_util_kernels::places::Places;
+use crate::items::ItemPlaces;
 use p3_util_kernels::reverse::{fits_rows, reverse_counted, reverse_slice_index_bits};
 
 /// Reverses the order of `vals`, items of one byte, by index bits, where the length is zero or a power of two. Returns
@@ -12,7 +12,7 @@ use p3_util_kernels::reverse::{fits_rows, reverse_counted, reverse_slice_index_b
 pub extern "C" fn p3_util_reverse_1(vals: &mut [u8]) -> bool
     ensures { IsTriedReversal result vals.old vals.new }
 {
-    reverse_slice_where_it_fits(vals)
+    reverse_where_it_fits(vals)
 }
 
 /// Reverses the order of `vals`, items of 2 bytes, by index bits, where the length is zero or a power of two. Returns
@@ -21,7 +21,16 @@ pub extern "C" fn p3_util_reverse_1(vals: &mut [u8]) -> bool
 pub extern "C" fn p3_util_reverse_2(vals: &mut [[u8; 2]]) -> bool
     ensures { IsTriedReversal result vals.old vals.new }
 {
-    reverse_slice_where_it_fits(vals)
+    reverse_where_it_fits(vals)
+}
+
+/// Reverses the order of `vals`, items of 3 bytes, by index bits, where the length is zero or a power of two. Returns
+/// whether it is.
+#[unsafe(no_mangle)]
+pub extern "C" fn p3_util_reverse_3(vals: &mut [[[u8; 1]; 3]]) -> bool
+    ensures { IsTriedReversal result vals.old vals.new }
+{
+    reverse_three_words_where_it_fits(vals)
 }
 
 /// Reverses the order of `vals`, items of 4 bytes, by index bits, where the length is zero or a power of two. Returns
@@ -30,7 +39,16 @@ pub extern "C" fn p3_util_reverse_2(vals: &mut [[u8; 2]]) -> bool
 pub extern "C" fn p3_util_reverse_4(vals: &mut [[u8; 4]]) -> bool
     ensures { IsTriedReversal result vals.old vals.new }
 {
-    reverse_slice_where_it_fits(vals)
+    reverse_where_it_fits(vals)
+}
+
+/// Reverses the order of `vals`, items of 6 bytes, by index bits, where the length is zero or a power of two. Returns
+/// whether it is.
+#[unsafe(no_mangle)]
+pub extern "C" fn p3_util_reverse_6(vals: &mut [[[u8; 2]; 3]]) -> bool
+    ensures { IsTriedReversal result vals.old vals.new }
+{
+    reverse_three_words_where_it_fits(vals)
 }
 
 /// Reverses the order of `vals`, items of 8 bytes, by index bits, where the length is zero or a power of two. Returns
@@ -39,7 +57,16 @@ pub extern "C" fn p3_util_reverse_4(vals: &mut [[u8; 4]]) -> bool
 pub extern "C" fn p3_util_reverse_8(vals: &mut [[u8; 8]]) -> bool
     ensures { IsTriedReversal result vals.old vals.new }
 {
-    reverse_slice_where_it_fits(vals)
+    reverse_where_it_fits(vals)
+}
+
+/// Reverses the order of `vals`, items of 12 bytes, by index bits, where the length is zero or a power of two. Returns
+/// whether it is.
+#[unsafe(no_mangle)]
+pub extern "C" fn p3_util_reverse_12(vals: &mut [[[u8; 4]; 3]]) -> bool
+    ensures { IsTriedReversal result vals.old vals.new }
+{
+    reverse_three_words_where_it_fits(vals)
 }
 
 /// Reverses the order of `vals`, items of 16 bytes, by index bits, where the length is zero or a power of two. Returns
@@ -48,8 +75,25 @@ pub extern "C" fn p3_util_reverse_8(vals: &mut [[u8; 8]]) -> bool
 pub extern "C" fn p3_util_reverse_16(vals: &mut [[[u8; 8]; 2]]) -> bool
     ensures { IsTriedReversal result vals.old vals.new }
 {
-    let mut places = WordPlaces::<_, 0>::new(vals);
-    reverse_where_it_fits(&mut places)
+    reverse_where_it_fits(vals)
+}
+
+/// Reverses the order of `vals`, items of 20 bytes, by index bits, where the length is zero or a power of two. Returns
+/// whether it is.
+#[unsafe(no_mangle)]
+pub extern "C" fn p3_util_reverse_20(vals: &mut [[[u8; 4]; 5]]) -> bool
+    ensures { IsTriedReversal result vals.old vals.new }
+{
+    reverse_where_it_fits(vals)
+}
+
+/// Reverses the order of `vals`, items of 24 bytes, by index bits, where the length is zero or a power of two. Returns
+/// whether it is.
+#[unsafe(no_mangle)]
+pub extern "C" fn p3_util_reverse_24(vals: &mut [[[u8; 8]; 3]]) -> bool
+    ensures { IsTriedReversal result vals.old vals.new }
+{
+    reverse_where_it_fits(vals)
 }
 
 /// Reverses the order of `vals`, items of 32 bytes, by index bits, where the length is zero or a power of two. Returns
@@ -58,11 +102,55 @@ pub extern "C" fn p3_util_reverse_16(vals: &mut [[[u8; 8]; 2]]) -> bool
 pub extern "C" fn p3_util_reverse_32(vals: &mut [[[u8; 8]; 4]]) -> bool
     ensures { IsTriedReversal result vals.old vals.new }
 {
-    let mut places = WordPlaces::<_, 0>::new(vals);
-    reverse_where_it_fits(&mut places)
+    reverse_where_it_fits(vals)
 }
 
-fn reverse_slice_where_it_fits<F>(vals: &mut [F]) -> bool
+/// Reverses the order of `vals`, items of 40 bytes, by index bits, where the length is zero or a power of two. Returns
+/// whether it is.
+#[unsafe(no_mangle)]
+pub extern "C" fn p3_util_reverse_40(vals: &mut [[[u8; 8]; 5]]) -> bool
+    ensures { IsTriedReversal result vals.old vals.new }
+{
+    reverse_where_it_fits(vals)
+}
+
+/// Reverses the order of `vals`, items of 48 bytes, by index bits, where the length is zero or a power of two. Returns
+/// whether it is.
+#[unsafe(no_mangle)]
+pub extern "C" fn p3_util_reverse_48(vals: &mut [[[u8; 8]; 6]]) -> bool
+    ensures { IsTriedReversal result vals.old vals.new }
+{
+    reverse_where_it_fits(vals)
+}
+
+/// Reverses the order of `vals`, items of 64 bytes, by index bits, where the length is zero or a power of two. Returns
+/// whether it is.
+#[unsafe(no_mangle)]
+pub extern "C" fn p3_util_reverse_64(vals: &mut [[[u8; 8]; 8]]) -> bool
+    ensures { IsTriedReversal result vals.old vals.new }
+{
+    reverse_where_it_fits(vals)
+}
+
+/// Reverses the order of `vals`, items of 96 bytes, by index bits, where the length is zero or a power of two. Returns
+/// whether it is.
+#[unsafe(no_mangle)]
+pub extern "C" fn p3_util_reverse_96(vals: &mut [[[u8; 8]; 12]]) -> bool
+    ensures { IsTriedReversal result vals.old vals.new }
+{
+    reverse_where_it_fits(vals)
+}
+
+/// Reverses the order of `vals`, items of 128 bytes, by index bits, where the length is zero or a power of two. Returns
+/// whether it is.
+#[unsafe(no_mangle)]
+pub extern "C" fn p3_util_reverse_128(vals: &mut [[[u8; 8]; 16]]) -> bool
+    ensures { IsTriedReversal result vals.old vals.new }
+{
+    reverse_where_it_fits(vals)
+}
+
+fn reverse_where_it_fits<T>(vals: &mut [T]) -> bool
     ensures { IsTriedReversal result vals.old vals.new }
 {
     let fits = fits_rows(vals.len(), 1);
@@ -72,13 +160,17 @@ fn reverse_slice_where_it_fits<F>(vals: &mut [F]) -> bool
     fits
 }
 
-fn reverse_where_it_fits<S: Places>(places: &mut S) -> bool
-    ensures tried { IsTriedReversal result (S.items places.old) (S.items places.new) }
-    ensures holder { S.same_holder places.old places.new }
+/// The greatest number of items that are exchanged one by one alone, so that runs do not count.
+const SHORT: usize = 8192;
+
+fn reverse_three_words_where_it_fits<const W: usize>(vals: &mut [[[u8; W]; 3]]) -> bool
+    requires { W ≤ 4 }
+    ensures { IsTriedReversal result vals.old vals.new }
 {
-    let fits = fits_rows(places.len(), 1);
-    if fits {
-        reverse_counted(places);
+    if vals.len() <= SHORT || !fits_rows(vals.len(), 1) {
+        return reverse_where_it_fits(vals);
     }
-    fits
+    let mut places = ItemPlaces::new(vals);
+    reverse_counted(&mut places);
+    true
 }

@@ -32,12 +32,40 @@ pub extern "C" fn p3_util_transpose_2(
     transpose_where_it_fits(input, output, width, height)
 }
 
+/// Writes to `output` the transpose of `input`, `height` rows of `width` items of 3 bytes, where both lengths are
+/// `width` times `height`. Returns whether they are.
+#[unsafe(no_mangle)]
+pub extern "C" fn p3_util_transpose_3(
+    input: &[[[u8; 1]; 3]],
+    output: &mut [[[u8; 1]; 3]],
+    width: usize,
+    height: usize,
+) -> bool
+    ensures { IsTriedTranspose result width height input.now output.old output.new }
+{
+    transpose_where_it_fits(input, output, width, height)
+}
+
 /// Writes to `output` the transpose of `input`, `height` rows of `width` items of 4 bytes, where both lengths are
 /// `width` times `height`. Returns whether they are.
 #[unsafe(no_mangle)]
 pub extern "C" fn p3_util_transpose_4(
     input: &[[u8; 4]],
     output: &mut [[u8; 4]],
+    width: usize,
+    height: usize,
+) -> bool
+    ensures { IsTriedTranspose result width height input.now output.old output.new }
+{
+    transpose_where_it_fits(input, output, width, height)
+}
+
+/// Writes to `output` the transpose of `input`, `height` rows of `width` items of 6 bytes, where both lengths are
+/// `width` times `height`. Returns whether they are.
+#[unsafe(no_mangle)]
+pub extern "C" fn p3_util_transpose_6(
+    input: &[[[u8; 2]; 3]],
+    output: &mut [[[u8; 2]; 3]],
     width: usize,
     height: usize,
 ) -> bool
@@ -60,12 +88,54 @@ pub extern "C" fn p3_util_transpose_8(
     transpose_where_it_fits(input, output, width, height)
 }
 
+/// Writes to `output` the transpose of `input`, `height` rows of `width` items of 12 bytes, where both lengths are
+/// `width` times `height`. Returns whether they are.
+#[unsafe(no_mangle)]
+pub extern "C" fn p3_util_transpose_12(
+    input: &[[[u8; 4]; 3]],
+    output: &mut [[[u8; 4]; 3]],
+    width: usize,
+    height: usize,
+) -> bool
+    ensures { IsTriedTranspose result width height input.now output.old output.new }
+{
+    transpose_where_it_fits(input, output, width, height)
+}
+
 /// Writes to `output` the transpose of `input`, `height` rows of `width` items of 16 bytes, where both lengths are
 /// `width` times `height`. Returns whether they are.
 #[unsafe(no_mangle)]
 pub extern "C" fn p3_util_transpose_16(
-    input: &[[u8; 16]],
-    output: &mut [[u8; 16]],
+    input: &[[[u8; 8]; 2]],
+    output: &mut [[[u8; 8]; 2]],
+    width: usize,
+    height: usize,
+) -> bool
+    ensures { IsTriedTranspose result width height input.now output.old output.new }
+{
+    transpose_where_it_fits(input, output, width, height)
+}
+
+/// Writes to `output` the transpose of `input`, `height` rows of `width` items of 20 bytes, where both lengths are
+/// `width` times `height`. Returns whether they are.
+#[unsafe(no_mangle)]
+pub extern "C" fn p3_util_transpose_20(
+    input: &[[[u8; 4]; 5]],
+    output: &mut [[[u8; 4]; 5]],
+    width: usize,
+    height: usize,
+) -> bool
+    ensures { IsTriedTranspose result width height input.now output.old output.new }
+{
+    transpose_where_it_fits(input, output, width, height)
+}
+
+/// Writes to `output` the transpose of `input`, `height` rows of `width` items of 24 bytes, where both lengths are
+/// `width` times `height`. Returns whether they are.
+#[unsafe(no_mangle)]
+pub extern "C" fn p3_util_transpose_24(
+    input: &[[[u8; 8]; 3]],
+    output: &mut [[[u8; 8]; 3]],
     width: usize,
     height: usize,
 ) -> bool
@@ -78,8 +148,78 @@ pub extern "C" fn p3_util_transpose_16(
 /// `width` times `height`. Returns whether they are.
 #[unsafe(no_mangle)]
 pub extern "C" fn p3_util_transpose_32(
-    input: &[[u8; 32]],
-    output: &mut [[u8; 32]],
+    input: &[[[u8; 8]; 4]],
+    output: &mut [[[u8; 8]; 4]],
+    width: usize,
+    height: usize,
+) -> bool
+    ensures { IsTriedTranspose result width height input.now output.old output.new }
+{
+    transpose_where_it_fits(input, output, width, height)
+}
+
+/// Writes to `output` the transpose of `input`, `height` rows of `width` items of 40 bytes, where both lengths are
+/// `width` times `height`. Returns whether they are.
+#[unsafe(no_mangle)]
+pub extern "C" fn p3_util_transpose_40(
+    input: &[[[u8; 8]; 5]],
+    output: &mut [[[u8; 8]; 5]],
+    width: usize,
+    height: usize,
+) -> bool
+    ensures { IsTriedTranspose result width height input.now output.old output.new }
+{
+    transpose_where_it_fits(input, output, width, height)
+}
+
+/// Writes to `output` the transpose of `input`, `height` rows of `width` items of 48 bytes, where both lengths are
+/// `width` times `height`. Returns whether they are.
+#[unsafe(no_mangle)]
+pub extern "C" fn p3_util_transpose_48(
+    input: &[[[u8; 8]; 6]],
+    output: &mut [[[u8; 8]; 6]],
+    width: usize,
+    height: usize,
+) -> bool
+    ensures { IsTriedTranspose result width height input.now output.old output.new }
+{
+    transpose_where_it_fits(input, output, width, height)
+}
+
+/// Writes to `output` the transpose of `input`, `height` rows of `width` items of 64 bytes, where both lengths are
+/// `width` times `height`. Returns whether they are.
+#[unsafe(no_mangle)]
+pub extern "C" fn p3_util_transpose_64(
+    input: &[[[u8; 8]; 8]],
+    output: &mut [[[u8; 8]; 8]],
+    width: usize,
+    height: usize,
+) -> bool
+    ensures { IsTriedTranspose result width height input.now output.old output.new }
+{
+    transpose_where_it_fits(input, output, width, height)
+}
+
+/// Writes to `output` the transpose of `input`, `height` rows of `width` items of 96 bytes, where both lengths are
+/// `width` times `height`. Returns whether they are.
+#[unsafe(no_mangle)]
+pub extern "C" fn p3_util_transpose_96(
+    input: &[[[u8; 8]; 12]],
+    output: &mut [[[u8; 8]; 12]],
+    width: usize,
+    height: usize,
+) -> bool
+    ensures { IsTriedTranspose result width height input.now output.old output.new }
+{
+    transpose_where_it_fits(input, output, width, height)
+}
+
+/// Writes to `output` the transpose of `input`, `height` rows of `width` items of 128 bytes, where both lengths are
+/// `width` times `height`. Returns whether they are.
+#[unsafe(no_mangle)]
+pub extern "C" fn p3_util_transpose_128(
+    input: &[[[u8; 8]; 16]],
+    output: &mut [[[u8; 8]; 16]],
     width: usize,
     height: usize,
 ) -> bool

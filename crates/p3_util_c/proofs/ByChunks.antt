@@ -68,19 +68,11 @@ RunsExchanged-puts i j len old now new apart one other = record {
   others = λ p h k. other.others p k ∙ one.others p h;
 }
 
--- two words from i on and two from j on, each put in the place of the other
-pub RunsExchanged-words : {A : Type 0} (i j n : ℕ) (xs ys zs us vs a b c d : List A) → (i + 2 * n ≤ j) ⊎ (j + 2 * n ≤ i)
-    → i + 2 * n ≤ length xs → j + 2 * n ≤ length xs
-    → a ≡ take n (drop i xs) → b ≡ take n (drop (i + n) xs) → c ≡ take n (drop j xs) → d ≡ take n (drop (j + n) xs)
-    → ys ≡ take i xs ++ (c ++ drop (i + n) xs) → zs ≡ take (i + n) ys ++ (d ++ drop (i + n + n) ys)
-    → us ≡ take j zs ++ (a ++ drop (j + n) zs) → vs ≡ take (j + n) us ++ (b ++ drop (j + n + n) us)
-    → RunsExchanged i j (2 * n) xs vs
-RunsExchanged-words i j n xs ys zs us vs a b c d apart room_i room_j is_a is_b is_c is_d put_c put_d put_a put_b =
-    let two : 2 * n ≡ n + n = omega arith in
-    let past : (p : ℕ) → p + n * 1 ≡ p + n = λ p. omega arith in
-    let first = IsStridedPut-word i j n xs xs ys c (omega arith) (omega arith) is_c put_c in
-    let second = IsStridedPut-word (i + n) (j + n * 1) n xs ys zs d (omega (arith, first.same_length)) (omega arith) (rw past is_d) put_d in
-    let third = IsStridedPut-word j i n xs zs us a (omega (arith, first.same_length, second.same_length)) (omega arith) is_a put_a in
-    let fourth = IsStridedPut-word (j + n) (i + n * 1) n xs us vs b (omega (arith, first.same_length, second.same_length, third.same_length)) (omega arith) (rw past is_b) put_b in
-    rw two (RunsExchanged-puts i j (n + n) xs zs vs (elim apart [ inl up ↦ inl (omega arith) | inr down ↦ inr (omega arith) ]) (IsStridedPut-join i j 1 xs n n xs ys zs first second)
-    (IsStridedPut-join j i 1 xs n n zs us vs third fourth))
+-- a chunk from i on and one from j on, each put in the place of the other
+pub RunsExchanged-chunks : {A : Type 0} (i j n : ℕ) (xs ys zs a b : List A) → (i + n ≤ j) ⊎ (j + n ≤ i)
+    → i + n ≤ length xs → j + n ≤ length xs → a ≡ take n (drop i xs) → b ≡ take n (drop j xs)
+    → ys ≡ take i xs ++ (b ++ drop (i + n) xs) → zs ≡ take j ys ++ (a ++ drop (j + n) ys) → RunsExchanged i j n xs zs
+RunsExchanged-chunks i j n xs ys zs a b apart room_i room_j is_a is_b put_b put_a =
+    let first = IsStridedPut-word i j n xs xs ys b (omega arith) (omega arith) is_b put_b in
+    let second = IsStridedPut-word j i n xs ys zs a (omega (arith, first.same_length)) (omega arith) is_a put_a in
+    RunsExchanged-puts i j n xs ys zs apart first second

@@ -1,6 +1,6 @@
 use Rattle.std.proofs.Common.{inl, inr, arith}
 use Rattle.p3_util_kernels.proofs.ExchangedRuns.{RunsExchanged-joined, RunsExchanged-one}
-use Rattle.p3_util_c.proofs.runs.exchange_items.Goals as goal
+use Rattle.p3_util_c.proofs.items.exchange_items.Goals as goal
 
 pub loop-t-preserved : goal.loop-t-preserved
 loop-t-preserved g c =
