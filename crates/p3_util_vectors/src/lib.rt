@@ -28,6 +28,8 @@ mod noted;
 #[cfg(test)]
 mod oracle;
 #[cfg(test)]
+mod orders;
+#[cfg(test)]
 mod puts;
 #[cfg(test)]
 mod refused_growth;

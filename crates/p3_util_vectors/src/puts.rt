@@ -3,7 +3,7 @@
 use super::noted::{Note, Noted};
 use crate::calls::count_writes;
 use crate::checks::{equal, found, numbers, same};
-use p3_util_kernels::places::{Cells, SliceSource, Writes};
+use p3_util_kernels::places::{Cells, Writes};
 use std::alloc::{AllocError, Global};
 use std::process::Abort;
 
@@ -37,7 +37,7 @@ fn place_of(rt: &impl Abort, note: &Note, height: usize) -> (usize, usize) {
 }
 
 /// The places of these puts, in order.
-fn places_of(
+pub(crate) fn places_of(
     rt: &impl Abort,
     alloc: Global,
     notes: &[Note],
@@ -80,21 +80,13 @@ fn put_twice<C: Cells<Item = u64>>(rt: &impl Abort, cells: &mut C) -> u128 {
     count
 }
 
-/// Puts a line of two numbers at the front of four.
-fn put_line<C: Cells<Item = u64> + Drop>(rt: &impl Abort, mut cells: C) {
-    assert!(rt; cells.len() == 4);
-    Cells::put_strided(&mut cells, 0, &SliceSource::new(&[5, 6]), 0, 1, 2);
-}
-
-/// Each put asks its holder for one put, also through a reference, and where an item is put twice at one place. So does
-/// each item of a line.
+/// Each put asks its holder for one put, also through a reference, and where an item is put twice at one place.
 #[test]
 fn one_put_a_write(rt: HostRuntime) {
     let mut noted = Noted::numbered(&rt, rt.alloc(), 4, 8);
     equal(&rt, &put_twice(&rt, &mut noted), &2);
-    put_line(&rt, &mut noted);
-    equal(&rt, &noted.items.as_slice(), &[5, 6, 9, 3].as_slice());
-    let wanted = [Note::Put(2), Note::Put(2), Note::Put(0), Note::Put(1)];
+    equal(&rt, &noted.items.as_slice(), &[0, 1, 9, 3].as_slice());
+    let wanted = [Note::Put(2), Note::Put(2)];
     equal(&rt, &noted.notes.as_slice(), &wanted.as_slice());
 }
 
