@@ -92,6 +92,24 @@ fn numbers_of_each_size() {
 }
 
 #[test]
+fn arrays_of_each_size() {
+    serves(|i| [i as u8, 1, 2]);
+    serves(|i| [i as u16, 1, 2]);
+    serves(|i| [i as u8; 6]);
+    serves(|i| [i as u32, 1, 2]);
+    serves(|i| [i as u32, 1, 2, 3, 4]);
+    serves(|i| [i as u64, 1, 2]);
+    serves(|i| [i as u64, 1, 2, 3, 4]);
+    serves(|i| [i as u128, 1, 2]);
+    serves(|i| [i as u64; 6]);
+    serves(|i| [i as u64, 1, 2, 3, 4, 5, 6, 7]);
+    serves(|i| [i as u128, 1, 2, 3]);
+    serves(|i| [i as u32; 24]);
+    serves(|i| [i as u64; 16]);
+    serves(|i| [i as u8; 128]);
+}
+
+#[test]
 fn arrays_of_each_alignment() {
     serves(|i| [i as u8; 2]);
     serves(|i| [i as u16, 1]);
