@@ -9,19 +9,20 @@ use crate::fault::RunFault;
 use serde_json::Value;
 use std::alloc::{AllocError, Global};
 
-/// The numbers of a JSON array.
+/// The numbers of a JSON array. Its bytes are let go of before the numbers are listed.
 ///
 /// `RunFault::NotAnArray` where the bytes are none of numbers of 64 bits without a sign, and `RunFault::Memory`.
-pub fn read_array(alloc: Global, bytes: &[u8]) -> Result<Vec<u64>, RunFault>
-    ensures read { IfOk result (λ v. IsArrayOf bytes.now v.items) }
+pub fn read_array(alloc: Global, bytes: Vec<u8>) -> Result<Vec<u64>, RunFault>
+    ensures read { IfOk result (λ v. IsArrayOf bytes.items v.items) }
     ensures kind { IfErr result (λ e. (e ≡ RunFault.NotAnArray) ⊎ (e ≡ RunFault.Memory)) }
-    ensures refused { result ≡ Err RunFault.NotAnArray → (xs : List ℕ) → ¬ IsArrayOf bytes.now xs }
+    ensures refused { result ≡ Err RunFault.NotAnArray → (xs : List ℕ) → ¬ IsArrayOf bytes.items xs }
 {
-    let value = match Value::from_slice(alloc, bytes) {
+    let value = match Value::from_slice(alloc, bytes.as_slice()) {
         Ok(value) => value,
         Err(e) if e.is_memory() => return Err(RunFault::Memory),
         Err(_) => return Err(RunFault::NotAnArray),
     };
+    drop(bytes);
     match value.as_array() {
         Some(items) => read_numbers(alloc, items.as_slice()),
         None => Err(RunFault::NotAnArray),
@@ -34,7 +35,9 @@ fn read_numbers(alloc: Global, items: &[Value]) -> Result<Vec<u64>, RunFault>
     ensures refused { result ≡ Err RunFault.NotAnArray → (xs : List ℕ)
         → ¬ (map view items.now ≡ map number_of xs) }
 {
-    let mut numbers = Vec::new(alloc);
+    let Ok(mut numbers) = Vec::with_capacity(alloc, items.len()) else {
+        return Err(RunFault::Memory);
+    };
     for item in items {
         let Some(number) = item.as_u64() else {
             return Err(RunFault::NotAnArray);
@@ -46,9 +49,9 @@ fn read_numbers(alloc: Global, items: &[Value]) -> Result<Vec<u64>, RunFault>
     Ok(numbers)
 }
 
-/// The text of a JSON array of the numbers, with no space, and a line feed.
-pub fn line(alloc: Global, numbers: &[u64]) -> Result<String, AllocError>
-    ensures { IfOk result (λ text. string_bytes text ≡ line_of numbers.now) }
+/// The text of a JSON array of the numbers, with no space, and a line feed. The list is let go of before the text is made.
+pub fn line(alloc: Global, numbers: Vec<u64>) -> Result<String, AllocError>
+    ensures { IfOk result (λ text. string_bytes text ≡ line_of numbers.items) }
 {
     let mut text = array_text(alloc, numbers)?;
     text.push_str("\n")?;
@@ -56,12 +59,13 @@ pub fn line(alloc: Global, numbers: &[u64]) -> Result<String, AllocError>
 }
 
 /// The text of a JSON array of the numbers, with no space.
-fn array_text(alloc: Global, numbers: &[u64]) -> Result<String, AllocError>
-    ensures { IfOk result (λ text. string_bytes text ≡ compact_text (array_of numbers.now)) }
+fn array_text(alloc: Global, numbers: Vec<u64>) -> Result<String, AllocError>
+    ensures { IfOk result (λ text. string_bytes text ≡ compact_text (array_of numbers.items)) }
 {
-    let mut items = Vec::new(alloc);
-    for number in numbers {
+    let mut items = Vec::with_capacity(alloc, numbers.len())?;
+    for number in &numbers {
         items.push(Value::from(*number))?;
     }
+    drop(numbers);
     Value::from(items).to_string(alloc)
 }

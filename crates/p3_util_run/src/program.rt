@@ -78,41 +78,41 @@ pub fn run<R: Read, W: Write>(
         return Err(RunFault::UnknownCommand);
     };
     let input = read_all(alloc, reader)?;
-    match answer(alloc, &command, input.as_slice()) {
+    match answer(alloc, &command, input) {
         Ok(text) => write_all(writer, text.as_bytes()),
         Err(fault) => Err(fault),
     }
 }
 
-/// The text that answers an input.
+/// The text that answers an input. Each list on the way is let go of once the next one is made.
 ///
 /// `RunFault::NotAnArray`, `RunFault::BadLength`, `RunFault::BadRows` or `RunFault::NotTheLength` where there is none, and
 /// `RunFault::Memory`.
-fn answer(alloc: Global, command: &Command, input: &[u8]) -> Result<String, RunFault>
-    ensures ok { IfOk result (λ text. Answers command.now input.now (string_bytes text)) }
-    ensures err { IfErr result (λ fault. (fault ≡ RunFault.Memory) ⊎ Refuses command.now input.now fault) }
+fn answer(alloc: Global, command: &Command, input: Vec<u8>) -> Result<String, RunFault>
+    ensures ok { IfOk result (λ text. Answers command.now input.items (string_bytes text)) }
+    ensures err { IfErr result (λ fault. (fault ≡ RunFault.Memory) ⊎ Refuses command.now input.items fault) }
 {
     let numbers = read_array(alloc, input)?;
     let rearranged = rearrange(alloc, command, numbers)?;
-    match line(alloc, rearranged.as_slice()) {
+    match line(alloc, rearranged) {
         Ok(text) => Ok(text),
         Err(_) => Err(RunFault::Memory),
     }
 }
 
-/// The list as the command rearranges it.
+/// The list as the command rearranges it. A length that does not fit is the fault, whatever memory there is.
 fn rearrange(alloc: Global, command: &Command, numbers: Vec<u64>) -> Result<Vec<u64>, RunFault>
     ensures ok { IfOk result (λ v. Fits command.now (length numbers.items)
         × IsRearranged command.now numbers.items v.items) }
     ensures err { IfErr result (λ fault. (fault ≡ RunFault.Memory) ⊎ (¬ Fits command.now (length numbers.items)
         × (fault ≡ misfit command.now (length numbers.items)))) }
+    ensures misfit { ¬ Fits command.now (length numbers.items)
+        → result ≡ Err (misfit command.now (length numbers.items)) }
 {
     match command {
         Command::Revbits => reversed(numbers),
         Command::Revrows { width } => rows_reversed(numbers, *width),
-        Command::Transpose { width, height } => {
-            transposed(alloc, numbers.as_slice(), *width, *height)
-        }
+        Command::Transpose { width, height } => transposed(alloc, numbers, *width, *height),
     }
 }
 
@@ -200,14 +200,16 @@ fn rows_reversed(mut numbers: Vec<u64>, width: usize) -> Result<Vec<u64>, RunFau
 /// length, and `RunFault::Memory`.
 fn transposed(
     alloc: Global,
-    numbers: &[u64],
+    numbers: Vec<u64>,
     width: usize,
     height: usize,
 ) -> Result<Vec<u64>, RunFault>
-    ensures ok { IfOk result (λ v. (length numbers.now ≡ width * height)
-        × IsTranspose width height numbers.now v.items) }
-    ensures err { IfErr result (λ e. (e ≡ RunFault.Memory) ⊎ ((length numbers.now ≢ width * height)
-        × (e ≡ RunFault.NotTheLength width height (length numbers.now)))) }
+    ensures ok { IfOk result (λ v. (length numbers.items ≡ width * height)
+        × IsTranspose width height numbers.items v.items) }
+    ensures err { IfErr result (λ e. (e ≡ RunFault.Memory) ⊎ ((length numbers.items ≢ width * height)
+        × (e ≡ RunFault.NotTheLength width height (length numbers.items)))) }
+    ensures misfit { length numbers.items ≢ width * height
+        → result ≡ Err (RunFault.NotTheLength width height (length numbers.items)) }
 {
     let len = numbers.len();
     if !fits_matrix(len, len, width, height) {
@@ -217,6 +219,6 @@ fn transposed(
     if output.resize(len, 0).is_err() {
         return Err(RunFault::Memory);
     }
-    transpose(numbers, output.as_mut_slice(), width, height);
+    transpose(numbers.as_slice(), output.as_mut_slice(), width, height);
     Ok(output)
 }

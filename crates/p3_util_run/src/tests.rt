@@ -88,6 +88,11 @@ impl Write for ByteWriter {
     }
 }
 
+/// Asserts that `got` is `wanted`.
+fn equal<T: PartialEq + Debug>(rt: &impl Abort, got: &T, wanted: &T) {
+    assert_eq!(rt; *got, *wanted);
+}
+
 /// Asserts that `got` is `wanted`, in the row `row`.
 fn same<T: PartialEq + Debug>(rt: &impl Abort, row: usize, got: &T, wanted: &T) {
     assert_eq!(rt; *got, *wanted, "in row {row}");
@@ -137,7 +142,7 @@ fn check_text(
     fault: &RunFault,
     text: &str,
 ) -> Result<(), AllocError> {
-    same(rt, 0, &fault.to_string(alloc)?.as_str(), &text);
+    equal(rt, &fault.to_string(alloc)?.as_str(), &text);
     Ok(())
 }
 
@@ -153,11 +158,11 @@ fn prints(
     let outcome = outcome_of(alloc, texts, input, Vec::new(alloc))?;
     match outcome.result {
         Ok(()) => {
-            same(rt, 0, &status, &0);
-            same(rt, 0, &outcome.writer.as_slice(), &output.as_bytes());
+            equal(rt, &status, &0);
+            equal(rt, &outcome.writer.as_slice(), &output.as_bytes());
         }
         Err(fault) => {
-            same(rt, 0, &fault.status(), &status);
+            equal(rt, &fault.status(), &status);
             check_text(rt, alloc, &fault, output)?;
         }
     }
@@ -338,9 +343,9 @@ fn a_byte_a_call(rt: HostRuntime) -> Result<(), AllocError> {
     };
     let words = ["transpose", "3", "2"];
     let outcome = outcome_of(alloc, &words, reader(b"[1,2,3,4,5,6]"), writer)?;
-    same(&rt, 0, &outcome.result, &Ok(()));
+    equal(&rt, &outcome.result, &Ok(()));
     let output = b"[1,4,2,5,3,6]\n".as_slice();
-    same(&rt, 0, &outcome.writer.taken.as_slice(), &output);
+    equal(&rt, &outcome.writer.taken.as_slice(), &output);
     Ok(())
 }
 
@@ -432,30 +437,132 @@ fn failing_writers(rt: HostRuntime) -> Result<(), AllocError> {
     Ok(())
 }
 
-/// The text of a list of `count` times 1000003.
-fn long_list(alloc: Global, count: usize) -> Result<String, AllocError> {
+/// A reader of bytes that notes for how many each call asks.
+#[derive(Drop)]
+struct NotingReader<'a> {
+    rest: &'a [u8],
+    asked: Vec<usize>,
+}
+
+impl Read for NotingReader<'_> {
+    fn read(&mut self, buf: &mut [u8]) -> io::Result<usize> {
+        self.asked.push(buf.len())?;
+        self.rest.read(buf)
+    }
+}
+
+/// A writer that notes how many bytes each call gives, and the number of its flushes.
+#[derive(Drop)]
+struct NotingWriter {
+    given: Vec<usize>,
+    flushes: u8,
+}
+
+impl Write for NotingWriter {
+    fn write(&mut self, buf: &[u8]) -> io::Result<usize> {
+        self.given.push(buf.len())?;
+        Ok(buf.len())
+    }
+
+    fn flush(&mut self) -> io::Result<()> {
+        self.flushes = self.flushes.saturating_add(1);
+        Ok(())
+    }
+}
+
+fn noting_reader(alloc: Global, rest: &[u8]) -> NotingReader<'_> {
+    NotingReader {
+        rest,
+        asked: Vec::new(alloc),
+    }
+}
+
+fn noting_writer(alloc: Global) -> NotingWriter {
+    NotingWriter {
+        given: Vec::new(alloc),
+        flushes: 0,
+    }
+}
+
+/// How many bytes reads ask for, and writes give, that are tried one after another.
+const CALLS: [usize; 5] = [5, 0, 1, 8, 3];
+
+/// A `Watched::read` that asks for fewer bytes than there is room for fails here.
+#[test]
+fn each_read_is_one_call(rt: HostRuntime) {
+    let mut reader = Watched::new(noting_reader(rt.alloc(), &[7; 12]));
+    let mut room = [0; 8];
+    for (len, wanted) in CALLS.iter().zip([5, 0, 1, 6, 0]) {
+        assert!(rt; *len <= 8);
+        equal(&rt, &reader.read(&mut room[..*len]).ok(), &Some(wanted));
+    }
+    equal(
+        &rt,
+        &reader.into_inner().asked.as_slice(),
+        &CALLS.as_slice(),
+    );
+}
+
+/// A `Watched::write` that hands on fewer bytes than it is given fails here, and so does a `flush` that makes two.
+#[test]
+fn each_write_is_one_call(rt: HostRuntime) {
+    let mut writer = Watched::new(noting_writer(rt.alloc()));
+    for len in CALLS {
+        assert!(rt; len <= 8);
+        equal(&rt, &writer.write(&[7; 8][..len]).ok(), &Some(len));
+    }
+    equal(&rt, &writer.flush().is_ok(), &true);
+    let NotingWriter { given, flushes } = writer.into_inner();
+    equal(&rt, &given.as_slice(), &CALLS.as_slice());
+    equal(&rt, &flushes, &1);
+}
+
+/// The input takes one read and one more that finds its end, each for as many bytes. The text is handed on whole, and is
+/// flushed once.
+#[test]
+fn calls_of_a_run(rt: HostRuntime) -> Result<(), AllocError> {
+    let alloc = rt.alloc();
+    let reader = noting_reader(alloc, b"[10,20,30,40]");
+    let outcome = outcome_of(alloc, &["revbits"], reader, noting_writer(alloc))?;
+    equal(&rt, &outcome.result, &Ok(()));
+    let NotingReader { rest, asked } = outcome.reader;
+    equal(&rt, &rest.len(), &0);
+    equal(&rt, &asked.len(), &2);
+    equal(&rt, &asked.first(), &asked.last());
+    let NotingWriter { given, flushes } = outcome.writer;
+    equal(&rt, &given.as_slice(), &[14].as_slice());
+    equal(&rt, &flushes, &1);
+    Ok(())
+}
+
+/// The text of a list of `count` times 1000003, with a gap after each comma.
+fn long_list(alloc: Global, count: usize, gap: &str) -> Result<String, AllocError> {
     let mut text = String::from_str(alloc, "[1000003")?;
     for _ in 1..count {
-        text.push_str(",1000003")?;
+        text.push_str(",")?;
+        text.push_str(gap)?;
+        text.push_str("1000003")?;
     }
     text.push_str("]")?;
     Ok(text)
 }
 
-/// An input of four megabytes. A `run` that refuses what is long as `Memory` fails here.
+/// An input of sixteen megabytes. A `run` that refuses what is long as `Memory` fails here.
 #[test]
 fn a_long_input(rt: HostRuntime) -> Result<(), AllocError> {
     let alloc = rt.alloc();
-    let mut text = long_list(alloc, 524_288)?;
+    let input = long_list(alloc, 524_288, "                        ")?;
+    assert!(rt; input.len() > 16_000_000);
     let Outcome { result, writer, .. } = outcome_of(
         alloc,
         &["revbits"],
-        text.as_bytes(),
+        input.as_bytes(),
         Vec::new(alloc),
     )?;
-    same(&rt, 0, &result, &Ok(()));
-    text.push_str("\n")?;
-    assert!(rt; writer.as_slice() == text.as_bytes());
+    equal(&rt, &result, &Ok(()));
+    let mut wanted = long_list(alloc, 524_288, "")?;
+    wanted.push_str("\n")?;
+    assert!(rt; writer.as_slice() == wanted.as_bytes());
     Ok(())
 }
 

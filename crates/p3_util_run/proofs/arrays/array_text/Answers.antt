@@ -8,6 +8,6 @@ use Rattle.p3_util_run.proofs.arrays.array_text.Goals as goal
 
 pub returns : goal.returns
 returns c =
-    let all : take c.loop-number.number-index c.args.numbers.now ≡ c.args.numbers.now = take_all _ _ (omega arith) in
-    let same : map view c.loop-number.items.items ≡ map number_of c.args.numbers.now = c.loop-number.invariant ∙ ap (map number_of) all in
-    text_of_numbers string_bytes _ c.args.numbers.now c.to_string.result (c.from-2.ensures ∙ ap (λ ds. array (items_of ds)) same) c.to_string.ensures.text
+    let all : take c.loop-number.number-index c.args.numbers.items ≡ c.args.numbers.items = take_all _ _ (omega arith) in
+    let same : map view c.loop-number.items.items ≡ map number_of c.args.numbers.items = c.loop-number.invariant ∙ ap (map number_of) all in
+    text_of_numbers string_bytes _ c.args.numbers.items c.to_string.result (c.from-2.ensures ∙ ap (λ ds. array (items_of ds)) same) c.to_string.ensures.text
