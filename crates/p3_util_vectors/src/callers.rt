@@ -3,7 +3,6 @@
 pub mod array_serialization;
 pub mod bits;
 pub mod chunks;
-pub mod elements;
 pub mod flat;
 pub mod linear_map;
 pub mod places;

@@ -1,14 +1,22 @@
-//! Callers of the views: the kernels over rows.
+//! Callers of the views over rows of any length, and of written lengths: the kernels, and single items.
 
-ghost use Rattle.std.specs.Prelude.{◌≡◌, ◌*◌, ◌^◌, ◌<◌, length, slice_set};
+ghost use Rattle.std.specs.Prelude.{◌≡◌, ◌*◌, ◌^◌, ◌<◌, ◌↔◌, IsTrue, IsFalse, Some, length, slice_get, slice_set, swap};
+ghost use Rattle.std.specs.Int.{is_power_of_two};
 ghost use Rattle.p3_util.specs.Flat.{flat};
-ghost use Rattle.p3_util_kernels.specs.Reversal.{IsReversal, IsZeroOrPowerOfTwo};
+ghost use Rattle.p3_util_kernels.specs.Reversal.{FitsRows, IsReversal, IsReversible, IsRowReversal, IsZeroOrPowerOfTwo};
 ghost use Rattle.p3_util_kernels.specs.Transpose.{IsTranspose};
 
-use p3_util::as_base_slice_mut;
+pub mod eight_words;
+pub mod four_items;
+pub mod four_numbers;
+
 use p3_util::views::{Flattened, Rows};
-use p3_util_kernels::reverse::reverse_counted;
-use p3_util_kernels::transpose::transpose_counted;
+use p3_util::{as_base_slice, as_base_slice_mut, flat_len};
+use p3_util_kernels::places::{Cells, Places, Writes};
+use p3_util_kernels::reverse::{
+    fits_rows, reverse_counted, reverse_rows_counted, reverse_slice_index_bits,
+};
+use p3_util_kernels::transpose::{fits_matrix, transpose_counted, transpose_source_on};
 
 /// Reverses the items of `rows`, taken as one list, by their index bits: what a kernel leaves in a view is in the rows.
 pub fn reverse_items<T, const N: usize>(rows: &mut [[T; N]])
@@ -20,20 +28,104 @@ pub fn reverse_items<T, const N: usize>(rows: &mut [[T; N]])
     reverse_counted(&mut view);
 }
 
-/// Writes the transpose of `input` to the items of `rows`, taken as one list.
+/// The same with the tests in front. `false`, and nothing done, where they fail.
+pub fn reverse_items_where_they_fit<T, const N: usize>(rows: &mut [[T; N]]) -> bool
+    ensures done { IsTrue result → IsReversal (flat rows.old) (flat rows.new) }
+    ensures left { IsFalse result → rows.new ≡ rows.old }
+    ensures fits { length rows.old * N < 2 ^ 64
+        → (IsTrue result ↔ IsZeroOrPowerOfTwo (length rows.old * N)) }
+{
+    if flat_len(rows.len(), N).is_none() {
+        return false;
+    }
+    let mut view = as_base_slice_mut(rows);
+    let fits = fits_rows(view.len(), 1);
+    if fits {
+        reverse_counted(&mut view);
+    }
+    fits
+}
+
+/// Reverses the items where their number is a power of two, by std's test, and else leaves them.
+pub fn reverse_power_of_two<T, const N: usize>(rows: &mut [[T; N]])
+    requires { length rows.old * N < 2 ^ 64 }
+    ensures done { IsTrue (is_power_of_two (length rows.old * N)) → IsReversal (flat rows.old) (flat rows.new) }
+    ensures left { IsFalse (is_power_of_two (length rows.old * N)) → flat rows.new ≡ flat rows.old }
+{
+    let mut view = as_base_slice_mut(rows);
+    if view.len().is_power_of_two() {
+        reverse_counted(&mut view);
+    }
+}
+
+/// Reverses the order of the rows by way of their items.
+pub fn reverse_rows<T, const N: usize>(rows: &mut [[T; N]])
+    requires fits { length rows.old * N < 2 ^ 64 }
+    requires power { FitsRows (length (flat rows.old)) N }
+    ensures { IsRowReversal N (flat rows.old) (flat rows.new) }
+{
+    let mut view = as_base_slice_mut(rows);
+    reverse_rows_counted(&mut view, N);
+}
+
+/// Reverses the order of the rows, each moved as one item.
+pub fn reverse_whole_rows<T, const N: usize>(rows: &mut [[T; N]])
+    requires { IsReversible (length rows.old) }
+    ensures { IsReversal rows.old rows.new }
+{
+    reverse_slice_index_bits(rows);
+}
+
+/// Writes the transpose of `input` to the items of `rows`. `false`, and nothing done, where the lengths are not those of
+/// such a matrix.
 pub fn transpose_to_items<T: Copy, const N: usize>(
     input: &[T],
     rows: &mut [[T; N]],
     width: usize,
     height: usize,
-)
-    requires fits { length rows.old * N < 2 ^ 64 }
-    requires input_fits { length input.now ≡ width * height }
-    requires output_fits { length (flat rows.old) ≡ width * height }
-    ensures { IsTranspose width height input.now (flat rows.new) }
+) -> bool
+    requires { length rows.old * N < 2 ^ 64 }
+    ensures done { IsTrue result → IsTranspose width height input.now (flat rows.new) }
+    ensures left { IsFalse result → flat rows.new ≡ flat rows.old }
 {
     let mut view = as_base_slice_mut(rows);
-    transpose_counted(input, &mut view, width, height);
+    let fits = fits_matrix(input.len(), Cells::len(&view), width, height);
+    if fits {
+        transpose_counted(input, &mut view, width, height);
+    }
+    fits
+}
+
+/// Puts the transpose of the items of `rows` into `out`.
+pub fn transpose_from_items<T: Copy, C: Cells<Item = T>, const N: usize>(
+    rows: &[[T; N]],
+    out: &mut Writes<C>,
+    width: usize,
+    height: usize,
+)
+    requires fits { length rows.now * N < 2 ^ 64 }
+    requires input_fits { length rows.now * N ≡ width * height }
+    requires output_fits { length (C.items out.old.holder) ≡ width * height }
+    ensures { IsTranspose width height (flat rows.now) (C.items out.new.holder) }
+{
+    transpose_source_on(&as_base_slice(rows), out, width, height);
+}
+
+/// Item `i`, or `None` where there are no more.
+pub fn item<T: Copy, const N: usize>(rows: &[[T; N]], i: usize) -> Option<T>
+    requires { length rows.now * N < 2 ^ 64 }
+    ensures { result ≡ slice_get (flat rows.now) i }
+{
+    as_base_slice(rows).get(i).copied()
+}
+
+/// Item `i`, which is there, by a view that may change it.
+pub fn item_at<T: Copy, const N: usize>(rows: &mut [[T; N]], i: usize) -> T
+    requires fits { length rows.old * N < 2 ^ 64 }
+    requires inside { i < length rows.old * N }
+    ensures { slice_get (flat rows.old) i ≡ Some result }
+{
+    as_base_slice_mut(rows)[i]
 }
 
 /// Sets item `i` of the rows taken as one list, if there is one: what is written through the loan is in the rows in the
@@ -46,6 +138,27 @@ pub fn set_item<T: Drop, const N: usize>(rows: &mut [[T; N]], i: usize, item: T)
     set_item_of_view(&mut view, i, item);
 }
 
+/// Puts `item` in the place of item `i`, which is there.
+pub fn put_item<T: Copy, const N: usize>(rows: &mut [[T; N]], i: usize, item: T)
+    requires fits { length rows.old * N < 2 ^ 64 }
+    requires inside { i < length rows.old * N }
+    ensures { flat rows.new ≡ slice_set (flat rows.old) i item }
+{
+    as_base_slice_mut(rows).put(i, item);
+}
+
+/// Exchanges items `i` and `j`.
+pub fn exchange_items<T, const N: usize>(rows: &mut [[T; N]], i: usize, j: usize)
+    requires fits { length rows.old * N < 2 ^ 64 }
+    requires first { i < length rows.old * N }
+    requires second { j < length rows.old * N }
+    ensures { flat rows.new ≡ swap (flat rows.old) i j }
+{
+    as_base_slice_mut(rows).exchange(i, j);
+}
+
+/// The same of any view. What the rows end as after a write through `get_mut` is known where that write is made in a
+/// function over any rows, as here.
 pub fn set_item_of_view<S: Rows>(view: &mut Flattened<S>, i: usize, item: S::Item)
 where
     S::Item: Drop,
