@@ -37,10 +37,10 @@ impl Case {
         }
     }
 
-    /// Whether there is such a call: rows are of items of a power of two bytes, up to 32.
-    fn is_served(&self) -> bool {
+    /// Whether a row is of whole items.
+    fn is_whole(&self) -> bool {
         match self.work {
-            Work::Rows { .. } => 32 % self.item_size == 0,
+            Work::Rows { bytes, .. } => bytes.is_multiple_of(self.item_size),
             _ => true,
         }
     }
@@ -111,7 +111,7 @@ pub fn chosen(options: &Options) -> Vec<Case> {
         .filter(|work| options.calls.iter().any(|it| it == work.call()))
         .collect();
     let of_size = |&item_size| works.iter().map(move |&work| Case { work, item_size });
-    let mut cases: Vec<Case> = options.items.iter().flat_map(of_size).filter(Case::is_served).collect();
+    let mut cases: Vec<Case> = options.items.iter().flat_map(of_size).filter(Case::is_whole).collect();
     cases.sort_by_key(|case| case.work.call());
     cases
 }

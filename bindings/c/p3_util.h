@@ -48,15 +48,25 @@ bool p3_util_reverse_128(void *vals, size_t len);
 
 /*
  * Reverses the order of rows of row_width items by index bits, each row as one item, where len, the number of items, is
- * row_width times zero or a power of two. Items that no call above serves are rows of smaller ones: 36 bytes are a row of
- * nine items of 4. Rows of a size that a call above serves go faster as items of that call: 64 bytes by p3_util_reverse_64.
+ * row_width times zero or a power of two. Items of another size are rows of smaller ones: 36 bytes are a row of three items
+ * of 12. Rows of a size that the calls above serve are faster as items of that size: 64 bytes by p3_util_reverse_64.
  */
 bool p3_util_reverse_rows_1(void *vals, size_t len, size_t row_width);
 bool p3_util_reverse_rows_2(void *vals, size_t len, size_t row_width);
+bool p3_util_reverse_rows_3(void *vals, size_t len, size_t row_width);
 bool p3_util_reverse_rows_4(void *vals, size_t len, size_t row_width);
+bool p3_util_reverse_rows_6(void *vals, size_t len, size_t row_width);
 bool p3_util_reverse_rows_8(void *vals, size_t len, size_t row_width);
+bool p3_util_reverse_rows_12(void *vals, size_t len, size_t row_width);
 bool p3_util_reverse_rows_16(void *vals, size_t len, size_t row_width);
+bool p3_util_reverse_rows_20(void *vals, size_t len, size_t row_width);
+bool p3_util_reverse_rows_24(void *vals, size_t len, size_t row_width);
 bool p3_util_reverse_rows_32(void *vals, size_t len, size_t row_width);
+bool p3_util_reverse_rows_40(void *vals, size_t len, size_t row_width);
+bool p3_util_reverse_rows_48(void *vals, size_t len, size_t row_width);
+bool p3_util_reverse_rows_64(void *vals, size_t len, size_t row_width);
+bool p3_util_reverse_rows_96(void *vals, size_t len, size_t row_width);
+bool p3_util_reverse_rows_128(void *vals, size_t len, size_t row_width);
 
 /*
  * Writes to output the transpose of input, a matrix of height rows of width items, row after row: item y * width + x of

@@ -1,5 +1,5 @@
-//! Items of three words of at most 4 bytes, whose runs are exchanged by several items at once. Such an item is no power
-//! of two bytes, and std's `swap_with_slice` moves it word by word.
+//! Items of three words of at most 4 bytes, whose runs are exchanged by eight items at once. std's `swap_with_slice`, by
+//! which other items go, moves these word by word.
 
 ghost use Rattle.std.specs.Prelude.{◌≡◌, ◌+◌, ◌*◌, ◌<◌, ◌≤◌, ◌⊎◌, ◌++◌, length, take, drop};
 ghost use Rattle.std.specs.Mem.{type_size};

@@ -160,14 +160,15 @@ fn reverse_where_it_fits<T>(vals: &mut [T]) -> bool
     fits
 }
 
-/// The greatest number of items that are exchanged one by one alone, so that runs do not count.
-const SHORT: usize = 8192;
+/// The greatest number of items of which no runs are exchanged, so that a slice's own holder serves them.
+const NO_RUNS: usize = 8192;
 
+/// As [`reverse_where_it_fits`], for items of three words, whose runs [`ItemPlaces`] exchanges faster than a slice does.
 fn reverse_three_words_where_it_fits<const W: usize>(vals: &mut [[[u8; W]; 3]]) -> bool
     requires { W ≤ 4 }
     ensures { IsTriedReversal result vals.old vals.new }
 {
-    if vals.len() <= SHORT || !fits_rows(vals.len(), 1) {
+    if vals.len() <= NO_RUNS || !fits_rows(vals.len(), 1) {
         return reverse_where_it_fits(vals);
     }
     let mut places = ItemPlaces::new(vals);

@@ -22,10 +22,28 @@ pub extern "C" fn p3_util_reverse_rows_2(vals: &mut [[u8; 2]], row_width: usize)
     reverse_rows_where_they_fit(vals, row_width)
 }
 
+/// Reverses the order of the rows of `vals`, each of `row_width` items of 3 bytes, by index bits, where the length is
+/// `row_width` times zero or a power of two. Returns whether it is.
+#[unsafe(no_mangle)]
+pub extern "C" fn p3_util_reverse_rows_3(vals: &mut [[[u8; 1]; 3]], row_width: usize) -> bool
+    ensures { IsTriedRowReversal result row_width vals.old vals.new }
+{
+    reverse_rows_where_they_fit(vals, row_width)
+}
+
 /// Reverses the order of the rows of `vals`, each of `row_width` items of 4 bytes, by index bits, where the length is
 /// `row_width` times zero or a power of two. Returns whether it is.
 #[unsafe(no_mangle)]
 pub extern "C" fn p3_util_reverse_rows_4(vals: &mut [[u8; 4]], row_width: usize) -> bool
+    ensures { IsTriedRowReversal result row_width vals.old vals.new }
+{
+    reverse_rows_where_they_fit(vals, row_width)
+}
+
+/// Reverses the order of the rows of `vals`, each of `row_width` items of 6 bytes, by index bits, where the length is
+/// `row_width` times zero or a power of two. Returns whether it is.
+#[unsafe(no_mangle)]
+pub extern "C" fn p3_util_reverse_rows_6(vals: &mut [[[u8; 2]; 3]], row_width: usize) -> bool
     ensures { IsTriedRowReversal result row_width vals.old vals.new }
 {
     reverse_rows_where_they_fit(vals, row_width)
@@ -40,6 +58,15 @@ pub extern "C" fn p3_util_reverse_rows_8(vals: &mut [[u8; 8]], row_width: usize)
     reverse_rows_where_they_fit(vals, row_width)
 }
 
+/// Reverses the order of the rows of `vals`, each of `row_width` items of 12 bytes, by index bits, where the length is
+/// `row_width` times zero or a power of two. Returns whether it is.
+#[unsafe(no_mangle)]
+pub extern "C" fn p3_util_reverse_rows_12(vals: &mut [[[u8; 4]; 3]], row_width: usize) -> bool
+    ensures { IsTriedRowReversal result row_width vals.old vals.new }
+{
+    reverse_rows_where_they_fit(vals, row_width)
+}
+
 /// Reverses the order of the rows of `vals`, each of `row_width` items of 16 bytes, by index bits, where the length is
 /// `row_width` times zero or a power of two. Returns whether it is.
 #[unsafe(no_mangle)]
@@ -49,10 +76,73 @@ pub extern "C" fn p3_util_reverse_rows_16(vals: &mut [[[u8; 8]; 2]], row_width: 
     reverse_rows_where_they_fit(vals, row_width)
 }
 
+/// Reverses the order of the rows of `vals`, each of `row_width` items of 20 bytes, by index bits, where the length is
+/// `row_width` times zero or a power of two. Returns whether it is.
+#[unsafe(no_mangle)]
+pub extern "C" fn p3_util_reverse_rows_20(vals: &mut [[[u8; 4]; 5]], row_width: usize) -> bool
+    ensures { IsTriedRowReversal result row_width vals.old vals.new }
+{
+    reverse_rows_where_they_fit(vals, row_width)
+}
+
+/// Reverses the order of the rows of `vals`, each of `row_width` items of 24 bytes, by index bits, where the length is
+/// `row_width` times zero or a power of two. Returns whether it is.
+#[unsafe(no_mangle)]
+pub extern "C" fn p3_util_reverse_rows_24(vals: &mut [[[u8; 8]; 3]], row_width: usize) -> bool
+    ensures { IsTriedRowReversal result row_width vals.old vals.new }
+{
+    reverse_rows_where_they_fit(vals, row_width)
+}
+
 /// Reverses the order of the rows of `vals`, each of `row_width` items of 32 bytes, by index bits, where the length is
 /// `row_width` times zero or a power of two. Returns whether it is.
 #[unsafe(no_mangle)]
 pub extern "C" fn p3_util_reverse_rows_32(vals: &mut [[[u8; 8]; 4]], row_width: usize) -> bool
+    ensures { IsTriedRowReversal result row_width vals.old vals.new }
+{
+    reverse_rows_where_they_fit(vals, row_width)
+}
+
+/// Reverses the order of the rows of `vals`, each of `row_width` items of 40 bytes, by index bits, where the length is
+/// `row_width` times zero or a power of two. Returns whether it is.
+#[unsafe(no_mangle)]
+pub extern "C" fn p3_util_reverse_rows_40(vals: &mut [[[u8; 8]; 5]], row_width: usize) -> bool
+    ensures { IsTriedRowReversal result row_width vals.old vals.new }
+{
+    reverse_rows_where_they_fit(vals, row_width)
+}
+
+/// Reverses the order of the rows of `vals`, each of `row_width` items of 48 bytes, by index bits, where the length is
+/// `row_width` times zero or a power of two. Returns whether it is.
+#[unsafe(no_mangle)]
+pub extern "C" fn p3_util_reverse_rows_48(vals: &mut [[[u8; 8]; 6]], row_width: usize) -> bool
+    ensures { IsTriedRowReversal result row_width vals.old vals.new }
+{
+    reverse_rows_where_they_fit(vals, row_width)
+}
+
+/// Reverses the order of the rows of `vals`, each of `row_width` items of 64 bytes, by index bits, where the length is
+/// `row_width` times zero or a power of two. Returns whether it is.
+#[unsafe(no_mangle)]
+pub extern "C" fn p3_util_reverse_rows_64(vals: &mut [[[u8; 8]; 8]], row_width: usize) -> bool
+    ensures { IsTriedRowReversal result row_width vals.old vals.new }
+{
+    reverse_rows_where_they_fit(vals, row_width)
+}
+
+/// Reverses the order of the rows of `vals`, each of `row_width` items of 96 bytes, by index bits, where the length is
+/// `row_width` times zero or a power of two. Returns whether it is.
+#[unsafe(no_mangle)]
+pub extern "C" fn p3_util_reverse_rows_96(vals: &mut [[[u8; 8]; 12]], row_width: usize) -> bool
+    ensures { IsTriedRowReversal result row_width vals.old vals.new }
+{
+    reverse_rows_where_they_fit(vals, row_width)
+}
+
+/// Reverses the order of the rows of `vals`, each of `row_width` items of 128 bytes, by index bits, where the length is
+/// `row_width` times zero or a power of two. Returns whether it is.
+#[unsafe(no_mangle)]
+pub extern "C" fn p3_util_reverse_rows_128(vals: &mut [[[u8; 8]; 16]], row_width: usize) -> bool
     ensures { IsTriedRowReversal result row_width vals.old vals.new }
 {
     reverse_rows_where_they_fit(vals, row_width)
