@@ -56,7 +56,8 @@ pub fn run_calls<K: Eq + Copy, V: Copy>(
     let mut map = LinearMap::new(alloc);
     let mut answers = Vec::new(alloc);
     for call in calls {
-        answers.push(run_call(&mut map, call)?)?;
+        let answer = run_call(&mut map, call)?;
+        answers.push(answer)?;
     }
     Ok((map, answers))
 }

@@ -23,12 +23,12 @@ pub fn transpose_by_way_of<T: Copy>(
     ensures left { IsFalse result → matrix.new ≡ matrix.old }
     ensures fits { IsTrue result ↔ ((length matrix.old ≡ width * height) × (length scratch.old ≡ width * height)) }
 {
-    let fits = fits_matrix(matrix.len(), scratch.len(), width, height);
-    if fits {
-        transpose(matrix, scratch, width, height);
-        matrix.copy_from_slice(scratch);
+    if !fits_matrix(matrix.len(), scratch.len(), width, height) {
+        return false;
     }
-    fits
+    transpose(matrix, scratch, width, height);
+    matrix.copy_from_slice(scratch);
+    true
 }
 
 /// Transposes `matrix` into `scratch` and back, which leaves `matrix` as it was and its transpose in `scratch`.
