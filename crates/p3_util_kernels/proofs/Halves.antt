@@ -4,6 +4,7 @@ use Rattle.std.proofs.Math.Nat.{mul_comm}
 use Rattle.std.proofs.lemmas.Bool.{cases_lt}
 use Rattle.std.proofs.lemmas.Nat.{mul-le}
 use Rattle.p3_util_kernels.specs.declared.regions.Region.{Region}
+use Rattle.p3_util_kernels.specs.declared.transpose.split.TheConstants.{LEAF_SIDE, NARROW_SIDE}
 use Rattle.p3_util_kernels.specs.Levels.{lev, nest}
 use Rattle.p3_util_kernels.specs.Region.{LiesInMatrix, cols_of, items_of, rows_of}
 use Rattle.p3_util_kernels.proofs.Levels.{clog-le, lev-comm, lev-half, lev_le, nest-deep}
@@ -97,7 +98,7 @@ AreHalves-cols whole deep wide order =
 
 -- the halves at the longer side of a region that is no leaf
 pub AreHalves-of : (whole : Region) (parts : Region × Region) (width height : ℕ) → LiesInMatrix whole width height
-    → (2 < rows_of whole) × (2 < cols_of whole) × (128 < max (rows_of whole) (cols_of whole))
+    → (NARROW_SIDE < rows_of whole) × (NARROW_SIDE < cols_of whole) × (LEAF_SIDE < max (rows_of whole) (cols_of whole))
     → (cols_of whole ≤ rows_of whole → let middle = whole.row_start + rows_of whole / 2 in parts ≡ (record whole { row_end = middle }, record whole { row_start = middle }))
     → (rows_of whole < cols_of whole → let middle = whole.col_start + cols_of whole / 2 in parts ≡ (record whole { col_end = middle }, record whole { col_start = middle }))
     → AreHalves whole parts.0 parts.1

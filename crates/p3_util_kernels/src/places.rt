@@ -2,10 +2,12 @@
 //!
 //! - A *holder* is what has the list: a slice, a view of rows, or a type of your own.
 //! - A *place* is an index of a list whose items may be exchanged ([`Places`]), a *cell* one whose item may be written
-//!   ([`Cells`]).
+//!   ([`Cells`]), and a *source* is a list that is only read ([`Source`]).
 //! - A *swap* is one counted exchange of two places ([`Swaps`]), a *write* one counted put of an item ([`Writes`]).
-//! - A kernel has a counter and nothing else, so the count is all that it did to the list.
-//! - A *source* is a list that is only read ([`Source`]).
+//! - A kernel has a counter and nothing else, so the count is all that it did to the list: each write is one
+//!   [`Writes::put`] in a loop of the kernel, and 1 is added for it.
+//! - A kernel has the counter by value and gives it back. A public call over a `&mut` counter runs it over a fresh counter
+//!   of the same holder, and adds what that one counted.
 
 ghost use Rattle.std.specs.Prelude.{◌≡◌, ℕ, ◌+◌, ◌-◌, ◌*◌, ◌<◌, ◌≤◌, ◌⊎◌, List, Some, length, swap, slice_get, slice_set};
 ghost use Rattle.p3_util_kernels.specs.Exchanged.{RunsExchanged};

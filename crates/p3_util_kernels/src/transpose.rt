@@ -131,10 +131,13 @@ pub fn transpose_region_on<C: Cells>(
 }
 
 /// Puts the transpose of a region of any source into `out`, as [`transpose_region_on`] does that of a slice.
-fn put_region_on<R, C>(input: &R, out: &mut Writes<C>, region: Region, width: usize, height: usize)
-where
-    C: Cells,
-    R: Source<Item = C::Item>,
+fn put_region_on<C: Cells, R: Source<Item = C::Item>>(
+    input: &R,
+    out: &mut Writes<C>,
+    region: Region,
+    width: usize,
+    height: usize,
+)
     requires input_fits { length (R.items input.now) ≡ width * height }
     requires output_fits { length (C.items out.old.holder) ≡ width * height }
     requires inside { LiesInMatrix region width height }
@@ -151,16 +154,13 @@ where
 
 /// Puts the transpose of `region` into `cells`, and returns the number of writes.
 #[inline(always)]
-fn region_counted<R, C>(
+fn region_counted<C: Cells, R: Source<Item = C::Item>>(
     input: &R,
     cells: &mut C,
     region: Region,
     width: usize,
     height: usize,
 ) -> u128
-where
-    C: Cells,
-    R: Source<Item = C::Item>,
     requires input_fits { length (R.items input.now) ≡ width * height }
     requires output_fits { length (C.items cells.old) ≡ width * height }
     requires inside { LiesInMatrix region width height }
@@ -181,16 +181,13 @@ where
 /// Where the rows of the matrix begin a multiple of a tile's side apart, many of them meet in one set of a cache, and tiles
 /// are faster than strips, unless the matrix is far higher than wide.
 #[inline(always)]
-fn put_region<R, C>(
+fn put_region<C: Cells, R: Source<Item = C::Item>>(
     out: Writes<C>,
     input: &R,
     region: Region,
     width: usize,
     height: usize,
 ) -> Writes<C>
-where
-    C: Cells,
-    R: Source<Item = C::Item>,
     requires ready { IsReady region width height (R.items input.now) (C.items out.holder) out.count }
     ensures transposed { IsRegionTransposed region width height (R.items input.now)
         (C.items out.holder) (C.items result.holder) }

@@ -33,7 +33,7 @@ const LINE_ITEMS: usize = 8;
 
 /// Puts `region` by pieces of at most `rows` rows and `cols` columns.
 #[inline(always)]
-pub fn put_pieces<R, C>(
+pub fn put_pieces<C: Cells, R: Source<Item = C::Item>>(
     out: Writes<C>,
     source: &R,
     region: Region,
@@ -42,9 +42,6 @@ pub fn put_pieces<R, C>(
     width: usize,
     height: usize,
 ) -> Writes<C>
-where
-    C: Cells,
-    R: Source<Item = C::Item>,
     requires some_rows { 0 < rows }
     requires some_cols { 0 < cols }
     requires ready { IsReady region width height (R.items source.now) (C.items out.holder) out.count }
@@ -66,7 +63,7 @@ where
 
 /// Puts a region that is one piece high, by pieces of at most `cols` columns.
 #[inline(always)]
-fn put_band<R, C>(
+fn put_band<C: Cells, R: Source<Item = C::Item>>(
     out: Writes<C>,
     source: &R,
     region: Region,
@@ -74,9 +71,6 @@ fn put_band<R, C>(
     width: usize,
     height: usize,
 ) -> Writes<C>
-where
-    C: Cells,
-    R: Source<Item = C::Item>,
     requires some_rows { region.row_start < region.row_end }
     requires some_cols { 0 < cols }
     requires ready { IsReady region width height (R.items source.now) (C.items out.holder) out.count }
@@ -99,7 +93,7 @@ where
 /// Puts a region as one piece: a tile where pieces of so many columns are tiles and this one is whole, else column after
 /// column.
 #[inline(always)]
-fn put_piece<R, C>(
+fn put_piece<C: Cells, R: Source<Item = C::Item>>(
     out: Writes<C>,
     source: &R,
     region: Region,
@@ -107,9 +101,6 @@ fn put_piece<R, C>(
     width: usize,
     height: usize,
 ) -> Writes<C>
-where
-    C: Cells,
-    R: Source<Item = C::Item>,
     requires some_rows { region.row_start < region.row_end }
     requires some_cols { region.col_start < region.col_end }
     requires ready { IsReady region width height (R.items source.now) (C.items out.holder) out.count }
@@ -138,7 +129,7 @@ where
 
 /// Puts a piece column after column.
 #[inline(always)]
-fn put_columns<R, C>(
+fn put_columns<C: Cells, R: Source<Item = C::Item>>(
     out: Writes<C>,
     source: &R,
     from: usize,
@@ -148,9 +139,6 @@ fn put_columns<R, C>(
     rows: usize,
     cols: usize,
 ) -> Writes<C>
-where
-    C: Cells,
-    R: Source<Item = C::Item>,
     requires some_rows { 0 < rows }
     requires piece { HasPiece rows cols from width to height (R.items source.now) (C.items out.holder) }
     ensures put { IsPiecePut rows cols from width to height (R.items source.now) (C.items out.holder) (C.items result.holder) }
@@ -168,7 +156,7 @@ where
 
 /// Puts one column of a piece, some items in a loop of known length, and then those that are left.
 #[inline(always)]
-fn put_line<R, C>(
+fn put_line<C: Cells, R: Source<Item = C::Item>>(
     out: Writes<C>,
     source: &R,
     from: usize,
@@ -177,9 +165,6 @@ fn put_line<R, C>(
     height: usize,
     rows: usize,
 ) -> Writes<C>
-where
-    C: Cells,
-    R: Source<Item = C::Item>,
     requires piece { HasPiece rows 1 from width to height (R.items source.now) (C.items out.holder) }
     ensures put { IsPiecePut rows 1 from width to height (R.items source.now) (C.items out.holder) (C.items result.holder) }
     ensures count { result.count ≡ counted out.count rows }
@@ -217,7 +202,7 @@ where
 
 /// Puts one column of a piece, in a loop that is short or of known length.
 #[inline(always)]
-fn put_few<R, C>(
+fn put_few<C: Cells, R: Source<Item = C::Item>>(
     out: Writes<C>,
     source: &R,
     from: usize,
@@ -226,9 +211,6 @@ fn put_few<R, C>(
     height: usize,
     rows: usize,
 ) -> Writes<C>
-where
-    C: Cells,
-    R: Source<Item = C::Item>,
     requires piece { HasPiece rows 1 from width to height (R.items source.now) (C.items out.holder) }
     ensures put { IsPiecePut rows 1 from width to height (R.items source.now) (C.items out.holder) (C.items result.holder) }
     ensures count { result.count ≡ counted out.count rows }
@@ -245,7 +227,7 @@ where
 
 /// Puts a tile: its columns of blocks, one after another.
 #[inline(always)]
-fn put_tile<R, C>(
+fn put_tile<C: Cells, R: Source<Item = C::Item>>(
     out: Writes<C>,
     source: &R,
     from: usize,
@@ -253,9 +235,6 @@ fn put_tile<R, C>(
     to: usize,
     height: usize,
 ) -> Writes<C>
-where
-    C: Cells,
-    R: Source<Item = C::Item>,
     requires inside { from + (TILE_SIDE - 1) * width + TILE_SIDE ≤ length (R.items source.now) }
     requires room { to + (TILE_SIDE - 1) * height + TILE_SIDE ≤ length (C.items out.holder) }
     requires tall { TILE_SIDE ≤ height }
@@ -276,7 +255,7 @@ where
 
 /// Puts the blocks of a tile that lie one below another.
 #[inline(always)]
-fn put_blocks<R, C>(
+fn put_blocks<C: Cells, R: Source<Item = C::Item>>(
     out: Writes<C>,
     source: &R,
     from: usize,
@@ -284,9 +263,6 @@ fn put_blocks<R, C>(
     to: usize,
     height: usize,
 ) -> Writes<C>
-where
-    C: Cells,
-    R: Source<Item = C::Item>,
     requires inside { from + (TILE_SIDE - 1) * width + BLOCK_SIDE ≤ length (R.items source.now) }
     requires room { to + (BLOCK_SIDE - 1) * height + TILE_SIDE ≤ length (C.items out.holder) }
     requires tall { TILE_SIDE ≤ height }
@@ -307,7 +283,7 @@ where
 
 /// Puts a block row after row.
 #[inline(always)]
-fn put_block<R, C>(
+fn put_block<C: Cells, R: Source<Item = C::Item>>(
     out: Writes<C>,
     source: &R,
     from: usize,
@@ -315,9 +291,6 @@ fn put_block<R, C>(
     to: usize,
     height: usize,
 ) -> Writes<C>
-where
-    C: Cells,
-    R: Source<Item = C::Item>,
     requires inside { from + (BLOCK_SIDE - 1) * width + BLOCK_SIDE ≤ length (R.items source.now) }
     requires room { to + (BLOCK_SIDE - 1) * height + BLOCK_SIDE ≤ length (C.items out.holder) }
     requires tall { BLOCK_SIDE ≤ height }
@@ -337,7 +310,7 @@ where
 
 /// Puts a row of a block.
 #[inline(always)]
-fn put_row<R, C>(
+fn put_row<C: Cells, R: Source<Item = C::Item>>(
     out: Writes<C>,
     source: &R,
     from: usize,
@@ -345,9 +318,6 @@ fn put_row<R, C>(
     to: usize,
     height: usize,
 ) -> Writes<C>
-where
-    C: Cells,
-    R: Source<Item = C::Item>,
     requires inside { from + BLOCK_SIDE ≤ length (R.items source.now) }
     requires room { to + (BLOCK_SIDE - 1) * height < length (C.items out.holder) }
     requires tall { 0 < height }

@@ -75,7 +75,7 @@ where
 }
 
 /// Puts the transpose of `region` into `cells` by halves, and returns the number of writes and how many splits are nested.
-pub fn split_counted<R, C>(
+pub fn split_counted<C: Cells, R: Source<Item = C::Item>>(
     input: &R,
     cells: &mut C,
     region: Region,
@@ -83,9 +83,6 @@ pub fn split_counted<R, C>(
     height: usize,
     levels: u32,
 ) -> (u128, u32)
-where
-    C: Cells,
-    R: Source<Item = C::Item>,
     requires input_fits { length (R.items input.now) ≡ width * height }
     requires output_fits { length (C.items cells.old) ≡ width * height }
     requires inside { LiesInMatrix region width height }
@@ -105,7 +102,7 @@ where
 }
 
 /// Puts `region` by halves, with so many levels at most, and returns how many splits are nested too.
-fn put_split<R, C>(
+fn put_split<C: Cells, R: Source<Item = C::Item>>(
     out: Writes<C>,
     input: &R,
     region: Region,
@@ -113,9 +110,6 @@ fn put_split<R, C>(
     height: usize,
     levels: u32,
 ) -> (Writes<C>, u32)
-where
-    C: Cells,
-    R: Source<Item = C::Item>,
     requires ready { IsReady region width height (R.items input.now) (C.items out.holder) out.count }
     requires enough { lev (rows_of region) (cols_of region) ≤ levels }
     ensures transposed { IsRegionTransposed region width height (R.items input.now)
