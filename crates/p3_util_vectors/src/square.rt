@@ -113,6 +113,36 @@ fn quadrants_in_order(rt: HostRuntime) {
     }
 }
 
+/// When row `row` and column `column`, which is greater, of a square of 32 come up: blocks by their first column, which are
+/// squares above the diagonal; a block of 16 as its left and its right half; a half or a smaller block row after row.
+fn turn(row: u8, column: u8) -> u32 {
+    let sides = [16u8, 8, 4, 2, 1];
+    let side = sides
+        .into_iter()
+        .find(|side| row / *side != column / *side)
+        .unwrap_or(1);
+    let (a, b) = (u32::from(row % side), u32::from(column % side));
+    let first_column = u32::from(column / side * side);
+    ((first_column * 2 + b / 8) * 16 + a) * 8 + b % 8
+}
+
+/// The exchanges of a square of 32 come by the rule of [`turn`], and each names the place above the diagonal first.
+#[test]
+fn blocks_in_order(rt: HostRuntime) {
+    let mut noted = Noted::numbered(&rt, rt.alloc(), 1024, 1024);
+    same(&rt, 0, &count_exchanges(&rt, &mut noted, 5, 5), &496);
+    same(&rt, 0, &noted.notes.len(), &496);
+    let mut last = 0;
+    for (k, note) in noted.notes.iter().enumerate() {
+        let (first, second) = exchange_of(&rt, note);
+        let (row, column) = (first / 32, first % 32);
+        same(&rt, k, &second, &(column * 32 + row));
+        let now = turn((row % 32) as u8, column as u8);
+        same(&rt, k, &(last < now), &true);
+        last = now;
+    }
+}
+
 /// Exchanges place 2 with itself and place 0 with place 3 of four, and returns the number of exchanges.
 fn swap_twice<S: Places>(rt: &impl Abort, places: &mut S) -> u128 {
     let mut m = Swaps::new(places);

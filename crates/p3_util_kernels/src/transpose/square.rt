@@ -10,8 +10,9 @@ ghost use Rattle.p3_util_kernels.specs.Steps.{counted};
 
 use crate::places::{Places, Swaps};
 
-/// The greatest side of a block that is exchanged item by item.
-const LEAF_SIDE: usize = 8;
+/// The greatest numbers of rows and columns of a block that is exchanged item by item.
+const LEAF_ROWS: usize = 16;
+const LEAF_COLS: usize = 8;
 
 /// Transposes in place the square of `s = 2^log_size` rows and columns whose first place is `base` and whose rows begin
 /// `2^log_stride` places apart, by `s * (s - 1) / 2` exchanges. All other places stay.
@@ -96,7 +97,7 @@ fn transpose_part<S: Places>(
 }
 
 /// Exchanges a block above the diagonal, `rows` rows from `row` on and `cols` columns from `col` on, with its mirror image
-/// below. The longer side of a large block is halved.
+/// below. A large block is halved: the rows where they are more than twice the columns, else the columns.
 fn swap_block<S: Places>(
     m: Swaps<S>,
     base: usize,
@@ -113,11 +114,12 @@ fn swap_block<S: Places>(
     ensures count { result.count ≡ counted m.count (rows * cols) }
     ensures holder { S.same_holder m.holder result.holder }
 {
-    if rows <= LEAF_SIDE && cols == LEAF_SIDE {
-        swap_leaf(m, base, stride, row, rows, col, LEAF_SIDE)
-    } else if rows <= LEAF_SIDE && cols < LEAF_SIDE {
+    if rows <= LEAF_ROWS && cols == LEAF_COLS {
+        // The compiler knows how many columns most leaves have.
+        swap_leaf(m, base, stride, row, rows, col, LEAF_COLS)
+    } else if rows <= LEAF_ROWS && cols < LEAF_COLS {
         swap_leaf(m, base, stride, row, rows, col, cols)
-    } else if rows > cols {
+    } else if rows / 2 > cols {
         let half = rows / 2;
         let m = swap_block(m, base, stride, row, half, col, cols);
         swap_block(m, base, stride, row + half, rows - half, col, cols)
