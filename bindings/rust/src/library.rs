@@ -23,26 +23,21 @@ type Transpose = unsafe extern "C" fn(
 struct Calls {
     size: usize,
     reverse: Reverse,
+    reverse_rows: ReverseRows,
     transpose: Transpose,
 }
 
-/// The call of the library for rows of items of `size` bytes.
-#[derive(Clone, Copy)]
-struct RowCall {
-    size: usize,
-    reverse_rows: ReverseRows,
-}
-
-// It is proved of each call that it touches its lists alone, that it moves whole items, and that it returns false, with
-// nothing changed, where its condition does not hold. A list may begin at any address.
-
-/// Declares the calls for items of each size.
-macro_rules! items_of {
+/// Declares the calls for items of each size, the smallest first.
+macro_rules! serve {
     ($($size:literal)*) => {
-        [$({
+        const SERVED: &[Calls] = &[$({
+            // It is proved of each call that it touches its lists alone, that it moves whole items, and that it returns
+            // false, with nothing changed, where its condition does not hold. A list may begin at any address.
             unsafe extern "C" {
                 #[link_name = concat!("p3_util_reverse_", $size)]
                 fn reverse(vals: *mut c_void, len: usize) -> bool;
+                #[link_name = concat!("p3_util_reverse_rows_", $size)]
+                fn reverse_rows(vals: *mut c_void, len: usize, row_width: usize) -> bool;
                 #[link_name = concat!("p3_util_transpose_", $size)]
                 fn transpose(
                     input: *const c_void,
@@ -53,29 +48,12 @@ macro_rules! items_of {
                     height: usize,
                 ) -> bool;
             }
-            Calls { size: $size, reverse, transpose }
-        }),*]
+            Calls { size: $size, reverse, reverse_rows, transpose }
+        }),*];
     };
 }
 
-/// Declares the calls for rows of items of each size.
-macro_rules! rows_of {
-    ($($size:literal)*) => {
-        [$({
-            unsafe extern "C" {
-                #[link_name = concat!("p3_util_reverse_rows_", $size)]
-                fn reverse_rows(vals: *mut c_void, len: usize, row_width: usize) -> bool;
-            }
-            RowCall { size: $size, reverse_rows }
-        }),*]
-    };
-}
-
-/// The sizes of items that the library has calls for.
-const ITEMS: &[Calls] = &items_of![1 2 3 4 6 8 12 16 20 24 32 40 48 64 96 128];
-
-/// The sizes of items that the library has rows of, the smallest first.
-const ROWS: &[RowCall] = &rows_of![1 2 4 8 16 32];
+serve! { 1 2 3 4 6 8 12 16 20 24 32 40 48 64 96 128 }
 
 unsafe extern "C" {
     safe fn p3_util_c_interface_1_library_and_bindings_are_of_one_version() -> usize;
@@ -85,29 +63,29 @@ unsafe extern "C" {
 #[used]
 static INTERFACE: extern "C" fn() -> usize = p3_util_c_interface_1_library_and_bindings_are_of_one_version;
 
-/// The calls for items of `size` bytes, where the library has them.
-const fn calls_for(size: usize) -> Option<Calls> {
-    let mut i = 0;
-    while i < ITEMS.len() {
-        if ITEMS[i].size == size {
-            return Some(ITEMS[i]);
-        }
-        i += 1;
-    }
-    None
-}
-
-/// The call for rows of the largest items that items of `size` bytes, at least one, are made of.
-const fn row_call_for(size: usize) -> RowCall {
-    let mut found = ROWS[0];
+/// The calls for the largest items of the library that items of `size` bytes, at least one, are made of.
+const fn calls_for_parts(size: usize) -> Calls {
+    let mut found = SERVED[0];
     let mut i = 1;
-    while i < ROWS.len() {
-        if size.is_multiple_of(ROWS[i].size) {
-            found = ROWS[i];
+    while i < SERVED.len() {
+        if size.is_multiple_of(SERVED[i].size) {
+            found = SERVED[i];
         }
         i += 1;
     }
     found
+}
+
+/// The calls for items of `size` bytes, where the library has them.
+const fn calls_for(size: usize) -> Option<Calls> {
+    let mut i = 0;
+    while i < SERVED.len() {
+        if SERVED[i].size == size {
+            return Some(SERVED[i]);
+        }
+        i += 1;
+    }
+    None
 }
 
 /// Whether the library transposes items of type `T`. Items without bytes need no call.
@@ -117,12 +95,7 @@ pub(crate) const fn transposes<T>() -> bool {
 
 /// Reverses the order of `vals` by index bits, where the length is zero or a power of two. Returns whether it is.
 pub(crate) fn reverse<F>(vals: &mut [F]) -> bool {
-    match const { calls_for(size_of::<F>()) } {
-        // SAFETY: the pointer and the number of items are those of one exclusive slice, whose items have the size that
-        // the call is for, and the call moves them as `reverse_rows` says.
-        Some(calls) => unsafe { (calls.reverse)(vals.as_mut_ptr().cast(), vals.len()) },
-        None => reverse_rows(vals, 1),
-    }
+    reverse_rows(vals, 1)
 }
 
 /// Reverses the order of rows of `row_width` items by index bits, where the length is `row_width` times zero or a power
@@ -133,17 +106,24 @@ pub(crate) fn reverse_rows<F>(vals: &mut [F], row_width: usize) -> bool {
         let rows = vals.len().checked_div(row_width).unwrap_or(0);
         return vals.is_empty() || (rows.is_power_of_two() && rows * row_width == vals.len());
     }
-    let call = const { row_call_for(size_of::<F>()) };
-    let parts = size_of::<F>() / call.size;
+    let calls = const { calls_for_parts(size_of::<F>()) };
+    let parts = size_of::<F>() / calls.size;
     let Some(width) = row_width.checked_mul(parts) else {
         // No slice has a row of so many bytes.
         return vals.is_empty();
     };
+    let (at, len) = (vals.as_mut_ptr().cast(), vals.len() * parts);
     // SAFETY: the pointer and the number of parts are those of one exclusive slice, whose items are rows of parts. A slice
-    // has fewer than 2^63 bytes, so the product does not wrap. The call does what a series of `slice::swap` does:
+    // has fewer than 2^63 bytes, so the product does not wrap. Either call does what a series of `slice::swap` does:
     // afterwards each place holds all bytes of one item, padding included, and each item is at one place. So it moves
     // items of any type, and none is copied or dropped.
-    unsafe { (call.reverse_rows)(vals.as_mut_ptr().cast(), vals.len() * parts, width) }
+    unsafe {
+        if width == 1 {
+            (calls.reverse)(at, len)
+        } else {
+            (calls.reverse_rows)(at, len, width)
+        }
+    }
 }
 
 /// Writes to `output` the transpose of `input`, a matrix of `height` rows of `width` items, where both lengths are the
