@@ -50,7 +50,7 @@ pub fn transpose<T: Copy>(input: &[T], output: &mut [T], width: usize, height: u
     let whole = whole(width, height);
     if is_large(output.len()) {
         let mut cells = SliceCells::new(output);
-        let _ = split_counted(&source, &mut cells, whole, width, height, ENOUGH_LEVELS);
+        let _ = split_counted(source, &mut cells, whole, width, height, ENOUGH_LEVELS);
     } else {
         let mut cells = SliceCells::new(output);
         let _ = region_counted(&source, &mut cells, whole, width, height);

@@ -3,7 +3,7 @@
 ghost use Rattle.std.specs.Prelude.{◌≡◌};
 ghost use Rattle.std.proofs.Common.{◌∙◌, refl};
 
-use crate::places::{Cells, Places};
+use crate::places::{Cells, Places, Source};
 
 /// The holder behind the reference is the holder.
 impl<S: Places> Places for &mut S {
@@ -52,4 +52,20 @@ impl<C: Cells> Cells for &mut C {
     ghost same_holder_refl = { λ a. (refl, C.same_holder_refl a.now) };
 
     ghost same_holder_trans = { λ a b c p q. (p.0 ∙ q.0, C.same_holder_trans a.now b.now c.now p.1 q.1) };
+}
+
+/// The source behind the reference is the source.
+impl<R: Source> Source for &R {
+    type Item = R::Item;
+
+    ghost items = { λ m. R.items m.now };
+
+    fn len(&self) -> usize {
+        R::len(self)
+    }
+
+    #[inline(always)]
+    fn at(&self, i: usize) -> Self::Item {
+        R::at(self, i)
+    }
 }

@@ -97,7 +97,7 @@ impl<'a, T: Copy> Cells for SliceCells<'a, T> {
 }
 
 /// The items of a slice, to be read.
-#[derive(Drop)]
+#[derive(Clone, Copy)]
 pub struct SliceSource<'a, T> {
     pub slice: &'a [T],
 }

@@ -75,19 +75,19 @@ where
 }
 
 /// Puts the transpose of `region` into `cells` by halves, and returns the number of writes and how many splits are nested.
-pub fn split_counted<C: Cells, R: Source<Item = C::Item>>(
-    input: &R,
+pub fn split_counted<C: Cells, R: Source<Item = C::Item> + Copy>(
+    input: R,
     cells: &mut C,
     region: Region,
     width: usize,
     height: usize,
     levels: u32,
 ) -> (u128, u32)
-    requires input_fits { length (R.items input.now) ≡ width * height }
+    requires input_fits { length (R.items input) ≡ width * height }
     requires output_fits { length (C.items cells.old) ≡ width * height }
     requires inside { LiesInMatrix region width height }
     requires enough { lev (rows_of region) (cols_of region) ≤ levels }
-    ensures transposed { IsRegionTransposed region width height (R.items input.now) (C.items cells.old) (C.items cells.new) }
+    ensures transposed { IsRegionTransposed region width height (R.items input) (C.items cells.old) (C.items cells.new) }
     ensures count { result.0 ≡ counted 0 (items_of region) }
     ensures nested { result.1 ≡ nest (rows_of region) (cols_of region) }
     ensures bound { result.1 ≤ 57 }
@@ -101,18 +101,19 @@ pub fn split_counted<C: Cells, R: Source<Item = C::Item>>(
     (count, nested)
 }
 
-/// Puts `region` by halves, with so many levels at most, and returns how many splits are nested too.
-fn put_split<C: Cells, R: Source<Item = C::Item>>(
+/// Puts `region` by halves, with so many levels at most, and returns how many splits are nested too. The source is copied at
+/// each call, so that its address is not read again at each item.
+fn put_split<C: Cells, R: Source<Item = C::Item> + Copy>(
     out: Writes<C>,
-    input: &R,
+    input: R,
     region: Region,
     width: usize,
     height: usize,
     levels: u32,
 ) -> (Writes<C>, u32)
-    requires ready { IsReady region width height (R.items input.now) (C.items out.holder) out.count }
+    requires ready { IsReady region width height (R.items input) (C.items out.holder) out.count }
     requires enough { lev (rows_of region) (cols_of region) ≤ levels }
-    ensures transposed { IsRegionTransposed region width height (R.items input.now)
+    ensures transposed { IsRegionTransposed region width height (R.items input)
         (C.items out.holder) (C.items result.0.holder) }
     ensures count { result.0.count ≡ counted out.count (items_of region) }
     ensures nested { result.1 ≡ nest (rows_of region) (cols_of region) }
@@ -120,7 +121,7 @@ fn put_split<C: Cells, R: Source<Item = C::Item>>(
     ensures holder { C.same_holder out.holder result.0.holder }
 {
     if is_leaf(region) {
-        return (put_region(out, input, region, width, height), 0);
+        return (put_region(out, &input, region, width, height), 0);
     }
     let (first, second) = halves(region);
     let (out, nested) = put_split(out, input, first, width, height, levels - 1);
