@@ -3,11 +3,11 @@ use Rattle.std.proofs.Common.{ℕ, zero, suc, ◌≡◌, ◌+◌, ◌-◌, ◌*�
 use Rattle.std.proofs.Math.Nat.{div-lt_iff_lt-mul, mul-le-mul_right}
 use Rattle.std.specs.List.{swap}
 use Rattle.std.proofs.Math.Seq.{take-set-lt}
-use Rattle.std.proofs.lemmas.List.{length-set, set-append_left, set-append_right, set-set, set_comm, take-set, drop-set-add, drop-set-lt, take-append-drop, get_or-take, get_or_default, length-take, take_all, get_or-drop}
+use Rattle.std.proofs.lemmas.List.{length-set, set-append_left, set-append_right, set-set, set_comm, take-set, drop-set-add, drop-set-lt, take-append-drop, get_or-take, get_or_default, take_all, get_or-drop}
 use Rattle.std.proofs.lemmas.Option.{get_or_from_slice_get, slice_get-get_or, slice_get_read}
 use Rattle.std.proofs.lemmas.List.Edits.{length-swap, swap_is}
 use Rattle.std.proofs.lemmas.List.Concat.{get_or-flat_map}
-use Rattle.std.proofs.lemmas.Bool.{lt-ltb, le-ltb, ltb-true}
+use Rattle.std.proofs.lemmas.Bool.{lt-ltb, le-ltb}
 use Rattle.p3_util.specs.Flat.{IsFlat, countable_items, flat}
 
 module _ {A : Type 0} where
