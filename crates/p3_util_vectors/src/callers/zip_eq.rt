@@ -26,12 +26,8 @@ pub fn weighted(
     ensures equal { IfOk result (λ _. length values.now ≡ length weights.now) }
     ensures unequal { (result ≡ Err PairError.Unequal) ↔ (length values.now ≢ length weights.now) }
 {
-    match zip_eq(
-        values.iter().copied(),
-        weights.iter().copied(),
-        PairError::Unequal,
-    ) {
-        Ok(pairs) => pairs.collect(alloc).map_err(|_| PairError::Memory),
-        Err(error) => Err(error),
-    }
+    let Ok(pairs) = zip_eq(values.iter().copied(), weights.iter().copied(), ()) else {
+        return Err(PairError::Unequal);
+    };
+    pairs.collect(alloc).map_err(|_| PairError::Memory)
 }
