@@ -1,10 +1,9 @@
 -- Regions of a matrix transposed one after another.
-use Rattle.std.proofs.Common.{◌≡◌, ℕ, ◌+◌, ◌*◌, ◌<◌, ◌≤◌, ◌⊎◌, List, length, inl, inr, ◌∙◌, arith}
+use Rattle.std.proofs.Common.{◌≡◌, ℕ, ◌+◌, ◌*◌, ◌<◌, ◌≤◌, ◌⊎◌, List, inl, inr, ◌∙◌, arith}
 use Rattle.std.proofs.lemmas.Bool.{cases_lt}
 use Rattle.std.proofs.lemmas.Nat.{same_from_place}
 use Rattle.p3_util_kernels.specs.declared.regions.Region.{Region}
 use Rattle.p3_util_kernels.specs.Region.{IsInRegion, IsRegionTransposed}
-use Rattle.p3_util_kernels.specs.Transpose.{IsTranspose}
 
 -- One region is cut into two: each place of it lies in the second, or in the first and not in the second, and neither
 -- part has a place outside it.
@@ -80,13 +79,3 @@ module _ {A : Type 0} (width height : ℕ) (input : List A) where
   IsRegionTransposed-more_cols region second from mid end old between new is within before to inside s t =
       IsRegionTransposed-cut (record region { col_end = end }) _ _ old between new inside (IsCut-cols (record region { col_end = end }) from mid within before to)
       s (rw is at t)
-
-  -- the whole matrix
-  pub IsTranspose-from_region : (region : Region) (old new : List A) → length old ≡ width * height → region.row_start ≡ 0 → region.row_end ≡ height
-      → region.col_start ≡ 0 → region.col_end ≡ width → IsRegionTransposed region width height input old new
-      → IsTranspose width height input new
-  IsTranspose-from_region region old new fits row row_end col col_end s = record {
-    same_length = s.same_length ∙ fits;
-    places = λ x y hx hy.
-        s.places x y (record { row_from = omega arith; row_to = omega arith; col_from = omega arith; col_to = omega arith });
-  }

@@ -3,8 +3,7 @@ use Rattle.std.specs.Prelude.{ℕ, ◌≡◌, ◌≢◌, ◌+◌, ◌*◌, ◌^�
 use Rattle.p3_util_kernels.specs.declared.regions.Region.{Region}
 use Rattle.p3_util_kernels.specs.Region.{LiesInMatrix}
 
--- Input and output hold a matrix of `height` rows of `width` items in which the region lies, and the machine can hold its
--- places and the count.
+-- Both lists hold a matrix of `height` rows of `width` items, with the region, and the machine its places and the count.
 pub record IsReady {A : Type 0} (region : Region) (width height : ℕ) (input out : List A) (count : ℕ) : Type 0 where
   pub inside : LiesInMatrix region width height
   pub input_fits : length input ≡ width * height
