@@ -46,24 +46,11 @@ pub fn reverse_slice_index_bits<F>(vals: &mut [F])
 {
     if is_short(vals.len()) {
         let mut places = SlicePlaces::new(vals);
-        reverse_short(&mut places);
+        reverse_rows_counted(&mut places, 1);
     } else {
         let mut places = SlicePlaces::new(vals);
         long_counted(&mut places);
     }
-}
-
-/// Reverses `places` by index bits, by the short path alone, without a call that would keep their address in memory.
-#[inline(always)]
-fn reverse_short<S: Places>(places: &mut S)
-    requires { IsReversible (length (S.items places.old)) }
-    ensures order { IsReversal (S.items places.old) (S.items places.new) }
-    ensures inverse { IsReversal (S.items places.new) (S.items places.old) }
-    ensures holder { S.same_holder places.old places.new }
-{
-    let mut swaps = Swaps::new(places);
-    reverse_index_bits_short(&mut swaps);
-    let _ = swaps.into_inner();
 }
 
 /// Reverses `places` by index bits, as [`reverse_index_bits_on`] does over a fresh counter, and returns the number of
@@ -77,13 +64,12 @@ pub fn reverse_counted<S: Places>(places: &mut S) -> u128
     ensures empty { length (S.items places.old) ≡ 0 → result ≡ 0 }
     ensures holder { S.same_holder places.old places.new }
 {
-    let mut swaps = Swaps::new(places);
-    // Its contract says that the length is a usize, so that the count stays below its greatest.
-    let _ = swaps.len();
-    reverse_index_bits_on(&mut swaps);
-    let count = swaps.swaps();
-    let _ = swaps.into_inner();
-    count
+    // The path is picked before there is a counter, so that no call keeps the holder of the short one in memory.
+    if is_short(places.len()) {
+        reverse_rows_counted(places, 1)
+    } else {
+        long_counted(places)
+    }
 }
 
 /// Reverses the order of the rows of `vals`, of `row_width` items each, by index bits: with 2^k rows, row `r` becomes the

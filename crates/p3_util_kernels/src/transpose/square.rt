@@ -12,6 +12,7 @@ use crate::places::{Places, Swaps};
 
 /// The greatest numbers of rows and columns of a block that is exchanged item by item.
 const LEAF_ROWS: usize = 16;
+
 const LEAF_COLS: usize = 8;
 
 /// Transposes in place the square of `s = 2^log_size` rows and columns whose first place is `base` and whose rows begin
