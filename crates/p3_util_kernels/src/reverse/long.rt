@@ -1,8 +1,8 @@
 //! Bit reversal of long lists: chunks, squares, and chunks again.
 //!
 //! With `2^k` items, `half = k / 2` and `c = k - half`, the list is `2^half` rows of `2^c` items, and `c` is `half` or
-//! `half + 1`. So it is one square or two side by side. The index of an item is a row, a square and a column. The two passes over rows, which are
-//! the chunks, reverse the bits of the row; the transposes between them exchange row and column.
+//! `half + 1`. So it is one square or two side by side. The index of an item is a row, a square and a column. The two
+//! passes over rows, which are the chunks, reverse the bits of the row; the transposes between them exchange row and column.
 
 ghost use Rattle.std.specs.Prelude.{◌≡◌, ℕ, ◌+◌, ◌-◌, ◌*◌, ◌/◌, ◌^◌, ◌≤◌, length};
 ghost use Rattle.p3_util_kernels.specs.Reversal.{IsReversal, IsReversible};
