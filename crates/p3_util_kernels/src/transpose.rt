@@ -194,6 +194,10 @@ fn put_region<C: Cells, R: Source<Item = C::Item>>(
     ensures count { result.count ≡ counted out.count (items_of region) }
     ensures holder { C.same_holder out.holder result.holder }
 {
+    if region.cols() == 0 {
+        // However many rows there are, no item is in them.
+        return out;
+    }
     if width % TILE_SIDE == 0 && height / TILE_SIDE < width {
         put_pieces(out, input, region, TILE_SIDE, TILE_SIDE, width, height)
     } else {
