@@ -106,6 +106,7 @@ output() {
     is 'standard error closed' 2 '' ''
 
     # Nobody reads this pipe. A program ignores the signal for that, and sees its write fail.
+    rm -f "$work/pipe"
     mkfifo "$work/pipe"
     exec 3<>"$work/pipe" 4>"$work/pipe" 3>&-
     : >"$work/out"
