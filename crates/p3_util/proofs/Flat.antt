@@ -245,6 +245,13 @@ module _ {A : Type 0} where
       let rest : start xs r ≡ r * n = starts n xs (λ k lt. width (suc k) (omega arith)) r (omega arith) in
       rw (length-append x (flat (take r xs))) (omega (arith, first, rest))
 
+  -- item c of row r, where it is item i of all
+  item-of-row : (rows : List (List A)) (r c i : ℕ) (any : A) → r < length rows → c < length (get_or rows r []) → start rows r + c ≡ i → i < length (flat rows)
+      → slice_get (flat rows) i ≡ slice_get (get_or rows r []) c
+  item-of-row rows r c i any lr inside place below =
+      let item : get_or (flat rows) i any ≡ get_or (get_or rows r []) c any = ap (λ k. get_or (flat rows) k any) (sym place) ∙ get_or-flat rows r c any lr inside in
+      rw (slice_get-get_or (flat rows) i any below) (rw item (sym (slice_get-get_or (get_or rows r []) c any inside)))
+
   place-of : (n : ℕ) (rows : List (List A)) → ((k : ℕ) → k < length rows → length (get_or rows k []) ≡ n) → (i : ℕ) → i < length rows * n
       → slice_get (flat rows) i ≡ slice_get (get_or rows (i / n) []) (i % n)
   place-of zero rows width i lt = absurd (omega arith)
@@ -257,8 +264,7 @@ module _ {A : Type 0} where
       let inside : c < length (get_or rows r []) = rw (width r lr) (omega arith) in
       let place : start rows r + c ≡ i = omega (arith, starts n rows width r (omega arith)) in
       let below : i < length (flat rows) = subst (λ (k : ℕ). k < length (flat rows)) place (start-below rows r c lr inside) in
-      let any : A = item (flat rows) i below in
-      slice_get-get_or (flat rows) i any below ∙ ap Some (ap (λ k. get_or (flat rows) k any) (sym place) ∙ get_or-flat rows r c any lr inside) ∙ sym (slice_get-get_or (get_or rows r []) c any inside)
+      item-of-row rows r c i (item (flat rows) i below) lr inside place below
 
   pub IsFlat-width : (n : ℕ) (rows : List (List A)) → ((k : ℕ) → k < length rows → length (get_or rows k []) ≡ n) → IsFlat n rows (flat rows)
   IsFlat-width n rows width =
