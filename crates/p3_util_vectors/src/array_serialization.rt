@@ -1,7 +1,7 @@
 //! Arrays as JSON lists: worked examples over values that are read from JSON text.
 
 use crate::callers::array_serialization::written_and_read;
-use crate::checks::equal;
+use crate::checks::{equal, found};
 use p3_util::array_serialization::ArrayError::{Element, Length, NotArray};
 use p3_util::array_serialization::ElementError::{Float, Kind, Range};
 use p3_util::array_serialization::{
@@ -9,6 +9,8 @@ use p3_util::array_serialization::{
 };
 use serde_json::Value;
 use std::alloc::{AllocError, Global};
+use std::fmt::Debug;
+use std::process::Abort;
 
 type Read<T, const N: usize> = Result<[T; N], ArrayError>;
 
@@ -83,26 +85,26 @@ fn other_types(rt: HostRuntime) {
     assert!(rt; reads::<bool, 2>(alloc, "[true,1]", &refused(1, Kind)));
 }
 
-/// Whether an array that is written is read back.
-fn is_read_back<T: ArrayElement + PartialEq + Copy, const N: usize>(
+/// Asserts that an array is written as `text`, and read back.
+fn check_written<T: ArrayElement + PartialEq + Copy + Debug, const N: usize>(
+    rt: &impl Abort,
     alloc: Global,
     items: &[T; N],
-) -> bool {
-    match written_and_read(alloc, items) {
-        Ok(Ok(again)) => again == *items,
-        _ => false,
+    text: &str,
+) {
+    match serialize(alloc, items) {
+        Ok(value) => equal(rt, &found(rt, value.to_string(alloc)).as_str(), &text),
+        Err(AllocError) => panic!(rt; "out of memory"),
     }
+    equal(rt, &written_and_read(alloc, items), &Ok(Ok(*items)));
 }
 
 #[test]
-fn written(rt: HostRuntime) -> Result<(), AllocError> {
+fn written(rt: HostRuntime) {
     let alloc = rt.alloc();
-    let text = serialize(alloc, &[10u32, 20, 30])?.to_string(alloc)?;
-    equal(&rt, &text.as_str(), &"[10,20,30]");
-    assert!(rt; is_read_back(alloc, &[10u32, 20, 30]));
-    assert!(rt; is_read_back::<u32, 0>(alloc, &[]));
-    assert!(rt; is_read_back(alloc, &[0, u64::MAX]));
-    assert!(rt; is_read_back(alloc, &[i64::MIN, 7]));
-    assert!(rt; is_read_back(alloc, &[true, false]));
-    Ok(())
+    check_written(&rt, alloc, &[10u32, 20, 30], "[10,20,30]");
+    check_written::<u32, 0>(&rt, alloc, &[], "[]");
+    check_written(&rt, alloc, &[0, u64::MAX], "[0,18446744073709551615]");
+    check_written(&rt, alloc, &[i64::MIN, 7], "[-9223372036854775808,7]");
+    check_written(&rt, alloc, &[true, false], "[true,false]");
 }

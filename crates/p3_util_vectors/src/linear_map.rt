@@ -107,31 +107,39 @@ fn replays_the_script(rt: HostRuntime) {
     replay(&rt, rt.alloc(), &SCRIPT, &SCRIPT_PAIRS);
 }
 
-/// What `insert`, `get` and `get_mut` answer. New keys go last, and a known key keeps its place.
+/// What `insert`, `get` and `get_mut` answer.
 #[test]
 fn inserts_and_writes(rt: HostRuntime) {
-    let numbers = [
+    let calls = [
+        (Get(1), None),
         (Write(42, 0), None),
         (Insert(42u32, 100u32), None),
         (Write(42, 101), Some(100)),
         (Get(42), Some(101)),
         (Write(999, 0), None),
     ];
-    replay(&rt, rt.alloc(), &numbers, &[(42, 101)]);
-    let letters = [
+    replay(&rt, rt.alloc(), &calls, &[(42, 101)]);
+}
+
+#[test]
+fn known_keys_keep_their_place(rt: HostRuntime) {
+    let calls = [
         (Insert(1u32, "a"), None),
         (Insert(2, "b"), None),
         (Insert(1, "c"), Some("a")),
         (Get(3), None),
     ];
-    replay(&rt, rt.alloc(), &letters, &[(1, "c"), (2, "b")]);
-    let names = [
+    replay(&rt, rt.alloc(), &calls, &[(1, "c"), (2, "b")]);
+}
+
+#[test]
+fn new_keys_go_last(rt: HostRuntime) {
+    let calls = [
         (Insert("x", 10u32), None),
         (Insert("z", 30), None),
         (Insert("y", 20), None),
     ];
-    replay(&rt, rt.alloc(), &names, &[("x", 10), ("z", 30), ("y", 20)]);
-    replay::<u32, u32>(&rt, rt.alloc(), &[(Get(1), None)], &[]);
+    replay(&rt, rt.alloc(), &calls, &[("x", 10), ("z", 30), ("y", 20)]);
 }
 
 /// A body of `try_from_iter` or `with_capacity` that always answers `AllocError` meets its contract, and fails here.

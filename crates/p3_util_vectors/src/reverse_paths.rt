@@ -139,14 +139,19 @@ fn after(rt: &impl Abort, alloc: Global, call: Call, len: usize) -> (Vec<u64>, u
     (items, swaps)
 }
 
+/// Asserts what a list holds at these places, in row `row` of the examples.
+fn check_places(rt: &impl Abort, row: usize, items: &[u64], places: &[(usize, u64)]) {
+    for (place, held) in places {
+        same(rt, row, &items.get(*place), &Some(held));
+    }
+}
+
 #[test]
 fn worked_examples(rt: HostRuntime) {
     for (row, (call, len, wanted, places)) in EXAMPLES.iter().enumerate() {
         let (items, swaps) = after(&rt, rt.alloc(), *call, *len);
         same(&rt, row, &swaps, wanted);
-        for (place, held) in *places {
-            same(&rt, row, &items.get(*place), &Some(held));
-        }
+        check_places(&rt, row, &items, places);
     }
 }
 

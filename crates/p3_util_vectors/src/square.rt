@@ -130,8 +130,8 @@ fn turn(row: u8, column: u8) -> u32 {
 #[test]
 fn blocks_in_order(rt: HostRuntime) {
     let mut noted = Noted::numbered(&rt, rt.alloc(), 1024, 1024);
-    same(&rt, 0, &count_exchanges(&rt, &mut noted, 5, 5), &496);
-    same(&rt, 0, &noted.notes.len(), &496);
+    equal(&rt, &count_exchanges(&rt, &mut noted, 5, 5), &496);
+    equal(&rt, &noted.notes.len(), &496);
     let mut last = 0;
     for (k, note) in noted.notes.iter().enumerate() {
         let (first, second) = exchange_of(&rt, note);

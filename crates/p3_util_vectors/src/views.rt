@@ -2,7 +2,7 @@
 ghost use Rattle.std.specs.Prelude.{◌≤◌};
 
 use crate::calls::{count_swaps_of, count_writes};
-use crate::checks::{copied, numbers, same};
+use crate::checks::{copied, equal, numbers, same};
 use p3_util::{
     as_base_slice, as_base_slice_mut, flat_len, flatten_to_base, reconstitute_from_base,
 };
@@ -28,12 +28,12 @@ fn lengths(rt: HostRuntime) {
 fn check_view<const N: usize>(rt: &impl Abort, rows: &[[u64; N]], wanted: &[u64]) {
     assert!(rt; flat_len(rows.len(), N).is_some());
     let view = as_base_slice(rows);
-    same(rt, 0, &view.len(), &wanted.len());
-    same(rt, 0, &view.is_empty(), &wanted.is_empty());
+    equal(rt, &view.len(), &wanted.len());
+    equal(rt, &view.is_empty(), &wanted.is_empty());
     for (place, item) in wanted.iter().enumerate() {
         same(rt, place, &view.get(place).copied(), &Some(*item));
     }
-    same(rt, 0, &view.get(wanted.len()).copied(), &None);
+    equal(rt, &view.get(wanted.len()).copied(), &None);
     assert!(rt; view.iter().eq(wanted.iter()));
 }
 
@@ -41,8 +41,8 @@ fn check_view<const N: usize>(rt: &impl Abort, rows: &[[u64; N]], wanted: &[u64]
 fn check_view_mut<const N: usize>(rt: &impl Abort, rows: &mut [[u64; N]], wanted: &[u64]) {
     assert!(rt; flat_len(rows.len(), N).is_some());
     let mut view = as_base_slice_mut(rows);
-    same(rt, 0, &view.len(), &wanted.len());
-    same(rt, 0, &view.is_empty(), &wanted.is_empty());
+    equal(rt, &view.len(), &wanted.len());
+    equal(rt, &view.is_empty(), &wanted.is_empty());
     assert!(rt; view.iter().eq(wanted.iter()));
     assert!(rt; view.get_mut(wanted.len()).is_none());
 }
@@ -53,7 +53,7 @@ fn check_places_mut<const N: usize>(rt: &impl Abort, rows: &mut [[u64; N]], want
     for (place, item) in wanted.iter().enumerate() {
         same(rt, place, &view.get(place).copied(), &Some(*item));
     }
-    same(rt, 0, &view.get(wanted.len()).copied(), &None);
+    equal(rt, &view.get(wanted.len()).copied(), &None);
 }
 
 /// The same of both views.
@@ -77,7 +77,7 @@ fn a_view_as_text(rt: HostRuntime) -> Result<(), AllocError> {
     let rows = [[1u64, 2, 3], [4, 5, 6]];
     let view = as_base_slice(&rows);
     let text = format!(in rt.alloc(); "{view:?}")?;
-    same(&rt, 0, &text.as_str(), &"[1, 2, 3, 4, 5, 6]");
+    equal(&rt, &text.as_str(), &"[1, 2, 3, 4, 5, 6]");
     let again = view.clone()?;
     assert!(rt; again.iter().eq(view.iter()));
     same(&rt, 4, &again[4], &5);
@@ -92,15 +92,15 @@ fn a_write_through_a_view(rt: HostRuntime) {
         *item = 9;
     }
     same(&rt, 3, &view.get(3).copied(), &Some(9));
-    same(&rt, 0, &rows, &[[1, 2], [3, 9]]);
+    equal(&rt, &rows, &[[1, 2], [3, 9]]);
 }
 
 #[test]
 fn a_reversal_of_a_view(rt: HostRuntime) {
     let mut rows = [[0u64, 1], [2, 3], [4, 5], [6, 7]];
     let mut view = as_base_slice_mut(&mut rows);
-    same(&rt, 0, &count_swaps_of(&rt, &mut view), &2);
-    same(&rt, 0, &rows, &[[0, 4], [2, 6], [1, 5], [3, 7]]);
+    equal(&rt, &count_swaps_of(&rt, &mut view), &2);
+    equal(&rt, &rows, &[[0, 4], [2, 6], [1, 5], [3, 7]]);
 }
 
 #[test]
@@ -108,8 +108,8 @@ fn a_transpose_into_a_view(rt: HostRuntime) {
     let mut rows = [[0u64; 2]; 3];
     let mut view = as_base_slice_mut(&mut rows);
     let writes = count_writes(&rt, &[1, 2, 3, 4, 5, 6], &mut view, 3, 2);
-    same(&rt, 0, &writes, &6);
-    same(&rt, 0, &rows, &[[1, 4], [2, 5], [3, 6]]);
+    equal(&rt, &writes, &6);
+    equal(&rt, &rows, &[[1, 4], [2, 5], [3, 6]]);
 }
 
 /// `items` moved to arrays.
@@ -138,7 +138,7 @@ fn there_and_back<const N: usize>(rt: &impl Abort, alloc: Global, wanted: &[[u64
 {
     let items = numbers(rt, alloc, wanted.len().saturating_mul(N));
     let rows = to_rows::<N>(rt, alloc, copied(rt, alloc, &items));
-    same(rt, 0, &rows.as_slice(), &wanted);
+    equal(rt, &rows.as_slice(), &wanted);
     same(
         rt,
         1,
@@ -156,6 +156,6 @@ fn vectors_there_and_back(rt: HostRuntime) {
 #[test]
 fn arrays_without_items(rt: HostRuntime) -> Result<(), AllocError> {
     let none: Vec<[u64; 0]> = vec![in rt.alloc(); [], [], []]?;
-    same(&rt, 0, &to_items(&rt, rt.alloc(), none).len(), &0);
+    equal(&rt, &to_items(&rt, rt.alloc(), none).len(), &0);
     Ok(())
 }

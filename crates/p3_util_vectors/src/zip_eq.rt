@@ -1,11 +1,13 @@
 //! The zip of two lists of one length.
 
+use crate::checks::{equal, same};
 use p3_util::zip_eq::zip_eq;
+use std::fmt::Debug;
 use std::process::Abort;
 use std::test::Fail;
 
 /// Asserts the pairs of two lists of one length, and how many are left after each.
-fn check_pairs<A: Copy + PartialEq, B: Copy + PartialEq>(
+fn check_pairs<A: Copy + PartialEq + Debug, B: Copy + PartialEq + Debug>(
     rt: &impl Abort,
     first: &[A],
     second: &[B],
@@ -14,14 +16,14 @@ fn check_pairs<A: Copy + PartialEq, B: Copy + PartialEq>(
     let Ok(mut pairs) = zip_eq(first.iter().copied(), second.iter().copied(), ()) else {
         return Err(Fail::from("the lengths agree"));
     };
-    let mut left = wanted.len();
-    for pair in wanted {
-        assert_eq!(rt; pairs.size_hint(), (left, Some(left)));
-        assert!(rt; pairs.next() == Some(*pair));
-        left = left.saturating_sub(1);
-        assert_eq!(rt; pairs.len(), left);
+    for (place, pair) in wanted.iter().enumerate() {
+        let left = wanted.len().saturating_sub(place);
+        same(rt, place, &pairs.len(), &left);
+        same(rt, place, &pairs.size_hint(), &(left, Some(left)));
+        same(rt, place, &pairs.next(), &Some(*pair));
     }
-    assert!(rt; pairs.next().is_none());
+    equal(rt, &pairs.len(), &0);
+    equal(rt, &pairs.next(), &None);
     Ok(())
 }
 
