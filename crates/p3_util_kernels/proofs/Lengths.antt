@@ -1,5 +1,5 @@
 -- Lengths that are zero or a power of two, and lengths of rows.
-use Rattle.std.proofs.Common.{◌≡◌, ℕ, zero, suc, ◌+◌, ◌-◌, ◌*◌, ◌/◌, ◌%◌, ◌^◌, ◌<◌, ◌↔◌, IsTrue, ◌==◌, bit_and, inl, inr, sym, ap, ◌∙◌, arith, eqb-true}
+use Rattle.std.proofs.Common.{◌≡◌, ℕ, zero, suc, ◌+◌, ◌-◌, ◌*◌, ◌/◌, ◌%◌, ◌^◌, ◌<◌, ◌↔◌, IsTrue, ◌==◌, bit_and, inl, inr, refl, sym, ap, ◌∙◌, arith, eqb-true}
 use Rattle.std.specs.Int.{is_power_of_two}
 use Rattle.std.specs.Int.Bits.{and_self}
 use Rattle.std.proofs.Math.Nat.{mul-div_cancel_left, pow-suc}
@@ -53,6 +53,10 @@ FitsRows-one len row_width one = (
   λ (rows, fits, e). let same : len ≡ rows = e ∙ ap (λ w. w * rows) one ∙ omega arith in rw same fits,
   λ fits. let same : len ≡ row_width * len = rw one (omega arith) in (len, fits, same),
 )
+
+-- what a call asks of a list says that its items are rows of one item
+pub rows_of_one : (n : ℕ) → IsReversible n → FitsRows n 1
+rows_of_one n fits = (FitsRows-one n 1 refl).1 (zero_or_power n fits)
 
 -- the width divides the length of rows
 pub FitsRows-whole : (len row_width : ℕ) → (row_width ≡ 0 → ⊥) → FitsRows len row_width → len % row_width ≡ 0

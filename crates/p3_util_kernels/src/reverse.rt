@@ -39,6 +39,7 @@ fn is_short(len: usize) -> bool
 /// Reverses the order of `vals` by index bits: with 2^k items, place `i` gets the item from the place whose index has
 /// the k bits of `i` in reversed order. The length is zero or a power of two, which `fits_rows(vals.len(), 1)` tests, and
 /// std's `is_power_of_two`. The same call restores the order. No item is cloned or dropped.
+#[tactic(auto, using(crate::proofs::Lengths::rows_of_one))]
 pub fn reverse_slice_index_bits<F>(vals: &mut [F])
     requires { IsReversible (length vals.old) }
     ensures order { IsReversal vals.old vals.new }
@@ -126,6 +127,7 @@ pub fn reverse_index_bits_on<S: Places>(m: &mut Swaps<S>)
 
 /// Reverses `m` by index bits, as [`reverse_slice_index_bits`] does, by one exchange of each two places that belong to
 /// each other. The length is zero or a power of two.
+#[tactic(auto, using(crate::proofs::Lengths::rows_of_one))]
 #[inline(always)]
 pub fn reverse_index_bits_short<S: Places>(m: &mut Swaps<S>)
     requires { IsReversible (length (S.items m.old.holder)) }

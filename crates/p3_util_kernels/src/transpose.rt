@@ -218,6 +218,8 @@ fn whole(width: usize, height: usize) -> Region
 }
 
 /// Whether a matrix of so many items is split.
-fn is_large(items: usize) -> bool {
+fn is_large(items: usize) -> bool
+    ensures { IsTrue result ↔ (LARGE_MATRIX < items) }
+{
     items > LARGE_MATRIX
 }

@@ -1,11 +1,11 @@
-use Rattle.std.proofs.Common.{◌≡◌, ◌*◌, ◌^◌, length, refl, arith}
+use Rattle.std.proofs.Common.{◌≡◌, ◌*◌, ◌^◌, length, arith}
 use Rattle.std.proofs.lemmas.Bool.Decides.{nat_tests}
-use Rattle.p3_util_kernels.proofs.Lengths.{FitsRows-one, zero_or_power}
+use Rattle.p3_util_kernels.proofs.Lengths.{rows_of_one}
 use Rattle.p3_util_kernels.proofs.reverse.reverse_counted.Goals as goal
 use Rattle.p3_util_kernels.proofs.reverse.reverse_counted.Goals.{then-is_short, else-is_short}
 
 pub reverse_rows_counted-requires : goal.reverse_rows_counted-requires
-reverse_rows_counted-requires g c = (FitsRows-one _ 1 refl).1 (zero_or_power _ c.requires)
+reverse_rows_counted-requires g c = rows_of_one _ c.requires
 
 pub returns-clause-exact : goal.returns-clause-exact
 returns-clause-exact g c k e =

@@ -1,18 +1,10 @@
-use Rattle.std.proofs.Common.{◌≡◌, ℕ, ◌+◌, ◌-◌, ◌*◌, ◌/◌, ◌^◌, ◌∙◌, inl, inr, sym, arith}
+use Rattle.std.proofs.Common.{◌≡◌, ℕ, ◌+◌, ◌-◌, ◌*◌, ◌/◌, ◌^◌, ◌∙◌, sym, arith}
 use Rattle.p3_util_kernels.specs.Steps.{counted}
 use Rattle.p3_util_kernels.specs.SwapCounts.{short_swaps, square_swaps, long_swaps}
-use Rattle.p3_util_kernels.proofs.Lengths.{zero_or_power}
 use Rattle.p3_util_kernels.proofs.LongPath.{IsReversal-composed, counted-around}
 use Rattle.p3_util_kernels.proofs.Powers.{exponent-same}
 use Rattle.p3_util_kernels.proofs.SwapCounts.{long_swaps-le}
 use Rattle.p3_util_kernels.proofs.reverse.long.reverse_long.Goals as goal
-
-pub log2_strict_usize-bits-requires : goal.log2_strict_usize-bits-requires
-log2_strict_usize-bits-requires g c =
-    elim (zero_or_power _ c.requires.fits) [
-      | inl none ↦ absurd (omega arith)
-      | inr power ↦ inl (power.0, c.len.ensures.len ∙ power.1)
-    ]
 
 -- as many swaps as the three passes together
 swaps : (bits c0 c1 c2 c3 : ℕ)

@@ -21,12 +21,6 @@ inside x digits few below =
     let some : 0 < 2 ^ (6 - digits) = pow_pos (6 - digits) in
     rw (step digits few) (omega arith)
 
-pub overflow_mul-x : goal.overflow_mul-x
-overflow_mul-x c = omega (arith, inside c.args.x c.args.digits c.if-digits-le6.true c.requires.below)
-
-pub bounds-x : goal.bounds-x
-bounds-x c = inside c.args.x c.args.digits c.if-digits-le6.true c.requires.below
-
 pub returns-then-digits-le6 : goal.returns-then-digits-le6
 returns-then-digits-le6 c =
     let all : c.args.digits + (6 - c.args.digits) ≡ 6 = omega arith in
