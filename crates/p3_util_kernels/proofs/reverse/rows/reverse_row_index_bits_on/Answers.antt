@@ -1,4 +1,4 @@
-use Rattle.std.proofs.Common.{◌≡◌, ℕ, zero, suc, ◌+◌, ◌*◌, ◌/◌, ◌%◌, ◌^◌, ◌<◌, inl, refl, sym, ap, ◌∙◌, arith}
+use Rattle.std.proofs.Common.{◌≡◌, ℕ, zero, suc, ◌+◌, ◌*◌, ◌/◌, ◌%◌, ◌^◌, ◌<◌, refl, sym, ap, ◌∙◌, arith}
 use Rattle.p3_util_kernels.specs.SwapCounts.{short_swaps}
 use Rattle.p3_util_kernels.proofs.Crossing.{IsRowReversal-own}
 use Rattle.p3_util_kernels.proofs.Lengths.{IsPowerOfRows, IsPowerOfRows-from, rows-same}
@@ -16,16 +16,6 @@ short_none : (k : ℕ) → k < 2 → short_swaps k ≡ 0
 short_none zero h = refl
 short_none (suc zero) h = refl
 short_none (suc (suc k)) h = absurd (omega arith)
-
-pub log2_strict_usize-requires : goal.log2_strict_usize-requires
-log2_strict_usize-requires g c =
-    let rows = IsPowerOfRows-from _ _ (λ e. c.if-len-eq0.false (c.len-len.ensures.len ∙ e)) c.requires in
-    inl (rows.exponent, ap (λ n. n / c.args.row_width) c.len-len.ensures.len ∙ rows.rows)
-
-pub nonzero_div-len : goal.nonzero_div-len
-nonzero_div-len g c =
-    let rows = IsPowerOfRows-from _ _ (λ e. c.if-len-eq0.false (c.len-len.ensures.len ∙ e)) c.requires in
-    rows.wide
 
 pub exchange_pairs-requires-in_default-clause-ready : goal.exchange_pairs-requires-in_default-clause-ready
 exchange_pairs-requires-in_default-clause-ready g c =
