@@ -2,7 +2,7 @@
 use Rattle.std.proofs.Common.{◌≡◌, ℕ, ◌+◌, ◌-◌, ◌<◌, ◌≤◌, Bool, true, false, true≢false, List, ◌++◌, Option, Some, None, length, take, drop, set, refl, sym, ap, ◌∙◌, arith, rules}
 use borrow.Author.Tests.{tests}
 use Rattle.std.proofs.lemmas.Grind.{take-set_at}
-use Rattle.std.proofs.lemmas.List.{length-take-le, length-set, length-replicate, drop-set-lt, drop-drop, drop-replicate, take-append-drop}
+use Rattle.std.proofs.lemmas.List.{length-take-le, length-set, drop-set-lt, drop-drop, drop-replicate, take-append-drop}
 use Rattle.std.proofs.iter.Next.{Yields-more}
 use Rattle.std.specs.Prelude.{replicate, ◌==◌}
 use Rattle.std.specs.Iterator.{Yields, Count, IsFinite, size, MakesProgress, count_map, count_unless}
@@ -21,9 +21,6 @@ pub record Fills {S A : Type 0} (can : S → Type 0) (steps : S → Option A →
   pub fewer : IsFinite (left s) → IsFinite (left t) × (size (left t) + len ≤ size (left s))
 
 module _ {S A : Type 0} {can : S → Type 0} {steps : S → Option A → S → Type 0} {left : S → Count} {n : ℕ} {fill : A} {s : S} where
-  pub Fills-start : (0 < n → can s) → Fills can steps left n fill s (replicate n fill) 0 s
-  Fills-start may = record { within = omega arith; long = length-replicate n fill; came = refl; filler = ap (λ k. replicate k fill) (let e : n ≡ n - 0 = omega arith in e); may = may; fewer = λ finite. (finite, omega arith) }
-
   module _ {chunk : List A} {len : ℕ} {t : S} (h : Fills can steps left n fill s chunk len t) where
     pub Fills-push : {x : A} {u : S} → len < n → steps t (Some x) u → MakesProgress can left t (Some x) u → Fills can steps left n fill s (set chunk len x) (len + 1) u
     Fills-push {x} {u} room step goes =

@@ -7,7 +7,7 @@ use Rattle.std.proofs.lemmas.List.{length-set, set-append_left, set-append_right
 use Rattle.std.proofs.lemmas.Option.{get_or_from_slice_get, slice_get-get_or, slice_get_read}
 use Rattle.std.proofs.lemmas.List.Edits.{length-swap, swap_is}
 use Rattle.std.proofs.lemmas.List.Concat.{get_or-flat_map}
-use Rattle.std.proofs.lemmas.Bool.{lt-ltb, le-ltb}
+use Rattle.std.proofs.lemmas.Bool.{le-ltb}
 use Rattle.p3_util.specs.Flat.{IsFlat, countable_items, flat}
 
 module _ {A : Type 0} where
@@ -186,11 +186,7 @@ module _ {A : Type 0} where
         let below : i < length (flat rows) = subst (λ (k : ℕ). k < length (flat rows)) place (start-below rows r c lr inside) in
         slice_get-get_or (flat rows) i x below ∙ ap Some (item-at rows r c n i y x lr lc len row begins at ∙ get_or_from_slice_get y c x x read)
 
-  -- a usize can count the items
-  pub countable-all : (rows : List (List A)) → length (flat rows) < 2 ^ 64 → countable_items rows ≡ flat rows
-  countable-all rows fits = rw (lt-ltb (length (flat rows)) (2 ^ 64) fits) refl
-
-  -- it cannot
+  -- a usize cannot count the items
   pub countable-none : (rows : List (List A)) → 2 ^ 64 ≤ length (flat rows) → countable_items rows ≡ []
   countable-none rows many = rw (le-ltb (length (flat rows)) (2 ^ 64) many) refl
 
@@ -221,11 +217,7 @@ module _ {A : Type 0} where
   pub flat-swap-len : (new old : List (List A)) (i j : ℕ) → flat new ≡ swap (flat old) i j → length (flat old) ≡ length (flat new)
   flat-swap-len new old i j is = sym (ap length is ∙ length-swap (flat old) i j)
 
-  pub countable-swap : (new old : List (List A)) (i j : ℕ) → flat new ≡ swap (flat old) i j → countable_items new ≡ swap (countable_items old) i j
-  countable-swap new old i j is =
-      rw (sym (flat-swap-len new old i j is)) (elim (nat_lt (length (flat old)) (2 ^ 64)) as (λ b. cond b (flat new) [] ≡ swap (cond b (flat old) []) i j) [ true ↦ is | false ↦ refl ])
-
-  -- where there is an item, it can
+  -- where there is an item, a usize counts them
   pub countable-some : (rows : List (List A)) (i : ℕ) → i < length (countable_items rows) → countable_items rows ≡ flat rows
   countable-some rows i lt =
       elim (nat_lt (length (flat rows)) (2 ^ 64)) as (λ b. i < length (cond b (flat rows) []) → cond b (flat rows) [] ≡ flat rows) [ true ↦ λ h. refl | false ↦ λ h. absurd (omega arith) ] lt

@@ -1,5 +1,5 @@
 -- Blocks of a square exchanged across its diagonal, one after another.
-use Rattle.std.proofs.Common.{◌≡◌, ℕ, ◌+◌, ◌*◌, ◌^◌, ◌<◌, ◌≤◌, min, max, List, length, slice_get, inl, inr, refl, ◌∙◌, arith}
+use Rattle.std.proofs.Common.{◌≡◌, ℕ, ◌+◌, ◌*◌, ◌^◌, ◌<◌, ◌≤◌, min, max, List, length, slice_get, inl, inr, ◌∙◌, arith}
 use Rattle.std.specs.List.{swap}
 use Rattle.std.proofs.lemmas.Bool.{cases_eq, cases_lt}
 use Rattle.std.proofs.lemmas.Nat.{same_from_place}
@@ -34,15 +34,6 @@ module _ {A : Type 0} (base stride : ℕ) where
     same_length = s.same_length;
     crossed = λ a b ha hb h. s.crossed a b ha hb (from a b h);
     others = λ k out. s.others k (λ a b ha hb h. out a b ha hb (to a b h));
-  }
-
-  -- no pair
-  pub SwapsAcross-none : (row row_end col col_end : ℕ) (xs : List A) → ((a b : ℕ) → IsInBlock row row_end col col_end a b → ⊥)
-      → SwapsAcross base stride row row_end col col_end xs xs
-  SwapsAcross-none row row_end col col_end xs none = record {
-    same_length = refl;
-    crossed = λ a b ha hb h. absurd (none a b h);
-    others = λ k out. refl;
   }
 
   -- the rows below `mid`, then those from `mid` on

@@ -1,5 +1,5 @@
 -- Squares side by side, transposed one after another.
-use Rattle.std.proofs.Common.{◌≡◌, ℕ, ◌+◌, ◌-◌, ◌*◌, ◌^◌, ◌<◌, ◌≤◌, List, slice_get, inl, inr, refl, sym, ap, ◌∙◌, arith}
+use Rattle.std.proofs.Common.{◌≡◌, ℕ, ◌+◌, ◌-◌, ◌*◌, ◌^◌, ◌<◌, ◌≤◌, List, slice_get, inl, inr, sym, ap, ◌∙◌, arith}
 use Rattle.std.proofs.lemmas.Bool.{cases_lt}
 use Rattle.std.proofs.lemmas.Nat.{pow-add, pow_pos, mul-add-lt, same_from_place}
 use Rattle.p3_util_kernels.specs.Square.{IsSquareTransposed}
@@ -23,13 +23,6 @@ module _ (log_stride log_size : ℕ) (within : log_size ≤ log_stride) where
       omega (arith, pow-add 2 log_size log_stride, mul-add-lt (2 ^ log_size - 1) (2 ^ log_stride) (s * 2 ^ log_size + (2 ^ log_size - 1)) (2 ^ log_size) last column)
 
   module _ {A : Type 0} where
-    pub AreTransposed-none : (xs : List A) → AreTransposed 0 log_stride log_size xs xs
-    AreTransposed-none xs = record {
-      same_length = refl;
-      crossed = λ s a b hs ha hb. absurd (omega arith);
-      kept = λ s a b from hs ha hb. refl;
-    }
-
     -- a place of another square stays
     elsewhere : (i s a b : ℕ) (now next : List A) → i < 2 ^ (log_stride - log_size) → s < 2 ^ (log_stride - log_size) → (s ≡ i → ⊥)
         → b < 2 ^ log_size → IsSquareTransposed (i * 2 ^ log_size) log_stride log_size now next

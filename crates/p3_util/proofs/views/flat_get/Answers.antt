@@ -1,5 +1,4 @@
 use Rattle.std.proofs.Common.{[], ap, slice_get, slice_index_or, sym, ◌∙◌}
-use Rattle.std.proofs.lemmas.Option.{slice_get_past}
 use Rattle.p3_util.proofs.Flat.{slice_get-flat, slice_get-row}
 use Rattle.p3_util.proofs.views.flat_get.Goals as goal
 
@@ -16,7 +15,3 @@ returns-then-i-as_flattened-clause-place g c inside =
     let flat = slice_get-flat _ _ _ _ _ _ _ place.row place.place item.len c.index-rows-r.is place.before place.item item.item in
     let row = slice_get-row _ _ _ _ _ _ _ place.row place.place item.len c.index-rows-r.is place.before place.item item.item in
     flat ∙ sym row ∙ ap (λ p. slice_get (slice_index_or c.args.rows.now p.0 []) p.1) place.is
-
-pub returns-else-i-as_flattened-clause-item : goal.returns-else-i-as_flattened-clause-item
-returns-else-i-as_flattened-clause-item g c =
-    sym (ap (λ l. slice_get l c.args.i) (sym c.as_flattened.ensures.value) ∙ slice_get_past _ _ c.if-i-as_flattened.false)

@@ -1,5 +1,4 @@
-use Rattle.std.proofs.Common.{ap, refl, sym, slice_get, ◌∙◌}
-use Rattle.std.proofs.lemmas.Option.{slice_get_past}
+use Rattle.std.proofs.Common.{refl, sym}
 use Rattle.p3_util.proofs.Flat.{get-at, put-at}
 use Rattle.p3_util.proofs.views.loans.item_of_rows.Goals as goal
 
@@ -9,8 +8,3 @@ returns-then-i-countable g c =
     let item = c.item_at.ensures in
     let read = get-at _ _ _ _ _ _ place.row place.place item.len place.before place.item item.item (rw c.countable.ensures.items at c.if-i-countable.true) in
     ((refl, (λ w. put-at _ _ _ _ _ _ w place.row place.place item.len place.before place.item refl), refl), record { writes_back = tt; item = sym read })
-
-pub returns-else-i-countable : goal.returns-else-i-countable
-returns-else-i-countable g c =
-    let past = slice_get_past _ _ c.if-i-countable.false in
-    ((refl, (λ w. tt), refl), record { writes_back = tt; item = sym (ap (λ l. slice_get l c.args.i) (sym c.countable.ensures.items) ∙ past) })

@@ -23,12 +23,6 @@ loop-line-preserved g c =
       holder = g.met.C.Cells.same_holder_trans _ _ _ c.loop-line.invariant.holder c.put_few-out.ensures.holder;
     }
 
-pub overflow_mul-done-then-done-rows : goal.overflow_mul-done-then-done-rows
-overflow_mul-done-then-done-rows g c = omega (arith, c.requires.piece.inside (c.args.rows / LINE_ITEMS * LINE_ITEMS) 0 (omega arith) (omega arith))
-
-pub overflow_add-from-then-done-rows : goal.overflow_add-from-then-done-rows
-overflow_add-from-then-done-rows g c = omega (arith, c.requires.piece.inside (c.args.rows / LINE_ITEMS * LINE_ITEMS) 0 (omega arith) (omega arith))
-
 pub put_few-out-requires-then-done-rows : goal.put_few-out-requires-then-done-rows
 put_few-out-requires-then-done-rows g c = record {
   piece = record {
