@@ -5,7 +5,7 @@ use Rattle.std.specs.List.{swap}
 use Rattle.std.proofs.Math.Seq.{take-set-lt}
 use Rattle.std.proofs.lemmas.List.{length-set, set-append_left, set-append_right, set-set, set_comm, take-set, drop-set-add, drop-set-lt, take-append-drop, get_or-take, get_or_default, take_all, get_or-drop}
 use Rattle.std.proofs.lemmas.Option.{get_or_from_slice_get, slice_get-get_or, slice_get_read}
-use Rattle.std.proofs.lemmas.List.Edits.{length-swap, swap_is}
+use Rattle.std.proofs.lemmas.List.Edits.{swap_is}
 use Rattle.std.proofs.lemmas.List.Concat.{get_or-flat_map}
 use Rattle.std.proofs.lemmas.Bool.{le-ltb}
 use Rattle.p3_util.specs.Flat.{IsFlat, countable_items, flat}
@@ -212,10 +212,6 @@ module _ {A : Type 0} where
   pub countable-set : (new old : List (List A)) (i : ℕ) (v : A) → flat new ≡ set (flat old) i v → countable_items new ≡ set (countable_items old) i v
   countable-set new old i v is =
       rw (sym (flat-set-len new old i v is)) (elim (nat_lt (length (flat old)) (2 ^ 64)) as (λ b. cond b (flat new) [] ≡ set (cond b (flat old) []) i v) [ true ↦ is | false ↦ refl ])
-
-  -- two items are exchanged
-  pub flat-swap-len : (new old : List (List A)) (i j : ℕ) → flat new ≡ swap (flat old) i j → length (flat old) ≡ length (flat new)
-  flat-swap-len new old i j is = sym (ap length is ∙ length-swap (flat old) i j)
 
   -- where there is an item, a usize counts them
   pub countable-some : (rows : List (List A)) (i : ℕ) → i < length (countable_items rows) → countable_items rows ≡ flat rows
