@@ -32,12 +32,7 @@ loop-preserved g c =
       room = search rules;
     }
 
-pub returns-clause-rows : goal.returns-clause-rows
-returns-clause-rows g c =
-    let all : flat c.loop.rows.items ≡ c.args.vec.items = grind (arith, common_steps) in
-    sym c.loop.invariant.cut ∙ ap (λ l. pieces g.row.N l) all
-
--- so many items as the rows have, where n divides their number
+-- as many items as the rows have, where n divides their number
 whole_rows : (total rows counter n : ℕ) → rows ≡ counter → total / n ≤ counter → counter ≤ total / n → total % n ≡ 0 → total ≡ rows * n
 whole_rows total rows counter n made over under divides =
     let count : total / n ≡ rows = omega arith in
@@ -54,10 +49,3 @@ returns-clause-places g c =
     let under : c.loop.counter ≤ vec_len c.args.vec / g.row.N = rw c.len-count.ensures at c.loop.auto.counter-end in
     let len = whole_rows (vec_len c.args.vec) (length c.loop.rows.items) c.loop.counter g.row.N made over under c.requires.divides in
     IsFlat-pieces g.row.N c.loop.rows.items c.args.vec.items (whole ∙ len) (λ _. ap (λ l. pieces g.row.N l) (sym all) ∙ c.loop.invariant.cut)
-
-pub returns-clause-len : goal.returns-clause-len
-returns-clause-len g c =
-    let made : vec_len c.loop.rows ≡ c.loop.counter = c.loop.invariant.made in
-    let over : vec_len c.args.vec / g.row.N ≤ c.loop.counter = rw c.len-count.ensures at c.loop-test.false in
-    let under : c.loop.counter ≤ vec_len c.args.vec / g.row.N = rw c.len-count.ensures at c.loop.auto.counter-end in
-    sym (whole_rows (vec_len c.args.vec) (vec_len c.loop.rows) c.loop.counter g.row.N made over under c.requires.divides)
