@@ -41,7 +41,7 @@ pub piece_count-whole : (k n : ℕ) → 0 < n → piece_count n (k * n) ≡ k
 piece_count-whole k zero some = absurd (omega arith)
 piece_count-whole k (suc n) some = div_ceil-whole k (suc n) some
 
--- so many pieces have room for the items, and no fewer do
+-- that number of pieces has room for the items, and no smaller one does
 upper_by : (a n q r : ℕ) → n * q + r ≡ a → r < n → a ≤ (q + min 1 r) * n
 upper_by a n q zero e short = let z : q + min 1 0 ≡ q = omega arith in rw z (omega arith)
 upper_by a n q (suc r) e short = let z : q + min 1 (suc r) ≡ q + 1 = omega arith in rw z (omega arith)

@@ -20,7 +20,7 @@ abbrev pub in_type : {T : Type 0} → (ℤ → Option T) → Result ℤ Refusal 
 in_type has (Ok z) = ok_or (has z) out_of_range
 in_type has (Err r) = Err r
 
--- a number of an unsigned type of so many bits
+-- a number of an unsigned type of `bits` bits
 abbrev pub unsigned_of : ℕ → ℤ → Option ℕ
 unsigned_of bits (pos n) = if nat_lt n (2 ^ bits) then Some n else None
 unsigned_of bits (negsuc n) = None

@@ -6,7 +6,7 @@ use Rattle.std.specs.Fn.{Mut, CalledAt}
 use Rattle.std.specs.Int.{div_ceil}
 use Rattle.std.specs.List.{range_with_len, FoldsTo}
 
--- how many pieces of n items so many items make: the quotient, rounded up; none for n = 0
+-- how many pieces of n items a list of `items` items makes: the quotient, rounded up; none for n = 0
 abbrev pub piece_count : (n items : ℕ) → ℕ
 piece_count zero items = 0
 piece_count (suc k) items = div_ceil items (suc k)

@@ -217,7 +217,7 @@ fn whole(width: usize, height: usize) -> Region
     }
 }
 
-/// Whether a matrix of so many items is split.
+/// Whether a matrix with this number of items is split.
 fn is_large(items: usize) -> bool
     ensures { IsTrue result ↔ (LARGE_MATRIX < items) }
 {

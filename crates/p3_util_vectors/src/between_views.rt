@@ -40,7 +40,7 @@ fn between_views<const N: usize, const M: usize>(
     count_source_writes(rt, &input, &mut output, width, height)
 }
 
-/// Rows of so many items: those of the numbers from 0 on, or of their transpose, where 17 numbers are a row.
+/// `M` rows of `N` items: those of the numbers from 0 on, or of their transpose, where 17 numbers are a row.
 fn numbered_rows<const N: usize, const M: usize>(turned: bool) -> [[u64; N]; M] {
     let mut rows = [[0; N]; M];
     for (y, row) in rows.iter_mut().enumerate() {

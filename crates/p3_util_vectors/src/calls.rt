@@ -1,12 +1,15 @@
 //! Calls that a test makes with its condition asserted first. What a test knows of its own lists is no clause of theirs, and
 //! a test that makes such a call by a function of its own is proved without the call's contract.
 
-use p3_util_kernels::places::{Cells, Places};
+use crate::callers::transpose::levels_of;
+use p3_util_kernels::places::{Cells, Places, Writes};
 use p3_util_kernels::reverse::{
     fits_rows, reverse_counted, reverse_rows_counted, reverse_slice_index_bits,
     reverse_slice_row_index_bits,
 };
-use p3_util_kernels::transpose::{fits_matrix, transpose, transpose_counted};
+use p3_util_kernels::transpose::{
+    Region, fits_matrix, transpose, transpose_counted, transpose_split_on,
+};
 use std::process::Abort;
 
 /// Reverses `list`, as a slice.
@@ -59,4 +62,29 @@ pub(crate) fn transpose_slice<T: Copy>(
 ) {
     assert!(rt; fits_matrix(input.len(), output.len(), width, height));
     transpose(input, output, width, height);
+}
+
+/// Puts the transpose of `input` into `cells` by a split of at most `levels` levels, and returns the number of writes and how
+/// many splits nest.
+pub(crate) fn put_split<C: Cells>(
+    rt: &impl Abort,
+    input: &[C::Item],
+    cells: &mut C,
+    width: usize,
+    height: usize,
+    levels: u32,
+) -> (u128, u32) {
+    assert!(rt; fits_matrix(input.len(), cells.len(), width, height));
+    assert!(rt; levels_of(height, width) <= levels);
+    let whole = Region {
+        row_start: 0,
+        row_end: height,
+        col_start: 0,
+        col_end: width,
+    };
+    let mut out = Writes::new(cells);
+    let nested = transpose_split_on(input, &mut out, whole, width, height, levels);
+    let count = out.writes();
+    let _ = out.into_inner();
+    (count, nested)
 }

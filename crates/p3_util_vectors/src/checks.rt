@@ -16,6 +16,13 @@ pub(crate) fn same<T: PartialEq + Debug>(rt: &impl Abort, at: usize, got: &T, wa
     assert_eq!(rt; *got, *wanted, "at {at}");
 }
 
+/// Asserts what a list holds at these places, in row `row` of a table.
+pub(crate) fn check_places(rt: &impl Abort, row: usize, items: &[u64], places: &[(usize, u64)]) {
+    for (place, held) in places {
+        assert_eq!(rt; items.get(*place), Some(held), "at {place}, in row {row}");
+    }
+}
+
 /// What was asked of memory, which is found.
 pub(crate) fn found<T>(rt: &impl Abort, asked: Result<T, AllocError>) -> T {
     asked.expect(rt, "out of memory")

@@ -30,7 +30,7 @@ pub(crate) fn exchange_of(rt: &impl Abort, note: &Note) -> (usize, usize) {
 }
 
 impl Noted {
-    /// The numbers from 0 to below `count`, with room for so many notes.
+    /// The numbers from 0 to below `count`, with room for `room` notes.
     pub(crate) fn numbered(rt: &impl Abort, alloc: Global, count: usize, room: usize) -> Self {
         let items = numbers(rt, alloc, count);
         let notes = found(rt, Vec::with_capacity(alloc, room));

@@ -1,11 +1,9 @@
 //! The order of the writes of transposes, place by place, from the rule of each path.
 
 use super::noted::Noted;
-use crate::callers::transpose::levels_of;
+use crate::calls::put_split;
 use crate::checks::{equal, found, numbers, same};
 use crate::puts::{places_of, puts};
-use p3_util_kernels::places::{Cells, Writes};
-use p3_util_kernels::transpose::{Region, fits_matrix, transpose_split_on};
 use std::alloc::Global;
 use std::process::Abort;
 
@@ -73,27 +71,6 @@ fn by_leaves(k: usize) -> (usize, usize) {
     )
 }
 
-/// Puts the transpose of `input` into `cells` by the split.
-fn put_by_split<C: Cells>(
-    rt: &impl Abort,
-    input: &[C::Item],
-    cells: &mut C,
-    width: usize,
-    height: usize,
-) {
-    assert!(rt; fits_matrix(input.len(), cells.len(), width, height));
-    assert!(rt; levels_of(height, width) <= 64);
-    let whole = Region {
-        row_start: 0,
-        row_end: height,
-        col_start: 0,
-        col_end: width,
-    };
-    let mut out = Writes::new(cells);
-    transpose_split_on(input, &mut out, whole, width, height, 64);
-    let _ = out.into_inner();
-}
-
 /// The columns and the rows of the puts of a split, in order.
 fn puts_of_split(
     rt: &impl Abort,
@@ -103,7 +80,8 @@ fn puts_of_split(
 ) -> Vec<(usize, usize)> {
     let input = numbers(rt, alloc, width.saturating_mul(height));
     let mut noted = Noted::numbered(rt, alloc, input.len(), input.len().saturating_add(1));
-    put_by_split(rt, &input, &mut noted, width, height);
+    let (writes, _) = put_split(rt, &input, &mut noted, width, height, 64);
+    same(rt, width, &writes, &(input.len() as u128));
     found(rt, places_of(rt, alloc, &noted.notes, height))
 }
 

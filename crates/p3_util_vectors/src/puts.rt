@@ -16,7 +16,7 @@ const WRITES: [(usize, usize, u128); 5] = [
     (17, 19, 323),
 ];
 
-/// Puts the transpose of so many numbers into a list that notes each put, through a reference, in a write an item.
+/// Puts the transpose of the numbers from 0 on into a list that notes each put, through a reference, in a write an item.
 fn noted(rt: &impl Abort, alloc: Global, width: usize, height: usize) -> Noted {
     let input = numbers(rt, alloc, width.saturating_mul(height));
     let mut noted = Noted::numbered(rt, alloc, input.len(), input.len().saturating_add(1));
@@ -25,7 +25,7 @@ fn noted(rt: &impl Abort, alloc: Global, width: usize, height: usize) -> Noted {
     noted
 }
 
-/// The place of a put, as a column and a row of a matrix of so many rows.
+/// The place of a put, as a column and a row of a matrix of `height` rows.
 fn place_of(rt: &impl Abort, note: &Note, height: usize) -> (usize, usize) {
     match note {
         Note::Put(place) => (

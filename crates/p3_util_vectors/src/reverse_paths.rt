@@ -1,7 +1,7 @@
 //! The paths of bit reversal: what they leave, their numbers of swaps, and the order of the long path's exchanges.
 
 use super::noted::{Noted, exchange_of};
-use crate::checks::{equal, numbers, same};
+use crate::checks::{check_places, equal, numbers, same};
 use p3_util_kernels::bits::checked_log_size_sum;
 use p3_util_kernels::places::{Places, SlicePlaces, Swaps};
 use p3_util_kernels::reverse::{
@@ -137,13 +137,6 @@ fn after(rt: &impl Abort, alloc: Global, call: Call, len: usize) -> (Vec<u64>, u
     let mut items = numbers(rt, alloc, len);
     let swaps = make(rt, &mut Swaps::new(SlicePlaces::new(&mut items)), call);
     (items, swaps)
-}
-
-/// Asserts what a list holds at these places, in row `row` of the examples.
-fn check_places(rt: &impl Abort, row: usize, items: &[u64], places: &[(usize, u64)]) {
-    for (place, held) in places {
-        same(rt, row, &items.get(*place), &Some(held));
-    }
 }
 
 #[test]

@@ -1,36 +1,15 @@
 //! The recursive split of a transpose.
 
 use crate::callers::transpose::levels_of;
+use crate::calls::put_split;
 use crate::checks::{equal, numbers, repeated, same};
 use crate::puts::puts;
-use p3_util_kernels::places::{SliceCells, Writes};
-use p3_util_kernels::transpose::{Region, fits_matrix, transpose_split_on};
+use p3_util_kernels::places::SliceCells;
 use std::alloc::Global;
 use std::process::Abort;
 
-/// Puts the transpose of `input` by a split with so many levels, and returns the number of writes and how many splits nest.
-fn put_split(
-    rt: &impl Abort,
-    input: &[u64],
-    output: &mut [u64],
-    width: usize,
-    height: usize,
-    levels: u32,
-) -> (u128, u32) {
-    assert!(rt; fits_matrix(input.len(), output.len(), width, height));
-    assert!(rt; levels_of(height, width) <= levels);
-    let whole = Region {
-        row_start: 0,
-        row_end: height,
-        col_start: 0,
-        col_end: width,
-    };
-    let mut writes = Writes::new(SliceCells::new(output));
-    let nested = transpose_split_on(input, &mut writes, whole, width, height, levels);
-    (writes.writes(), nested)
-}
-
-/// The transpose of the numbers from 0 on, by a split with so many levels, in a write an item; and how many splits nest.
+/// The transpose of the numbers from 0 on, by a split of at most `levels` levels, in a write an item; and how many splits
+/// nest.
 fn split(
     rt: &impl Abort,
     alloc: Global,
@@ -40,7 +19,8 @@ fn split(
 ) -> (Vec<u64>, u32) {
     let input = numbers(rt, alloc, width.saturating_mul(height));
     let mut output = repeated(rt, alloc, 0, input.len());
-    let (writes, nested) = put_split(rt, &input, &mut output, width, height, levels);
+    let mut cells = SliceCells::new(&mut output);
+    let (writes, nested) = put_split(rt, &input, &mut cells, width, height, levels);
     same(rt, width, &writes, &(input.len() as u128));
     (output, nested)
 }

@@ -1,7 +1,7 @@
 //! Squares transposed in place.
 
 use super::noted::{Note, Noted, exchange_of};
-use crate::checks::{equal, numbers, same};
+use crate::checks::{check_places, equal, numbers, same};
 use p3_util_kernels::places::{Places, SlicePlaces, Swaps};
 use p3_util_kernels::transpose::transpose_square_on;
 use std::alloc::Global;
@@ -58,13 +58,11 @@ fn worked_squares(rt: HostRuntime) {
     for (row, (len, base, log_stride, log_size, wanted, places)) in EXAMPLES.iter().enumerate() {
         let (items, swaps) = transposed(rt.alloc(), &rt, *len, *base, *log_stride, *log_size);
         same(&rt, row, &swaps, wanted);
-        for (place, held) in *places {
-            same(&rt, *place, &items.get(*place), &Some(held));
-        }
+        check_places(&rt, row, &items, places);
     }
 }
 
-/// Asserts that a whole square of `2^log` rows of the numbers from 0 on is transposed in so many exchanges.
+/// Asserts that a whole square of `2^log` rows of the numbers from 0 on is transposed in `wanted` exchanges.
 fn check_whole_square(rt: &impl Abort, alloc: Global, log: usize, wanted: u128) {
     assert!(rt; log < 32);
     let (items, swaps) = transposed(alloc, rt, 1 << (2 * log), 0, log, log);

@@ -101,7 +101,7 @@ pub fn split_counted<C: Cells, R: Source<Item = C::Item> + Copy>(
     (count, nested)
 }
 
-/// Puts `region` by halves, with so many levels at most, and returns how many splits are nested too. The source is copied at
+/// Puts `region` by halves, with at most `levels` levels, and returns how many splits are nested too. The source is copied at
 /// each call, so that its address is not read again at each item.
 fn put_split<C: Cells, R: Source<Item = C::Item> + Copy>(
     out: Writes<C>,
