@@ -3,8 +3,7 @@
 //! - A *source* is the matrix that is read, `height` rows of `width` items; a *cell* is a place of the output that is written.
 //!   What is at `y * width + x` of the source belongs in the cell `x * height + y`.
 //! - A *region* is some neighbouring rows of the matrix, and of these some neighbouring columns.
-//! - A *piece* is a part of a region, within a number of rows and of columns. Pieces are put from left to right, and then from
-//!   top to bottom.
+//! - A *piece* is a part of a region that is put at once. Pieces are put from left to right, and then from top to bottom.
 //! - A *block* is 4 by 4 items, put row after row. A *tile* is 16 by 16 items: four columns of four blocks.
 //! - A *strip* is 128 rows of a region, or what is left of it below, put column after column. So is a piece at the right or
 //!   lower edge of tiles, or in their corner.
