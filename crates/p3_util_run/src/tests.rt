@@ -517,6 +517,28 @@ fn each_write_is_one_call(rt: HostRuntime) {
     equal(&rt, &flushes, &1);
 }
 
+/// A `Watched` that puts another error in place of the one that it is given fails here.
+#[test]
+fn errors_are_handed_on(rt: HostRuntime) {
+    let mut reader = Watched::new(ByteReader {
+        rest: b"",
+        good_reads: 0,
+        failure: ErrorKind::BrokenPipe,
+    });
+    let read = reader.read(&mut [0]).map_err(|e| e.kind());
+    equal(&rt, &read, &Err(ErrorKind::BrokenPipe));
+    let mut writer = Watched::new(ByteWriter {
+        taken: Vec::new(rt.alloc()),
+        good_writes: 0,
+        refusal: Refusal::Fails(ErrorKind::BrokenPipe),
+        good_flushes: 0,
+    });
+    let written = writer.write(&[0]).map_err(|e| e.kind());
+    equal(&rt, &written, &Err(ErrorKind::BrokenPipe));
+    let flushed = writer.flush().map_err(|e| e.kind());
+    equal(&rt, &flushed, &Err(ErrorKind::Interrupted));
+}
+
 /// The input takes one read and one more that finds its end, each for as many bytes. The text is handed on whole, and is
 /// flushed once.
 #[test]
