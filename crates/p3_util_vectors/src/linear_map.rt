@@ -111,7 +111,6 @@ fn replays_the_script(rt: HostRuntime) {
 #[test]
 fn inserts_and_writes(rt: HostRuntime) {
     let calls = [
-        (Get(1), None),
         (Write(42, 0), None),
         (Insert(42u32, 100u32), None),
         (Write(42, 101), Some(100)),
@@ -119,6 +118,11 @@ fn inserts_and_writes(rt: HostRuntime) {
         (Write(999, 0), None),
     ];
     replay(&rt, rt.alloc(), &calls, &[(42, 101)]);
+}
+
+#[test]
+fn a_map_of_no_pairs(rt: HostRuntime) {
+    replay::<u32, u32>(&rt, rt.alloc(), &[(Get(1), None)], &[]);
 }
 
 #[test]
