@@ -14,8 +14,8 @@ cd "$(dirname "$0")/.."
 
 # The tests that are run so: a crate, and how the names of its tests begin.
 tests=(
-    'p3_util_vectors refused_growth::'
-    'p3_util_vectors no_memory::'
+    'p3_util_vectors tests::refused_growth::'
+    'p3_util_vectors tests::takes_no_memory::'
 )
 [[ ${1-} != program ]] || tests=()
 
@@ -107,7 +107,7 @@ for line in "${tests[@]}"; do
         continue
     fi
     for name in $names; do
-        if [[ $prefix == no_memory::* ]]; then
+        if [[ $prefix == tests::takes_no_memory::* ]]; then
             of_calls "$built" "$name"
         else
             of_test "$built" "$name"

@@ -1,6 +1,6 @@
 //! The two stages of a block of four by four.
 
-use crate::checks::equal;
+use crate::tests::checks::equal;
 use p3_util_kernels::transpose::{butterfly_4x4, butterfly_stage1, butterfly_stage2};
 
 #[test]

@@ -1,7 +1,7 @@
 //! Logarithms, powers, reversed digits and short names against worked examples and the original crate.
 
-use crate::checks::{equal, found, same};
-use crate::oracle::words::{
+use crate::tests::checks::{equal, found, same};
+use crate::tests::oracle::words::{
     CHECKED_POWERS, CHECKED_SUMS, LOGARITHMS, NAMES, POWERS_OF_THREE, POWERS_OF_TWO,
     REVERSED_BELOW_POWERS, REVERSED_LOW_DIGITS,
 };

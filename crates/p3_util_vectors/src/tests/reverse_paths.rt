@@ -1,7 +1,7 @@
 //! The paths of bit reversal: what they leave, their numbers of swaps, and the order of the long path's exchanges.
 
 use super::noted::{Noted, exchange_of};
-use crate::checks::{check_places, equal, numbers, same};
+use crate::tests::checks::{check_places, equal, numbers, same};
 use p3_util_kernels::bits::checked_log_size_sum;
 use p3_util_kernels::places::{Places, SlicePlaces, Swaps};
 use p3_util_kernels::reverse::{

@@ -1,8 +1,8 @@
 //! The writes of a transpose, one by one: each is one put, and their order.
 
 use super::noted::{Note, Noted};
-use crate::calls::count_writes;
-use crate::checks::{equal, found, numbers, same};
+use crate::tests::calls::count_writes;
+use crate::tests::checks::{equal, found, numbers, same};
 use p3_util_kernels::places::{Cells, Writes};
 use std::alloc::{AllocError, Global};
 use std::process::Abort;

@@ -12,8 +12,8 @@ ghost use Rattle.std.specs.Str.{bytes_eq, str_to_ascii_lowercase};
 ghost use Rattle.p3_util.specs.JsonElements.{u32_reading};
 ghost use Rattle.p3_util_vectors.specs.Pairs.{map_ok, pair_reading};
 
-use crate::checks::{Owner, equal, same};
-use crate::linear_map::lent;
+use crate::tests::checks::{Owner, equal, same};
+use crate::tests::linear_map::lent;
 use p3_util::array_serialization::{
     ArrayElement, ArrayError, ElementError, deserialize, serialize,
 };

@@ -1,9 +1,9 @@
 //! Transposes against worked examples and the original crate.
 
-use crate::calls::{count_writes, transpose_slice};
-use crate::checks::{numbers, repeated, same};
-use crate::oracle::transposes::{LARGE, OTHERS, SMALL, SMALL_SIDE};
-use crate::oracle::{hash, items};
+use crate::tests::calls::{count_writes, transpose_slice};
+use crate::tests::checks::{numbers, repeated, same};
+use crate::tests::oracle::transposes::{LARGE, OTHERS, SMALL, SMALL_SIDE};
+use crate::tests::oracle::{hash, items};
 use p3_util_kernels::places::SliceCells;
 use p3_util_kernels::transpose::fits_matrix;
 use std::alloc::Global;

@@ -4,9 +4,9 @@
 //! both runs, and finds as many: a body that makes a request and goes on where it is refused fails there. Where a test's own
 //! list is refused, it ends.
 
-use crate::calls::{count_writes, reverse_slice, reverse_slice_rows, transpose_slice};
-use crate::checks::equal;
-use crate::linear_map::lent;
+use crate::tests::calls::{count_writes, reverse_slice, reverse_slice_rows, transpose_slice};
+use crate::tests::checks::equal;
+use crate::tests::linear_map::lent;
 use p3_util::array_serialization::{ArrayElement, ArrayError, deserialize, serialize};
 use p3_util::chunks::{apply_to_chunks, iter_array_chunks_padded};
 use p3_util::linear_map::LinearMap;

@@ -5,8 +5,8 @@ ghost use Rattle.std.specs.Cmp.Rules.{comparing};
 ghost use Rattle.std.specs.Ordering.{on};
 
 use crate::callers::linear_map::{Call, run_call};
-use crate::checks::{Owner, equal, found, same};
-use crate::oracle::map::{SCRIPT, SCRIPT_PAIRS};
+use crate::tests::checks::{Owner, equal, found, same};
+use crate::tests::oracle::map::{SCRIPT, SCRIPT_PAIRS};
 use Call::{Get, Insert, Write};
 use p3_util::linear_map::LinearMap;
 use std::alloc::{AllocError, Global};

@@ -1,7 +1,7 @@
 //! Transposes of many shapes and item types, against the definition.
 
-use crate::calls::transpose_slice;
-use crate::checks::found;
+use crate::tests::calls::transpose_slice;
+use crate::tests::checks::found;
 use std::alloc::{AllocError, Global};
 use std::fmt::Debug;
 use std::process::Abort;

@@ -9,7 +9,7 @@ pub mod reversals;
 pub mod transposes;
 pub mod words;
 
-use crate::checks::found;
+use crate::tests::checks::found;
 use std::alloc::Global;
 use std::process::Abort;
 

@@ -1,6 +1,6 @@
 //! The zip of two lists of one length.
 
-use crate::checks::{equal, same};
+use crate::tests::checks::{equal, same};
 use p3_util::zip_eq::zip_eq;
 use std::fmt::Debug;
 use std::process::Abort;

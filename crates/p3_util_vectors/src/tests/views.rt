@@ -1,8 +1,8 @@
 //! Views of arrays and moved vectors against worked examples, and the kernels over views.
 ghost use Rattle.std.specs.Prelude.{◌≤◌};
 
-use crate::calls::{count_swaps_of, count_writes};
-use crate::checks::{copied, equal, numbers, same};
+use crate::tests::calls::{count_swaps_of, count_writes};
+use crate::tests::checks::{copied, equal, numbers, same};
 use p3_util::{
     as_base_slice, as_base_slice_mut, flat_len, flatten_to_base, reconstitute_from_base,
 };

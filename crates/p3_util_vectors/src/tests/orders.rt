@@ -1,9 +1,9 @@
 //! The order of the writes of transposes, place by place, from the rule of each path.
 
 use super::noted::Noted;
-use crate::calls::put_split;
-use crate::checks::{equal, found, numbers, same};
-use crate::puts::{places_of, puts};
+use crate::tests::calls::put_split;
+use crate::tests::checks::{equal, found, numbers, same};
+use crate::tests::puts::{places_of, puts};
 use std::alloc::Global;
 use std::process::Abort;
 

@@ -1,6 +1,6 @@
 //! Transposes of regions.
 
-use crate::checks::{equal, numbers, repeated, same};
+use crate::tests::checks::{equal, numbers, repeated, same};
 use p3_util_kernels::places::{SliceCells, Writes};
 use p3_util_kernels::transpose::{Region, fits_matrix, transpose_region_on};
 use std::alloc::Global;

@@ -2,8 +2,8 @@
 ghost use Rattle.std.specs.Prelude.{◌<◌, ◌^◌, length};
 ghost use Rattle.std.specs.Iterator.{at_most};
 
-use crate::checks::same;
-use crate::oracle::pieces::{BY_FOUR, PADDED_BY_THREE};
+use crate::tests::checks::same;
+use crate::tests::oracle::pieces::{BY_FOUR, PADDED_BY_THREE};
 use p3_util::chunks::{apply_to_chunks, iter_array_chunks_padded};
 use std::cell::Cell;
 use std::process::Abort;

@@ -1,10 +1,10 @@
 //! Bit reversal against worked examples and the original crate.
 
-use crate::calls::{count_swaps_of, reverse_slice};
-use crate::checks::{Owner, copied, equal, found, numbers, owners, reversed, same};
 use crate::joined::Joined;
-use crate::oracle::reversals::REVERSALS;
-use crate::oracle::{hash, items};
+use crate::tests::calls::{count_swaps_of, reverse_slice};
+use crate::tests::checks::{Owner, copied, equal, found, numbers, owners, reversed, same};
+use crate::tests::oracle::reversals::REVERSALS;
+use crate::tests::oracle::{hash, items};
 use p3_util_kernels::places::SlicePlaces;
 use std::alloc::{AllocError, Global};
 use std::cell::Cell;

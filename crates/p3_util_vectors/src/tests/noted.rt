@@ -2,7 +2,7 @@
 
 ghost use Rattle.std.specs.Prelude.{◌≡◌};
 
-use crate::checks::{found, numbers};
+use crate::tests::checks::{found, numbers};
 use p3_util_kernels::places::{Cells, Places};
 use std::alloc::Global;
 use std::process::Abort;

@@ -1,8 +1,8 @@
 //! Reversal of rows against worked examples and the definition.
 
 use super::noted::{Note, Noted};
-use crate::calls::{count_row_swaps, reverse_slice_rows};
-use crate::checks::{Owner, copied, equal, numbers, owners, reversed, same};
+use crate::tests::calls::{count_row_swaps, reverse_slice_rows};
+use crate::tests::checks::{Owner, copied, equal, numbers, owners, reversed, same};
 use p3_util::as_base_slice_mut;
 use p3_util_kernels::places::SlicePlaces;
 use p3_util_kernels::reverse::fits_rows;

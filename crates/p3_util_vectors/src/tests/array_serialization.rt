@@ -1,7 +1,7 @@
 //! Arrays as JSON lists: worked examples over values that are read from JSON text.
 
 use crate::callers::array_serialization::written_and_read;
-use crate::checks::{equal, found};
+use crate::tests::checks::{equal, found};
 use p3_util::array_serialization::ArrayError::{Element, Length, NotArray};
 use p3_util::array_serialization::ElementError::{Float, Kind, Range};
 use p3_util::array_serialization::{

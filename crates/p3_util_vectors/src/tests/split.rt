@@ -1,9 +1,9 @@
 //! The recursive split of a transpose.
 
 use crate::callers::transpose::levels_of;
-use crate::calls::put_split;
-use crate::checks::{equal, numbers, repeated, same};
-use crate::puts::puts;
+use crate::tests::calls::put_split;
+use crate::tests::checks::{equal, numbers, repeated, same};
+use crate::tests::puts::puts;
 use p3_util_kernels::places::SliceCells;
 use std::alloc::Global;
 use std::process::Abort;

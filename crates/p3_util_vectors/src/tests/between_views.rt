@@ -1,6 +1,6 @@
 //! Transposes from a view into a view.
 
-use crate::checks::equal;
+use crate::tests::checks::equal;
 use p3_util::{as_base_slice, as_base_slice_mut, flat_len};
 use p3_util_kernels::places::{Cells, Source, Writes};
 use p3_util_kernels::transpose::{fits_matrix, transpose_source_on};

@@ -1,7 +1,7 @@
 //! Large sizes, for which there is memory: a body that refuses from some size on, whatever memory there is, meets its
 //! contract, and fails here.
 
-use crate::checks::{equal, found, numbers, same};
+use crate::tests::checks::{equal, found, numbers, same};
 use p3_util::array_serialization::{deserialize, serialize};
 use p3_util::linear_map::LinearMap;
 use p3_util::{flat_len, flatten_to_base, reconstitute_from_base};

@@ -1,7 +1,7 @@
 //! Squares transposed in place.
 
 use super::noted::{Note, Noted, exchange_of};
-use crate::checks::{check_places, equal, numbers, same};
+use crate::tests::checks::{check_places, equal, numbers, same};
 use p3_util_kernels::places::{Places, SlicePlaces, Swaps};
 use p3_util_kernels::transpose::transpose_square_on;
 use std::alloc::Global;
