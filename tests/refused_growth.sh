@@ -16,6 +16,7 @@ cd "$(dirname "$0")/.."
 tests=(
     'p3_util_vectors tests::refused_growth::'
     'p3_util_vectors tests::takes_no_memory::'
+    'p3_util_transform tests::refused_growth::'
 )
 [[ ${1-} != program ]] || tests=()
 

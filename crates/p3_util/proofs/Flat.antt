@@ -1,5 +1,5 @@
 -- What a write or an exchange in the rows does to the list of their items.
-use Rattle.std.proofs.Common.{ℕ, zero, suc, ◌≡◌, ◌+◌, ◌-◌, ◌*◌, ◌<◌, ◌≤◌, ◌≢◌, List, [], ◌∷◌, ◌++◌, length, get_or, set, take, drop, refl, sym, ap, ◌∙◌, arith, length-append, get_or-set_other, get_or-set_same, zero-add, add_assoc, ◌^◌, ◌/◌, ◌%◌, max, subst, Some, slice_get, nat_lt, cond, true, false}
+use Rattle.std.proofs.Common.{ℕ, zero, suc, ◌≡◌, ◌+◌, ◌-◌, ◌*◌, ◌<◌, ◌≤◌, ◌≢◌, List, [], ◌∷◌, ◌++◌, length, get_or, set, take, drop, refl, sym, ap, ◌∙◌, arith, length-append, get_or-set_other, get_or-set_same, zero-add, add_assoc, ◌^◌, ◌/◌, ◌%◌, inl, inr, max, subst, Some, slice_get, nat_lt, cond, true, false}
 use Rattle.std.proofs.Math.Nat.{div-lt_iff_lt-mul, mul-le-mul_right}
 use Rattle.std.specs.List.{swap}
 use Rattle.std.proofs.Math.Seq.{take-set-lt}
@@ -7,8 +7,16 @@ use Rattle.std.proofs.lemmas.List.{length-set, set-append_left, set-append_right
 use Rattle.std.proofs.lemmas.Option.{get_or_from_slice_get, slice_get-get_or, slice_get_read}
 use Rattle.std.proofs.lemmas.List.Edits.{swap_is}
 use Rattle.std.proofs.lemmas.List.Concat.{get_or-flat_map}
-use Rattle.std.proofs.lemmas.Bool.{le-ltb}
+use Rattle.std.proofs.lemmas.Bool.{cases_lt, le-ltb}
 use Rattle.p3_util.specs.Flat.{IsFlat, countable_items, flat}
+
+-- two places in order, whose rows are not, lie in one row
+pub one_row : (r c s d n i j : ℕ) → d < n → i ≡ r * n + c → j ≡ s * n + d → i < j → s ≤ r → r ≡ s
+one_row r c s d n i j within at at' order le =
+    elim (cases_lt s r) [
+      | inl before ↦ let later : (s + 1) * n ≤ r * n = mul-le-mul_right n (omega arith) in absurd (omega (arith, later))
+      | inr after ↦ omega arith
+    ]
 
 module _ {A : Type 0} where
   -- where row r begins

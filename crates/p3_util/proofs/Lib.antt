@@ -1,3 +1,4 @@
+pub mod Callers
 pub mod FilledChunk
 pub mod Flat
 pub mod JsonLists

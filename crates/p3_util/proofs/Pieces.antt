@@ -1,13 +1,14 @@
 -- What follows from `specs/Pieces.antt`: how many pieces there are, which one is where, and one piece more.
-use Rattle.std.proofs.Common.{◌≡◌, ℕ, zero, suc, get_or, slice_get, ◌+◌, ◌*◌, ◌/◌, ◌%◌, ◌<◌, ◌≤◌, ◌⊎◌, min, List, [], ◌∷◌, ◌++◌, map, length, take, drop, inl, inr, refl, sym, ap, ap₂, ◌∙◌, subst, arith, length-append, length-drop}
+use Rattle.std.proofs.Common.{◌≡◌, ℕ, zero, suc, get_or, slice_get, ◌+◌, ◌*◌, ◌/◌, ◌%◌, ◌<◌, ◌≤◌, ◌⊎◌, min, List, [], ◌∷◌, ◌++◌, map, length, take, drop, inl, inr, refl, sym, ap, ap₂, ◌∙◌, subst, arith, length-append, length-drop, append-nil}
 use Rattle.std.proofs.Math.Nat.{div-add-mod, le_of_mul-le-mul_left, lt_of_mul-lt-mul_left, mul-le-mul_right}
 use Rattle.std.proofs.Math.Seq.{drop-append_seam}
-use Rattle.std.proofs.lemmas.List.{take-append-le, drop-append-le}
+use Rattle.std.proofs.lemmas.Grind.{flat_map-append}
+use Rattle.std.proofs.lemmas.List.{take-append-le, drop-append-le, length-take-le, take-append-drop}
 use Rattle.std.proofs.lemmas.List.FromFn.{get_or-map-range_with_len, map-range_with_len_more, length-map-range_with_len}
 use Rattle.std.proofs.lemmas.Nat.{div-add-mod', div-mul-add, mod-mul-add, mod_below}
 use Rattle.std.specs.Int.{div_ceil}
 use Rattle.std.specs.List.{range_with_len}
-use Rattle.p3_util.specs.Flat.{IsFlat}
+use Rattle.p3_util.specs.Flat.{IsFlat, flat}
 use Rattle.p3_util.specs.Pieces.{piece_count, piece, pieces}
 
 div_ceil-whole : (k n : ℕ) → 0 < n → div_ceil (k * n) n ≡ k
@@ -121,6 +122,34 @@ module _ {A : Type 0} where
   pub length-pieces : (n : ℕ) (xs : List A) → length (pieces n xs) ≡ piece_count n (length xs)
   unfolding pieces
   length-pieces n xs = length-map-range_with_len (piece n xs) 0 (piece_count n (length xs))
+
+  -- whole pieces joined are the list
+  joined-whole : (n k : ℕ) (xs : List A) → 0 < n → length xs ≡ k * n → flat (pieces n xs) ≡ xs
+  joined-whole n zero [] some whole = rw (pieces-nil n) refl
+  joined-whole n zero (x ∷ xs) some whole = absurd (omega arith)
+  joined-whole n (suc k) xs some whole =
+      let front = take (k * n) xs in
+      let back = drop (k * n) xs in
+      let f : length front ≡ k * n = length-take-le (k * n) xs (omega arith) in
+      let b : length back ≡ n = omega (arith, length-drop (k * n) xs) in
+      let e : front ++ back ≡ xs = take-append-drop (k * n) xs in
+      let more : pieces n xs ≡ pieces n front ++ back ∷ [] = subst (λ l. pieces n l ≡ pieces n front ++ back ∷ []) e (pieces-more n k front back f (omega arith) (omega arith)) in
+      ap flat more ∙ flat_map-append (λ piece. piece) (pieces n front) (back ∷ []) ∙ rw (joined-whole n k front some f, append-nil back) e
+
+  joined-by : (n k : ℕ) (front back : List A) → 0 < n → length front ≡ k * n → length back < n → flat (pieces n (front ++ back)) ≡ front ++ back
+  joined-by n k front [] some whole short = rw (append-nil front) (joined-whole n k front some whole)
+  joined-by n k front (y ∷ ys) some whole short =
+      ap flat (pieces-more n k front (y ∷ ys) whole (omega arith) (omega arith))
+      ∙ flat_map-append (λ piece. piece) (pieces n front) ((y ∷ ys) ∷ []) ∙ rw (joined-whole n k front some whole, append-nil (y ∷ ys)) refl
+
+  -- so are all pieces
+  pub joined-pieces : (n : ℕ) (xs : List A) → 0 < n → flat (pieces n xs) ≡ xs
+  joined-pieces n xs some =
+      let k = length xs / n in
+      let e : k * n + length xs % n ≡ length xs = div-add-mod' (length xs) n in
+      let h : length (take (k * n) xs) ≡ k * n = length-take-le (k * n) xs (omega arith) in
+      let b : length (drop (k * n) xs) < n = omega (arith, length-drop (k * n) xs) in
+      subst (λ l. flat (pieces n l) ≡ l) (take-append-drop (k * n) xs) (joined-by n k (take (k * n) xs) (drop (k * n) xs) some h b)
 
   slice_get-drop : (k i : ℕ) (xs : List A) → slice_get (drop k xs) i ≡ slice_get xs (k + i)
   slice_get-drop zero i xs = let z : 0 + i ≡ i = omega arith in rw z refl

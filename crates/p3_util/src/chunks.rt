@@ -1,11 +1,13 @@
 //! Iterators cut into chunks of one size.
-ghost use Rattle.std.specs.Prelude.{◌≡◌, ℕ, ◌<◌, ◌^◌, false};
+ghost use Rattle.std.specs.Prelude.{◌≡◌, ℕ, ◌<◌, ◌^◌, List, false};
 ghost use Rattle.std.specs.Iterator.{IsFiniteIterable};
 ghost use Rattle.std.specs.Iterator.Runs.{WholeRun};
 ghost use Rattle.p3_util.specs.PaddedPieces.{padded_source, padded_done, padded_fill, padded_steps, PadsRuns, EndsForGood};
-ghost use Rattle.p3_util.specs.Pieces.{CallsOnPieces};
+ghost use Rattle.p3_util.specs.Flat.{flat};
+ghost use Rattle.p3_util.specs.Pieces.{CallsOnPieces, pieces};
 
-/// Calls `func` on each chunk of `BUFLEN` bytes of `input` in turn; the last chunk may be shorter.
+/// Calls `func` on each chunk of `BUFLEN` bytes of `input` in turn; the last chunk may be shorter. The chunks joined are the
+/// bytes.
 ///
 /// The bytes are those before the first `None` of the iterator, which is not asked again after it.
 /// Where `BUFLEN` is 0 there is no chunk: neither `func` nor the iterator is called.
@@ -20,6 +22,7 @@ where
     requires callable { 0 < BUFLEN → H.IsAlwaysCallable func }
     ensures runs { 0 < BUFLEN → (it : I.IntoIter) × I.into_iter_gives input it
         × WholeRun I.IntoIter.next_gives it (λ p. CallsOnPieces H.FnMut BUFLEN func p.items) }
+    ensures joined { 0 < BUFLEN → (items : List ℕ) → flat (pieces BUFLEN items) ≡ items }
 {
     let iter = input.into_iter();
     if BUFLEN == 0 {

@@ -32,7 +32,7 @@ impl<'a, const W: usize> Places for ItemPlaces<'a, W> {
     ghost same_holder = { λ a b. a.items.ghost_name ≡ b.items.ghost_name };
 
     fn len(&self) -> usize {
-        self.items.len()
+        <[[[u8; W]; 3]]>::len(self.items)
     }
 
     #[inline(always)]
@@ -62,7 +62,7 @@ fn exchange_by_chunks<T: Copy, const N: usize>(items: &mut [T], i: usize, j: usi
     ensures { RunsExchanged i j len items.old items.new }
 {
     // Its contract says that the length is a usize.
-    let _ = items.len();
+    let _ = <[T]>::len(items);
     for t in 0..len / N {
         exchange_chunks::<T, N>(items, i + t * N, j + t * N);
     }
@@ -79,7 +79,7 @@ fn exchange_items<T>(items: &mut [T], i: usize, j: usize, len: usize)
     ensures { RunsExchanged i j len items.old items.new }
 {
     // Its contract says that the length is a usize.
-    let _ = items.len();
+    let _ = <[T]>::len(items);
     for t in 0..len {
         items.swap(i + t, j + t);
     }

@@ -3,7 +3,7 @@ use Rattle.std.proofs.Common.{◌≡◌, ℕ, ◌+◌, ◌-◌, ◌*◌, ◌/◌
 use Rattle.std.proofs.Math.Nat.{mul_comm}
 use Rattle.std.proofs.lemmas.Bool.{cases_lt}
 use Rattle.std.proofs.lemmas.Nat.{mul-le}
-use Rattle.p3_util_kernels.specs.declared.regions.Region.{Region}
+use Rattle.p3_util_kernels.specs.declared.transpose.regions.Region.{Region}
 use Rattle.p3_util_kernels.specs.declared.transpose.split.TheConstants.{LEAF_SIDE, NARROW_SIDE}
 use Rattle.p3_util_kernels.specs.Levels.{lev, nest}
 use Rattle.p3_util_kernels.specs.Region.{LiesInMatrix, cols_of, items_of, rows_of}

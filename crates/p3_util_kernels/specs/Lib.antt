@@ -2,13 +2,13 @@ pub mod Crossing
 pub mod Diagonal
 pub mod Digits
 pub mod Exchanged
+pub mod Least
 pub mod Levels
 pub mod Names
 pub mod Pieces
 pub mod Powers
 pub mod Region
 pub mod Reversal
-pub mod Runs
 pub mod Square
 pub mod Squares
 pub mod Stages

@@ -1,7 +1,7 @@
 -- A region of a matrix, transposed into an output that has room for the transpose of the whole matrix.
 -- From the rectangular transposes of p3-util 0.8.0.
 use Rattle.std.specs.Prelude.{ℕ, ◌≡◌, ◌≢◌, ◌+◌, ◌-◌, ◌*◌, ◌<◌, ◌≤◌, List, length, slice_get}
-use Rattle.p3_util_kernels.specs.declared.regions.Region.{Region}
+use Rattle.p3_util_kernels.specs.declared.transpose.regions.Region.{Region}
 
 -- row y and column x belong to the region
 pub record IsInRegion (region : Region) (x y : ℕ) : Type 0 where

@@ -15,3 +15,8 @@ pub record RoseByAtMost (old new most : ℕ) : Type 0 where
   pub steps : ℕ
   pub count : new ≡ counted old steps
   pub bound : steps ≤ most
+
+-- what a kernel did to its counter: so many steps, in the same holder
+pub record Stepped {M : Type 0} (count_of : M → ℕ) (same : M → M → Type 0) (steps : ℕ) (old new : M) : Type 0 where
+  pub count : count_of new ≡ counted (count_of old) steps
+  pub holder : same old new

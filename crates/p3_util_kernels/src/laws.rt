@@ -1,7 +1,7 @@
 //! Laws of the definitions. Each is the contract of a call that does nothing.
 
 ghost use Rattle.std.specs.Prelude.{ℕ};
-ghost use Rattle.p3_util_kernels.specs.Runs.{LeastPuts, LeastReversal, LeastSquare, Palindromes, PutsChange, ReversalDiffers, SquareDiffers, SwapsChange};
+ghost use Rattle.p3_util_kernels.specs.Least.{LeastPuts, LeastReversal, LeastSquare, Palindromes, PutsChange, ReversalDiffers, SquareDiffers, SwapsChange};
 
 /// The law of least numbers, over lists of numbers: that of [`least_runs_of`] for them.
 pub fn least_runs()
@@ -17,15 +17,15 @@ pub fn least_runs()
     least_runs_of::<usize>();
 }
 
-/// The law of least numbers, over lists of any items that differ from each other. A run is any list of exchanges, or of
-/// writes, done in turn.
+/// The law of least numbers, over lists of any items that differ from each other. Steps are
+/// any exchanges, or any writes, done in turn.
 ///
-/// - A run of m exchanges changes at most 2m places, and a run of m writes at most m.
+/// - m exchanges change at most 2m places, and m writes at most m.
 /// - 2^ceil(k/2) numbers of k bits are their own reverse.
 /// - So 2^k items and their reversal by index bits differ at exactly `2 * short_swaps k` places, and a square of `side` rows
 ///   and its transpose at exactly `side * (side - 1)`.
-/// - So every run of exchanges that reverses 2^k items has at least `short_swaps k` of them, every one that transposes a
-///   square at least `side * (side - 1) / 2`, and every run of writes that changes n places, whichever they are, at least n.
+/// - So every list of exchanges that reverses 2^k items has at least `short_swaps k` of them, every one that transposes a
+///   square at least `side * (side - 1) / 2`, and every list of writes that changes n places, whichever they are, at least n.
 ///   The short path, a whole square and the transpose meet these numbers.
 pub fn least_runs_of<T>()
     ensures swaps_change { SwapsChange T }

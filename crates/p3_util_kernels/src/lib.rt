@@ -4,6 +4,5 @@
 pub mod bits;
 pub mod laws;
 pub mod places;
-mod regions;
 pub mod reverse;
 pub mod transpose;

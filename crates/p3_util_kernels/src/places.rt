@@ -5,9 +5,10 @@
 //!   ([`Cells`]), and a *source* is a list that is only read ([`Source`]).
 //! - A *swap* is one counted exchange of two places ([`Swaps`]), a *write* one counted put of an item ([`Writes`]).
 //! - A kernel has a counter and nothing else, so the count is all that it did to the list: each write is one
-//!   [`Writes::put`] in a loop of the kernel, and 1 is added for it.
-//! - A kernel has the counter by value and gives it back. A public call over a `&mut` counter runs it over a fresh counter
-//!   of the same holder, and adds what that one counted.
+//!   [`Writes::put`] in a loop of the kernel, and 1 is added for it. It is written over a trait that has the steps of a
+//!   counter alone, has the counter by value and gives it back.
+//! - A counter and a reference to one have that trait. So a public call over a `&mut` counter is its kernel over that
+//!   reference, and a slice form is its kernel over a fresh counter of the slice.
 
 ghost use Rattle.std.specs.Prelude.{◌≡◌, ℕ, ◌+◌, ◌-◌, ◌*◌, ◌<◌, ◌≤◌, ◌⊎◌, List, Some, length, swap, slice_get, slice_set};
 ghost use Rattle.p3_util_kernels.specs.Exchanged.{RunsExchanged};
@@ -16,6 +17,7 @@ mod counters;
 mod references;
 mod slices;
 
+pub(crate) use counters::{CountedCells, CountedPlaces};
 pub use counters::{Swaps, Writes};
 pub use slices::{SliceCells, SlicePlaces, SliceSource};
 
@@ -40,6 +42,17 @@ pub trait Places {
         requires second { j < length (items self.old) }
         ensures exchanged { items self.new ≡ swap (items self.old) i j }
         ensures holder { same_holder self.old self.new };
+
+    /// As `exchange`, where `i` is below `j`. A holder may do so without a test of their order.
+    #[inline(always)]
+    fn exchange_ordered(&mut self, i: usize, j: usize)
+        requires order { i < j }
+        requires second { j < length (items self.old) }
+        ensures exchanged { items self.new ≡ swap (items self.old) i j }
+        ensures holder { same_holder self.old self.new }
+    {
+        self.exchange(i, j);
+    }
 
     /// Exchanges the `len` items from place `i` on with the `len` items from place `j` on, in order. The two runs have no
     /// place in common. A holder may do so in a faster way than by its `exchange`.

@@ -8,9 +8,10 @@ ghost use Rattle.p3_util_kernels.specs.SwapCounts.{reversal_swaps, short_swaps};
 mod long;
 mod rows;
 
-use crate::places::{Places, SlicePlaces, Swaps};
-use long::long_counted;
+use crate::places::{CountedPlaces, Places, Swaps};
 pub use long::reverse_index_bits_long;
+use long::reverse_long;
+use rows::reverse_rows;
 pub use rows::{reverse_chunks_on, reverse_row_index_bits_on};
 
 /// The greatest number of items for which the short path is picked.
@@ -39,23 +40,17 @@ fn is_short(len: usize) -> bool
 /// Reverses the order of `vals` by index bits: with 2^k items, place `i` gets the item from the place whose index has
 /// the k bits of `i` in reversed order. The length is zero or a power of two, which `fits_rows(vals.len(), 1)` tests, and
 /// std's `is_power_of_two`. The same call restores the order. No item is cloned or dropped.
-#[tactic(auto, using(crate::proofs::Lengths::rows_of_one))]
 pub fn reverse_slice_index_bits<F>(vals: &mut [F])
     requires { IsReversible (length vals.old) }
     ensures order { IsReversal vals.old vals.new }
     ensures inverse { IsReversal vals.new vals.old }
 {
-    if is_short(vals.len()) {
-        let mut places = SlicePlaces::new(vals);
-        reverse_rows_counted(&mut places, 1);
-    } else {
-        let mut places = SlicePlaces::new(vals);
-        long_counted(&mut places);
-    }
+    let _ = reverse_over_fresh(vals);
 }
 
 /// Reverses `places` by index bits, as [`reverse_index_bits_on`] does over a fresh counter, and returns the number of
 /// exchanges.
+#[inline(always)]
 pub fn reverse_counted<S: Places>(places: &mut S) -> u128
     requires { IsReversible (length (S.items places.old)) }
     ensures order { IsReversal (S.items places.old) (S.items places.new) }
@@ -65,12 +60,8 @@ pub fn reverse_counted<S: Places>(places: &mut S) -> u128
     ensures empty { length (S.items places.old) ≡ 0 → result ≡ 0 }
     ensures holder { S.same_holder places.old places.new }
 {
-    // The path is picked before there is a counter, so that no call keeps the holder of the short one in memory.
-    if is_short(places.len()) {
-        reverse_rows_counted(places, 1)
-    } else {
-        long_counted(places)
-    }
+    let (_, count) = reverse_over_fresh(places);
+    count
 }
 
 /// Reverses the order of the rows of `vals`, of `row_width` items each, by index bits: with 2^k rows, row `r` becomes the
@@ -81,8 +72,7 @@ pub fn reverse_slice_row_index_bits<F>(vals: &mut [F], row_width: usize)
     ensures order { IsRowReversal row_width vals.old vals.new }
     ensures inverse { IsRowReversal row_width vals.new vals.old }
 {
-    let mut places = SlicePlaces::new(vals);
-    reverse_rows_counted(&mut places, row_width);
+    let _ = reverse_rows_over_fresh(vals, row_width);
 }
 
 /// Reverses the rows of `places` by index bits, as [`reverse_row_index_bits_on`] does over a fresh counter, and returns the
@@ -98,12 +88,7 @@ pub fn reverse_rows_counted<S: Places>(places: &mut S, row_width: usize) -> u128
     ensures empty { length (S.items places.old) ≡ 0 → result ≡ 0 }
     ensures holder { S.same_holder places.old places.new }
 {
-    let mut swaps = Swaps::new(places);
-    // Its contract says that the length is a usize, so that the count stays below its greatest.
-    let _ = swaps.len();
-    reverse_row_index_bits_on(&mut swaps, row_width);
-    let count = swaps.swaps();
-    let _ = swaps.into_inner();
+    let (_, count) = reverse_rows_over_fresh(places, row_width);
     count
 }
 
@@ -118,17 +103,11 @@ pub fn reverse_index_bits_on<S: Places>(m: &mut Swaps<S>)
     ensures empty { length (S.items m.old.holder) ≡ 0 → m.new.count ≡ m.old.count }
     ensures holder { S.same_holder m.old.holder m.new.holder }
 {
-    if is_short(m.len()) {
-        reverse_index_bits_short(m);
-    } else {
-        reverse_index_bits_long(m);
-    }
+    let _ = reverse_index_bits(m);
 }
 
 /// Reverses `m` by index bits, as [`reverse_slice_index_bits`] does, by one exchange of each two places that belong to
 /// each other. The length is zero or a power of two.
-#[tactic(auto, using(crate::proofs::Lengths::rows_of_one))]
-#[inline(always)]
 pub fn reverse_index_bits_short<S: Places>(m: &mut Swaps<S>)
     requires { IsReversible (length (S.items m.old.holder)) }
     ensures order { IsReversal (S.items m.old.holder) (S.items m.new.holder) }
@@ -138,5 +117,76 @@ pub fn reverse_index_bits_short<S: Places>(m: &mut Swaps<S>)
     ensures empty { length (S.items m.old.holder) ≡ 0 → m.new.count ≡ m.old.count }
     ensures holder { S.same_holder m.old.holder m.new.holder }
 {
-    reverse_row_index_bits_on(m, 1);
+    let _ = reverse_short(m);
+}
+
+/// Reverses `places` by index bits over a fresh counter, and returns `places` and the number of exchanges. `places` goes by
+/// value, so that what a slice holds stays known.
+#[inline(always)]
+fn reverse_over_fresh<S: Places>(places: S) -> (S, u128)
+    requires { IsReversible (length (S.items places)) }
+    ensures order { IsReversal (S.items places) (S.items result.0) }
+    ensures inverse { IsReversal (S.items result.0) (S.items places) }
+    ensures count { result.1 ≤ 3 * length (S.items places) / 2 }
+    ensures exact { (k : ℕ) → length (S.items places) ≡ 2 ^ k → result.1 ≡ reversal_swaps k }
+    ensures empty { length (S.items places) ≡ 0 → result.1 ≡ 0 }
+    ensures holder { S.same_holder places result.0 }
+{
+    let m = Swaps::new(places);
+    // Its contract says that the length is a usize, so that the count stays below its greatest.
+    let _ = m.len();
+    let m = reverse_index_bits(m);
+    let count = m.swaps();
+    (m.into_inner(), count)
+}
+
+/// As [`reverse_over_fresh`], for rows of `row_width` items.
+#[inline(always)]
+fn reverse_rows_over_fresh<S: Places>(places: S, row_width: usize) -> (S, u128)
+    requires { FitsRows (length (S.items places)) row_width }
+    ensures order { IsRowReversal row_width (S.items places) (S.items result.0) }
+    ensures inverse { IsRowReversal row_width (S.items result.0) (S.items places) }
+    ensures count { result.1 ≤ length (S.items places) / 2 }
+    ensures exact { (k : ℕ) → length (S.items places) ≡ row_width * 2 ^ k
+        → result.1 ≡ row_width * short_swaps k }
+    ensures empty { length (S.items places) ≡ 0 → result.1 ≡ 0 }
+    ensures holder { S.same_holder places result.0 }
+{
+    let m = Swaps::new(places);
+    // Its contract says that the length is a usize, so that the count stays below its greatest.
+    let _ = m.len();
+    let m = reverse_rows(m, row_width);
+    let count = m.swaps();
+    (m.into_inner(), count)
+}
+
+/// The kernel of [`reverse_index_bits_on`].
+#[inline(always)]
+fn reverse_index_bits<M: CountedPlaces>(m: M) -> M
+    requires { IsReversible (length (M.items m)) }
+    ensures order { IsReversal (M.items m) (M.items result) }
+    ensures count { RoseByAtMost (M.count m) (M.count result) (3 * length (M.items m) / 2) }
+    ensures exact { (k : ℕ) → length (M.items m) ≡ 2 ^ k → M.count result ≡ counted (M.count m) (reversal_swaps k) }
+    ensures empty { length (M.items m) ≡ 0 → M.count result ≡ M.count m }
+    ensures holder { M.same_holder m result }
+{
+    if is_short(m.len()) {
+        reverse_short(m)
+    } else {
+        reverse_long(m)
+    }
+}
+
+/// The kernel of [`reverse_index_bits_short`].
+#[tactic(auto, using(crate::proofs::Lengths::rows_of_one))]
+#[inline(always)]
+fn reverse_short<M: CountedPlaces>(m: M) -> M
+    requires { IsReversible (length (M.items m)) }
+    ensures order { IsReversal (M.items m) (M.items result) }
+    ensures count { RoseByAtMost (M.count m) (M.count result) (length (M.items m) / 2) }
+    ensures exact { (k : ℕ) → length (M.items m) ≡ 2 ^ k → M.count result ≡ counted (M.count m) (short_swaps k) }
+    ensures empty { length (M.items m) ≡ 0 → M.count result ≡ M.count m }
+    ensures holder { M.same_holder m result }
+{
+    reverse_rows(m, 1)
 }

@@ -1,21 +1,21 @@
 //! Transposes of matrices that are held as flat lists, row after row.
 
 ghost use Rattle.std.specs.Prelude.{◌≡◌, ◌+◌, ◌*◌, ◌^◌, ◌<◌, ◌↔◌, IsTrue, length};
-ghost use Rattle.p3_util_kernels.specs.Pieces.{IsReady};
 ghost use Rattle.p3_util_kernels.specs.Region.{IsRegionTransposed, LiesInMatrix, items_of};
-ghost use Rattle.p3_util_kernels.specs.Steps.{counted};
+ghost use Rattle.p3_util_kernels.specs.Steps.{Stepped, counted};
 ghost use Rattle.p3_util_kernels.specs.Transpose.{IsTranspose};
 
 mod butterfly;
 mod pieces;
+mod regions;
 mod split;
 mod square;
 
-use crate::places::{Cells, SliceCells, SliceSource, Source, Writes};
-pub use crate::regions::Region;
+use crate::places::{Cells, CountedCells, SliceSource, Source, Writes};
 pub use butterfly::{butterfly_4x4, butterfly_stage1, butterfly_stage2};
-use pieces::{STRIP_ROWS, TILE_SIDE, put_pieces};
-use split::split_counted;
+use pieces::{Pieces, TILE_SIDE, put_pieces};
+pub use regions::Region;
+use split::put_split;
 pub use split::{transpose_source_split_on, transpose_split_on};
 pub(crate) use square::transpose_square;
 pub use square::transpose_square_on;
@@ -39,22 +39,13 @@ pub fn fits_matrix(input_len: usize, output_len: usize, width: usize, height: us
 /// Writes to `output` the transpose of `input`, a matrix of `height` rows of `width` items: what stood at
 /// `y * width + x` is put at `x * height + y`. Both lengths are `width` times `height`, which [`fits_matrix`] tests. The
 /// transpose of `output` the other way round, with `height` for the width, is `input` again.
-#[tactic(auto, using(crate::proofs::Matrix::transposed_back))]
 pub fn transpose<T: Copy>(input: &[T], output: &mut [T], width: usize, height: usize)
     requires input_fits { length input.now ≡ width * height }
     requires output_fits { length output.old ≡ width * height }
     ensures order { IsTranspose width height input.now output.new }
     ensures inverse { IsTranspose height width output.new input.now }
 {
-    let source = SliceSource::new(input);
-    let whole = whole(width, height);
-    if is_large(output.len()) {
-        let mut cells = SliceCells::new(output);
-        let _ = split_counted(source, &mut cells, whole, width, height, ENOUGH_LEVELS);
-    } else {
-        let mut cells = SliceCells::new(output);
-        let _ = region_counted(&source, &mut cells, whole, width, height);
-    }
+    let _ = transpose_over_fresh(SliceSource::new(input), output, width, height);
 }
 
 /// Puts the transpose of `input` into `cells`, as [`transpose_on`] does over a fresh counter, and returns the number of
@@ -71,10 +62,7 @@ pub fn transpose_counted<C: Cells>(
     ensures count { result ≡ width * height }
     ensures holder { C.same_holder cells.old cells.new }
 {
-    let mut out = Writes::new(cells);
-    transpose_on(input, &mut out, width, height);
-    let count = out.writes();
-    let _ = out.into_inner();
+    let (_, count) = transpose_over_fresh(SliceSource::new(input), cells, width, height);
     count
 }
 
@@ -101,12 +89,7 @@ where
     ensures count { out.new.count ≡ counted out.old.count (width * height) }
     ensures holder { C.same_holder out.old.holder out.new.holder }
 {
-    let whole = whole(width, height);
-    if is_large(out.len()) {
-        let _ = transpose_source_split_on(input, out, whole, width, height, ENOUGH_LEVELS);
-    } else {
-        put_region_on(input, out, whole, width, height);
-    }
+    let _ = transpose_matrix(out, input, width, height);
 }
 
 /// Puts the transpose of `region`, a part of the matrix `input`, into `out`, in one write an item: what stood at
@@ -127,81 +110,83 @@ pub fn transpose_region_on<C: Cells>(
     ensures count { out.new.count ≡ counted out.old.count (items_of region) }
     ensures holder { C.same_holder out.old.holder out.new.holder }
 {
-    put_region_on(&SliceSource::new(input), out, region, width, height);
+    let _ = put_region(out, SliceSource::new(input), region, width, height);
 }
 
-/// Puts the transpose of a region of any source into `out`, as [`transpose_region_on`] does that of a slice.
-fn put_region_on<C: Cells, R: Source<Item = C::Item>>(
-    input: &R,
-    out: &mut Writes<C>,
-    region: Region,
+/// Puts the transpose of `input` into `cells` over a fresh counter, and returns `cells` and the number of writes. `cells`
+/// goes by value, so that what a slice holds stays known.
+#[tactic(auto, using(crate::proofs::Matrix::transposed_back))]
+fn transpose_over_fresh<C: Cells, R: Source<Item = C::Item> + Copy>(
+    input: R,
+    cells: C,
     width: usize,
     height: usize,
-)
-    requires input_fits { length (R.items input.now) ≡ width * height }
-    requires output_fits { length (C.items out.old.holder) ≡ width * height }
-    requires inside { LiesInMatrix region width height }
-    ensures transposed { IsRegionTransposed region width height (R.items input.now)
-        (C.items out.old.holder) (C.items out.new.holder) }
-    ensures count { out.new.count ≡ counted out.old.count (items_of region) }
-    ensures holder { C.same_holder out.old.holder out.new.holder }
+) -> (C, u128)
+    requires input_fits { length (R.items input) ≡ width * height }
+    requires output_fits { length (C.items cells) ≡ width * height }
+    ensures order { IsTranspose width height (R.items input) (C.items result.0) }
+    ensures inverse { IsTranspose height width (C.items result.0) (R.items input) }
+    ensures count { result.1 ≡ width * height }
+    ensures holder { C.same_holder cells result.0 }
 {
-    // Its contract says that the count is a u128.
+    let out = Writes::new(cells);
+    // Its contract says that the length is a usize, so that the count stays below its greatest.
     let _ = out.len();
-    let count = region_counted(input, &mut out.cells, region, width, height);
-    out.writes = out.writes.saturating_add(count);
+    let out = transpose_matrix(out, input, width, height);
+    let count = out.writes();
+    (out.into_inner(), count)
 }
 
-/// Puts the transpose of `region` into `cells`, and returns the number of writes.
-#[inline(always)]
-fn region_counted<C: Cells, R: Source<Item = C::Item>>(
-    input: &R,
-    cells: &mut C,
-    region: Region,
+/// The kernel of [`transpose_source_on`]. The source goes by value here and below, so that its address is not read again at
+/// each item.
+fn transpose_matrix<M: CountedCells, R: Source<Item = M::Item> + Copy>(
+    out: M,
+    input: R,
     width: usize,
     height: usize,
-) -> u128
-    requires input_fits { length (R.items input.now) ≡ width * height }
-    requires output_fits { length (C.items cells.old) ≡ width * height }
-    requires inside { LiesInMatrix region width height }
-    ensures transposed { IsRegionTransposed region width height (R.items input.now) (C.items cells.old) (C.items cells.new) }
-    ensures count { result ≡ counted 0 (items_of region) }
-    ensures holder { C.same_holder cells.old cells.new }
+) -> M
+    requires input_fits { length (R.items input) ≡ width * height }
+    requires output_fits { length (M.items out) ≡ width * height }
+    ensures order { IsTranspose width height (R.items input) (M.items result) }
+    ensures count { Stepped M.count M.same_holder (width * height) out result }
 {
-    // Its contract says that the places fit a usize.
-    let _ = cells.len();
-    let out = put_region(Writes::new(cells), input, region, width, height);
-    let count = out.writes();
-    let _ = out.into_inner();
-    count
+    let whole = whole(width, height);
+    if is_large(out.len()) {
+        let (out, _) = put_split(out, input, whole, width, height, ENOUGH_LEVELS);
+        out
+    } else {
+        put_region(out, input, whole, width, height)
+    }
 }
 
-/// Puts the transpose of `region`, by tiles or by strips.
+/// The kernel of [`transpose_region_on`], by tiles or by strips.
 ///
 /// Where the rows of the matrix begin a multiple of a tile's side apart, many of them meet in one set of a cache, and tiles
 /// are faster than strips, unless the matrix is far higher than wide.
 #[inline(always)]
-fn put_region<C: Cells, R: Source<Item = C::Item>>(
-    out: Writes<C>,
-    input: &R,
+fn put_region<M: CountedCells, R: Source<Item = M::Item> + Copy>(
+    out: M,
+    input: R,
     region: Region,
     width: usize,
     height: usize,
-) -> Writes<C>
-    requires ready { IsReady region width height (R.items input.now) (C.items out.holder) out.count }
-    ensures transposed { IsRegionTransposed region width height (R.items input.now)
-        (C.items out.holder) (C.items result.holder) }
-    ensures count { result.count ≡ counted out.count (items_of region) }
-    ensures holder { C.same_holder out.holder result.holder }
+) -> M
+    requires input_fits { length (R.items input) ≡ width * height }
+    requires output_fits { length (M.items out) ≡ width * height }
+    requires inside { LiesInMatrix region width height }
+    ensures transposed { IsRegionTransposed region width height (R.items input) (M.items out) (M.items result) }
+    ensures count { Stepped M.count M.same_holder (items_of region) out result }
 {
+    // Its contract says that the places fit a usize, and the count a u128.
+    let _ = out.len();
     if region.cols() == 0 {
         // However many rows there are, no item is in them.
         return out;
     }
     if width % TILE_SIDE == 0 && height / TILE_SIDE < width {
-        put_pieces(out, input, region, TILE_SIDE, TILE_SIDE, width, height)
+        put_pieces(out, &input, region, Pieces::Tiles, width, height)
     } else {
-        put_pieces(out, input, region, STRIP_ROWS, usize::MAX, width, height)
+        put_pieces(out, &input, region, Pieces::Strips, width, height)
     }
 }
 

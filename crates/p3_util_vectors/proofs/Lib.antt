@@ -1,2 +1,3 @@
+pub mod EachRow
 pub mod NoPlace
 pub mod TwoLists

@@ -50,22 +50,22 @@ module _ {A : Type 0} where
   swap-sym (x ∷ xs) i j apart = set_comm (x ∷ xs) i j _ _ apart
 
   -- both places in the first list
-  pub in-front : (xs ys : List A) (i j : ℕ) → i < length xs → j < length xs → swap xs i j ++ ys ≡ swap (xs ++ ys) i j
-  in-front [] ys i j li lj = absurd (omega arith)
-  in-front (x ∷ xs) ys i j li lj = front x (x ∷ xs) ys i j li lj
+  pub in-front : (xs ys : List A) (n i j : ℕ) → n ≡ length xs → i < n → j < n → swap xs i j ++ ys ≡ swap (xs ++ ys) i j
+  in-front [] ys n i j is li lj = absurd (omega (arith, is))
+  in-front (x ∷ xs) ys n i j is li lj = front x (x ∷ xs) ys i j (rw (← is) li) (rw (← is) lj)
 
   -- both places in the second list
   behind : (xs ys : List A) (i j : ℕ) → i < length ys → j < length ys → xs ++ swap ys i j ≡ swap (xs ++ ys) (length xs + i) (length xs + j)
   behind xs [] i j li lj = absurd (omega arith)
   behind xs (y ∷ ys) i j li lj = back y xs (y ∷ ys) i j li lj
 
-  pub in-back : (xs ys : List A) (i j : ℕ) → length xs ≤ i → length xs ≤ j → i < length (xs ++ ys) → j < length (xs ++ ys)
-      → xs ++ swap ys (i - length xs) (j - length xs) ≡ swap (xs ++ ys) i j
-  in-back xs ys i j past-i past-j li lj =
+  pub in-back : (xs ys : List A) (n i j : ℕ) → n ≡ length xs → n ≤ i → n ≤ j → i < length (xs ++ ys) → j < length (xs ++ ys)
+      → xs ++ swap ys (i - n) (j - n) ≡ swap (xs ++ ys) i j
+  in-back xs ys n i j is past-i past-j li lj =
       let all = length-append xs ys in
-      let i-is : length xs + (i - length xs) ≡ i = omega arith in
-      let j-is : length xs + (j - length xs) ≡ j = omega arith in
-      rw (i-is, j-is) at (behind xs ys (i - length xs) (j - length xs) (omega (arith, all)) (omega (arith, all)))
+      let i-is : length xs + (i - n) ≡ i = omega (arith, is) in
+      let j-is : length xs + (j - n) ≡ j = omega (arith, is) in
+      rw (i-is, j-is) at (behind xs ys (i - n) (j - n) (omega (arith, all, is)) (omega (arith, all, is)))
 
   -- one place in each
   crossing : (xs ys us vs : List A) (i j : ℕ) → i < length xs → j < length ys → ((x : A) → us ≡ set xs i (get_or ys j x)) → ((x : A) → vs ≡ set ys j (get_or xs i x))
@@ -73,14 +73,14 @@ module _ {A : Type 0} where
   crossing [] ys us vs i j li lj a b = absurd (omega arith)
   crossing (x ∷ xs) ys us vs i j li lj a b = rw (a x, b x) (across x (x ∷ xs) ys i j li lj)
 
-  pub in-both : (xs ys us vs : List A) (i j : ℕ) → i < length xs → length xs ≤ j → j < length (xs ++ ys)
-      → ((x : A) → us ≡ set xs i (get_or ys (j - length xs) x)) → ((x : A) → vs ≡ set ys (j - length xs) (get_or xs i x)) → us ++ vs ≡ swap (xs ++ ys) i j
-  in-both xs ys us vs i j li past lj a b =
+  pub in-both : (xs ys us vs : List A) (n i j : ℕ) → n ≡ length xs → i < n → n ≤ j → j < length (xs ++ ys)
+      → ((x : A) → us ≡ set xs i (get_or ys (j - n) x)) → ((x : A) → vs ≡ set ys (j - n) (get_or xs i x)) → us ++ vs ≡ swap (xs ++ ys) i j
+  in-both xs ys us vs n i j is li past lj a b =
       let all = length-append xs ys in
-      let j-is : length xs + (j - length xs) ≡ j = omega arith in
-      rw j-is at (crossing xs ys us vs i (j - length xs) li (omega (arith, all)) a b)
+      let j-is : length xs + (j - n) ≡ j = omega (arith, is) in
+      rw j-is at (crossing xs ys us vs i (j - n) (omega (arith, is)) (omega (arith, all, is)) a b)
 
   -- the same, with the place in the second list first
-  pub in-both-turned : (xs ys us vs : List A) (i j : ℕ) → j < length xs → length xs ≤ i → i < length (xs ++ ys)
-      → ((x : A) → us ≡ set xs j (get_or ys (i - length xs) x)) → ((x : A) → vs ≡ set ys (i - length xs) (get_or xs j x)) → us ++ vs ≡ swap (xs ++ ys) i j
-  in-both-turned xs ys us vs i j lj past li a b = let apart : j ≢ i = omega arith in in-both xs ys us vs j i lj past li a b ∙ swap-sym (xs ++ ys) j i apart
+  pub in-both-turned : (xs ys us vs : List A) (n i j : ℕ) → n ≡ length xs → j < n → n ≤ i → i < length (xs ++ ys)
+      → ((x : A) → us ≡ set xs j (get_or ys (i - n) x)) → ((x : A) → vs ≡ set ys (i - n) (get_or xs j x)) → us ++ vs ≡ swap (xs ++ ys) i j
+  in-both-turned xs ys us vs n i j is lj past li a b = let apart : j ≢ i = omega arith in in-both xs ys us vs n j i is lj past li a b ∙ swap-sym (xs ++ ys) j i apart

@@ -1,3 +1,4 @@
+pub mod EachRow
 pub mod MapCalls
 pub mod Padded
 pub mod Pairs

@@ -7,6 +7,7 @@ pub mod flat;
 pub mod linear_map;
 pub mod places;
 pub mod reverse;
+pub mod rows;
 pub mod transpose;
 pub mod views;
 pub mod zip_eq;

@@ -33,27 +33,38 @@ impl<'a, F> Places for Joined<'a, F> {
     ghost same_holder = { λ a b. (a.front.ghost_name ≡ b.front.ghost_name) × (a.back.ghost_name ≡ b.back.ghost_name) };
 
     fn len(&self) -> usize {
-        self.front.len() + self.back.len()
+        <[F]>::len(self.front) + <[F]>::len(self.back)
     }
 
     fn exchange(&mut self, i: usize, j: usize) {
-        let n = self.front.len();
-        if i < n {
-            if j < n {
-                self.front.swap(i, j);
-            } else {
-                exchange_between(self.front, i, self.back, j - n);
-            }
-        } else if j < n {
-            exchange_between(self.front, j, self.back, i - n);
-        } else {
-            self.back.swap(i - n, j - n);
-        }
+        exchange_in(self.front, self.back, i, j);
     }
 
     ghost same_holder_refl = { λ a. (refl, refl) };
 
     ghost same_holder_trans = { λ a b c p q. (p.0 ∙ q.0, p.1 ∙ q.1) };
+}
+
+/// Exchanges the items at places `i` and `j` of the list that is `front` and then `back`.
+fn exchange_in<F>(front: &mut [F], back: &mut [F], i: usize, j: usize)
+    requires first { i < length (front.old ++ back.old) }
+    requires second { j < length (front.old ++ back.old) }
+    ensures front { length front.new ≡ length front.old }
+    ensures back { length back.new ≡ length back.old }
+    ensures exchanged { front.new ++ back.new ≡ swap (front.old ++ back.old) i j }
+{
+    let n = <[F]>::len(front);
+    if i < n {
+        if j < n {
+            front.swap(i, j);
+        } else {
+            exchange_between(front, i, back, j - n);
+        }
+    } else if j < n {
+        exchange_between(front, j, back, i - n);
+    } else {
+        back.swap(i - n, j - n);
+    }
 }
 
 /// Exchanges item `i` of `front` and item `j` of `back`.

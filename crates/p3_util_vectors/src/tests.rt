@@ -8,6 +8,7 @@ mod butterfly;
 mod calls;
 mod checks;
 mod chunks;
+mod counted_forms;
 mod linear_map;
 mod noted;
 mod oracle;

@@ -34,7 +34,7 @@ pub fn as_base_slice_mut<Base, const N: usize>(buf: &mut [[Base; N]]) -> BaseSli
     ensures len { length (countable_items result.rows.now) ≡ length buf.old * N }
     ensures places { IsFlat N buf.old (countable_items result.rows.now) }
 {
-    prove!(buf.as_flattened().len() == buf.len() * N);
+    prove!(buf.as_flattened().len() == <[[Base; N]]>::len(buf) * N);
     prove!(each_in_its_row(buf));
     Flattened { rows: buf }
 }
@@ -124,6 +124,11 @@ impl<S: Rows> Places for Flattened<S> {
 
     fn exchange(&mut self, i: usize, j: usize) {
         self.rows.exchange(i, j);
+    }
+
+    #[inline(always)]
+    fn exchange_ordered(&mut self, i: usize, j: usize) {
+        self.rows.exchange_ordered(i, j);
     }
 
     ghost same_holder_refl = { λ a. S.same_rows_refl a.rows };

@@ -1,6 +1,6 @@
 //! Arrays as rows of one list of items.
 
-ghost use Rattle.std.specs.Prelude.{◌≡◌, ℕ, ◌+◌, ◌*◌, ◌/◌, ◌%◌, ◌^◌, ◌<◌, List, [], IsTrue, Some, length, slice_get, slice_index_or, slice_set, swap, take};
+ghost use Rattle.std.specs.Prelude.{◌≡◌, ℕ, ◌+◌, ◌*◌, ◌/◌, ◌%◌, ◌^◌, ◌<◌, List, IsTrue, Some, length, slice_get, slice_set, swap, take};
 ghost use Rattle.std.proofs.Common.{refl, ◌∙◌};
 ghost use Rattle.std.specs.Borrow.{sem};
 ghost use Rattle.std.specs.Option.{option_copied_mut};
@@ -39,6 +39,13 @@ pub trait Rows {
         ensures exchanged { items self.new ≡ swap (items self.old) i j }
         ensures rows { same_rows self.old self.new };
 
+    /// As `exchange`, where `i` is below `j`.
+    fn exchange_ordered(&mut self, i: usize, j: usize)
+        requires order { i < j }
+        requires second { j < length (items self.old) }
+        ensures exchanged { items self.new ≡ swap (items self.old) i j }
+        ensures rows { same_rows self.old self.new };
+
     /// Puts `v` in the place of item `i` of all rows.
     fn put(&mut self, i: usize, v: Self::Item)
     where
@@ -70,6 +77,11 @@ impl<'a, T, const N: usize> Rows for &'a mut [[T; N]] {
     #[inline(always)]
     fn exchange(&mut self, i: usize, j: usize) {
         exchange_items(self, i, j);
+    }
+
+    #[inline(always)]
+    fn exchange_ordered(&mut self, i: usize, j: usize) {
+        exchange_ordered_items(self, i, j);
     }
 
     #[inline(always)]
@@ -157,6 +169,23 @@ fn exchange_items<T, const N: usize>(rows: &mut [[T; N]], i: usize, j: usize)
     }
 }
 
+/// As [`exchange_items`], where `i` is below `j`, so that its row is no later.
+#[inline(always)]
+fn exchange_ordered_items<T, const N: usize>(rows: &mut [[T; N]], i: usize, j: usize)
+    requires order { i < j }
+    requires second { j < length (countable_items rows.old) }
+    ensures { flat rows.new ≡ swap (flat rows.old) i j }
+{
+    let (r, c) = place_of(rows, i);
+    let (s, d) = place_of(rows, j);
+    if r < s {
+        exchange_in_two_rows(rows, r, c, s, d);
+    } else {
+        prove!(width_of(&rows[r]) == N);
+        rows[r].swap(c, d);
+    }
+}
+
 #[inline(always)]
 fn put_item<T: Drop, const N: usize>(rows: &mut [[T; N]], i: usize, v: T)
     requires { i < length (countable_items rows.old) }
@@ -174,16 +203,6 @@ pub(super) fn item_in_row<T, const N: usize>(row: &[T; N], c: usize) -> &T
     ensures len { length row.now ≡ N }
 {
     &row[c]
-}
-
-#[inline(always)]
-fn exchange_in_row<T, const N: usize>(row: &mut [T; N], i: usize, j: usize)
-    requires first { i < N }
-    requires second { j < N }
-    ensures exchanged { row.new ≡ swap row.old i j }
-    ensures len { length row.old ≡ N }
-{
-    row.swap(i, j);
 }
 
 #[inline(always)]
@@ -205,25 +224,4 @@ fn exchange_in_two_rows<T, const N: usize>(
     prove!(width_of(&front[r]) == N);
     prove!(width_of(&back[0]) == N);
     mem::swap(&mut front[r][c], &mut back[0][d]);
-}
-
-#[inline(always)]
-fn exchange_between<T, const N: usize>(a: &mut [T; N], i: usize, b: &mut [T; N], j: usize)
-    requires first { i < N }
-    requires second { j < N }
-    ensures first { (x : T) → a.new ≡ slice_set a.old i (slice_index_or b.old j x) }
-    ensures second { (x : T) → b.new ≡ slice_set b.old j (slice_index_or a.old i x) }
-    ensures first_len { length a.old ≡ N }
-    ensures second_len { length b.old ≡ N }
-{
-    mem::swap(&mut a[i], &mut b[j]);
-}
-
-#[inline(always)]
-fn put_in_row<T: Drop, const N: usize>(row: &mut [T; N], i: usize, v: T)
-    requires { i < N }
-    ensures written { row.new ≡ slice_set row.old i v }
-    ensures len { length row.old ≡ N }
-{
-    row[i] = v;
 }

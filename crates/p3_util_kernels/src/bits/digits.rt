@@ -40,6 +40,7 @@ pub fn reverse_bits(x: usize, n: usize) -> usize
 pub fn reverse_bits_len(x: usize, bit_len: usize) -> usize
     requires { bit_len ≤ 64 }
     ensures reversed { result ≡ rev_word bit_len x }
+    ensures digits { 1 ≤ bit_len → result ≡ rev bit_len x }
     ensures below { 1 ≤ bit_len → result < 2 ^ bit_len }
     ensures inverse { 1 ≤ bit_len → rev bit_len result ≡ x % 2 ^ bit_len }
     ensures twice { x < 2 ^ bit_len → rev_word bit_len result ≡ x }

@@ -23,6 +23,11 @@ impl<S: Places> Places for &mut S {
     }
 
     #[inline(always)]
+    fn exchange_ordered(&mut self, i: usize, j: usize) {
+        S::exchange_ordered(self, i, j);
+    }
+
+    #[inline(always)]
     fn exchange_runs(&mut self, i: usize, j: usize, len: usize) {
         S::exchange_runs(self, i, j, len);
     }

@@ -1,6 +1,6 @@
 //! Slices as holders: their places, their cells and what they are read from.
 
-ghost use Rattle.std.specs.Prelude.{◌≡◌, ℕ, ◌+◌, ◌-◌, ◌*◌, ◌<◌, ◌≤◌, ◌⊎◌, ◌++◌, length};
+ghost use Rattle.std.specs.Prelude.{◌≡◌, ℕ, ◌+◌, ◌-◌, ◌*◌, ◌<◌, ◌≤◌, ◌⊎◌, ◌++◌, length, swap};
 ghost use Rattle.std.proofs.Common.{refl, ◌∙◌};
 ghost use Rattle.p3_util_kernels.specs.Exchanged.{RunsExchanged};
 
@@ -29,12 +29,17 @@ impl<'a, F> Places for SlicePlaces<'a, F> {
     ghost same_holder = { λ a b. a.items.ghost_name ≡ b.items.ghost_name };
 
     fn len(&self) -> usize {
-        self.items.len()
+        <[F]>::len(self.items)
     }
 
     #[inline(always)]
     fn exchange(&mut self, i: usize, j: usize) {
         self.items.swap(i, j);
+    }
+
+    #[inline(always)]
+    fn exchange_ordered(&mut self, i: usize, j: usize) {
+        swap_ordered(self.items, i, j);
     }
 
     #[inline(always)]
@@ -45,6 +50,50 @@ impl<'a, F> Places for SlicePlaces<'a, F> {
     ghost same_holder_refl = { λ a. refl };
 
     ghost same_holder_trans = { λ a b c p q. p ∙ q };
+}
+
+/// A slice behind a reference. It goes by value through a kernel, so that its address stays in registers. What it holds is
+/// in the slice when the borrow ends.
+impl<F> Places for &mut [F] {
+    type Item = F;
+
+    ghost items = { λ s. s.now };
+
+    ghost same_holder = { λ a b. a.ghost_name ≡ b.ghost_name };
+
+    fn len(&self) -> usize {
+        <[F]>::len(self)
+    }
+
+    #[inline(always)]
+    fn exchange(&mut self, i: usize, j: usize) {
+        self.swap(i, j);
+    }
+
+    #[inline(always)]
+    fn exchange_ordered(&mut self, i: usize, j: usize) {
+        swap_ordered(self, i, j);
+    }
+
+    #[inline(always)]
+    fn exchange_runs(&mut self, i: usize, j: usize, len: usize) {
+        swap_runs(self, i, j, len);
+    }
+
+    ghost same_holder_refl = { λ a. refl };
+
+    ghost same_holder_trans = { λ a b c p q. p ∙ q };
+}
+
+/// Exchanges the items at places `i` and `j`, with no test of their order.
+#[inline(always)]
+fn swap_ordered<F>(items: &mut [F], i: usize, j: usize)
+    requires order { i < j }
+    requires fits { j < length items.old }
+    ensures { items.new ≡ swap items.old i j }
+{
+    let (front, back) = items.split_at_mut(j);
+    std::mem::swap(&mut front[i], &mut back[0]);
 }
 
 /// Exchanges the `len` items of `items` from place `i` on with those from place `j` on.
@@ -83,12 +132,34 @@ impl<'a, T: Copy> Cells for SliceCells<'a, T> {
     ghost same_holder = { λ a b. a.values.ghost_name ≡ b.values.ghost_name };
 
     fn len(&self) -> usize {
-        self.values.len()
+        <[T]>::len(self.values)
     }
 
     #[inline(always)]
     fn put(&mut self, i: usize, v: T) {
         self.values[i] = v;
+    }
+
+    ghost same_holder_refl = { λ a. refl };
+
+    ghost same_holder_trans = { λ a b c p q. p ∙ q };
+}
+
+/// A slice behind a reference, as it is for places.
+impl<T: Copy> Cells for &mut [T] {
+    type Item = T;
+
+    ghost items = { λ s. s.now };
+
+    ghost same_holder = { λ a b. a.ghost_name ≡ b.ghost_name };
+
+    fn len(&self) -> usize {
+        <[T]>::len(self)
+    }
+
+    #[inline(always)]
+    fn put(&mut self, i: usize, v: T) {
+        self[i] = v;
     }
 
     ghost same_holder_refl = { λ a. refl };
@@ -117,7 +188,7 @@ impl<'a, T: Copy> Source for SliceSource<'a, T> {
     ghost items = { λ s. s.slice.now };
 
     fn len(&self) -> usize {
-        self.slice.len()
+        <[T]>::len(self.slice)
     }
 
     #[inline(always)]

@@ -6,19 +6,18 @@
 
 ghost use Rattle.std.specs.Prelude.{◌≡◌, ℕ, ◌+◌, ◌-◌, ◌*◌, ◌/◌, ◌^◌, ◌≤◌, length};
 ghost use Rattle.p3_util_kernels.specs.Reversal.{IsReversal, IsReversible};
-ghost use Rattle.p3_util_kernels.specs.Steps.{RoseByAtMost, counted};
+ghost use Rattle.p3_util_kernels.specs.Steps.{RoseByAtMost, Stepped, counted};
 ghost use Rattle.p3_util_kernels.specs.SwapCounts.{long_swaps, short_swaps, square_swaps};
 ghost use Rattle.p3_util_kernels.specs.Squares.{AreTransposed};
 
 use crate::bits::log2_strict_usize;
-use crate::places::{Places, Swaps};
-use crate::reverse::rows::reverse_chunks_on;
+use crate::places::{CountedPlaces, Places, Swaps};
+use crate::reverse::rows::reverse_chunks;
 use crate::transpose::transpose_square;
 
 /// Reverses `m` by index bits, as [`reverse_slice_index_bits`](crate::reverse::reverse_slice_index_bits) does, by chunks
 /// and squares. The length is a power of two, and at least 4. It makes at most 3n/2 swaps at length n: more than
 /// [`reverse_index_bits_short`](crate::reverse::reverse_index_bits_short), and in an order that suits lists beyond the caches.
-#[inline(never)]
 pub fn reverse_index_bits_long<S: Places>(m: &mut Swaps<S>)
     requires fits { IsReversible (length (S.items m.old.holder)) }
     requires not_short { 4 ≤ length (S.items m.old.holder) }
@@ -27,53 +26,33 @@ pub fn reverse_index_bits_long<S: Places>(m: &mut Swaps<S>)
     ensures exact { (k : ℕ) → length (S.items m.old.holder) ≡ 2 ^ k → m.new.count ≡ counted m.old.count (long_swaps k) }
     ensures holder { S.same_holder m.old.holder m.new.holder }
 {
-    let count = long_counted(&mut m.places);
-    m.swaps = m.swaps.saturating_add(count);
+    let _ = reverse_long(m);
 }
 
-/// As [`reverse_index_bits_long`] over a fresh counter, and returns the number of exchanges.
-pub(crate) fn long_counted<S: Places>(places: &mut S) -> u128
-    requires fits { IsReversible (length (S.items places.old)) }
-    requires not_short { 4 ≤ length (S.items places.old) }
-    ensures order { IsReversal (S.items places.old) (S.items places.new) }
-    ensures inverse { IsReversal (S.items places.new) (S.items places.old) }
-    ensures count { RoseByAtMost 0 result (3 * length (S.items places.old) / 2) }
-    ensures exact { (k : ℕ) → length (S.items places.old) ≡ 2 ^ k → result ≡ counted 0 (long_swaps k) }
-    ensures holder { S.same_holder places.old places.new }
+/// The kernel of [`reverse_index_bits_long`].
+#[inline(never)]
+pub fn reverse_long<M: CountedPlaces>(m: M) -> M
+    requires fits { IsReversible (length (M.items m)) }
+    requires not_short { 4 ≤ length (M.items m) }
+    ensures order { IsReversal (M.items m) (M.items result) }
+    ensures count { RoseByAtMost (M.count m) (M.count result) (3 * length (M.items m) / 2) }
+    ensures exact { (k : ℕ) → length (M.items m) ≡ 2 ^ k → M.count result ≡ counted (M.count m) (long_swaps k) }
+    ensures holder { M.same_holder m result }
 {
-    let m = reverse_long(Swaps::new(places));
-    let count = m.swaps();
-    let _ = m.into_inner();
-    count
-}
-
-/// As [`reverse_index_bits_long`], with the counter by value.
-fn reverse_long<S: Places>(m: Swaps<S>) -> Swaps<S>
-    requires fits { IsReversible (length (S.items m.holder)) }
-    requires not_short { 4 ≤ length (S.items m.holder) }
-    ensures order { IsReversal (S.items m.holder) (S.items result.holder) }
-    ensures count { RoseByAtMost m.count result.count (3 * length (S.items m.holder) / 2) }
-    ensures exact { (k : ℕ) → length (S.items m.holder) ≡ 2 ^ k → result.count ≡ counted m.count (long_swaps k) }
-    ensures holder { S.same_holder m.holder result.holder }
-{
-    let mut m = m;
     let bits = log2_strict_usize(m.len());
     let half = bits / 2;
-    reverse_chunks_on(&mut m, half, bits - half);
-    let mut m = transpose_squares(m, bits - half, half);
-    reverse_chunks_on(&mut m, half, bits - half);
-    m
+    let m = reverse_chunks(m, half, bits - half);
+    let m = transpose_squares(m, bits - half, half);
+    reverse_chunks(m, half, bits - half)
 }
 
 /// Transposes each of the squares of `2^log_size` rows and columns that lie side by side, where `m` is `2^log_size` rows of
 /// `2^log_stride` items. It makes at most n/2 swaps at length n.
-fn transpose_squares<S: Places>(m: Swaps<S>, log_stride: usize, log_size: usize) -> Swaps<S>
+fn transpose_squares<M: CountedPlaces>(m: M, log_stride: usize, log_size: usize) -> M
     requires within { log_size ≤ log_stride }
-    requires whole { length (S.items m.holder) ≡ 2 ^ (log_size + log_stride) }
-    ensures transposed { AreTransposed (2 ^ (log_stride - log_size)) log_stride log_size (S.items m.holder) (S.items result.holder) }
-    ensures count { let squares = 2 ^ (log_stride - log_size) in
-        result.count ≡ counted m.count (squares * square_swaps (2 ^ log_size)) }
-    ensures holder { S.same_holder m.holder result.holder }
+    requires whole { length (M.items m) ≡ 2 ^ (log_size + log_stride) }
+    ensures transposed { AreTransposed (2 ^ (log_stride - log_size)) log_stride log_size (M.items m) (M.items result) }
+    ensures count { Stepped M.count M.same_holder (2 ^ (log_stride - log_size) * square_swaps (2 ^ log_size)) m result }
 {
     // Its contract says that the length is a usize and the count a u128.
     let _ = m.len();

@@ -17,11 +17,11 @@ ghost use Rattle.p3_util_kernels.specs.Crossing.{HoldsRows, IsCrossed, row_of, t
 ghost use Rattle.p3_util_kernels.specs.Digits.{rev};
 ghost use Rattle.p3_util_kernels.specs.Exchanged.{RunsExchanged};
 ghost use Rattle.p3_util_kernels.specs.Reversal.{FitsRows, IsRowReversal};
-ghost use Rattle.p3_util_kernels.specs.Steps.{RoseByAtMost, counted};
+ghost use Rattle.p3_util_kernels.specs.Steps.{RoseByAtMost, Stepped, counted};
 ghost use Rattle.p3_util_kernels.specs.SwapCounts.{short_swaps};
 
 use crate::bits::{log2_strict_usize, reverse_bits_len};
-use crate::places::{Places, Swaps};
+use crate::places::{CountedPlaces, Places, Swaps};
 
 /// Each number below 64 with its six binary digits in reversed order.
 static REVERSED_SIX: [u8; 64] = [
@@ -34,7 +34,6 @@ static REVERSED_SIX: [u8; 64] = [
 /// has the k bits of `r` in reversed order. The number of rows is zero or a power of two, which [`fits_rows`] tests.
 ///
 /// [`fits_rows`]: crate::reverse::fits_rows
-#[inline(always)]
 pub fn reverse_row_index_bits_on<S: Places>(m: &mut Swaps<S>, row_width: usize)
     requires { FitsRows (length (S.items m.old.holder)) row_width }
     ensures order { IsRowReversal row_width (S.items m.old.holder) (S.items m.new.holder) }
@@ -44,18 +43,7 @@ pub fn reverse_row_index_bits_on<S: Places>(m: &mut Swaps<S>, row_width: usize)
     ensures empty { length (S.items m.old.holder) ≡ 0 → m.new.count ≡ m.old.count }
     ensures holder { S.same_holder m.old.holder m.new.holder }
 {
-    let len = m.len();
-    if len == 0 {
-        return;
-    }
-    // With a number that the compiler knows, the pairs of few rows are exchanged one after the other.
-    match log2_strict_usize(len / row_width) {
-        0 | 1 => {}
-        2 => exchange_pairs(m, row_width, 2),
-        3 => exchange_pairs(m, row_width, 3),
-        4 => exchange_pairs(m, row_width, 4),
-        digits => exchange_pairs(m, row_width, digits),
-    }
+    let _ = reverse_rows(m, row_width);
 }
 
 /// Reverses the order of the `2^lb_num_chunks` chunks of `2^lb_chunk_size` items: with both lengths written as h and c,
@@ -67,97 +55,136 @@ pub fn reverse_chunks_on<S: Places>(m: &mut Swaps<S>, lb_num_chunks: usize, lb_c
     ensures exact { m.new.count ≡ counted m.old.count (short_swaps lb_num_chunks * 2 ^ lb_chunk_size) }
     ensures holder { S.same_holder m.old.holder m.new.holder }
 {
+    let _ = reverse_chunks(m, lb_num_chunks, lb_chunk_size);
+}
+
+/// The kernel of [`reverse_row_index_bits_on`].
+#[inline(always)]
+pub fn reverse_rows<M: CountedPlaces>(m: M, row_width: usize) -> M
+    requires { FitsRows (length (M.items m)) row_width }
+    ensures order { IsRowReversal row_width (M.items m) (M.items result) }
+    ensures count { RoseByAtMost (M.count m) (M.count result) (length (M.items m) / 2) }
+    ensures exact { (k : ℕ) → length (M.items m) ≡ row_width * 2 ^ k
+        → M.count result ≡ counted (M.count m) (row_width * short_swaps k) }
+    ensures empty { length (M.items m) ≡ 0 → M.count result ≡ M.count m }
+    ensures holder { M.same_holder m result }
+{
+    let len = m.len();
+    if len == 0 {
+        return m;
+    }
+    // With a number that the compiler knows, the pairs of few rows are exchanged one after the other.
+    match log2_strict_usize(len / row_width) {
+        0 | 1 => m,
+        2 => exchange_pairs(m, row_width, 2),
+        3 => exchange_pairs(m, row_width, 3),
+        4 => exchange_pairs(m, row_width, 4),
+        digits => exchange_pairs(m, row_width, digits),
+    }
+}
+
+/// The kernel of [`reverse_chunks_on`].
+#[inline(always)]
+pub fn reverse_chunks<M: CountedPlaces>(m: M, log_chunks: usize, log_size: usize) -> M
+    requires { length (M.items m) ≡ 2 ^ (log_chunks + log_size) }
+    ensures order { IsRowReversal (2 ^ log_size) (M.items m) (M.items result) }
+    ensures count { RoseByAtMost (M.count m) (M.count result) (length (M.items m) / 2) }
+    ensures exact { M.count result ≡ counted (M.count m) (short_swaps log_chunks * 2 ^ log_size) }
+    ensures holder { M.same_holder m result }
+{
     // Its contract says that the length is a usize.
     let _ = m.len();
-    reverse_row_index_bits_on(m, 1 << lb_chunk_size);
+    reverse_rows(m, 1 << log_size)
 }
 
 /// Exchanges all pairs of the rows, whose indices have `digits` digits.
 #[inline(always)]
-fn exchange_pairs<S: Places>(m: &mut Swaps<S>, row_width: usize, digits: usize)
+fn exchange_pairs<M: CountedPlaces>(m: M, row_width: usize, digits: usize) -> M
     requires several { 2 ≤ digits }
-    requires ready { HoldsRows row_width digits (S.items m.old.holder) m.old.count }
-    ensures order { IsRowReversal row_width (S.items m.old.holder) (S.items m.new.holder) }
-    ensures count { RoseByAtMost m.old.count m.new.count (length (S.items m.old.holder) / 2) }
-    ensures exact { (k : ℕ) → length (S.items m.old.holder) ≡ row_width * 2 ^ k
-        → m.new.count ≡ counted m.old.count (row_width * short_swaps k) }
-    ensures holder { S.same_holder m.old.holder m.new.holder }
+    requires ready { HoldsRows row_width digits (M.items m) (M.count m) }
+    ensures order { IsRowReversal row_width (M.items m) (M.items result) }
+    ensures count { RoseByAtMost (M.count m) (M.count result) (length (M.items m) / 2) }
+    ensures exact { (k : ℕ) → length (M.items m) ≡ row_width * 2 ^ k
+        → M.count result ≡ counted (M.count m) (row_width * short_swaps k) }
+    ensures holder { M.same_holder m result }
 {
     let half = digits / 2;
     let lines = 1 << (digits - half);
     let side = 1 << half;
+    let mut m = m;
     for two in 0..lines / 2 {
         let line = two * 2;
-        exchange_lines(m, row_width, digits, line / side, line % side);
+        m = exchange_lines(m, row_width, digits, line / side, line % side);
     }
+    m
 }
 
 /// Exchanges the pairs of rows of one middle digit and of `y` and `y + 1`, with each `x` below them.
 #[inline(always)]
-fn exchange_lines<S: Places>(
-    m: &mut Swaps<S>,
+fn exchange_lines<M: CountedPlaces>(
+    m: M,
     row_width: usize,
     digits: usize,
     middle: usize,
     y: usize,
-)
+) -> M
     requires middle { middle < 2 ^ (digits % 2) }
     requires even { y % 2 ≡ 0 }
     requires y { y + 1 < 2 ^ (digits / 2) }
-    requires ready { HoldsRows row_width digits (S.items m.old.holder) m.old.count }
+    requires ready { HoldsRows row_width digits (M.items m) (M.count m) }
     ensures crossed { let two = (middle * 2 ^ (digits / 2) + y) / 2 in
         IsCrossed (digits / 2) (digits % 2) row_width (two * 2 ^ (digits / 2) * 2) ((two + 1) * 2 ^ (digits / 2) * 2)
-        (S.items m.old.holder) (S.items m.new.holder) }
-    ensures count { m.new.count ≡ counted m.old.count (row_width * (y + (y + 1))) }
-    ensures holder { S.same_holder m.old.holder m.new.holder }
+        (M.items m) (M.items result) }
+    ensures count { Stepped M.count M.same_holder (row_width * (y + (y + 1))) m result }
 {
+    let mut m = m;
     for x in 0..y {
-        exchange_pair(m, row_width, digits, middle, x, y);
-        exchange_pair(m, row_width, digits, middle, x, y + 1);
+        m = exchange_pair(m, row_width, digits, middle, x, y);
+        m = exchange_pair(m, row_width, digits, middle, x, y + 1);
     }
-    exchange_pair(m, row_width, digits, middle, y, y + 1);
+    exchange_pair(m, row_width, digits, middle, y, y + 1)
 }
 
 /// Exchanges the row of `x` and `y` with the row of `y` and `x`.
 #[inline(always)]
-fn exchange_pair<S: Places>(
-    m: &mut Swaps<S>,
+fn exchange_pair<M: CountedPlaces>(
+    m: M,
     row_width: usize,
     digits: usize,
     middle: usize,
     x: usize,
     y: usize,
-)
+) -> M
     requires middle { middle < 2 ^ (digits % 2) }
     requires less { x < y }
     requires y { y < 2 ^ (digits / 2) }
-    requires ready { HoldsRows row_width digits (S.items m.old.holder) m.old.count }
+    requires ready { HoldsRows row_width digits (M.items m) (M.count m) }
     ensures crossed { let turn = turn_of (digits / 2) middle x y in
-        IsCrossed (digits / 2) (digits % 2) row_width turn (turn + 1) (S.items m.old.holder) (S.items m.new.holder) }
-    ensures count { m.new.count ≡ counted m.old.count row_width }
-    ensures holder { S.same_holder m.old.holder m.new.holder }
+        IsCrossed (digits / 2) (digits % 2) row_width turn (turn + 1) (M.items m) (M.items result) }
+    ensures count { Stepped M.count M.same_holder row_width m result }
 {
     let i = row_at(digits, middle, x, y);
     let j = row_at(digits, middle, y, x);
-    exchange_rows(m, row_width, i, j);
+    exchange_rows(m, row_width, i, j)
 }
 
 /// Exchanges rows `i` and `j`: as runs, where a row has several items.
 #[inline(always)]
-fn exchange_rows<S: Places>(m: &mut Swaps<S>, row_width: usize, i: usize, j: usize)
+fn exchange_rows<M: CountedPlaces>(m: M, row_width: usize, i: usize, j: usize) -> M
     requires apart { (i * row_width + row_width ≤ j * row_width) ⊎ (j * row_width + row_width ≤ i * row_width) }
-    requires first { i * row_width + row_width ≤ length (S.items m.old.holder) }
-    requires second { j * row_width + row_width ≤ length (S.items m.old.holder) }
-    requires length_fits { length (S.items m.old.holder) < 2 ^ 64 }
-    ensures exchanged { RunsExchanged (i * row_width) (j * row_width) row_width (S.items m.old.holder) (S.items m.new.holder) }
-    ensures count { m.new.count ≡ counted m.old.count row_width }
-    ensures holder { S.same_holder m.old.holder m.new.holder }
+    requires first { i * row_width + row_width ≤ length (M.items m) }
+    requires second { j * row_width + row_width ≤ length (M.items m) }
+    requires length_fits { length (M.items m) < 2 ^ 64 }
+    ensures exchanged { RunsExchanged (i * row_width) (j * row_width) row_width (M.items m) (M.items result) }
+    ensures count { Stepped M.count M.same_holder row_width m result }
 {
+    let mut m = m;
     if row_width == 1 {
         m.swap(i, j);
     } else {
         m.swap_runs(i * row_width, j * row_width, row_width);
     }
+    m
 }
 
 /// The row of `x`, a middle digit and `y`.

@@ -7,16 +7,17 @@
 //! - A *block* is 4 by 4 items, put row after row. A *tile* is 16 by 16 items: four columns of four blocks.
 //! - A *strip* is 128 rows of a region, or what is left of it below, put column after column. So is a piece at the right or
 //!   lower edge of tiles, or in their corner.
+//! - The *corner* of a piece is where its first item is read and put.
 //!
 //! The counter goes in by value and comes back, so that it stays in registers in the loops.
 
-ghost use Rattle.std.specs.Prelude.{◌≡◌, ◌+◌, ◌-◌, ◌*◌, ◌<◌, ◌≤◌, length};
-ghost use Rattle.p3_util_kernels.specs.Pieces.{HasPiece, IsPiecePut, IsReady};
+ghost use Rattle.std.specs.Prelude.{◌≡◌, ◌+◌, ◌-◌, ◌*◌, ◌^◌, ◌<◌, ◌≤◌, length};
+ghost use Rattle.p3_util_kernels.specs.Pieces.{HasPiece, IsPiecePut, IsReady, below_of, right_of};
 ghost use Rattle.p3_util_kernels.specs.Region.{IsRegionTransposed, items_of};
-ghost use Rattle.p3_util_kernels.specs.Steps.{counted};
+ghost use Rattle.p3_util_kernels.specs.Steps.{Stepped};
 
-use crate::places::{Cells, Source, Writes};
-use crate::regions::Region;
+use crate::places::{CountedCells, Source};
+use crate::transpose::regions::Region;
 
 /// The side of a tile.
 pub const TILE_SIDE: usize = 16;
@@ -25,312 +26,278 @@ pub const TILE_SIDE: usize = 16;
 const BLOCK_SIDE: usize = 4;
 
 /// The greatest number of rows of a strip.
-pub const STRIP_ROWS: usize = 128;
+const STRIP_ROWS: usize = 128;
 
 /// How many items of a column are put in a loop of known length.
-const LINE_ITEMS: usize = 8;
+const COLUMN_ITEMS: usize = 8;
 
-/// Puts `region` by pieces of at most `rows` rows and `cols` columns.
+/// What a region is cut into.
+#[derive(Clone, Copy)]
+pub enum Pieces {
+    Tiles,
+    Strips,
+}
+
+impl Pieces {
+    /// The greatest number of rows of a piece.
+    #[inline(always)]
+    fn rows(self) -> usize
+        ensures { 0 < result }
+    {
+        match self {
+            Pieces::Tiles => TILE_SIDE,
+            Pieces::Strips => STRIP_ROWS,
+        }
+    }
+
+    /// The greatest number of columns of a piece.
+    #[inline(always)]
+    fn cols(self) -> usize
+        ensures { 0 < result }
+    {
+        match self {
+            Pieces::Tiles => TILE_SIDE,
+            Pieces::Strips => usize::MAX,
+        }
+    }
+}
+
+/// Where a piece is read and put: its first item is at `from` in a source with rows of `width` items, and belongs at `to` in
+/// an output with rows of `height` items.
+#[derive(Clone, Copy)]
+struct Corner {
+    from: usize,
+    width: usize,
+    to: usize,
+    height: usize,
+}
+
+impl Corner {
+    /// The corner of what begins `cols` columns to the right.
+    #[inline(always)]
+    fn right(self, cols: usize) -> Corner
+        requires from { self.from + cols < 2 ^ 64 }
+        requires to { self.to + cols * self.height < 2 ^ 64 }
+        ensures { result ≡ right_of self cols }
+    {
+        Corner {
+            from: self.from + cols,
+            to: self.to + cols * self.height,
+            ..self
+        }
+    }
+
+    /// The corner of what begins `rows` rows below.
+    #[inline(always)]
+    fn below(self, rows: usize) -> Corner
+        requires from { self.from + rows * self.width < 2 ^ 64 }
+        requires to { self.to + rows < 2 ^ 64 }
+        ensures { result ≡ below_of self rows }
+    {
+        Corner {
+            from: self.from + rows * self.width,
+            to: self.to + rows,
+            ..self
+        }
+    }
+}
+
+/// Puts `region` by `pieces`.
 #[inline(always)]
-pub fn put_pieces<C: Cells, R: Source<Item = C::Item>>(
-    out: Writes<C>,
+pub fn put_pieces<M: CountedCells, R: Source<Item = M::Item>>(
+    out: M,
     source: &R,
     region: Region,
-    rows: usize,
-    cols: usize,
+    pieces: Pieces,
     width: usize,
     height: usize,
-) -> Writes<C>
-    requires some_rows { 0 < rows }
-    requires some_cols { 0 < cols }
-    requires ready { IsReady region width height (R.items source.now) (C.items out.holder) out.count }
-    ensures transposed { IsRegionTransposed region width height (R.items source.now)
-        (C.items out.holder) (C.items result.holder) }
-    ensures count { result.count ≡ counted out.count (items_of region) }
-    ensures holder { C.same_holder out.holder result.holder }
+) -> M
+    requires ready { IsReady region width height (R.items source.now) (M.items out) (M.count out) }
+    ensures transposed { IsRegionTransposed region width height (R.items source.now) (M.items out) (M.items result) }
+    ensures count { Stepped M.count M.same_holder (items_of region) out result }
 {
     let mut out = out;
     let mut row = region.row_start;
     while row < region.row_end {
-        let end = region.row_end.min(row.saturating_add(rows));
+        let end = region.row_end.min(row.saturating_add(pieces.rows()));
         let band = region.with_rows(row, end);
-        out = put_band(out, source, band, cols, width, height);
+        out = put_band(out, source, band, pieces, width, height);
         row = end;
     }
     out
 }
 
-/// Puts a region that is one piece high, by pieces of at most `cols` columns.
+/// Puts a region that is one piece high.
 #[inline(always)]
-fn put_band<C: Cells, R: Source<Item = C::Item>>(
-    out: Writes<C>,
+fn put_band<M: CountedCells, R: Source<Item = M::Item>>(
+    out: M,
     source: &R,
     region: Region,
-    cols: usize,
+    pieces: Pieces,
     width: usize,
     height: usize,
-) -> Writes<C>
+) -> M
     requires some_rows { region.row_start < region.row_end }
-    requires some_cols { 0 < cols }
-    requires ready { IsReady region width height (R.items source.now) (C.items out.holder) out.count }
-    ensures transposed { IsRegionTransposed region width height (R.items source.now)
-        (C.items out.holder) (C.items result.holder) }
-    ensures count { result.count ≡ counted out.count (items_of region) }
-    ensures holder { C.same_holder out.holder result.holder }
+    requires ready { IsReady region width height (R.items source.now) (M.items out) (M.count out) }
+    ensures transposed { IsRegionTransposed region width height (R.items source.now) (M.items out) (M.items result) }
+    ensures count { Stepped M.count M.same_holder (items_of region) out result }
 {
     let mut out = out;
     let mut col = region.col_start;
     while col < region.col_end {
-        let end = region.col_end.min(col.saturating_add(cols));
+        let end = region.col_end.min(col.saturating_add(pieces.cols()));
         let piece = region.with_cols(col, end);
-        out = put_piece(out, source, piece, cols, width, height);
+        out = put_piece(out, source, piece, pieces, width, height);
         col = end;
     }
     out
 }
 
-/// Puts a region as one piece: a tile where pieces of `cols` columns are tiles and this one is whole, else column after
-/// column.
+/// Puts a region as one piece: a whole tile by its blocks, all else column after column.
 #[inline(always)]
-fn put_piece<C: Cells, R: Source<Item = C::Item>>(
-    out: Writes<C>,
+fn put_piece<M: CountedCells, R: Source<Item = M::Item>>(
+    out: M,
     source: &R,
     region: Region,
-    cols: usize,
+    pieces: Pieces,
     width: usize,
     height: usize,
-) -> Writes<C>
+) -> M
     requires some_rows { region.row_start < region.row_end }
     requires some_cols { region.col_start < region.col_end }
-    requires ready { IsReady region width height (R.items source.now) (C.items out.holder) out.count }
-    ensures transposed { IsRegionTransposed region width height (R.items source.now)
-        (C.items out.holder) (C.items result.holder) }
-    ensures count { result.count ≡ counted out.count (items_of region) }
-    ensures holder { C.same_holder out.holder result.holder }
+    requires ready { IsReady region width height (R.items source.now) (M.items out) (M.count out) }
+    ensures transposed { IsRegionTransposed region width height (R.items source.now) (M.items out) (M.items result) }
+    ensures count { Stepped M.count M.same_holder (items_of region) out result }
 {
-    let from = region.row_start * width + region.col_start;
-    let to = region.col_start * height + region.row_start;
-    if cols == TILE_SIDE && region.rows() == TILE_SIDE && region.cols() == TILE_SIDE {
-        put_tile(out, source, from, width, to, height)
-    } else {
-        put_columns(
-            out,
-            source,
-            from,
-            width,
-            to,
-            height,
-            region.rows(),
-            region.cols(),
-        )
+    let (rows, cols) = (region.rows(), region.cols());
+    let at = Corner {
+        from: region.row_start * width + region.col_start,
+        width,
+        to: region.col_start * height + region.row_start,
+        height,
+    };
+    match pieces {
+        Pieces::Tiles if rows == TILE_SIDE && cols == TILE_SIDE => put_tile(out, source, at),
+        _ => put_columns(out, source, at, rows, cols),
     }
 }
 
 /// Puts a piece column after column.
 #[inline(always)]
-fn put_columns<C: Cells, R: Source<Item = C::Item>>(
-    out: Writes<C>,
+fn put_columns<M: CountedCells, R: Source<Item = M::Item>>(
+    out: M,
     source: &R,
-    from: usize,
-    width: usize,
-    to: usize,
-    height: usize,
+    at: Corner,
     rows: usize,
     cols: usize,
-) -> Writes<C>
+) -> M
     requires some_rows { 0 < rows }
-    requires piece { HasPiece rows cols from width to height (R.items source.now) (C.items out.holder) }
-    ensures put { IsPiecePut rows cols from width to height (R.items source.now) (C.items out.holder) (C.items result.holder) }
-    ensures count { result.count ≡ counted out.count (rows * cols) }
-    ensures holder { C.same_holder out.holder result.holder }
+    requires piece { HasPiece rows cols at (R.items source.now) (M.items out) (M.count out) }
+    ensures put { IsPiecePut rows cols at (R.items source.now) (M.items out) (M.items result) }
+    ensures count { Stepped M.count M.same_holder (rows * cols) out result }
 {
-    // Their contracts say that the lengths are a usize, and the count a u128.
-    let _ = (out.len(), source.len());
     let mut out = out;
     for k in 0..cols {
-        out = put_line(out, source, from + k, width, to + k * height, height, rows);
+        out = put_column(out, source, at.right(k), rows);
     }
     out
 }
 
 /// Puts one column of a piece, some items in a loop of known length, and then those that are left.
 #[inline(always)]
-fn put_line<C: Cells, R: Source<Item = C::Item>>(
-    out: Writes<C>,
+fn put_column<M: CountedCells, R: Source<Item = M::Item>>(
+    out: M,
     source: &R,
-    from: usize,
-    width: usize,
-    to: usize,
-    height: usize,
+    at: Corner,
     rows: usize,
-) -> Writes<C>
-    requires piece { HasPiece rows 1 from width to height (R.items source.now) (C.items out.holder) }
-    ensures put { IsPiecePut rows 1 from width to height (R.items source.now) (C.items out.holder) (C.items result.holder) }
-    ensures count { result.count ≡ counted out.count rows }
-    ensures holder { C.same_holder out.holder result.holder }
+) -> M
+    requires piece { HasPiece rows 1 at (R.items source.now) (M.items out) (M.count out) }
+    ensures put { IsPiecePut rows 1 at (R.items source.now) (M.items out) (M.items result) }
+    ensures count { Stepped M.count M.same_holder rows out result }
 {
-    // Their contracts say that the lengths are a usize, and the count a u128.
-    let _ = (out.len(), source.len());
     let mut out = out;
-    for line in 0..rows / LINE_ITEMS {
-        let done = line * LINE_ITEMS;
-        out = put_few(
-            out,
-            source,
-            from + done * width,
-            width,
-            to + done,
-            height,
-            LINE_ITEMS,
-        );
+    for group in 0..rows / COLUMN_ITEMS {
+        out = put_items(out, source, at.below(group * COLUMN_ITEMS), COLUMN_ITEMS);
     }
-    let done = rows / LINE_ITEMS * LINE_ITEMS;
+    let done = rows / COLUMN_ITEMS * COLUMN_ITEMS;
     if done < rows {
-        out = put_few(
-            out,
-            source,
-            from + done * width,
-            width,
-            to + done,
-            height,
-            rows - done,
-        );
+        out = put_items(out, source, at.below(done), rows - done);
     }
     out
 }
 
 /// Puts one column of a piece, in a loop that is short or of known length.
 #[inline(always)]
-fn put_few<C: Cells, R: Source<Item = C::Item>>(
-    out: Writes<C>,
+fn put_items<M: CountedCells, R: Source<Item = M::Item>>(
+    out: M,
     source: &R,
-    from: usize,
-    width: usize,
-    to: usize,
-    height: usize,
+    at: Corner,
     rows: usize,
-) -> Writes<C>
-    requires piece { HasPiece rows 1 from width to height (R.items source.now) (C.items out.holder) }
-    ensures put { IsPiecePut rows 1 from width to height (R.items source.now) (C.items out.holder) (C.items result.holder) }
-    ensures count { result.count ≡ counted out.count rows }
-    ensures holder { C.same_holder out.holder result.holder }
+) -> M
+    requires piece { HasPiece rows 1 at (R.items source.now) (M.items out) (M.count out) }
+    ensures put { IsPiecePut rows 1 at (R.items source.now) (M.items out) (M.items result) }
+    ensures count { Stepped M.count M.same_holder rows out result }
 {
-    // Their contracts say that the lengths are a usize, and the count a u128.
-    let _ = (out.len(), source.len());
     let mut out = out;
     for t in 0..rows {
-        out.put(to + t, source.at(from + t * width));
+        out.put(at.to + t, source.at(at.from + t * at.width));
     }
     out
 }
 
 /// Puts a tile: its columns of blocks, one after another.
 #[inline(always)]
-fn put_tile<C: Cells, R: Source<Item = C::Item>>(
-    out: Writes<C>,
-    source: &R,
-    from: usize,
-    width: usize,
-    to: usize,
-    height: usize,
-) -> Writes<C>
-    requires inside { from + (TILE_SIDE - 1) * width + TILE_SIDE ≤ length (R.items source.now) }
-    requires room { to + (TILE_SIDE - 1) * height + TILE_SIDE ≤ length (C.items out.holder) }
-    requires tall { TILE_SIDE ≤ height }
-    ensures put { IsPiecePut TILE_SIDE TILE_SIDE from width to height (R.items source.now)
-        (C.items out.holder) (C.items result.holder) }
-    ensures count { result.count ≡ counted out.count (TILE_SIDE * TILE_SIDE) }
-    ensures holder { C.same_holder out.holder result.holder }
+fn put_tile<M: CountedCells, R: Source<Item = M::Item>>(out: M, source: &R, at: Corner) -> M
+    requires piece { HasPiece TILE_SIDE TILE_SIDE at (R.items source.now) (M.items out) (M.count out) }
+    ensures put { IsPiecePut TILE_SIDE TILE_SIDE at (R.items source.now) (M.items out) (M.items result) }
+    ensures count { Stepped M.count M.same_holder (TILE_SIDE * TILE_SIDE) out result }
 {
-    // Their contracts say that the lengths are a usize, and the count a u128.
-    let _ = (out.len(), source.len());
     let mut out = out;
     for block in 0..TILE_SIDE / BLOCK_SIDE {
-        let k = block * BLOCK_SIDE;
-        out = put_blocks(out, source, from + k, width, to + k * height, height);
+        out = put_blocks(out, source, at.right(block * BLOCK_SIDE));
     }
     out
 }
 
 /// Puts the blocks of a tile that lie one below another.
 #[inline(always)]
-fn put_blocks<C: Cells, R: Source<Item = C::Item>>(
-    out: Writes<C>,
-    source: &R,
-    from: usize,
-    width: usize,
-    to: usize,
-    height: usize,
-) -> Writes<C>
-    requires inside { from + (TILE_SIDE - 1) * width + BLOCK_SIDE ≤ length (R.items source.now) }
-    requires room { to + (BLOCK_SIDE - 1) * height + TILE_SIDE ≤ length (C.items out.holder) }
-    requires tall { TILE_SIDE ≤ height }
-    ensures put { IsPiecePut TILE_SIDE BLOCK_SIDE from width to height (R.items source.now)
-        (C.items out.holder) (C.items result.holder) }
-    ensures count { result.count ≡ counted out.count (TILE_SIDE * BLOCK_SIDE) }
-    ensures holder { C.same_holder out.holder result.holder }
+fn put_blocks<M: CountedCells, R: Source<Item = M::Item>>(out: M, source: &R, at: Corner) -> M
+    requires piece { HasPiece TILE_SIDE BLOCK_SIDE at (R.items source.now) (M.items out) (M.count out) }
+    ensures put { IsPiecePut TILE_SIDE BLOCK_SIDE at (R.items source.now) (M.items out) (M.items result) }
+    ensures count { Stepped M.count M.same_holder (TILE_SIDE * BLOCK_SIDE) out result }
 {
-    // Their contracts say that the lengths are a usize, and the count a u128.
-    let _ = (out.len(), source.len());
     let mut out = out;
     for block in 0..TILE_SIDE / BLOCK_SIDE {
-        let t = block * BLOCK_SIDE;
-        out = put_block(out, source, from + t * width, width, to + t, height);
+        out = put_block(out, source, at.below(block * BLOCK_SIDE));
     }
     out
 }
 
 /// Puts a block row after row.
 #[inline(always)]
-fn put_block<C: Cells, R: Source<Item = C::Item>>(
-    out: Writes<C>,
-    source: &R,
-    from: usize,
-    width: usize,
-    to: usize,
-    height: usize,
-) -> Writes<C>
-    requires inside { from + (BLOCK_SIDE - 1) * width + BLOCK_SIDE ≤ length (R.items source.now) }
-    requires room { to + (BLOCK_SIDE - 1) * height + BLOCK_SIDE ≤ length (C.items out.holder) }
-    requires tall { BLOCK_SIDE ≤ height }
-    ensures put { IsPiecePut BLOCK_SIDE BLOCK_SIDE from width to height (R.items source.now)
-        (C.items out.holder) (C.items result.holder) }
-    ensures count { result.count ≡ counted out.count (BLOCK_SIDE * BLOCK_SIDE) }
-    ensures holder { C.same_holder out.holder result.holder }
+fn put_block<M: CountedCells, R: Source<Item = M::Item>>(out: M, source: &R, at: Corner) -> M
+    requires piece { HasPiece BLOCK_SIDE BLOCK_SIDE at (R.items source.now) (M.items out) (M.count out) }
+    ensures put { IsPiecePut BLOCK_SIDE BLOCK_SIDE at (R.items source.now) (M.items out) (M.items result) }
+    ensures count { Stepped M.count M.same_holder (BLOCK_SIDE * BLOCK_SIDE) out result }
 {
-    // Their contracts say that the lengths are a usize, and the count a u128.
-    let _ = (out.len(), source.len());
     let mut out = out;
     for t in 0..BLOCK_SIDE {
-        out = put_row(out, source, from + t * width, width, to + t, height);
+        out = put_row(out, source, at.below(t));
     }
     out
 }
 
 /// Puts a row of a block.
 #[inline(always)]
-fn put_row<C: Cells, R: Source<Item = C::Item>>(
-    out: Writes<C>,
-    source: &R,
-    from: usize,
-    width: usize,
-    to: usize,
-    height: usize,
-) -> Writes<C>
-    requires inside { from + BLOCK_SIDE ≤ length (R.items source.now) }
-    requires room { to + (BLOCK_SIDE - 1) * height < length (C.items out.holder) }
-    requires tall { 0 < height }
-    ensures put { IsPiecePut 1 BLOCK_SIDE from width to height (R.items source.now)
-        (C.items out.holder) (C.items result.holder) }
-    ensures count { result.count ≡ counted out.count BLOCK_SIDE }
-    ensures holder { C.same_holder out.holder result.holder }
+fn put_row<M: CountedCells, R: Source<Item = M::Item>>(out: M, source: &R, at: Corner) -> M
+    requires piece { HasPiece 1 BLOCK_SIDE at (R.items source.now) (M.items out) (M.count out) }
+    ensures put { IsPiecePut 1 BLOCK_SIDE at (R.items source.now) (M.items out) (M.items result) }
+    ensures count { Stepped M.count M.same_holder BLOCK_SIDE out result }
 {
-    // Their contracts say that the lengths are a usize, and the count a u128.
-    let _ = (out.len(), source.len());
     let mut out = out;
     for k in 0..BLOCK_SIDE {
-        let item = source.at(from + k);
-        out.put(to + k * height, item);
+        let item = source.at(at.from + k);
+        out.put(at.to + k * at.height, item);
     }
     out
 }

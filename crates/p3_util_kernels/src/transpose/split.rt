@@ -3,13 +3,12 @@
 ghost use Rattle.std.specs.Prelude.{◌≡◌, ◌+◌, ◌*◌, ◌/◌, ◌<◌, ◌≤◌, max, length};
 ghost use Rattle.std.specs.Bool.{MatchBool};
 ghost use Rattle.p3_util_kernels.specs.Levels.{lev, nest};
-ghost use Rattle.p3_util_kernels.specs.Pieces.{IsReady};
 ghost use Rattle.p3_util_kernels.specs.Region.{IsRegionTransposed, LiesInMatrix, cols_of, items_of, rows_of};
-ghost use Rattle.p3_util_kernels.specs.Steps.{counted};
+ghost use Rattle.p3_util_kernels.specs.Steps.{Stepped, counted};
 
-use crate::places::{Cells, SliceSource, Source, Writes};
-use crate::regions::Region;
+use crate::places::{Cells, CountedCells, SliceSource, Source, Writes};
 use crate::transpose::put_region;
+use crate::transpose::regions::Region;
 
 /// The greatest side of a part that is not halved where its other side is no longer.
 const LEAF_SIDE: usize = 128;
@@ -67,61 +66,34 @@ where
     ensures bound { result ≤ 57 }
     ensures holder { C.same_holder out.old.holder out.new.holder }
 {
-    // Its contract says that the count is a u128.
-    let _ = out.len();
-    let (count, nested) = split_counted(input, &mut out.cells, region, width, height, levels);
-    out.writes = out.writes.saturating_add(count);
+    let (_, nested) = put_split(out, input, region, width, height, levels);
     nested
 }
 
-/// Puts the transpose of `region` into `cells` by halves, and returns the number of writes and how many splits are nested.
-pub fn split_counted<C: Cells, R: Source<Item = C::Item> + Copy>(
+/// The kernel of [`transpose_source_split_on`]: puts `region` by halves, with at most `levels` levels, and returns how many
+/// splits are nested too.
+pub fn put_split<M: CountedCells, R: Source<Item = M::Item> + Copy>(
+    out: M,
     input: R,
-    cells: &mut C,
     region: Region,
     width: usize,
     height: usize,
     levels: u32,
-) -> (u128, u32)
+) -> (M, u32)
     requires input_fits { length (R.items input) ≡ width * height }
-    requires output_fits { length (C.items cells.old) ≡ width * height }
+    requires output_fits { length (M.items out) ≡ width * height }
     requires inside { LiesInMatrix region width height }
     requires enough { lev (rows_of region) (cols_of region) ≤ levels }
-    ensures transposed { IsRegionTransposed region width height (R.items input) (C.items cells.old) (C.items cells.new) }
-    ensures count { result.0 ≡ counted 0 (items_of region) }
-    ensures nested { result.1 ≡ nest (rows_of region) (cols_of region) }
-    ensures bound { result.1 ≤ 57 }
-    ensures holder { C.same_holder cells.old cells.new }
-{
-    // Its contract says that the places fit a usize.
-    let _ = cells.len();
-    let (out, nested) = put_split(Writes::new(cells), input, region, width, height, levels);
-    let count = out.writes();
-    let _ = out.into_inner();
-    (count, nested)
-}
-
-/// Puts `region` by halves, with at most `levels` levels, and returns how many splits are nested too. The source is copied at
-/// each call, so that its address is not read again at each item.
-fn put_split<C: Cells, R: Source<Item = C::Item> + Copy>(
-    out: Writes<C>,
-    input: R,
-    region: Region,
-    width: usize,
-    height: usize,
-    levels: u32,
-) -> (Writes<C>, u32)
-    requires ready { IsReady region width height (R.items input) (C.items out.holder) out.count }
-    requires enough { lev (rows_of region) (cols_of region) ≤ levels }
     ensures transposed { IsRegionTransposed region width height (R.items input)
-        (C.items out.holder) (C.items result.0.holder) }
-    ensures count { result.0.count ≡ counted out.count (items_of region) }
+        (M.items out) (M.items result.0) }
+    ensures count { Stepped M.count M.same_holder (items_of region) out result.0 }
     ensures nested { result.1 ≡ nest (rows_of region) (cols_of region) }
     ensures bound { result.1 ≤ 57 }
-    ensures holder { C.same_holder out.holder result.0.holder }
 {
+    // Its contract says that the places fit a usize, and the count a u128.
+    let _ = out.len();
     if is_leaf(region) {
-        return (put_region(out, &input, region, width, height), 0);
+        return (put_region(out, input, region, width, height), 0);
     }
     let (first, second) = halves(region);
     let (out, nested) = put_split(out, input, first, width, height, levels - 1);

@@ -6,9 +6,9 @@
 ghost use Rattle.std.specs.Prelude.{◌≡◌, ℕ, ◌+◌, ◌-◌, ◌*◌, ◌/◌, ◌^◌, ◌<◌, ◌≤◌, length};
 ghost use Rattle.p3_util_kernels.specs.Diagonal.{HoldsSquare, SwapsAcross};
 ghost use Rattle.p3_util_kernels.specs.Square.{IsSquareTransposed};
-ghost use Rattle.p3_util_kernels.specs.Steps.{counted};
+ghost use Rattle.p3_util_kernels.specs.Steps.{Stepped, counted};
 
-use crate::places::{Places, Swaps};
+use crate::places::{CountedPlaces, Places, Swaps};
 
 /// The greatest numbers of rows and columns of a block that is exchanged item by item.
 const LEAF_ROWS: usize = 16;
@@ -31,43 +31,21 @@ pub fn transpose_square_on<S: Places>(
     ensures count { let s = 2 ^ log_size in m.new.count ≡ counted m.old.count (s * (s - 1) / 2) }
     ensures holder { S.same_holder m.old.holder m.new.holder }
 {
-    let count = transpose_counted(&mut m.places, base, log_stride, log_size);
-    m.swaps = m.swaps.saturating_add(count);
+    let _ = transpose_square(m, base, log_stride, log_size);
 }
 
-/// As [`transpose_square_on`] over a fresh counter, and returns the number of exchanges.
-fn transpose_counted<S: Places>(
-    places: &mut S,
+/// The kernel of [`transpose_square_on`].
+pub(crate) fn transpose_square<M: CountedPlaces>(
+    m: M,
     base: usize,
     log_stride: usize,
     log_size: usize,
-) -> u128
+) -> M
     requires rows_apart { log_size ≤ log_stride }
     requires stride_fits { log_stride < 64 }
-    requires room { let s = 2 ^ log_size in base + (s - 1) * 2 ^ log_stride + (s - 1) < length (S.items places.old) }
-    ensures transposed { IsSquareTransposed base log_stride log_size (S.items places.old) (S.items places.new) }
-    ensures count { let s = 2 ^ log_size in result ≡ counted 0 (s * (s - 1) / 2) }
-    ensures holder { S.same_holder places.old places.new }
-{
-    let m = transpose_square(Swaps::new(places), base, log_stride, log_size);
-    let count = m.swaps();
-    let _ = m.into_inner();
-    count
-}
-
-/// As [`transpose_square_on`], with the counter by value, so that its count and the holder stay in registers.
-pub(crate) fn transpose_square<S: Places>(
-    m: Swaps<S>,
-    base: usize,
-    log_stride: usize,
-    log_size: usize,
-) -> Swaps<S>
-    requires rows_apart { log_size ≤ log_stride }
-    requires stride_fits { log_stride < 64 }
-    requires room { let s = 2 ^ log_size in base + (s - 1) * 2 ^ log_stride + (s - 1) < length (S.items m.holder) }
-    ensures transposed { IsSquareTransposed base log_stride log_size (S.items m.holder) (S.items result.holder) }
-    ensures count { let s = 2 ^ log_size in result.count ≡ counted m.count (s * (s - 1) / 2) }
-    ensures holder { S.same_holder m.holder result.holder }
+    requires room { let s = 2 ^ log_size in base + (s - 1) * 2 ^ log_stride + (s - 1) < length (M.items m) }
+    ensures transposed { IsSquareTransposed base log_stride log_size (M.items m) (M.items result) }
+    ensures count { let s = 2 ^ log_size in Stepped M.count M.same_holder (s * (s - 1) / 2) m result }
 {
     // Its contract says that the length is a usize and the count a u128.
     let _ = m.len();
@@ -75,18 +53,17 @@ pub(crate) fn transpose_square<S: Places>(
 }
 
 /// Transposes the `size` rows and columns from row and column `start` on, by quadrants.
-fn transpose_part<S: Places>(
-    m: Swaps<S>,
+fn transpose_part<M: CountedPlaces>(
+    m: M,
     base: usize,
     stride: usize,
     start: usize,
     size: usize,
-) -> Swaps<S>
+) -> M
     requires within { start + size ≤ stride }
-    requires ready { HoldsSquare base stride (start + size - 1) (S.items m.holder) m.count }
-    ensures swapped { SwapsAcross base stride start (start + size) start (start + size) (S.items m.holder) (S.items result.holder) }
-    ensures count { result.count ≡ counted m.count (size * (size - 1) / 2) }
-    ensures holder { S.same_holder m.holder result.holder }
+    requires ready { HoldsSquare base stride (start + size - 1) (M.items m) (M.count m) }
+    ensures swapped { SwapsAcross base stride start (start + size) start (start + size) (M.items m) (M.items result) }
+    ensures count { Stepped M.count M.same_holder (size * (size - 1) / 2) m result }
 {
     if size <= 1 {
         return m;
@@ -99,21 +76,20 @@ fn transpose_part<S: Places>(
 
 /// Exchanges a block above the diagonal, `rows` rows from `row` on and `cols` columns from `col` on, with its mirror image
 /// below. A large block is halved: the rows where they are more than twice the columns, else the columns.
-fn swap_block<S: Places>(
-    m: Swaps<S>,
+fn swap_block<M: CountedPlaces>(
+    m: M,
     base: usize,
     stride: usize,
     row: usize,
     rows: usize,
     col: usize,
     cols: usize,
-) -> Swaps<S>
+) -> M
     requires above { row + rows ≤ col }
     requires within { col + cols ≤ stride }
-    requires ready { HoldsSquare base stride (col + cols - 1) (S.items m.holder) m.count }
-    ensures swapped { SwapsAcross base stride row (row + rows) col (col + cols) (S.items m.holder) (S.items result.holder) }
-    ensures count { result.count ≡ counted m.count (rows * cols) }
-    ensures holder { S.same_holder m.holder result.holder }
+    requires ready { HoldsSquare base stride (col + cols - 1) (M.items m) (M.count m) }
+    ensures swapped { SwapsAcross base stride row (row + rows) col (col + cols) (M.items m) (M.items result) }
+    ensures count { Stepped M.count M.same_holder (rows * cols) m result }
 {
     if rows <= LEAF_ROWS && cols == LEAF_COLS {
         // The compiler knows how many columns most leaves have.
@@ -133,21 +109,20 @@ fn swap_block<S: Places>(
 
 /// As [`swap_block`], row after row of the block above the diagonal.
 #[inline(always)]
-fn swap_leaf<S: Places>(
-    m: Swaps<S>,
+fn swap_leaf<M: CountedPlaces>(
+    m: M,
     base: usize,
     stride: usize,
     row: usize,
     rows: usize,
     col: usize,
     cols: usize,
-) -> Swaps<S>
+) -> M
     requires above { row + rows ≤ col }
     requires within { col + cols ≤ stride }
-    requires ready { HoldsSquare base stride (col + cols - 1) (S.items m.holder) m.count }
-    ensures swapped { SwapsAcross base stride row (row + rows) col (col + cols) (S.items m.holder) (S.items result.holder) }
-    ensures count { result.count ≡ counted m.count (rows * cols) }
-    ensures holder { S.same_holder m.holder result.holder }
+    requires ready { HoldsSquare base stride (col + cols - 1) (M.items m) (M.count m) }
+    ensures swapped { SwapsAcross base stride row (row + rows) col (col + cols) (M.items m) (M.items result) }
+    ensures count { Stepped M.count M.same_holder (rows * cols) m result }
 {
     let mut m = m;
     for t in 0..rows {
@@ -156,28 +131,27 @@ fn swap_leaf<S: Places>(
     m
 }
 
-/// Exchanges `cols` items of row `line` from column `col` on, which is right of the diagonal, with their mirror images.
+/// Exchanges `cols` items of row `row` from column `col` on, which is right of the diagonal, with their mirror images.
 #[inline(always)]
-fn swap_row<S: Places>(
-    m: Swaps<S>,
+fn swap_row<M: CountedPlaces>(
+    m: M,
     base: usize,
     stride: usize,
-    line: usize,
+    row: usize,
     col: usize,
     cols: usize,
-) -> Swaps<S>
-    requires above { line < col }
+) -> M
+    requires above { row < col }
     requires within { col + cols ≤ stride }
-    requires ready { HoldsSquare base stride (col + cols - 1) (S.items m.holder) m.count }
-    ensures swapped { SwapsAcross base stride line (line + 1) col (col + cols) (S.items m.holder) (S.items result.holder) }
-    ensures count { result.count ≡ counted m.count cols }
-    ensures holder { S.same_holder m.holder result.holder }
+    requires ready { HoldsSquare base stride (col + cols - 1) (M.items m) (M.count m) }
+    ensures swapped { SwapsAcross base stride row (row + 1) col (col + cols) (M.items m) (M.items result) }
+    ensures count { Stepped M.count M.same_holder cols m result }
 {
     let mut m = m;
     for t in 0..cols {
-        m.swap(
-            base + line * stride + (col + t),
-            base + (col + t) * stride + line,
+        m.swap_ordered(
+            base + row * stride + (col + t),
+            base + (col + t) * stride + row,
         );
     }
     m

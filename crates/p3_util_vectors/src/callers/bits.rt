@@ -1,15 +1,15 @@
 //! Callers of the logarithms and powers. A test in front of a strict logarithm is enough, and a number that is written out
 //! needs none.
 
-ghost use Rattle.std.specs.Prelude.{◌≡◌, ◌^◌, ◌<◌, IsTrue, IsFalse, MatchOption, slice_index};
+ghost use Rattle.std.specs.Prelude.{◌≡◌, ◌^◌, ◌<◌, ◌≤◌, IsTrue, IsFalse, MatchOption, Some, length, slice_get, slice_index};
 ghost use Rattle.std.specs.Int.{is_power_of_two};
-ghost use Rattle.p3_util_kernels.specs.Digits.{rev_word};
+ghost use Rattle.p3_util_kernels.specs.Digits.{rev, rev_word};
 ghost use Rattle.p3_util_kernels.specs.Powers.{IsPowerOfThree};
 ghost use Rattle.p3_util_vectors.specs.Padded.{IsLeastPower};
 
 use p3_util_kernels::bits::{
     checked_pow2, is_power_of_three, log2_ceil_usize, log2_strict_usize, log3_strict_usize,
-    reverse_bits,
+    reverse_bits, reverse_bits_len,
 };
 
 /// The least power of two that is `len` or more, to which a transform pads. `None` where that is 2^64.
@@ -52,4 +52,14 @@ pub fn written_out(x: usize, k: usize) -> [usize; 4]
         reverse_bits(x, 1024),
         reverse_bits(x, 1 << k),
     ]
+}
+
+/// The item that a reversal by index bits brings to place `i`, read where it lies.
+pub fn item_to_come<T: Copy>(items: &[T], k: usize, i: usize) -> T
+    requires some { 1 ≤ k }
+    requires few { k < 64 }
+    requires len { length items.now ≡ 2 ^ k }
+    ensures { slice_get items.now (rev k i) ≡ Some result }
+{
+    items[reverse_bits_len(i, k)]
 }

@@ -1,8 +1,9 @@
 //! Callers of the chunks of iterators.
 
-ghost use Rattle.std.specs.Prelude.{◌≡◌, IfOk, None, length};
+ghost use Rattle.std.specs.Prelude.{◌≡◌, ℕ, ◌+◌, List, IfOk, None, length, sum};
 ghost use Rattle.std.specs.Fn.{CalledAt};
 ghost use Rattle.std.specs.List.{FoldsTo};
+ghost use Rattle.p3_util.specs.Flat.{flat};
 ghost use Rattle.p3_util.specs.Pieces.{padded_pieces, piece_count, pieces};
 
 use p3_util::{apply_to_chunks, iter_array_chunks_padded};
@@ -11,9 +12,23 @@ use std::alloc::{AllocError, Global};
 /// Hands `bytes` to `absorb` in blocks of 64, in order. The last block may be shorter.
 pub fn absorb_blocks<H: FnMut(&[u8]) + Drop>(bytes: &[u8], absorb: H)
     requires { H.IsAlwaysCallable absorb }
-    ensures { (last : H) × FoldsTo (λ f piece g. CalledAt H.FnMut f piece tt g) absorb (pieces 64 bytes.now) last }
+    ensures absorbed { (last : H)
+        × FoldsTo (λ f piece g. CalledAt H.FnMut f piece tt g) absorb (pieces 64 bytes.now) last }
+    ensures joined { flat (pieces 64 bytes.now) ≡ bytes.now }
 {
     apply_to_chunks::<64, _, H>(bytes.iter().copied(), absorb);
+}
+
+/// Adds up `bytes` by way of `add`, to which it hands them in blocks of 64: where each call raises what `total` reads by the
+/// sum of its block, all calls raise it by the sum of all bytes.
+pub fn add_blocks<H: FnMut(&[u8]) + Drop>(bytes: &[u8], add: H)
+    requires { H.IsAlwaysCallable add }
+    ensures { (total : H → ℕ)
+        → ((f g : H) (piece : List ℕ) → CalledAt H.FnMut f piece tt g → total g ≡ total f + sum piece)
+        → (last : H) × FoldsTo (λ f piece g. CalledAt H.FnMut f piece tt g) add (pieces 64 bytes.now) last
+        × (total last ≡ total add + sum bytes.now) }
+{
+    absorb_blocks(bytes, add);
 }
 
 /// `xs` in lanes of 4, the last of which is filled with `fill`.

@@ -1,13 +1,14 @@
-//! Callers of bit reversal. None of them has a proof by hand, but for `reverse_twice`: the test in front of a call is enough.
+//! Callers of bit reversal. None of them has a proof by hand: the test in front of a call is enough, or a lemma that is named.
 
 ghost use Rattle.std.specs.Prelude.{◌≡◌, ◌+◌, ◌^◌, ◌<◌, ◌≤◌, ◌↔◌, [], ◌∷◌, IsTrue, IsFalse, length};
 ghost use Rattle.std.specs.Int.{is_power_of_two};
-ghost use Rattle.p3_util_kernels.specs.Reversal.{IsReversal, IsRowReversal, IsZeroOrPowerOfTwo};
+ghost use Rattle.p3_util_kernels.specs.Reversal.{FitsRows, IsReversal, IsRowReversal, IsZeroOrPowerOfTwo};
 
 use p3_util_kernels::bits::checked_log_size_sum;
 use p3_util_kernels::places::{Places, Swaps};
 use p3_util_kernels::reverse::{
     fits_rows, reverse_chunks_on, reverse_index_bits_long, reverse_slice_index_bits,
+    reverse_slice_row_index_bits,
 };
 
 /// Reverses `vals` by index bits. `false`, and nothing done, where the length is neither zero nor a power of two.
@@ -16,7 +17,7 @@ pub fn reverse_where_it_fits<F>(vals: &mut [F]) -> bool
     ensures left { IsFalse result → vals.new ≡ vals.old }
     ensures fits { IsTrue result ↔ IsZeroOrPowerOfTwo (length vals.old) }
 {
-    let fits = fits_rows(vals.len(), 1);
+    let fits = fits_rows(<[F]>::len(vals), 1);
     if fits {
         reverse_slice_index_bits(vals);
     }
@@ -28,7 +29,7 @@ pub fn reverse_power_of_two<F>(vals: &mut [F])
     ensures done { IsTrue (is_power_of_two (length vals.old)) → IsReversal vals.old vals.new }
     ensures left { IsFalse (is_power_of_two (length vals.old)) → vals.new ≡ vals.old }
 {
-    if vals.len().is_power_of_two() {
+    if <[F]>::len(vals).is_power_of_two() {
         reverse_slice_index_bits(vals);
     }
 }
@@ -88,10 +89,21 @@ pub fn reverse_chunks_where_they_fit<S: Places>(
 }
 
 /// Reverses `vals` by index bits twice, as a transform and its inverse do, which leaves it as it was.
+#[tactic(auto, using(p3_util::proofs::Callers::reversed_twice))]
 pub fn reverse_twice<F>(vals: &mut [F])
     requires { IsZeroOrPowerOfTwo (length vals.old) }
     ensures { vals.new ≡ vals.old }
 {
     reverse_slice_index_bits(vals);
     reverse_slice_index_bits(vals);
+}
+
+/// Reverses the order of the rows of `vals`, of `row_width` items each, twice, which leaves it as it was.
+#[tactic(auto, using(p3_util::proofs::Callers::rows_reversed_twice))]
+pub fn reverse_rows_twice<F>(vals: &mut [F], row_width: usize)
+    requires { FitsRows (length vals.old) row_width }
+    ensures { vals.new ≡ vals.old }
+{
+    reverse_slice_row_index_bits(vals, row_width);
+    reverse_slice_row_index_bits(vals, row_width);
 }

@@ -23,7 +23,7 @@ pub fn transpose_by_way_of<T: Copy>(
     ensures left { IsFalse result → matrix.new ≡ matrix.old }
     ensures fits { IsTrue result ↔ ((length matrix.old ≡ width * height) × (length scratch.old ≡ width * height)) }
 {
-    if !fits_matrix(matrix.len(), scratch.len(), width, height) {
+    if !fits_matrix(<[T]>::len(matrix), <[T]>::len(scratch), width, height) {
         return false;
     }
     transpose(matrix, scratch, width, height);
@@ -32,6 +32,7 @@ pub fn transpose_by_way_of<T: Copy>(
 }
 
 /// Transposes `matrix` into `scratch` and back, which leaves `matrix` as it was and its transpose in `scratch`.
+#[tactic(auto, using(p3_util::proofs::Callers::transposed_twice))]
 pub fn transpose_there_and_back<T: Copy>(
     matrix: &mut [T],
     scratch: &mut [T],

@@ -1,6 +1,6 @@
 //! Callers of the views over rows of any length, and of written lengths: the kernels, and single items.
 
-ghost use Rattle.std.specs.Prelude.{◌≡◌, ◌*◌, ◌^◌, ◌<◌, ◌↔◌, IsTrue, IsFalse, Some, length, slice_get, slice_set, swap};
+ghost use Rattle.std.specs.Prelude.{◌≡◌, ◌+◌, ◌*◌, ◌^◌, ◌<◌, ◌↔◌, IsTrue, IsFalse, Some, length, slice_get, slice_set, swap};
 ghost use Rattle.std.specs.Int.{is_power_of_two};
 ghost use Rattle.p3_util.specs.Flat.{flat};
 ghost use Rattle.p3_util_kernels.specs.Reversal.{FitsRows, IsReversal, IsReversible, IsRowReversal, IsZeroOrPowerOfTwo};
@@ -35,7 +35,7 @@ pub fn reverse_items_where_they_fit<T, const N: usize>(rows: &mut [[T; N]]) -> b
     ensures fits { length rows.old * N < 2 ^ 64
         → (IsTrue result ↔ IsZeroOrPowerOfTwo (length rows.old * N)) }
 {
-    if flat_len(rows.len(), N).is_none() {
+    if flat_len(<[_]>::len(rows), N).is_none() {
         return false;
     }
     let mut view = as_base_slice_mut(rows);
@@ -145,6 +145,27 @@ pub fn put_item<T: Copy, const N: usize>(rows: &mut [[T; N]], i: usize, item: T)
     ensures { flat rows.new ≡ slice_set (flat rows.old) i item }
 {
     as_base_slice_mut(rows).put(i, item);
+}
+
+/// Puts `item` in row `row` and column `column`.
+pub fn put_at(rows: &mut [[u64; 2]], row: usize, column: usize, item: u64)
+    requires fits { length rows.old * 2 < 2 ^ 64 }
+    requires row_inside { row < length rows.old }
+    requires column_inside { column < 2 }
+    ensures { flat rows.new ≡ slice_set (flat rows.old) (row * 2 + column) item }
+{
+    as_base_slice_mut(rows).put(row * 2 + column, item);
+}
+
+/// The same of items that are not `Copy`: what was there is dropped.
+pub fn set_at<T: Drop>(rows: &mut [[T; 2]], row: usize, column: usize, item: T)
+    requires fits { length rows.old * 2 < 2 ^ 64 }
+    requires row_inside { row < length rows.old }
+    requires column_inside { column < 2 }
+    ensures { flat rows.new ≡ slice_set (flat rows.old) (row * 2 + column) item }
+{
+    let mut view = as_base_slice_mut(rows);
+    set_item_of_view(&mut view, row * 2 + column, item);
 }
 
 /// Exchanges items `i` and `j`.

@@ -14,7 +14,7 @@ use std::process::Abort;
 
 /// Reverses `list`, as a slice.
 pub(crate) fn reverse_slice<F>(rt: &impl Abort, list: &mut [F]) {
-    assert!(rt; fits_rows(list.len(), 1));
+    assert!(rt; fits_rows(<[F]>::len(list), 1));
     reverse_slice_index_bits(list);
 }
 
@@ -36,7 +36,7 @@ pub(crate) fn count_row_swaps<S: Places>(
 
 /// Reverses the rows of `list`, as a slice.
 pub(crate) fn reverse_slice_rows<F>(rt: &impl Abort, list: &mut [F], row_width: usize) {
-    assert!(rt; fits_rows(list.len(), row_width));
+    assert!(rt; fits_rows(<[F]>::len(list), row_width));
     reverse_slice_row_index_bits(list, row_width);
 }
 
@@ -60,7 +60,7 @@ pub(crate) fn transpose_slice<T: Copy>(
     width: usize,
     height: usize,
 ) {
-    assert!(rt; fits_matrix(input.len(), output.len(), width, height));
+    assert!(rt; fits_matrix(input.len(), <[T]>::len(output), width, height));
     transpose(input, output, width, height);
 }
 

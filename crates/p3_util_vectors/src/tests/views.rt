@@ -3,6 +3,7 @@ ghost use Rattle.std.specs.Prelude.{◌≤◌};
 
 use crate::tests::calls::{count_swaps_of, count_writes};
 use crate::tests::checks::{copied, equal, numbers, same};
+use p3_util::views::flat_get;
 use p3_util::{
     as_base_slice, as_base_slice_mut, flat_len, flatten_to_base, reconstitute_from_base,
 };
@@ -24,7 +25,7 @@ fn lengths(rt: HostRuntime) {
     }
 }
 
-/// Asserts that a view of `rows` has the items `wanted`, by their places and in order.
+/// Asserts that a view of `rows` has the items `wanted`, by their places and in order, and the rows without a view too.
 fn check_view<const N: usize>(rt: &impl Abort, rows: &[[u64; N]], wanted: &[u64]) {
     assert!(rt; flat_len(rows.len(), N).is_some());
     let view = as_base_slice(rows);
@@ -32,8 +33,10 @@ fn check_view<const N: usize>(rt: &impl Abort, rows: &[[u64; N]], wanted: &[u64]
     equal(rt, &view.is_empty(), &wanted.is_empty());
     for (place, item) in wanted.iter().enumerate() {
         same(rt, place, &view.get(place).copied(), &Some(*item));
+        same(rt, place, &flat_get(rows, place).copied(), &Some(*item));
     }
     equal(rt, &view.get(wanted.len()).copied(), &None);
+    equal(rt, &flat_get(rows, wanted.len()).copied(), &None);
     assert!(rt; view.iter().eq(wanted.iter()));
 }
 

@@ -31,7 +31,7 @@ pub fn reverse_items_where_they_fit(rows: &mut [[u32; 8]]) -> bool
     ensures fits { length rows.old * 8 < 2 ^ 64
         → (IsTrue result ↔ IsZeroOrPowerOfTwo (length rows.old * 8)) }
 {
-    if flat_len(rows.len(), 8).is_none() {
+    if flat_len(<[_]>::len(rows), 8).is_none() {
         return false;
     }
     let mut view = as_base_slice_mut(rows);

@@ -31,7 +31,7 @@ pub fn reverse_items_where_they_fit(rows: &mut [[u64; 4]]) -> bool
     ensures fits { length rows.old * 4 < 2 ^ 64
         → (IsTrue result ↔ IsZeroOrPowerOfTwo (length rows.old * 4)) }
 {
-    if flat_len(rows.len(), 4).is_none() {
+    if flat_len(<[_]>::len(rows), 4).is_none() {
         return false;
     }
     let mut view = as_base_slice_mut(rows);

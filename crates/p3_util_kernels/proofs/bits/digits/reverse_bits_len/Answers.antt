@@ -16,6 +16,9 @@ returns-else-bit_len-eq0-clause-reversed c =
     shifted _ c.args.bit_len c.args.x c.reverse_u64-reversed.ensures (omega arith)
     ∙ sym (rev_word-above c.args.bit_len c.args.x (omega arith))
 
+pub returns-else-bit_len-eq0-clause-digits : goal.returns-else-bit_len-eq0-clause-digits
+returns-else-bit_len-eq0-clause-digits c some = shifted _ c.args.bit_len c.args.x c.reverse_u64-reversed.ensures (omega arith)
+
 pub returns-else-bit_len-eq0-clause-below : goal.returns-else-bit_len-eq0-clause-below
 returns-else-bit_len-eq0-clause-below c some =
     rw (shifted _ c.args.bit_len c.args.x c.reverse_u64-reversed.ensures (omega arith)) (rev-lt c.args.bit_len c.args.x)

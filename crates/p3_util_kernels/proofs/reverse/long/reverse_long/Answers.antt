@@ -22,17 +22,17 @@ returns-clause-order g c =
     let whole : bits / 2 + (bits - bits / 2) ≡ bits = omega arith in
     IsReversal-composed (bits / 2) (bits - bits / 2) (omega arith) (omega arith) _ _ _ _
     (rw whole (sym c.len.ensures.len ∙ c.log2_strict_usize-bits.ensures.power))
-    c.reverse_chunks_on.ensures.order c.transpose_squares-m.ensures.transposed c.reverse_chunks_on-2.ensures.order
+    c.reverse_chunks-m.ensures.order c.transpose_squares-m.ensures.transposed c.reverse_chunks.ensures.order
 
 pub returns-clause-exact : goal.returns-clause-exact
 returns-clause-exact g c k e =
     let same : c.log2_strict_usize-bits.result ≡ k =
     exponent-same c.log2_strict_usize-bits.result k (sym (sym e ∙ sym c.len.ensures.len ∙ c.log2_strict_usize-bits.ensures.power)) in
-    rw (← same) (swaps c.log2_strict_usize-bits.result _ _ _ _ c.reverse_chunks_on.ensures.exact c.transpose_squares-m.ensures.count c.reverse_chunks_on-2.ensures.exact)
+    rw (← same) (swaps c.log2_strict_usize-bits.result _ _ _ _ c.reverse_chunks-m.ensures.exact c.transpose_squares-m.ensures.count.count c.reverse_chunks.ensures.exact)
 
 pub returns-clause-count : goal.returns-clause-count
 returns-clause-count g c = record {
   steps = long_swaps c.log2_strict_usize-bits.result;
-  count = swaps c.log2_strict_usize-bits.result _ _ _ _ c.reverse_chunks_on.ensures.exact c.transpose_squares-m.ensures.count c.reverse_chunks_on-2.ensures.exact;
+  count = swaps c.log2_strict_usize-bits.result _ _ _ _ c.reverse_chunks-m.ensures.exact c.transpose_squares-m.ensures.count.count c.reverse_chunks.ensures.exact;
   bound = rw (← c.len.ensures.len, c.log2_strict_usize-bits.ensures.power) (long_swaps-le c.log2_strict_usize-bits.result);
 }

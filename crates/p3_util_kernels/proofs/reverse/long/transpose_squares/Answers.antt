@@ -1,10 +1,9 @@
 use Rattle.std.proofs.Common.{◌≡◌, ℕ, ◌+◌, ◌-◌, ◌*◌, ◌%◌, ◌^◌, ◌<◌, ◌≤◌, ◌∙◌, arith}
 use Rattle.std.proofs.lemmas.Nat.{one_shl}
-use Rattle.p3_util_kernels.specs.Steps.{counted}
 use Rattle.p3_util_kernels.specs.SwapCounts.{square_swaps}
 use Rattle.p3_util_kernels.proofs.Powers.{exponent-lt}
 use Rattle.p3_util_kernels.proofs.Squares.{AreTransposed-more, square_room}
-use Rattle.p3_util_kernels.proofs.Steps.{counted-more}
+use Rattle.p3_util_kernels.proofs.Steps.{Stepped-more}
 use Rattle.p3_util_kernels.proofs.reverse.long.transpose_squares.Goals as goal
 
 -- what the two shifts give, in a list whose length fits a word
@@ -52,8 +51,7 @@ loop-square-preserved g c =
       transposed =
           AreTransposed-more c.args.log_stride c.args.log_size c.requires.within c.loop-square.square _ _ _ (omega arith)
           c.loop-square.invariant.transposed (rw s.side at c.transpose_square-m.ensures.transposed);
-      count = grind (arith, counted-more);
-      holder = g.met.S.Places.same_holder_trans _ _ _ c.loop-square.invariant.holder c.transpose_square-m.ensures.holder;
+      count = Stepped-more g.met.M.CountedPlaces.same_holder_trans _ _ _ _ _ _ c.loop-square.invariant.count c.transpose_square-m.ensures.count (omega arith);
     }
 
 pub returns-clause-transposed : goal.returns-clause-transposed
@@ -62,11 +60,8 @@ returns-clause-transposed g c =
     let all : c.loop-square.square ≡ 2 ^ (c.args.log_stride - c.args.log_size) = omega arith in
     rw (← all) c.loop-square.invariant.transposed
 
-swaps : (log_stride log_size squares old now : ℕ) → squares ≡ 2 ^ (log_stride - log_size)
-    → now ≡ counted old (squares * square_swaps (2 ^ log_size)) → now ≡ counted old (2 ^ (log_stride - log_size) * square_swaps (2 ^ log_size))
-swaps log_stride log_size squares old now all count = rw (← all) count
-
 pub returns-clause-count : goal.returns-clause-count
 returns-clause-count g c =
     let s = shifts c.args.log_stride c.args.log_size _ c.requires.within c.requires.whole (omega arith) in
-    swaps c.args.log_stride c.args.log_size c.loop-square.square _ _ (omega arith) c.loop-square.invariant.count
+    let all : c.loop-square.square ≡ 2 ^ (c.args.log_stride - c.args.log_size) = omega arith in
+    rw all at c.loop-square.invariant.count

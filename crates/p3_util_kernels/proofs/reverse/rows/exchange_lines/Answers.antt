@@ -1,6 +1,6 @@
-use Rattle.std.proofs.Common.{◌≡◌, ◌+◌, ◌*◌, ◌/◌, ◌%◌, ◌^◌, ◌≤◌, arith}
+use Rattle.std.proofs.Common.{◌≡◌, ◌+◌, ◌*◌, ◌/◌, ◌%◌, ◌^◌, ◌≤◌, refl, arith}
 use Rattle.p3_util_kernels.proofs.Crossing.{IsCrossed-join, IsCrossed-none, lines_rest, turn-first, turn-second}
-use Rattle.p3_util_kernels.proofs.Steps.{counted-more}
+use Rattle.p3_util_kernels.proofs.Steps.{Stepped-more}
 use Rattle.p3_util_kernels.proofs.reverse.rows.exchange_lines.Goals as goal
 
 pub loop-x-preserved : goal.loop-x-preserved
@@ -8,16 +8,14 @@ loop-x-preserved g c =
     let half = c.args.digits / 2 in
     let x = c.loop-x.x in
     let turn = (c.args.middle * 2 ^ half + c.args.y) / 2 * 2 ^ half + x in
-    let first = rw (turn-first half c.args.middle x c.args.y c.requires.even c.requires.y c.loop-x-test.true) at c.exchange_pair.ensures.crossed in
-    let second = rw (turn-second half c.args.middle x c.args.y c.requires.even c.requires.y (omega arith)) at c.exchange_pair-in-loop-x.ensures.crossed in
+    let first = rw (turn-first half c.args.middle x c.args.y c.requires.even c.requires.y c.loop-x-test.true) at c.exchange_pair-m.ensures.crossed in
+    let second = rw (turn-second half c.args.middle x c.args.y c.requires.even c.requires.y (omega arith)) at c.exchange_pair-m-in-loop-x.ensures.crossed in
     let more : turn * 2 + 1 + 1 ≡ ((c.args.middle * 2 ^ half + c.args.y) / 2 * 2 ^ half + (x + 1)) * 2 = omega arith in
     let wider : c.args.row_width * (x + x) + c.args.row_width + c.args.row_width ≡ c.args.row_width * (x + 1 + (x + 1)) = omega arith in
     record {
       crossed = rw more at (IsCrossed-join half (c.args.digits % 2) c.args.row_width _ _ _ _ _ _ (omega arith) (omega arith)
           (IsCrossed-join half (c.args.digits % 2) c.args.row_width _ _ _ _ _ _ (omega arith) (omega arith) c.loop-x.invariant.crossed first) second);
-      count = rw wider at (counted-more _ _ _ _ _ (counted-more _ _ _ _ _ c.loop-x.invariant.count c.exchange_pair.ensures.count) c.exchange_pair-in-loop-x.ensures.count);
-      holder = g.met.S.Places.same_holder_trans _ _ _ (g.met.S.Places.same_holder_trans _ _ _ c.loop-x.invariant.holder c.exchange_pair.ensures.holder)
-          c.exchange_pair-in-loop-x.ensures.holder;
+      count = Stepped-more g.met.M.CountedPlaces.same_holder_trans _ _ _ _ _ _ (Stepped-more g.met.M.CountedPlaces.same_holder_trans _ _ _ _ _ _ c.loop-x.invariant.count c.exchange_pair-m.ensures.count refl) c.exchange_pair-m-in-loop-x.ensures.count wider;
     }
 
 pub returns-clause-crossed : goal.returns-clause-crossed
@@ -28,7 +26,7 @@ returns-clause-crossed g c =
     let all : c.loop-x.x ≡ c.args.y = omega arith in
     let before = rw all at c.loop-x.invariant.crossed in
     let rest = lines_rest half c.args.middle c.args.y c.requires.even c.requires.y in
-    let step = rw (turn-second half c.args.middle c.args.y c.args.y c.requires.even c.requires.y (omega arith)) at c.exchange_pair-2.ensures.crossed in
+    let step = rw (turn-second half c.args.middle c.args.y c.args.y c.requires.even c.requires.y (omega arith)) at c.exchange_pair.ensures.crossed in
     let end : (two * 2 ^ half + c.args.y) * 2 + 1 + 1 ≤ (two + 1) * 2 ^ half * 2 = omega arith in
     IsCrossed-join half odd c.args.row_width _ _ _ _ _ _ (omega arith) end
     (IsCrossed-join half odd c.args.row_width _ _ _ _ _ _ (omega arith) (omega arith)

@@ -1,13 +1,12 @@
 use Rattle.std.proofs.Common.{◌≡◌, ◌+◌, ◌*◌, ◌/◌, ◌%◌, ◌^◌}
 use Rattle.p3_util_kernels.specs.Crossing.{IsCrossed}
-use Rattle.p3_util_kernels.specs.Steps.{counted}
+use Rattle.p3_util_kernels.specs.Steps.{Stepped}
 use Rattle.p3_util_kernels.proofs.reverse.rows.exchange_lines.Given as goal
 
 -- the pairs of these lines below `x` are exchanged
 abbrev pub invariant-loop-x : goal.invariant-loop-x
 invariant-loop-x g l = let two = (l.middle * 2 ^ (l.digits / 2) + l.y) / 2 in record {
   crossed : IsCrossed (l.digits / 2) (l.digits % 2) l.row_width (two * 2 ^ (l.digits / 2) * 2) ((two * 2 ^ (l.digits / 2) + l.x) * 2)
-      (g.S.Places.items l.fn.m.holder) (g.S.Places.items l.m.holder);
-  count : l.m.count ≡ counted l.fn.m.count (l.row_width * (l.x + l.x));
-  holder : g.S.Places.same_holder l.fn.m.holder l.m.holder;
+      (g.M.CountedPlaces.items l.fn.m) (g.M.CountedPlaces.items l.m);
+  count : Stepped g.M.CountedPlaces.count g.M.CountedPlaces.same_holder (l.row_width * (l.x + l.x)) l.fn.m l.m;
 }

@@ -46,7 +46,7 @@ pub loop-two-init : goal.loop-two-init
 loop-two-init g c = record {
   crossed = IsCrossed-none _ _ c.args.row_width _ _ _ (λ m x y hx hy from to. absurd (omega arith));
   count = rw sum_below-none (let none : c.args.row_width * 0 ≡ 0 = omega arith in rw none (sym (counted-zero _ c.requires.ready.count_fits)));
-  holder = g.met.S.Places.same_holder_refl _;
+  holder = g.met.M.CountedPlaces.same_holder_refl _;
 }
 
 pub overflow_shl-lines : goal.overflow_shl-lines
@@ -61,17 +61,17 @@ nonzero_div-line g c = rw (side_is c.args.digits c.requires.ready.few) (pow_pos 
 pub nonzero_rem-line : goal.nonzero_rem-line
 nonzero_rem-line g c = rw (side_is c.args.digits c.requires.ready.few) (pow_pos (c.args.digits / 2))
 
-pub exchange_lines-requires-clause-middle : goal.exchange_lines-requires-clause-middle
-exchange_lines-requires-clause-middle g c =
+pub exchange_lines-m-requires-clause-middle : goal.exchange_lines-m-requires-clause-middle
+exchange_lines-m-requires-clause-middle g c =
     let x = c.args.digits in
     let below : c.loop-two.two * 2 < 2 ^ (x % 2 + x / 2) = omega (arith, weight x c.requires.ready.few) in
     rw (side_is x c.requires.ready.few) (div_below (c.loop-two.two * 2) (2 ^ (x / 2)) (2 ^ (x % 2)) (pow_pos (x / 2)) (rw (pow-add 2 (x % 2) (x / 2)) at below))
 
-pub exchange_lines-requires-clause-even : goal.exchange_lines-requires-clause-even
-exchange_lines-requires-clause-even g c = rw (side_is c.args.digits c.requires.ready.few) (lower-even c.loop-two.two (c.args.digits / 2) (omega arith))
+pub exchange_lines-m-requires-clause-even : goal.exchange_lines-m-requires-clause-even
+exchange_lines-m-requires-clause-even g c = rw (side_is c.args.digits c.requires.ready.few) (lower-even c.loop-two.two (c.args.digits / 2) (omega arith))
 
-pub exchange_lines-requires-clause-y : goal.exchange_lines-requires-clause-y
-exchange_lines-requires-clause-y g c = rw (side_is c.args.digits c.requires.ready.few) (higher-fits c.loop-two.two (c.args.digits / 2) (omega arith))
+pub exchange_lines-m-requires-clause-y : goal.exchange_lines-m-requires-clause-y
+exchange_lines-m-requires-clause-y g c = rw (side_is c.args.digits c.requires.ready.few) (higher-fits c.loop-two.two (c.args.digits / 2) (omega arith))
 
 pub loop-two-preserved : goal.loop-two-preserved
 loop-two-preserved g c =
@@ -80,15 +80,15 @@ loop-two-preserved g c =
     let side = side_is c.args.digits c.requires.ready.few in
     let split : two * 2 / 2 ^ q * 2 ^ q + two * 2 % 2 ^ q ≡ two * 2 = div-add-mod' (two * 2) (2 ^ q) in
     let half : two * 2 / 2 ≡ two = omega arith in
-    let step = rw (side, split, half) at c.exchange_lines.ensures.crossed in
+    let step = rw (side, split, half) at c.exchange_lines-m.ensures.crossed in
     let next : (two + 1) * 2 ≡ two * 2 + 1 + 1 = omega arith in
     let more : c.args.row_width * sum_below (two * 2) (λ n. n % 2 ^ q) + c.args.row_width * (two * 2 % 2 ^ q + (two * 2 % 2 ^ q + 1))
     ≡ c.args.row_width * sum_below ((two + 1) * 2) (λ n. n % 2 ^ q) = rw (next, sum_below-more, sum_below-more, higher two q (omega arith)) (omega arith) in
     let up : two * 2 ^ q * 2 ≤ (two + 1) * 2 ^ q * 2 = omega arith in
     record {
       crossed = IsCrossed-join _ _ c.args.row_width _ _ _ _ _ _ (omega arith) up c.loop-two.invariant.crossed step;
-      count = rw more at (counted-more _ _ _ _ _ c.loop-two.invariant.count (rw side at c.exchange_lines.ensures.count));
-      holder = g.met.S.Places.same_holder_trans _ _ _ c.loop-two.invariant.holder c.exchange_lines.ensures.holder;
+      count = rw more at (counted-more _ _ _ _ _ c.loop-two.invariant.count (rw side at c.exchange_lines-m.ensures.count.count));
+      holder = g.met.M.CountedPlaces.same_holder_trans _ _ _ c.loop-two.invariant.holder c.exchange_lines-m.ensures.count.holder;
     }
 
 -- all lines came up, two at a time

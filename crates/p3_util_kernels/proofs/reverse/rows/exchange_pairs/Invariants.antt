@@ -8,7 +8,7 @@ use Rattle.p3_util_kernels.proofs.reverse.rows.exchange_pairs.Given as goal
 abbrev pub invariant-loop-two : goal.invariant-loop-two
 invariant-loop-two g l = record {
   crossed : IsCrossed (l.digits / 2) (l.digits % 2) l.row_width 0 (l.two * 2 ^ (l.digits / 2) * 2)
-      (g.S.Places.items l.initial.m.holder) (g.S.Places.items l.m.holder);
-  count : l.m.count ≡ counted l.initial.m.count (l.row_width * sum_below (l.two * 2) (λ n. n % 2 ^ (l.digits / 2)));
-  holder : g.S.Places.same_holder l.initial.m.holder l.m.holder;
+      (g.M.CountedPlaces.items l.initial.m) (g.M.CountedPlaces.items l.m);
+  count : g.M.CountedPlaces.count l.m ≡ counted (g.M.CountedPlaces.count l.initial.m) (l.row_width * sum_below (l.two * 2) (λ n. n % 2 ^ (l.digits / 2)));
+  holder : g.M.CountedPlaces.same_holder l.initial.m l.m;
 }

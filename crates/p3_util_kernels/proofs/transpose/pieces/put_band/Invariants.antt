@@ -1,6 +1,6 @@
 use Rattle.std.proofs.Common.{◌≡◌, ◌-◌, ◌*◌, ◌≤◌}
 use Rattle.p3_util_kernels.specs.Region.{IsRegionTransposed, rows_of}
-use Rattle.p3_util_kernels.specs.Steps.{counted}
+use Rattle.p3_util_kernels.specs.Steps.{Stepped}
 use Rattle.p3_util_kernels.proofs.transpose.pieces.put_band.Given as goal
 
 abbrev pub invariant-loop-col : goal.invariant-loop-col
@@ -8,9 +8,8 @@ invariant-loop-col g l = record {
   from : l.region.col_start ≤ l.col;
   to : l.col ≤ l.region.col_end;
   transposed : IsRegionTransposed (record l.region { col_end = l.col }) l.width l.height (g.R.Source.items l.source)
-      (g.C.Cells.items l.fn.out.holder) (g.C.Cells.items l.out.holder);
-  count : l.out.count ≡ counted l.fn.out.count (rows_of l.region * (l.col - l.region.col_start));
-  holder : g.C.Cells.same_holder l.fn.out.holder l.out.holder;
+      (g.M.CountedCells.items l.fn.out) (g.M.CountedCells.items l.out);
+  count : Stepped g.M.CountedCells.count g.M.CountedCells.same_holder (rows_of l.region * (l.col - l.region.col_start)) l.fn.out l.out;
 }
 
 abbrev pub decreases-loop-col : goal.decreases-loop-col

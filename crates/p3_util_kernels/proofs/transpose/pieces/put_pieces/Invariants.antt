@@ -1,6 +1,6 @@
 use Rattle.std.proofs.Common.{◌≡◌, ◌-◌, ◌*◌, ◌≤◌}
 use Rattle.p3_util_kernels.specs.Region.{IsRegionTransposed, cols_of}
-use Rattle.p3_util_kernels.specs.Steps.{counted}
+use Rattle.p3_util_kernels.specs.Steps.{Stepped}
 use Rattle.p3_util_kernels.proofs.transpose.pieces.put_pieces.Given as goal
 
 abbrev pub invariant-loop-row : goal.invariant-loop-row
@@ -8,9 +8,8 @@ invariant-loop-row g l = record {
   from : l.region.row_start ≤ l.row;
   to : l.row ≤ l.region.row_end;
   transposed : IsRegionTransposed (record l.region { row_end = l.row }) l.width l.height (g.R.Source.items l.source)
-      (g.C.Cells.items l.fn.out.holder) (g.C.Cells.items l.out.holder);
-  count : l.out.count ≡ counted l.fn.out.count ((l.row - l.region.row_start) * cols_of l.region);
-  holder : g.C.Cells.same_holder l.fn.out.holder l.out.holder;
+      (g.M.CountedCells.items l.fn.out) (g.M.CountedCells.items l.out);
+  count : Stepped g.M.CountedCells.count g.M.CountedCells.same_holder ((l.row - l.region.row_start) * cols_of l.region) l.fn.out l.out;
 }
 
 abbrev pub decreases-loop-row : goal.decreases-loop-row

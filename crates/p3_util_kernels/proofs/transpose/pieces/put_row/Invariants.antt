@@ -1,11 +1,10 @@
 use Rattle.std.proofs.Common.{◌≡◌}
 use Rattle.p3_util_kernels.specs.Pieces.{IsPiecePut}
-use Rattle.p3_util_kernels.specs.Steps.{counted}
+use Rattle.p3_util_kernels.specs.Steps.{Stepped}
 use Rattle.p3_util_kernels.proofs.transpose.pieces.put_row.Given as goal
 
 abbrev pub invariant-loop-k : goal.invariant-loop-k
 invariant-loop-k g l = record {
-  put : IsPiecePut 1 l.k l.from l.width l.to l.height (g.R.Source.items l.source) (g.C.Cells.items l.fn.out.holder) (g.C.Cells.items l.out.holder);
-  count : l.out.count ≡ counted l.fn.out.count l.k;
-  holder : g.C.Cells.same_holder l.fn.out.holder l.out.holder;
+  put : IsPiecePut 1 l.k l.at (g.R.Source.items l.source) (g.M.CountedCells.items l.fn.out) (g.M.CountedCells.items l.out);
+  count : Stepped g.M.CountedCells.count g.M.CountedCells.same_holder l.k l.fn.out l.out;
 }

@@ -1,12 +1,11 @@
 use Rattle.std.proofs.Common.{◌≡◌, ◌*◌}
 use Rattle.p3_util_kernels.specs.Pieces.{IsPiecePut}
-use Rattle.p3_util_kernels.specs.Steps.{counted}
+use Rattle.p3_util_kernels.specs.Steps.{Stepped}
 use Rattle.p3_util_kernels.specs.declared.transpose.pieces.TheConstants.{TILE_SIDE, BLOCK_SIDE}
 use Rattle.p3_util_kernels.proofs.transpose.pieces.put_tile.Given as goal
 
 abbrev pub invariant-loop-block : goal.invariant-loop-block
 invariant-loop-block g l = record {
-  put : IsPiecePut TILE_SIDE (l.block * BLOCK_SIDE) l.from l.width l.to l.height (g.R.Source.items l.source) (g.C.Cells.items l.fn.out.holder) (g.C.Cells.items l.out.holder);
-  count : l.out.count ≡ counted l.fn.out.count (l.block * BLOCK_SIDE * TILE_SIDE);
-  holder : g.C.Cells.same_holder l.fn.out.holder l.out.holder;
+  put : IsPiecePut TILE_SIDE (l.block * BLOCK_SIDE) l.at (g.R.Source.items l.source) (g.M.CountedCells.items l.fn.out) (g.M.CountedCells.items l.out);
+  count : Stepped g.M.CountedCells.count g.M.CountedCells.same_holder (l.block * BLOCK_SIDE * TILE_SIDE) l.fn.out l.out;
 }

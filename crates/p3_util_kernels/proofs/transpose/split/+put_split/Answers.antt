@@ -3,16 +3,17 @@ use Rattle.p3_util_kernels.specs.Region.{cols_of, rows_of}
 use Rattle.p3_util_kernels.proofs.Halves.{AreHalves-of, lev-of_region}
 use Rattle.p3_util_kernels.proofs.Levels.{nest_le}
 use Rattle.p3_util_kernels.proofs.Region.{IsRegionTransposed-cut}
+use Rattle.p3_util_kernels.proofs.Steps.{Stepped-more}
 use Rattle.p3_util_kernels.proofs.transpose.split.+put_split.Goals as goal
 
 pub overflow_sub-levels : goal.overflow_sub-levels
 overflow_sub-levels g t c =
-    let h = AreHalves-of c.args.region c.halves.result c.args.width c.args.height c.requires.ready.inside c.if-is_leaf.ensures c.halves.ensures.rows c.halves.ensures.cols in
+    let h = AreHalves-of c.args.region c.halves.result c.args.width c.args.height c.requires.inside c.if-is_leaf.ensures c.halves.ensures.rows c.halves.ensures.cols in
     omega (arith, h.first_levels, c.requires.enough)
 
 pub put_split-out-requires : goal.put_split-out-requires
 put_split-out-requires g t c =
-    let h = AreHalves-of c.args.region c.halves.result c.args.width c.args.height c.requires.ready.inside c.if-is_leaf.ensures c.halves.ensures.rows c.halves.ensures.cols in
+    let h = AreHalves-of c.args.region c.halves.result c.args.width c.args.height c.requires.inside c.if-is_leaf.ensures c.halves.ensures.rows c.halves.ensures.cols in
     let some = h.first_levels in
     λ κs k. (
       omega (arith, c.decreases, c.requires.enough),
@@ -23,14 +24,8 @@ put_split-out-requires g t c =
           (
             search rules,
             (
-              record {
-                inside = h.first_inside _ _ c.requires.ready.inside;
-                input_fits = c.requires.ready.input_fits;
-                output_fits = c.requires.ready.output_fits;
-                length_fits = c.requires.ready.length_fits;
-                count_fits = c.requires.ready.count_fits;
-              },
-              omega (arith, c.requires.enough),
+              c.requires.input_fits,
+              (c.requires.output_fits, (h.first_inside _ _ c.requires.inside, omega (arith, c.requires.enough))),
             ),
           ),
         ),
@@ -39,12 +34,12 @@ put_split-out-requires g t c =
 
 pub overflow_sub-levels-2 : goal.overflow_sub-levels-2
 overflow_sub-levels-2 g t c =
-    let h = AreHalves-of c.args.region c.halves.result c.args.width c.args.height c.requires.ready.inside c.if-is_leaf.ensures c.halves.ensures.rows c.halves.ensures.cols in
+    let h = AreHalves-of c.args.region c.halves.result c.args.width c.args.height c.requires.inside c.if-is_leaf.ensures c.halves.ensures.rows c.halves.ensures.cols in
     omega (arith, h.first_levels, c.requires.enough)
 
 pub put_split-out-requires-2 : goal.put_split-out-requires-2
 put_split-out-requires-2 g t c =
-    let h = AreHalves-of c.args.region c.halves.result c.args.width c.args.height c.requires.ready.inside c.if-is_leaf.ensures c.halves.ensures.rows c.halves.ensures.cols in
+    let h = AreHalves-of c.args.region c.halves.result c.args.width c.args.height c.requires.inside c.if-is_leaf.ensures c.halves.ensures.rows c.halves.ensures.cols in
     let some = h.second_levels in
     λ κs k. (
       omega (arith, c.decreases, c.requires.enough),
@@ -55,14 +50,8 @@ put_split-out-requires-2 g t c =
           (
             search rules,
             (
-              record {
-                inside = h.second_inside _ _ c.requires.ready.inside;
-                input_fits = c.requires.ready.input_fits;
-                output_fits = c.put_split-out.ensures.transposed.same_length ∙ c.requires.ready.output_fits;
-                length_fits = c.requires.ready.length_fits;
-                count_fits = omega arith;
-              },
-              omega (arith, c.requires.enough),
+              c.requires.input_fits,
+              (c.put_split-out.ensures.transposed.same_length ∙ c.requires.output_fits, (h.second_inside _ _ c.requires.inside, omega (arith, c.requires.enough))),
             ),
           ),
         ),
@@ -71,26 +60,26 @@ put_split-out-requires-2 g t c =
 
 pub returns-clause-transposed : goal.returns-clause-transposed
 returns-clause-transposed g t c =
-    let h = AreHalves-of c.args.region c.halves.result c.args.width c.args.height c.requires.ready.inside c.if-is_leaf.ensures c.halves.ensures.rows c.halves.ensures.cols in
-    IsRegionTransposed-cut c.args.width c.args.height _ c.args.region c.halves.result.0 c.halves.result.1 _ _ _ c.requires.ready.inside.rows_inside h.cut
+    let h = AreHalves-of c.args.region c.halves.result c.args.width c.args.height c.requires.inside c.if-is_leaf.ensures c.halves.ensures.rows c.halves.ensures.cols in
+    IsRegionTransposed-cut c.args.width c.args.height _ c.args.region c.halves.result.0 c.halves.result.1 _ _ _ c.requires.inside.rows_inside h.cut
     c.put_split-out.ensures.transposed c.put_split-out-2.ensures.transposed
 
 pub returns-clause-count : goal.returns-clause-count
 returns-clause-count g t c =
-    let h = AreHalves-of c.args.region c.halves.result c.args.width c.args.height c.requires.ready.inside c.if-is_leaf.ensures c.halves.ensures.rows c.halves.ensures.cols in
-    omega (arith, h.items)
+    let h = AreHalves-of c.args.region c.halves.result c.args.width c.args.height c.requires.inside c.if-is_leaf.ensures c.halves.ensures.rows c.halves.ensures.cols in
+    Stepped-more g.met.M.CountedCells.same_holder_trans _ _ _ _ _ _ c.put_split-out.ensures.count c.put_split-out-2.ensures.count (omega (arith, h.items))
 
 pub returns-clause-nested : goal.returns-clause-nested
 returns-clause-nested g t c =
-    let h = AreHalves-of c.args.region c.halves.result c.args.width c.args.height c.requires.ready.inside c.if-is_leaf.ensures c.halves.ensures.rows c.halves.ensures.cols in
+    let h = AreHalves-of c.args.region c.halves.result c.args.width c.args.height c.requires.inside c.if-is_leaf.ensures c.halves.ensures.rows c.halves.ensures.cols in
     omega (arith, h.nested)
 
 pub returns-clause-bound : goal.returns-clause-bound
 returns-clause-bound g t c =
-    let h = AreHalves-of c.args.region c.halves.result c.args.width c.args.height c.requires.ready.inside c.if-is_leaf.ensures c.halves.ensures.rows c.halves.ensures.cols in
+    let h = AreHalves-of c.args.region c.halves.result c.args.width c.args.height c.requires.inside c.if-is_leaf.ensures c.halves.ensures.rows c.halves.ensures.cols in
     omega (
       arith,
       h.nested,
       nest_le (rows_of c.args.region) (cols_of c.args.region),
-      lev-of_region c.args.region c.args.width c.args.height c.requires.ready.inside (omega arith) (omega arith) c.requires.ready.length_fits,
+      lev-of_region c.args.region c.args.width c.args.height c.requires.inside (omega arith) (omega arith) (omega arith),
     )

@@ -1,6 +1,7 @@
 use Rattle.std.proofs.Common.{◌≡◌, ◌+◌, ◌-◌, ◌/◌, arith}
 use Rattle.p3_util_kernels.proofs.Diagonal.{SwapsAcross-rows, SwapsAcross-cols}
 use Rattle.p3_util_kernels.proofs.Pairs.{mul-parts_left, mul-parts_right}
+use Rattle.p3_util_kernels.proofs.Steps.{Stepped-more}
 use Rattle.p3_util_kernels.proofs.transpose.square.+swap_block.Goals as goal
 
 pub returns-then-rows-cols-clause-swapped : goal.returns-then-rows-cols-clause-swapped
@@ -11,7 +12,8 @@ returns-then-rows-cols-clause-swapped g t c =
 
 pub returns-then-rows-cols-clause-count : goal.returns-then-rows-cols-clause-count
 returns-then-rows-cols-clause-count g t c =
-    let half = c.args.rows / 2 in omega (arith, mul-parts_left half (c.args.rows - half) c.args.rows c.args.cols (omega arith))
+    let half = c.args.rows / 2 in
+    Stepped-more g.met.M.CountedPlaces.same_holder_trans _ _ _ _ _ _ c.swap_block-m.ensures.count c.swap_block.ensures.count (omega (arith, mul-parts_left half (c.args.rows - half) c.args.rows c.args.cols (omega arith)))
 
 pub returns-else-rows-cols-clause-swapped : goal.returns-else-rows-cols-clause-swapped
 returns-else-rows-cols-clause-swapped g t c =
@@ -21,4 +23,5 @@ returns-else-rows-cols-clause-swapped g t c =
 
 pub returns-else-rows-cols-clause-count : goal.returns-else-rows-cols-clause-count
 returns-else-rows-cols-clause-count g t c =
-    let half = c.args.cols / 2 in omega (arith, mul-parts_right half (c.args.cols - half) c.args.cols c.args.rows (omega arith))
+    let half = c.args.cols / 2 in
+    Stepped-more g.met.M.CountedPlaces.same_holder_trans _ _ _ _ _ _ c.swap_block-m-else-rows-cols.ensures.count c.swap_block-else-rows-cols.ensures.count (omega (arith, mul-parts_right half (c.args.cols - half) c.args.cols c.args.rows (omega arith)))

@@ -1,6 +1,7 @@
-use Rattle.std.proofs.Common.{◌≡◌, ◌+◌, ◌-◌, ◌/◌, arith}
+use Rattle.std.proofs.Common.{◌≡◌, ◌+◌, ◌-◌, ◌/◌, refl, arith}
 use Rattle.p3_util_kernels.proofs.Diagonal.{SwapsAcross-quadrants}
 use Rattle.p3_util_kernels.proofs.Pairs.{pairs-add}
+use Rattle.p3_util_kernels.proofs.Steps.{Stepped-more}
 use Rattle.p3_util_kernels.proofs.transpose.square.+transpose_part.Goals as goal
 
 pub returns-clause-swapped : goal.returns-clause-swapped
@@ -15,4 +16,4 @@ returns-clause-count g t c =
     let half = c.args.size / 2 in
     let whole : half + (c.args.size - half) ≡ c.args.size = omega arith in
     let parts = rw whole at (pairs-add half (c.args.size - half)) in
-    omega arith
+    Stepped-more g.met.M.CountedPlaces.same_holder_trans _ _ _ _ _ _ (Stepped-more g.met.M.CountedPlaces.same_holder_trans _ _ _ _ _ _ c.transpose_part-m.ensures.count c.swap_block-m.ensures.count refl) c.transpose_part.ensures.count (omega (arith, parts))

@@ -1,0 +1,76 @@
+-- Lists of exchanges and of writes, and the least number of steps in which a list can be rearranged.
+use Rattle.std.specs.Prelude.{ℕ, Bool, ◌==◌, ◌≡◌, ◌≢◌, ◌↔◌, ◌+◌, ◌-◌, ◌*◌, ◌/◌, ◌^◌, ◌<◌, ◌≤◌, IsTrue, if◌then◌else◌, List, [], ◌∷◌, length, slice_get, slice_set, swap}
+use Rattle.p3_util_kernels.specs.Digits.{rev, sum_below}
+use Rattle.p3_util_kernels.specs.Reversal.{IsReversal}
+use Rattle.p3_util_kernels.specs.SwapCounts.{short_swaps, square_swaps}
+use Rattle.p3_util_kernels.specs.Transpose.{IsTranspose}
+
+-- A list of exchanges has pairs of places. This is the list after it: the pairs are exchanged in turn.
+unfoldable pub after_swaps : {A : Type 0} → List A → List (ℕ × ℕ) → List A
+after_swaps xs [] = xs
+after_swaps xs (pair ∷ steps) = after_swaps (swap xs pair.0 pair.1) steps
+
+-- A list of writes has places, each with an item. This is the list after it: the items are put in turn.
+unfoldable pub after_puts : {A : Type 0} → List A → List (ℕ × A) → List A
+after_puts xs [] = xs
+after_puts xs (put ∷ steps) = after_puts (slice_set xs put.0 put.1) steps
+
+-- how many numbers below n pass the test
+unfoldable pub count_below : ℕ → (ℕ → Bool) → ℕ
+count_below n test = sum_below n (λ i. if test i then 1 else 0)
+
+-- the lists differ at each place below n that passes the test
+abbrev pub DifferWhere : {A : Type 0} → ℕ → (ℕ → Bool) → List A → List A → Type 0
+DifferWhere n test old new = (i : ℕ) → i < n → IsTrue (test i) → slice_get old i ≢ slice_get new i
+
+-- the lists differ at exactly `count` of the places below n
+abbrev pub DifferAt : {A : Type 0} → (n count : ℕ) → List A → List A → Type 0
+DifferAt n count old new = (test : ℕ → Bool) × (count_below n test ≡ count)
+    × ((i : ℕ) → i < n → IsTrue (test i) ↔ (slice_get old i ≢ slice_get new i))
+
+-- the places with the numbers below n are n different ones
+abbrev pub AreApart : ℕ → (ℕ → ℕ) → Type 0
+AreApart n place = (i j : ℕ) → i < n → j < n → place i ≡ place j → i ≡ j
+
+-- the items at different places differ
+abbrev pub AllDiffer : {A : Type 0} → List A → Type 0
+AllDiffer xs = (i j : ℕ) → i < length xs → j < length xs → slice_get xs i ≡ slice_get xs j → i ≡ j
+
+-- m exchanges change at most 2 * m places
+abbrev pub SwapsChange : Type 0 → Type 0
+SwapsChange A = (xs : List A) (steps : List (ℕ × ℕ)) (n : ℕ) (test : ℕ → Bool)
+    → DifferWhere n test xs (after_swaps xs steps) → count_below n test ≤ 2 * length steps
+
+-- m writes change at most m places
+abbrev pub PutsChange : Type 0 → Type 0
+PutsChange A = (xs : List A) (steps : List (ℕ × A)) (n : ℕ) (test : ℕ → Bool)
+    → DifferWhere n test xs (after_puts xs steps) → count_below n test ≤ length steps
+
+-- Of the numbers of k bits, 2 ^ ceil(k / 2) are their own reverse.
+abbrev pub Palindromes : Type 0
+Palindromes = (k : ℕ) → count_below (2 ^ k) (λ i. rev k i == i) ≡ 2 ^ ((k + 1) / 2)
+
+-- every list of exchanges that reverses 2 ^ k different items by their index bits
+abbrev pub LeastReversal : Type 0 → Type 0
+LeastReversal A = (k : ℕ) (xs : List A) (steps : List (ℕ × ℕ)) → length xs ≡ 2 ^ k → AllDiffer xs
+    → IsReversal xs (after_swaps xs steps) → short_swaps k ≤ length steps
+
+-- every list of exchanges that transposes a square of different items
+abbrev pub LeastSquare : Type 0 → Type 0
+LeastSquare A = (side : ℕ) (xs : List A) (steps : List (ℕ × ℕ)) → length xs ≡ side * side → AllDiffer xs
+    → IsTranspose side side xs (after_swaps xs steps) → square_swaps side ≤ length steps
+
+-- every list of writes that leaves another item at each of n different places
+abbrev pub LeastPuts : Type 0 → Type 0
+LeastPuts A = (n : ℕ) (place : ℕ → ℕ) (xs : List A) (steps : List (ℕ × A)) → AreApart n place
+    → ((i : ℕ) → i < n → slice_get xs (place i) ≢ slice_get (after_puts xs steps) (place i)) → n ≤ length steps
+
+-- 2 ^ k different items and their reversal differ at two places for each exchange of the least list
+abbrev pub ReversalDiffers : Type 0 → Type 0
+ReversalDiffers A = (k : ℕ) (old new : List A) → length old ≡ 2 ^ k → AllDiffer old
+    → IsReversal old new → DifferAt (2 ^ k) (2 * short_swaps k) old new
+
+-- so do the different items of a square and their transpose
+abbrev pub SquareDiffers : Type 0 → Type 0
+SquareDiffers A = (side : ℕ) (old new : List A) → length old ≡ side * side → AllDiffer old
+    → IsTranspose side side old new → DifferAt (side * side) (side * (side - 1)) old new
