@@ -1,4 +1,5 @@
 pub mod Arrays
 pub mod Program
+pub mod Texts
 pub mod Watch
 pub mod Words

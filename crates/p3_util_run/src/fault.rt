@@ -1,6 +1,7 @@
 //! Why the program stops without a result.
 
-ghost use Rattle.std.specs.Prelude.{◌≡◌, ◌≢◌};
+ghost use Rattle.std.specs.Prelude.{◌≡◌, ◌≢◌, Some};
+ghost use Rattle.p3_util_run.specs.Texts.{fault_text};
 
 use std::fmt;
 
@@ -48,24 +49,25 @@ impl RunFault {
 }
 
 impl fmt::Display for RunFault {
+    ghost output = { λ fault. Some (fault_text fault) };
+
     fn fmt<W: fmt::Write>(&self, f: &mut fmt::Formatter<W>) -> fmt::Result {
-        f.write_str("error: ")?;
         match self {
-            RunFault::UnknownCommand => f.write_str("unknown command"),
-            RunFault::Read => f.write_str("input cannot be read"),
-            RunFault::NotAnArray => f.write_str("input is not a JSON array of u64"),
+            RunFault::UnknownCommand => f.write_str("error: unknown command"),
+            RunFault::Read => f.write_str("error: input cannot be read"),
+            RunFault::NotAnArray => f.write_str("error: input is not a JSON array of u64"),
             RunFault::BadLength { len } => {
-                write!(f, "length {len} is neither zero nor a power of two")
+                write!(f, "error: length {len} is neither zero nor a power of two")
             }
             RunFault::NotTheLength { width, height, len } => {
-                write!(f, "{width} by {height} is not the length {len}")
+                write!(f, "error: {width} by {height} is not the length {len}")
             }
-            RunFault::Memory => f.write_str("out of memory"),
-            RunFault::Write => f.write_str("output cannot be written"),
+            RunFault::Memory => f.write_str("error: out of memory"),
+            RunFault::Write => f.write_str("error: output cannot be written"),
             RunFault::BadRows { width, len } => {
                 write!(
                     f,
-                    "length {len} is not {width} times zero or a power of two"
+                    "error: length {len} is not {width} times zero or a power of two"
                 )
             }
         }

@@ -517,6 +517,18 @@ fn each_write_is_one_call(rt: HostRuntime) {
     equal(&rt, &flushes, &1);
 }
 
+/// A `Watched::flush` that calls the writer only where something was written fails here: a writer may hold what was written
+/// before it was watched.
+#[test]
+fn each_flush_is_one_call(rt: HostRuntime) {
+    let mut writer = Watched::new(noting_writer(rt.alloc()));
+    equal(&rt, &writer.flush().is_ok(), &true);
+    equal(&rt, &writer.flush().is_ok(), &true);
+    equal(&rt, &writer.write(&[7]).ok(), &Some(1));
+    equal(&rt, &writer.flush().is_ok(), &true);
+    equal(&rt, &writer.into_inner().flushes, &3);
+}
+
 /// A `Watched` that puts another error in place of the one that it is given fails here.
 #[test]
 fn errors_are_handed_on(rt: HostRuntime) {

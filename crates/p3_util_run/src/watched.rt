@@ -20,9 +20,11 @@ pub enum InputEnd {
     Passed,
 }
 
-/// A reader or a writer, with the number of its failures, where a reader is, and whether a writer was flushed since the
-/// last write. A failure is a call that returns an error, whatever its kind, and a write that takes none of some bytes.
-/// The number stays at `u64::MAX` once it is there.
+/// A reader or a writer, with the number of its failures, where a reader is, and whether a writer is flushed. A failure is a
+/// call that returns an error, whatever its kind, and a write that takes none of some bytes. The number stays at `u64::MAX`
+/// once it is there.
+///
+/// Flushed means that nothing which was written through this `Watched` is unflushed. A new one is, whatever its writer holds.
 #[derive(Drop)]
 pub struct Watched<T> {
     inner: T,
@@ -131,7 +133,7 @@ impl<W: Write> Watched<W> {
         result
     }
 
-    /// One flush of the writer.
+    /// One flush of the writer, also where nothing was written before.
     pub fn flush(&mut self) -> io::Result<()>
         ensures bytes { Keeps (W.contents self.old.inner) (W.contents self.new.inner) }
         ensures failures { self.new.failures ≡ count_after_call result self.old.failures }
