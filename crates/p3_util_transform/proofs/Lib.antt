@@ -1,0 +1,9 @@
+pub mod Inverse
+pub mod Law
+pub mod Numbers
+pub mod Parts
+pub mod Remainders
+pub mod Roots
+pub mod Rows
+pub mod Stages
+pub mod Sums

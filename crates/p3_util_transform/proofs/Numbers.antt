@@ -1,0 +1,54 @@
+-- Laws of remainders and powers, and of the table of roots.
+use Rattle.std.proofs.Common.{◌≡◌, ◌≢◌, ℕ, zero, suc, ◌+◌, ◌*◌, ◌/◌, ◌%◌, ◌^◌, ◌<◌, Bool, true, ◌&&◌, ◌==◌, get_or, refl, sym, ap, ◌∙◌, subst, arith, inl, inr, eqb-true}
+use Rattle.std.proofs.Math.Nat.{pow-suc}
+use Rattle.std.proofs.lemmas.Nat.{pow-add, mul-pow, mul-mod_first, mul-mod_second, pow-mod}
+use Rattle.std.proofs.lemmas.Bool.{cases_lt, and_parts}
+use Rattle.p3_util_transform.specs.declared.field.TheConstants.{PRIME, ROOTS}
+
+-- each number below n passes the test
+unfoldable all_below : (ℕ → Bool) → ℕ → Bool
+all_below p zero = true
+all_below p (suc n) = p n && all_below p n
+
+all_below-at : (p : ℕ → Bool) (n j : ℕ) → all_below p n ≡ true → j < n → p j ≡ true
+unfolding all_below
+all_below-at p zero j h lt = absurd (omega arith)
+all_below-at p (suc n) j h lt =
+    let parts = and_parts (p n) (all_below p n) h in
+    elim (cases_lt j n) [
+      | inl below ↦ all_below-at p n j parts.1 below
+      | inr last ↦ let at : n ≡ j = omega arith in subst (λ k. p k ≡ true) at parts.0
+    ]
+
+squares_pass : all_below (λ k. get_or ROOTS k 0 == get_or ROOTS (k + 1) 0 ^ 2 % PRIME) 27 ≡ true
+unfolding all_below
+squares_pass = refl
+
+-- each root is the square of the next
+pub root-square : (k : ℕ) → k < 27 → get_or ROOTS k 0 ≡ get_or ROOTS (k + 1) 0 ^ 2 % PRIME
+root-square k h =
+    eqb-true _ _ (all_below-at (λ k. get_or ROOTS k 0 == get_or ROOTS (k + 1) 0 ^ 2 % PRIME) 27 k squares_pass h)
+
+-- one step of a power by squares
+pub pow_halved : (p r b e : ℕ) → (r * (b * b % p) ^ (e / 2)) % p ≡ (r * b ^ (2 * (e / 2))) % p
+pow_halved p r b e =
+    let twice : b ^ (2 * (e / 2)) ≡ (b * b) ^ (e / 2) = rw (mul-pow b b (e / 2)) (ap (λ n. b ^ n) (omega arith) ∙ pow-add b (e / 2) (e / 2)) in
+    let same : (b * b % p) ^ (e / 2) % p ≡ (b * b) ^ (e / 2) % p = pow-mod (b * b) (e / 2) p in
+    sym (mul-mod_second r ((b * b % p) ^ (e / 2)) p) ∙ ap (λ n. (r * n) % p) (same ∙ ap (λ n. n % p) (sym twice)) ∙ mul-mod_second r (b ^ (2 * (e / 2))) p
+
+pub pow_even : (p r b e : ℕ) → e % 2 ≢ 1 → (r * (b * b % p) ^ (e / 2)) % p ≡ (r * b ^ e) % p
+pow_even p r b e h =
+    let half : 2 * (e / 2) ≡ e = omega arith in
+    pow_halved p r b e ∙ ap (λ n. (r * b ^ n) % p) half
+
+pub pow_odd : (p r b e : ℕ) → e % 2 ≡ 1 → (r * b % p * (b * b % p) ^ (e / 2)) % p ≡ (r * b ^ e) % p
+pow_odd p r b e h =
+    let half : suc (2 * (e / 2)) ≡ e = omega arith in
+    let last : r * b * b ^ (2 * (e / 2)) ≡ r * b ^ suc (2 * (e / 2)) = rw (pow-suc b (2 * (e / 2))) (grind arith) in
+    mul-mod_first (r * b) ((b * b % p) ^ (e / 2)) p ∙ pow_halved p (r * b) b e ∙ ap (λ n. n % p) last ∙ ap (λ n. (r * b ^ n) % p) half
+
+-- one factor more
+pub pow_more : (p b i r : ℕ) → r ≡ b ^ i % p → r * b % p ≡ b ^ (i + 1) % p
+pow_more p b i r e =
+    let more : b ^ (i + 1) ≡ b ^ i * b = ap (λ n. b ^ n) (omega arith) ∙ pow-suc b i in
+    ap (λ n. n * b % p) e ∙ mul-mod_first (b ^ i) b p ∙ ap (λ n. n % p) (sym more)

@@ -1,0 +1,5 @@
+use Rattle.p3_util_transform.proofs.Rows.{JoinedBelow}
+use Rattle.p3_util_transform.proofs.transform.stage.join_rows.Given as goal
+
+abbrev pub invariant-loop-c : goal.invariant-loop-c
+invariant-loop-c l = JoinedBelow l.width l.low l.high l.twiddle l.c l.initial.values l.values

@@ -1,0 +1,3 @@
+pub mod Matrix
+pub mod Stages
+pub mod Transform
