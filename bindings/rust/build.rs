@@ -4,7 +4,7 @@ use std::env;
 use std::path::{Path, PathBuf};
 use std::process::exit;
 
-/// The variable that names a folder with the library.
+/// The variable that names a folder with the library. Empty, it names none.
 const FOLDER: &str = "P3_UTIL_C_DIR";
 
 /// What is linked where there is no library. A check and the documentation need none; rustc's message about a build
@@ -15,7 +15,7 @@ fn main() {
     println!("cargo::rerun-if-env-changed={FOLDER}");
     let package = env::var_os("CARGO_MANIFEST_DIR").map(PathBuf::from).unwrap_or_default();
     let mut folders = vec![package.join("lib"), package.join("../../crates/p3_util_c/out")];
-    let named = env::var_os(FOLDER).map(PathBuf::from);
+    let named = env::var_os(FOLDER).filter(|it| !it.is_empty()).map(PathBuf::from);
     if let Some(named) = &named {
         if named.is_relative() {
             refuse(named, &package);

@@ -5,24 +5,28 @@
 
 /// The least `e` with `n <= 2^e`, which is 0 for 0 and 1.
 #[inline]
+#[must_use]
 pub const fn log2_ceil_usize(n: usize) -> usize {
     log2_ceil_u64(n as u64) as usize
 }
 
 /// The greatest `e` with `2^e <= n`, and 0 for 0.
 #[inline]
+#[must_use]
 pub const fn log2_floor_usize(n: usize) -> usize {
     (n | 1).ilog2() as usize
 }
 
 /// The least `e` with `n <= 2^e`, which is 0 for 0 and 1.
 #[inline]
+#[must_use]
 pub const fn log2_ceil_u64(n: u64) -> u64 {
     (u64::BITS - n.saturating_sub(1).leading_zeros()) as u64
 }
 
 /// `2^log_degree`, where a word holds it.
 #[inline]
+#[must_use]
 pub const fn checked_pow2(log_degree: usize) -> Option<usize> {
     if log_degree < usize::BITS as usize {
         Some(1 << log_degree)
@@ -33,6 +37,7 @@ pub const fn checked_pow2(log_degree: usize) -> Option<usize> {
 
 /// The sum of two logarithms, and 2 to the power of it, where words hold both.
 #[inline]
+#[must_use]
 pub const fn checked_log_size_sum(a: usize, b: usize) -> Option<(usize, usize)> {
     let Some(sum) = a.checked_add(b) else {
         return None;
@@ -50,8 +55,9 @@ pub const fn checked_log_size_sum(a: usize, b: usize) -> Option<(usize, usize)> 
 /// Where `n` is no power of two.
 #[inline]
 #[track_caller]
+#[must_use]
 pub const fn log2_strict_usize(n: usize) -> usize {
-    assert!(n.is_power_of_two(), "the number is not a power of two");
+    assert!(n.is_power_of_two(), "Not a power of two");
     n.trailing_zeros() as usize
 }
 
@@ -62,11 +68,12 @@ pub const fn log2_strict_usize(n: usize) -> usize {
 /// Where `n` is no power of three.
 #[inline]
 #[track_caller]
+#[must_use]
 pub const fn log3_strict_usize(n: usize) -> usize {
-    assert!(n != 0, "input must be non-zero");
+    assert!(n != 0, "log3_strict_usize: input must be non-zero");
     // Between two powers of two there is at most one power of three.
     let (exponent, power) = POWERS_OF_3[n.ilog2() as usize];
-    assert!(power == n, "the number is not a power of 3");
+    assert!(power == n, "log3_strict_usize: input is not a power of 3");
     exponent
 }
 
@@ -88,6 +95,7 @@ const POWERS_OF_3: [(usize, usize); 64] = {
 
 /// The list `[0, 1, .., N - 1]`.
 #[inline]
+#[must_use]
 pub const fn indices_arr<const N: usize>() -> [usize; N] {
     let mut indices = [0; N];
     let mut i = 0;
@@ -107,7 +115,8 @@ pub const fn indices_arr<const N: usize>() -> [usize; N] {
 #[inline]
 #[track_caller]
 pub const fn reverse_bits(x: usize, n: usize) -> usize {
-    reverse_bits_len(x, log2_strict_usize(n))
+    assert!(n.is_power_of_two());
+    reverse_bits_len(x, n.trailing_zeros() as usize)
 }
 
 /// Reverses the `bit_len` low binary digits of `x` and drops the others. For a `bit_len` of 0 it reverses the whole

@@ -22,7 +22,8 @@ compile_error!("the static library of p3-util-proved is for Linux on x86-64 alon
 /// Reverses the order of `vals` by index bits: with 2^k items, place `i` gets the item from the place whose index has
 /// the k bits of `i` in reversed order. No item is cloned or dropped.
 ///
-/// Items have any type and size.
+/// Items have any type and size. Those of a size that the package's page does not list go as rows of smaller ones, which
+/// takes longer: see [`reverse_if_served`].
 ///
 /// # Panics
 ///
@@ -31,7 +32,31 @@ compile_error!("the static library of p3-util-proved is for Linux on x86-64 alon
 #[track_caller]
 pub fn reverse_slice_index_bits<F: Send + Sync>(vals: &mut [F]) {
     let fits = library::reverse(vals);
-    assert!(fits, "length {} is neither zero nor a power of two", vals.len());
+    assert!(fits, "Not a power of two: {} items", vals.len());
+}
+
+/// Does what [`reverse_slice_index_bits`] does, where the library has a call for whole items of type `F`. Returns whether
+/// it has, which is decided when the call is compiled; where it has not, nothing is tested and nothing is done.
+///
+/// ```
+/// use p3_util_proved::reverse_if_served;
+///
+/// assert!(reverse_if_served(&mut [0u8; 4]));
+/// assert!(!reverse_if_served(&mut [[0u8; 7]; 4]));
+/// ```
+///
+/// # Panics
+///
+/// As [`reverse_slice_index_bits`] does, where it returns true otherwise.
+#[inline]
+#[track_caller]
+#[must_use = "where it returns false, nothing was done"]
+pub fn reverse_if_served<F: Send + Sync>(vals: &mut [F]) -> bool {
+    let served = const { library::serves::<F>() };
+    if served {
+        reverse_slice_index_bits(vals);
+    }
+    served
 }
 
 /// Reverses the order of the rows of `vals`, of `row_width` items each, by index bits: with 2^k rows, row `r` becomes the

@@ -88,8 +88,8 @@ const fn calls_for(size: usize) -> Option<Calls> {
     None
 }
 
-/// Whether the library transposes items of type `T`. Items without bytes need no call.
-pub(crate) const fn transposes<T>() -> bool {
+/// Whether the library has calls for whole items of type `T`. Items without bytes need none.
+pub(crate) const fn serves<T>() -> bool {
     size_of::<T>() == 0 || calls_for(size_of::<T>()).is_some()
 }
 

@@ -20,11 +20,11 @@ use crate::library;
 pub fn transpose<T: Copy + Send + Sync>(input: &[T], output: &mut [T], width: usize, height: usize) {
     const {
         assert!(
-            library::transposes::<T>(),
+            library::serves::<T>(),
             "the library does not transpose items of this size: see transpose_if_served"
         );
     }
-    transpose_if_served(input, output, width, height);
+    _ = transpose_if_served(input, output, width, height);
 }
 
 /// Does what [`transpose`] does, where the library transposes items of type `T`. Returns whether it does, which is
@@ -43,13 +43,28 @@ pub fn transpose<T: Copy + Send + Sync>(input: &[T], output: &mut [T], width: us
 /// As [`transpose`] does, where it returns true otherwise.
 #[inline]
 #[track_caller]
+#[must_use = "where it returns false, nothing was done"]
 pub fn transpose_if_served<T: Copy + Send + Sync>(input: &[T], output: &mut [T], width: usize, height: usize) -> bool {
     let fits = library::transpose(input, output, width, height);
-    assert!(
-        fits != Some(false),
-        "the lengths {} of the input and {} of the output are not {width} times {height}",
-        input.len(),
-        output.len(),
-    );
+    if fits == Some(false) {
+        refuse(input.len(), output.len(), width, height);
+    }
     fits.is_some()
+}
+
+/// Panics with the original's text on the first length that is not the product, which does not wrap here.
+#[cold]
+#[inline(never)]
+#[track_caller]
+fn refuse(input: usize, output: usize, width: usize, height: usize) -> ! {
+    let product = width as u128 * height as u128;
+    assert_eq!(
+        input as u128, product,
+        "Input length {input} doesn't match width*height = {product}"
+    );
+    assert_eq!(
+        output as u128, product,
+        "Output length {output} doesn't match width*height = {product}"
+    );
+    unreachable!("the library refused lengths that fit");
 }

@@ -4,7 +4,7 @@ use std::fmt::Debug;
 use std::sync::atomic::{AtomicUsize, Ordering};
 
 use p3_util_proved::transpose::{transpose, transpose_if_served};
-use p3_util_proved::{reverse_slice_index_bits, reverse_slice_row_index_bits};
+use p3_util_proved::{reverse_if_served, reverse_slice_index_bits, reverse_slice_row_index_bits};
 
 fn reversed(bits: u32, i: usize) -> usize {
     if bits == 0 {
@@ -70,10 +70,14 @@ fn serves<T: Copy + Debug + PartialEq + Send + Sync>(item: impl Fn(usize) -> T) 
     transposes(&item);
 }
 
-/// Items that are reversed, and not transposed.
+/// Items that are reversed as rows of smaller ones, and not transposed.
 fn reverses_alone<T: Copy + Debug + PartialEq + Send + Sync>(item: impl Fn(usize) -> T) {
     reverses(&item);
     reverses_rows(&item);
+    let mut left = [item(0), item(1), item(2)];
+    assert!(!reverse_if_served(&mut left[..2]));
+    assert!(!reverse_if_served(&mut left));
+    assert_eq!(left, [item(0), item(1), item(2)]);
     let mut output = [item(0); 6];
     assert!(!transpose_if_served(&[item(1); 6], &mut output, 2, 3));
     assert!(!transpose_if_served(&[item(1); 6], &mut output, 2, 4));
@@ -135,7 +139,12 @@ fn other_sizes_are_reversed() {
 }
 
 #[test]
-fn transposes_that_are_served() {
+fn calls_that_are_served() {
+    let mut list = [0u16, 1, 2, 3, 4, 5, 6, 7];
+    assert!(reverse_if_served(&mut list));
+    assert_eq!(list, [0, 4, 2, 6, 1, 5, 3, 7]);
+    assert!(reverse_if_served(&mut [(); 8]));
+    assert!(reverse_if_served::<String>(&mut []));
     let mut output = [0; 6];
     assert!(transpose_if_served(&[1u32, 2, 3, 4, 5, 6], &mut output, 3, 2));
     assert_eq!(output, [1, 4, 2, 5, 3, 6]);

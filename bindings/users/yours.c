@@ -1,0 +1,8 @@
+/* A user's shared library over the static one. */
+#include "p3_util.h"
+
+bool yours_reverse(unsigned char *bytes, size_t len);
+
+bool yours_reverse(unsigned char *bytes, size_t len) {
+    return p3_util_reverse_1(bytes, len);
+}
