@@ -1,0 +1,12 @@
+#!/usr/bin/env bash
+# Runs README's first command as it stands there, and compares what it prints with what README says.
+set -euo pipefail
+cd "$(dirname "$0")/.."
+line=$(awk '/^```sh$/ { getline; print; exit }' README.md)
+command=${line%%   #*} wanted=${line##*# }
+printed=$(bash -c "$command")
+if [ "$printed" != "$wanted" ]; then
+    printf 'The first command of README is\n%s\nand has to print\n%s\nIt printed\n%s\n' "$command" "$wanted" "$printed" >&2
+    exit 1
+fi
+echo "README's first command prints what README says: $wanted"
