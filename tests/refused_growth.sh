@@ -7,8 +7,8 @@
 #
 # It takes what `rt ci` left in crates/*/out: the program, as each compiler built it, and the tests. What is not there it
 # builds. The program has to print that it is out of memory, end with status 3 and write nothing; a test has to pass,
-# whatever is refused. Calls that take no memory have tests of their own, which make them as often as TIMES says: once and
-# twice have to make as many requests.
+# whatever is refused. Each run has to give back all memory that it was given. Calls that take no memory have tests of their
+# own, which make them as often as TIMES says: once and twice have to make as many requests.
 set -uo pipefail
 cd "$(dirname "$0")/.."
 
@@ -16,6 +16,7 @@ cd "$(dirname "$0")/.."
 tests=(
     'p3_util_vectors tests::refused_growth::'
     'p3_util_vectors tests::takes_no_memory::'
+    'p3_util_vectors tests::drops::'
     'p3_util_transform tests::refused_growth::'
 )
 [[ ${1-} != program ]] || tests=()
@@ -28,11 +29,15 @@ kit=$(dirname "$(rt doc)")
 bad=0
 
 # refusing N PROGRAM WORD..: runs the program and refuses its Nth growth. Its output and its error go to files, and
-# `$work/refused` is there if that growth came.
+# `$work/refused` is there if that growth came. Memory that it did not give back is a failure.
 refusing() {
-    rm -f "$work/refused"
-    timeout 60 env REFUSED_GROWTH="$1" REFUSAL="$work/refused" LD_PRELOAD="$work/refuse_growth.so" "${@:2}" \
-        >"$work/out" 2>"$work/err"
+    local status
+    rm -f "$work/refused" "$work/kept"
+    timeout 60 env REFUSED_GROWTH="$1" REFUSAL="$work/refused" KEPT="$work/kept" LD_PRELOAD="$work/refuse_growth.so" \
+        "${@:2}" >"$work/out" 2>"$work/err"
+    status=$?
+    [[ ! -e $work/kept ]] || failed "${2##*/} ${*:3}" "memory was not given back, where growth $1 was refused"
+    return "$status"
 }
 
 # failed NAME TEXT: prints what went wrong in a run.

@@ -9,6 +9,7 @@ mod calls;
 mod checks;
 mod chunks;
 mod counted_forms;
+mod drops;
 mod linear_map;
 mod noted;
 mod oracle;

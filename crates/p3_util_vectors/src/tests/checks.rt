@@ -65,7 +65,12 @@ impl Drop for Owner<'_> {
     }
 }
 
-fn listed(alloc: Global, count: usize, drops: &Cell<usize>) -> Result<Vec<Owner<'_>>, AllocError> {
+/// The owners of the numbers from 0 to below `count`, if there is memory.
+pub(crate) fn listed(
+    alloc: Global,
+    count: usize,
+    drops: &Cell<usize>,
+) -> Result<Vec<Owner<'_>>, AllocError> {
     let mut list = Vec::new(alloc);
     for number in 0..count {
         list.push(Owner { number, drops })?;
