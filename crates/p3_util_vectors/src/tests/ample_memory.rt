@@ -4,8 +4,8 @@
 use crate::tests::checks::{equal, found, numbers, same};
 use p3_util::array_serialization::{deserialize, serialize};
 use p3_util::linear_map::LinearMap;
-use p3_util::{flat_len, flatten_to_base, reconstitute_from_base};
-use std::alloc::Global;
+use p3_util::{flat_len, flatten_to_base, pretty_name, reconstitute_from_base};
+use std::alloc::{AllocError, Global};
 use std::process::Abort;
 
 /// The number of keys of a map. Each is compared with all before it.
@@ -69,4 +69,22 @@ fn long_vectors(rt: HostRuntime) {
     let again = there_and_back(&rt, rt.alloc(), items);
     equal(&rt, &again.len(), &(1 << 21));
     equal(&rt, &again.last(), &Some(&2_097_151));
+}
+
+/// `part`, so often.
+fn repeated_text(alloc: Global, part: &str) -> Result<String, AllocError> {
+    let mut text = String::new(alloc);
+    for _ in 0..COUNT {
+        text.push_str(part)?;
+    }
+    Ok(text)
+}
+
+#[test]
+fn long_names(rt: HostRuntime) {
+    let name = found(&rt, repeated_text(rt.alloc(), "outer::In<"));
+    equal(&rt, &name.len(), &100_000);
+    let short = found(&rt, pretty_name(rt.alloc(), &name));
+    let wanted = found(&rt, repeated_text(rt.alloc(), "In<"));
+    assert!(rt; short.as_str() == wanted.as_str());
 }

@@ -7,7 +7,7 @@ use p3_util_kernels::transpose::{fits_matrix, transpose_source_on};
 use std::process::Abort;
 
 /// Puts the transpose of any source into `cells`, and returns the number of writes.
-fn count_source_writes<R, C>(
+pub(crate) fn count_source_writes<R, C>(
     rt: &impl Abort,
     input: &R,
     cells: &mut C,

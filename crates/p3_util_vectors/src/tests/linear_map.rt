@@ -134,6 +134,8 @@ fn known_keys_keep_their_place(rt: HostRuntime) {
         (Get(3), None),
     ];
     replay(&rt, rt.alloc(), &calls, &[(1, "c"), (2, "b")]);
+    let twice = [(Insert(1u32, "a"), None), (Insert(1, "b"), Some("a"))];
+    replay(&rt, rt.alloc(), &twice, &[(1, "b")]);
 }
 
 #[test]

@@ -1,10 +1,12 @@
 //! Reversal of rows against worked examples and the definition.
 
-use super::noted::{Note, Noted};
+ghost use Rattle.std.specs.Prelude.{◌≡◌};
+
+use super::noted::{Note, Noted, exchange_of};
 use crate::tests::calls::{count_row_swaps, reverse_slice_rows};
 use crate::tests::checks::{Owner, copied, equal, numbers, owners, reversed, same};
 use p3_util::as_base_slice_mut;
-use p3_util_kernels::places::SlicePlaces;
+use p3_util_kernels::places::{Places, SlicePlaces};
 use p3_util_kernels::reverse::fits_rows;
 use std::cell::Cell;
 use std::process::Abort;
@@ -110,4 +112,94 @@ fn each_exchange_of_a_run(rt: HostRuntime) {
     let mut noted = Noted::numbered(&rt, rt.alloc(), 32, 32);
     equal(&rt, &count_row_swaps(&rt, &mut noted, 8), &8);
     equal(&rt, &noted.notes.as_slice(), &RUN.as_slice());
+}
+
+/// A holder that counts the exchanges of two places and those of two runs that it is asked for.
+#[derive(Drop)]
+struct Runs<S> {
+    places: S,
+    exchanges: u64,
+    runs: u64,
+}
+
+impl<S: Places> Places for Runs<S> {
+    type Item = S::Item;
+
+    ghost items = { λ r. S.items r.places };
+
+    ghost same_holder = { λ a b. S.same_holder a.places b.places };
+
+    fn len(&self) -> usize {
+        self.places.len()
+    }
+
+    fn exchange(&mut self, i: usize, j: usize) {
+        self.exchanges = self.exchanges.saturating_add(1);
+        self.places.exchange(i, j);
+    }
+
+    fn exchange_runs(&mut self, i: usize, j: usize, len: usize) {
+        self.runs = self.runs.saturating_add(1);
+        self.places.exchange_runs(i, j, len);
+    }
+
+    ghost same_holder_refl = { λ a. S.same_holder_refl a.places };
+
+    ghost same_holder_trans = { λ a b c p q. S.same_holder_trans a.places b.places c.places p q };
+}
+
+/// Each two rows are one exchange of runs, also by way of a reference, and rows of one item one exchange of places.
+#[test]
+fn runs_by_way_of_a_reference(rt: HostRuntime) {
+    for (row_width, exchanges, runs, swaps) in [(8, 0, 2, 16), (1, 28, 0, 28)] {
+        let mut holder = Runs {
+            places: Noted::numbered(&rt, rt.alloc(), 64, 0),
+            exchanges: 0,
+            runs: 0,
+        };
+        let count = count_row_swaps(&rt, &mut holder, row_width);
+        same(&rt, row_width, &count, &swaps);
+        same(&rt, row_width, &holder.exchanges, &exchanges);
+        same(&rt, row_width, &holder.runs, &runs);
+    }
+}
+
+/// When two rows, whose numbers have `bits` digits, are exchanged: two neighbouring lines after two others, and in these by
+/// the low digits of the row `second` and then by those of `first`, which are greater.
+fn turn(rt: &impl Abort, first: usize, second: usize, bits: u32) -> usize {
+    let side = 1usize << (bits / 2 % 64);
+    let (y, x) = (first % side, second % side);
+    same(rt, first, &(x < y), &true);
+    let line = first % (1usize << (bits.div_ceil(2) % 64)) / 2;
+    line.wrapping_mul(256).wrapping_add(x).wrapping_mul(256).wrapping_add(y)
+}
+
+/// Asserts that each exchange is of a row and the one with the reversed number, and that they come by the rule of [`turn`].
+fn check_turns(rt: &impl Abort, notes: &[Note], bits: u32) {
+    let mut last = 0;
+    for (k, note) in notes.iter().enumerate() {
+        let (first, second) = exchange_of(rt, note);
+        same(rt, k, &second, &reversed(first, bits));
+        let now = turn(rt, first, second, bits);
+        same(rt, k, &(last < now), &true);
+        last = now;
+    }
+}
+
+/// Rows of one item: how many are exchanged, and in which order.
+#[test]
+fn rows_of_one_item(rt: HostRuntime) {
+    for (len, bits, wanted) in [
+        (0usize, 0u32, 0u128),
+        (1, 0, 0),
+        (2, 1, 0),
+        (64, 6, 28),
+        (128, 7, 56),
+        (8192, 13, 4032),
+    ] {
+        let mut noted = Noted::numbered(&rt, rt.alloc(), len, len);
+        same(&rt, len, &count_row_swaps(&rt, &mut noted, 1), &wanted);
+        same(&rt, len, &(noted.notes.len() as u128), &wanted);
+        check_turns(&rt, &noted.notes, bits);
+    }
 }

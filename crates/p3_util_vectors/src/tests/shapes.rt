@@ -249,10 +249,21 @@ fn oblongs_of_four_words(rt: HostRuntime) {
     check_shapes::<[u64; 4]>(&rt, rt.alloc(), &OBLONGS);
 }
 
+/// Transposes matrices of no items.
+fn transpose_nothing<T: Copy>(rt: &impl Abort) {
+    for (width, height) in [(0, 0), (0, 5), (usize::MAX, 0), (0, usize::MAX), (16, 0)] {
+        let mut output: [T; 0] = [];
+        transpose_slice(rt, &[], &mut output, width, height);
+    }
+}
+
 #[test]
 fn sides_of_zero(rt: HostRuntime) {
-    for (width, height) in [(0, 0), (0, 5), (usize::MAX, 0), (0, usize::MAX), (16, 0)] {
-        let mut output = [0u64; 0];
-        transpose_slice(&rt, &[], &mut output, width, height);
-    }
+    transpose_nothing::<u8>(&rt);
+    transpose_nothing::<u32>(&rt);
+    transpose_nothing::<u64>(&rt);
+    transpose_nothing::<u128>(&rt);
+    transpose_nothing::<[u8; 3]>(&rt);
+    transpose_nothing::<[u8; 8]>(&rt);
+    transpose_nothing::<[u64; 4]>(&rt);
 }

@@ -1,10 +1,12 @@
 //! The recursive split of a transpose.
 
 use crate::callers::transpose::levels_of;
+use super::noted::Noted;
+use crate::tests::between_views::count_source_writes;
 use crate::tests::calls::put_split;
-use crate::tests::checks::{equal, numbers, repeated, same};
-use crate::tests::puts::puts;
-use p3_util_kernels::places::SliceCells;
+use crate::tests::checks::{equal, found, numbers, repeated, same};
+use crate::tests::puts::{places_of, puts};
+use p3_util_kernels::places::{SliceCells, SliceSource};
 use std::alloc::Global;
 use std::process::Abort;
 
@@ -101,5 +103,19 @@ fn a_matrix_of_17_by_61681_is_split(rt: HostRuntime) {
         if k < 17 * 120 {
             same(&rt, k, &(*y < 120), &true);
         }
+    }
+}
+
+/// The same of any source, through a counter of the caller.
+#[test]
+fn a_source_of_17_by_61681_is_split(rt: HostRuntime) {
+    let input = numbers(&rt, rt.alloc(), 17 * 61681);
+    let mut noted = Noted::numbered(&rt, rt.alloc(), input.len(), 17 * 120);
+    let source = SliceSource::new(&input);
+    let writes = count_source_writes(&rt, &source, &mut noted, 17, 61681);
+    equal(&rt, &writes, &1_048_577);
+    let puts = found(&rt, places_of(&rt, rt.alloc(), &noted.notes, 61681));
+    for (k, (_, y)) in puts.iter().enumerate() {
+        same(&rt, k, &(*y < 120), &true);
     }
 }

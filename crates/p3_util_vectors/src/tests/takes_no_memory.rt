@@ -138,5 +138,50 @@ fn known_keys(rt: HostRuntime) {
         equal(&rt, &map.insert(7, 1).is_ok(), &true);
         equal(&rt, &lent(&mut map, 7, 9), &(Ok(1), 0));
         equal(&rt, &map.get(&7).copied(), &Some(1));
+        equal(&rt, &map.get_mut(&7).copied(), &Some(1));
+        equal(&rt, &map.get_mut(&8).is_none(), &true);
+        assert!(rt; map.get(&7).is_some());
+        equal(&rt, &map[&7], &1);
+    }
+}
+
+/// The pairs of a map, by each of its iterators over references.
+#[test]
+fn pairs_of_maps(rt: HostRuntime) {
+    let Some(map) = full_map(rt.alloc()) else {
+        return;
+    };
+    for _ in 0..times(&rt) {
+        equal(&rt, &(map.len(), map.is_empty()), &(1, false));
+        assert!(rt; map.keys().eq([7].iter()));
+        assert!(rt; map.values().eq([1].iter()));
+        assert!(rt; map.iter().eq([(7, 1)].iter()));
+        assert!(rt; (&map).into_iter().eq([(7, 1)].iter()));
+        assert!(rt; map == map);
+    }
+}
+
+/// The pairs of two maps by value, of one in each turn.
+#[test]
+fn maps_by_value(rt: HostRuntime) {
+    let maps = [full_map(rt.alloc()), full_map(rt.alloc())];
+    for map in maps.into_iter().flatten().take(times(&rt)) {
+        assert!(rt; map.into_iter().eq([(7, 1)]));
+    }
+}
+
+/// A map of no pairs takes no memory, also where it is made with room for none.
+#[test]
+fn empty_maps(rt: HostRuntime) {
+    for _ in 0..times(&rt) {
+        let map = LinearMap::<u32, u32>::new(rt.alloc());
+        equal(&rt, &(map.len(), map.is_empty()), &(0, true));
+        equal(&rt, &map.get(&7), &None);
+        equal(&rt, &map.into_iter().count(), &0);
+        let roomless = LinearMap::<u32, u32>::with_capacity(rt.alloc(), 0);
+        equal(&rt, &roomless.is_ok(), &true);
+        let no_pairs: [(u32, u32); 0] = [];
+        let made = LinearMap::try_from_iter(rt.alloc(), no_pairs);
+        equal(&rt, &made.is_ok(), &true);
     }
 }
