@@ -4,10 +4,10 @@ use crate::fault::RunFault;
 use crate::program::run;
 use crate::watched::Watched;
 use std::alloc::{AllocError, Global};
-use std::fmt::Debug;
-use std::io;
+use std::fmt::{Debug, Write as _};
 use std::io::{ErrorKind, Read, Write};
 use std::process::Abort;
+use std::{fmt, io, str};
 
 const NOT_AN_ARRAY: &str = "error: input is not a JSON array of u64";
 
@@ -146,7 +146,13 @@ fn check_text(
     Ok(())
 }
 
-/// Asserts that a run over memory writes `output` with status 0, or that its fault has this text and status.
+/// The text of these bytes, to be printed.
+fn shown(bytes: &[u8]) -> &str {
+    str::from_utf8(bytes).unwrap_or("bytes that are no UTF-8")
+}
+
+/// Asserts that a run over memory writes `output` with status 0, or that its fault has this text and status. A failure
+/// prints the words, the input and both.
 fn prints(
     rt: &impl Abort,
     alloc: Global,
@@ -155,17 +161,17 @@ fn prints(
     output: &str,
     status: u8,
 ) -> Result<(), AllocError> {
-    let outcome = outcome_of(alloc, texts, input, Vec::new(alloc))?;
-    match outcome.result {
-        Ok(()) => {
-            equal(rt, &status, &0);
-            equal(rt, &outcome.writer.as_slice(), &output.as_bytes());
-        }
-        Err(fault) => {
-            equal(rt, &fault.status(), &status);
-            check_text(rt, alloc, &fault, output)?;
-        }
-    }
+    let Outcome { result, writer, .. } = outcome_of(alloc, texts, input, Vec::new(alloc))?;
+    let (got, text) = match result {
+        Ok(()) => (0, String::from_str(alloc, shown(&writer))?),
+        Err(fault) => (fault.status(), fault.to_string(alloc)?),
+    };
+    assert_eq!(rt;
+        (got, text.as_str()),
+        (status, output),
+        "for {texts:?} on {}",
+        shown(input)
+    );
     Ok(())
 }
 
@@ -271,6 +277,24 @@ const TRANSPOSES: [(&str, &str, &str, &str, u8); 12] = [
     ("1", "1", "[1.0]", NOT_AN_ARRAY, 2),
 ];
 
+/// Long matrices of one item again and again, which are their transposes. A `transposed` that refuses such a shape as
+/// `Memory` fails here.
+#[test]
+fn long_and_narrow_matrices(rt: HostRuntime) -> Result<(), AllocError> {
+    let alloc = rt.alloc();
+    for (width, height, count) in [
+        ("5000", "1", 5000),
+        ("1", "5000", 5000),
+        ("3", "2001", 6003),
+    ] {
+        let words = ["transpose", width, height];
+        let mut text = long_list(alloc, count, "")?;
+        text.push_str("\n")?;
+        prints(&rt, alloc, &words, text.as_bytes(), &text, 0)?;
+    }
+    Ok(())
+}
+
 #[test]
 fn transposes(rt: HostRuntime) -> Result<(), AllocError> {
     for (width, height, input, output, status) in &TRANSPOSES {
@@ -344,8 +368,7 @@ fn a_byte_a_call(rt: HostRuntime) -> Result<(), AllocError> {
     let words = ["transpose", "3", "2"];
     let outcome = outcome_of(alloc, &words, reader(b"[1,2,3,4,5,6]"), writer)?;
     equal(&rt, &outcome.result, &Ok(()));
-    let output = b"[1,4,2,5,3,6]\n".as_slice();
-    equal(&rt, &outcome.writer.taken.as_slice(), &output);
+    equal(&rt, &shown(&outcome.writer.taken), &"[1,4,2,5,3,6]\n");
     Ok(())
 }
 
@@ -365,8 +388,8 @@ fn reads_of_no_byte(rt: HostRuntime) -> Result<(), AllocError> {
             Vec::new(alloc),
         )?;
         same(&rt, row, &outcome.result, &wanted);
-        same(&rt, row, &outcome.reader.rest, &left.as_bytes());
-        same(&rt, row, &outcome.writer.as_slice(), &output.as_bytes());
+        same(&rt, row, &shown(outcome.reader.rest), &left);
+        same(&rt, row, &shown(&outcome.writer), &output);
     }
     Ok(())
 }
@@ -600,6 +623,46 @@ fn a_long_input(rt: HostRuntime) -> Result<(), AllocError> {
     Ok(())
 }
 
+/// A writer of text that refuses once, after some writes, and takes all that follows.
+#[derive(Drop)]
+struct TextWriter {
+    good_writes: usize,
+    taken: usize,
+}
+
+impl fmt::Write for TextWriter {
+    fn write_str(&mut self, _text: &str) -> fmt::Result {
+        if self.good_writes == 0 {
+            self.good_writes = usize::MAX;
+            return Err(fmt::Error);
+        }
+        self.good_writes -= 1;
+        self.taken = self.taken.saturating_add(1);
+        Ok(())
+    }
+}
+
+/// Whether the text of a fault is written where so many writes come before one that fails, and how many are taken.
+fn written(fault: &RunFault, good_writes: usize) -> (bool, usize) {
+    let mut writer = TextWriter {
+        good_writes,
+        taken: 0,
+    };
+    let is_written = write!(writer, "{fault}").is_ok();
+    (is_written, writer.taken)
+}
+
+/// Asserts that the error of each write of a fault's text ends the text and is handed on.
+fn check_failing_text(rt: &impl Abort, fault: &RunFault) {
+    let (is_written, writes) = written(fault, usize::MAX);
+    equal(rt, &(is_written, writes > 0), &(true, true));
+    for good_writes in 0..writes {
+        let wanted = (false, good_writes);
+        same(rt, good_writes, &written(fault, good_writes), &wanted);
+    }
+}
+
+/// A `Display` that goes on after an error, or writes a large number in another way, fails here.
 #[test]
 fn fault_texts(rt: HostRuntime) -> Result<(), AllocError> {
     for (fault, text) in [
@@ -608,8 +671,28 @@ fn fault_texts(rt: HostRuntime) -> Result<(), AllocError> {
         (RunFault::NotAnArray, NOT_AN_ARRAY),
         (RunFault::Memory, "error: out of memory"),
         (RunFault::Write, "error: output cannot be written"),
+        (
+            RunFault::BadLength { len: 4_294_967_297 },
+            "error: length 4294967297 is neither zero nor a power of two",
+        ),
+        (
+            RunFault::BadRows {
+                width: 18_446_744_073_709_551_614,
+                len: 18_446_744_073_709_551_615,
+            },
+            "error: length 18446744073709551615 is not 18446744073709551614 times zero or a power of two",
+        ),
+        (
+            RunFault::NotTheLength {
+                width: 4_294_967_296,
+                height: 9_223_372_036_854_775_809,
+                len: 4_294_967_298,
+            },
+            "error: 4294967296 by 9223372036854775809 is not the length 4294967298",
+        ),
     ] {
         check_text(&rt, rt.alloc(), &fault, text)?;
+        check_failing_text(&rt, &fault);
     }
     Ok(())
 }

@@ -8,9 +8,7 @@ ghost use Rattle.std.specs.Prelude.{ℕ, ◌<◌, ◌^◌, true};
 ghost use Rattle.p3_util.specs.JsonElements.{u32_reading};
 
 use crate::tests::checks::{Owner, equal, listed, same};
-use p3_util::array_serialization::{
-    ArrayElement, ElementError, deserialize, serialize,
-};
+use p3_util::array_serialization::{ArrayElement, ElementError, deserialize, serialize};
 use p3_util::chunks::{apply_to_chunks, iter_array_chunks_padded};
 use p3_util::linear_map::LinearMap;
 use p3_util::zip_eq::zip_eq;

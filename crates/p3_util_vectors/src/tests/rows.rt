@@ -171,7 +171,10 @@ fn turn(rt: &impl Abort, first: usize, second: usize, bits: u32) -> usize {
     let (y, x) = (first % side, second % side);
     same(rt, first, &(x < y), &true);
     let line = first % (1usize << (bits.div_ceil(2) % 64)) / 2;
-    line.wrapping_mul(256).wrapping_add(x).wrapping_mul(256).wrapping_add(y)
+    line.wrapping_mul(256)
+        .wrapping_add(x)
+        .wrapping_mul(256)
+        .wrapping_add(y)
 }
 
 /// Asserts that each exchange is of a row and the one with the reversed number, and that they come by the rule of [`turn`].

@@ -1,7 +1,7 @@
 //! The recursive split of a transpose.
 
-use crate::callers::transpose::levels_of;
 use super::noted::Noted;
+use crate::callers::transpose::levels_of;
 use crate::tests::between_views::count_source_writes;
 use crate::tests::calls::put_split;
 use crate::tests::checks::{equal, found, numbers, repeated, same};
