@@ -1,7 +1,7 @@
 #!/usr/bin/env bash
 # The program and its surroundings: words that are no text, standard streams that are closed, full or cut short, an input
 # that never ends. Each run has to end with the right text and status, or as the system ends a program, and never with a
-# wrong list. And how much memory a long input takes: at most 3.75 times its length.
+# wrong list. And how much memory a long input takes, by what it has in it.
 #
 #     tests/program.sh [PROGRAM]..
 #
@@ -117,10 +117,18 @@ output() {
     rm "$work/pipe"
 }
 
-# peak WORD..: runs the program on the long list, and compares the memory that it held at most with 3.75 times the input.
-# Nothing is written before the whole text is there, so the program waits for a reader when the most was held.
+# many ITEM: a list of 2^22 times ITEM.
+many() {
+    local LC_ALL=C text=$1, k
+    for ((k = 0; k < 22; k++)); do text+=$text; done
+    printf '[%s]\n' "${text%,}"
+}
+
+# peak QUARTERS WORD..: runs the program on the long list, and compares the memory that it held at most with so many quarters
+# of the input. Nothing is written before the whole text is there, so the program waits for a reader when the most was held.
 peak() {
-    local process first held allowed=$((15 * $(stat -c %s "$work/long") / 4096))
+    local process first held allowed=$(($1 * $(stat -c %s "$work/long") / 4096))
+    shift
     rm -f "$work/pipe"
     mkfifo "$work/pipe"
     "$program" "$@" <"$work/long" >"$work/pipe" 2>"$work/err" &
@@ -128,21 +136,30 @@ peak() {
     exec 5<"$work/pipe"
     IFS= read -r -n 1 -u 5 first
     held=$(awk '/^VmHWM:/ { print $2 }' "/proc/$process/status")
-    if { printf '%s' "$first" && cat <&5; } | cmp -s - "$work/long" && wait "$process" && ((held <= allowed)); then
+    if { printf '%s' "$first" && cat <&5; } | cmp -s - "$work/long" && wait "$process" &&
+        [[ -n $held ]] && ((held <= allowed)); then
         echo "ok      the memory of $*: $held kilobytes of $allowed"
     else
-        echo "FAILED  the memory of $*: $held kilobytes of $allowed"
+        echo "FAILED  the memory of $*: ${held:-unknown} kilobytes of $allowed"
         bad=1
     fi
     exec 5<&-
 }
 
-# 2^22 numbers of 20 digits, all equal, so that each command gives them again.
+# How much memory 2^22 items take, all equal, so that each command gives the list again. Numbers of 20 digits take 3.6 times
+# the input, and numbers of one digit 20.2 times, since most of it is for each number, however short. A list of empty lists
+# is no array of numbers, and 13.8 times the input is enough to see that.
 memory() {
-    echo "[$(yes 18446744073709551615 | head -n 4194304 | paste -sd,)]" >"$work/long"
-    peak revbits
-    peak revrows 2
-    peak transpose 2048 2048
+    many 18446744073709551615 >"$work/long"
+    peak 15 revbits
+    peak 15 revrows 2
+    peak 15 transpose 2048 2048
+    many 7 >"$work/long"
+    peak 84 revbits
+    peak 84 transpose 2048 2048
+    many '[]' >"$work/long"
+    (ulimit -v $((15 * $(stat -c %s "$work/long") / 1024)) && run revbits <"$work/long")
+    is 'the memory of empty lists: 15 times the input' 2 '' "$no_array"
 }
 
 for program in "$@"; do
