@@ -1,19 +1,26 @@
 -- Lemmas for callers, under names that `#[tactic(auto, using(..))]` takes: what a reversal and a transpose say of a place, that
 -- a list has one of each, and that two of them are the list again; reversed digits in parts; sums by even and odd places; a
--- closure that adds up; a part of a list that is written.
-use Rattle.std.proofs.Common.{◌≡◌, ℕ, zero, suc, ◌+◌, ◌*◌, ◌^◌, ◌-◌, ◌<◌, ◌≤◌, List, [], ◌∷◌, ◌++◌, length, slice_get, take, drop, sum, refl, sym, ap, ◌∙◌, arith, length-append, length-drop}
+-- closure that adds up; a part of a list that is written; some items of a list, seen as a list; a region in two parts.
+use Rattle.std.proofs.Common.{◌≡◌, ◌≢◌, ℕ, zero, suc, ◌+◌, ◌*◌, ◌^◌, ◌-◌, ◌<◌, ◌≤◌, List, [], ◌∷◌, ◌++◌, length, slice_get, take, drop, set, reverse, sum, refl, sym, ap, ◌∙◌, arith, length-append, length-drop}
 use borrow.Rule.Slice.PartMut.{mid_of, put_mid}
 use Rattle.std.proofs.lemmas.List.{length-take-le}
+use Rattle.std.proofs.lemmas.Nat.{mul-add-lt, same_from_place}
 use Rattle.std.proofs.lemmas.List.Sums.{sum_by-append}
-use Rattle.std.specs.List.{FoldsTo}
+use Rattle.std.specs.List.{FoldsTo, swap}
 use Rattle.p3_util.specs.Flat.{flat}
+use Rattle.p3_util.specs.ItemsAt.{AreOthersSame, IsSameOutside, column_of, items_at}
+use Rattle.p3_util.proofs.ItemsAt.{from_end-set, from_end-swap, items_at-set, items_at-swap, length-items_at, slice_get-items_at, slice_get-reverse}
 use Rattle.p3_util_kernels.specs.Digits.{rev, sum_below}
+use Rattle.p3_util_kernels.specs.declared.transpose.regions.Region.{Region}
+use Rattle.p3_util_kernels.specs.Region.{IsRegionTransposed}
 use Rattle.p3_util_kernels.specs.Reversal.{IsReversal, IsReversible, IsRowReversal, IsZeroOrPowerOfTwo}
 use Rattle.p3_util_kernels.specs.Transpose.{IsTranspose}
 use Rattle.p3_util_kernels.proofs.Cuts.{slice_get-append_left, slice_get-append_right, slice_get-drop, slice_get-take}
 use Rattle.p3_util_kernels.proofs.Digits.{rev-lt, rev-parts, rev-rev-below, rev-shl, rev-suc, rev-zero}
+use Rattle.p3_util_kernels.proofs.Exchange.{slice_get-set_other, slice_get-swap_other}
 use Rattle.p3_util_kernels.proofs.Lengths.{zero_or_power}
 use Rattle.p3_util_kernels.proofs.Matrix.{IsTranspose-twice, IsTranspose-unique}
+use Rattle.p3_util_kernels.proofs.Region.{IsCut-cols, IsCut-rows, IsRegionTransposed-cut}
 use Rattle.p3_util_kernels.proofs.Reversal.{IsReversal-places, IsReversal-unique, IsRowReversal-inverse, IsRowReversal-unique}
 
 -- The k low digits, reversed, are a number of k digits, of which the reverse is that number again.
@@ -127,3 +134,79 @@ module _ {A : Type 0} (a k : ℕ) (xs part : List A) (fits : a + k ≤ length xs
 -- the part itself, read
 pub part_read : {A : Type 0} (a k j : ℕ) (xs : List A) → j < k → slice_get (mid_of a k xs) j ≡ slice_get xs (a + j)
 part_read a k j xs h = slice_get-take k (drop a xs) j h ∙ slice_get-drop a xs j (a + j) (omega arith)
+
+-- The n items at places that a function gives, each a place of the list, and no two of them one place.
+module _ {A : Type 0} (place : ℕ → ℕ) (n : ℕ) (xs : List A) (inside : (k : ℕ) → k < n → place k < length xs) where
+  pub items_at_length : length (items_at place n xs) ≡ n
+  items_at_length = length-items_at place n xs inside
+
+  pub items_at_place : (k : ℕ) → k < n → slice_get (items_at place n xs) k ≡ slice_get xs (place k)
+  items_at_place = slice_get-items_at place n xs inside
+
+  module _ (apart : (a b : ℕ) → a < n → b < n → place a ≡ place b → a ≡ b) where
+    pub items_at_swapped : (i j : ℕ) → i < n → j < n → items_at place n (swap xs (place i) (place j)) ≡ swap (items_at place n xs) i j
+    items_at_swapped = items_at-swap place n xs inside apart
+
+    pub items_at_written : (i : ℕ) (v : A) → i < n → items_at place n (set xs (place i) v) ≡ set (items_at place n xs) i v
+    items_at_written = items_at-set place n xs inside apart
+
+-- all others stay
+module _ {A : Type 0} (place : ℕ → ℕ) (n : ℕ) where
+  pub others_swapped : (xs : List A) (i j : ℕ) → i < n → j < n → AreOthersSame place n xs (swap xs (place i) (place j))
+  others_swapped xs i j hi hj p out = slice_get-swap_other xs (place i) (place j) p (out i hi) (out j hj)
+
+  pub others_written : (xs : List A) (i : ℕ) (v : A) → i < n → AreOthersSame place n xs (set xs (place i) v)
+  others_written xs i v hi p out = slice_get-set_other xs (place i) p v (out i hi)
+
+  pub others_twice : (old mid new : List A) → AreOthersSame place n old mid → AreOthersSame place n mid new → AreOthersSame place n old new
+  others_twice old mid new first second p out = second p out ∙ first p out
+
+-- a column of a matrix
+pub column_inside : (width height column row : ℕ) → column < width → row < height → row * width + column < height * width
+column_inside width height column row hc hr = omega (arith, mul-add-lt row width column height hr hc)
+
+module _ {A : Type 0} (width height column : ℕ) (xs : List A) (fits : length xs ≡ height * width) (hc : column < width) where
+  inside : (row : ℕ) → row < height → row * width + column < length xs
+  inside row hr = rw fits (column_inside width height column row hc hr)
+
+  pub column_length : length (column_of width height column xs) ≡ height
+  column_length = length-items_at (λ row. row * width + column) height xs inside
+
+  pub column_place : (row : ℕ) → row < height → slice_get (column_of width height column xs) row ≡ slice_get xs (row * width + column)
+  column_place = slice_get-items_at (λ row. row * width + column) height xs inside
+
+  pub column_swapped : (i j : ℕ) → i < height → j < height
+      → column_of width height column (swap xs (i * width + column) (j * width + column)) ≡ swap (column_of width height column xs) i j
+  column_swapped = items_at-swap (λ row. row * width + column) height xs inside (λ a b ha hb e. (same_from_place a column b column width hc hc e).0)
+
+  pub column_others : (i j : ℕ) → i < height → j < height
+      → IsSameOutside width height column xs (swap xs (i * width + column) (j * width + column))
+  column_others = others_swapped (λ row. row * width + column) height xs
+
+module _ {A : Type 0} where
+  -- the items from the end on
+  pub from_end_place : (xs : List A) (k : ℕ) → k < length xs → slice_get (reverse xs) k ≡ slice_get xs (length xs - 1 - k)
+  from_end_place = slice_get-reverse
+
+  pub from_end_swapped : (n : ℕ) (xs : List A) → length xs ≡ n → (i j : ℕ) → i < n → j < n → reverse (swap xs (n - 1 - i) (n - 1 - j)) ≡ swap (reverse xs) i j
+  from_end_swapped = from_end-swap
+
+  pub from_end_written : (n : ℕ) (xs : List A) → length xs ≡ n → (i : ℕ) (v : A) → i < n → reverse (set xs (n - 1 - i) v) ≡ set (reverse xs) i v
+  from_end_written = from_end-set
+
+  -- A region put in two parts: the rows before `middle` and then those from there on, or the columns.
+  pub region_of_rows : (region : Region) (middle width height : ℕ) (input old mid new : List A)
+      → region.row_start ≤ middle → middle ≤ region.row_end → region.row_end ≤ height
+      → IsRegionTransposed (record region { row_end = middle }) width height input old mid
+      → IsRegionTransposed (record region { row_start = middle }) width height input mid new
+      → IsRegionTransposed region width height input old new
+  region_of_rows region middle width height input old mid new from to inside =
+      IsRegionTransposed-cut width height input region _ _ old mid new inside (IsCut-rows region middle middle from (omega arith) to)
+
+  pub region_of_cols : (region : Region) (middle width height : ℕ) (input old mid new : List A)
+      → region.col_start ≤ middle → middle ≤ region.col_end → region.row_end ≤ height
+      → IsRegionTransposed (record region { col_end = middle }) width height input old mid
+      → IsRegionTransposed (record region { col_start = middle }) width height input mid new
+      → IsRegionTransposed region width height input old new
+  region_of_cols region middle width height input old mid new from to inside =
+      IsRegionTransposed-cut width height input region _ _ old mid new inside (IsCut-cols region middle middle from (omega arith) to)

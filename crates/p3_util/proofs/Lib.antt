@@ -1,6 +1,7 @@
 pub mod Callers
 pub mod FilledChunk
 pub mod Flat
+pub mod ItemsAt
 pub mod JsonLists
 pub mod Loans
 pub mod MapLemmas

@@ -84,3 +84,10 @@ module _ {A : Type 0} where
   pub in-both-turned : (xs ys us vs : List A) (n i j : ℕ) → n ≡ length xs → j < n → n ≤ i → i < length (xs ++ ys)
       → ((x : A) → us ≡ set xs j (get_or ys (i - n) x)) → ((x : A) → vs ≡ set ys (i - n) (get_or xs j x)) → us ++ vs ≡ swap (xs ++ ys) i j
   in-both-turned xs ys us vs n i j is lj past li a b = let apart : j ≢ i = omega arith in in-both xs ys us vs n j i is lj past li a b ∙ swap-sym (xs ++ ys) j i apart
+
+  -- an item put into the first list, or into the second
+  pub put_front : (xs ys : List A) (i : ℕ) (v : A) → i < length xs → set xs i v ++ ys ≡ set (xs ++ ys) i v
+  put_front xs ys i v h = sym (set-append_left xs ys i v h)
+
+  pub put_back : (xs ys : List A) (n i : ℕ) (v : A) → n ≡ length xs → n ≤ i → xs ++ set ys (i - n) v ≡ set (xs ++ ys) i v
+  put_back xs ys n i v is past = sym (set-append_right xs ys n i v (sym is) past)

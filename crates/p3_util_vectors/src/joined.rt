@@ -3,7 +3,7 @@
 ghost use Rattle.std.specs.Prelude.{◌≡◌, ◌+◌, ◌++◌, ◌^◌, ◌<◌, length, slice_index_or, slice_set, swap};
 ghost use Rattle.std.proofs.Common.{refl, ◌∙◌};
 
-use p3_util_kernels::places::Places;
+use p3_util_kernels::places::{Cells, Places};
 use std::mem;
 
 /// The items of one slice and then those of another. What it holds is in the two when the borrows end.
@@ -30,7 +30,8 @@ impl<'a, F> Places for Joined<'a, F> {
 
     ghost items = { λ s. s.front.now ++ s.back.now };
 
-    ghost same_holder = { λ a b. (a.front.ghost_name ≡ b.front.ghost_name) × (a.back.ghost_name ≡ b.back.ghost_name) };
+    ghost same_holder = { λ a b. (a.front.ghost_name ≡ b.front.ghost_name) × (a.back.ghost_name ≡ b.back.ghost_name)
+        × (length b.front.now ≡ length a.front.now) × (length b.back.now ≡ length a.back.now) };
 
     fn len(&self) -> usize {
         <[F]>::len(self.front) + <[F]>::len(self.back)
@@ -40,9 +41,46 @@ impl<'a, F> Places for Joined<'a, F> {
         exchange_in(self.front, self.back, i, j);
     }
 
-    ghost same_holder_refl = { λ a. (refl, refl) };
+    ghost same_holder_refl = { λ a. (refl, refl, refl, refl) };
 
-    ghost same_holder_trans = { λ a b c p q. (p.0 ∙ q.0, p.1 ∙ q.1) };
+    ghost same_holder_trans = { λ a b c p q. (p.0 ∙ q.0, p.1 ∙ q.1, q.2 ∙ p.2, q.3 ∙ p.3) };
+}
+
+impl<'a, T: Copy> Cells for Joined<'a, T> {
+    type Item = T;
+
+    ghost items = { λ s. s.front.now ++ s.back.now };
+
+    ghost same_holder = { λ a b. (a.front.ghost_name ≡ b.front.ghost_name) × (a.back.ghost_name ≡ b.back.ghost_name)
+        × (length b.front.now ≡ length a.front.now) × (length b.back.now ≡ length a.back.now) };
+
+    fn len(&self) -> usize {
+        <[T]>::len(self.front) + <[T]>::len(self.back)
+    }
+
+    fn put(&mut self, i: usize, v: T) {
+        put_in(self.front, self.back, i, v);
+    }
+
+    ghost same_holder_refl = { λ a. (refl, refl, refl, refl) };
+
+    ghost same_holder_trans = { λ a b c p q. (p.0 ∙ q.0, p.1 ∙ q.1, q.2 ∙ p.2, q.3 ∙ p.3) };
+}
+
+/// Puts `v` at place `i` of the list that is `front` and then `back`.
+#[tactic(auto, using(crate::proofs::TwoLists::put_front, crate::proofs::TwoLists::put_back))]
+fn put_in<T: Copy>(front: &mut [T], back: &mut [T], i: usize, v: T)
+    requires { i < length (front.old ++ back.old) }
+    ensures front { length front.new ≡ length front.old }
+    ensures back { length back.new ≡ length back.old }
+    ensures written { front.new ++ back.new ≡ slice_set (front.old ++ back.old) i v }
+{
+    let n = <[T]>::len(front);
+    if i < n {
+        front[i] = v;
+    } else {
+        back[i - n] = v;
+    }
 }
 
 /// Exchanges the items at places `i` and `j` of the list that is `front` and then `back`.

@@ -2,6 +2,8 @@
 #![tactic(auto)]
 
 pub mod callers;
+pub mod columns;
+pub mod from_end;
 pub mod joined;
 #[cfg(test)]
 mod tests;

@@ -3,6 +3,8 @@
 ghost use Rattle.std.specs.Prelude.{◌≡◌, ◌*◌, ◌^◌, ◌<◌, ◌↔◌, IsTrue, IsFalse, length};
 ghost use Rattle.p3_util_kernels.specs.Levels.{lev, nest};
 ghost use Rattle.p3_util_kernels.specs.Region.{IsRegionTransposed, LiesInMatrix, cols_of, rows_of};
+ghost use Rattle.p3_util_kernels.specs.Steps.{counted};
+ghost use Rattle.p3_util_kernels.specs.SwapCounts.{square_swaps};
 ghost use Rattle.p3_util_kernels.specs.Transpose.{IsTranspose};
 
 use p3_util_kernels::bits::log2_ceil_usize;
@@ -52,7 +54,9 @@ pub fn transpose_there_and_back<T: Copy>(
 pub fn transpose_whole_square<S: Places>(m: &mut Swaps<S>, log_size: usize)
     requires fits { length (S.items m.old.holder) ≡ 2 ^ log_size * 2 ^ log_size }
     requires small { log_size < 64 }
-    ensures { IsTranspose (2 ^ log_size) (2 ^ log_size) (S.items m.old.holder) (S.items m.new.holder) }
+    ensures order { IsTranspose (2 ^ log_size) (2 ^ log_size) (S.items m.old.holder) (S.items m.new.holder) }
+    ensures count { m.new.count ≡ counted m.old.count (square_swaps (2 ^ log_size)) }
+    ensures holder { S.same_holder m.old.holder m.new.holder }
 {
     transpose_square_on(m, 0, log_size, log_size);
 }

@@ -1,8 +1,8 @@
 use Rattle.std.proofs.Common.{◌∙◌, zero-add}
 use Rattle.p3_util_vectors.proofs.callers.transpose.transpose_whole_square.Goals as goal
 
-pub returns : goal.returns
-returns g c =
+pub returns-clause-order : goal.returns-clause-order
+returns-clause-order g c =
     let square = c.transpose_square_on.ensures.transposed in
     record {
       same_length = square.same_length ∙ c.requires.fits;

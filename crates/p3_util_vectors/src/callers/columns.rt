@@ -1,0 +1,45 @@
+//! Callers that reverse a column of a matrix in place, and read one into a transpose. What lies outside of the column stays.
+
+ghost use Rattle.std.specs.Prelude.{◌≡◌, ◌*◌, ◌<◌, length};
+ghost use Rattle.p3_util.specs.ItemsAt.{IsSameOutside, column_of};
+ghost use Rattle.p3_util.specs.Reversal.{IsReversal, IsReversible};
+ghost use Rattle.p3_util.specs.Steps.{counted};
+ghost use Rattle.p3_util.specs.Transpose.{IsTranspose};
+
+use crate::columns::{Column, ColumnMut, ColumnShape};
+use p3_util::places::{Cells, Writes};
+use p3_util::reverse_counted;
+use p3_util::transpose::transpose_source_on;
+
+/// Reverses a column of the matrix `values` by index bits.
+pub fn reverse_column<T>(values: &mut [T], shape: ColumnShape)
+    requires fits { length values.old ≡ shape.height * shape.width }
+    requires inside { shape.column < shape.width }
+    requires power { IsReversible shape.height }
+    ensures order { IsReversal (column_of shape.width shape.height shape.column values.old)
+        (column_of shape.width shape.height shape.column values.new) }
+    ensures outside { IsSameOutside shape.width shape.height shape.column values.old values.new }
+{
+    let mut column = ColumnMut::new(values, shape);
+    reverse_counted(&mut column);
+}
+
+/// Puts the transpose of a column of the matrix `values` into `out`, where the column is `height` rows of `width` items.
+pub fn transpose_column<C: Cells>(
+    values: &[C::Item],
+    shape: ColumnShape,
+    out: &mut Writes<C>,
+    width: usize,
+    height: usize,
+)
+    requires fits { length values.now ≡ shape.height * shape.width }
+    requires inside { shape.column < shape.width }
+    requires input_fits { shape.height ≡ width * height }
+    requires output_fits { length (C.items out.old.holder) ≡ width * height }
+    ensures order { IsTranspose width height (column_of shape.width shape.height shape.column values.now)
+        (C.items out.new.holder) }
+    ensures count { out.new.count ≡ counted out.old.count (width * height) }
+    ensures holder { C.same_holder out.old.holder out.new.holder }
+{
+    transpose_source_on(&Column::new(values, shape), out, width, height);
+}

@@ -1,0 +1,130 @@
+//! A column of a matrix as a list to read, and as one whose items a kernel exchanges.
+//!
+//! The place of an item is a product and a sum, in which no search finds row and column again. So the lemmas of a column are
+//! given theirs in the files of `new`, `len` and of what reads or exchanges.
+
+ghost use Rattle.std.specs.Prelude.{◌≡◌, ◌*◌, ◌<◌, Some, length, slice_get, swap};
+ghost use Rattle.std.proofs.Common.{refl, sym, subst, ◌∙◌};
+ghost use Rattle.p3_util.specs.ItemsAt.{IsSameOutside, column_of};
+
+use p3_util::places::{Places, Source};
+
+/// Which column of a matrix of `height` rows of `width` items.
+#[derive(Clone, Copy)]
+pub struct ColumnShape {
+    pub width: usize,
+    pub height: usize,
+    pub column: usize,
+}
+
+/// A column of a matrix, to be read.
+#[derive(Drop)]
+pub struct Column<'a, T> {
+    values: &'a [T],
+    shape: ColumnShape,
+    ghost fits: { length values.now ≡ shape.height * shape.width },
+    ghost inside: { shape.column < shape.width },
+}
+
+impl<'a, T: Copy> Column<'a, T> {
+    /// A column of `values`.
+    pub fn new(values: &'a [T], shape: ColumnShape) -> Self
+        requires fits { length values.now ≡ shape.height * shape.width }
+        requires inside { shape.column < shape.width }
+        ensures values { result.values ≡ values.entry }
+        ensures shape { result.shape ≡ shape }
+        ensures len { length (column_of shape.width shape.height shape.column result.values.now) ≡ shape.height }
+    {
+        Column { values, shape }
+    }
+}
+
+impl<'a, T: Copy> Source for Column<'a, T> {
+    type Item = T;
+
+    ghost items = { λ s. column_of s.shape.width s.shape.height s.shape.column s.values.now };
+
+    fn len(&self) -> usize {
+        self.shape.height
+    }
+
+    fn at(&self, i: usize) -> T {
+        item_in_column(self.values, self.shape, i)
+    }
+}
+
+/// A column of a matrix, to be reordered. `same_holder` says that every item outside of it stays.
+#[derive(Drop)]
+pub struct ColumnMut<'a, T> {
+    values: &'a mut [T],
+    shape: ColumnShape,
+    ghost fits: { length values.now ≡ shape.height * shape.width },
+    ghost inside: { shape.column < shape.width },
+}
+
+impl<'a, T> ColumnMut<'a, T> {
+    /// A column of `values`.
+    pub fn new(values: &'a mut [T], shape: ColumnShape) -> Self
+        requires fits { length values.old ≡ shape.height * shape.width }
+        requires inside { shape.column < shape.width }
+        ensures values { result.values ≡ values.entry }
+        ensures shape { result.shape ≡ shape }
+        ensures len { length (column_of shape.width shape.height shape.column result.values.now) ≡ shape.height }
+    {
+        ColumnMut { values, shape }
+    }
+}
+
+impl<'a, T> Places for ColumnMut<'a, T> {
+    type Item = T;
+
+    ghost items = { λ s. column_of s.shape.width s.shape.height s.shape.column s.values.now };
+
+    ghost same_holder = { λ a b. (a.values.ghost_name ≡ b.values.ghost_name) × (a.shape ≡ b.shape)
+        × IsSameOutside a.shape.width a.shape.height a.shape.column a.values.now b.values.now };
+
+    fn len(&self) -> usize {
+        self.shape.height
+    }
+
+    fn exchange(&mut self, i: usize, j: usize) {
+        exchange_in_column(self.values, self.shape, i, j);
+    }
+
+    ghost same_holder_refl = { λ a. (refl, refl, λ k out. refl) };
+
+    ghost same_holder_trans = { λ a b c p q. (
+      p.0 ∙ q.0,
+      p.1 ∙ q.1,
+      λ k out.
+          subst (λ s. IsSameOutside s.width s.height s.column b.values.now c.values.now) (sym p.1) q.2 k out ∙ p.2 k out,
+    ) };
+}
+
+/// Exchanges the items of rows `i` and `j` of a column of `values`.
+#[tactic(auto, using(p3_util::proofs::Callers::column_inside))]
+fn exchange_in_column<T>(values: &mut [T], shape: ColumnShape, i: usize, j: usize)
+    requires fits { length values.old ≡ shape.height * shape.width }
+    requires inside { shape.column < shape.width }
+    requires first { i < shape.height }
+    requires second { j < shape.height }
+    ensures length { length values.new ≡ length values.old }
+    ensures exchanged { column_of shape.width shape.height shape.column values.new
+        ≡ swap (column_of shape.width shape.height shape.column values.old) i j }
+    ensures outside { IsSameOutside shape.width shape.height shape.column values.old values.new }
+{
+    let first = i * shape.width + shape.column;
+    let second = j * shape.width + shape.column;
+    values.swap(first, second);
+}
+
+/// The item of row `i` of a column of `values`.
+#[tactic(auto, using(p3_util::proofs::Callers::column_inside))]
+fn item_in_column<T: Copy>(values: &[T], shape: ColumnShape, i: usize) -> T
+    requires fits { length values.now ≡ shape.height * shape.width }
+    requires inside { shape.column < shape.width }
+    requires row { i < shape.height }
+    ensures { slice_get (column_of shape.width shape.height shape.column values.now) i ≡ Some result }
+{
+    values[i * shape.width + shape.column]
+}
