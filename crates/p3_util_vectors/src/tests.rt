@@ -5,6 +5,7 @@ mod array_serialization;
 mod between_views;
 mod bits;
 mod butterfly;
+mod callers;
 mod calls;
 mod checks;
 mod chunks;
