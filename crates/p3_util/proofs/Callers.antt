@@ -1,10 +1,11 @@
 -- Lemmas for callers, under names that `#[tactic(auto, using(..))]` takes: what a reversal and a transpose say of a place, that
 -- a list has one of each, and that two of them are the list again; reversed digits in parts; sums by even and odd places; a
--- closure that adds up; a part of a list that is written; some items of a list, seen as a list; a region in two parts.
-use Rattle.std.proofs.Common.{◌≡◌, ◌≢◌, ℕ, zero, suc, ◌+◌, ◌*◌, ◌^◌, ◌-◌, ◌<◌, ◌≤◌, List, [], ◌∷◌, ◌++◌, length, slice_get, take, drop, set, reverse, sum, refl, sym, ap, ◌∙◌, arith, length-append, length-drop}
+-- closure that adds up; a part of a list that is written; some items of a list, seen as a list; a region in two parts; a
+-- reversal by chunks and squares.
+use Rattle.std.proofs.Common.{◌≡◌, ◌≢◌, ℕ, zero, suc, ◌+◌, ◌*◌, ◌^◌, ◌-◌, ◌/◌, ◌<◌, ◌≤◌, List, [], ◌∷◌, ◌++◌, length, slice_get, take, drop, set, reverse, sum, refl, sym, ap, ◌∙◌, arith, length-append, length-drop}
 use borrow.Rule.Slice.PartMut.{mid_of, put_mid}
 use Rattle.std.proofs.lemmas.List.{length-take-le}
-use Rattle.std.proofs.lemmas.Nat.{mul-add-lt, same_from_place}
+use Rattle.std.proofs.lemmas.Nat.{mul-add-lt, pow_pos, same_from_place}
 use Rattle.std.proofs.lemmas.List.Sums.{sum_by-append}
 use Rattle.std.specs.List.{FoldsTo, swap}
 use Rattle.p3_util.specs.Flat.{flat}
@@ -14,14 +15,22 @@ use Rattle.p3_util_kernels.specs.Digits.{rev, sum_below}
 use Rattle.p3_util_kernels.specs.declared.transpose.regions.Region.{Region}
 use Rattle.p3_util_kernels.specs.Region.{IsRegionTransposed}
 use Rattle.p3_util_kernels.specs.Reversal.{IsReversal, IsReversible, IsRowReversal, IsZeroOrPowerOfTwo}
+use Rattle.p3_util_kernels.specs.Square.{IsSquareTransposed}
+use Rattle.p3_util_kernels.specs.Squares.{AreTransposed}
+use Rattle.p3_util_kernels.specs.Steps.{counted}
+use Rattle.p3_util_kernels.specs.SwapCounts.{long_swaps}
 use Rattle.p3_util_kernels.specs.Transpose.{IsTranspose}
 use Rattle.p3_util_kernels.proofs.Cuts.{slice_get-append_left, slice_get-append_right, slice_get-drop, slice_get-take}
 use Rattle.p3_util_kernels.proofs.Digits.{rev-lt, rev-parts, rev-rev-below, rev-shl, rev-suc, rev-zero}
 use Rattle.p3_util_kernels.proofs.Exchange.{slice_get-set_other, slice_get-swap_other}
 use Rattle.p3_util_kernels.proofs.Lengths.{zero_or_power}
+use Rattle.p3_util_kernels.proofs.LongPath.{IsReversal-composed, counted-around}
 use Rattle.p3_util_kernels.proofs.Matrix.{IsTranspose-twice, IsTranspose-unique}
+use Rattle.p3_util_kernels.proofs.Powers.{exponent-same}
 use Rattle.p3_util_kernels.proofs.Region.{IsCut-cols, IsCut-rows, IsRegionTransposed-cut}
 use Rattle.p3_util_kernels.proofs.Reversal.{IsReversal-places, IsReversal-unique, IsRowReversal-inverse, IsRowReversal-unique}
+use Rattle.p3_util_kernels.proofs.Squares.{AreTransposed-more, square_room}
+use Rattle.p3_util_kernels.proofs.SwapCounts.{long_swaps-le}
 
 -- The k low digits, reversed, are a number of k digits, of which the reverse is that number again.
 pub rev_below : (k x : ℕ) → rev k x < 2 ^ k
@@ -210,3 +219,40 @@ module _ {A : Type 0} where
       → IsRegionTransposed region width height input old new
   region_of_cols region middle width height input old mid new from to inside =
       IsRegionTransposed-cut width height input region _ _ old mid new inside (IsCut-cols region middle middle from (omega arith) to)
+
+-- A list of 2 ^ log_size rows of 2 ^ log_stride items, in which squares lie side by side: the last place of each is inside the
+-- list, and one square more is transposed.
+module _ (log_stride log_size : ℕ) (within : log_size ≤ log_stride) where
+  pub square_inside : (s n : ℕ) → n ≡ 2 ^ (log_size + log_stride) → s < 2 ^ (log_stride - log_size)
+      → s * 2 ^ log_size + (2 ^ log_size - 1) * 2 ^ log_stride + (2 ^ log_size - 1) < n
+  square_inside = square_room log_stride log_size within
+
+  module _ {A : Type 0} where
+    no_square : (xs : List A) → AreTransposed 0 log_stride log_size xs xs
+    no_square xs = record { same_length = refl; crossed = λ s a b none ha hb. absurd (omega arith); kept = λ s a b from hs ha hb. refl }
+
+    pub square_more : (s : ℕ) (old now new : List A) → s < 2 ^ (log_stride - log_size) → AreTransposed s log_stride log_size old now
+        → IsSquareTransposed (s * 2 ^ log_size) log_stride log_size now new → AreTransposed (s + 1) log_stride log_size old new
+    square_more = AreTransposed-more log_stride log_size within
+
+    pub one_square : (old new : List A) → IsSquareTransposed 0 log_stride log_size old new → AreTransposed 1 log_stride log_size old new
+    one_square old new square =
+        let base : 0 * 2 ^ log_size ≡ 0 = omega arith in
+        square_more 0 old old new (pow_pos (log_stride - log_size)) (no_square old) (rw base square)
+
+-- chunks, one square or two, and chunks again: the order, the number of swaps and its bound
+module _ (k : ℕ) where
+  pub reversed_by_squares : {A : Type 0} (old first second new : List A) → length old ≡ 2 ^ k → IsRowReversal (2 ^ (k - k / 2)) old first
+      → AreTransposed (2 ^ (k - k / 2 - k / 2)) (k - k / 2) (k / 2) first second → IsRowReversal (2 ^ (k - k / 2)) second new → IsReversal old new
+  reversed_by_squares old first second new fits chunks squares again =
+      let whole : k / 2 + (k - k / 2) ≡ k = omega arith in
+      IsReversal-composed (k / 2) (k - k / 2) (omega arith) (omega arith) old first second new (rw whole fits) chunks squares again
+
+  pub long_swaps_bound : long_swaps k ≤ 3 * 2 ^ k / 2
+  long_swaps_bound = long_swaps-le k
+
+pub swaps_around : (c0 c1 c2 c3 a b : ℕ) → c1 ≡ counted c0 a → c2 ≡ counted c1 b → c3 ≡ counted c2 a → c3 ≡ counted c0 (2 * a + b)
+swaps_around = counted-around
+
+pub same_power : (a b : ℕ) → 2 ^ a ≡ 2 ^ b → a ≡ b
+same_power = exponent-same

@@ -1,18 +1,19 @@
 //! Callers that make a larger call of smaller ones, over any holder and from public contracts alone, with the number of their
-//! steps. Two reversals have a file that names the two, and so have the two that cut a region: the number of items is a
-//! product, and the lemma is given its parts.
+//! steps. Two reversals have a file that names the two, and so have the two that cut a region and the reversal by squares:
+//! the number of items is a product or a power, and the lemma is given its parts.
 
-ghost use Rattle.std.specs.Prelude.{◌≡◌, ℕ, ◌*◌, ◌^◌, ◌<◌, length};
+ghost use Rattle.std.specs.Prelude.{◌≡◌, ℕ, ◌+◌, ◌-◌, ◌*◌, ◌/◌, ◌^◌, ◌<◌, ◌≤◌, length};
 ghost use Rattle.p3_util.specs.Region.{IsRegionTransposed, LiesInMatrix, items_of};
-ghost use Rattle.p3_util.specs.Reversal.{IsZeroOrPowerOfTwo};
-ghost use Rattle.p3_util.specs.Steps.{counted};
-ghost use Rattle.p3_util.specs.SwapCounts.{reversal_swaps, square_swaps};
+ghost use Rattle.p3_util.specs.Reversal.{IsReversal, IsReversible, IsZeroOrPowerOfTwo};
+ghost use Rattle.p3_util.specs.Squares.{AreTransposed};
+ghost use Rattle.p3_util.specs.Steps.{RoseByAtMost, counted};
+ghost use Rattle.p3_util.specs.SwapCounts.{long_swaps, reversal_swaps, square_swaps};
 ghost use Rattle.p3_util.specs.Transpose.{IsTranspose};
 
 use crate::callers::transpose::transpose_whole_square;
 use p3_util::places::{Cells, Places, Swaps, Writes};
-use p3_util::reverse_index_bits_on;
-use p3_util::transpose::{Region, transpose_region_on};
+use p3_util::transpose::{Region, transpose_region_on, transpose_square_on};
+use p3_util::{log2_strict_usize, reverse_chunks_on, reverse_index_bits_on};
 
 /// Puts the transpose of a whole matrix, as the region that it is, with the contract of `transpose_on`.
 pub fn transpose_as_region<C: Cells>(
@@ -46,6 +47,40 @@ pub fn reverse_twice_on<S: Places>(m: &mut Swaps<S>)
 {
     reverse_index_bits_on(m);
     reverse_index_bits_on(m);
+}
+
+/// Reverses `m` by index bits by chunks, squares and chunks again, with the contract of `reverse_index_bits_long`.
+pub fn reverse_by_squares<S: Places>(m: &mut Swaps<S>)
+    requires fits { IsReversible (length (S.items m.old.holder)) }
+    requires not_short { 4 ≤ length (S.items m.old.holder) }
+    ensures order { IsReversal (S.items m.old.holder) (S.items m.new.holder) }
+    ensures count { RoseByAtMost m.old.count m.new.count (3 * length (S.items m.old.holder) / 2) }
+    ensures exact { (k : ℕ) → length (S.items m.old.holder) ≡ 2 ^ k → m.new.count ≡ counted m.old.count (long_swaps k) }
+    ensures holder { S.same_holder m.old.holder m.new.holder }
+{
+    let bits = log2_strict_usize(m.len());
+    let half = bits / 2;
+    reverse_chunks_on(m, half, bits - half);
+    transpose_squares(m, bits - half, half);
+    reverse_chunks_on(m, half, bits - half);
+}
+
+/// Transposes the square of a list of `2^log_size` rows of `2^log_stride` items, or the two that lie side by side in it.
+fn transpose_squares<S: Places>(m: &mut Swaps<S>, log_stride: usize, log_size: usize)
+    requires within { log_size ≤ log_stride }
+    requires few { log_stride ≤ log_size + 1 }
+    requires stride_fits { log_stride < 64 }
+    requires whole { length (S.items m.old.holder) ≡ 2 ^ (log_size + log_stride) }
+    ensures transposed { AreTransposed (2 ^ (log_stride - log_size)) log_stride log_size
+        (S.items m.old.holder) (S.items m.new.holder) }
+    ensures count { m.new.count
+        ≡ counted m.old.count (2 ^ (log_stride - log_size) * square_swaps (2 ^ log_size)) }
+    ensures holder { S.same_holder m.old.holder m.new.holder }
+{
+    transpose_square_on(m, 0, log_stride, log_size);
+    if log_size < log_stride {
+        transpose_square_on(m, 1 << log_size, log_stride, log_size);
+    }
 }
 
 /// Transposes in place a whole matrix of `2^log_size` rows of as many items, twice, which leaves it as it was. Both are

@@ -2,8 +2,8 @@
 
 use crate::callers::columns::{reverse_column, transpose_column};
 use crate::callers::compose::{
-    reverse_twice_on, transpose_as_region, transpose_by_columns, transpose_by_rows,
-    transpose_twice_on,
+    reverse_by_squares, reverse_twice_on, transpose_as_region, transpose_by_columns,
+    transpose_by_rows, transpose_twice_on,
 };
 use crate::callers::from_end::{reverse_from_end, transpose_from_end, transpose_to_end};
 use crate::callers::two_lists::{reverse_joined, transpose_into_joined};
@@ -69,6 +69,27 @@ fn twice(rt: HostRuntime) {
     transpose_twice_on(&mut m, 2);
     equal(&rt, &m.swaps(), &24);
     equal(&rt, &values, &numbers(&rt, rt.alloc(), 16));
+}
+
+/// Two squares side by side, and one.
+#[test]
+fn by_squares(rt: HostRuntime) {
+    let mut values = [0u64, 1, 2, 3, 4, 5, 6, 7];
+    let mut m = Swaps::new(SlicePlaces::new(&mut values));
+    assert!(rt; m.len() == 8 && fits_rows(m.len(), 1));
+    reverse_by_squares(&mut m);
+    equal(&rt, &m.swaps(), &2);
+    equal(&rt, &values, &[0, 4, 2, 6, 1, 5, 3, 7]);
+    let mut values = [0u64, 1, 2, 3, 4, 5, 6, 7, 8, 9, 10, 11, 12, 13, 14, 15];
+    let mut m = Swaps::new(SlicePlaces::new(&mut values));
+    assert!(rt; m.len() == 16 && fits_rows(m.len(), 1));
+    reverse_by_squares(&mut m);
+    equal(&rt, &m.swaps(), &14);
+    equal(
+        &rt,
+        &values,
+        &[0, 8, 4, 12, 2, 10, 6, 14, 1, 9, 5, 13, 3, 11, 7, 15],
+    );
 }
 
 /// The transpose of two rows of three numbers, as a whole and in two parts.

@@ -1,0 +1,29 @@
+use Rattle.std.proofs.Common.{◌≡◌, ℕ, ◌-◌, ◌*◌, ◌/◌, ◌^◌, sym, ◌∙◌}
+use Rattle.p3_util.specs.Steps.{counted}
+use Rattle.p3_util.specs.SwapCounts.{long_swaps, short_swaps, square_swaps}
+use Rattle.p3_util.proofs.Callers.{long_swaps_bound, reversed_by_squares, same_power, swaps_around}
+use Rattle.p3_util_vectors.proofs.callers.compose.reverse_by_squares.Goals as goal
+
+-- the swaps of the three passes
+swaps : (bits c0 c1 c2 c3 : ℕ) → c1 ≡ counted c0 (short_swaps (bits / 2) * 2 ^ (bits - bits / 2))
+    → c2 ≡ counted c1 (2 ^ (bits - bits / 2 - bits / 2) * square_swaps (2 ^ (bits / 2)))
+    → c3 ≡ counted c2 (short_swaps (bits / 2) * 2 ^ (bits - bits / 2)) → c3 ≡ counted c0 (long_swaps bits)
+swaps bits c0 c1 c2 c3 first second third = swaps_around c0 c1 c2 c3 _ _ first second third
+
+pub returns-clause-order : goal.returns-clause-order
+returns-clause-order g c =
+    reversed_by_squares c.log2_strict_usize-bits.result _ _ _ _ (sym c.len.ensures.len ∙ c.log2_strict_usize-bits.ensures.power)
+    c.reverse_chunks_on.ensures.order c.transpose_squares.ensures.transposed c.reverse_chunks_on-2.ensures.order
+
+pub returns-clause-count : goal.returns-clause-count
+returns-clause-count g c = record {
+  steps = long_swaps c.log2_strict_usize-bits.result;
+  count = swaps c.log2_strict_usize-bits.result _ _ _ _ c.reverse_chunks_on.ensures.exact c.transpose_squares.ensures.count c.reverse_chunks_on-2.ensures.exact;
+  bound = rw (← c.len.ensures.len, c.log2_strict_usize-bits.ensures.power) (long_swaps_bound c.log2_strict_usize-bits.result);
+}
+
+pub returns-clause-exact : goal.returns-clause-exact
+returns-clause-exact g c k e =
+    let same : c.log2_strict_usize-bits.result ≡ k =
+    same_power c.log2_strict_usize-bits.result k (sym (sym e ∙ sym c.len.ensures.len ∙ c.log2_strict_usize-bits.ensures.power)) in
+    rw (← same) (swaps c.log2_strict_usize-bits.result _ _ _ _ c.reverse_chunks_on.ensures.exact c.transpose_squares.ensures.count c.reverse_chunks_on-2.ensures.exact)
