@@ -13,6 +13,7 @@ use Rattle.p3_util.specs.ItemsAt.{AreOthersSame, IsSameOutside, column_of, items
 use Rattle.p3_util.proofs.ItemsAt.{from_end-set, from_end-swap, items_at-set, items_at-swap, length-items_at, slice_get-items_at, slice_get-reverse}
 use Rattle.p3_util_kernels.specs.Digits.{rev, sum_below}
 use Rattle.p3_util_kernels.specs.declared.transpose.regions.Region.{Region}
+use Rattle.p3_util_kernels.specs.Levels.{clog}
 use Rattle.p3_util_kernels.specs.Region.{IsRegionTransposed}
 use Rattle.p3_util_kernels.specs.Reversal.{IsReversal, IsReversible, IsRowReversal, IsZeroOrPowerOfTwo}
 use Rattle.p3_util_kernels.specs.Square.{IsSquareTransposed}
@@ -24,7 +25,8 @@ use Rattle.p3_util_kernels.proofs.Cuts.{slice_get-append_left, slice_get-append_
 use Rattle.p3_util_kernels.proofs.Digits.{rev-lt, rev-parts, rev-rev-below, rev-shl, rev-suc, rev-zero}
 use Rattle.p3_util_kernels.proofs.Exchange.{slice_get-set_other, slice_get-swap_other}
 use Rattle.p3_util_kernels.proofs.Lengths.{zero_or_power}
-use Rattle.p3_util_kernels.proofs.LongPath.{IsReversal-composed, counted-around}
+use Rattle.p3_util_kernels.proofs.Levels.{clog_power}
+use Rattle.p3_util_kernels.proofs.LongPath.{IsReversal-composed}
 use Rattle.p3_util_kernels.proofs.Matrix.{IsTranspose-twice, IsTranspose-unique}
 use Rattle.p3_util_kernels.proofs.Powers.{exponent-same}
 use Rattle.p3_util_kernels.proofs.Region.{IsCut-cols, IsCut-rows, IsRegionTransposed-cut}
@@ -252,7 +254,11 @@ module _ (k : ℕ) where
   long_swaps_bound = long_swaps-le k
 
 pub swaps_around : (c0 c1 c2 c3 a b : ℕ) → c1 ≡ counted c0 a → c2 ≡ counted c1 b → c3 ≡ counted c2 a → c3 ≡ counted c0 (2 * a + b)
-swaps_around = counted-around
+swaps_around c0 c1 c2 c3 a b e f g = omega arith
+
+-- the logarithm of a power of two, by which numbers of swaps go
+pub log_of_power : (n k : ℕ) → n ≡ 2 ^ k → clog n ≡ k
+log_of_power = clog_power
 
 pub same_power : (a b : ℕ) → 2 ^ a ≡ 2 ^ b → a ≡ b
 same_power = exponent-same

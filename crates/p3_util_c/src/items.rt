@@ -29,7 +29,7 @@ impl<'a, const W: usize> Places for ItemPlaces<'a, W> {
 
     ghost items = { λ s. s.items.now };
 
-    ghost same_holder = { λ a b. a.items.ghost_name ≡ b.items.ghost_name };
+    ghost same_holder = { λ n a b. a.items.ghost_name ≡ b.items.ghost_name };
 
     fn len(&self) -> usize {
         <[[[u8; W]; 3]]>::len(self.items)
@@ -47,7 +47,7 @@ impl<'a, const W: usize> Places for ItemPlaces<'a, W> {
 
     ghost same_holder_refl = { λ a. refl };
 
-    ghost same_holder_trans = { λ a b c p q. p ∙ q };
+    ghost same_holder_trans = { λ m n all a b c p q e. p ∙ q };
 }
 
 /// Exchanges the `len` items of `items` from place `i` on with those from place `j` on: `N` items at once, and what is left

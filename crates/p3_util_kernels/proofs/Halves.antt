@@ -1,15 +1,14 @@
 -- The halves of a region, and how deep their splits nest.
-use Rattle.std.proofs.Common.{◌≡◌, ℕ, ◌+◌, ◌-◌, ◌*◌, ◌/◌, ◌^◌, ◌<◌, ◌≤◌, max, inl, inr, arith}
+use Rattle.std.proofs.Common.{◌≡◌, ℕ, ◌+◌, ◌-◌, ◌*◌, ◌/◌, ◌^◌, ◌<◌, ◌≤◌, max, arith}
 use Rattle.std.proofs.Math.Nat.{mul_comm}
-use Rattle.std.proofs.lemmas.Bool.{cases_lt}
 use Rattle.std.proofs.lemmas.Nat.{mul-le}
 use Rattle.p3_util_kernels.specs.declared.transpose.regions.Region.{Region}
-use Rattle.p3_util_kernels.specs.declared.transpose.split.TheConstants.{LEAF_SIDE, NARROW_SIDE}
+use Rattle.p3_util_kernels.specs.Halves.{AreHalves}
 use Rattle.p3_util_kernels.specs.Levels.{lev, nest}
-use Rattle.p3_util_kernels.specs.Region.{LiesInMatrix, cols_of, items_of, rows_of}
+use Rattle.p3_util_kernels.specs.Region.{LiesInMatrix, cols_of, rows_of}
 use Rattle.p3_util_kernels.proofs.Levels.{clog-le, lev-comm, lev-half, lev_le, nest-deep}
 use Rattle.p3_util_kernels.proofs.Pairs.{mul-parts_left, mul-parts_right}
-use Rattle.p3_util_kernels.proofs.Region.{IsCut, IsCut-rows, IsCut-cols}
+use Rattle.p3_util_kernels.proofs.Region.{IsCut-rows, IsCut-cols}
 
 -- at most 57 levels for a region of a matrix whose places fit a word
 pub lev-of_region : (region : Region) (width height : ℕ) → LiesInMatrix region width height → width < 2 ^ 64 → height < 2 ^ 64 → width * height < 2 ^ 64
@@ -26,16 +25,6 @@ pub lev-of_whole : (whole : Region) (width height : ℕ) → whole ≡ record { 
 lev-of_whole whole width height is wide tall fits =
     let lies : LiesInMatrix whole width height = rw is (record { rows_in_order = omega arith; rows_inside = omega arith; cols_in_order = omega arith; cols_inside = omega arith }) in
     omega (arith, lev-of_region whole width height lies wide tall fits)
-
--- One region is cut into two. The splits of each nest at least one level less, and those of one of them just one less.
-pub record AreHalves (whole first second : Region) : Type 0 where
-  pub cut : IsCut whole first second
-  pub items : items_of first + items_of second ≡ items_of whole
-  pub first_inside : (width height : ℕ) → LiesInMatrix whole width height → LiesInMatrix first width height
-  pub second_inside : (width height : ℕ) → LiesInMatrix whole width height → LiesInMatrix second width height
-  pub first_levels : lev (rows_of first) (cols_of first) < lev (rows_of whole) (cols_of whole)
-  pub second_levels : lev (rows_of second) (cols_of second) < lev (rows_of whole) (cols_of whole)
-  pub nested : 1 + max (nest (rows_of first) (cols_of first)) (nest (rows_of second) (cols_of second)) ≡ nest (rows_of whole) (cols_of whole)
 
 -- a side above 128 in two parts, its half rounded down and the rest
 record IsHalved (side half rest other : ℕ) : Type 0 where
@@ -60,7 +49,7 @@ nested-cols : (side half rest other : ℕ) → 2 < other → 128 < side → IsHa
 nested-cols side half rest other deep h s =
     omega (arith, s.half_levels, s.rest_levels, lev-comm other half, lev-comm other rest, lev-comm other side, nest-deep other half deep s.half_deep, nest-deep other rest deep s.rest_deep, nest-deep other side deep (omega arith))
 
-AreHalves-rows : (whole : Region) → 2 < cols_of whole → 128 < rows_of whole → whole.row_start ≤ whole.row_end
+pub AreHalves-rows : (whole : Region) → 2 < cols_of whole → 128 < rows_of whole → whole.row_start ≤ whole.row_end
     → let middle = whole.row_start + rows_of whole / 2 in AreHalves whole (record whole { row_end = middle }) (record whole { row_start = middle })
 AreHalves-rows whole deep high order =
     let rows = rows_of whole in
@@ -78,7 +67,7 @@ AreHalves-rows whole deep high order =
       nested = nested-rows rows (middle - whole.row_start) (whole.row_end - middle) (cols_of whole) deep high s;
     }
 
-AreHalves-cols : (whole : Region) → 2 < rows_of whole → 128 < cols_of whole → whole.col_start ≤ whole.col_end
+pub AreHalves-cols : (whole : Region) → 2 < rows_of whole → 128 < cols_of whole → whole.col_start ≤ whole.col_end
     → let middle = whole.col_start + cols_of whole / 2 in AreHalves whole (record whole { col_end = middle }) (record whole { col_start = middle })
 AreHalves-cols whole deep wide order =
     let cols = cols_of whole in
@@ -95,15 +84,3 @@ AreHalves-cols whole deep wide order =
       second_levels = omega (arith, s.rest_levels, lev-comm (rows_of whole) (whole.col_end - middle), lev-comm (rows_of whole) cols);
       nested = nested-cols cols (middle - whole.col_start) (whole.col_end - middle) (rows_of whole) deep wide s;
     }
-
--- the halves at the longer side of a region that is no leaf
-pub AreHalves-of : (whole : Region) (parts : Region × Region) (width height : ℕ) → LiesInMatrix whole width height
-    → (NARROW_SIDE < rows_of whole) × (NARROW_SIDE < cols_of whole) × (LEAF_SIDE < max (rows_of whole) (cols_of whole))
-    → (cols_of whole ≤ rows_of whole → let middle = whole.row_start + rows_of whole / 2 in parts ≡ (record whole { row_end = middle }, record whole { row_start = middle }))
-    → (rows_of whole < cols_of whole → let middle = whole.col_start + cols_of whole / 2 in parts ≡ (record whole { col_end = middle }, record whole { col_start = middle }))
-    → AreHalves whole parts.0 parts.1
-AreHalves-of whole parts width height lies large by_rows by_cols =
-    elim (cases_lt (rows_of whole) (cols_of whole)) [
-      | inl wider ↦ rw (by_cols wider) (AreHalves-cols whole large.0 (omega (arith, large.2)) lies.cols_in_order)
-      | inr longer ↦ rw (by_rows longer) (AreHalves-rows whole large.1 (omega (arith, large.2)) lies.rows_in_order)
-    ]

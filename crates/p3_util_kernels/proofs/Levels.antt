@@ -1,10 +1,11 @@
 -- How deep the split of a transpose nests.
-use Rattle.std.proofs.Common.{◌≡◌, ℕ, zero, suc, ◌+◌, ◌-◌, ◌*◌, ◌/◌, ◌^◌, ◌<◌, ◌≤◌, cond, ltb, inl, inr, ◌∙◌, ap, min, max, arith}
+use Rattle.std.proofs.Common.{◌≡◌, ℕ, zero, suc, ◌+◌, ◌-◌, ◌*◌, ◌/◌, ◌^◌, ◌<◌, ◌≤◌, cond, ltb, inl, inr, ◌∙◌, sym, ap, min, max, arith}
 use Rattle.std.proofs.Math.Nat.{pow-suc, pow-le-pow_right}
 use Rattle.std.proofs.lemmas.Bool.{cases_lt, lt-ltb, le-ltb, and_from, and_left, and_right, cond-true, cond-false}
 use Rattle.std.proofs.lemmas.Nat.{pow-add, mul-le}
 use Rattle.p3_util_kernels.specs.Digits.{sum_below}
 use Rattle.p3_util_kernels.specs.Levels.{clog, lev, nest}
+use Rattle.p3_util_kernels.proofs.Powers.{exponent-le}
 
 -- the powers of two below n, among the first m of them, are the first `many`
 record IsCount (n m many : ℕ) : Type 0 where
@@ -79,6 +80,13 @@ clog-least n e h =
 -- no other number is the least one
 pub clog_only : (n e : ℕ) → n ≤ 2 ^ e → ((d : ℕ) → n ≤ 2 ^ d → e ≤ d) → e ≡ clog n
 clog_only n e enough least = omega (arith, clog-least n e enough, least (clog n) (clog-enough n))
+
+-- the logarithm of a power, and of zero
+pub clog_power : (n k : ℕ) → n ≡ 2 ^ k → clog n ≡ k
+clog_power n k e = sym (clog_only n k (omega arith) (λ d h. exponent-le k d (omega arith)))
+
+pub clog-zero : (n : ℕ) → n ≡ 0 → clog n ≡ 0
+clog-zero n e = sym (clog_only n 0 (omega arith) (λ d h. omega arith))
 
 -- of a number that lies above 2 ^ e the logarithm does
 pub clog-above : (n e : ℕ) → 2 ^ e < n → e < clog n

@@ -4,7 +4,6 @@ use Rattle.std.proofs.lemmas.Nat.{pow-add}
 use Rattle.p3_util_kernels.specs.Digits.{rev}
 use Rattle.p3_util_kernels.specs.Reversal.{IsReversal, IsRowReversal}
 use Rattle.p3_util_kernels.specs.Squares.{AreTransposed}
-use Rattle.p3_util_kernels.specs.Steps.{counted}
 use Rattle.p3_util_kernels.proofs.Digits.{rev-lt, rev-around}
 use Rattle.p3_util_kernels.proofs.Matrix.{each_place}
 use Rattle.p3_util_kernels.proofs.Reversal.{IsReversal-from_power}
@@ -45,7 +44,3 @@ module _ {A : Type 0} (size stride : ℕ) (within : size ≤ stride) (few : stri
       each_place (λ j. slice_get new (a * 2 ^ stride + j) ≡ slice_get old (rev k (a * 2 ^ stride + j))) (2 ^ (stride - size)) (2 ^ size) j
       (rw (← row_length stride size within) at hj)
       (λ s y hs hy. at_place a s y ha hs hy)))
-
--- one number of steps, another, and the first again
-pub counted-around : (c0 c1 c2 c3 a b : ℕ) → c1 ≡ counted c0 a → c2 ≡ counted c1 b → c3 ≡ counted c2 a → c3 ≡ counted c0 (2 * a + b)
-counted-around c0 c1 c2 c3 a b e f g = omega arith

@@ -74,38 +74,36 @@ module _ {A : Type 0} (at : Corner) (input : List A) where
   }
 
 -- a piece of a piece lies in both lists too
-module _ {A : Type 0} (rows cols : ℕ) (at : Corner) (input old out : List A) (count count' : ℕ) where
-  pub HasPiece-right : (k more : ℕ) → k + more ≤ cols → length out ≡ length old → count' < 2 ^ 128
-      → HasPiece rows cols at input old count → HasPiece rows more (right_of at k) input out count'
-  HasPiece-right k more within same fits h = record {
+module _ {A : Type 0} (rows cols : ℕ) (at : Corner) (input old out : List A) where
+  pub HasPiece-right : (k more : ℕ) → k + more ≤ cols → length out ≡ length old
+      → HasPiece rows cols at input old → HasPiece rows more (right_of at k) input out
+  HasPiece-right k more within same h = record {
     inside = λ t c ht hc. omega (arith, h.inside t (k + c) ht (omega arith));
     room = λ t c ht hc. omega (arith, same, h.room t (k + c) ht (omega arith));
     tall = h.tall;
     input_fits = h.input_fits;
     out_fits = omega (arith, same, h.out_fits);
-    count_fits = fits;
   }
 
-  pub HasPiece-below : (t more : ℕ) → t + more ≤ rows → length out ≡ length old → count' < 2 ^ 128
-      → HasPiece rows cols at input old count → HasPiece more cols (below_of at t) input out count'
-  HasPiece-below t more within same fits h = record {
+  pub HasPiece-below : (t more : ℕ) → t + more ≤ rows → length out ≡ length old
+      → HasPiece rows cols at input old → HasPiece more cols (below_of at t) input out
+  HasPiece-below t more within same h = record {
     inside = λ r k hr hk. omega (arith, h.inside (t + r) k (omega arith) hk);
     room = λ r k hr hk. omega (arith, same, h.room (t + r) k (omega arith) hk);
     tall = omega (arith, h.tall);
     input_fits = h.input_fits;
     out_fits = omega (arith, same, h.out_fits);
-    count_fits = fits;
   }
 
 -- the machine can hold the corners of columns and of rows of a piece
-pub right-fits : {A : Type 0} (rows cols : ℕ) (at : Corner) (input out : List A) (count k : ℕ) → 0 < rows → k < cols
-    → HasPiece rows cols at input out count → (at.from + k < 2 ^ 64) × (at.to + k * at.height < 2 ^ 64)
-right-fits rows cols at input out count k some within h =
+pub right-fits : {A : Type 0} (rows cols : ℕ) (at : Corner) (input out : List A) (k : ℕ) → 0 < rows → k < cols
+    → HasPiece rows cols at input out → (at.from + k < 2 ^ 64) × (at.to + k * at.height < 2 ^ 64)
+right-fits rows cols at input out k some within h =
     (omega (arith, h.inside 0 k some within, h.input_fits), omega (arith, h.room 0 k some within, h.out_fits))
 
-pub below-fits : {A : Type 0} (rows cols : ℕ) (at : Corner) (input out : List A) (count t : ℕ) → 0 < cols → t < rows
-    → HasPiece rows cols at input out count → (at.from + t * at.width < 2 ^ 64) × (at.to + t < 2 ^ 64)
-below-fits rows cols at input out count t some within h =
+pub below-fits : {A : Type 0} (rows cols : ℕ) (at : Corner) (input out : List A) (t : ℕ) → 0 < cols → t < rows
+    → HasPiece rows cols at input out → (at.from + t * at.width < 2 ^ 64) × (at.to + t < 2 ^ 64)
+below-fits rows cols at input out t some within h =
     (omega (arith, h.inside t 0 within some, h.input_fits), omega (arith, h.room t 0 within some, h.out_fits))
 
 -- the corner of a region
@@ -118,10 +116,10 @@ corner_of region width height = record {
 }
 
 -- a region of a matrix is a piece of it
-pub HasPiece-region : {A : Type 0} (region : Region) (width height rows cols : ℕ) (input out : List A) (count : ℕ)
-    → rows ≡ rows_of region → cols ≡ cols_of region → IsReady region width height input out count
-    → HasPiece rows cols (corner_of region width height) input out count
-HasPiece-region r width height rows cols input out count er ec h =
+pub HasPiece-region : {A : Type 0} (region : Region) (width height rows cols : ℕ) (input out : List A)
+    → rows ≡ rows_of region → cols ≡ cols_of region → IsReady region width height input out
+    → HasPiece rows cols (corner_of region width height) input out
+HasPiece-region r width height rows cols input out er ec h =
     let inside = h.inside in
     record {
       inside = λ t k ht hk. omega (arith, h.input_fits, inside.rows_inside, inside.cols_inside, mul-add-lt (r.row_start + t) width (r.col_start + k) height (omega arith) (omega arith));
@@ -129,7 +127,6 @@ HasPiece-region r width height rows cols input out count er ec h =
       tall = omega (arith, inside.rows_inside);
       input_fits = omega (arith, h.input_fits, h.length_fits);
       out_fits = omega (arith, h.output_fits, h.length_fits);
-      count_fits = h.count_fits;
     }
 
 -- a piece of a matrix is a region of it

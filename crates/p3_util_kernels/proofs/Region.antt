@@ -1,16 +1,10 @@
 -- Regions of a matrix transposed one after another.
-use Rattle.std.proofs.Common.{◌≡◌, ℕ, ◌+◌, ◌*◌, ◌<◌, ◌≤◌, ◌⊎◌, List, inl, inr, ◌∙◌, arith}
+use Rattle.std.proofs.Common.{◌≡◌, ℕ, ◌+◌, ◌*◌, ◌<◌, ◌≤◌, List, inl, inr, ◌∙◌, arith}
 use Rattle.std.proofs.lemmas.Bool.{cases_lt}
 use Rattle.std.proofs.lemmas.Nat.{same_from_place}
 use Rattle.p3_util_kernels.specs.declared.transpose.regions.Region.{Region}
-use Rattle.p3_util_kernels.specs.Region.{IsInRegion, IsRegionTransposed}
-
--- One region is cut into two: each place of it lies in the second, or in the first and not in the second, and neither
--- part has a place outside it.
-pub record IsCut (whole first second : Region) : Type 0 where
-  pub parts : (x y : ℕ) → IsInRegion whole x y → (IsInRegion second x y) ⊎ (IsInRegion first x y × (IsInRegion second x y → ⊥))
-  pub first_inside : (x y : ℕ) → IsInRegion first x y → IsInRegion whole x y
-  pub second_inside : (x y : ℕ) → IsInRegion second x y → IsInRegion whole x y
+use Rattle.p3_util_kernels.specs.Halves.{IsCut}
+use Rattle.p3_util_kernels.specs.Region.{IsRegionTransposed}
 
 -- the rows before `mid`, and those from `from` on, which may be some of them again
 pub IsCut-rows : (whole : Region) (from mid : ℕ) → whole.row_start ≤ from → from ≤ mid → mid ≤ whole.row_end

@@ -1,8 +1,14 @@
 -- Bounds of the numbers of swaps, from their closed forms.
-use Rattle.std.proofs.Common.{◌≡◌, ℕ, ◌+◌, ◌-◌, ◌*◌, ◌/◌, ◌^◌, ◌≤◌, ◌∙◌, ap, arith}
+use Rattle.std.proofs.Common.{◌≡◌, ℕ, ◌+◌, ◌-◌, ◌*◌, ◌/◌, ◌^◌, ◌≤◌, ◌∙◌, inl, inr, ap, arith}
 use Rattle.std.proofs.Math.Nat.{mul-le-mul_left}
 use Rattle.std.proofs.lemmas.Nat.{pow-add}
-use Rattle.p3_util_kernels.specs.SwapCounts.{short_swaps, long_swaps, square_swaps}
+use Rattle.std.proofs.Math.Nat.{mul-div_cancel_left}
+use Rattle.std.proofs.lemmas.Bool.{cases_eq}
+use Rattle.p3_util_kernels.specs.Levels.{clog}
+use Rattle.p3_util_kernels.specs.Reversal.{FitsRows, IsReversible, IsZeroOrPowerOfTwo}
+use Rattle.p3_util_kernels.specs.SwapCounts.{short_swaps, long_swaps, square_swaps, reversal_swaps}
+use Rattle.p3_util_kernels.proofs.Lengths.{zero_or_power}
+use Rattle.p3_util_kernels.proofs.Levels.{clog_power, clog-zero}
 use Rattle.p3_util_kernels.proofs.Pairs.{twice-pairs}
 
 -- two swaps for each pair of places, and no more places than items
@@ -16,7 +22,7 @@ row_swaps-le row_width k =
     omega arith
 
 -- the 2 ^ count chunks of 2 ^ size items are rows
-chunk_swaps-le : (count size : ℕ) → short_swaps count * 2 ^ size ≤ 2 ^ (count + size) / 2
+pub chunk_swaps-le : (count size : ℕ) → short_swaps count * 2 ^ size ≤ 2 ^ (count + size) / 2
 chunk_swaps-le count size = omega (arith, row_swaps-le (2 ^ size) count, pow-add 2 count size)
 
 -- the squares side by side in 2 ^ size rows of 2 ^ stride items
@@ -39,3 +45,33 @@ long_swaps-le k =
     let whole : size + stride ≡ k = omega arith in
     three_halves (short_swaps size * 2 ^ stride) (2 ^ (stride - size) * square_swaps (2 ^ size)) (2 ^ k)
     (rw whole at (chunk_swaps-le size stride)) (rw whole at (squares_swaps-le stride size (omega arith)))
+
+-- the same of a length that is zero or a power of two
+row_swaps : (row_width rows : ℕ) → IsZeroOrPowerOfTwo rows → row_width * short_swaps (clog rows) ≤ row_width * rows / 2
+row_swaps row_width rows (inl none) = let zero : clog rows ≡ 0 = clog-zero rows none in rw zero (omega arith)
+row_swaps row_width rows (inr (k, is)) = rw (clog_power rows k is, is) (row_swaps-le row_width k)
+
+pub short_bound : (n : ℕ) → IsReversible n → short_swaps (clog n) ≤ n / 2
+short_bound n fits = omega (arith, row_swaps 1 n (zero_or_power n fits))
+
+pub rows_bound : (n row_width : ℕ) → FitsRows n row_width → row_width * short_swaps (clog (n / row_width)) ≤ n / 2
+rows_bound n row_width (rows, fits, e) =
+    elim (cases_eq row_width 0) [
+      | inl none ↦ rw none (omega arith)
+      | inr wide ↦
+          let same : n / row_width ≡ rows = ap (λ x. x / row_width) e ∙ mul-div_cancel_left rows (omega arith) in
+          rw (same, e) (row_swaps row_width rows fits)
+    ]
+
+pub long_bound : (n : ℕ) → IsReversible n → 4 ≤ n → long_swaps (clog n) ≤ 3 * n / 2
+long_bound n fits some =
+    elim (zero_or_power n fits) [
+      | inl none ↦ absurd (omega arith)
+      | inr (k, is) ↦ rw (clog_power n k is, is) (long_swaps-le k)
+    ]
+
+pub reversal_bound : (n : ℕ) → IsReversible n → reversal_swaps n ≤ 3 * n / 2
+reversal_bound n fits = grind (arith, short_bound n fits, long_bound n fits)
+
+pub chunks_bound : (h c n : ℕ) → n ≡ 2 ^ (h + c) → short_swaps h * 2 ^ c ≤ n / 2
+chunks_bound h c n whole = rw whole (chunk_swaps-le h c)

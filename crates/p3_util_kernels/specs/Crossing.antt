@@ -26,10 +26,9 @@ pub record IsCrossed {A : Type 0} (half d row_width start end : ℕ) (old new : 
   pub kept : (m x y j : ℕ) → m < 2 ^ d → x < 2 ^ half → y < 2 ^ half → j < row_width → (turn_of half m x y < start) ⊎ (end ≤ turn_of half m x y)
       → slice_get new (row_of half d m x y * row_width + j) ≡ slice_get old (row_of half d m x y * row_width + j)
 
--- The list is 2 ^ digits rows of `row_width` items, and the machine can hold its places and the count.
-pub record HoldsRows {A : Type 0} (row_width digits : ℕ) (items : List A) (count : ℕ) : Type 0 where
+-- The list is 2 ^ digits rows of `row_width` items, and the machine can hold its places.
+pub record HoldsRows {A : Type 0} (row_width digits : ℕ) (items : List A) : Type 0 where
   pub wide : 0 < row_width
   pub few : digits < 64
   pub rows : length items ≡ row_width * 2 ^ digits
   pub length_fits : length items < 2 ^ 64
-  pub count_fits : count < 2 ^ 128

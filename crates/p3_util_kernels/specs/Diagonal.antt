@@ -19,8 +19,7 @@ pub record SwapsAcross {A : Type 0} (base stride row row_end col col_end : ℕ) 
   pub others : (k : ℕ) → ((a b : ℕ) → a < stride → b < stride → IsInBlock row row_end col col_end a b → k ≢ base + a * stride + b)
       → slice_get new k ≡ slice_get old k
 
--- The list holds the place where row `last` meets column `last`, and the machine can hold its places and the count.
-pub record HoldsSquare {A : Type 0} (base stride last : ℕ) (items : List A) (count : ℕ) : Type 0 where
+-- The list holds the place where row `last` meets column `last`, and the machine can hold its places.
+pub record HoldsSquare {A : Type 0} (base stride last : ℕ) (items : List A) : Type 0 where
   pub room : base + last * stride + last < length items
   pub length_fits : length items < 2 ^ 64
-  pub count_fits : count < 2 ^ 128

@@ -2,6 +2,7 @@ pub mod Crossing
 pub mod Diagonal
 pub mod Digits
 pub mod Exchanged
+pub mod Halves
 pub mod Least
 pub mod Levels
 pub mod Names

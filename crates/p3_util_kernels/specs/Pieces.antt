@@ -4,13 +4,12 @@ use Rattle.p3_util_kernels.specs.declared.transpose.regions.Region.{Region}
 use Rattle.p3_util_kernels.specs.declared.transpose.pieces.Corner.{Corner}
 use Rattle.p3_util_kernels.specs.Region.{LiesInMatrix}
 
--- Both lists hold a matrix of `height` rows of `width` items, with the region, and the machine its places and the count.
-pub record IsReady {A : Type 0} (region : Region) (width height : ℕ) (input out : List A) (count : ℕ) : Type 0 where
+-- Both lists hold a matrix of `height` rows of `width` items, with the region, and the machine its places.
+pub record IsReady {A : Type 0} (region : Region) (width height : ℕ) (input out : List A) : Type 0 where
   pub inside : LiesInMatrix region width height
   pub input_fits : length input ≡ width * height
   pub output_fits : length out ≡ width * height
   pub length_fits : width * height < 2 ^ 64
-  pub count_fits : count < 2 ^ 128
 
 -- the corner of what begins some columns to the right, and of what begins some rows below
 abbrev pub right_of : Corner → ℕ → Corner
@@ -19,14 +18,13 @@ right_of at cols = record at { from = at.from + cols; to = at.to + cols * at.hei
 abbrev pub below_of : Corner → ℕ → Corner
 below_of at rows = record at { from = at.from + rows * at.width; to = at.to + rows }
 
--- The piece of `rows` by `cols` items with this corner lies in both lists, and the machine can hold their places and the count.
-pub record HasPiece {A : Type 0} (rows cols : ℕ) (at : Corner) (input out : List A) (count : ℕ) : Type 0 where
+-- The piece of `rows` by `cols` items with this corner lies in both lists, and the machine can hold their places.
+pub record HasPiece {A : Type 0} (rows cols : ℕ) (at : Corner) (input out : List A) : Type 0 where
   pub inside : (t k : ℕ) → t < rows → k < cols → at.from + t * at.width + k < length input
   pub room : (t k : ℕ) → t < rows → k < cols → at.to + k * at.height + t < length out
   pub tall : rows ≤ at.height
   pub input_fits : length input < 2 ^ 64
   pub out_fits : length out < 2 ^ 64
-  pub count_fits : count < 2 ^ 128
 
 -- Row t and column k of the piece is put at its place, and every other place holds what it held.
 pub record IsPiecePut {A : Type 0} (rows cols : ℕ) (at : Corner) (input old new : List A) : Type 0 where

@@ -1,5 +1,6 @@
 -- How many swaps a bit reversal of 2 ^ k items makes: closed forms, and no loop of the code.
 use Rattle.std.specs.Prelude.{ℕ, ◌+◌, ◌-◌, ◌*◌, ◌/◌, ◌^◌, nat_le, if◌then◌else◌}
+use Rattle.p3_util_kernels.specs.Levels.{clog}
 
 -- The pairs of numbers of k bits that are each other's reverse and differ. Of the 2 ^ k numbers of k bits,
 -- 2 ^ ceil(k / 2) are their own reverse.
@@ -14,6 +15,6 @@ square_swaps side = side * (side - 1) / 2
 abbrev pub long_swaps : ℕ → ℕ
 long_swaps k = 2 * (short_swaps (k / 2) * 2 ^ (k - k / 2)) + 2 ^ (k - k / 2 - k / 2) * square_swaps (2 ^ (k / 2))
 
--- The path that suits the length: short up to 8192 items, else long.
+-- The path that suits the number of items, zero or a power of two: short up to 8192, else long.
 abbrev pub reversal_swaps : ℕ → ℕ
-reversal_swaps k = if nat_le (2 ^ k) 8192 then short_swaps k else long_swaps k
+reversal_swaps items = if nat_le items 8192 then short_swaps (clog items) else long_swaps (clog items)

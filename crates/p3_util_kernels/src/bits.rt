@@ -93,6 +93,15 @@ pub fn log2_ceil_u64(n: u64) -> u64
     log2_ceil_usize(n as usize) as u64
 }
 
+/// 2 to the power of `exponent`.
+#[inline(always)]
+pub(crate) fn pow2(exponent: usize) -> usize
+    requires { exponent < 64 }
+    ensures { result ≡ 2 ^ exponent }
+{
+    1 << exponent
+}
+
 /// `2^log_degree`, or `None` where that does not fit a word.
 pub fn checked_pow2(log_degree: usize) -> Option<usize>
     ensures { SomeIff result (log_degree < 64) (2 ^ log_degree) }
@@ -117,6 +126,7 @@ pub fn checked_log_size_sum(a: usize, b: usize) -> Option<(usize, usize)>
 pub fn log2_strict_usize(n: usize) -> usize
     requires { HasLog2 n }
     ensures power { n ≡ 2 ^ result }
+    ensures counted { result ≡ clog n }
     ensures bound { result < 64 }
 {
     let exponent = n.ilog2();

@@ -4,11 +4,9 @@
 //! - A *place* is an index of a list whose items may be exchanged ([`Places`]), a *cell* one whose item may be written
 //!   ([`Cells`]), and a *source* is a list that is only read ([`Source`]).
 //! - A *swap* is one counted exchange of two places ([`Swaps`]), a *write* one counted put of an item ([`Writes`]).
-//! - A kernel has a counter and nothing else, so the count is all that it did to the list: each write is one
-//!   [`Writes::put`] in a loop of the kernel, and 1 is added for it. It is written over a trait that has the steps of a
-//!   counter alone, has the counter by value and gives it back.
-//! - A counter and a reference to one have that trait. So a public call over a `&mut` counter is its kernel over that
-//!   reference, and a slice form is its kernel over a fresh counter of the slice.
+//! - A kernel has a holder by value and gives it back. Its contract says after how many steps, so no step is left out and
+//!   none is made beside. A counter is a holder, and so is a reference to a holder: a public call over a `&mut` counter is
+//!   its kernel over that reference, and a slice form is its kernel over the slice.
 
 ghost use Rattle.std.specs.Prelude.{◌≡◌, ℕ, ◌+◌, ◌-◌, ◌*◌, ◌<◌, ◌≤◌, ◌⊎◌, List, Some, length, swap, slice_get, slice_set};
 ghost use Rattle.p3_util_kernels.specs.Exchanged.{RunsExchanged};
@@ -17,20 +15,20 @@ mod counters;
 mod references;
 mod slices;
 
-pub(crate) use counters::{CountedCells, CountedPlaces};
 pub use counters::{Swaps, Writes};
 pub use slices::{SliceCells, SlicePlaces, SliceSource};
 
 /// A list whose items can be exchanged, and neither read nor moved in another way.
 ///
-/// Contracts see an implementation as the list of its items. `same_holder a b` says that b is a after some steps: a holder
-/// that borrows its items still borrows the same slice, so what changes in the holder changes in that slice.
+/// Contracts see an implementation as the list of its items. `same_holder n a b` says that b is a after n exchanges. A holder
+/// that borrows its items says that b still borrows the same slice, so what changes in the holder changes in that slice; one
+/// that does not count ignores n.
 pub trait Places {
     type Item;
 
     ghost items: { Self → List Self.Item };
 
-    ghost same_holder: { Self → Self → Type 0 };
+    ghost same_holder: { ℕ → Self → Self → Type 0 };
 
     /// The number of places.
     fn len(&self) -> usize
@@ -41,7 +39,7 @@ pub trait Places {
         requires first { i < length (items self.old) }
         requires second { j < length (items self.old) }
         ensures exchanged { items self.new ≡ swap (items self.old) i j }
-        ensures holder { same_holder self.old self.new };
+        ensures holder { same_holder 1 self.old self.new };
 
     /// As `exchange`, where `i` is below `j`. A holder may do so without a test of their order.
     #[inline(always)]
@@ -49,7 +47,7 @@ pub trait Places {
         requires order { i < j }
         requires second { j < length (items self.old) }
         ensures exchanged { items self.new ≡ swap (items self.old) i j }
-        ensures holder { same_holder self.old self.new }
+        ensures holder { same_holder 1 self.old self.new }
     {
         self.exchange(i, j);
     }
@@ -62,7 +60,7 @@ pub trait Places {
         requires first { i + len ≤ length (items self.old) }
         requires second { j + len ≤ length (items self.old) }
         ensures exchanged { RunsExchanged i j len (items self.old) (items self.new) }
-        ensures holder { same_holder self.old self.new }
+        ensures holder { same_holder len self.old self.new }
     {
         // Its contract says that the length is a usize.
         let _ = self.len();
@@ -71,20 +69,21 @@ pub trait Places {
         }
     }
 
-    ghost same_holder_refl: { (a : Self) → same_holder a a };
+    ghost same_holder_refl: { (a : Self) → same_holder 0 a a };
 
-    ghost same_holder_trans: { (a b c : Self) → same_holder a b → same_holder b c → same_holder a c };
+    ghost same_holder_trans: { (m n all : ℕ) (a b c : Self) → same_holder m a b → same_holder n b c → m + n ≡ all → same_holder all a c };
 }
 
 /// A list whose places can be written, and not read.
 ///
-/// Contracts see an implementation as the list of its items, and `same_holder` is as in [`Places`].
+/// Contracts see an implementation as the list of its items, and `same_holder n a b` says that b is a after n puts, as in
+/// [`Places`].
 pub trait Cells {
     type Item: Copy;
 
     ghost items: { Self → List Self.Item };
 
-    ghost same_holder: { Self → Self → Type 0 };
+    ghost same_holder: { ℕ → Self → Self → Type 0 };
 
     /// The number of places.
     fn len(&self) -> usize
@@ -94,11 +93,11 @@ pub trait Cells {
     fn put(&mut self, i: usize, v: Self::Item)
         requires { i < length (items self.old) }
         ensures written { items self.new ≡ slice_set (items self.old) i v }
-        ensures holder { same_holder self.old self.new };
+        ensures holder { same_holder 1 self.old self.new };
 
-    ghost same_holder_refl: { (a : Self) → same_holder a a };
+    ghost same_holder_refl: { (a : Self) → same_holder 0 a a };
 
-    ghost same_holder_trans: { (a b c : Self) → same_holder a b → same_holder b c → same_holder a c };
+    ghost same_holder_trans: { (m n all : ℕ) (a b c : Self) → same_holder m a b → same_holder n b c → m + n ≡ all → same_holder all a c };
 }
 
 /// A list whose items can be read, and not changed.

@@ -2,7 +2,7 @@
 
 ghost use Rattle.std.specs.Prelude.{◌≡◌, ◌+◌, ◌*◌, ◌^◌, ◌<◌, ◌↔◌, IsTrue, length};
 ghost use Rattle.p3_util_kernels.specs.Region.{IsRegionTransposed, LiesInMatrix, items_of};
-ghost use Rattle.p3_util_kernels.specs.Steps.{Stepped, counted};
+ghost use Rattle.p3_util_kernels.specs.Steps.{counted};
 ghost use Rattle.p3_util_kernels.specs.Transpose.{IsTranspose};
 
 mod butterfly;
@@ -11,7 +11,7 @@ mod regions;
 mod split;
 mod square;
 
-use crate::places::{Cells, CountedCells, SliceSource, Source, Writes};
+use crate::places::{Cells, SliceSource, Source, Writes};
 pub use butterfly::{butterfly_4x4, butterfly_stage1, butterfly_stage2};
 use pieces::{Pieces, TILE_SIDE, put_pieces};
 pub use regions::Region;
@@ -39,13 +39,14 @@ pub fn fits_matrix(input_len: usize, output_len: usize, width: usize, height: us
 /// Writes to `output` the transpose of `input`, a matrix of `height` rows of `width` items: what stood at
 /// `y * width + x` is put at `x * height + y`. Both lengths are `width` times `height`, which [`fits_matrix`] tests. The
 /// transpose of `output` the other way round, with `height` for the width, is `input` again.
+#[tactic(auto, using(crate::proofs::Matrix::transposed_back))]
 pub fn transpose<T: Copy>(input: &[T], output: &mut [T], width: usize, height: usize)
     requires input_fits { length input.now ≡ width * height }
     requires output_fits { length output.old ≡ width * height }
     ensures order { IsTranspose width height input.now output.new }
     ensures inverse { IsTranspose height width output.new input.now }
 {
-    let _ = transpose_over_fresh(SliceSource::new(input), output, width, height);
+    let _ = transpose_matrix(output, SliceSource::new(input), width, height);
 }
 
 /// Puts the transpose of `input` into `cells`, as [`transpose_on`] does over a fresh counter, and returns the number of
@@ -60,10 +61,11 @@ pub fn transpose_counted<C: Cells>(
     requires output_fits { length (C.items cells.old) ≡ width * height }
     ensures order { IsTranspose width height input.now (C.items cells.new) }
     ensures count { result ≡ width * height }
-    ensures holder { C.same_holder cells.old cells.new }
+    ensures holder { C.same_holder result cells.old cells.new }
 {
-    let (_, count) = transpose_over_fresh(SliceSource::new(input), cells, width, height);
-    count
+    // Its contract says that the length is a usize, so that the count stays below its greatest.
+    let _ = cells.len();
+    transpose_matrix(Writes::new(cells), SliceSource::new(input), width, height).writes()
 }
 
 /// Puts the transpose of `input` into `out`, as [`transpose`] does, in exactly `width * height` writes. Both lengths are
@@ -73,7 +75,7 @@ pub fn transpose_on<C: Cells>(input: &[C::Item], out: &mut Writes<C>, width: usi
     requires output_fits { length (C.items out.old.holder) ≡ width * height }
     ensures order { IsTranspose width height input.now (C.items out.new.holder) }
     ensures count { out.new.count ≡ counted out.old.count (width * height) }
-    ensures holder { C.same_holder out.old.holder out.new.holder }
+    ensures holder { C.same_holder (width * height) out.old.holder out.new.holder }
 {
     transpose_source_on(&SliceSource::new(input), out, width, height);
 }
@@ -87,9 +89,10 @@ where
     requires output_fits { length (C.items out.old.holder) ≡ width * height }
     ensures order { IsTranspose width height (R.items input.now) (C.items out.new.holder) }
     ensures count { out.new.count ≡ counted out.old.count (width * height) }
-    ensures holder { C.same_holder out.old.holder out.new.holder }
+    ensures holder { C.same_holder (width * height) out.old.holder out.new.holder }
 {
-    let _ = transpose_matrix(out, input, width, height);
+    let counter = Writes::resumed(&mut out.holder, out.count);
+    out.count = transpose_matrix(counter, input, width, height).writes();
 }
 
 /// Puts the transpose of `region`, a part of the matrix `input`, into `out`, in one write an item: what stood at
@@ -108,38 +111,16 @@ pub fn transpose_region_on<C: Cells>(
     ensures transposed { IsRegionTransposed region width height input.now
         (C.items out.old.holder) (C.items out.new.holder) }
     ensures count { out.new.count ≡ counted out.old.count (items_of region) }
-    ensures holder { C.same_holder out.old.holder out.new.holder }
+    ensures holder { C.same_holder (items_of region) out.old.holder out.new.holder }
 {
-    let _ = put_region(out, SliceSource::new(input), region, width, height);
-}
-
-/// Puts the transpose of `input` into `cells` over a fresh counter, and returns `cells` and the number of writes. `cells`
-/// goes by value, so that what a slice holds stays known.
-#[tactic(auto, using(crate::proofs::Matrix::transposed_back))]
-fn transpose_over_fresh<C: Cells, R: Source<Item = C::Item> + Copy>(
-    input: R,
-    cells: C,
-    width: usize,
-    height: usize,
-) -> (C, u128)
-    requires input_fits { length (R.items input) ≡ width * height }
-    requires output_fits { length (C.items cells) ≡ width * height }
-    ensures order { IsTranspose width height (R.items input) (C.items result.0) }
-    ensures inverse { IsTranspose height width (C.items result.0) (R.items input) }
-    ensures count { result.1 ≡ width * height }
-    ensures holder { C.same_holder cells result.0 }
-{
-    let out = Writes::new(cells);
-    // Its contract says that the length is a usize, so that the count stays below its greatest.
-    let _ = out.len();
-    let out = transpose_matrix(out, input, width, height);
-    let count = out.writes();
-    (out.into_inner(), count)
+    let counter = Writes::resumed(&mut out.holder, out.count);
+    let source = SliceSource::new(input);
+    out.count = put_region(counter, source, region, width, height).writes();
 }
 
 /// The kernel of [`transpose_source_on`]. The source goes by value here and below, so that its address is not read again at
 /// each item.
-fn transpose_matrix<M: CountedCells, R: Source<Item = M::Item> + Copy>(
+fn transpose_matrix<M: Cells, R: Source<Item = M::Item> + Copy>(
     out: M,
     input: R,
     width: usize,
@@ -148,7 +129,7 @@ fn transpose_matrix<M: CountedCells, R: Source<Item = M::Item> + Copy>(
     requires input_fits { length (R.items input) ≡ width * height }
     requires output_fits { length (M.items out) ≡ width * height }
     ensures order { IsTranspose width height (R.items input) (M.items result) }
-    ensures count { Stepped M.count M.same_holder (width * height) out result }
+    ensures holder { M.same_holder (width * height) out result }
 {
     let whole = whole(width, height);
     if is_large(out.len()) {
@@ -164,7 +145,7 @@ fn transpose_matrix<M: CountedCells, R: Source<Item = M::Item> + Copy>(
 /// Where the rows of the matrix begin a multiple of a tile's side apart, many of them meet in one set of a cache, and tiles
 /// are faster than strips, unless the matrix is far higher than wide.
 #[inline(always)]
-fn put_region<M: CountedCells, R: Source<Item = M::Item> + Copy>(
+fn put_region<M: Cells, R: Source<Item = M::Item> + Copy>(
     out: M,
     input: R,
     region: Region,
@@ -175,9 +156,9 @@ fn put_region<M: CountedCells, R: Source<Item = M::Item> + Copy>(
     requires output_fits { length (M.items out) ≡ width * height }
     requires inside { LiesInMatrix region width height }
     ensures transposed { IsRegionTransposed region width height (R.items input) (M.items out) (M.items result) }
-    ensures count { Stepped M.count M.same_holder (items_of region) out result }
+    ensures holder { M.same_holder (items_of region) out result }
 {
-    // Its contract says that the places fit a usize, and the count a u128.
+    // Its contract says that the places fit a usize.
     let _ = out.len();
     if region.cols() == 0 {
         // However many rows there are, no item is in them.

@@ -80,7 +80,7 @@ impl<'a, T> Places for ColumnMut<'a, T> {
 
     ghost items = { λ s. column_of s.shape.width s.shape.height s.shape.column s.values.now };
 
-    ghost same_holder = { λ a b. (a.values.ghost_name ≡ b.values.ghost_name) × (a.shape ≡ b.shape)
+    ghost same_holder = { λ n a b. (a.values.ghost_name ≡ b.values.ghost_name) × (a.shape ≡ b.shape)
         × IsSameOutside a.shape.width a.shape.height a.shape.column a.values.now b.values.now };
 
     fn len(&self) -> usize {
@@ -93,7 +93,7 @@ impl<'a, T> Places for ColumnMut<'a, T> {
 
     ghost same_holder_refl = { λ a. (refl, refl, λ k out. refl) };
 
-    ghost same_holder_trans = { λ a b c p q. (
+    ghost same_holder_trans = { λ m n all a b c p q e. (
       p.0 ∙ q.0,
       p.1 ∙ q.1,
       λ k out.

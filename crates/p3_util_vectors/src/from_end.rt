@@ -56,7 +56,7 @@ impl<'a, T> Places for FromEndMut<'a, T> {
 
     ghost items = { λ s. reverse s.items.now };
 
-    ghost same_holder = { λ a b. a.items.ghost_name ≡ b.items.ghost_name };
+    ghost same_holder = { λ n a b. a.items.ghost_name ≡ b.items.ghost_name };
 
     fn len(&self) -> usize {
         <[T]>::len(self.items)
@@ -68,7 +68,7 @@ impl<'a, T> Places for FromEndMut<'a, T> {
 
     ghost same_holder_refl = { λ a. refl };
 
-    ghost same_holder_trans = { λ a b c p q. p ∙ q };
+    ghost same_holder_trans = { λ m n all a b c p q e. p ∙ q };
 }
 
 impl<'a, T: Copy> Cells for FromEndMut<'a, T> {
@@ -76,7 +76,7 @@ impl<'a, T: Copy> Cells for FromEndMut<'a, T> {
 
     ghost items = { λ s. reverse s.items.now };
 
-    ghost same_holder = { λ a b. a.items.ghost_name ≡ b.items.ghost_name };
+    ghost same_holder = { λ n a b. a.items.ghost_name ≡ b.items.ghost_name };
 
     fn len(&self) -> usize {
         <[T]>::len(self.items)
@@ -88,7 +88,7 @@ impl<'a, T: Copy> Cells for FromEndMut<'a, T> {
 
     ghost same_holder_refl = { λ a. refl };
 
-    ghost same_holder_trans = { λ a b c p q. p ∙ q };
+    ghost same_holder_trans = { λ m n all a b c p q e. p ∙ q };
 }
 
 /// Puts `v` at the place that is `i` places before the last.

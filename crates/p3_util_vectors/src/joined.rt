@@ -30,7 +30,7 @@ impl<'a, F> Places for Joined<'a, F> {
 
     ghost items = { λ s. s.front.now ++ s.back.now };
 
-    ghost same_holder = { λ a b. (a.front.ghost_name ≡ b.front.ghost_name) × (a.back.ghost_name ≡ b.back.ghost_name)
+    ghost same_holder = { λ n a b. (a.front.ghost_name ≡ b.front.ghost_name) × (a.back.ghost_name ≡ b.back.ghost_name)
         × (length b.front.now ≡ length a.front.now) × (length b.back.now ≡ length a.back.now) };
 
     fn len(&self) -> usize {
@@ -43,7 +43,7 @@ impl<'a, F> Places for Joined<'a, F> {
 
     ghost same_holder_refl = { λ a. (refl, refl, refl, refl) };
 
-    ghost same_holder_trans = { λ a b c p q. (p.0 ∙ q.0, p.1 ∙ q.1, q.2 ∙ p.2, q.3 ∙ p.3) };
+    ghost same_holder_trans = { λ m n all a b c p q e. (p.0 ∙ q.0, p.1 ∙ q.1, q.2 ∙ p.2, q.3 ∙ p.3) };
 }
 
 impl<'a, T: Copy> Cells for Joined<'a, T> {
@@ -51,7 +51,7 @@ impl<'a, T: Copy> Cells for Joined<'a, T> {
 
     ghost items = { λ s. s.front.now ++ s.back.now };
 
-    ghost same_holder = { λ a b. (a.front.ghost_name ≡ b.front.ghost_name) × (a.back.ghost_name ≡ b.back.ghost_name)
+    ghost same_holder = { λ n a b. (a.front.ghost_name ≡ b.front.ghost_name) × (a.back.ghost_name ≡ b.back.ghost_name)
         × (length b.front.now ≡ length a.front.now) × (length b.back.now ≡ length a.back.now) };
 
     fn len(&self) -> usize {
@@ -64,7 +64,7 @@ impl<'a, T: Copy> Cells for Joined<'a, T> {
 
     ghost same_holder_refl = { λ a. (refl, refl, refl, refl) };
 
-    ghost same_holder_trans = { λ a b c p q. (p.0 ∙ q.0, p.1 ∙ q.1, q.2 ∙ p.2, q.3 ∙ p.3) };
+    ghost same_holder_trans = { λ m n all a b c p q e. (p.0 ∙ q.0, p.1 ∙ q.1, q.2 ∙ p.2, q.3 ∙ p.3) };
 }
 
 /// Puts `v` at place `i` of the list that is `front` and then `back`.

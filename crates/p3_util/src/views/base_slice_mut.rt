@@ -116,7 +116,7 @@ impl<S: Rows> Places for Flattened<S> {
 
     ghost items = { λ v. S.items v.rows };
 
-    ghost same_holder = { λ a b. S.same_rows a.rows b.rows };
+    ghost same_holder = { λ n a b. S.same_rows a.rows b.rows };
 
     fn len(&self) -> usize {
         Flattened::len(self)
@@ -133,7 +133,7 @@ impl<S: Rows> Places for Flattened<S> {
 
     ghost same_holder_refl = { λ a. S.same_rows_refl a.rows };
 
-    ghost same_holder_trans = { λ a b c p q. S.same_rows_trans a.rows b.rows c.rows p q };
+    ghost same_holder_trans = { λ m n all a b c p q e. S.same_rows_trans a.rows b.rows c.rows p q };
 }
 
 impl<S: Rows> Cells for Flattened<S>
@@ -144,7 +144,7 @@ where
 
     ghost items = { λ v. S.items v.rows };
 
-    ghost same_holder = { λ a b. S.same_rows a.rows b.rows };
+    ghost same_holder = { λ n a b. S.same_rows a.rows b.rows };
 
     fn len(&self) -> usize {
         Places::len(self)
@@ -156,5 +156,5 @@ where
 
     ghost same_holder_refl = { λ a. S.same_rows_refl a.rows };
 
-    ghost same_holder_trans = { λ a b c p q. S.same_rows_trans a.rows b.rows c.rows p q };
+    ghost same_holder_trans = { λ m n all a b c p q e. S.same_rows_trans a.rows b.rows c.rows p q };
 }

@@ -1,46 +1,46 @@
-//! Counters over holders, which see each exchange and each write, and what a kernel has of a counter.
+//! Counters over holders, which see each exchange and each write.
 //!
-//! A kernel is written over [`CountedPlaces`] or [`CountedCells`]. So it can reach no holder, make no counter and read no
-//! count: whatever the count was, each step adds to it. No other file can name a field of a counter.
+//! A counter is a holder too, whose count rises by as many steps as its own holder made. Its fields are for the calls that
+//! lend its holder to a kernel; a kernel, which is generic over its holder, cannot name them.
 
 ghost use Rattle.std.specs.Prelude.{◌≡◌, ℕ, ◌+◌, ◌-◌, ◌*◌, ◌^◌, ◌<◌, ◌≤◌, ◌⊎◌, List, length, swap, slice_set};
-ghost use Rattle.std.proofs.Common.{◌∙◌, refl};
+ghost use Rattle.std.proofs.Common.{rules};
 ghost use Rattle.p3_util_kernels.specs.Exchanged.{RunsExchanged};
-ghost use Rattle.p3_util_kernels.specs.Steps.{Counted, counted};
+ghost use Rattle.p3_util_kernels.specs.Steps.{counted};
 
 use crate::places::{Cells, Places};
-use std::marker::Model;
 
 /// A holder of places that counts its exchanges. The count stays at `u128::MAX` once it is there.
 #[derive(Drop)]
 pub struct Swaps<S> {
-    places: S,
-    swaps: u128,
-}
-
-impl<S> Model for Swaps<S> {
-    ghost Value = { Counted S };
-
-    ghost view = { λ m. record { holder = m.places; count = m.swaps } };
-
-    ghost invariant = { λ m. m.swaps < 2 ^ 128 };
+    pub(crate) holder: S,
+    pub(crate) count: u128,
+    pub ghost count_fits: { count < 2 ^ 128 },
 }
 
 impl<S: Places> Swaps<S> {
-    /// Counts the exchanges in `places` from 0.
-    pub fn new(places: S) -> Self
-        ensures holder { result.holder ≡ places }
+    /// Counts the exchanges in `holder` from 0.
+    pub fn new(holder: S) -> Self
+        ensures holder { result.holder ≡ holder }
         ensures count { result.count ≡ 0 }
     {
-        Swaps { places, swaps: 0 }
+        Swaps { holder, count: 0 }
     }
 
-    /// The number of places. A caller learns here too that the count is a `u128`.
-    pub fn len(&self) -> usize
-        ensures len { result ≡ length (S.items self.now.holder) }
-        ensures count_fits { self.now.count < 2 ^ 128 }
+    /// Counts the exchanges in `holder` from `count` on.
+    #[inline(always)]
+    pub(crate) fn resumed(holder: S, count: u128) -> Self
+        ensures holder { result.holder ≡ holder }
+        ensures count { result.count ≡ count }
     {
-        self.places.len()
+        Swaps { holder, count }
+    }
+
+    /// The number of places.
+    pub fn len(&self) -> usize
+        ensures { result ≡ length (S.items self.now.holder) }
+    {
+        self.holder.len()
     }
 
     /// Exchanges the items at places `i` and `j`, by one exchange, and counts it.
@@ -50,86 +50,59 @@ impl<S: Places> Swaps<S> {
         requires second { j < length (S.items self.old.holder) }
         ensures exchanged { S.items self.new.holder ≡ swap (S.items self.old.holder) i j }
         ensures count { self.new.count ≡ counted self.old.count 1 }
-        ensures holder { S.same_holder self.old.holder self.new.holder }
+        ensures holder { S.same_holder 1 self.old.holder self.new.holder }
     {
-        self.places.exchange(i, j);
-        self.swaps = self.swaps.saturating_add(1);
-    }
-
-    /// As `swap`, where `i` is below `j`.
-    #[inline(always)]
-    pub fn swap_ordered(&mut self, i: usize, j: usize)
-        requires order { i < j }
-        requires second { j < length (S.items self.old.holder) }
-        ensures exchanged { S.items self.new.holder ≡ swap (S.items self.old.holder) i j }
-        ensures count { self.new.count ≡ counted self.old.count 1 }
-        ensures holder { S.same_holder self.old.holder self.new.holder }
-    {
-        self.places.exchange_ordered(i, j);
-        self.swaps = self.swaps.saturating_add(1);
-    }
-
-    /// Exchanges the `len` items from place `i` on with those from place `j` on, by one exchange of runs, and counts `len`.
-    /// The two runs have no place in common.
-    #[inline(always)]
-    pub fn swap_runs(&mut self, i: usize, j: usize, len: usize)
-        requires apart { (i + len ≤ j) ⊎ (j + len ≤ i) }
-        requires first { i + len ≤ length (S.items self.old.holder) }
-        requires second { j + len ≤ length (S.items self.old.holder) }
-        ensures exchanged { RunsExchanged i j len (S.items self.old.holder) (S.items self.new.holder) }
-        ensures count { self.new.count ≡ counted self.old.count len }
-        ensures holder { S.same_holder self.old.holder self.new.holder }
-    {
-        self.places.exchange_runs(i, j, len);
-        self.swaps = self.swaps.saturating_add(len as u128);
+        self.holder.exchange(i, j);
+        self.count = self.count.saturating_add(1);
     }
 
     /// How many exchanges were made, at most `u128::MAX`.
     pub fn swaps(&self) -> u128
         ensures { result ≡ self.now.count }
     {
-        self.swaps
+        self.count
     }
 
     /// The holder.
     pub fn into_inner(self) -> S
         ensures { result ≡ self.holder }
     {
-        let Swaps { places, swaps: _ } = self;
-        places
+        let Swaps { holder, count: _ } = self;
+        holder
     }
 }
 
 /// A holder of places that counts its writes. The count stays at `u128::MAX` once it is there.
 #[derive(Drop)]
 pub struct Writes<C> {
-    cells: C,
-    writes: u128,
-}
-
-impl<C> Model for Writes<C> {
-    ghost Value = { Counted C };
-
-    ghost view = { λ m. record { holder = m.cells; count = m.writes } };
-
-    ghost invariant = { λ m. m.writes < 2 ^ 128 };
+    pub(crate) holder: C,
+    pub(crate) count: u128,
+    pub ghost count_fits: { count < 2 ^ 128 },
 }
 
 impl<C: Cells> Writes<C> {
-    /// Counts the writes to `cells` from 0.
-    pub fn new(cells: C) -> Self
-        ensures holder { result.holder ≡ cells }
+    /// Counts the writes to `holder` from 0.
+    pub fn new(holder: C) -> Self
+        ensures holder { result.holder ≡ holder }
         ensures count { result.count ≡ 0 }
     {
-        Writes { cells, writes: 0 }
+        Writes { holder, count: 0 }
     }
 
-    /// The number of places. A caller learns here too that the count is a `u128`.
-    pub fn len(&self) -> usize
-        ensures len { result ≡ length (C.items self.now.holder) }
-        ensures count_fits { self.now.count < 2 ^ 128 }
+    /// Counts the writes to `holder` from `count` on.
+    #[inline(always)]
+    pub(crate) fn resumed(holder: C, count: u128) -> Self
+        ensures holder { result.holder ≡ holder }
+        ensures count { result.count ≡ count }
     {
-        self.cells.len()
+        Writes { holder, count }
+    }
+
+    /// The number of places.
+    pub fn len(&self) -> usize
+        ensures { result ≡ length (C.items self.now.holder) }
+    {
+        self.holder.len()
     }
 
     /// Puts `v` at place `i`, by one write, and counts it.
@@ -138,171 +111,69 @@ impl<C: Cells> Writes<C> {
         requires { i < length (C.items self.old.holder) }
         ensures written { C.items self.new.holder ≡ slice_set (C.items self.old.holder) i v }
         ensures count { self.new.count ≡ counted self.old.count 1 }
-        ensures holder { C.same_holder self.old.holder self.new.holder }
+        ensures holder { C.same_holder 1 self.old.holder self.new.holder }
     {
-        self.cells.put(i, v);
-        self.writes = self.writes.saturating_add(1);
+        self.holder.put(i, v);
+        self.count = self.count.saturating_add(1);
     }
 
     /// How many writes were made, at most `u128::MAX`.
     pub fn writes(&self) -> u128
         ensures { result ≡ self.now.count }
     {
-        self.writes
+        self.count
     }
 
     /// The holder.
     pub fn into_inner(self) -> C
         ensures { result ≡ self.holder }
     {
-        let Writes { cells, writes: _ } = self;
-        cells
+        let Writes { holder, count: _ } = self;
+        holder
     }
 }
 
-/// What a kernel has of a counter of exchanges. The methods are those of [`Swaps`].
-pub(crate) trait CountedPlaces {
-    type Item;
-
-    ghost items: { Self → List Self.Item };
-
-    ghost count: { Self → ℕ };
-
-    ghost same_holder: { Self → Self → Type 0 };
-
-    fn len(&self) -> usize
-        ensures len { result ≡ length (items self.now) }
-        ensures count_fits { count self.now < 2 ^ 128 };
-
-    fn swap(&mut self, i: usize, j: usize)
-        requires first { i < length (items self.old) }
-        requires second { j < length (items self.old) }
-        ensures exchanged { items self.new ≡ swap (items self.old) i j }
-        ensures count { count self.new ≡ counted (count self.old) 1 }
-        ensures holder { same_holder self.old self.new };
-
-    fn swap_ordered(&mut self, i: usize, j: usize)
-        requires order { i < j }
-        requires second { j < length (items self.old) }
-        ensures exchanged { items self.new ≡ swap (items self.old) i j }
-        ensures count { count self.new ≡ counted (count self.old) 1 }
-        ensures holder { same_holder self.old self.new };
-
-    fn swap_runs(&mut self, i: usize, j: usize, len: usize)
-        requires apart { (i + len ≤ j) ⊎ (j + len ≤ i) }
-        requires first { i + len ≤ length (items self.old) }
-        requires second { j + len ≤ length (items self.old) }
-        ensures exchanged { RunsExchanged i j len (items self.old) (items self.new) }
-        ensures count { count self.new ≡ counted (count self.old) len }
-        ensures holder { same_holder self.old self.new };
-
-    ghost same_holder_refl: { (a : Self) → same_holder a a };
-
-    ghost same_holder_trans: { (a b c : Self) → same_holder a b → same_holder b c → same_holder a c };
-}
-
-/// The counter by value: its count and its holder stay in registers in the loops.
-impl<S: Places> CountedPlaces for Swaps<S> {
+/// Each exchange is one of the counter's holder, and counted.
+impl<S: Places> Places for Swaps<S> {
     type Item = S::Item;
 
     ghost items = { λ m. S.items m.holder };
 
-    ghost count = { λ m. m.count };
-
-    ghost same_holder = { λ a b. S.same_holder a.holder b.holder };
+    ghost same_holder = { λ n a b. (b.count ≡ counted a.count n) × S.same_holder n a.holder b.holder };
 
     fn len(&self) -> usize {
         Swaps::len(self)
     }
 
     #[inline(always)]
-    fn swap(&mut self, i: usize, j: usize) {
+    fn exchange(&mut self, i: usize, j: usize) {
         Swaps::swap(self, i, j);
     }
 
     #[inline(always)]
-    fn swap_ordered(&mut self, i: usize, j: usize) {
-        Swaps::swap_ordered(self, i, j);
+    fn exchange_ordered(&mut self, i: usize, j: usize) {
+        self.holder.exchange_ordered(i, j);
+        self.count = self.count.saturating_add(1);
     }
 
     #[inline(always)]
-    fn swap_runs(&mut self, i: usize, j: usize, len: usize) {
-        Swaps::swap_runs(self, i, j, len);
+    fn exchange_runs(&mut self, i: usize, j: usize, len: usize) {
+        self.holder.exchange_runs(i, j, len);
+        self.count = self.count.saturating_add(len as u128);
     }
 
-    ghost same_holder_refl = { λ a. S.same_holder_refl a.holder };
+    ghost same_holder_refl = { Prim.search rules };
 
-    ghost same_holder_trans = { λ a b c p q. S.same_holder_trans a.holder b.holder c.holder p q };
+    ghost same_holder_trans = { Prim.search rules };
 }
 
-/// The counter of a caller: the count goes on.
-impl<S: Places> CountedPlaces for &mut Swaps<S> {
-    type Item = S::Item;
-
-    ghost items = { λ m. S.items m.now.holder };
-
-    ghost count = { λ m. m.now.count };
-
-    ghost same_holder = { λ a b. (a.ghost_name ≡ b.ghost_name) × S.same_holder a.now.holder b.now.holder };
-
-    fn len(&self) -> usize {
-        Swaps::len(self)
-    }
-
-    #[inline(always)]
-    fn swap(&mut self, i: usize, j: usize) {
-        Swaps::swap(self, i, j);
-    }
-
-    #[inline(always)]
-    fn swap_ordered(&mut self, i: usize, j: usize) {
-        Swaps::swap_ordered(self, i, j);
-    }
-
-    #[inline(always)]
-    fn swap_runs(&mut self, i: usize, j: usize, len: usize) {
-        Swaps::swap_runs(self, i, j, len);
-    }
-
-    ghost same_holder_refl = { λ a. (refl, S.same_holder_refl a.now.holder) };
-
-    ghost same_holder_trans = { λ a b c p q. (p.0 ∙ q.0, S.same_holder_trans a.now.holder b.now.holder c.now.holder p.1 q.1) };
-}
-
-/// What a kernel has of a counter of writes. The methods are those of [`Writes`].
-pub(crate) trait CountedCells {
-    type Item: Copy;
-
-    ghost items: { Self → List Self.Item };
-
-    ghost count: { Self → ℕ };
-
-    ghost same_holder: { Self → Self → Type 0 };
-
-    fn len(&self) -> usize
-        ensures len { result ≡ length (items self.now) }
-        ensures count_fits { count self.now < 2 ^ 128 };
-
-    fn put(&mut self, i: usize, v: Self::Item)
-        requires { i < length (items self.old) }
-        ensures written { items self.new ≡ slice_set (items self.old) i v }
-        ensures count { count self.new ≡ counted (count self.old) 1 }
-        ensures holder { same_holder self.old self.new };
-
-    ghost same_holder_refl: { (a : Self) → same_holder a a };
-
-    ghost same_holder_trans: { (a b c : Self) → same_holder a b → same_holder b c → same_holder a c };
-}
-
-/// The counter by value: its count and its holder stay in registers in the loops.
-impl<C: Cells> CountedCells for Writes<C> {
+/// Each put is one of the counter's holder, and counted.
+impl<C: Cells> Cells for Writes<C> {
     type Item = C::Item;
 
     ghost items = { λ m. C.items m.holder };
 
-    ghost count = { λ m. m.count };
-
-    ghost same_holder = { λ a b. C.same_holder a.holder b.holder };
+    ghost same_holder = { λ n a b. (b.count ≡ counted a.count n) × C.same_holder n a.holder b.holder };
 
     fn len(&self) -> usize {
         Writes::len(self)
@@ -313,31 +184,7 @@ impl<C: Cells> CountedCells for Writes<C> {
         Writes::put(self, i, v);
     }
 
-    ghost same_holder_refl = { λ a. C.same_holder_refl a.holder };
+    ghost same_holder_refl = { Prim.search rules };
 
-    ghost same_holder_trans = { λ a b c p q. C.same_holder_trans a.holder b.holder c.holder p q };
-}
-
-/// The counter of a caller: the count goes on.
-impl<C: Cells> CountedCells for &mut Writes<C> {
-    type Item = C::Item;
-
-    ghost items = { λ m. C.items m.now.holder };
-
-    ghost count = { λ m. m.now.count };
-
-    ghost same_holder = { λ a b. (a.ghost_name ≡ b.ghost_name) × C.same_holder a.now.holder b.now.holder };
-
-    fn len(&self) -> usize {
-        Writes::len(self)
-    }
-
-    #[inline(always)]
-    fn put(&mut self, i: usize, v: Self::Item) {
-        Writes::put(self, i, v);
-    }
-
-    ghost same_holder_refl = { λ a. (refl, C.same_holder_refl a.now.holder) };
-
-    ghost same_holder_trans = { λ a b c p q. (p.0 ∙ q.0, C.same_holder_trans a.now.holder b.now.holder c.now.holder p.1 q.1) };
+    ghost same_holder_trans = { Prim.search rules };
 }

@@ -1,7 +1,7 @@
 //! A reference to a holder is a holder too.
 
 ghost use Rattle.std.specs.Prelude.{◌≡◌};
-ghost use Rattle.std.proofs.Common.{◌∙◌, refl};
+ghost use Rattle.std.proofs.Common.{rules};
 
 use crate::places::{Cells, Places, Source};
 
@@ -11,7 +11,7 @@ impl<S: Places> Places for &mut S {
 
     ghost items = { λ m. S.items m.now };
 
-    ghost same_holder = { λ a b. (a.ghost_name ≡ b.ghost_name) × S.same_holder a.now b.now };
+    ghost same_holder = { λ n a b. (a.ghost_name ≡ b.ghost_name) × S.same_holder n a.now b.now };
 
     fn len(&self) -> usize {
         S::len(self)
@@ -32,9 +32,9 @@ impl<S: Places> Places for &mut S {
         S::exchange_runs(self, i, j, len);
     }
 
-    ghost same_holder_refl = { λ a. (refl, S.same_holder_refl a.now) };
+    ghost same_holder_refl = { Prim.search rules };
 
-    ghost same_holder_trans = { λ a b c p q. (p.0 ∙ q.0, S.same_holder_trans a.now b.now c.now p.1 q.1) };
+    ghost same_holder_trans = { Prim.search rules };
 }
 
 /// The holder behind the reference is the holder.
@@ -43,7 +43,7 @@ impl<C: Cells> Cells for &mut C {
 
     ghost items = { λ m. C.items m.now };
 
-    ghost same_holder = { λ a b. (a.ghost_name ≡ b.ghost_name) × C.same_holder a.now b.now };
+    ghost same_holder = { λ n a b. (a.ghost_name ≡ b.ghost_name) × C.same_holder n a.now b.now };
 
     fn len(&self) -> usize {
         C::len(self)
@@ -54,9 +54,9 @@ impl<C: Cells> Cells for &mut C {
         C::put(self, i, v);
     }
 
-    ghost same_holder_refl = { λ a. (refl, C.same_holder_refl a.now) };
+    ghost same_holder_refl = { Prim.search rules };
 
-    ghost same_holder_trans = { λ a b c p q. (p.0 ∙ q.0, C.same_holder_trans a.now b.now c.now p.1 q.1) };
+    ghost same_holder_trans = { Prim.search rules };
 }
 
 /// The source behind the reference is the source.

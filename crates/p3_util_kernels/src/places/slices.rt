@@ -1,7 +1,7 @@
 //! Slices as holders: their places, their cells and what they are read from.
 
 ghost use Rattle.std.specs.Prelude.{◌≡◌, ℕ, ◌+◌, ◌-◌, ◌*◌, ◌<◌, ◌≤◌, ◌⊎◌, ◌++◌, length, swap};
-ghost use Rattle.std.proofs.Common.{refl, ◌∙◌};
+ghost use Rattle.std.proofs.Common.{rules};
 ghost use Rattle.p3_util_kernels.specs.Exchanged.{RunsExchanged};
 
 use crate::places::{Cells, Places, Source};
@@ -26,7 +26,7 @@ impl<'a, F> Places for SlicePlaces<'a, F> {
 
     ghost items = { λ s. s.items.now };
 
-    ghost same_holder = { λ a b. a.items.ghost_name ≡ b.items.ghost_name };
+    ghost same_holder = { λ n a b. a.items.ghost_name ≡ b.items.ghost_name };
 
     fn len(&self) -> usize {
         <[F]>::len(self.items)
@@ -47,9 +47,9 @@ impl<'a, F> Places for SlicePlaces<'a, F> {
         swap_runs(self.items, i, j, len);
     }
 
-    ghost same_holder_refl = { λ a. refl };
+    ghost same_holder_refl = { Prim.search rules };
 
-    ghost same_holder_trans = { λ a b c p q. p ∙ q };
+    ghost same_holder_trans = { Prim.search rules };
 }
 
 /// A slice behind a reference. It goes by value through a kernel, so that its address stays in registers. What it holds is
@@ -59,7 +59,7 @@ impl<F> Places for &mut [F] {
 
     ghost items = { λ s. s.now };
 
-    ghost same_holder = { λ a b. a.ghost_name ≡ b.ghost_name };
+    ghost same_holder = { λ n a b. a.ghost_name ≡ b.ghost_name };
 
     fn len(&self) -> usize {
         <[F]>::len(self)
@@ -80,9 +80,9 @@ impl<F> Places for &mut [F] {
         swap_runs(self, i, j, len);
     }
 
-    ghost same_holder_refl = { λ a. refl };
+    ghost same_holder_refl = { Prim.search rules };
 
-    ghost same_holder_trans = { λ a b c p q. p ∙ q };
+    ghost same_holder_trans = { Prim.search rules };
 }
 
 /// Exchanges the items at places `i` and `j`, with no test of their order.
@@ -129,7 +129,7 @@ impl<'a, T: Copy> Cells for SliceCells<'a, T> {
 
     ghost items = { λ s. s.values.now };
 
-    ghost same_holder = { λ a b. a.values.ghost_name ≡ b.values.ghost_name };
+    ghost same_holder = { λ n a b. a.values.ghost_name ≡ b.values.ghost_name };
 
     fn len(&self) -> usize {
         <[T]>::len(self.values)
@@ -140,9 +140,9 @@ impl<'a, T: Copy> Cells for SliceCells<'a, T> {
         self.values[i] = v;
     }
 
-    ghost same_holder_refl = { λ a. refl };
+    ghost same_holder_refl = { Prim.search rules };
 
-    ghost same_holder_trans = { λ a b c p q. p ∙ q };
+    ghost same_holder_trans = { Prim.search rules };
 }
 
 /// A slice behind a reference, as it is for places.
@@ -151,7 +151,7 @@ impl<T: Copy> Cells for &mut [T] {
 
     ghost items = { λ s. s.now };
 
-    ghost same_holder = { λ a b. a.ghost_name ≡ b.ghost_name };
+    ghost same_holder = { λ n a b. a.ghost_name ≡ b.ghost_name };
 
     fn len(&self) -> usize {
         <[T]>::len(self)
@@ -162,9 +162,9 @@ impl<T: Copy> Cells for &mut [T] {
         self[i] = v;
     }
 
-    ghost same_holder_refl = { λ a. refl };
+    ghost same_holder_refl = { Prim.search rules };
 
-    ghost same_holder_trans = { λ a b c p q. p ∙ q };
+    ghost same_holder_trans = { Prim.search rules };
 }
 
 /// The items of a slice, to be read.

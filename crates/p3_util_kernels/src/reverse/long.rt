@@ -5,39 +5,39 @@
 //! passes over rows, which are the chunks, reverse the bits of the row; the transposes between them exchange row and column.
 
 ghost use Rattle.std.specs.Prelude.{◌≡◌, ℕ, ◌+◌, ◌-◌, ◌*◌, ◌/◌, ◌^◌, ◌≤◌, length};
+ghost use Rattle.p3_util_kernels.specs.Levels.{clog};
 ghost use Rattle.p3_util_kernels.specs.Reversal.{IsReversal, IsReversible};
-ghost use Rattle.p3_util_kernels.specs.Steps.{RoseByAtMost, Stepped, counted};
-ghost use Rattle.p3_util_kernels.specs.SwapCounts.{long_swaps, short_swaps, square_swaps};
+ghost use Rattle.p3_util_kernels.specs.Steps.{counted};
+ghost use Rattle.p3_util_kernels.specs.SwapCounts.{long_swaps, square_swaps};
 ghost use Rattle.p3_util_kernels.specs.Squares.{AreTransposed};
 
-use crate::bits::log2_strict_usize;
-use crate::places::{CountedPlaces, Places, Swaps};
+use crate::bits::{log2_strict_usize, pow2};
+use crate::places::{Places, Swaps};
 use crate::reverse::rows::reverse_chunks;
 use crate::transpose::transpose_square;
 
 /// Reverses `m` by index bits, as [`reverse_slice_index_bits`](crate::reverse::reverse_slice_index_bits) does, by chunks
 /// and squares. The length is a power of two, and at least 4. It makes at most 3n/2 swaps at length n: more than
 /// [`reverse_index_bits_short`](crate::reverse::reverse_index_bits_short), and in an order that suits lists beyond the caches.
+#[tactic(auto, using(crate::proofs::SwapCounts::long_bound))]
 pub fn reverse_index_bits_long<S: Places>(m: &mut Swaps<S>)
     requires fits { IsReversible (length (S.items m.old.holder)) }
     requires not_short { 4 ≤ length (S.items m.old.holder) }
     ensures order { IsReversal (S.items m.old.holder) (S.items m.new.holder) }
-    ensures count { RoseByAtMost m.old.count m.new.count (3 * length (S.items m.old.holder) / 2) }
-    ensures exact { (k : ℕ) → length (S.items m.old.holder) ≡ 2 ^ k → m.new.count ≡ counted m.old.count (long_swaps k) }
-    ensures holder { S.same_holder m.old.holder m.new.holder }
+    ensures count { m.new.count ≡ counted m.old.count (long_swaps (clog (length (S.items m.old.holder)))) }
+    ensures bound { let n = length (S.items m.old.holder) in long_swaps (clog n) ≤ 3 * n / 2 }
+    ensures holder { S.same_holder (long_swaps (clog (length (S.items m.old.holder)))) m.old.holder m.new.holder }
 {
-    let _ = reverse_long(m);
+    m.count = reverse_long(Swaps::resumed(&mut m.holder, m.count)).swaps();
 }
 
 /// The kernel of [`reverse_index_bits_long`].
 #[inline(never)]
-pub fn reverse_long<M: CountedPlaces>(m: M) -> M
+pub fn reverse_long<M: Places>(m: M) -> M
     requires fits { IsReversible (length (M.items m)) }
     requires not_short { 4 ≤ length (M.items m) }
     ensures order { IsReversal (M.items m) (M.items result) }
-    ensures count { RoseByAtMost (M.count m) (M.count result) (3 * length (M.items m) / 2) }
-    ensures exact { (k : ℕ) → length (M.items m) ≡ 2 ^ k → M.count result ≡ counted (M.count m) (long_swaps k) }
-    ensures holder { M.same_holder m result }
+    ensures holder { M.same_holder (long_swaps (clog (length (M.items m)))) m result }
 {
     let bits = log2_strict_usize(m.len());
     let half = bits / 2;
@@ -48,16 +48,16 @@ pub fn reverse_long<M: CountedPlaces>(m: M) -> M
 
 /// Transposes each of the squares of `2^log_size` rows and columns that lie side by side, where `m` is `2^log_size` rows of
 /// `2^log_stride` items. It makes at most n/2 swaps at length n.
-fn transpose_squares<M: CountedPlaces>(m: M, log_stride: usize, log_size: usize) -> M
+fn transpose_squares<M: Places>(m: M, log_stride: usize, log_size: usize) -> M
     requires within { log_size ≤ log_stride }
     requires whole { length (M.items m) ≡ 2 ^ (log_size + log_stride) }
     ensures transposed { AreTransposed (2 ^ (log_stride - log_size)) log_stride log_size (M.items m) (M.items result) }
-    ensures count { Stepped M.count M.same_holder (2 ^ (log_stride - log_size) * square_swaps (2 ^ log_size)) m result }
+    ensures holder { M.same_holder (2 ^ (log_stride - log_size) * square_swaps (2 ^ log_size)) m result }
 {
-    // Its contract says that the length is a usize and the count a u128.
+    // Its contract says that the length is a usize.
     let _ = m.len();
-    let side = 1 << log_size;
-    let squares = 1 << (log_stride - log_size);
+    let side = pow2(log_size);
+    let squares = pow2(log_stride - log_size);
     let mut m = m;
     for square in 0..squares {
         m = transpose_square(m, square * side, log_stride, log_size);

@@ -16,12 +16,13 @@ ghost use Rattle.std.specs.Prelude.{◌≡◌, ℕ, ◌+◌, ◌*◌, ◌/◌, �
 ghost use Rattle.p3_util_kernels.specs.Crossing.{HoldsRows, IsCrossed, row_of, turn_of};
 ghost use Rattle.p3_util_kernels.specs.Digits.{rev};
 ghost use Rattle.p3_util_kernels.specs.Exchanged.{RunsExchanged};
+ghost use Rattle.p3_util_kernels.specs.Levels.{clog};
 ghost use Rattle.p3_util_kernels.specs.Reversal.{FitsRows, IsRowReversal};
-ghost use Rattle.p3_util_kernels.specs.Steps.{RoseByAtMost, Stepped, counted};
+ghost use Rattle.p3_util_kernels.specs.Steps.{counted};
 ghost use Rattle.p3_util_kernels.specs.SwapCounts.{short_swaps};
 
-use crate::bits::{log2_strict_usize, reverse_bits_len};
-use crate::places::{CountedPlaces, Places, Swaps};
+use crate::bits::{log2_strict_usize, pow2, reverse_bits_len};
+use crate::places::{Places, Swaps};
 
 /// Each number below 64 with its six binary digits in reversed order.
 static REVERSED_SIX: [u8; 64] = [
@@ -34,40 +35,38 @@ static REVERSED_SIX: [u8; 64] = [
 /// has the k bits of `r` in reversed order. The number of rows is zero or a power of two, which [`fits_rows`] tests.
 ///
 /// [`fits_rows`]: crate::reverse::fits_rows
+#[tactic(auto, using(crate::proofs::SwapCounts::rows_bound))]
 pub fn reverse_row_index_bits_on<S: Places>(m: &mut Swaps<S>, row_width: usize)
     requires { FitsRows (length (S.items m.old.holder)) row_width }
     ensures order { IsRowReversal row_width (S.items m.old.holder) (S.items m.new.holder) }
-    ensures count { RoseByAtMost m.old.count m.new.count (length (S.items m.old.holder) / 2) }
-    ensures exact { (k : ℕ) → length (S.items m.old.holder) ≡ row_width * 2 ^ k
-        → m.new.count ≡ counted m.old.count (row_width * short_swaps k) }
-    ensures empty { length (S.items m.old.holder) ≡ 0 → m.new.count ≡ m.old.count }
-    ensures holder { S.same_holder m.old.holder m.new.holder }
+    ensures count { m.new.count ≡ counted m.old.count (row_width * short_swaps (clog (length (S.items m.old.holder) / row_width))) }
+    ensures bound { let n = length (S.items m.old.holder) in row_width * short_swaps (clog (n / row_width)) ≤ n / 2 }
+    ensures holder { S.same_holder (row_width * short_swaps (clog (length (S.items m.old.holder) / row_width)))
+        m.old.holder m.new.holder }
 {
-    let _ = reverse_rows(m, row_width);
+    m.count = reverse_rows(Swaps::resumed(&mut m.holder, m.count), row_width).swaps();
 }
 
 /// Reverses the order of the `2^lb_num_chunks` chunks of `2^lb_chunk_size` items: with both lengths written as h and c,
 /// place `i` gets the item from `rev(h, i / 2^c) * 2^c + i mod 2^c`. The length is `2^(h + c)`. It makes at most n/2 swaps.
+#[tactic(auto, using(crate::proofs::SwapCounts::chunks_bound))]
 pub fn reverse_chunks_on<S: Places>(m: &mut Swaps<S>, lb_num_chunks: usize, lb_chunk_size: usize)
     requires { length (S.items m.old.holder) ≡ 2 ^ (lb_num_chunks + lb_chunk_size) }
     ensures order { IsRowReversal (2 ^ lb_chunk_size) (S.items m.old.holder) (S.items m.new.holder) }
-    ensures count { RoseByAtMost m.old.count m.new.count (length (S.items m.old.holder) / 2) }
-    ensures exact { m.new.count ≡ counted m.old.count (short_swaps lb_num_chunks * 2 ^ lb_chunk_size) }
-    ensures holder { S.same_holder m.old.holder m.new.holder }
+    ensures count { m.new.count ≡ counted m.old.count (short_swaps lb_num_chunks * 2 ^ lb_chunk_size) }
+    ensures bound { short_swaps lb_num_chunks * 2 ^ lb_chunk_size ≤ length (S.items m.old.holder) / 2 }
+    ensures holder { S.same_holder (short_swaps lb_num_chunks * 2 ^ lb_chunk_size) m.old.holder m.new.holder }
 {
-    let _ = reverse_chunks(m, lb_num_chunks, lb_chunk_size);
+    let counter = Swaps::resumed(&mut m.holder, m.count);
+    m.count = reverse_chunks(counter, lb_num_chunks, lb_chunk_size).swaps();
 }
 
 /// The kernel of [`reverse_row_index_bits_on`].
 #[inline(always)]
-pub fn reverse_rows<M: CountedPlaces>(m: M, row_width: usize) -> M
+pub fn reverse_rows<M: Places>(m: M, row_width: usize) -> M
     requires { FitsRows (length (M.items m)) row_width }
     ensures order { IsRowReversal row_width (M.items m) (M.items result) }
-    ensures count { RoseByAtMost (M.count m) (M.count result) (length (M.items m) / 2) }
-    ensures exact { (k : ℕ) → length (M.items m) ≡ row_width * 2 ^ k
-        → M.count result ≡ counted (M.count m) (row_width * short_swaps k) }
-    ensures empty { length (M.items m) ≡ 0 → M.count result ≡ M.count m }
-    ensures holder { M.same_holder m result }
+    ensures holder { M.same_holder (row_width * short_swaps (clog (length (M.items m) / row_width))) m result }
 {
     let len = m.len();
     if len == 0 {
@@ -85,32 +84,27 @@ pub fn reverse_rows<M: CountedPlaces>(m: M, row_width: usize) -> M
 
 /// The kernel of [`reverse_chunks_on`].
 #[inline(always)]
-pub fn reverse_chunks<M: CountedPlaces>(m: M, log_chunks: usize, log_size: usize) -> M
+pub fn reverse_chunks<M: Places>(m: M, log_chunks: usize, log_size: usize) -> M
     requires { length (M.items m) ≡ 2 ^ (log_chunks + log_size) }
     ensures order { IsRowReversal (2 ^ log_size) (M.items m) (M.items result) }
-    ensures count { RoseByAtMost (M.count m) (M.count result) (length (M.items m) / 2) }
-    ensures exact { M.count result ≡ counted (M.count m) (short_swaps log_chunks * 2 ^ log_size) }
-    ensures holder { M.same_holder m result }
+    ensures holder { M.same_holder (short_swaps log_chunks * 2 ^ log_size) m result }
 {
     // Its contract says that the length is a usize.
     let _ = m.len();
-    reverse_rows(m, 1 << log_size)
+    reverse_rows(m, pow2(log_size))
 }
 
 /// Exchanges all pairs of the rows, whose indices have `digits` digits.
 #[inline(always)]
-fn exchange_pairs<M: CountedPlaces>(m: M, row_width: usize, digits: usize) -> M
+fn exchange_pairs<M: Places>(m: M, row_width: usize, digits: usize) -> M
     requires several { 2 ≤ digits }
-    requires ready { HoldsRows row_width digits (M.items m) (M.count m) }
+    requires ready { HoldsRows row_width digits (M.items m) }
     ensures order { IsRowReversal row_width (M.items m) (M.items result) }
-    ensures count { RoseByAtMost (M.count m) (M.count result) (length (M.items m) / 2) }
-    ensures exact { (k : ℕ) → length (M.items m) ≡ row_width * 2 ^ k
-        → M.count result ≡ counted (M.count m) (row_width * short_swaps k) }
-    ensures holder { M.same_holder m result }
+    ensures holder { M.same_holder (row_width * short_swaps digits) m result }
 {
     let half = digits / 2;
-    let lines = 1 << (digits - half);
-    let side = 1 << half;
+    let lines = pow2(digits - half);
+    let side = pow2(half);
     let mut m = m;
     for two in 0..lines / 2 {
         let line = two * 2;
@@ -121,21 +115,15 @@ fn exchange_pairs<M: CountedPlaces>(m: M, row_width: usize, digits: usize) -> M
 
 /// Exchanges the pairs of rows of one middle digit and of `y` and `y + 1`, with each `x` below them.
 #[inline(always)]
-fn exchange_lines<M: CountedPlaces>(
-    m: M,
-    row_width: usize,
-    digits: usize,
-    middle: usize,
-    y: usize,
-) -> M
+fn exchange_lines<M: Places>(m: M, row_width: usize, digits: usize, middle: usize, y: usize) -> M
     requires middle { middle < 2 ^ (digits % 2) }
     requires even { y % 2 ≡ 0 }
     requires y { y + 1 < 2 ^ (digits / 2) }
-    requires ready { HoldsRows row_width digits (M.items m) (M.count m) }
+    requires ready { HoldsRows row_width digits (M.items m) }
     ensures crossed { let two = (middle * 2 ^ (digits / 2) + y) / 2 in
         IsCrossed (digits / 2) (digits % 2) row_width (two * 2 ^ (digits / 2) * 2) ((two + 1) * 2 ^ (digits / 2) * 2)
         (M.items m) (M.items result) }
-    ensures count { Stepped M.count M.same_holder (row_width * (y + (y + 1))) m result }
+    ensures holder { M.same_holder (row_width * (y + (y + 1))) m result }
 {
     let mut m = m;
     for x in 0..y {
@@ -147,7 +135,7 @@ fn exchange_lines<M: CountedPlaces>(
 
 /// Exchanges the row of `x` and `y` with the row of `y` and `x`.
 #[inline(always)]
-fn exchange_pair<M: CountedPlaces>(
+fn exchange_pair<M: Places>(
     m: M,
     row_width: usize,
     digits: usize,
@@ -158,10 +146,10 @@ fn exchange_pair<M: CountedPlaces>(
     requires middle { middle < 2 ^ (digits % 2) }
     requires less { x < y }
     requires y { y < 2 ^ (digits / 2) }
-    requires ready { HoldsRows row_width digits (M.items m) (M.count m) }
+    requires ready { HoldsRows row_width digits (M.items m) }
     ensures crossed { let turn = turn_of (digits / 2) middle x y in
         IsCrossed (digits / 2) (digits % 2) row_width turn (turn + 1) (M.items m) (M.items result) }
-    ensures count { Stepped M.count M.same_holder row_width m result }
+    ensures holder { M.same_holder row_width m result }
 {
     let i = row_at(digits, middle, x, y);
     let j = row_at(digits, middle, y, x);
@@ -170,19 +158,19 @@ fn exchange_pair<M: CountedPlaces>(
 
 /// Exchanges rows `i` and `j`: as runs, where a row has several items.
 #[inline(always)]
-fn exchange_rows<M: CountedPlaces>(m: M, row_width: usize, i: usize, j: usize) -> M
+fn exchange_rows<M: Places>(m: M, row_width: usize, i: usize, j: usize) -> M
     requires apart { (i * row_width + row_width ≤ j * row_width) ⊎ (j * row_width + row_width ≤ i * row_width) }
     requires first { i * row_width + row_width ≤ length (M.items m) }
     requires second { j * row_width + row_width ≤ length (M.items m) }
     requires length_fits { length (M.items m) < 2 ^ 64 }
     ensures exchanged { RunsExchanged (i * row_width) (j * row_width) row_width (M.items m) (M.items result) }
-    ensures count { Stepped M.count M.same_holder row_width m result }
+    ensures holder { M.same_holder row_width m result }
 {
     let mut m = m;
     if row_width == 1 {
-        m.swap(i, j);
+        m.exchange(i, j);
     } else {
-        m.swap_runs(i * row_width, j * row_width, row_width);
+        m.exchange_runs(i * row_width, j * row_width, row_width);
     }
     m
 }
@@ -198,7 +186,7 @@ fn row_at(digits: usize, middle: usize, x: usize, y: usize) -> usize
     ensures below { result < 2 ^ digits }
 {
     let half = digits / 2;
-    reverse_digits(x, half) * (1 << (digits - half)) + (middle * (1 << half) + y)
+    reverse_digits(x, half) * pow2(digits - half) + (middle * pow2(half) + y)
 }
 
 /// `x` with its binary digits, of which it has `digits` at most, in reversed order. std's `reverse_bits` runs bit by bit, some

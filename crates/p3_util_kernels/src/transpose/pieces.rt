@@ -14,9 +14,8 @@
 ghost use Rattle.std.specs.Prelude.{◌≡◌, ◌+◌, ◌-◌, ◌*◌, ◌^◌, ◌<◌, ◌≤◌, length};
 ghost use Rattle.p3_util_kernels.specs.Pieces.{HasPiece, IsPiecePut, IsReady, below_of, right_of};
 ghost use Rattle.p3_util_kernels.specs.Region.{IsRegionTransposed, items_of};
-ghost use Rattle.p3_util_kernels.specs.Steps.{Stepped};
 
-use crate::places::{CountedCells, Source};
+use crate::places::{Cells, Source};
 use crate::transpose::regions::Region;
 
 /// The side of a tile.
@@ -104,7 +103,7 @@ impl Corner {
 
 /// Puts `region` by `pieces`.
 #[inline(always)]
-pub fn put_pieces<M: CountedCells, R: Source<Item = M::Item>>(
+pub fn put_pieces<M: Cells, R: Source<Item = M::Item>>(
     out: M,
     source: &R,
     region: Region,
@@ -112,9 +111,9 @@ pub fn put_pieces<M: CountedCells, R: Source<Item = M::Item>>(
     width: usize,
     height: usize,
 ) -> M
-    requires ready { IsReady region width height (R.items source.now) (M.items out) (M.count out) }
+    requires ready { IsReady region width height (R.items source.now) (M.items out) }
     ensures transposed { IsRegionTransposed region width height (R.items source.now) (M.items out) (M.items result) }
-    ensures count { Stepped M.count M.same_holder (items_of region) out result }
+    ensures holder { M.same_holder (items_of region) out result }
 {
     let mut out = out;
     let mut row = region.row_start;
@@ -129,7 +128,7 @@ pub fn put_pieces<M: CountedCells, R: Source<Item = M::Item>>(
 
 /// Puts a region that is one piece high.
 #[inline(always)]
-fn put_band<M: CountedCells, R: Source<Item = M::Item>>(
+fn put_band<M: Cells, R: Source<Item = M::Item>>(
     out: M,
     source: &R,
     region: Region,
@@ -138,9 +137,9 @@ fn put_band<M: CountedCells, R: Source<Item = M::Item>>(
     height: usize,
 ) -> M
     requires some_rows { region.row_start < region.row_end }
-    requires ready { IsReady region width height (R.items source.now) (M.items out) (M.count out) }
+    requires ready { IsReady region width height (R.items source.now) (M.items out) }
     ensures transposed { IsRegionTransposed region width height (R.items source.now) (M.items out) (M.items result) }
-    ensures count { Stepped M.count M.same_holder (items_of region) out result }
+    ensures holder { M.same_holder (items_of region) out result }
 {
     let mut out = out;
     let mut col = region.col_start;
@@ -155,7 +154,7 @@ fn put_band<M: CountedCells, R: Source<Item = M::Item>>(
 
 /// Puts a region as one piece: a whole tile by its blocks, all else column after column.
 #[inline(always)]
-fn put_piece<M: CountedCells, R: Source<Item = M::Item>>(
+fn put_piece<M: Cells, R: Source<Item = M::Item>>(
     out: M,
     source: &R,
     region: Region,
@@ -165,9 +164,9 @@ fn put_piece<M: CountedCells, R: Source<Item = M::Item>>(
 ) -> M
     requires some_rows { region.row_start < region.row_end }
     requires some_cols { region.col_start < region.col_end }
-    requires ready { IsReady region width height (R.items source.now) (M.items out) (M.count out) }
+    requires ready { IsReady region width height (R.items source.now) (M.items out) }
     ensures transposed { IsRegionTransposed region width height (R.items source.now) (M.items out) (M.items result) }
-    ensures count { Stepped M.count M.same_holder (items_of region) out result }
+    ensures holder { M.same_holder (items_of region) out result }
 {
     let (rows, cols) = (region.rows(), region.cols());
     let at = Corner {
@@ -184,7 +183,7 @@ fn put_piece<M: CountedCells, R: Source<Item = M::Item>>(
 
 /// Puts a piece column after column.
 #[inline(always)]
-fn put_columns<M: CountedCells, R: Source<Item = M::Item>>(
+fn put_columns<M: Cells, R: Source<Item = M::Item>>(
     out: M,
     source: &R,
     at: Corner,
@@ -192,9 +191,9 @@ fn put_columns<M: CountedCells, R: Source<Item = M::Item>>(
     cols: usize,
 ) -> M
     requires some_rows { 0 < rows }
-    requires piece { HasPiece rows cols at (R.items source.now) (M.items out) (M.count out) }
+    requires piece { HasPiece rows cols at (R.items source.now) (M.items out) }
     ensures put { IsPiecePut rows cols at (R.items source.now) (M.items out) (M.items result) }
-    ensures count { Stepped M.count M.same_holder (rows * cols) out result }
+    ensures holder { M.same_holder (rows * cols) out result }
 {
     let mut out = out;
     for k in 0..cols {
@@ -205,15 +204,10 @@ fn put_columns<M: CountedCells, R: Source<Item = M::Item>>(
 
 /// Puts one column of a piece, some items in a loop of known length, and then those that are left.
 #[inline(always)]
-fn put_column<M: CountedCells, R: Source<Item = M::Item>>(
-    out: M,
-    source: &R,
-    at: Corner,
-    rows: usize,
-) -> M
-    requires piece { HasPiece rows 1 at (R.items source.now) (M.items out) (M.count out) }
+fn put_column<M: Cells, R: Source<Item = M::Item>>(out: M, source: &R, at: Corner, rows: usize) -> M
+    requires piece { HasPiece rows 1 at (R.items source.now) (M.items out) }
     ensures put { IsPiecePut rows 1 at (R.items source.now) (M.items out) (M.items result) }
-    ensures count { Stepped M.count M.same_holder rows out result }
+    ensures holder { M.same_holder rows out result }
 {
     let mut out = out;
     for group in 0..rows / COLUMN_ITEMS {
@@ -228,15 +222,10 @@ fn put_column<M: CountedCells, R: Source<Item = M::Item>>(
 
 /// Puts one column of a piece, in a loop that is short or of known length.
 #[inline(always)]
-fn put_items<M: CountedCells, R: Source<Item = M::Item>>(
-    out: M,
-    source: &R,
-    at: Corner,
-    rows: usize,
-) -> M
-    requires piece { HasPiece rows 1 at (R.items source.now) (M.items out) (M.count out) }
+fn put_items<M: Cells, R: Source<Item = M::Item>>(out: M, source: &R, at: Corner, rows: usize) -> M
+    requires piece { HasPiece rows 1 at (R.items source.now) (M.items out) }
     ensures put { IsPiecePut rows 1 at (R.items source.now) (M.items out) (M.items result) }
-    ensures count { Stepped M.count M.same_holder rows out result }
+    ensures holder { M.same_holder rows out result }
 {
     let mut out = out;
     for t in 0..rows {
@@ -247,10 +236,10 @@ fn put_items<M: CountedCells, R: Source<Item = M::Item>>(
 
 /// Puts a tile: its columns of blocks, one after another.
 #[inline(always)]
-fn put_tile<M: CountedCells, R: Source<Item = M::Item>>(out: M, source: &R, at: Corner) -> M
-    requires piece { HasPiece TILE_SIDE TILE_SIDE at (R.items source.now) (M.items out) (M.count out) }
+fn put_tile<M: Cells, R: Source<Item = M::Item>>(out: M, source: &R, at: Corner) -> M
+    requires piece { HasPiece TILE_SIDE TILE_SIDE at (R.items source.now) (M.items out) }
     ensures put { IsPiecePut TILE_SIDE TILE_SIDE at (R.items source.now) (M.items out) (M.items result) }
-    ensures count { Stepped M.count M.same_holder (TILE_SIDE * TILE_SIDE) out result }
+    ensures holder { M.same_holder (TILE_SIDE * TILE_SIDE) out result }
 {
     let mut out = out;
     for block in 0..TILE_SIDE / BLOCK_SIDE {
@@ -261,10 +250,10 @@ fn put_tile<M: CountedCells, R: Source<Item = M::Item>>(out: M, source: &R, at: 
 
 /// Puts the blocks of a tile that lie one below another.
 #[inline(always)]
-fn put_blocks<M: CountedCells, R: Source<Item = M::Item>>(out: M, source: &R, at: Corner) -> M
-    requires piece { HasPiece TILE_SIDE BLOCK_SIDE at (R.items source.now) (M.items out) (M.count out) }
+fn put_blocks<M: Cells, R: Source<Item = M::Item>>(out: M, source: &R, at: Corner) -> M
+    requires piece { HasPiece TILE_SIDE BLOCK_SIDE at (R.items source.now) (M.items out) }
     ensures put { IsPiecePut TILE_SIDE BLOCK_SIDE at (R.items source.now) (M.items out) (M.items result) }
-    ensures count { Stepped M.count M.same_holder (TILE_SIDE * BLOCK_SIDE) out result }
+    ensures holder { M.same_holder (TILE_SIDE * BLOCK_SIDE) out result }
 {
     let mut out = out;
     for block in 0..TILE_SIDE / BLOCK_SIDE {
@@ -275,10 +264,10 @@ fn put_blocks<M: CountedCells, R: Source<Item = M::Item>>(out: M, source: &R, at
 
 /// Puts a block row after row.
 #[inline(always)]
-fn put_block<M: CountedCells, R: Source<Item = M::Item>>(out: M, source: &R, at: Corner) -> M
-    requires piece { HasPiece BLOCK_SIDE BLOCK_SIDE at (R.items source.now) (M.items out) (M.count out) }
+fn put_block<M: Cells, R: Source<Item = M::Item>>(out: M, source: &R, at: Corner) -> M
+    requires piece { HasPiece BLOCK_SIDE BLOCK_SIDE at (R.items source.now) (M.items out) }
     ensures put { IsPiecePut BLOCK_SIDE BLOCK_SIDE at (R.items source.now) (M.items out) (M.items result) }
-    ensures count { Stepped M.count M.same_holder (BLOCK_SIDE * BLOCK_SIDE) out result }
+    ensures holder { M.same_holder (BLOCK_SIDE * BLOCK_SIDE) out result }
 {
     let mut out = out;
     for t in 0..BLOCK_SIDE {
@@ -289,10 +278,10 @@ fn put_block<M: CountedCells, R: Source<Item = M::Item>>(out: M, source: &R, at:
 
 /// Puts a row of a block.
 #[inline(always)]
-fn put_row<M: CountedCells, R: Source<Item = M::Item>>(out: M, source: &R, at: Corner) -> M
-    requires piece { HasPiece 1 BLOCK_SIDE at (R.items source.now) (M.items out) (M.count out) }
+fn put_row<M: Cells, R: Source<Item = M::Item>>(out: M, source: &R, at: Corner) -> M
+    requires piece { HasPiece 1 BLOCK_SIDE at (R.items source.now) (M.items out) }
     ensures put { IsPiecePut 1 BLOCK_SIDE at (R.items source.now) (M.items out) (M.items result) }
-    ensures count { Stepped M.count M.same_holder BLOCK_SIDE out result }
+    ensures holder { M.same_holder BLOCK_SIDE out result }
 {
     let mut out = out;
     for k in 0..BLOCK_SIDE {

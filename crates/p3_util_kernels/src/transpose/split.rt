@@ -2,11 +2,12 @@
 
 ghost use Rattle.std.specs.Prelude.{◌≡◌, ◌+◌, ◌*◌, ◌/◌, ◌<◌, ◌≤◌, max, length};
 ghost use Rattle.std.specs.Bool.{MatchBool};
+ghost use Rattle.p3_util_kernels.specs.Halves.{AreHalves};
 ghost use Rattle.p3_util_kernels.specs.Levels.{lev, nest};
 ghost use Rattle.p3_util_kernels.specs.Region.{IsRegionTransposed, LiesInMatrix, cols_of, items_of, rows_of};
-ghost use Rattle.p3_util_kernels.specs.Steps.{Stepped, counted};
+ghost use Rattle.p3_util_kernels.specs.Steps.{counted};
 
-use crate::places::{Cells, CountedCells, SliceSource, Source, Writes};
+use crate::places::{Cells, SliceSource, Source, Writes};
 use crate::transpose::put_region;
 use crate::transpose::regions::Region;
 
@@ -38,7 +39,7 @@ pub fn transpose_split_on<C: Cells>(
     ensures count { out.new.count ≡ counted out.old.count (items_of region) }
     ensures nested { result ≡ nest (rows_of region) (cols_of region) }
     ensures bound { result ≤ 57 }
-    ensures holder { C.same_holder out.old.holder out.new.holder }
+    ensures holder { C.same_holder (items_of region) out.old.holder out.new.holder }
 {
     transpose_source_split_on(&SliceSource::new(input), out, region, width, height, levels)
 }
@@ -64,15 +65,56 @@ where
     ensures count { out.new.count ≡ counted out.old.count (items_of region) }
     ensures nested { result ≡ nest (rows_of region) (cols_of region) }
     ensures bound { result ≤ 57 }
-    ensures holder { C.same_holder out.old.holder out.new.holder }
+    ensures holder { C.same_holder (items_of region) out.old.holder out.new.holder }
 {
-    let (_, nested) = put_split(out, input, region, width, height, levels);
+    let (_, count, nested) = put_split_counted(
+        &mut out.holder,
+        out.count,
+        input,
+        region,
+        width,
+        height,
+        levels,
+    );
+    out.count = count;
     nested
+}
+
+/// Puts `region` by halves over a counter that goes on from `count`, and returns what it counted and how many splits are nested.
+fn put_split_counted<C: Cells, R: Source<Item = C::Item> + Copy>(
+    cells: C,
+    count: u128,
+    input: R,
+    region: Region,
+    width: usize,
+    height: usize,
+    levels: u32,
+) -> (C, u128, u32)
+    requires input_fits { length (R.items input) ≡ width * height }
+    requires output_fits { length (C.items cells) ≡ width * height }
+    requires inside { LiesInMatrix region width height }
+    requires enough { lev (rows_of region) (cols_of region) ≤ levels }
+    ensures transposed { IsRegionTransposed region width height (R.items input) (C.items cells) (C.items result.0) }
+    ensures count { result.1 ≡ counted count (items_of region) }
+    ensures holder { C.same_holder (items_of region) cells result.0 }
+    ensures nested { result.2 ≡ nest (rows_of region) (cols_of region) }
+    ensures bound { result.2 ≤ 57 }
+{
+    let (done, nested) = put_split(
+        Writes::resumed(cells, count),
+        input,
+        region,
+        width,
+        height,
+        levels,
+    );
+    let count = done.writes();
+    (done.into_inner(), count, nested)
 }
 
 /// The kernel of [`transpose_source_split_on`]: puts `region` by halves, with at most `levels` levels, and returns how many
 /// splits are nested too.
-pub fn put_split<M: CountedCells, R: Source<Item = M::Item> + Copy>(
+pub fn put_split<M: Cells, R: Source<Item = M::Item> + Copy>(
     out: M,
     input: R,
     region: Region,
@@ -86,11 +128,11 @@ pub fn put_split<M: CountedCells, R: Source<Item = M::Item> + Copy>(
     requires enough { lev (rows_of region) (cols_of region) ≤ levels }
     ensures transposed { IsRegionTransposed region width height (R.items input)
         (M.items out) (M.items result.0) }
-    ensures count { Stepped M.count M.same_holder (items_of region) out result.0 }
+    ensures holder { M.same_holder (items_of region) out result.0 }
     ensures nested { result.1 ≡ nest (rows_of region) (cols_of region) }
     ensures bound { result.1 ≤ 57 }
 {
-    // Its contract says that the places fit a usize, and the count a u128.
+    // Its contract says that the places fit a usize.
     let _ = out.len();
     if is_leaf(region) {
         return (put_region(out, input, region, width, height), 0);
@@ -117,10 +159,9 @@ fn is_leaf(region: Region) -> bool
 fn halves(region: Region) -> (Region, Region)
     requires rows_in_order { region.row_start ≤ region.row_end }
     requires cols_in_order { region.col_start ≤ region.col_end }
-    ensures rows { cols_of region ≤ rows_of region → let middle = region.row_start + rows_of region / 2 in
-        result ≡ (record region { row_end = middle }, record region { row_start = middle }) }
-    ensures cols { rows_of region < cols_of region → let middle = region.col_start + cols_of region / 2 in
-        result ≡ (record region { col_end = middle }, record region { col_start = middle }) }
+    requires large { let rows = rows_of region in let cols = cols_of region in
+        (NARROW_SIDE < rows) × (NARROW_SIDE < cols) × (LEAF_SIDE < max rows cols) }
+    ensures { AreHalves region result.0 result.1 }
 {
     let (rows, cols) = (region.rows(), region.cols());
     if rows >= cols {

@@ -6,9 +6,10 @@
 ghost use Rattle.std.specs.Prelude.{◌≡◌, ℕ, ◌+◌, ◌-◌, ◌*◌, ◌/◌, ◌^◌, ◌<◌, ◌≤◌, length};
 ghost use Rattle.p3_util_kernels.specs.Diagonal.{HoldsSquare, SwapsAcross};
 ghost use Rattle.p3_util_kernels.specs.Square.{IsSquareTransposed};
-ghost use Rattle.p3_util_kernels.specs.Steps.{Stepped, counted};
+ghost use Rattle.p3_util_kernels.specs.Steps.{counted};
 
-use crate::places::{CountedPlaces, Places, Swaps};
+use crate::bits::pow2;
+use crate::places::{Places, Swaps};
 
 /// The greatest numbers of rows and columns of a block that is exchanged item by item.
 const LEAF_ROWS: usize = 16;
@@ -29,13 +30,14 @@ pub fn transpose_square_on<S: Places>(
         base + (s - 1) * 2 ^ log_stride + (s - 1) < length (S.items m.old.holder) }
     ensures transposed { IsSquareTransposed base log_stride log_size (S.items m.old.holder) (S.items m.new.holder) }
     ensures count { let s = 2 ^ log_size in m.new.count ≡ counted m.old.count (s * (s - 1) / 2) }
-    ensures holder { S.same_holder m.old.holder m.new.holder }
+    ensures holder { let s = 2 ^ log_size in S.same_holder (s * (s - 1) / 2) m.old.holder m.new.holder }
 {
-    let _ = transpose_square(m, base, log_stride, log_size);
+    let counter = Swaps::resumed(&mut m.holder, m.count);
+    m.count = transpose_square(counter, base, log_stride, log_size).swaps();
 }
 
 /// The kernel of [`transpose_square_on`].
-pub(crate) fn transpose_square<M: CountedPlaces>(
+pub(crate) fn transpose_square<M: Places>(
     m: M,
     base: usize,
     log_stride: usize,
@@ -45,25 +47,19 @@ pub(crate) fn transpose_square<M: CountedPlaces>(
     requires stride_fits { log_stride < 64 }
     requires room { let s = 2 ^ log_size in base + (s - 1) * 2 ^ log_stride + (s - 1) < length (M.items m) }
     ensures transposed { IsSquareTransposed base log_stride log_size (M.items m) (M.items result) }
-    ensures count { let s = 2 ^ log_size in Stepped M.count M.same_holder (s * (s - 1) / 2) m result }
+    ensures holder { let s = 2 ^ log_size in M.same_holder (s * (s - 1) / 2) m result }
 {
-    // Its contract says that the length is a usize and the count a u128.
+    // Its contract says that the length is a usize.
     let _ = m.len();
-    transpose_part(m, base, 1 << log_stride, 0, 1 << log_size)
+    transpose_part(m, base, pow2(log_stride), 0, pow2(log_size))
 }
 
 /// Transposes the `size` rows and columns from row and column `start` on, by quadrants.
-fn transpose_part<M: CountedPlaces>(
-    m: M,
-    base: usize,
-    stride: usize,
-    start: usize,
-    size: usize,
-) -> M
+fn transpose_part<M: Places>(m: M, base: usize, stride: usize, start: usize, size: usize) -> M
     requires within { start + size ≤ stride }
-    requires ready { HoldsSquare base stride (start + size - 1) (M.items m) (M.count m) }
+    requires ready { HoldsSquare base stride (start + size - 1) (M.items m) }
     ensures swapped { SwapsAcross base stride start (start + size) start (start + size) (M.items m) (M.items result) }
-    ensures count { Stepped M.count M.same_holder (size * (size - 1) / 2) m result }
+    ensures holder { M.same_holder (size * (size - 1) / 2) m result }
 {
     if size <= 1 {
         return m;
@@ -76,7 +72,7 @@ fn transpose_part<M: CountedPlaces>(
 
 /// Exchanges a block above the diagonal, `rows` rows from `row` on and `cols` columns from `col` on, with its mirror image
 /// below. A large block is halved: the rows where they are more than twice the columns, else the columns.
-fn swap_block<M: CountedPlaces>(
+fn swap_block<M: Places>(
     m: M,
     base: usize,
     stride: usize,
@@ -87,9 +83,9 @@ fn swap_block<M: CountedPlaces>(
 ) -> M
     requires above { row + rows ≤ col }
     requires within { col + cols ≤ stride }
-    requires ready { HoldsSquare base stride (col + cols - 1) (M.items m) (M.count m) }
+    requires ready { HoldsSquare base stride (col + cols - 1) (M.items m) }
     ensures swapped { SwapsAcross base stride row (row + rows) col (col + cols) (M.items m) (M.items result) }
-    ensures count { Stepped M.count M.same_holder (rows * cols) m result }
+    ensures holder { M.same_holder (rows * cols) m result }
 {
     if rows <= LEAF_ROWS && cols == LEAF_COLS {
         // The compiler knows how many columns most leaves have.
@@ -109,7 +105,7 @@ fn swap_block<M: CountedPlaces>(
 
 /// As [`swap_block`], row after row of the block above the diagonal.
 #[inline(always)]
-fn swap_leaf<M: CountedPlaces>(
+fn swap_leaf<M: Places>(
     m: M,
     base: usize,
     stride: usize,
@@ -120,9 +116,9 @@ fn swap_leaf<M: CountedPlaces>(
 ) -> M
     requires above { row + rows ≤ col }
     requires within { col + cols ≤ stride }
-    requires ready { HoldsSquare base stride (col + cols - 1) (M.items m) (M.count m) }
+    requires ready { HoldsSquare base stride (col + cols - 1) (M.items m) }
     ensures swapped { SwapsAcross base stride row (row + rows) col (col + cols) (M.items m) (M.items result) }
-    ensures count { Stepped M.count M.same_holder (rows * cols) m result }
+    ensures holder { M.same_holder (rows * cols) m result }
 {
     let mut m = m;
     for t in 0..rows {
@@ -133,23 +129,16 @@ fn swap_leaf<M: CountedPlaces>(
 
 /// Exchanges `cols` items of row `row` from column `col` on, which is right of the diagonal, with their mirror images.
 #[inline(always)]
-fn swap_row<M: CountedPlaces>(
-    m: M,
-    base: usize,
-    stride: usize,
-    row: usize,
-    col: usize,
-    cols: usize,
-) -> M
+fn swap_row<M: Places>(m: M, base: usize, stride: usize, row: usize, col: usize, cols: usize) -> M
     requires above { row < col }
     requires within { col + cols ≤ stride }
-    requires ready { HoldsSquare base stride (col + cols - 1) (M.items m) (M.count m) }
+    requires ready { HoldsSquare base stride (col + cols - 1) (M.items m) }
     ensures swapped { SwapsAcross base stride row (row + 1) col (col + cols) (M.items m) (M.items result) }
-    ensures count { Stepped M.count M.same_holder cols m result }
+    ensures holder { M.same_holder cols m result }
 {
     let mut m = m;
     for t in 0..cols {
-        m.swap_ordered(
+        m.exchange_ordered(
             base + row * stride + (col + t),
             base + (col + t) * stride + row,
         );

@@ -39,7 +39,7 @@ pub fn transpose_column<C: Cells>(
     ensures order { IsTranspose width height (column_of shape.width shape.height shape.column values.now)
         (C.items out.new.holder) }
     ensures count { out.new.count ≡ counted out.old.count (width * height) }
-    ensures holder { C.same_holder out.old.holder out.new.holder }
+    ensures holder { C.same_holder (width * height) out.old.holder out.new.holder }
 {
     transpose_source_on(&Column::new(values, shape), out, width, height);
 }

@@ -3,10 +3,11 @@
 //! the number of items is a product or a power, and the lemma is given its parts.
 
 ghost use Rattle.std.specs.Prelude.{◌≡◌, ℕ, ◌+◌, ◌-◌, ◌*◌, ◌/◌, ◌^◌, ◌<◌, ◌≤◌, length};
+ghost use Rattle.p3_util.specs.Levels.{clog};
 ghost use Rattle.p3_util.specs.Region.{IsRegionTransposed, LiesInMatrix, items_of};
 ghost use Rattle.p3_util.specs.Reversal.{IsReversal, IsReversible, IsZeroOrPowerOfTwo};
 ghost use Rattle.p3_util.specs.Squares.{AreTransposed};
-ghost use Rattle.p3_util.specs.Steps.{RoseByAtMost, counted};
+ghost use Rattle.p3_util.specs.Steps.{counted};
 ghost use Rattle.p3_util.specs.SwapCounts.{long_swaps, reversal_swaps, square_swaps};
 ghost use Rattle.p3_util.specs.Transpose.{IsTranspose};
 
@@ -26,7 +27,7 @@ pub fn transpose_as_region<C: Cells>(
     requires output_fits { length (C.items out.old.holder) ≡ width * height }
     ensures order { IsTranspose width height input.now (C.items out.new.holder) }
     ensures count { out.new.count ≡ counted out.old.count (width * height) }
-    ensures holder { C.same_holder out.old.holder out.new.holder }
+    ensures holder { C.same_holder (width * height) out.old.holder out.new.holder }
 {
     let whole = Region {
         row_start: 0,
@@ -41,9 +42,8 @@ pub fn transpose_as_region<C: Cells>(
 pub fn reverse_twice_on<S: Places>(m: &mut Swaps<S>)
     requires { IsZeroOrPowerOfTwo (length (S.items m.old.holder)) }
     ensures same { S.items m.new.holder ≡ S.items m.old.holder }
-    ensures count { (k : ℕ) → length (S.items m.old.holder) ≡ 2 ^ k
-        → m.new.count ≡ counted m.old.count (2 * reversal_swaps k) }
-    ensures holder { S.same_holder m.old.holder m.new.holder }
+    ensures count { m.new.count ≡ counted m.old.count (2 * reversal_swaps (length (S.items m.old.holder))) }
+    ensures holder { S.same_holder (2 * reversal_swaps (length (S.items m.old.holder))) m.old.holder m.new.holder }
 {
     reverse_index_bits_on(m);
     reverse_index_bits_on(m);
@@ -54,9 +54,8 @@ pub fn reverse_by_squares<S: Places>(m: &mut Swaps<S>)
     requires fits { IsReversible (length (S.items m.old.holder)) }
     requires not_short { 4 ≤ length (S.items m.old.holder) }
     ensures order { IsReversal (S.items m.old.holder) (S.items m.new.holder) }
-    ensures count { RoseByAtMost m.old.count m.new.count (3 * length (S.items m.old.holder) / 2) }
-    ensures exact { (k : ℕ) → length (S.items m.old.holder) ≡ 2 ^ k → m.new.count ≡ counted m.old.count (long_swaps k) }
-    ensures holder { S.same_holder m.old.holder m.new.holder }
+    ensures count { m.new.count ≡ counted m.old.count (long_swaps (clog (length (S.items m.old.holder)))) }
+    ensures holder { S.same_holder (long_swaps (clog (length (S.items m.old.holder)))) m.old.holder m.new.holder }
 {
     let bits = log2_strict_usize(m.len());
     let half = bits / 2;
@@ -75,7 +74,8 @@ fn transpose_squares<S: Places>(m: &mut Swaps<S>, log_stride: usize, log_size: u
         (S.items m.old.holder) (S.items m.new.holder) }
     ensures count { m.new.count
         ≡ counted m.old.count (2 ^ (log_stride - log_size) * square_swaps (2 ^ log_size)) }
-    ensures holder { S.same_holder m.old.holder m.new.holder }
+    ensures holder { S.same_holder (2 ^ (log_stride - log_size) * square_swaps (2 ^ log_size))
+        m.old.holder m.new.holder }
 {
     transpose_square_on(m, 0, log_stride, log_size);
     if log_size < log_stride {
@@ -91,7 +91,7 @@ pub fn transpose_twice_on<S: Places>(m: &mut Swaps<S>, log_size: usize)
     requires small { log_size < 64 }
     ensures same { S.items m.new.holder ≡ S.items m.old.holder }
     ensures count { m.new.count ≡ counted m.old.count (2 * square_swaps (2 ^ log_size)) }
-    ensures holder { S.same_holder m.old.holder m.new.holder }
+    ensures holder { S.same_holder (2 * square_swaps (2 ^ log_size)) m.old.holder m.new.holder }
 {
     transpose_whole_square(m, log_size);
     transpose_whole_square(m, log_size);
@@ -112,7 +112,7 @@ pub fn transpose_by_rows<C: Cells>(
     ensures transposed { IsRegionTransposed region width height input.now
         (C.items out.old.holder) (C.items out.new.holder) }
     ensures count { out.new.count ≡ counted out.old.count (items_of region) }
-    ensures holder { C.same_holder out.old.holder out.new.holder }
+    ensures holder { C.same_holder (items_of region) out.old.holder out.new.holder }
 {
     let middle = region.row_start.midpoint(region.row_end);
     let upper = Region {
@@ -141,7 +141,7 @@ pub fn transpose_by_columns<C: Cells>(
     ensures transposed { IsRegionTransposed region width height input.now
         (C.items out.old.holder) (C.items out.new.holder) }
     ensures count { out.new.count ≡ counted out.old.count (items_of region) }
-    ensures holder { C.same_holder out.old.holder out.new.holder }
+    ensures holder { C.same_holder (items_of region) out.old.holder out.new.holder }
 {
     let middle = region.col_start.midpoint(region.col_end);
     let left = Region {

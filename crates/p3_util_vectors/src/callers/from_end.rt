@@ -30,7 +30,7 @@ pub fn transpose_from_end<C: Cells>(
     requires output_fits { length (C.items out.old.holder) ≡ width * height }
     ensures order { IsTranspose width height (reverse values.now) (C.items out.new.holder) }
     ensures count { out.new.count ≡ counted out.old.count (width * height) }
-    ensures holder { C.same_holder out.old.holder out.new.holder }
+    ensures holder { C.same_holder (width * height) out.old.holder out.new.holder }
 {
     transpose_source_on(&FromEnd::new(values), out, width, height);
 }

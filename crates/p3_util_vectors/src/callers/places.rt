@@ -12,7 +12,7 @@ pub fn rotate_three<S: Places>(m: &mut Swaps<S>, i: usize, j: usize, k: usize)
     requires third { k < length (S.items m.old.holder) }
     ensures rotated { S.items m.new.holder ≡ swap (swap (S.items m.old.holder) i j) j k }
     ensures count { m.new.count ≡ counted m.old.count 2 }
-    ensures holder { S.same_holder m.old.holder m.new.holder }
+    ensures holder { S.same_holder 2 m.old.holder m.new.holder }
 {
     m.swap(i, j);
     m.swap(j, k);

@@ -56,7 +56,7 @@ pub fn transpose_whole_square<S: Places>(m: &mut Swaps<S>, log_size: usize)
     requires small { log_size < 64 }
     ensures order { IsTranspose (2 ^ log_size) (2 ^ log_size) (S.items m.old.holder) (S.items m.new.holder) }
     ensures count { m.new.count ≡ counted m.old.count (square_swaps (2 ^ log_size)) }
-    ensures holder { S.same_holder m.old.holder m.new.holder }
+    ensures holder { S.same_holder (square_swaps (2 ^ log_size)) m.old.holder m.new.holder }
 {
     transpose_square_on(m, 0, log_size, log_size);
 }

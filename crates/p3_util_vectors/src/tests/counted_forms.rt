@@ -30,7 +30,7 @@ impl Places for Tally {
 
     ghost items = { λ t. t.items.items };
 
-    ghost same_holder = { λ a b. Unit {0} };
+    ghost same_holder = { λ n a b. Unit {0} };
 
     fn len(&self) -> usize {
         self.items.len()
@@ -43,7 +43,7 @@ impl Places for Tally {
 
     ghost same_holder_refl = { λ a. tt };
 
-    ghost same_holder_trans = { λ a b c p q. tt };
+    ghost same_holder_trans = { λ m n all a b c p q e. tt };
 }
 
 impl Cells for Tally {
@@ -51,7 +51,7 @@ impl Cells for Tally {
 
     ghost items = { λ t. t.items.items };
 
-    ghost same_holder = { λ a b. Unit {0} };
+    ghost same_holder = { λ n a b. Unit {0} };
 
     fn len(&self) -> usize {
         self.items.len()
@@ -64,7 +64,7 @@ impl Cells for Tally {
 
     ghost same_holder_refl = { λ a. tt };
 
-    ghost same_holder_trans = { λ a b c p q. tt };
+    ghost same_holder_trans = { λ m n all a b c p q e. tt };
 }
 
 /// Both paths, and each list of few items.

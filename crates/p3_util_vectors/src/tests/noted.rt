@@ -51,7 +51,7 @@ impl Places for Noted {
 
     ghost items = { λ n. n.items.items };
 
-    ghost same_holder = { λ a b. Unit {0} };
+    ghost same_holder = { λ n a b. Unit {0} };
 
     fn len(&self) -> usize {
         self.items.len()
@@ -64,7 +64,7 @@ impl Places for Noted {
 
     ghost same_holder_refl = { λ a. tt };
 
-    ghost same_holder_trans = { λ a b c p q. tt };
+    ghost same_holder_trans = { λ m n all a b c p q e. tt };
 }
 
 impl Cells for Noted {
@@ -72,7 +72,7 @@ impl Cells for Noted {
 
     ghost items = { λ n. n.items.items };
 
-    ghost same_holder = { λ a b. Unit {0} };
+    ghost same_holder = { λ n a b. Unit {0} };
 
     fn len(&self) -> usize {
         self.items.len()
@@ -85,5 +85,5 @@ impl Cells for Noted {
 
     ghost same_holder_refl = { λ a. tt };
 
-    ghost same_holder_trans = { λ a b c p q. tt };
+    ghost same_holder_trans = { λ m n all a b c p q e. tt };
 }

@@ -127,7 +127,7 @@ impl<S: Places> Places for Runs<S> {
 
     ghost items = { λ r. S.items r.places };
 
-    ghost same_holder = { λ a b. S.same_holder a.places b.places };
+    ghost same_holder = { λ n a b. S.same_holder n a.places b.places };
 
     fn len(&self) -> usize {
         self.places.len()
@@ -145,7 +145,7 @@ impl<S: Places> Places for Runs<S> {
 
     ghost same_holder_refl = { λ a. S.same_holder_refl a.places };
 
-    ghost same_holder_trans = { λ a b c p q. S.same_holder_trans a.places b.places c.places p q };
+    ghost same_holder_trans = { λ m n all a b c p q e. S.same_holder_trans m n all a.places b.places c.places p q e };
 }
 
 /// Each two rows are one exchange of runs, also by way of a reference, and rows of one item one exchange of places.

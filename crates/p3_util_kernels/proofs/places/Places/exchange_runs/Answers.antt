@@ -1,4 +1,4 @@
-use Rattle.std.proofs.Common.{inl, inr, arith}
+use Rattle.std.proofs.Common.{inl, inr, refl, arith}
 use Rattle.p3_util_kernels.proofs.ExchangedRuns.{RunsExchanged-joined, RunsExchanged-one}
 use Rattle.p3_util_kernels.proofs.places.Places.exchange_runs.Goals as goal
 
@@ -7,5 +7,5 @@ loop-t-preserved g c = record {
   exchanged = RunsExchanged-joined c.args.i c.args.j c.loop-t.t 1 _ _ _
       (elim c.requires.apart [ inl up ↦ inl (omega arith) | inr down ↦ inr (omega arith) ]) c.loop-t.invariant.exchanged
       (RunsExchanged-one _ _ _ _ (omega arith) (omega arith) c.exchange.ensures.exchanged);
-  holder = g.met.Self.Places.same_holder_trans _ _ _ c.loop-t.invariant.holder c.exchange.ensures.holder;
+  holder = g.met.Self.Places.same_holder_trans _ _ _ _ _ _ c.loop-t.invariant.holder c.exchange.ensures.holder refl;
 }

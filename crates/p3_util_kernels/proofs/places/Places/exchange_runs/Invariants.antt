@@ -4,5 +4,5 @@ use Rattle.p3_util_kernels.proofs.places.Places.exchange_runs.Given as goal
 abbrev pub invariant-loop-t : goal.invariant-loop-t
 invariant-loop-t g l = record {
   exchanged : RunsExchanged l.i l.j l.t (g.Self.Places.items l.fn.self) (g.Self.Places.items l.self);
-  holder : g.Self.Places.same_holder l.fn.self l.self;
+  holder : g.Self.Places.same_holder l.t l.fn.self l.self;
 }

@@ -1,6 +1,3 @@
-use Rattle.std.proofs.Common.{rules, ◌≡◌, ℕ, ◌+◌, ◌<◌, [], ◌∷◌, List, length, slice_set, swap, ◌++◌, ◌∙◌, sym, arith, subst, ap}
-use Rattle.std.proofs.Math.ListN.{set, get_or}
-use Rattle.std.proofs.lemmas.List.{length-set}
 use Rattle.p3_util_kernels.proofs.Seam.{seam-swap}
 use Rattle.p3_util_kernels.proofs.places.slices.swap_ordered.Goals as goal
 

@@ -1,11 +1,10 @@
-use Rattle.std.proofs.Common.{◌≡◌, ◌*◌, ◌^◌}
+use Rattle.std.proofs.Common.{◌*◌, ◌^◌}
 use Rattle.p3_util_kernels.specs.Squares.{AreTransposed}
-use Rattle.p3_util_kernels.specs.Steps.{Stepped}
 use Rattle.p3_util_kernels.specs.SwapCounts.{square_swaps}
 use Rattle.p3_util_kernels.proofs.reverse.long.transpose_squares.Given as goal
 
 abbrev pub invariant-loop-square : goal.invariant-loop-square
 invariant-loop-square g l = record {
-  transposed : AreTransposed l.square l.log_stride l.log_size (g.M.CountedPlaces.items l.initial.m) (g.M.CountedPlaces.items l.m);
-  count : Stepped g.M.CountedPlaces.count g.M.CountedPlaces.same_holder (l.square * square_swaps (2 ^ l.log_size)) l.initial.m l.m;
+  transposed : AreTransposed l.square l.log_stride l.log_size (g.M.Places.items l.initial.m) (g.M.Places.items l.m);
+  holder : g.M.Places.same_holder (l.square * square_swaps (2 ^ l.log_size)) l.initial.m l.m;
 }

@@ -1,6 +1,5 @@
 use Rattle.std.proofs.Common.{◌≡◌, ◌+◌, ◌*◌, ◌/◌, ◌%◌, ◌^◌, ◌≤◌, refl, arith}
 use Rattle.p3_util_kernels.proofs.Crossing.{IsCrossed-join, IsCrossed-none, lines_rest, turn-first, turn-second}
-use Rattle.p3_util_kernels.proofs.Steps.{Stepped-more}
 use Rattle.p3_util_kernels.proofs.reverse.rows.exchange_lines.Goals as goal
 
 pub loop-x-preserved : goal.loop-x-preserved
@@ -15,7 +14,7 @@ loop-x-preserved g c =
     record {
       crossed = rw more at (IsCrossed-join half (c.args.digits % 2) c.args.row_width _ _ _ _ _ _ (omega arith) (omega arith)
           (IsCrossed-join half (c.args.digits % 2) c.args.row_width _ _ _ _ _ _ (omega arith) (omega arith) c.loop-x.invariant.crossed first) second);
-      count = Stepped-more g.met.M.CountedPlaces.same_holder_trans _ _ _ _ _ _ (Stepped-more g.met.M.CountedPlaces.same_holder_trans _ _ _ _ _ _ c.loop-x.invariant.count c.exchange_pair-m.ensures.count refl) c.exchange_pair-m-in-loop-x.ensures.count wider;
+      holder = g.met.M.Places.same_holder_trans _ _ _ _ _ _ (g.met.M.Places.same_holder_trans _ _ _ _ _ _ c.loop-x.invariant.holder c.exchange_pair-m.ensures.holder refl) c.exchange_pair-m-in-loop-x.ensures.holder wider;
     }
 
 pub returns-clause-crossed : goal.returns-clause-crossed

@@ -1,12 +1,8 @@
-use Rattle.std.proofs.Common.{◌≡◌, ℕ, ◌+◌, ◌-◌, ◌*◌, ◌/◌, ◌%◌, ◌^◌, ◌<◌, ◌≤◌, sym, ap, ◌∙◌, arith}
-use Rattle.std.proofs.lemmas.Nat.{div_below, div-add-mod', mod-mul-add, mod_below, pow-add, one_shl, pow_pos}
+use Rattle.std.proofs.Common.{◌≡◌, ℕ, ◌+◌, ◌-◌, ◌*◌, ◌/◌, ◌%◌, ◌^◌, ◌<◌, ◌≤◌, ap, ◌∙◌, arith}
+use Rattle.std.proofs.lemmas.Nat.{div_below, div-add-mod', mod-mul-add, mod_below, pow-add, pow_pos}
 use Rattle.p3_util_kernels.specs.Digits.{sum_below}
-use Rattle.p3_util_kernels.specs.SwapCounts.{short_swaps}
 use Rattle.p3_util_kernels.proofs.Crossing.{IsCrossed-join, IsCrossed-none, IsRowReversal-crossed, turn-before}
-use Rattle.p3_util_kernels.proofs.Lengths.{rows-same}
 use Rattle.p3_util_kernels.proofs.Lines.{lines-short, sum_below-more, sum_below-none}
-use Rattle.p3_util_kernels.proofs.Steps.{counted-more, counted-zero}
-use Rattle.p3_util_kernels.proofs.SwapCounts.{row_swaps-le}
 use Rattle.p3_util_kernels.proofs.reverse.rows.exchange_pairs.Goals as goal
 
 -- the digits by their parts
@@ -14,11 +10,8 @@ parts : (x : ℕ) → x / 2 + (x % 2 + x / 2) ≡ x
 parts x = omega arith
 
 -- the lines, and the pairs of them
-weight : (x : ℕ) → x < 64 → 1 * 2 ^ (x - x / 2) % 2 ^ 64 ≡ 2 ^ (x % 2 + x / 2)
-weight x few = let digits : x - x / 2 ≡ x % 2 + x / 2 = omega arith in one_shl (x - x / 2) 64 (omega arith) ∙ ap (λ n. 2 ^ n) digits
-
-side_is : (x : ℕ) → x < 64 → 1 * 2 ^ (x / 2) % 2 ^ 64 ≡ 2 ^ (x / 2)
-side_is x few = one_shl (x / 2) 64 (omega arith)
+weight : (x : ℕ) → 2 ^ (x - x / 2) ≡ 2 ^ (x % 2 + x / 2)
+weight x = let digits : x - x / 2 ≡ x % 2 + x / 2 = omega arith in ap (λ n. 2 ^ n) digits
 
 rows_in_parts : (len row_width x : ℕ) → len ≡ row_width * 2 ^ x → len ≡ row_width * 2 ^ (x / 2 + (x % 2 + x / 2))
 rows_in_parts len row_width x e = rw (parts x) e
@@ -45,39 +38,32 @@ higher two q some =
 pub loop-two-init : goal.loop-two-init
 loop-two-init g c = record {
   crossed = IsCrossed-none _ _ c.args.row_width _ _ _ (λ m x y hx hy from to. absurd (omega arith));
-  count = rw sum_below-none (let none : c.args.row_width * 0 ≡ 0 = omega arith in rw none (sym (counted-zero _ c.requires.ready.count_fits)));
-  holder = g.met.M.CountedPlaces.same_holder_refl _;
+  holder = rw sum_below-none (let none : c.args.row_width * 0 ≡ 0 = omega arith in rw none (g.met.M.Places.same_holder_refl _));
 }
 
-pub overflow_shl-lines : goal.overflow_shl-lines
-overflow_shl-lines g c = let few = c.requires.ready.few in omega arith
-
-pub overflow_shl-side : goal.overflow_shl-side
-overflow_shl-side g c = let few = c.requires.ready.few in omega arith
-
 pub nonzero_div-line : goal.nonzero_div-line
-nonzero_div-line g c = rw (side_is c.args.digits c.requires.ready.few) (pow_pos (c.args.digits / 2))
+nonzero_div-line g c = rw c.pow2-side.ensures (pow_pos (c.args.digits / 2))
 
 pub nonzero_rem-line : goal.nonzero_rem-line
-nonzero_rem-line g c = rw (side_is c.args.digits c.requires.ready.few) (pow_pos (c.args.digits / 2))
+nonzero_rem-line g c = rw c.pow2-side.ensures (pow_pos (c.args.digits / 2))
 
 pub exchange_lines-m-requires-clause-middle : goal.exchange_lines-m-requires-clause-middle
 exchange_lines-m-requires-clause-middle g c =
     let x = c.args.digits in
-    let below : c.loop-two.two * 2 < 2 ^ (x % 2 + x / 2) = omega (arith, weight x c.requires.ready.few) in
-    rw (side_is x c.requires.ready.few) (div_below (c.loop-two.two * 2) (2 ^ (x / 2)) (2 ^ (x % 2)) (pow_pos (x / 2)) (rw (pow-add 2 (x % 2) (x / 2)) at below))
+    let below : c.loop-two.two * 2 < 2 ^ (x % 2 + x / 2) = omega (arith, weight x) in
+    rw c.pow2-side.ensures (div_below (c.loop-two.two * 2) (2 ^ (x / 2)) (2 ^ (x % 2)) (pow_pos (x / 2)) (rw (pow-add 2 (x % 2) (x / 2)) at below))
 
 pub exchange_lines-m-requires-clause-even : goal.exchange_lines-m-requires-clause-even
-exchange_lines-m-requires-clause-even g c = rw (side_is c.args.digits c.requires.ready.few) (lower-even c.loop-two.two (c.args.digits / 2) (omega arith))
+exchange_lines-m-requires-clause-even g c = rw c.pow2-side.ensures (lower-even c.loop-two.two (c.args.digits / 2) (omega arith))
 
 pub exchange_lines-m-requires-clause-y : goal.exchange_lines-m-requires-clause-y
-exchange_lines-m-requires-clause-y g c = rw (side_is c.args.digits c.requires.ready.few) (higher-fits c.loop-two.two (c.args.digits / 2) (omega arith))
+exchange_lines-m-requires-clause-y g c = rw c.pow2-side.ensures (higher-fits c.loop-two.two (c.args.digits / 2) (omega arith))
 
 pub loop-two-preserved : goal.loop-two-preserved
 loop-two-preserved g c =
     let q = c.args.digits / 2 in
     let two = c.loop-two.two in
-    let side = side_is c.args.digits c.requires.ready.few in
+    let side = c.pow2-side.ensures in
     let split : two * 2 / 2 ^ q * 2 ^ q + two * 2 % 2 ^ q ≡ two * 2 = div-add-mod' (two * 2) (2 ^ q) in
     let half : two * 2 / 2 ≡ two = omega arith in
     let step = rw (side, split, half) at c.exchange_lines-m.ensures.crossed in
@@ -87,38 +73,26 @@ loop-two-preserved g c =
     let up : two * 2 ^ q * 2 ≤ (two + 1) * 2 ^ q * 2 = omega arith in
     record {
       crossed = IsCrossed-join _ _ c.args.row_width _ _ _ _ _ _ (omega arith) up c.loop-two.invariant.crossed step;
-      count = rw more at (counted-more _ _ _ _ _ c.loop-two.invariant.count (rw side at c.exchange_lines-m.ensures.count.count));
-      holder = g.met.M.CountedPlaces.same_holder_trans _ _ _ c.loop-two.invariant.holder c.exchange_lines-m.ensures.count.holder;
+      holder = g.met.M.Places.same_holder_trans _ _ _ _ _ _ c.loop-two.invariant.holder (rw side at c.exchange_lines-m.ensures.holder) more;
     }
 
 -- all lines came up, two at a time
-all_lines : (two x : ℕ) → 2 ≤ x → x < 64 → two ≡ 1 * 2 ^ (x - x / 2) % 2 ^ 64 / 2 → two * 2 ≡ 2 ^ (x % 2 + x / 2)
-all_lines two x some few e =
+all_lines : (two x : ℕ) → 2 ≤ x → two ≡ 2 ^ (x - x / 2) / 2 → two * 2 ≡ 2 ^ (x % 2 + x / 2)
+all_lines two x some e =
     let even : 2 ^ (x % 2 + x / 2) ≡ 2 * 2 ^ (x % 2 + x / 2 - 1) = power-even (x % 2 + x / 2) (omega arith) in
-    omega (arith, weight x few)
+    omega (arith, weight x)
 
 pub returns-clause-order : goal.returns-clause-order
 returns-clause-order g c =
     let x = c.args.digits in
-    let lines = all_lines c.loop-two.two x (omega arith) c.requires.ready.few (omega arith) in
+    let lines = all_lines c.loop-two.two x (omega arith) (omega arith) in
     let half : c.loop-two.two ≡ 2 ^ (x % 2 + x / 2) / 2 = omega (arith, lines) in
     IsRowReversal-crossed (x / 2) (x % 2) c.args.row_width _ _ _ (omega arith) (rows_in_parts _ _ x c.requires.ready.rows)
     (λ m a b hm ha hb. turn-before (x / 2) (x % 2) m a b (omega arith) hm ha hb)
     (rw half at c.loop-two.invariant.crossed)
 
-pub returns-clause-exact : goal.returns-clause-exact
-returns-clause-exact g c k e =
+pub returns-clause-holder : goal.returns-clause-holder
+returns-clause-holder g c =
     let x = c.args.digits in
-    let lines = all_lines c.loop-two.two x (omega arith) c.requires.ready.few (omega arith) in
-    let same : x ≡ k = rows-same c.args.row_width x k c.requires.ready.wide (sym c.requires.ready.rows ∙ e) in
-    rw (lines, lines-short (x / 2) (x % 2) (omega arith), parts x, same) at c.loop-two.invariant.count
-
-pub returns-clause-count : goal.returns-clause-count
-returns-clause-count g c =
-    let x = c.args.digits in
-    let lines = all_lines c.loop-two.two x (omega arith) c.requires.ready.few (omega arith) in
-    record {
-      steps = c.args.row_width * short_swaps x;
-      count = rw (lines, lines-short (x / 2) (x % 2) (omega arith), parts x) at c.loop-two.invariant.count;
-      bound = rw c.requires.ready.rows (row_swaps-le c.args.row_width x);
-    }
+    let lines = all_lines c.loop-two.two x (omega arith) (omega arith) in
+    rw (lines, lines-short (x / 2) (x % 2) (omega arith), parts x) at c.loop-two.invariant.holder

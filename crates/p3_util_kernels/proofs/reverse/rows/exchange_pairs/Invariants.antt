@@ -1,14 +1,12 @@
-use Rattle.std.proofs.Common.{◌≡◌, ◌*◌, ◌/◌, ◌%◌, ◌^◌}
+use Rattle.std.proofs.Common.{◌*◌, ◌/◌, ◌%◌, ◌^◌}
 use Rattle.p3_util_kernels.specs.Crossing.{IsCrossed}
 use Rattle.p3_util_kernels.specs.Digits.{sum_below}
-use Rattle.p3_util_kernels.specs.Steps.{counted}
 use Rattle.p3_util_kernels.proofs.reverse.rows.exchange_pairs.Given as goal
 
 -- the pairs of the lines before these two are exchanged
 abbrev pub invariant-loop-two : goal.invariant-loop-two
 invariant-loop-two g l = record {
   crossed : IsCrossed (l.digits / 2) (l.digits % 2) l.row_width 0 (l.two * 2 ^ (l.digits / 2) * 2)
-      (g.M.CountedPlaces.items l.initial.m) (g.M.CountedPlaces.items l.m);
-  count : g.M.CountedPlaces.count l.m ≡ counted (g.M.CountedPlaces.count l.initial.m) (l.row_width * sum_below (l.two * 2) (λ n. n % 2 ^ (l.digits / 2)));
-  holder : g.M.CountedPlaces.same_holder l.initial.m l.m;
+      (g.M.Places.items l.initial.m) (g.M.Places.items l.m);
+  holder : g.M.Places.same_holder (l.row_width * sum_below (l.two * 2) (λ n. n % 2 ^ (l.digits / 2))) l.initial.m l.m;
 }

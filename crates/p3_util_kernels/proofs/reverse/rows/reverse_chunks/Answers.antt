@@ -1,28 +1,31 @@
-use Rattle.std.proofs.Common.{◌≡◌, ℕ, ◌+◌, ◌*◌, ◌%◌, ◌^◌, ◌<◌, ◌∙◌, inr, refl, arith}
-use Rattle.std.proofs.lemmas.Nat.{one_shl, pow-add}
+use Rattle.std.proofs.Common.{◌≡◌, ℕ, ◌+◌, ◌*◌, ◌/◌, ◌^◌, ◌∙◌, inr, refl, ap, arith}
+use Rattle.std.proofs.Math.Nat.{mul-div_cancel_left}
+use Rattle.std.proofs.lemmas.Nat.{pow-add, pow_pos}
+use Rattle.p3_util_kernels.specs.Levels.{clog}
+use Rattle.p3_util_kernels.specs.SwapCounts.{short_swaps}
+use Rattle.p3_util_kernels.proofs.Levels.{clog_power}
 use Rattle.p3_util_kernels.proofs.Powers.{exponent-lt}
 use Rattle.p3_util_kernels.proofs.reverse.rows.reverse_chunks.Goals as goal
 
-pub overflow_shl-log_size : goal.overflow_shl-log_size
-overflow_shl-log_size g c = omega (arith, exponent-lt (c.args.log_chunks + c.args.log_size) 63 (omega arith))
-
-chunk : (h c n : ℕ) → n ≡ 2 ^ (h + c) → n < 2 ^ 64 → 1 * 2 ^ c % 2 ^ 64 ≡ 2 ^ c
-chunk h c n whole fits = one_shl c 64 (omega (arith, exponent-lt (h + c) 63 (omega arith)))
+pub pow2-requires : goal.pow2-requires
+pow2-requires g c = omega (arith, exponent-lt (c.args.log_chunks + c.args.log_size) 63 (omega arith))
 
 chunks : (h c n : ℕ) → n ≡ 2 ^ (h + c) → n ≡ 2 ^ c * 2 ^ h
 chunks h c n whole = omega (arith, pow-add 2 h c)
 
+-- the number of chunks
+counted_chunks : (h c n : ℕ) → n ≡ 2 ^ (h + c) → clog (n / 2 ^ c) ≡ h
+counted_chunks h c n whole =
+    clog_power _ h (ap (λ x. x / 2 ^ c) (chunks h c n whole) ∙ mul-div_cancel_left (2 ^ h) (pow_pos c))
+
 pub reverse_rows-requires : goal.reverse_rows-requires
 reverse_rows-requires g c =
-    let width = chunk c.args.log_chunks c.args.log_size _ c.requires (omega arith) in
-    (2 ^ c.args.log_chunks, inr (c.args.log_chunks, refl), rw width (chunks c.args.log_chunks c.args.log_size _ c.requires))
+    (2 ^ c.args.log_chunks, inr (c.args.log_chunks, refl), rw c.pow2.ensures (chunks c.args.log_chunks c.args.log_size _ c.requires))
 
 pub returns-clause-order : goal.returns-clause-order
-returns-clause-order g c =
-    rw (chunk c.args.log_chunks c.args.log_size _ c.requires (omega arith)) at c.reverse_rows.ensures.order
+returns-clause-order g c = rw c.pow2.ensures at c.reverse_rows.ensures.order
 
-pub returns-clause-exact : goal.returns-clause-exact
-returns-clause-exact g c =
-    let width = chunk c.args.log_chunks c.args.log_size _ c.requires (omega arith) in
-    let exact = rw width at c.reverse_rows.ensures.exact in
-    exact c.args.log_chunks (chunks c.args.log_chunks c.args.log_size _ c.requires) ∙ omega arith
+pub returns-clause-holder : goal.returns-clause-holder
+returns-clause-holder g c =
+    let order : 2 ^ c.args.log_size * short_swaps c.args.log_chunks ≡ short_swaps c.args.log_chunks * 2 ^ c.args.log_size = omega arith in
+    rw (c.pow2.ensures, counted_chunks c.args.log_chunks c.args.log_size _ c.requires, order) at c.reverse_rows.ensures.holder

@@ -1,8 +1,10 @@
-use Rattle.std.proofs.Common.{◌≡◌, ℕ, zero, suc, ◌+◌, ◌*◌, ◌/◌, ◌%◌, ◌^◌, ◌<◌, refl, sym, ap, ◌∙◌, arith}
+use Rattle.std.proofs.Common.{◌≡◌, ℕ, zero, suc, ◌+◌, ◌*◌, ◌/◌, ◌%◌, ◌^◌, ◌<◌, length, inl, refl, sym, ap, ◌∙◌, arith}
+use Rattle.std.proofs.Math.Nat.{zero-div}
+use Rattle.p3_util_kernels.specs.Levels.{clog}
 use Rattle.p3_util_kernels.specs.SwapCounts.{short_swaps}
 use Rattle.p3_util_kernels.proofs.Crossing.{IsRowReversal-own}
-use Rattle.p3_util_kernels.proofs.Lengths.{IsPowerOfRows, IsPowerOfRows-from, rows-same}
-use Rattle.p3_util_kernels.proofs.Steps.{counted-zero}
+use Rattle.p3_util_kernels.proofs.Lengths.{IsPowerOfRows, IsPowerOfRows-from}
+use Rattle.p3_util_kernels.proofs.Levels.{clog-zero}
 use Rattle.p3_util_kernels.proofs.reverse.rows.reverse_rows.Goals as goal
 
 -- the length by the number of digits that the code finds
@@ -19,26 +21,37 @@ short_none (suc (suc k)) h = absurd (omega arith)
 
 pub exchange_pairs-requires-in_default-clause-ready : goal.exchange_pairs-requires-in_default-clause-ready
 exchange_pairs-requires-in_default-clause-ready g c =
-    let rows = IsPowerOfRows-from _ _ (λ e. c.if-len-eq0.false (c.len-len.ensures.len ∙ e)) c.requires in
+    let rows = IsPowerOfRows-from _ _ (λ e. c.if-len-eq0.false (c.len-len.ensures ∙ e)) c.requires in
     record {
       wide = rows.wide;
       few = c.log2_strict_usize.ensures.bound;
-      rows = whole _ _ _ _ c.len-len.ensures.len rows c.log2_strict_usize.ensures.power;
+      rows = whole _ _ _ _ c.len-len.ensures rows c.log2_strict_usize.ensures.power;
       length_fits = omega arith;
-      count_fits = c.len-len.ensures.count_fits;
     }
 
 pub returns-in-0-clause-order : goal.returns-in-0-clause-order
 returns-in-0-clause-order g c =
     let x = c.log2_strict_usize.result in
-    let rows = IsPowerOfRows-from _ _ (λ e. c.if-len-eq0.false (c.len-len.ensures.len ∙ e)) c.requires in
+    let rows = IsPowerOfRows-from _ _ (λ e. c.if-len-eq0.false (c.len-len.ensures ∙ e)) c.requires in
     let parts : x / 2 + (x % 2 + x / 2) ≡ x = omega arith in
-    IsRowReversal-own (x / 2) (x % 2) c.args.row_width _ (omega arith) (omega arith) (rw parts (whole _ _ _ _ c.len-len.ensures.len rows c.log2_strict_usize.ensures.power))
+    IsRowReversal-own (x / 2) (x % 2) c.args.row_width _ (omega arith) (omega arith) (rw parts (whole _ _ _ _ c.len-len.ensures rows c.log2_strict_usize.ensures.power))
 
-pub returns-in-0-clause-exact : goal.returns-in-0-clause-exact
-returns-in-0-clause-exact g c k e =
-    let x = c.log2_strict_usize.result in
-    let rows = IsPowerOfRows-from _ _ (λ e. c.if-len-eq0.false (c.len-len.ensures.len ∙ e)) c.requires in
-    let same : x ≡ k = rows-same c.args.row_width x k rows.wide (sym (whole _ _ _ _ c.len-len.ensures.len rows c.log2_strict_usize.ensures.power) ∙ e) in
-    let none : c.args.row_width * short_swaps k ≡ 0 = omega (arith, ap (λ n. c.args.row_width * n) (short_none k (omega arith))) in
-    rw none (sym (counted-zero _ c.len-len.ensures.count_fits))
+-- a list of no items has no pairs
+empty_none : (len row_width : ℕ) → len ≡ 0 → row_width * short_swaps (clog (len / row_width)) ≡ 0
+empty_none len row_width e =
+    let rows : len / row_width ≡ 0 = rw e (zero-div row_width) in
+    rw (clog-zero (len / row_width) rows) (omega arith)
+
+pub returns-then-len-eq0-clause-holder : goal.returns-then-len-eq0-clause-holder
+returns-then-len-eq0-clause-holder g c = rw (empty_none (length (g.M.Places.items c.args.m)) c.args.row_width (omega arith)) (g.met.M.Places.same_holder_refl _)
+
+pub log2_strict_usize-requires : goal.log2_strict_usize-requires
+log2_strict_usize-requires g c =
+    let rows = IsPowerOfRows-from _ _ (λ e. c.if-len-eq0.false (c.len-len.ensures ∙ e)) c.requires in
+    inl (rows.exponent, ap (λ n. n / c.args.row_width) c.len-len.ensures ∙ rows.rows)
+
+pub returns-in-0-clause-holder : goal.returns-in-0-clause-holder
+returns-in-0-clause-holder g c =
+    let none : c.args.row_width * short_swaps c.log2_strict_usize.result ≡ 0 =
+    omega (arith, ap (λ n. c.args.row_width * n) (short_none c.log2_strict_usize.result (omega arith))) in
+    rw (← c.len-len.ensures, ← c.log2_strict_usize.ensures.counted, none) (g.met.M.Places.same_holder_refl _)

@@ -2,7 +2,6 @@ use Rattle.std.proofs.Common.{◌≡◌, ◌-◌, arith}
 use Rattle.p3_util_kernels.specs.Region.{rows_of}
 use Rattle.p3_util_kernels.proofs.Pairs.{mul-parts_right}
 use Rattle.p3_util_kernels.proofs.Region.{IsRegionTransposed-more_cols}
-use Rattle.p3_util_kernels.proofs.Steps.{Stepped-more}
 use Rattle.p3_util_kernels.proofs.transpose.pieces.put_band.Goals as goal
 
 pub loop-col-preserved : goal.loop-col-preserved
@@ -12,7 +11,7 @@ loop-col-preserved g c = let r = c.args.region in let col = c.loop-col.col in le
   transposed =
       IsRegionTransposed-more_cols c.args.width c.args.height _ c.args.region _ _ c.loop-col.col c.min-end.result _ _ _ c.with_cols-piece.ensures (omega arith) (omega arith) (omega arith) (omega arith)
       c.loop-col.invariant.transposed c.put_piece-out.ensures.transposed;
-  count = Stepped-more g.met.M.CountedCells.same_holder_trans _ _ _ _ _ _ c.loop-col.invariant.count (rw c.with_cols-piece.ensures at c.put_piece-out.ensures.count) (omega (arith, mul-parts_right (col - r.col_start) (end - col) (end - r.col_start) (rows_of r) (omega arith)));
+  holder = g.met.M.Cells.same_holder_trans _ _ _ _ _ _ c.loop-col.invariant.holder (rw c.with_cols-piece.ensures at c.put_piece-out.ensures.holder) (omega (arith, mul-parts_right (col - r.col_start) (end - col) (end - r.col_start) (rows_of r) (omega arith)));
 }
 
 pub returns-clause-transposed : goal.returns-clause-transposed

@@ -1,6 +1,5 @@
-use Rattle.std.proofs.Common.{◌≡◌, ◌-◌, ◌*◌, ◌≤◌}
+use Rattle.std.proofs.Common.{◌-◌, ◌*◌, ◌≤◌}
 use Rattle.p3_util_kernels.specs.Region.{IsRegionTransposed, rows_of}
-use Rattle.p3_util_kernels.specs.Steps.{Stepped}
 use Rattle.p3_util_kernels.proofs.transpose.pieces.put_band.Given as goal
 
 abbrev pub invariant-loop-col : goal.invariant-loop-col
@@ -8,8 +7,8 @@ invariant-loop-col g l = record {
   from : l.region.col_start ≤ l.col;
   to : l.col ≤ l.region.col_end;
   transposed : IsRegionTransposed (record l.region { col_end = l.col }) l.width l.height (g.R.Source.items l.source)
-      (g.M.CountedCells.items l.fn.out) (g.M.CountedCells.items l.out);
-  count : Stepped g.M.CountedCells.count g.M.CountedCells.same_holder (rows_of l.region * (l.col - l.region.col_start)) l.fn.out l.out;
+      (g.M.Cells.items l.fn.out) (g.M.Cells.items l.out);
+  holder : g.M.Cells.same_holder (rows_of l.region * (l.col - l.region.col_start)) l.fn.out l.out;
 }
 
 abbrev pub decreases-loop-col : goal.decreases-loop-col

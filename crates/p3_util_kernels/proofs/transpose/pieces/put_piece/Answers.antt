@@ -4,11 +4,11 @@ use Rattle.p3_util_kernels.proofs.transpose.pieces.put_piece.Goals as goal
 
 pub put_tile-requires : goal.put_tile-requires
 put_tile-requires g c = record {
-  piece = HasPiece-region c.args.region _ _ _ _ _ _ _ (omega arith) (omega arith) c.requires.ready;
+  piece = HasPiece-region c.args.region _ _ _ _ _ _ (omega arith) (omega arith) c.requires.ready;
 }
 
 pub put_columns-requires-clause-piece : goal.put_columns-requires-clause-piece
-put_columns-requires-clause-piece g c = HasPiece-region c.args.region _ _ _ _ _ _ _ (omega arith) (omega arith) c.requires.ready
+put_columns-requires-clause-piece g c = HasPiece-region c.args.region _ _ _ _ _ _ (omega arith) (omega arith) c.requires.ready
 
 pub returns-in-Tiles-clause-transposed : goal.returns-in-Tiles-clause-transposed
 returns-in-Tiles-clause-transposed g c =

@@ -1,6 +1,5 @@
-use Rattle.std.proofs.Common.{◌≡◌, ◌-◌, ◌*◌, ◌≤◌}
+use Rattle.std.proofs.Common.{◌-◌, ◌*◌, ◌≤◌}
 use Rattle.p3_util_kernels.specs.Region.{IsRegionTransposed, cols_of}
-use Rattle.p3_util_kernels.specs.Steps.{Stepped}
 use Rattle.p3_util_kernels.proofs.transpose.pieces.put_pieces.Given as goal
 
 abbrev pub invariant-loop-row : goal.invariant-loop-row
@@ -8,8 +7,8 @@ invariant-loop-row g l = record {
   from : l.region.row_start ≤ l.row;
   to : l.row ≤ l.region.row_end;
   transposed : IsRegionTransposed (record l.region { row_end = l.row }) l.width l.height (g.R.Source.items l.source)
-      (g.M.CountedCells.items l.fn.out) (g.M.CountedCells.items l.out);
-  count : Stepped g.M.CountedCells.count g.M.CountedCells.same_holder ((l.row - l.region.row_start) * cols_of l.region) l.fn.out l.out;
+      (g.M.Cells.items l.fn.out) (g.M.Cells.items l.out);
+  holder : g.M.Cells.same_holder ((l.row - l.region.row_start) * cols_of l.region) l.fn.out l.out;
 }
 
 abbrev pub decreases-loop-row : goal.decreases-loop-row

@@ -1,20 +1,17 @@
 use Rattle.std.proofs.Common.{◌∙◌, arith, rules}
 use Rattle.p3_util_kernels.specs.Region.{cols_of, rows_of}
-use Rattle.p3_util_kernels.proofs.Halves.{AreHalves-of, lev-of_region}
+use Rattle.p3_util_kernels.proofs.Halves.{lev-of_region}
 use Rattle.p3_util_kernels.proofs.Levels.{nest_le}
 use Rattle.p3_util_kernels.proofs.Region.{IsRegionTransposed-cut}
-use Rattle.p3_util_kernels.proofs.Steps.{Stepped-more}
 use Rattle.p3_util_kernels.proofs.transpose.split.+put_split.Goals as goal
 
 pub overflow_sub-levels : goal.overflow_sub-levels
 overflow_sub-levels g t c =
-    let h = AreHalves-of c.args.region c.halves.result c.args.width c.args.height c.requires.inside c.if-is_leaf.ensures c.halves.ensures.rows c.halves.ensures.cols in
-    omega (arith, h.first_levels, c.requires.enough)
+    omega (arith, c.halves.ensures.first_levels, c.requires.enough)
 
 pub put_split-out-requires : goal.put_split-out-requires
 put_split-out-requires g t c =
-    let h = AreHalves-of c.args.region c.halves.result c.args.width c.args.height c.requires.inside c.if-is_leaf.ensures c.halves.ensures.rows c.halves.ensures.cols in
-    let some = h.first_levels in
+    let some = c.halves.ensures.first_levels in
     λ κs k. (
       omega (arith, c.decreases, c.requires.enough),
       (
@@ -25,7 +22,7 @@ put_split-out-requires g t c =
             search rules,
             (
               c.requires.input_fits,
-              (c.requires.output_fits, (h.first_inside _ _ c.requires.inside, omega (arith, c.requires.enough))),
+              (c.requires.output_fits, (c.halves.ensures.first_inside _ _ c.requires.inside, omega (arith, c.requires.enough))),
             ),
           ),
         ),
@@ -34,13 +31,11 @@ put_split-out-requires g t c =
 
 pub overflow_sub-levels-2 : goal.overflow_sub-levels-2
 overflow_sub-levels-2 g t c =
-    let h = AreHalves-of c.args.region c.halves.result c.args.width c.args.height c.requires.inside c.if-is_leaf.ensures c.halves.ensures.rows c.halves.ensures.cols in
-    omega (arith, h.first_levels, c.requires.enough)
+    omega (arith, c.halves.ensures.first_levels, c.requires.enough)
 
 pub put_split-out-requires-2 : goal.put_split-out-requires-2
 put_split-out-requires-2 g t c =
-    let h = AreHalves-of c.args.region c.halves.result c.args.width c.args.height c.requires.inside c.if-is_leaf.ensures c.halves.ensures.rows c.halves.ensures.cols in
-    let some = h.second_levels in
+    let some = c.halves.ensures.second_levels in
     λ κs k. (
       omega (arith, c.decreases, c.requires.enough),
       (
@@ -51,7 +46,7 @@ put_split-out-requires-2 g t c =
             search rules,
             (
               c.requires.input_fits,
-              (c.put_split-out.ensures.transposed.same_length ∙ c.requires.output_fits, (h.second_inside _ _ c.requires.inside, omega (arith, c.requires.enough))),
+              (c.put_split-out.ensures.transposed.same_length ∙ c.requires.output_fits, (c.halves.ensures.second_inside _ _ c.requires.inside, omega (arith, c.requires.enough))),
             ),
           ),
         ),
@@ -60,26 +55,22 @@ put_split-out-requires-2 g t c =
 
 pub returns-clause-transposed : goal.returns-clause-transposed
 returns-clause-transposed g t c =
-    let h = AreHalves-of c.args.region c.halves.result c.args.width c.args.height c.requires.inside c.if-is_leaf.ensures c.halves.ensures.rows c.halves.ensures.cols in
-    IsRegionTransposed-cut c.args.width c.args.height _ c.args.region c.halves.result.0 c.halves.result.1 _ _ _ c.requires.inside.rows_inside h.cut
+    IsRegionTransposed-cut c.args.width c.args.height _ c.args.region c.halves.result.0 c.halves.result.1 _ _ _ c.requires.inside.rows_inside c.halves.ensures.cut
     c.put_split-out.ensures.transposed c.put_split-out-2.ensures.transposed
 
-pub returns-clause-count : goal.returns-clause-count
-returns-clause-count g t c =
-    let h = AreHalves-of c.args.region c.halves.result c.args.width c.args.height c.requires.inside c.if-is_leaf.ensures c.halves.ensures.rows c.halves.ensures.cols in
-    Stepped-more g.met.M.CountedCells.same_holder_trans _ _ _ _ _ _ c.put_split-out.ensures.count c.put_split-out-2.ensures.count (omega (arith, h.items))
+pub returns-clause-holder : goal.returns-clause-holder
+returns-clause-holder g t c =
+    g.met.M.Cells.same_holder_trans _ _ _ _ _ _ c.put_split-out.ensures.holder c.put_split-out-2.ensures.holder (omega (arith, c.halves.ensures.items))
 
 pub returns-clause-nested : goal.returns-clause-nested
 returns-clause-nested g t c =
-    let h = AreHalves-of c.args.region c.halves.result c.args.width c.args.height c.requires.inside c.if-is_leaf.ensures c.halves.ensures.rows c.halves.ensures.cols in
-    omega (arith, h.nested)
+    omega (arith, c.halves.ensures.nested)
 
 pub returns-clause-bound : goal.returns-clause-bound
 returns-clause-bound g t c =
-    let h = AreHalves-of c.args.region c.halves.result c.args.width c.args.height c.requires.inside c.if-is_leaf.ensures c.halves.ensures.rows c.halves.ensures.cols in
     omega (
       arith,
-      h.nested,
+      c.halves.ensures.nested,
       nest_le (rows_of c.args.region) (cols_of c.args.region),
       lev-of_region c.args.region c.args.width c.args.height c.requires.inside (omega arith) (omega arith) (omega arith),
     )

@@ -1,6 +1,5 @@
 use Rattle.std.proofs.Common.{◌≡◌, ◌+◌, arith}
 use Rattle.p3_util_kernels.proofs.Diagonal.{SwapsAcross-rows}
-use Rattle.p3_util_kernels.proofs.Steps.{Stepped-more}
 use Rattle.p3_util_kernels.proofs.transpose.square.swap_leaf.Goals as goal
 
 pub loop-t-preserved : goal.loop-t-preserved
@@ -9,5 +8,5 @@ loop-t-preserved g c =
     let end : c.args.row + (c.loop-t.t + 1) ≡ line + 1 = omega arith in
     record {
       swapped = rw end (SwapsAcross-rows c.args.base c.args.stride c.args.row line (line + 1) _ _ _ _ _ (omega arith) (omega arith) c.loop-t.invariant.swapped c.swap_row-m.ensures.swapped);
-      count = Stepped-more g.met.M.CountedPlaces.same_holder_trans _ _ _ _ _ _ c.loop-t.invariant.count c.swap_row-m.ensures.count (omega arith);
+      holder = g.met.M.Places.same_holder_trans _ _ _ _ _ _ c.loop-t.invariant.holder c.swap_row-m.ensures.holder (omega arith);
     }

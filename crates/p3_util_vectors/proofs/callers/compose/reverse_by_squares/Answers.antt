@@ -1,7 +1,7 @@
-use Rattle.std.proofs.Common.{◌≡◌, ℕ, ◌-◌, ◌*◌, ◌/◌, ◌^◌, sym, ◌∙◌}
+use Rattle.std.proofs.Common.{◌≡◌, ℕ, ◌-◌, ◌*◌, ◌/◌, ◌^◌, refl, sym, ◌∙◌, arith}
 use Rattle.p3_util.specs.Steps.{counted}
 use Rattle.p3_util.specs.SwapCounts.{long_swaps, short_swaps, square_swaps}
-use Rattle.p3_util.proofs.Callers.{long_swaps_bound, reversed_by_squares, same_power, swaps_around}
+use Rattle.p3_util.proofs.Callers.{reversed_by_squares, swaps_around}
 use Rattle.p3_util_vectors.proofs.callers.compose.reverse_by_squares.Goals as goal
 
 -- the swaps of the three passes
@@ -12,18 +12,16 @@ swaps bits c0 c1 c2 c3 first second third = swaps_around c0 c1 c2 c3 _ _ first s
 
 pub returns-clause-order : goal.returns-clause-order
 returns-clause-order g c =
-    reversed_by_squares c.log2_strict_usize-bits.result _ _ _ _ (sym c.len.ensures.len ∙ c.log2_strict_usize-bits.ensures.power)
+    reversed_by_squares c.log2_strict_usize-bits.result _ _ _ _ (sym c.len.ensures ∙ c.log2_strict_usize-bits.ensures.power)
     c.reverse_chunks_on.ensures.order c.transpose_squares.ensures.transposed c.reverse_chunks_on-2.ensures.order
 
 pub returns-clause-count : goal.returns-clause-count
-returns-clause-count g c = record {
-  steps = long_swaps c.log2_strict_usize-bits.result;
-  count = swaps c.log2_strict_usize-bits.result _ _ _ _ c.reverse_chunks_on.ensures.exact c.transpose_squares.ensures.count c.reverse_chunks_on-2.ensures.exact;
-  bound = rw (← c.len.ensures.len, c.log2_strict_usize-bits.ensures.power) (long_swaps_bound c.log2_strict_usize-bits.result);
-}
+returns-clause-count g c =
+    rw (← c.len.ensures, ← c.log2_strict_usize-bits.ensures.counted)
+    (swaps c.log2_strict_usize-bits.result _ _ _ _ c.reverse_chunks_on.ensures.count c.transpose_squares.ensures.count c.reverse_chunks_on-2.ensures.count)
 
-pub returns-clause-exact : goal.returns-clause-exact
-returns-clause-exact g c k e =
-    let same : c.log2_strict_usize-bits.result ≡ k =
-    same_power c.log2_strict_usize-bits.result k (sym (sym e ∙ sym c.len.ensures.len ∙ c.log2_strict_usize-bits.ensures.power)) in
-    rw (← same) (swaps c.log2_strict_usize-bits.result _ _ _ _ c.reverse_chunks_on.ensures.exact c.transpose_squares.ensures.count c.reverse_chunks_on-2.ensures.exact)
+pub returns-clause-holder : goal.returns-clause-holder
+returns-clause-holder g c =
+    let trans = g.met.S.Places.same_holder_trans in
+    rw (← c.len.ensures, ← c.log2_strict_usize-bits.ensures.counted)
+    (trans _ _ _ _ _ _ (trans _ _ _ _ _ _ c.reverse_chunks_on.ensures.holder c.transpose_squares.ensures.holder refl) c.reverse_chunks_on-2.ensures.holder (omega arith))

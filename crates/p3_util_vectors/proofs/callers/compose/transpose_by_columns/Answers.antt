@@ -18,3 +18,13 @@ returns-clause-count g c =
     let items : rows_of region * (middle - region.col_start) + rows_of region * (region.col_end - middle) ≡ rows_of region * cols_of region =
     sym (mul-add (rows_of region) (middle - region.col_start) (region.col_end - middle)) ∙ ap (λ cols. rows_of region * cols) (omega arith) in
     omega (arith, c.transpose_region_on.ensures.count, c.transpose_region_on-2.ensures.count)
+
+pub returns-clause-holder : goal.returns-clause-holder
+returns-clause-holder g c =
+    let region = c.args.region in
+    let middle = c.midpoint-middle.result in
+    let from : region.col_start ≤ middle = omega (arith, c.requires.inside.cols_in_order) in
+    let to : middle ≤ region.col_end = omega (arith, c.requires.inside.cols_in_order) in
+    let items : rows_of region * (middle - region.col_start) + rows_of region * (region.col_end - middle) ≡ rows_of region * cols_of region =
+    sym (mul-add (rows_of region) (middle - region.col_start) (region.col_end - middle)) ∙ ap (λ cols. rows_of region * cols) (omega arith) in
+    g.met.C.Cells.same_holder_trans _ _ _ _ _ _ c.transpose_region_on.ensures.holder c.transpose_region_on-2.ensures.holder items

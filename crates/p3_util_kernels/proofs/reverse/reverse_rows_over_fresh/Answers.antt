@@ -1,8 +1,0 @@
-use Rattle.std.proofs.Common.{rules}
-use Rattle.p3_util_kernels.proofs.Reversal.{IsRowReversal-inverse}
-use Rattle.p3_util_kernels.proofs.reverse.reverse_rows_over_fresh.Goals as goal
-
-pub returns-clause-inverse : goal.returns-clause-inverse
-returns-clause-inverse g c =
-    let inverse = IsRowReversal-inverse _ _ _ c.reverse_rows-m.ensures.order in
-    search (rules, inverse)
