@@ -1,3 +1,4 @@
+pub mod Columns
 pub mod Crossing
 pub mod Diagonal
 pub mod Digits
@@ -6,7 +7,6 @@ pub mod Halves
 pub mod Least
 pub mod Levels
 pub mod Names
-pub mod Pieces
 pub mod Powers
 pub mod Region
 pub mod Reversal

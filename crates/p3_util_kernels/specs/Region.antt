@@ -1,6 +1,6 @@
 -- A region of a matrix, transposed into an output that has room for the transpose of the whole matrix.
 -- From the rectangular transposes of p3-util 0.8.0.
-use Rattle.std.specs.Prelude.{ℕ, ◌≡◌, ◌≢◌, ◌+◌, ◌-◌, ◌*◌, ◌<◌, ◌≤◌, List, length, slice_get}
+use Rattle.std.specs.Prelude.{ℕ, ◌≡◌, ◌≢◌, ◌+◌, ◌-◌, ◌*◌, ◌^◌, ◌<◌, ◌≤◌, List, length, slice_get}
 use Rattle.p3_util_kernels.specs.declared.transpose.regions.Region.{Region}
 
 -- row y and column x belong to the region
@@ -33,3 +33,11 @@ pub record IsRegionTransposed {A : Type 0} (region : Region) (width height : ℕ
   pub same_length : length new ≡ length old
   pub places : (x y : ℕ) → IsInRegion region x y → slice_get new (x * height + y) ≡ slice_get input (y * width + x)
   pub others : (p : ℕ) → ((x y : ℕ) → IsInRegion region x y → p ≢ x * height + y) → slice_get new p ≡ slice_get old p
+
+-- Both lists hold a matrix of `height` rows of `width` items, with the region, and the machine its places. It is a condition of
+-- private functions alone.
+pub record IsReady {A : Type 0} (region : Region) (width height : ℕ) (input out : List A) : Type 0 where
+  pub inside : LiesInMatrix region width height
+  pub input_fits : length input ≡ width * height
+  pub output_fits : length out ≡ width * height
+  pub length_fits : width * height < 2 ^ 64

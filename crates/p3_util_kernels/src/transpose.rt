@@ -11,14 +11,18 @@ mod regions;
 mod split;
 mod square;
 
-use crate::places::{Cells, SliceSource, Source, Writes};
+use crate::places::{Cells, Source, Writes};
 pub use butterfly::{butterfly_4x4, butterfly_stage1, butterfly_stage2};
-use pieces::{Pieces, TILE_SIDE, put_pieces};
+use pieces::{Strips, TILE_SIDE, put_strips};
+use regions::Matrix;
 pub use regions::Region;
 use split::put_split;
 pub use split::{transpose_source_split_on, transpose_split_on};
 pub(crate) use square::transpose_square;
 pub use square::transpose_square_on;
+
+/// The greatest number of items of a matrix whose tiles are put by blocks.
+const SMALL_MATRIX: usize = 1024;
 
 /// The number of items above which a matrix is split.
 const LARGE_MATRIX: usize = 1_048_576;
@@ -46,7 +50,14 @@ pub fn transpose<T: Copy>(input: &[T], output: &mut [T], width: usize, height: u
     ensures order { IsTranspose width height input.now output.new }
     ensures inverse { IsTranspose height width output.new input.now }
 {
-    let _ = transpose_matrix(output, SliceSource::new(input), width, height);
+    let _ = transpose_matrix(
+        output,
+        Matrix {
+            source: input,
+            width,
+            height,
+        },
+    );
 }
 
 /// Puts the transpose of `input` into `cells`, as [`transpose_on`] does over a fresh counter, and returns the number of
@@ -63,9 +74,12 @@ pub fn transpose_counted<C: Cells>(
     ensures count { result ≡ width * height }
     ensures holder { C.same_holder result cells.old cells.new }
 {
-    // Its contract says that the length is a usize, so that the count stays below its greatest.
-    let _ = cells.len();
-    transpose_matrix(Writes::new(cells), SliceSource::new(input), width, height).writes()
+    let matrix = Matrix {
+        source: input,
+        width,
+        height,
+    };
+    transpose_matrix(Writes::new(cells), matrix).writes()
 }
 
 /// Puts the transpose of `input` into `out`, as [`transpose`] does, in exactly `width * height` writes. Both lengths are
@@ -77,7 +91,13 @@ pub fn transpose_on<C: Cells>(input: &[C::Item], out: &mut Writes<C>, width: usi
     ensures count { out.new.count ≡ counted out.old.count (width * height) }
     ensures holder { C.same_holder (width * height) out.old.holder out.new.holder }
 {
-    transpose_source_on(&SliceSource::new(input), out, width, height);
+    let matrix = Matrix {
+        source: input,
+        width,
+        height,
+    };
+    let counter = Writes::resumed(&mut out.holder, out.count);
+    out.count = transpose_matrix(counter, matrix).writes();
 }
 
 /// Puts the transpose of any source into `out`, as [`transpose_on`] does that of a slice.
@@ -91,8 +111,13 @@ where
     ensures count { out.new.count ≡ counted out.old.count (width * height) }
     ensures holder { C.same_holder (width * height) out.old.holder out.new.holder }
 {
+    let matrix = Matrix {
+        source: input,
+        width,
+        height,
+    };
     let counter = Writes::resumed(&mut out.holder, out.count);
-    out.count = transpose_matrix(counter, input, width, height).writes();
+    out.count = transpose_matrix(counter, matrix).writes();
 }
 
 /// Puts the transpose of `region`, a part of the matrix `input`, into `out`, in one write an item: what stood at
@@ -113,61 +138,66 @@ pub fn transpose_region_on<C: Cells>(
     ensures count { out.new.count ≡ counted out.old.count (items_of region) }
     ensures holder { C.same_holder (items_of region) out.old.holder out.new.holder }
 {
+    let matrix = Matrix {
+        source: input,
+        width,
+        height,
+    };
     let counter = Writes::resumed(&mut out.holder, out.count);
-    let source = SliceSource::new(input);
-    out.count = put_region(counter, source, region, width, height).writes();
+    out.count = put_strips(counter, matrix, region, strips_of(matrix)).writes();
+}
+
+/// Puts the transpose of `region`, as [`transpose_region_on`] does over a fresh counter, and returns the number of writes.
+pub fn transpose_region_counted<C: Cells>(
+    input: &[C::Item],
+    cells: &mut C,
+    region: Region,
+    width: usize,
+    height: usize,
+) -> u128
+    requires input_fits { length input.now ≡ width * height }
+    requires output_fits { length (C.items cells.old) ≡ width * height }
+    requires inside { LiesInMatrix region width height }
+    ensures transposed { IsRegionTransposed region width height input.now (C.items cells.old) (C.items cells.new) }
+    ensures count { result ≡ items_of region }
+    ensures holder { C.same_holder result cells.old cells.new }
+{
+    let matrix = Matrix {
+        source: input,
+        width,
+        height,
+    };
+    put_strips(Writes::new(cells), matrix, region, strips_of(matrix)).writes()
 }
 
 /// The kernel of [`transpose_source_on`]. The source goes by value here and below, so that its address is not read again at
 /// each item.
-fn transpose_matrix<M: Cells, R: Source<Item = M::Item> + Copy>(
-    out: M,
-    input: R,
-    width: usize,
-    height: usize,
-) -> M
-    requires input_fits { length (R.items input) ≡ width * height }
-    requires output_fits { length (M.items out) ≡ width * height }
-    ensures order { IsTranspose width height (R.items input) (M.items result) }
-    ensures holder { M.same_holder (width * height) out result }
+fn transpose_matrix<M: Cells, R: Source<Item = M::Item> + Copy>(out: M, matrix: Matrix<R>) -> M
+    requires input_fits { length (R.items matrix.source) ≡ matrix.width * matrix.height }
+    requires output_fits { length (M.items out) ≡ matrix.width * matrix.height }
+    ensures order { IsTranspose matrix.width matrix.height (R.items matrix.source) (M.items result) }
+    ensures holder { M.same_holder (matrix.width * matrix.height) out result }
 {
-    let whole = whole(width, height);
-    if is_large(out.len()) {
-        let (out, _) = put_split(out, input, whole, width, height, ENOUGH_LEVELS);
+    let whole = whole(matrix.width, matrix.height);
+    if out.len() > LARGE_MATRIX {
+        let (out, _) = put_split(out, matrix, whole, ENOUGH_LEVELS);
         out
     } else {
-        put_region(out, input, whole, width, height)
+        put_strips(out, matrix, whole, strips_of(matrix))
     }
 }
 
-/// The kernel of [`transpose_region_on`], by tiles or by strips.
+/// The choice of how a region of `matrix` is put.
 ///
-/// Where the rows of the matrix begin a multiple of a tile's side apart, many of them meet in one set of a cache, and tiles
-/// are faster than strips, unless the matrix is far higher than wide.
-#[inline(always)]
-fn put_region<M: Cells, R: Source<Item = M::Item> + Copy>(
-    out: M,
-    input: R,
-    region: Region,
-    width: usize,
-    height: usize,
-) -> M
-    requires input_fits { length (R.items input) ≡ width * height }
-    requires output_fits { length (M.items out) ≡ width * height }
-    requires inside { LiesInMatrix region width height }
-    ensures transposed { IsRegionTransposed region width height (R.items input) (M.items out) (M.items result) }
-    ensures holder { M.same_holder (items_of region) out result }
-{
-    // Its contract says that the places fit a usize.
-    let _ = out.len();
-    if region.cols() == 0 {
-        // However many rows there are, no item is in them.
-        return out;
-    }
-    if width % TILE_SIDE == 0 && height / TILE_SIDE < width {
-        put_pieces(out, &input, region, Pieces::Tiles, width, height)
+/// Where rows begin a multiple of 16 items apart, many of them meet in one set of a cache, and few of them at a time are
+/// faster, unless the matrix is far higher than wide. The blocks of a small matrix lie in few lines of the cache.
+fn strips_of<R: Source + Copy>(matrix: Matrix<R>) -> Strips {
+    if matrix.width % TILE_SIDE != 0 || matrix.height / TILE_SIDE >= matrix.width {
+        Strips::High
+    } else if matrix.source.len() > SMALL_MATRIX {
+        Strips::Low
     } else {
-        put_pieces(out, &input, region, Pieces::Strips, width, height)
+        Strips::Tiles
     }
 }
 
@@ -181,11 +211,4 @@ fn whole(width: usize, height: usize) -> Region
         col_start: 0,
         col_end: width,
     }
-}
-
-/// Whether a matrix with this number of items is split.
-fn is_large(items: usize) -> bool
-    ensures { IsTrue result ↔ (LARGE_MATRIX < items) }
-{
-    items > LARGE_MATRIX
 }

@@ -23,8 +23,9 @@ impl<S: Places> Swaps<S> {
     pub fn new(holder: S) -> Self
         ensures holder { result.holder ≡ holder }
         ensures count { result.count ≡ 0 }
+        ensures len_fits { length (S.items holder) < 2 ^ 64 }
     {
-        Swaps { holder, count: 0 }
+        Swaps::resumed(holder, 0)
     }
 
     /// Counts the exchanges in `holder` from `count` on.
@@ -32,7 +33,10 @@ impl<S: Places> Swaps<S> {
     pub(crate) fn resumed(holder: S, count: u128) -> Self
         ensures holder { result.holder ≡ holder }
         ensures count { result.count ≡ count }
+        ensures len_fits { length (S.items holder) < 2 ^ 64 }
     {
+        // Its contract says that the length is a usize, as kernels need to know.
+        let _ = holder.len();
         Swaps { holder, count }
     }
 
@@ -85,8 +89,9 @@ impl<C: Cells> Writes<C> {
     pub fn new(holder: C) -> Self
         ensures holder { result.holder ≡ holder }
         ensures count { result.count ≡ 0 }
+        ensures len_fits { length (C.items holder) < 2 ^ 64 }
     {
-        Writes { holder, count: 0 }
+        Writes::resumed(holder, 0)
     }
 
     /// Counts the writes to `holder` from `count` on.
@@ -94,7 +99,10 @@ impl<C: Cells> Writes<C> {
     pub(crate) fn resumed(holder: C, count: u128) -> Self
         ensures holder { result.holder ≡ holder }
         ensures count { result.count ≡ count }
+        ensures len_fits { length (C.items holder) < 2 ^ 64 }
     {
+        // As for a counter of exchanges.
+        let _ = holder.len();
         Writes { holder, count }
     }
 

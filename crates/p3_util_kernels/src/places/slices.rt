@@ -196,3 +196,19 @@ impl<'a, T: Copy> Source for SliceSource<'a, T> {
         self.slice[i]
     }
 }
+
+/// A slice behind a reference, as it is for places.
+impl<T: Copy> Source for &[T] {
+    type Item = T;
+
+    ghost items = { λ s. s.now };
+
+    fn len(&self) -> usize {
+        <[T]>::len(self)
+    }
+
+    #[inline(always)]
+    fn at(&self, i: usize) -> T {
+        self[i]
+    }
+}

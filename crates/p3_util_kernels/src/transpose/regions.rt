@@ -1,7 +1,15 @@
-//! Regions of a matrix, and the parts that they are cut into.
+//! A matrix that is read, its regions, and the parts that they are cut into.
 
 ghost use Rattle.std.specs.Prelude.{◌≡◌, ◌≤◌};
 ghost use Rattle.p3_util_kernels.specs.Region.{cols_of, rows_of};
+
+/// A matrix of `height` rows of `width` items, row after row in `source`.
+#[derive(Clone, Copy)]
+pub(crate) struct Matrix<R> {
+    pub source: R,
+    pub width: usize,
+    pub height: usize,
+}
 
 /// The rows from `row_start` to below `row_end` of a matrix, and of these the columns from `col_start` to below `col_end`.
 #[derive(Clone, Copy, Debug, PartialEq, Eq)]
@@ -52,6 +60,23 @@ impl Region {
             col_start: start,
             col_end: end,
             ..self
+        }
+    }
+
+    /// The same region, of which the compiler learns the numbers of rows and columns where it knows `rows` and `cols`.
+    #[inline(always)]
+    pub(crate) fn sized(self, rows: usize, cols: usize) -> Region
+        requires rows_in_order { self.row_start ≤ self.row_end }
+        requires cols_in_order { self.col_start ≤ self.col_end }
+        requires rows { rows ≡ rows_of self }
+        requires cols { cols ≡ cols_of self }
+        ensures { result ≡ self }
+    {
+        Region {
+            row_start: self.row_start,
+            row_end: self.row_start + rows,
+            col_start: self.col_start,
+            col_end: self.col_start + cols,
         }
     }
 }

@@ -4,12 +4,12 @@ ghost use Rattle.std.specs.Prelude.{◌≡◌, ◌+◌, ◌*◌, ◌/◌, ◌<�
 ghost use Rattle.std.specs.Bool.{MatchBool};
 ghost use Rattle.p3_util_kernels.specs.Halves.{AreHalves};
 ghost use Rattle.p3_util_kernels.specs.Levels.{lev, nest};
-ghost use Rattle.p3_util_kernels.specs.Region.{IsRegionTransposed, LiesInMatrix, cols_of, items_of, rows_of};
+ghost use Rattle.p3_util_kernels.specs.Region.{IsReady, IsRegionTransposed, LiesInMatrix, cols_of, items_of, rows_of};
 ghost use Rattle.p3_util_kernels.specs.Steps.{counted};
 
-use crate::places::{Cells, SliceSource, Source, Writes};
-use crate::transpose::put_region;
-use crate::transpose::regions::Region;
+use crate::places::{Cells, Source, Writes};
+use crate::transpose::pieces::{Strips, put_strips};
+use crate::transpose::regions::{Matrix, Region};
 
 /// The greatest side of a part that is not halved where its other side is no longer.
 const LEAF_SIDE: usize = 128;
@@ -41,7 +41,14 @@ pub fn transpose_split_on<C: Cells>(
     ensures bound { result ≤ 57 }
     ensures holder { C.same_holder (items_of region) out.old.holder out.new.holder }
 {
-    transpose_source_split_on(&SliceSource::new(input), out, region, width, height, levels)
+    let matrix = Matrix {
+        source: input,
+        width,
+        height,
+    };
+    let (_, count, nested) = put_split_counted(&mut out.holder, out.count, matrix, region, levels);
+    out.count = count;
+    nested
 }
 
 /// Puts the transpose of a region of any source into `out`, as [`transpose_split_on`] does that of a slice.
@@ -67,79 +74,63 @@ where
     ensures bound { result ≤ 57 }
     ensures holder { C.same_holder (items_of region) out.old.holder out.new.holder }
 {
-    let (_, count, nested) = put_split_counted(
-        &mut out.holder,
-        out.count,
-        input,
-        region,
+    let matrix = Matrix {
+        source: input,
         width,
         height,
-        levels,
-    );
+    };
+    let (_, count, nested) = put_split_counted(&mut out.holder, out.count, matrix, region, levels);
     out.count = count;
     nested
 }
 
-/// Puts `region` by halves over a counter that goes on from `count`, and returns what it counted and how many splits are nested.
+/// Puts `region` by halves over a counter that goes on from `count`, and returns its holder, its count and how many splits are
+/// nested.
 fn put_split_counted<C: Cells, R: Source<Item = C::Item> + Copy>(
     cells: C,
     count: u128,
-    input: R,
+    matrix: Matrix<R>,
     region: Region,
-    width: usize,
-    height: usize,
     levels: u32,
 ) -> (C, u128, u32)
-    requires input_fits { length (R.items input) ≡ width * height }
-    requires output_fits { length (C.items cells) ≡ width * height }
-    requires inside { LiesInMatrix region width height }
+    requires input_fits { length (R.items matrix.source) ≡ matrix.width * matrix.height }
+    requires output_fits { length (C.items cells) ≡ matrix.width * matrix.height }
+    requires inside { LiesInMatrix region matrix.width matrix.height }
     requires enough { lev (rows_of region) (cols_of region) ≤ levels }
-    ensures transposed { IsRegionTransposed region width height (R.items input) (C.items cells) (C.items result.0) }
+    ensures transposed { IsRegionTransposed region matrix.width matrix.height (R.items matrix.source)
+        (C.items cells) (C.items result.0) }
     ensures count { result.1 ≡ counted count (items_of region) }
     ensures holder { C.same_holder (items_of region) cells result.0 }
     ensures nested { result.2 ≡ nest (rows_of region) (cols_of region) }
     ensures bound { result.2 ≤ 57 }
 {
-    let (done, nested) = put_split(
-        Writes::resumed(cells, count),
-        input,
-        region,
-        width,
-        height,
-        levels,
-    );
+    let (done, nested) = put_split(Writes::resumed(cells, count), matrix, region, levels);
     let count = done.writes();
     (done.into_inner(), count, nested)
 }
 
 /// The kernel of [`transpose_source_split_on`]: puts `region` by halves, with at most `levels` levels, and returns how many
 /// splits are nested too.
-pub fn put_split<M: Cells, R: Source<Item = M::Item> + Copy>(
+pub(crate) fn put_split<M: Cells, R: Source<Item = M::Item> + Copy>(
     out: M,
-    input: R,
+    matrix: Matrix<R>,
     region: Region,
-    width: usize,
-    height: usize,
     levels: u32,
 ) -> (M, u32)
-    requires input_fits { length (R.items input) ≡ width * height }
-    requires output_fits { length (M.items out) ≡ width * height }
-    requires inside { LiesInMatrix region width height }
+    requires ready { IsReady region matrix.width matrix.height (R.items matrix.source) (M.items out) }
     requires enough { lev (rows_of region) (cols_of region) ≤ levels }
-    ensures transposed { IsRegionTransposed region width height (R.items input)
+    ensures transposed { IsRegionTransposed region matrix.width matrix.height (R.items matrix.source)
         (M.items out) (M.items result.0) }
     ensures holder { M.same_holder (items_of region) out result.0 }
     ensures nested { result.1 ≡ nest (rows_of region) (cols_of region) }
     ensures bound { result.1 ≤ 57 }
 {
-    // Its contract says that the places fit a usize.
-    let _ = out.len();
     if is_leaf(region) {
-        return (put_region(out, input, region, width, height), 0);
+        return (put_strips(out, matrix, region, Strips::High), 0);
     }
     let (first, second) = halves(region);
-    let (out, nested) = put_split(out, input, first, width, height, levels - 1);
-    let (out, nested_after) = put_split(out, input, second, width, height, levels - 1);
+    let (out, nested) = put_split(out, matrix, first, levels - 1);
+    let (out, nested_after) = put_split(out, matrix, second, levels - 1);
     (out, 1 + nested.max(nested_after))
 }
 

@@ -6,7 +6,7 @@ use Rattle.p3_util_kernels.proofs.Halves.{lev-of_whole}
 use Rattle.p3_util_kernels.proofs.transpose.transpose_matrix.Goals as goal
 
 pub put_split-out-requires-clause-enough : goal.put_split-out-requires-clause-enough
-put_split-out-requires-clause-enough g c = lev-of_whole c.whole-whole.result c.args.width c.args.height c.whole-whole.ensures (omega arith) (omega arith) (omega arith)
+put_split-out-requires-clause-enough g c = lev-of_whole c.whole-whole.result c.args.matrix.width c.args.matrix.height c.whole-whole.ensures (omega arith) (omega arith) (omega arith)
 
 items-of_whole : (whole : Region) (width height : ℕ) → whole ≡ record { row_start = 0; row_end = height; col_start = 0; col_end = width }
     → items_of whole ≡ width * height
@@ -15,6 +15,6 @@ items-of_whole whole width height is =
     let cols : width - 0 ≡ width = omega arith in
     rw (is, rows, cols) (mul_comm height width)
 
-pub returns-then-is_large-clause-holder : goal.returns-then-is_large-clause-holder
-returns-then-is_large-clause-holder g c =
-    rw (items-of_whole c.whole-whole.result c.args.width c.args.height c.whole-whole.ensures) at c.put_split-out.ensures.holder
+pub returns-then-len-gt-LARGE_MATRIX-clause-holder : goal.returns-then-len-gt-LARGE_MATRIX-clause-holder
+returns-then-len-gt-LARGE_MATRIX-clause-holder g c =
+    rw (items-of_whole c.whole-whole.result c.args.matrix.width c.args.matrix.height c.whole-whole.ensures) at c.put_split-out.ensures.holder

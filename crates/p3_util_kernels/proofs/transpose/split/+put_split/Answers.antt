@@ -21,8 +21,8 @@ put_split-out-requires g t c =
           (
             search rules,
             (
-              c.requires.input_fits,
-              (c.requires.output_fits, (c.halves.ensures.first_inside _ _ c.requires.inside, omega (arith, c.requires.enough))),
+              record { inside = c.halves.ensures.first_inside _ _ c.requires.ready.inside; input_fits = c.requires.ready.input_fits; output_fits = c.requires.ready.output_fits; length_fits = c.requires.ready.length_fits },
+              omega (arith, c.requires.enough),
             ),
           ),
         ),
@@ -45,8 +45,8 @@ put_split-out-requires-2 g t c =
           (
             search rules,
             (
-              c.requires.input_fits,
-              (c.put_split-out.ensures.transposed.same_length ∙ c.requires.output_fits, (c.halves.ensures.second_inside _ _ c.requires.inside, omega (arith, c.requires.enough))),
+              record { inside = c.halves.ensures.second_inside _ _ c.requires.ready.inside; input_fits = c.requires.ready.input_fits; output_fits = c.put_split-out.ensures.transposed.same_length ∙ c.requires.ready.output_fits; length_fits = c.requires.ready.length_fits },
+              omega (arith, c.requires.enough),
             ),
           ),
         ),
@@ -55,7 +55,7 @@ put_split-out-requires-2 g t c =
 
 pub returns-clause-transposed : goal.returns-clause-transposed
 returns-clause-transposed g t c =
-    IsRegionTransposed-cut c.args.width c.args.height _ c.args.region c.halves.result.0 c.halves.result.1 _ _ _ c.requires.inside.rows_inside c.halves.ensures.cut
+    IsRegionTransposed-cut c.args.matrix.width c.args.matrix.height _ c.args.region c.halves.result.0 c.halves.result.1 _ _ _ c.requires.ready.inside.rows_inside c.halves.ensures.cut
     c.put_split-out.ensures.transposed c.put_split-out-2.ensures.transposed
 
 pub returns-clause-holder : goal.returns-clause-holder
@@ -72,5 +72,5 @@ returns-clause-bound g t c =
       arith,
       c.halves.ensures.nested,
       nest_le (rows_of c.args.region) (cols_of c.args.region),
-      lev-of_region c.args.region c.args.width c.args.height c.requires.inside (omega arith) (omega arith) (omega arith),
+      lev-of_region c.args.region c.args.matrix.width c.args.matrix.height c.requires.ready.inside (omega arith) (omega arith) (omega arith),
     )
