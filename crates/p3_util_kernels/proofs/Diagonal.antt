@@ -100,15 +100,14 @@ module _ {A : Type 0} (base stride : ℕ) where
   }
 
   -- one more item of a row of a block
-  pub SwapsAcross-item : (line col t : ℕ) (xs ys zs : List A) → line < col → col + t < stride → base + (col + t) * stride + line < length ys
-      → SwapsAcross base stride line (line + 1) col (col + t) xs ys → zs ≡ swap ys (base + line * stride + (col + t)) (base + (col + t) * stride + line)
-      → SwapsAcross base stride line (line + 1) col (col + (t + 1)) xs zs
-  SwapsAcross-item line col t xs ys zs above within room before step =
-      let rows : (line + 1) * stride ≤ (col + t) * stride = mul-le-mul_right stride (omega arith) in
-      let end : col + (t + 1) ≡ col + t + 1 = omega arith in
-      rw (end, step)
-      (SwapsAcross-cols line (line + 1) col (col + t) (col + t + 1) _ _ _ (omega arith) (omega arith) before
-      (SwapsAcross-swap line (col + t) ys (omega arith) (omega arith) (omega arith) room))
+  pub SwapsAcross-item : (line start col : ℕ) (xs ys zs : List A) → line < start → start ≤ col → col < stride → base + col * stride + line < length ys
+      → SwapsAcross base stride line (line + 1) start col xs ys → zs ≡ swap ys (base + line * stride + col) (base + col * stride + line)
+      → SwapsAcross base stride line (line + 1) start (col + 1) xs zs
+  SwapsAcross-item line start col xs ys zs above from within room before step =
+      let rows : (line + 1) * stride ≤ col * stride = mul-le-mul_right stride (omega arith) in
+      rw step
+      (SwapsAcross-cols line (line + 1) start col (col + 1) _ _ _ from (omega arith) before
+      (SwapsAcross-swap line col ys (omega arith) within (omega arith) room))
 
   -- the upper left quadrant, the upper right one with its mirror image, and the lower right one make the square
   pub SwapsAcross-quadrants : (start mid end : ℕ) (xs ys zs ws : List A) → start ≤ mid → mid ≤ end

@@ -5,16 +5,25 @@
 
 ghost use Rattle.std.specs.Prelude.{◌≡◌, ℕ, ◌+◌, ◌-◌, ◌*◌, ◌/◌, ◌^◌, ◌<◌, ◌≤◌, length};
 ghost use Rattle.p3_util_kernels.specs.Diagonal.{HoldsSquare, SwapsAcross};
+ghost use Rattle.p3_util_kernels.specs.Region.{items_of};
 ghost use Rattle.p3_util_kernels.specs.Square.{IsSquareTransposed};
 ghost use Rattle.p3_util_kernels.specs.Steps.{counted};
 
 use crate::bits::pow2;
 use crate::places::{Places, Swaps};
+use crate::transpose::regions::Region;
 
-/// The greatest numbers of rows and columns of a block that is exchanged item by item.
+/// The greatest numbers of rows and columns of a region that is exchanged item by item.
 const LEAF_ROWS: usize = 16;
 
 const LEAF_COLS: usize = 8;
+
+/// Where a square lies in a list: its first place, and how far apart its rows begin.
+#[derive(Clone, Copy)]
+struct Square {
+    base: usize,
+    stride: usize,
+}
 
 /// Transposes in place the square of `s = 2^log_size` rows and columns whose first place is `base` and whose rows begin
 /// `2^log_stride` places apart, by `s * (s - 1) / 2` exchanges. All other places stay.
@@ -46,102 +55,101 @@ pub(crate) fn transpose_square<M: Places>(
     requires rows_apart { log_size ≤ log_stride }
     requires stride_fits { log_stride < 64 }
     requires room { let s = 2 ^ log_size in base + (s - 1) * 2 ^ log_stride + (s - 1) < length (M.items m) }
+    requires len_fits { length (M.items m) < 2 ^ 64 }
     ensures transposed { IsSquareTransposed base log_stride log_size (M.items m) (M.items result) }
     ensures holder { let s = 2 ^ log_size in M.same_holder (s * (s - 1) / 2) m result }
 {
-    // Its contract says that the length is a usize.
-    let _ = m.len();
-    transpose_part(m, base, pow2(log_stride), 0, pow2(log_size))
+    let square = Square {
+        base,
+        stride: pow2(log_stride),
+    };
+    transpose_part(m, square, 0, pow2(log_size))
 }
 
 /// Transposes the `size` rows and columns from row and column `start` on, by quadrants.
-fn transpose_part<M: Places>(m: M, base: usize, stride: usize, start: usize, size: usize) -> M
-    requires within { start + size ≤ stride }
-    requires ready { HoldsSquare base stride (start + size - 1) (M.items m) }
-    ensures swapped { SwapsAcross base stride start (start + size) start (start + size) (M.items m) (M.items result) }
+fn transpose_part<M: Places>(m: M, square: Square, start: usize, size: usize) -> M
+    requires within { start + size ≤ square.stride }
+    requires ready { HoldsSquare square.base square.stride (start + size - 1) (M.items m) }
+    ensures swapped { SwapsAcross square.base square.stride start (start + size) start (start + size) (M.items m) (M.items result) }
     ensures holder { M.same_holder (size * (size - 1) / 2) m result }
 {
     if size <= 1 {
         return m;
     }
     let half = size / 2;
-    let m = transpose_part(m, base, stride, start, half);
-    let m = swap_block(m, base, stride, start, half, start + half, size - half);
-    transpose_part(m, base, stride, start + half, size - half)
+    let upper_right = Region {
+        row_start: start,
+        row_end: start + half,
+        col_start: start + half,
+        col_end: start + size,
+    };
+    let m = transpose_part(m, square, start, half);
+    let m = swap_region(m, square, upper_right);
+    transpose_part(m, square, start + half, size - half)
 }
 
-/// Exchanges a block above the diagonal, `rows` rows from `row` on and `cols` columns from `col` on, with its mirror image
-/// below. A large block is halved: the rows where they are more than twice the columns, else the columns.
-fn swap_block<M: Places>(
-    m: M,
-    base: usize,
-    stride: usize,
-    row: usize,
-    rows: usize,
-    col: usize,
-    cols: usize,
-) -> M
-    requires above { row + rows ≤ col }
-    requires within { col + cols ≤ stride }
-    requires ready { HoldsSquare base stride (col + cols - 1) (M.items m) }
-    ensures swapped { SwapsAcross base stride row (row + rows) col (col + cols) (M.items m) (M.items result) }
-    ensures holder { M.same_holder (rows * cols) m result }
+/// Exchanges a region above the diagonal with its mirror image below. A large one is halved: the rows where they are more than
+/// twice the columns, else the columns.
+fn swap_region<M: Places>(m: M, square: Square, region: Region) -> M
+    requires rows_in_order { region.row_start ≤ region.row_end }
+    requires cols_in_order { region.col_start ≤ region.col_end }
+    requires above { region.row_end ≤ region.col_start }
+    requires within { region.col_end ≤ square.stride }
+    requires ready { HoldsSquare square.base square.stride (region.col_end - 1) (M.items m) }
+    ensures swapped { SwapsAcross square.base square.stride region.row_start region.row_end region.col_start region.col_end
+        (M.items m) (M.items result) }
+    ensures holder { M.same_holder (items_of region) m result }
 {
+    let (rows, cols) = (region.rows(), region.cols());
     if rows <= LEAF_ROWS && cols == LEAF_COLS {
         // The compiler knows how many columns most leaves have.
-        swap_leaf(m, base, stride, row, rows, col, LEAF_COLS)
+        swap_leaf(m, square, region.sized(rows, LEAF_COLS))
     } else if rows <= LEAF_ROWS && cols < LEAF_COLS {
-        swap_leaf(m, base, stride, row, rows, col, cols)
+        swap_leaf(m, square, region)
     } else if rows / 2 > cols {
-        let half = rows / 2;
-        let m = swap_block(m, base, stride, row, half, col, cols);
-        swap_block(m, base, stride, row + half, rows - half, col, cols)
+        let middle = region.row_start + rows / 2;
+        let m = swap_region(m, square, region.with_rows(region.row_start, middle));
+        swap_region(m, square, region.with_rows(middle, region.row_end))
     } else {
-        let half = cols / 2;
-        let m = swap_block(m, base, stride, row, rows, col, half);
-        swap_block(m, base, stride, row, rows, col + half, cols - half)
+        let middle = region.col_start + cols / 2;
+        let m = swap_region(m, square, region.with_cols(region.col_start, middle));
+        swap_region(m, square, region.with_cols(middle, region.col_end))
     }
 }
 
-/// As [`swap_block`], row after row of the block above the diagonal.
+/// As [`swap_region`], row after row.
 #[inline(always)]
-fn swap_leaf<M: Places>(
-    m: M,
-    base: usize,
-    stride: usize,
-    row: usize,
-    rows: usize,
-    col: usize,
-    cols: usize,
-) -> M
-    requires above { row + rows ≤ col }
-    requires within { col + cols ≤ stride }
-    requires ready { HoldsSquare base stride (col + cols - 1) (M.items m) }
-    ensures swapped { SwapsAcross base stride row (row + rows) col (col + cols) (M.items m) (M.items result) }
-    ensures holder { M.same_holder (rows * cols) m result }
+fn swap_leaf<M: Places>(m: M, square: Square, region: Region) -> M
+    requires rows_in_order { region.row_start ≤ region.row_end }
+    requires cols_in_order { region.col_start ≤ region.col_end }
+    requires above { region.row_end ≤ region.col_start }
+    requires within { region.col_end ≤ square.stride }
+    requires ready { HoldsSquare square.base square.stride (region.col_end - 1) (M.items m) }
+    ensures swapped { SwapsAcross square.base square.stride region.row_start region.row_end region.col_start region.col_end
+        (M.items m) (M.items result) }
+    ensures holder { M.same_holder (items_of region) m result }
 {
     let mut m = m;
-    for t in 0..rows {
-        m = swap_row(m, base, stride, row + t, col, cols);
+    for row in region.row_start..region.row_end {
+        m = swap_row(m, square, row, region);
     }
     m
 }
 
-/// Exchanges `cols` items of row `row` from column `col` on, which is right of the diagonal, with their mirror images.
+/// Exchanges row `row` of the columns of `region`, which are right of the diagonal, with its mirror image.
 #[inline(always)]
-fn swap_row<M: Places>(m: M, base: usize, stride: usize, row: usize, col: usize, cols: usize) -> M
-    requires above { row < col }
-    requires within { col + cols ≤ stride }
-    requires ready { HoldsSquare base stride (col + cols - 1) (M.items m) }
-    ensures swapped { SwapsAcross base stride row (row + 1) col (col + cols) (M.items m) (M.items result) }
-    ensures holder { M.same_holder cols m result }
+fn swap_row<M: Places>(m: M, square: Square, row: usize, region: Region) -> M
+    requires cols_in_order { region.col_start ≤ region.col_end }
+    requires above { row < region.col_start }
+    requires within { region.col_end ≤ square.stride }
+    requires ready { HoldsSquare square.base square.stride (region.col_end - 1) (M.items m) }
+    ensures swapped { SwapsAcross square.base square.stride row (row + 1) region.col_start region.col_end (M.items m) (M.items result) }
+    ensures holder { M.same_holder (region.col_end - region.col_start) m result }
 {
+    let Square { base, stride } = square;
     let mut m = m;
-    for t in 0..cols {
-        m.exchange_ordered(
-            base + row * stride + (col + t),
-            base + (col + t) * stride + row,
-        );
+    for col in region.col_start..region.col_end {
+        m.exchange_ordered(base + row * stride + col, base + col * stride + row);
     }
     m
 }

@@ -8,11 +8,13 @@ returns-clause-swapped g t c =
     let half = c.args.size / 2 in
     let end : c.args.start + half + (c.args.size - half) ≡ c.args.start + c.args.size = omega arith in
     SwapsAcross-quadrants _ _ _ (c.args.start + half) _ _ _ _ _ (omega arith) (omega arith) c.transpose_part-m.ensures.swapped
-    (rw end at c.swap_block-m.ensures.swapped) (rw end at c.transpose_part.ensures.swapped)
+    c.swap_region-m.ensures.swapped (rw end at c.transpose_part.ensures.swapped)
 
 pub returns-clause-holder : goal.returns-clause-holder
 returns-clause-holder g t c =
     let half = c.args.size / 2 in
     let whole : half + (c.args.size - half) ≡ c.args.size = omega arith in
     let parts = rw whole at (pairs-add half (c.args.size - half)) in
-    g.met.M.Places.same_holder_trans _ _ _ _ _ _ (g.met.M.Places.same_holder_trans _ _ _ _ _ _ c.transpose_part-m.ensures.holder c.swap_block-m.ensures.holder refl) c.transpose_part.ensures.holder (omega (arith, parts))
+    let rows : c.args.start + half - c.args.start ≡ half = omega arith in
+    let cols : c.args.start + c.args.size - (c.args.start + half) ≡ c.args.size - half = omega arith in
+    g.met.M.Places.same_holder_trans _ _ _ _ _ _ (g.met.M.Places.same_holder_trans _ _ _ _ _ _ c.transpose_part-m.ensures.holder (rw (rows, cols) at c.swap_region-m.ensures.holder) refl) c.transpose_part.ensures.holder (omega (arith, parts))

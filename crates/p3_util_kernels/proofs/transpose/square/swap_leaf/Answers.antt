@@ -1,12 +1,18 @@
-use Rattle.std.proofs.Common.{◌≡◌, ◌+◌, arith}
+use Rattle.std.proofs.Common.{◌≡◌, ◌+◌, ◌-◌, arith}
+use Rattle.p3_util_kernels.specs.Region.{cols_of}
 use Rattle.p3_util_kernels.proofs.Diagonal.{SwapsAcross-rows}
+use Rattle.p3_util_kernels.proofs.Pairs.{mul-parts_left}
 use Rattle.p3_util_kernels.proofs.transpose.square.swap_leaf.Goals as goal
 
-pub loop-t-preserved : goal.loop-t-preserved
-loop-t-preserved g c =
-    let line = c.args.row + c.loop-t.t in
-    let end : c.args.row + (c.loop-t.t + 1) ≡ line + 1 = omega arith in
+pub loop-row-preserved : goal.loop-row-preserved
+loop-row-preserved g c =
+    let r = c.args.region in
+    let row = c.loop-row.row in
     record {
-      swapped = rw end (SwapsAcross-rows c.args.base c.args.stride c.args.row line (line + 1) _ _ _ _ _ (omega arith) (omega arith) c.loop-t.invariant.swapped c.swap_row-m.ensures.swapped);
-      holder = g.met.M.Places.same_holder_trans _ _ _ _ _ _ c.loop-t.invariant.holder c.swap_row-m.ensures.holder (omega arith);
+      swapped = SwapsAcross-rows _ _ _ row (row + 1) _ _ _ _ _ (omega arith) (omega arith) c.loop-row.invariant.swapped c.swap_row-m.ensures.swapped;
+      holder = g.met.M.Places.same_holder_trans _ _ _ _ _ _ c.loop-row.invariant.holder c.swap_row-m.ensures.holder
+          (omega (arith, mul-parts_left (row - r.row_start) 1 (row + 1 - r.row_start) (cols_of r) (omega arith)));
     }
+
+pub returns-clause-swapped : goal.returns-clause-swapped
+returns-clause-swapped g c = let end : c.loop-row.row ≡ c.args.region.row_end = omega arith in rw end at c.loop-row.invariant.swapped

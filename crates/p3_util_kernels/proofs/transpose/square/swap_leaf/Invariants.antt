@@ -1,10 +1,12 @@
-use Rattle.std.proofs.Common.{◌+◌, ◌*◌}
+use Rattle.std.proofs.Common.{◌-◌, ◌*◌}
 use Rattle.p3_util_kernels.specs.Diagonal.{SwapsAcross}
+use Rattle.p3_util_kernels.specs.Region.{cols_of}
 use Rattle.p3_util_kernels.proofs.transpose.square.swap_leaf.Given as goal
 
 -- the rows before this one are exchanged
-abbrev pub invariant-loop-t : goal.invariant-loop-t
-invariant-loop-t g l = record {
-  swapped : SwapsAcross l.base l.stride l.row (l.row + l.t) l.col (l.col + l.cols) (g.M.Places.items l.initial.m) (g.M.Places.items l.m);
-  holder : g.M.Places.same_holder (l.t * l.cols) l.initial.m l.m;
+abbrev pub invariant-loop-row : goal.invariant-loop-row
+invariant-loop-row g l = record {
+  swapped : SwapsAcross l.square.base l.square.stride l.region.row_start l.row l.region.col_start l.region.col_end
+      (g.M.Places.items l.initial.m) (g.M.Places.items l.m);
+  holder : g.M.Places.same_holder ((l.row - l.region.row_start) * cols_of l.region) l.initial.m l.m;
 }
