@@ -12,8 +12,8 @@ mod rows;
 use crate::places::{Places, Swaps};
 pub use long::reverse_index_bits_long;
 use long::reverse_long;
-use rows::reverse_rows;
-pub use rows::{reverse_chunks_on, reverse_row_index_bits_on};
+pub use rows::{reverse_chunks_on, reverse_index_bits_short, reverse_row_index_bits_on};
+use rows::{reverse_rows, reverse_short};
 
 /// The greatest number of items for which the short path is picked.
 const SHORT_PATH_ITEMS: usize = 8192;
@@ -28,14 +28,6 @@ pub fn fits_rows(len: usize, row_width: usize) -> bool
         return len == 0;
     }
     len == 0 || (len % row_width == 0 && (len / row_width).is_power_of_two())
-}
-
-/// Whether the short path is picked.
-#[inline(always)]
-fn is_short(len: usize) -> bool
-    ensures { IsTrue result ↔ (len ≤ SHORT_PATH_ITEMS) }
-{
-    len <= SHORT_PATH_ITEMS
 }
 
 /// Reverses the order of `vals` by index bits: with 2^k items, place `i` gets the item from the place whose index has
@@ -61,8 +53,6 @@ pub fn reverse_counted<S: Places>(places: &mut S) -> u128
     ensures bound { result ≤ 3 * length (S.items places.old) / 2 }
     ensures holder { S.same_holder result places.old places.new }
 {
-    // Its contract says that the length is a usize, so that the count stays below its greatest.
-    let _ = places.len();
     reverse_index_bits(Swaps::new(places)).swaps()
 }
 
@@ -89,8 +79,6 @@ pub fn reverse_rows_counted<S: Places>(places: &mut S, row_width: usize) -> u128
     ensures bound { result ≤ length (S.items places.old) / 2 }
     ensures holder { S.same_holder result places.old places.new }
 {
-    // Its contract says that the length is a usize, so that the count stays below its greatest.
-    let _ = places.len();
     reverse_rows(Swaps::new(places), row_width).swaps()
 }
 
@@ -107,19 +95,6 @@ pub fn reverse_index_bits_on<S: Places>(m: &mut Swaps<S>)
     m.count = reverse_index_bits(Swaps::resumed(&mut m.holder, m.count)).swaps();
 }
 
-/// Reverses `m` by index bits, as [`reverse_slice_index_bits`] does, by one exchange of each two places that belong to
-/// each other. The length is zero or a power of two.
-#[tactic(auto, using(crate::proofs::SwapCounts::short_bound))]
-pub fn reverse_index_bits_short<S: Places>(m: &mut Swaps<S>)
-    requires { IsReversible (length (S.items m.old.holder)) }
-    ensures order { IsReversal (S.items m.old.holder) (S.items m.new.holder) }
-    ensures count { m.new.count ≡ counted m.old.count (short_swaps (clog (length (S.items m.old.holder)))) }
-    ensures bound { let n = length (S.items m.old.holder) in short_swaps (clog n) ≤ n / 2 }
-    ensures holder { S.same_holder (short_swaps (clog (length (S.items m.old.holder)))) m.old.holder m.new.holder }
-{
-    m.count = reverse_short(Swaps::resumed(&mut m.holder, m.count)).swaps();
-}
-
 /// The kernel of [`reverse_index_bits_on`].
 #[inline(always)]
 fn reverse_index_bits<M: Places>(m: M) -> M
@@ -127,20 +102,9 @@ fn reverse_index_bits<M: Places>(m: M) -> M
     ensures order { IsReversal (M.items m) (M.items result) }
     ensures holder { M.same_holder (reversal_swaps (length (M.items m))) m result }
 {
-    if is_short(m.len()) {
+    if m.len() <= SHORT_PATH_ITEMS {
         reverse_short(m)
     } else {
         reverse_long(m)
     }
-}
-
-/// The kernel of [`reverse_index_bits_short`].
-#[tactic(auto, using(crate::proofs::Lengths::rows_of_one))]
-#[inline(always)]
-fn reverse_short<M: Places>(m: M) -> M
-    requires { IsReversible (length (M.items m)) }
-    ensures order { IsReversal (M.items m) (M.items result) }
-    ensures holder { M.same_holder (short_swaps (clog (length (M.items m)))) m result }
-{
-    reverse_rows(m, 1)
 }

@@ -4,7 +4,7 @@
 //! `half + 1`. So it is one square or two side by side. The index of an item is a row, a square and a column. The two
 //! passes over rows, which are the chunks, reverse the bits of the row; the transposes between them exchange row and column.
 
-ghost use Rattle.std.specs.Prelude.{◌≡◌, ℕ, ◌+◌, ◌-◌, ◌*◌, ◌/◌, ◌^◌, ◌≤◌, length};
+ghost use Rattle.std.specs.Prelude.{◌≡◌, ℕ, ◌+◌, ◌-◌, ◌*◌, ◌/◌, ◌^◌, ◌<◌, ◌≤◌, length};
 ghost use Rattle.p3_util_kernels.specs.Levels.{clog};
 ghost use Rattle.p3_util_kernels.specs.Reversal.{IsReversal, IsReversible};
 ghost use Rattle.p3_util_kernels.specs.Steps.{counted};
@@ -33,7 +33,7 @@ pub fn reverse_index_bits_long<S: Places>(m: &mut Swaps<S>)
 
 /// The kernel of [`reverse_index_bits_long`].
 #[inline(never)]
-pub fn reverse_long<M: Places>(m: M) -> M
+pub(crate) fn reverse_long<M: Places>(m: M) -> M
     requires fits { IsReversible (length (M.items m)) }
     requires not_short { 4 ≤ length (M.items m) }
     ensures order { IsReversal (M.items m) (M.items result) }
@@ -51,11 +51,10 @@ pub fn reverse_long<M: Places>(m: M) -> M
 fn transpose_squares<M: Places>(m: M, log_stride: usize, log_size: usize) -> M
     requires within { log_size ≤ log_stride }
     requires whole { length (M.items m) ≡ 2 ^ (log_size + log_stride) }
+    requires len_fits { length (M.items m) < 2 ^ 64 }
     ensures transposed { AreTransposed (2 ^ (log_stride - log_size)) log_stride log_size (M.items m) (M.items result) }
     ensures holder { M.same_holder (2 ^ (log_stride - log_size) * square_swaps (2 ^ log_size)) m result }
 {
-    // Its contract says that the length is a usize.
-    let _ = m.len();
     let side = pow2(log_size);
     let squares = pow2(log_stride - log_size);
     let mut m = m;

@@ -17,7 +17,7 @@ ghost use Rattle.p3_util_kernels.specs.Crossing.{HoldsRows, IsCrossed, row_of, t
 ghost use Rattle.p3_util_kernels.specs.Digits.{rev};
 ghost use Rattle.p3_util_kernels.specs.Exchanged.{RunsExchanged};
 ghost use Rattle.p3_util_kernels.specs.Levels.{clog};
-ghost use Rattle.p3_util_kernels.specs.Reversal.{FitsRows, IsRowReversal};
+ghost use Rattle.p3_util_kernels.specs.Reversal.{FitsRows, IsReversal, IsReversible, IsRowReversal};
 ghost use Rattle.p3_util_kernels.specs.Steps.{counted};
 ghost use Rattle.p3_util_kernels.specs.SwapCounts.{short_swaps};
 
@@ -30,6 +30,13 @@ static REVERSED_SIX: [u8; 64] = [
     38, 22, 54, 14, 46, 30, 62, 1, 33, 17, 49, 9, 41, 25, 57, 5, 37, 21, 53, 13, 45, 29, 61, 3, 35,
     19, 51, 11, 43, 27, 59, 7, 39, 23, 55, 15, 47, 31, 63,
 ];
+
+/// Rows of `width` items, whose indices have `digits` binary digits.
+#[derive(Clone, Copy)]
+struct Rows {
+    width: usize,
+    digits: usize,
+}
 
 /// Reverses the rows of `m`, of `row_width` items each, by index bits: with 2^k rows, row `r` becomes the row whose index
 /// has the k bits of `r` in reversed order. The number of rows is zero or a power of two, which [`fits_rows`] tests.
@@ -47,6 +54,21 @@ pub fn reverse_row_index_bits_on<S: Places>(m: &mut Swaps<S>, row_width: usize)
     m.count = reverse_rows(Swaps::resumed(&mut m.holder, m.count), row_width).swaps();
 }
 
+/// Reverses `m` by index bits, as [`reverse_slice_index_bits`] does, by one exchange of each two places that belong to
+/// each other. The length is zero or a power of two.
+///
+/// [`reverse_slice_index_bits`]: crate::reverse::reverse_slice_index_bits
+#[tactic(auto, using(crate::proofs::SwapCounts::short_bound))]
+pub fn reverse_index_bits_short<S: Places>(m: &mut Swaps<S>)
+    requires { IsReversible (length (S.items m.old.holder)) }
+    ensures order { IsReversal (S.items m.old.holder) (S.items m.new.holder) }
+    ensures count { m.new.count ≡ counted m.old.count (short_swaps (clog (length (S.items m.old.holder)))) }
+    ensures bound { let n = length (S.items m.old.holder) in short_swaps (clog n) ≤ n / 2 }
+    ensures holder { S.same_holder (short_swaps (clog (length (S.items m.old.holder)))) m.old.holder m.new.holder }
+{
+    m.count = reverse_short(Swaps::resumed(&mut m.holder, m.count)).swaps();
+}
+
 /// Reverses the order of the `2^lb_num_chunks` chunks of `2^lb_chunk_size` items: with both lengths written as h and c,
 /// place `i` gets the item from `rev(h, i / 2^c) * 2^c + i mod 2^c`. The length is `2^(h + c)`. It makes at most n/2 swaps.
 #[tactic(auto, using(crate::proofs::SwapCounts::chunks_bound))]
@@ -61,9 +83,20 @@ pub fn reverse_chunks_on<S: Places>(m: &mut Swaps<S>, lb_num_chunks: usize, lb_c
     m.count = reverse_chunks(counter, lb_num_chunks, lb_chunk_size).swaps();
 }
 
+/// The kernel of [`reverse_index_bits_short`].
+#[tactic(auto, using(crate::proofs::Lengths::rows_of_one))]
+#[inline(always)]
+pub(crate) fn reverse_short<M: Places>(m: M) -> M
+    requires { IsReversible (length (M.items m)) }
+    ensures order { IsReversal (M.items m) (M.items result) }
+    ensures holder { M.same_holder (short_swaps (clog (length (M.items m)))) m result }
+{
+    reverse_rows(m, 1)
+}
+
 /// The kernel of [`reverse_row_index_bits_on`].
 #[inline(always)]
-pub fn reverse_rows<M: Places>(m: M, row_width: usize) -> M
+pub(crate) fn reverse_rows<M: Places>(m: M, row_width: usize) -> M
     requires { FitsRows (length (M.items m)) row_width }
     ensures order { IsRowReversal row_width (M.items m) (M.items result) }
     ensures holder { M.same_holder (row_width * short_swaps (clog (length (M.items m) / row_width))) m result }
@@ -73,87 +106,84 @@ pub fn reverse_rows<M: Places>(m: M, row_width: usize) -> M
         return m;
     }
     // With a number that the compiler knows, the pairs of few rows are exchanged one after the other.
-    match log2_strict_usize(len / row_width) {
+    let digits = log2_strict_usize(len / row_width);
+    let rows = Rows {
+        width: row_width,
+        digits,
+    };
+    match digits {
         0 | 1 => m,
-        2 => exchange_pairs(m, row_width, 2),
-        3 => exchange_pairs(m, row_width, 3),
-        4 => exchange_pairs(m, row_width, 4),
-        digits => exchange_pairs(m, row_width, digits),
+        2 => exchange_pairs(m, Rows { digits: 2, ..rows }),
+        3 => exchange_pairs(m, Rows { digits: 3, ..rows }),
+        4 => exchange_pairs(m, Rows { digits: 4, ..rows }),
+        _ => exchange_pairs(m, rows),
     }
 }
 
 /// The kernel of [`reverse_chunks_on`].
 #[inline(always)]
-pub fn reverse_chunks<M: Places>(m: M, log_chunks: usize, log_size: usize) -> M
-    requires { length (M.items m) ≡ 2 ^ (log_chunks + log_size) }
+pub(crate) fn reverse_chunks<M: Places>(m: M, log_chunks: usize, log_size: usize) -> M
+    requires whole { length (M.items m) ≡ 2 ^ (log_chunks + log_size) }
+    requires len_fits { length (M.items m) < 2 ^ 64 }
     ensures order { IsRowReversal (2 ^ log_size) (M.items m) (M.items result) }
     ensures holder { M.same_holder (short_swaps log_chunks * 2 ^ log_size) m result }
 {
-    // Its contract says that the length is a usize.
-    let _ = m.len();
     reverse_rows(m, pow2(log_size))
 }
 
-/// Exchanges all pairs of the rows, whose indices have `digits` digits.
+/// Exchanges all pairs of rows.
 #[inline(always)]
-fn exchange_pairs<M: Places>(m: M, row_width: usize, digits: usize) -> M
-    requires several { 2 ≤ digits }
-    requires ready { HoldsRows row_width digits (M.items m) }
-    ensures order { IsRowReversal row_width (M.items m) (M.items result) }
-    ensures holder { M.same_holder (row_width * short_swaps digits) m result }
+fn exchange_pairs<M: Places>(m: M, rows: Rows) -> M
+    requires several { 2 ≤ rows.digits }
+    requires ready { HoldsRows rows.width rows.digits (M.items m) }
+    ensures order { IsRowReversal rows.width (M.items m) (M.items result) }
+    ensures holder { M.same_holder (rows.width * short_swaps rows.digits) m result }
 {
-    let half = digits / 2;
-    let lines = pow2(digits - half);
+    let half = rows.digits / 2;
+    let lines = pow2(rows.digits - half);
     let side = pow2(half);
     let mut m = m;
     for two in 0..lines / 2 {
         let line = two * 2;
-        m = exchange_lines(m, row_width, digits, line / side, line % side);
+        m = exchange_lines(m, rows, line / side, line % side);
     }
     m
 }
 
 /// Exchanges the pairs of rows of one middle digit and of `y` and `y + 1`, with each `x` below them.
 #[inline(always)]
-fn exchange_lines<M: Places>(m: M, row_width: usize, digits: usize, middle: usize, y: usize) -> M
-    requires middle { middle < 2 ^ (digits % 2) }
+fn exchange_lines<M: Places>(m: M, rows: Rows, middle: usize, y: usize) -> M
+    requires middle { middle < 2 ^ (rows.digits % 2) }
     requires even { y % 2 ≡ 0 }
-    requires y { y + 1 < 2 ^ (digits / 2) }
-    requires ready { HoldsRows row_width digits (M.items m) }
-    ensures crossed { let two = (middle * 2 ^ (digits / 2) + y) / 2 in
-        IsCrossed (digits / 2) (digits % 2) row_width (two * 2 ^ (digits / 2) * 2) ((two + 1) * 2 ^ (digits / 2) * 2)
+    requires y { y + 1 < 2 ^ (rows.digits / 2) }
+    requires ready { HoldsRows rows.width rows.digits (M.items m) }
+    ensures crossed { let half = rows.digits / 2 in let two = (middle * 2 ^ half + y) / 2 in
+        IsCrossed half (rows.digits % 2) rows.width (two * 2 ^ half * 2) ((two + 1) * 2 ^ half * 2)
         (M.items m) (M.items result) }
-    ensures holder { M.same_holder (row_width * (y + (y + 1))) m result }
+    ensures holder { M.same_holder (rows.width * (y + (y + 1))) m result }
 {
     let mut m = m;
     for x in 0..y {
-        m = exchange_pair(m, row_width, digits, middle, x, y);
-        m = exchange_pair(m, row_width, digits, middle, x, y + 1);
+        m = exchange_pair(m, rows, middle, x, y);
+        m = exchange_pair(m, rows, middle, x, y + 1);
     }
-    exchange_pair(m, row_width, digits, middle, y, y + 1)
+    exchange_pair(m, rows, middle, y, y + 1)
 }
 
 /// Exchanges the row of `x` and `y` with the row of `y` and `x`.
 #[inline(always)]
-fn exchange_pair<M: Places>(
-    m: M,
-    row_width: usize,
-    digits: usize,
-    middle: usize,
-    x: usize,
-    y: usize,
-) -> M
-    requires middle { middle < 2 ^ (digits % 2) }
+fn exchange_pair<M: Places>(m: M, rows: Rows, middle: usize, x: usize, y: usize) -> M
+    requires middle { middle < 2 ^ (rows.digits % 2) }
     requires less { x < y }
-    requires y { y < 2 ^ (digits / 2) }
-    requires ready { HoldsRows row_width digits (M.items m) }
-    ensures crossed { let turn = turn_of (digits / 2) middle x y in
-        IsCrossed (digits / 2) (digits % 2) row_width turn (turn + 1) (M.items m) (M.items result) }
-    ensures holder { M.same_holder row_width m result }
+    requires y { y < 2 ^ (rows.digits / 2) }
+    requires ready { HoldsRows rows.width rows.digits (M.items m) }
+    ensures crossed { let half = rows.digits / 2 in let turn = turn_of half middle x y in
+        IsCrossed half (rows.digits % 2) rows.width turn (turn + 1) (M.items m) (M.items result) }
+    ensures holder { M.same_holder rows.width m result }
 {
-    let i = row_at(digits, middle, x, y);
-    let j = row_at(digits, middle, y, x);
-    exchange_rows(m, row_width, i, j)
+    let i = row_at(rows.digits, middle, x, y);
+    let j = row_at(rows.digits, middle, y, x);
+    exchange_rows(m, rows.width, i, j)
 }
 
 /// Exchanges rows `i` and `j`: as runs, where a row has several items.

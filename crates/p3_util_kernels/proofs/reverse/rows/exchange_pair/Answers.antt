@@ -5,10 +5,10 @@ use Rattle.p3_util_kernels.proofs.reverse.rows.exchange_pair.Goals as goal
 pub exchange_rows-requires-clause-apart : goal.exchange_rows-requires-clause-apart
 exchange_rows-requires-clause-apart g c =
     let apart : c.row_at-i.result ≢ c.row_at-j.result =
-    rw (c.row_at-i.ensures.row, c.row_at-j.ensures.row) (pair-apart (c.args.digits / 2) (c.args.digits % 2) c.args.middle c.args.x c.args.y c.requires.middle c.requires.less c.requires.y) in
-    runs-apart c.args.row_width c.row_at-i.result c.row_at-j.result apart
+    rw (c.row_at-i.ensures.row, c.row_at-j.ensures.row) (pair-apart (c.args.rows.digits / 2) (c.args.rows.digits % 2) c.args.middle c.args.x c.args.y c.requires.middle c.requires.less c.requires.y) in
+    runs-apart c.args.rows.width c.row_at-i.result c.row_at-j.result apart
 
 pub returns-clause-crossed : goal.returns-clause-crossed
 returns-clause-crossed g c =
-    IsCrossed-pair (c.args.digits / 2) (c.args.digits % 2) c.args.row_width c.args.middle c.args.x c.args.y _ _ c.requires.middle c.requires.less c.requires.y
+    IsCrossed-pair (c.args.rows.digits / 2) (c.args.rows.digits % 2) c.args.rows.width c.args.middle c.args.x c.args.y _ _ c.requires.middle c.requires.less c.requires.y
     (rw (c.row_at-i.ensures.row, c.row_at-j.ensures.row) at c.exchange_rows.ensures.exchanged)

@@ -37,42 +37,42 @@ higher two q some =
 
 pub loop-two-init : goal.loop-two-init
 loop-two-init g c = record {
-  crossed = IsCrossed-none _ _ c.args.row_width _ _ _ (λ m x y hx hy from to. absurd (omega arith));
-  holder = rw sum_below-none (let none : c.args.row_width * 0 ≡ 0 = omega arith in rw none (g.met.M.Places.same_holder_refl _));
+  crossed = IsCrossed-none _ _ c.args.rows.width _ _ _ (λ m x y hx hy from to. absurd (omega arith));
+  holder = rw sum_below-none (let none : c.args.rows.width * 0 ≡ 0 = omega arith in rw none (g.met.M.Places.same_holder_refl _));
 }
 
 pub nonzero_div-line : goal.nonzero_div-line
-nonzero_div-line g c = rw c.pow2-side.ensures (pow_pos (c.args.digits / 2))
+nonzero_div-line g c = rw c.pow2-side.ensures (pow_pos (c.args.rows.digits / 2))
 
 pub nonzero_rem-line : goal.nonzero_rem-line
-nonzero_rem-line g c = rw c.pow2-side.ensures (pow_pos (c.args.digits / 2))
+nonzero_rem-line g c = rw c.pow2-side.ensures (pow_pos (c.args.rows.digits / 2))
 
 pub exchange_lines-m-requires-clause-middle : goal.exchange_lines-m-requires-clause-middle
 exchange_lines-m-requires-clause-middle g c =
-    let x = c.args.digits in
+    let x = c.args.rows.digits in
     let below : c.loop-two.two * 2 < 2 ^ (x % 2 + x / 2) = omega (arith, weight x) in
     rw c.pow2-side.ensures (div_below (c.loop-two.two * 2) (2 ^ (x / 2)) (2 ^ (x % 2)) (pow_pos (x / 2)) (rw (pow-add 2 (x % 2) (x / 2)) at below))
 
 pub exchange_lines-m-requires-clause-even : goal.exchange_lines-m-requires-clause-even
-exchange_lines-m-requires-clause-even g c = rw c.pow2-side.ensures (lower-even c.loop-two.two (c.args.digits / 2) (omega arith))
+exchange_lines-m-requires-clause-even g c = rw c.pow2-side.ensures (lower-even c.loop-two.two (c.args.rows.digits / 2) (omega arith))
 
 pub exchange_lines-m-requires-clause-y : goal.exchange_lines-m-requires-clause-y
-exchange_lines-m-requires-clause-y g c = rw c.pow2-side.ensures (higher-fits c.loop-two.two (c.args.digits / 2) (omega arith))
+exchange_lines-m-requires-clause-y g c = rw c.pow2-side.ensures (higher-fits c.loop-two.two (c.args.rows.digits / 2) (omega arith))
 
 pub loop-two-preserved : goal.loop-two-preserved
 loop-two-preserved g c =
-    let q = c.args.digits / 2 in
+    let q = c.args.rows.digits / 2 in
     let two = c.loop-two.two in
     let side = c.pow2-side.ensures in
     let split : two * 2 / 2 ^ q * 2 ^ q + two * 2 % 2 ^ q ≡ two * 2 = div-add-mod' (two * 2) (2 ^ q) in
     let half : two * 2 / 2 ≡ two = omega arith in
     let step = rw (side, split, half) at c.exchange_lines-m.ensures.crossed in
     let next : (two + 1) * 2 ≡ two * 2 + 1 + 1 = omega arith in
-    let more : c.args.row_width * sum_below (two * 2) (λ n. n % 2 ^ q) + c.args.row_width * (two * 2 % 2 ^ q + (two * 2 % 2 ^ q + 1))
-    ≡ c.args.row_width * sum_below ((two + 1) * 2) (λ n. n % 2 ^ q) = rw (next, sum_below-more, sum_below-more, higher two q (omega arith)) (omega arith) in
+    let more : c.args.rows.width * sum_below (two * 2) (λ n. n % 2 ^ q) + c.args.rows.width * (two * 2 % 2 ^ q + (two * 2 % 2 ^ q + 1))
+    ≡ c.args.rows.width * sum_below ((two + 1) * 2) (λ n. n % 2 ^ q) = rw (next, sum_below-more, sum_below-more, higher two q (omega arith)) (omega arith) in
     let up : two * 2 ^ q * 2 ≤ (two + 1) * 2 ^ q * 2 = omega arith in
     record {
-      crossed = IsCrossed-join _ _ c.args.row_width _ _ _ _ _ _ (omega arith) up c.loop-two.invariant.crossed step;
+      crossed = IsCrossed-join _ _ c.args.rows.width _ _ _ _ _ _ (omega arith) up c.loop-two.invariant.crossed step;
       holder = g.met.M.Places.same_holder_trans _ _ _ _ _ _ c.loop-two.invariant.holder (rw side at c.exchange_lines-m.ensures.holder) more;
     }
 
@@ -84,15 +84,15 @@ all_lines two x some e =
 
 pub returns-clause-order : goal.returns-clause-order
 returns-clause-order g c =
-    let x = c.args.digits in
+    let x = c.args.rows.digits in
     let lines = all_lines c.loop-two.two x (omega arith) (omega arith) in
     let half : c.loop-two.two ≡ 2 ^ (x % 2 + x / 2) / 2 = omega (arith, lines) in
-    IsRowReversal-crossed (x / 2) (x % 2) c.args.row_width _ _ _ (omega arith) (rows_in_parts _ _ x c.requires.ready.rows)
+    IsRowReversal-crossed (x / 2) (x % 2) c.args.rows.width _ _ _ (omega arith) (rows_in_parts _ _ x c.requires.ready.rows)
     (λ m a b hm ha hb. turn-before (x / 2) (x % 2) m a b (omega arith) hm ha hb)
     (rw half at c.loop-two.invariant.crossed)
 
 pub returns-clause-holder : goal.returns-clause-holder
 returns-clause-holder g c =
-    let x = c.args.digits in
+    let x = c.args.rows.digits in
     let lines = all_lines c.loop-two.two x (omega arith) (omega arith) in
     rw (lines, lines-short (x / 2) (x % 2) (omega arith), parts x) at c.loop-two.invariant.holder

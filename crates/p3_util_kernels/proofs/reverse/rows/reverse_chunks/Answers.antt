@@ -20,7 +20,7 @@ counted_chunks h c n whole =
 
 pub reverse_rows-requires : goal.reverse_rows-requires
 reverse_rows-requires g c =
-    (2 ^ c.args.log_chunks, inr (c.args.log_chunks, refl), rw c.pow2.ensures (chunks c.args.log_chunks c.args.log_size _ c.requires))
+    (2 ^ c.args.log_chunks, inr (c.args.log_chunks, refl), rw c.pow2.ensures (chunks c.args.log_chunks c.args.log_size _ c.requires.whole))
 
 pub returns-clause-order : goal.returns-clause-order
 returns-clause-order g c = rw c.pow2.ensures at c.reverse_rows.ensures.order
@@ -28,4 +28,4 @@ returns-clause-order g c = rw c.pow2.ensures at c.reverse_rows.ensures.order
 pub returns-clause-holder : goal.returns-clause-holder
 returns-clause-holder g c =
     let order : 2 ^ c.args.log_size * short_swaps c.args.log_chunks ≡ short_swaps c.args.log_chunks * 2 ^ c.args.log_size = omega arith in
-    rw (c.pow2.ensures, counted_chunks c.args.log_chunks c.args.log_size _ c.requires, order) at c.reverse_rows.ensures.holder
+    rw (c.pow2.ensures, counted_chunks c.args.log_chunks c.args.log_size _ c.requires.whole, order) at c.reverse_rows.ensures.holder

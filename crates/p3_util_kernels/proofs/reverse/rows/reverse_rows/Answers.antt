@@ -24,17 +24,17 @@ exchange_pairs-requires-in_default-clause-ready g c =
     let rows = IsPowerOfRows-from _ _ (λ e. c.if-len-eq0.false (c.len-len.ensures ∙ e)) c.requires in
     record {
       wide = rows.wide;
-      few = c.log2_strict_usize.ensures.bound;
-      rows = whole _ _ _ _ c.len-len.ensures rows c.log2_strict_usize.ensures.power;
+      few = c.log2_strict_usize-digits.ensures.bound;
+      rows = whole _ _ _ _ c.len-len.ensures rows c.log2_strict_usize-digits.ensures.power;
       length_fits = omega arith;
     }
 
 pub returns-in-0-clause-order : goal.returns-in-0-clause-order
 returns-in-0-clause-order g c =
-    let x = c.log2_strict_usize.result in
+    let x = c.log2_strict_usize-digits.result in
     let rows = IsPowerOfRows-from _ _ (λ e. c.if-len-eq0.false (c.len-len.ensures ∙ e)) c.requires in
     let parts : x / 2 + (x % 2 + x / 2) ≡ x = omega arith in
-    IsRowReversal-own (x / 2) (x % 2) c.args.row_width _ (omega arith) (omega arith) (rw parts (whole _ _ _ _ c.len-len.ensures rows c.log2_strict_usize.ensures.power))
+    IsRowReversal-own (x / 2) (x % 2) c.args.row_width _ (omega arith) (omega arith) (rw parts (whole _ _ _ _ c.len-len.ensures rows c.log2_strict_usize-digits.ensures.power))
 
 -- a list of no items has no pairs
 empty_none : (len row_width : ℕ) → len ≡ 0 → row_width * short_swaps (clog (len / row_width)) ≡ 0
@@ -45,13 +45,13 @@ empty_none len row_width e =
 pub returns-then-len-eq0-clause-holder : goal.returns-then-len-eq0-clause-holder
 returns-then-len-eq0-clause-holder g c = rw (empty_none (length (g.M.Places.items c.args.m)) c.args.row_width (omega arith)) (g.met.M.Places.same_holder_refl _)
 
-pub log2_strict_usize-requires : goal.log2_strict_usize-requires
-log2_strict_usize-requires g c =
+pub log2_strict_usize-digits-requires : goal.log2_strict_usize-digits-requires
+log2_strict_usize-digits-requires g c =
     let rows = IsPowerOfRows-from _ _ (λ e. c.if-len-eq0.false (c.len-len.ensures ∙ e)) c.requires in
     inl (rows.exponent, ap (λ n. n / c.args.row_width) c.len-len.ensures ∙ rows.rows)
 
 pub returns-in-0-clause-holder : goal.returns-in-0-clause-holder
 returns-in-0-clause-holder g c =
-    let none : c.args.row_width * short_swaps c.log2_strict_usize.result ≡ 0 =
-    omega (arith, ap (λ n. c.args.row_width * n) (short_none c.log2_strict_usize.result (omega arith))) in
-    rw (← c.len-len.ensures, ← c.log2_strict_usize.ensures.counted, none) (g.met.M.Places.same_holder_refl _)
+    let none : c.args.row_width * short_swaps c.log2_strict_usize-digits.result ≡ 0 =
+    omega (arith, ap (λ n. c.args.row_width * n) (short_none c.log2_strict_usize-digits.result (omega arith))) in
+    rw (← c.len-len.ensures, ← c.log2_strict_usize-digits.ensures.counted, none) (g.met.M.Places.same_holder_refl _)
