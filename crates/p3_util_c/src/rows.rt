@@ -22,28 +22,10 @@ pub extern "C" fn p3_util_reverse_rows_2(vals: &mut [[u8; 2]], row_width: usize)
     reverse_rows_where_they_fit(vals, row_width)
 }
 
-/// Reverses the order of the rows of `vals`, each of `row_width` items of 3 bytes, by index bits, where the length is
-/// `row_width` times zero or a power of two. Returns whether it is.
-#[unsafe(no_mangle)]
-pub extern "C" fn p3_util_reverse_rows_3(vals: &mut [[[u8; 1]; 3]], row_width: usize) -> bool
-    ensures { IsTriedRowReversal result row_width vals.old vals.new }
-{
-    reverse_rows_where_they_fit(vals, row_width)
-}
-
 /// Reverses the order of the rows of `vals`, each of `row_width` items of 4 bytes, by index bits, where the length is
 /// `row_width` times zero or a power of two. Returns whether it is.
 #[unsafe(no_mangle)]
 pub extern "C" fn p3_util_reverse_rows_4(vals: &mut [[u8; 4]], row_width: usize) -> bool
-    ensures { IsTriedRowReversal result row_width vals.old vals.new }
-{
-    reverse_rows_where_they_fit(vals, row_width)
-}
-
-/// Reverses the order of the rows of `vals`, each of `row_width` items of 6 bytes, by index bits, where the length is
-/// `row_width` times zero or a power of two. Returns whether it is.
-#[unsafe(no_mangle)]
-pub extern "C" fn p3_util_reverse_rows_6(vals: &mut [[[u8; 2]; 3]], row_width: usize) -> bool
     ensures { IsTriedRowReversal result row_width vals.old vals.new }
 {
     reverse_rows_where_they_fit(vals, row_width)
@@ -143,6 +125,24 @@ pub extern "C" fn p3_util_reverse_rows_96(vals: &mut [[[u8; 8]; 12]], row_width:
 /// `row_width` times zero or a power of two. Returns whether it is.
 #[unsafe(no_mangle)]
 pub extern "C" fn p3_util_reverse_rows_128(vals: &mut [[[u8; 8]; 16]], row_width: usize) -> bool
+    ensures { IsTriedRowReversal result row_width vals.old vals.new }
+{
+    reverse_rows_where_they_fit(vals, row_width)
+}
+
+/// Reverses the order of the rows of `vals`, each of `row_width` items of 160 bytes, by index bits, where the length is
+/// `row_width` times zero or a power of two. Returns whether it is.
+#[unsafe(no_mangle)]
+pub extern "C" fn p3_util_reverse_rows_160(vals: &mut [[[u8; 8]; 20]], row_width: usize) -> bool
+    ensures { IsTriedRowReversal result row_width vals.old vals.new }
+{
+    reverse_rows_where_they_fit(vals, row_width)
+}
+
+/// Reverses the order of the rows of `vals`, each of `row_width` items of 256 bytes, by index bits, where the length is
+/// `row_width` times zero or a power of two. Returns whether it is.
+#[unsafe(no_mangle)]
+pub extern "C" fn p3_util_reverse_rows_256(vals: &mut [[[u8; 8]; 32]], row_width: usize) -> bool
     ensures { IsTriedRowReversal result row_width vals.old vals.new }
 {
     reverse_rows_where_they_fit(vals, row_width)

@@ -32,40 +32,12 @@ pub extern "C" fn p3_util_transpose_2(
     transpose_where_it_fits(input, output, width, height)
 }
 
-/// Writes to `output` the transpose of `input`, `height` rows of `width` items of 3 bytes, where both lengths are
-/// `width` times `height`. Returns whether they are.
-#[unsafe(no_mangle)]
-pub extern "C" fn p3_util_transpose_3(
-    input: &[[[u8; 1]; 3]],
-    output: &mut [[[u8; 1]; 3]],
-    width: usize,
-    height: usize,
-) -> bool
-    ensures { IsTriedTranspose result width height input.now output.old output.new }
-{
-    transpose_where_it_fits(input, output, width, height)
-}
-
 /// Writes to `output` the transpose of `input`, `height` rows of `width` items of 4 bytes, where both lengths are
 /// `width` times `height`. Returns whether they are.
 #[unsafe(no_mangle)]
 pub extern "C" fn p3_util_transpose_4(
     input: &[[u8; 4]],
     output: &mut [[u8; 4]],
-    width: usize,
-    height: usize,
-) -> bool
-    ensures { IsTriedTranspose result width height input.now output.old output.new }
-{
-    transpose_where_it_fits(input, output, width, height)
-}
-
-/// Writes to `output` the transpose of `input`, `height` rows of `width` items of 6 bytes, where both lengths are
-/// `width` times `height`. Returns whether they are.
-#[unsafe(no_mangle)]
-pub extern "C" fn p3_util_transpose_6(
-    input: &[[[u8; 2]; 3]],
-    output: &mut [[[u8; 2]; 3]],
     width: usize,
     height: usize,
 ) -> bool
@@ -220,6 +192,34 @@ pub extern "C" fn p3_util_transpose_96(
 pub extern "C" fn p3_util_transpose_128(
     input: &[[[u8; 8]; 16]],
     output: &mut [[[u8; 8]; 16]],
+    width: usize,
+    height: usize,
+) -> bool
+    ensures { IsTriedTranspose result width height input.now output.old output.new }
+{
+    transpose_where_it_fits(input, output, width, height)
+}
+
+/// Writes to `output` the transpose of `input`, `height` rows of `width` items of 160 bytes, where both lengths are
+/// `width` times `height`. Returns whether they are.
+#[unsafe(no_mangle)]
+pub extern "C" fn p3_util_transpose_160(
+    input: &[[[u8; 8]; 20]],
+    output: &mut [[[u8; 8]; 20]],
+    width: usize,
+    height: usize,
+) -> bool
+    ensures { IsTriedTranspose result width height input.now output.old output.new }
+{
+    transpose_where_it_fits(input, output, width, height)
+}
+
+/// Writes to `output` the transpose of `input`, `height` rows of `width` items of 256 bytes, where both lengths are
+/// `width` times `height`. Returns whether they are.
+#[unsafe(no_mangle)]
+pub extern "C" fn p3_util_transpose_256(
+    input: &[[[u8; 8]; 32]],
+    output: &mut [[[u8; 8]; 32]],
     width: usize,
     height: usize,
 ) -> bool
