@@ -1,5 +1,8 @@
 //! Bit reversal of lists.
 
+ghost use Rattle.std.specs.Prelude.{◌≡◌, ◌↔◌, IsTrue, length};
+ghost use Rattle.std.specs.Bool.{OnTrue, OnFalse};
+ghost use Rattle.p3_util_kernels.specs.Reversal.{IsReversal, IsZeroOrPowerOfTwo};
 ghost use Rattle.p3_util_c.specs.Tried.{IsTriedReversal};
 
 use p3_util_kernels::reverse::{fits_rows, reverse_slice_index_bits};
@@ -148,8 +151,11 @@ pub extern "C" fn p3_util_reverse_256(vals: &mut [[[u8; 8]; 32]]) -> bool
     reverse_where_it_fits(vals)
 }
 
+/// The parts of [`IsTriedReversal`], each a clause.
 fn reverse_where_it_fits<T>(vals: &mut [T]) -> bool
-    ensures { IsTriedReversal result vals.old vals.new }
+    ensures held { IsTrue result ↔ IsZeroOrPowerOfTwo (length vals.old) }
+    ensures done { OnTrue result (IsReversal vals.old vals.new) }
+    ensures unchanged { OnFalse result (vals.new ≡ vals.old) }
 {
     let fits = fits_rows(vals.len(), 1);
     if fits {

@@ -1,5 +1,8 @@
 //! Bit reversal of rows: each row moves as one item.
 
+ghost use Rattle.std.specs.Prelude.{◌≡◌, ◌↔◌, IsTrue, length};
+ghost use Rattle.std.specs.Bool.{OnTrue, OnFalse};
+ghost use Rattle.p3_util_kernels.specs.Reversal.{FitsRows, IsRowReversal};
 ghost use Rattle.p3_util_c.specs.Tried.{IsTriedRowReversal};
 
 use p3_util_kernels::reverse::{fits_rows, reverse_slice_row_index_bits};
@@ -148,8 +151,11 @@ pub extern "C" fn p3_util_reverse_rows_256(vals: &mut [[[u8; 8]; 32]], row_width
     reverse_rows_where_they_fit(vals, row_width)
 }
 
+/// The parts of [`IsTriedRowReversal`], each a clause.
 fn reverse_rows_where_they_fit<T>(vals: &mut [T], row_width: usize) -> bool
-    ensures { IsTriedRowReversal result row_width vals.old vals.new }
+    ensures held { IsTrue result ↔ FitsRows (length vals.old) row_width }
+    ensures done { OnTrue result (IsRowReversal row_width vals.old vals.new) }
+    ensures unchanged { OnFalse result (vals.new ≡ vals.old) }
 {
     let fits = fits_rows(vals.len(), row_width);
     if fits {

@@ -1,5 +1,8 @@
 //! Transposes of matrices that are held as flat lists, row after row.
 
+ghost use Rattle.std.specs.Prelude.{◌≡◌, ◌*◌, ◌↔◌, IsTrue, length};
+ghost use Rattle.std.specs.Bool.{OnTrue, OnFalse};
+ghost use Rattle.p3_util_kernels.specs.Transpose.{IsTranspose};
 ghost use Rattle.p3_util_c.specs.Tried.{IsTriedTranspose};
 
 use p3_util_kernels::transpose::{fits_matrix, transpose};
@@ -228,13 +231,16 @@ pub extern "C" fn p3_util_transpose_256(
     transpose_where_it_fits(input, output, width, height)
 }
 
+/// The parts of [`IsTriedTranspose`], each a clause.
 fn transpose_where_it_fits<T: Copy>(
     input: &[T],
     output: &mut [T],
     width: usize,
     height: usize,
 ) -> bool
-    ensures { IsTriedTranspose result width height input.now output.old output.new }
+    ensures held { IsTrue result ↔ ((length input.now ≡ width * height) × (length output.old ≡ width * height)) }
+    ensures done { OnTrue result (IsTranspose width height input.now output.new) }
+    ensures unchanged { OnFalse result (output.new ≡ output.old) }
 {
     let fits = fits_matrix(input.len(), output.len(), width, height);
     if fits {
