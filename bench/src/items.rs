@@ -38,9 +38,7 @@ pub fn visit<V: Visitor>(case: &Case, visitor: V) -> V::Answer {
     match case.item_size {
         1 => visitor.visit::<u8>(case),
         2 => visitor.visit::<u16>(case),
-        3 => visitor.visit::<[u8; 3]>(case),
         4 => visitor.visit::<u32>(case),
-        6 => visitor.visit::<[u16; 3]>(case),
         8 => visitor.visit::<u64>(case),
         12 => visitor.visit::<[u32; 3]>(case),
         16 => visitor.visit::<[u64; 2]>(case),
@@ -52,6 +50,8 @@ pub fn visit<V: Visitor>(case: &Case, visitor: V) -> V::Answer {
         64 => visitor.visit::<[u64; 8]>(case),
         96 => visitor.visit::<[u64; 12]>(case),
         128 => visitor.visit::<[u64; 16]>(case),
+        160 => visitor.visit::<[u64; 20]>(case),
+        256 => visitor.visit::<[u64; 32]>(case),
         size => unreachable!("there are no items of {size} bytes"),
     }
 }

@@ -49,7 +49,7 @@ macro_rules! calls {
     };
 }
 
-calls! { 1 2 3 4 6 8 12 16 20 24 32 40 48 64 96 128 }
+calls! { 1 2 4 8 12 16 20 24 32 40 48 64 96 128 160 256 }
 
 /// Reverses the order of `vals` by index bits.
 pub fn reverse<T: Item>(vals: &mut [T]) {

@@ -13,7 +13,7 @@
         }                    \
     } while (0)
 
-enum { MOST_ITEMS = 1 << 15, LARGEST = 128, ROOM = 1 + MOST_ITEMS * LARGEST };
+enum { MOST_ITEMS = 1 << 15, LARGEST = 256, ROOM = 1 + MOST_ITEMS * LARGEST };
 
 static unsigned char before[ROOM], after[ROOM], wanted[ROOM];
 
@@ -130,9 +130,7 @@ int main(void) {
     }
     CHECK_SIZE(1);
     CHECK_SIZE(2);
-    CHECK_SIZE(3);
     CHECK_SIZE(4);
-    CHECK_SIZE(6);
     CHECK_SIZE(8);
     CHECK_SIZE(12);
     CHECK_SIZE(16);
@@ -144,5 +142,7 @@ int main(void) {
     CHECK_SIZE(64);
     CHECK_SIZE(96);
     CHECK_SIZE(128);
+    CHECK_SIZE(160);
+    CHECK_SIZE(256);
     return 0;
 }

@@ -31,9 +31,7 @@ extern "C" {
  */
 bool p3_util_reverse_1(void *vals, size_t len);
 bool p3_util_reverse_2(void *vals, size_t len);
-bool p3_util_reverse_3(void *vals, size_t len);
 bool p3_util_reverse_4(void *vals, size_t len);
-bool p3_util_reverse_6(void *vals, size_t len);
 bool p3_util_reverse_8(void *vals, size_t len);
 bool p3_util_reverse_12(void *vals, size_t len);
 bool p3_util_reverse_16(void *vals, size_t len);
@@ -45,6 +43,8 @@ bool p3_util_reverse_48(void *vals, size_t len);
 bool p3_util_reverse_64(void *vals, size_t len);
 bool p3_util_reverse_96(void *vals, size_t len);
 bool p3_util_reverse_128(void *vals, size_t len);
+bool p3_util_reverse_160(void *vals, size_t len);
+bool p3_util_reverse_256(void *vals, size_t len);
 
 /*
  * Reverses the order of rows of row_width items by index bits, each row as one item, where len, the number of items, is
@@ -53,9 +53,7 @@ bool p3_util_reverse_128(void *vals, size_t len);
  */
 bool p3_util_reverse_rows_1(void *vals, size_t len, size_t row_width);
 bool p3_util_reverse_rows_2(void *vals, size_t len, size_t row_width);
-bool p3_util_reverse_rows_3(void *vals, size_t len, size_t row_width);
 bool p3_util_reverse_rows_4(void *vals, size_t len, size_t row_width);
-bool p3_util_reverse_rows_6(void *vals, size_t len, size_t row_width);
 bool p3_util_reverse_rows_8(void *vals, size_t len, size_t row_width);
 bool p3_util_reverse_rows_12(void *vals, size_t len, size_t row_width);
 bool p3_util_reverse_rows_16(void *vals, size_t len, size_t row_width);
@@ -67,6 +65,8 @@ bool p3_util_reverse_rows_48(void *vals, size_t len, size_t row_width);
 bool p3_util_reverse_rows_64(void *vals, size_t len, size_t row_width);
 bool p3_util_reverse_rows_96(void *vals, size_t len, size_t row_width);
 bool p3_util_reverse_rows_128(void *vals, size_t len, size_t row_width);
+bool p3_util_reverse_rows_160(void *vals, size_t len, size_t row_width);
+bool p3_util_reverse_rows_256(void *vals, size_t len, size_t row_width);
 
 /*
  * Writes to output the transpose of input, a matrix of height rows of width items, row after row: item y * width + x of
@@ -77,11 +77,7 @@ bool p3_util_transpose_1(const void *input, size_t input_len, void *output, size
     size_t height);
 bool p3_util_transpose_2(const void *input, size_t input_len, void *output, size_t output_len, size_t width,
     size_t height);
-bool p3_util_transpose_3(const void *input, size_t input_len, void *output, size_t output_len, size_t width,
-    size_t height);
 bool p3_util_transpose_4(const void *input, size_t input_len, void *output, size_t output_len, size_t width,
-    size_t height);
-bool p3_util_transpose_6(const void *input, size_t input_len, void *output, size_t output_len, size_t width,
     size_t height);
 bool p3_util_transpose_8(const void *input, size_t input_len, void *output, size_t output_len, size_t width,
     size_t height);
@@ -105,6 +101,10 @@ bool p3_util_transpose_96(const void *input, size_t input_len, void *output, siz
     size_t height);
 bool p3_util_transpose_128(const void *input, size_t input_len, void *output, size_t output_len, size_t width,
     size_t height);
+bool p3_util_transpose_160(const void *input, size_t input_len, void *output, size_t output_len, size_t width,
+    size_t height);
+bool p3_util_transpose_256(const void *input, size_t input_len, void *output, size_t output_len, size_t width,
+    size_t height);
 
 /* The least e with n <= 2^e, which is 0 for 0 and 1. */
 size_t p3_util_log2_ceil(size_t n);
@@ -126,10 +126,10 @@ bool p3_util_reverse_bits_len(size_t x, size_t bit_len, size_t *reversed);
  * Returns the number of the interface, which is in the name. What includes this header refers to it, so that it does not
  * link with a library of another version.
  */
-size_t p3_util_c_interface_1_library_and_bindings_are_of_one_version(void);
+size_t p3_util_c_interface_2_library_and_bindings_are_of_one_version(void);
 #ifdef __GNUC__
 __attribute__((used)) static size_t (*const p3_util_c_interface)(void) =
-    p3_util_c_interface_1_library_and_bindings_are_of_one_version;
+    p3_util_c_interface_2_library_and_bindings_are_of_one_version;
 #endif
 
 #ifdef __cplusplus

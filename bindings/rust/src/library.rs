@@ -53,15 +53,15 @@ macro_rules! serve {
     };
 }
 
-serve! { 1 2 3 4 6 8 12 16 20 24 32 40 48 64 96 128 }
+serve! { 1 2 4 8 12 16 20 24 32 40 48 64 96 128 160 256 }
 
 unsafe extern "C" {
-    safe fn p3_util_c_interface_1_library_and_bindings_are_of_one_version() -> usize;
+    safe fn p3_util_c_interface_2_library_and_bindings_are_of_one_version() -> usize;
 }
 
 /// Keeps the name of the interface in every program, so that none links with a library of another one.
 #[used]
-static INTERFACE: extern "C" fn() -> usize = p3_util_c_interface_1_library_and_bindings_are_of_one_version;
+static INTERFACE: extern "C" fn() -> usize = p3_util_c_interface_2_library_and_bindings_are_of_one_version;
 
 /// The calls for the largest items of the library that items of `size` bytes, at least one, are made of.
 const fn calls_for_parts(size: usize) -> Calls {

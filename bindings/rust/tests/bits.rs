@@ -1,8 +1,18 @@
 //! The calls on single words: the original's answers, the proved exports' answers, constants and panics.
 
+// The original's answers, as the tests of `p3_util_vectors` have them. The names of types are for those alone.
+#[allow(dead_code, clippy::type_complexity)]
+#[rustfmt::skip]
+#[path = "../../../crates/p3_util_vectors/src/tests/oracle/words.rt"]
+mod words;
+
 use std::panic::catch_unwind;
 
 use p3_util_proved::*;
+use words::{
+    CHECKED_POWERS, CHECKED_SUMS, LOGARITHMS, POWERS_OF_THREE, POWERS_OF_TWO, REVERSED_BELOW_POWERS,
+    REVERSED_LOW_DIGITS,
+};
 
 /// The proved exports, to compare with. The references are the library's own types of these parameters.
 mod proved {
@@ -88,37 +98,38 @@ fn strict_logarithms_panic_where_the_proved_ones_refuse() {
     }
 }
 
-/// The answer as the original's list has it.
-fn answer(call: &str, n: &[usize]) -> String {
-    match call {
-        "log2_ceil_usize" => log2_ceil_usize(n[0]).to_string(),
-        "log2_floor_usize" => log2_floor_usize(n[0]).to_string(),
-        "log2_ceil_u64" => log2_ceil_u64(n[0] as u64).to_string(),
-        "log2_strict_usize" => log2_strict_usize(n[0]).to_string(),
-        "log3_strict_usize" => log3_strict_usize(n[0]).to_string(),
-        "checked_pow2" => format!("{:?}", checked_pow2(n[0])),
-        "checked_log_size_sum" => format!("{:?}", checked_log_size_sum(n[0], n[1])),
-        "reverse_bits" => reverse_bits(n[0], n[1]).to_string(),
-        "reverse_bits_len" => reverse_bits_len(n[0], n[1]).to_string(),
-        _ => panic!("{call} is no call"),
+#[test]
+fn logarithms_are_the_originals() {
+    for (n, ceil, floor) in LOGARITHMS {
+        assert_eq!((log2_ceil_usize(n), log2_floor_usize(n)), (ceil, floor), "{n}");
+        assert_eq!(log2_ceil_u64(n as u64), ceil as u64, "{n}");
+    }
+    for (exponent, n) in POWERS_OF_TWO.iter().enumerate() {
+        assert_eq!(log2_strict_usize(*n), exponent, "{n}");
+    }
+    for (exponent, n) in POWERS_OF_THREE.iter().enumerate() {
+        assert_eq!(log3_strict_usize(*n), exponent, "{n}");
     }
 }
 
 #[test]
-fn answers_are_the_originals() {
-    let lines = include_str!("data/bits.tsv")
-        .lines()
-        .filter(|line| !line.starts_with('#'));
-    let mut count = 0;
-    for line in lines {
-        let [call, arguments, wanted] = line.split('\t').collect::<Vec<_>>()[..] else {
-            panic!("{line}")
-        };
-        let arguments: Vec<usize> = arguments.split(' ').map(|word| word.parse().unwrap()).collect();
-        assert_eq!(answer(call, &arguments), wanted, "{line}");
-        count += 1;
+fn powers_are_the_originals() {
+    for (exponent, wanted) in CHECKED_POWERS {
+        assert_eq!(checked_pow2(exponent), wanted, "{exponent}");
     }
-    assert_eq!(count, 302);
+    for (a, b, wanted) in CHECKED_SUMS {
+        assert_eq!(checked_log_size_sum(a, b), wanted, "{a} {b}");
+    }
+}
+
+#[test]
+fn reversed_digits_are_the_originals() {
+    for (x, bit_len, wanted) in REVERSED_LOW_DIGITS {
+        assert_eq!(reverse_bits_len(x, bit_len), wanted, "{x} {bit_len}");
+    }
+    for (x, n, wanted) in REVERSED_BELOW_POWERS {
+        assert_eq!(reverse_bits(x, n), wanted, "{x} {n}");
+    }
 }
 
 const ROWS: usize = 1 << 5;

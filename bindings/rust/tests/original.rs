@@ -1,7 +1,17 @@
-//! The answers of the original crate, as hashes of its lists.
+//! The answers of the original crate, as hashes of its lists. A program over the code of `p3-util` 0.8.0 itself made them,
+//! and the tests of `p3_util_vectors` read the same files.
+
+#[rustfmt::skip]
+#[path = "../../../crates/p3_util_vectors/src/tests/oracle/reversals.rt"]
+mod reversals;
+#[rustfmt::skip]
+#[path = "../../../crates/p3_util_vectors/src/tests/oracle/transposes.rt"]
+mod transposes;
 
 use p3_util_proved::reverse_slice_index_bits;
 use p3_util_proved::transpose::transpose;
+use reversals::REVERSALS;
+use transposes::{LARGE, OTHERS, SMALL, SMALL_SIDE};
 
 /// Item `i` of each list: `i * 2654435761 mod 2^32`.
 fn items(count: usize) -> Vec<u64> {
@@ -14,34 +24,23 @@ fn hash(list: &[u64]) -> u64 {
     })
 }
 
-/// The numbers of each line, without the comments.
-fn lines(text: &str) -> impl Iterator<Item = Vec<u64>> {
-    let rows = text.lines().filter(|line| !line.starts_with('#'));
-    rows.map(|line| line.split_whitespace().map(|word| word.parse().unwrap()).collect())
-}
-
 #[test]
 fn reversals_are_the_originals() {
-    let mut count = 0;
-    for line in lines(include_str!("data/reversal.tsv")) {
-        let mut list = items(1 << line[0]);
+    for (log, wanted) in REVERSALS.iter().enumerate() {
+        let mut list = items(1 << log);
         reverse_slice_index_bits(&mut list);
-        assert_eq!(hash(&list), line[1], "2^{}", line[0]);
-        count += 1;
+        assert_eq!(hash(&list), *wanted, "2^{log}");
     }
-    assert_eq!(count, 21);
 }
 
 #[test]
 fn transposes_are_the_originals() {
-    let mut count = 0;
-    for line in lines(include_str!("data/transpose.tsv")) {
-        let (width, height) = (line[0] as usize, line[1] as usize);
+    let small = SMALL.iter().enumerate();
+    let small = small.map(|(i, wanted)| (i / SMALL_SIDE + 1, i % SMALL_SIDE + 1, *wanted));
+    for (width, height, wanted) in small.chain(OTHERS).chain(LARGE) {
         let input = items(width * height);
         let mut output = vec![0; input.len()];
         transpose(&input, &mut output, width, height);
-        assert_eq!(hash(&output), line[2], "{width} by {height}");
-        count += 1;
+        assert_eq!(hash(&output), wanted, "{width} by {height}");
     }
-    assert_eq!(count, 314);
 }

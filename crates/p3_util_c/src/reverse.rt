@@ -1,10 +1,11 @@
 //! Bit reversal of lists.
 
-ghost use Rattle.std.specs.Prelude.{◌≤◌};
+ghost use Rattle.std.specs.Prelude.{◌≡◌, ◌↔◌, IsTrue, length};
+ghost use Rattle.std.specs.Bool.{OnTrue, OnFalse};
+ghost use Rattle.p3_util_kernels.specs.Reversal.{IsReversal, IsZeroOrPowerOfTwo};
 ghost use Rattle.p3_util_c.specs.Tried.{IsTriedReversal};
 
-use crate::items::ItemPlaces;
-use p3_util_kernels::reverse::{fits_rows, reverse_counted, reverse_slice_index_bits};
+use p3_util_kernels::reverse::{fits_rows, reverse_slice_index_bits};
 
 /// Reverses the order of `vals`, items of one byte, by index bits, where the length is zero or a power of two. Returns
 /// whether it is.
@@ -24,15 +25,6 @@ pub extern "C" fn p3_util_reverse_2(vals: &mut [[u8; 2]]) -> bool
     reverse_where_it_fits(vals)
 }
 
-/// Reverses the order of `vals`, items of 3 bytes, by index bits, where the length is zero or a power of two. Returns
-/// whether it is.
-#[unsafe(no_mangle)]
-pub extern "C" fn p3_util_reverse_3(vals: &mut [[[u8; 1]; 3]]) -> bool
-    ensures { IsTriedReversal result vals.old vals.new }
-{
-    reverse_three_words_where_it_fits(vals)
-}
-
 /// Reverses the order of `vals`, items of 4 bytes, by index bits, where the length is zero or a power of two. Returns
 /// whether it is.
 #[unsafe(no_mangle)]
@@ -40,15 +32,6 @@ pub extern "C" fn p3_util_reverse_4(vals: &mut [[u8; 4]]) -> bool
     ensures { IsTriedReversal result vals.old vals.new }
 {
     reverse_where_it_fits(vals)
-}
-
-/// Reverses the order of `vals`, items of 6 bytes, by index bits, where the length is zero or a power of two. Returns
-/// whether it is.
-#[unsafe(no_mangle)]
-pub extern "C" fn p3_util_reverse_6(vals: &mut [[[u8; 2]; 3]]) -> bool
-    ensures { IsTriedReversal result vals.old vals.new }
-{
-    reverse_three_words_where_it_fits(vals)
 }
 
 /// Reverses the order of `vals`, items of 8 bytes, by index bits, where the length is zero or a power of two. Returns
@@ -66,7 +49,7 @@ pub extern "C" fn p3_util_reverse_8(vals: &mut [[u8; 8]]) -> bool
 pub extern "C" fn p3_util_reverse_12(vals: &mut [[[u8; 4]; 3]]) -> bool
     ensures { IsTriedReversal result vals.old vals.new }
 {
-    reverse_three_words_where_it_fits(vals)
+    reverse_where_it_fits(vals)
 }
 
 /// Reverses the order of `vals`, items of 16 bytes, by index bits, where the length is zero or a power of two. Returns
@@ -150,28 +133,33 @@ pub extern "C" fn p3_util_reverse_128(vals: &mut [[[u8; 8]; 16]]) -> bool
     reverse_where_it_fits(vals)
 }
 
-fn reverse_where_it_fits<T>(vals: &mut [T]) -> bool
+/// Reverses the order of `vals`, items of 160 bytes, by index bits, where the length is zero or a power of two. Returns
+/// whether it is.
+#[unsafe(no_mangle)]
+pub extern "C" fn p3_util_reverse_160(vals: &mut [[[u8; 8]; 20]]) -> bool
     ensures { IsTriedReversal result vals.old vals.new }
+{
+    reverse_where_it_fits(vals)
+}
+
+/// Reverses the order of `vals`, items of 256 bytes, by index bits, where the length is zero or a power of two. Returns
+/// whether it is.
+#[unsafe(no_mangle)]
+pub extern "C" fn p3_util_reverse_256(vals: &mut [[[u8; 8]; 32]]) -> bool
+    ensures { IsTriedReversal result vals.old vals.new }
+{
+    reverse_where_it_fits(vals)
+}
+
+/// The parts of [`IsTriedReversal`], each a clause.
+fn reverse_where_it_fits<T>(vals: &mut [T]) -> bool
+    ensures held { IsTrue result ↔ IsZeroOrPowerOfTwo (length vals.old) }
+    ensures done { OnTrue result (IsReversal vals.old vals.new) }
+    ensures unchanged { OnFalse result (vals.new ≡ vals.old) }
 {
     let fits = fits_rows(vals.len(), 1);
     if fits {
         reverse_slice_index_bits(vals);
     }
     fits
-}
-
-/// The greatest number of items of which no runs are exchanged, so that a slice's own holder serves them.
-const NO_RUNS: usize = 8192;
-
-/// As [`reverse_where_it_fits`], for items of three words, whose runs [`ItemPlaces`] exchanges faster than a slice does.
-fn reverse_three_words_where_it_fits<const W: usize>(vals: &mut [[[u8; W]; 3]]) -> bool
-    requires { W ≤ 4 }
-    ensures { IsTriedReversal result vals.old vals.new }
-{
-    if vals.len() <= NO_RUNS || !fits_rows(vals.len(), 1) {
-        return reverse_where_it_fits(vals);
-    }
-    let mut places = ItemPlaces::new(vals);
-    reverse_counted(&mut places);
-    true
 }

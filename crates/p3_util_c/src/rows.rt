@@ -1,5 +1,8 @@
 //! Bit reversal of rows: each row moves as one item.
 
+ghost use Rattle.std.specs.Prelude.{◌≡◌, ◌↔◌, IsTrue, length};
+ghost use Rattle.std.specs.Bool.{OnTrue, OnFalse};
+ghost use Rattle.p3_util_kernels.specs.Reversal.{FitsRows, IsRowReversal};
 ghost use Rattle.p3_util_c.specs.Tried.{IsTriedRowReversal};
 
 use p3_util_kernels::reverse::{fits_rows, reverse_slice_row_index_bits};
@@ -22,28 +25,10 @@ pub extern "C" fn p3_util_reverse_rows_2(vals: &mut [[u8; 2]], row_width: usize)
     reverse_rows_where_they_fit(vals, row_width)
 }
 
-/// Reverses the order of the rows of `vals`, each of `row_width` items of 3 bytes, by index bits, where the length is
-/// `row_width` times zero or a power of two. Returns whether it is.
-#[unsafe(no_mangle)]
-pub extern "C" fn p3_util_reverse_rows_3(vals: &mut [[[u8; 1]; 3]], row_width: usize) -> bool
-    ensures { IsTriedRowReversal result row_width vals.old vals.new }
-{
-    reverse_rows_where_they_fit(vals, row_width)
-}
-
 /// Reverses the order of the rows of `vals`, each of `row_width` items of 4 bytes, by index bits, where the length is
 /// `row_width` times zero or a power of two. Returns whether it is.
 #[unsafe(no_mangle)]
 pub extern "C" fn p3_util_reverse_rows_4(vals: &mut [[u8; 4]], row_width: usize) -> bool
-    ensures { IsTriedRowReversal result row_width vals.old vals.new }
-{
-    reverse_rows_where_they_fit(vals, row_width)
-}
-
-/// Reverses the order of the rows of `vals`, each of `row_width` items of 6 bytes, by index bits, where the length is
-/// `row_width` times zero or a power of two. Returns whether it is.
-#[unsafe(no_mangle)]
-pub extern "C" fn p3_util_reverse_rows_6(vals: &mut [[[u8; 2]; 3]], row_width: usize) -> bool
     ensures { IsTriedRowReversal result row_width vals.old vals.new }
 {
     reverse_rows_where_they_fit(vals, row_width)
@@ -148,8 +133,29 @@ pub extern "C" fn p3_util_reverse_rows_128(vals: &mut [[[u8; 8]; 16]], row_width
     reverse_rows_where_they_fit(vals, row_width)
 }
 
-fn reverse_rows_where_they_fit<T>(vals: &mut [T], row_width: usize) -> bool
+/// Reverses the order of the rows of `vals`, each of `row_width` items of 160 bytes, by index bits, where the length is
+/// `row_width` times zero or a power of two. Returns whether it is.
+#[unsafe(no_mangle)]
+pub extern "C" fn p3_util_reverse_rows_160(vals: &mut [[[u8; 8]; 20]], row_width: usize) -> bool
     ensures { IsTriedRowReversal result row_width vals.old vals.new }
+{
+    reverse_rows_where_they_fit(vals, row_width)
+}
+
+/// Reverses the order of the rows of `vals`, each of `row_width` items of 256 bytes, by index bits, where the length is
+/// `row_width` times zero or a power of two. Returns whether it is.
+#[unsafe(no_mangle)]
+pub extern "C" fn p3_util_reverse_rows_256(vals: &mut [[[u8; 8]; 32]], row_width: usize) -> bool
+    ensures { IsTriedRowReversal result row_width vals.old vals.new }
+{
+    reverse_rows_where_they_fit(vals, row_width)
+}
+
+/// The parts of [`IsTriedRowReversal`], each a clause.
+fn reverse_rows_where_they_fit<T>(vals: &mut [T], row_width: usize) -> bool
+    ensures held { IsTrue result ↔ FitsRows (length vals.old) row_width }
+    ensures done { OnTrue result (IsRowReversal row_width vals.old vals.new) }
+    ensures unchanged { OnFalse result (vals.new ≡ vals.old) }
 {
     let fits = fits_rows(vals.len(), row_width);
     if fits {

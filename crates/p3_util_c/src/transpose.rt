@@ -1,5 +1,8 @@
 //! Transposes of matrices that are held as flat lists, row after row.
 
+ghost use Rattle.std.specs.Prelude.{◌≡◌, ◌*◌, ◌↔◌, IsTrue, length};
+ghost use Rattle.std.specs.Bool.{OnTrue, OnFalse};
+ghost use Rattle.p3_util_kernels.specs.Transpose.{IsTranspose};
 ghost use Rattle.p3_util_c.specs.Tried.{IsTriedTranspose};
 
 use p3_util_kernels::transpose::{fits_matrix, transpose};
@@ -32,40 +35,12 @@ pub extern "C" fn p3_util_transpose_2(
     transpose_where_it_fits(input, output, width, height)
 }
 
-/// Writes to `output` the transpose of `input`, `height` rows of `width` items of 3 bytes, where both lengths are
-/// `width` times `height`. Returns whether they are.
-#[unsafe(no_mangle)]
-pub extern "C" fn p3_util_transpose_3(
-    input: &[[[u8; 1]; 3]],
-    output: &mut [[[u8; 1]; 3]],
-    width: usize,
-    height: usize,
-) -> bool
-    ensures { IsTriedTranspose result width height input.now output.old output.new }
-{
-    transpose_where_it_fits(input, output, width, height)
-}
-
 /// Writes to `output` the transpose of `input`, `height` rows of `width` items of 4 bytes, where both lengths are
 /// `width` times `height`. Returns whether they are.
 #[unsafe(no_mangle)]
 pub extern "C" fn p3_util_transpose_4(
     input: &[[u8; 4]],
     output: &mut [[u8; 4]],
-    width: usize,
-    height: usize,
-) -> bool
-    ensures { IsTriedTranspose result width height input.now output.old output.new }
-{
-    transpose_where_it_fits(input, output, width, height)
-}
-
-/// Writes to `output` the transpose of `input`, `height` rows of `width` items of 6 bytes, where both lengths are
-/// `width` times `height`. Returns whether they are.
-#[unsafe(no_mangle)]
-pub extern "C" fn p3_util_transpose_6(
-    input: &[[[u8; 2]; 3]],
-    output: &mut [[[u8; 2]; 3]],
     width: usize,
     height: usize,
 ) -> bool
@@ -228,13 +203,44 @@ pub extern "C" fn p3_util_transpose_128(
     transpose_where_it_fits(input, output, width, height)
 }
 
+/// Writes to `output` the transpose of `input`, `height` rows of `width` items of 160 bytes, where both lengths are
+/// `width` times `height`. Returns whether they are.
+#[unsafe(no_mangle)]
+pub extern "C" fn p3_util_transpose_160(
+    input: &[[[u8; 8]; 20]],
+    output: &mut [[[u8; 8]; 20]],
+    width: usize,
+    height: usize,
+) -> bool
+    ensures { IsTriedTranspose result width height input.now output.old output.new }
+{
+    transpose_where_it_fits(input, output, width, height)
+}
+
+/// Writes to `output` the transpose of `input`, `height` rows of `width` items of 256 bytes, where both lengths are
+/// `width` times `height`. Returns whether they are.
+#[unsafe(no_mangle)]
+pub extern "C" fn p3_util_transpose_256(
+    input: &[[[u8; 8]; 32]],
+    output: &mut [[[u8; 8]; 32]],
+    width: usize,
+    height: usize,
+) -> bool
+    ensures { IsTriedTranspose result width height input.now output.old output.new }
+{
+    transpose_where_it_fits(input, output, width, height)
+}
+
+/// The parts of [`IsTriedTranspose`], each a clause.
 fn transpose_where_it_fits<T: Copy>(
     input: &[T],
     output: &mut [T],
     width: usize,
     height: usize,
 ) -> bool
-    ensures { IsTriedTranspose result width height input.now output.old output.new }
+    ensures held { IsTrue result ↔ ((length input.now ≡ width * height) × (length output.old ≡ width * height)) }
+    ensures done { OnTrue result (IsTranspose width height input.now output.new) }
+    ensures unchanged { OnFalse result (output.new ≡ output.old) }
 {
     let fits = fits_matrix(input.len(), output.len(), width, height);
     if fits {
