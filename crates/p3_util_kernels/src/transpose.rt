@@ -50,14 +50,7 @@ pub fn transpose<T: Copy>(input: &[T], output: &mut [T], width: usize, height: u
     ensures order { IsTranspose width height input.now output.new }
     ensures inverse { IsTranspose height width output.new input.now }
 {
-    let _ = transpose_matrix(
-        output,
-        Matrix {
-            source: input,
-            width,
-            height,
-        },
-    );
+    let _ = transpose_matrix(output, Matrix::new(input, width, height));
 }
 
 /// Puts the transpose of `input` into `cells`, as [`transpose_on`] does over a fresh counter, and returns the number of
@@ -74,11 +67,7 @@ pub fn transpose_counted<C: Cells>(
     ensures count { result ≡ width * height }
     ensures holder { C.same_holder result cells.old cells.new }
 {
-    let matrix = Matrix {
-        source: input,
-        width,
-        height,
-    };
+    let matrix = Matrix::new(input, width, height);
     transpose_matrix(Writes::new(cells), matrix).writes()
 }
 
@@ -91,11 +80,7 @@ pub fn transpose_on<C: Cells>(input: &[C::Item], out: &mut Writes<C>, width: usi
     ensures count { out.new.count ≡ counted out.old.count (width * height) }
     ensures holder { C.same_holder (width * height) out.old.holder out.new.holder }
 {
-    let matrix = Matrix {
-        source: input,
-        width,
-        height,
-    };
+    let matrix = Matrix::new(input, width, height);
     let counter = Writes::resumed(&mut out.holder, out.count);
     out.count = transpose_matrix(counter, matrix).writes();
 }
@@ -111,11 +96,7 @@ where
     ensures count { out.new.count ≡ counted out.old.count (width * height) }
     ensures holder { C.same_holder (width * height) out.old.holder out.new.holder }
 {
-    let matrix = Matrix {
-        source: input,
-        width,
-        height,
-    };
+    let matrix = Matrix::new(input, width, height);
     let counter = Writes::resumed(&mut out.holder, out.count);
     out.count = transpose_matrix(counter, matrix).writes();
 }
@@ -138,11 +119,7 @@ pub fn transpose_region_on<C: Cells>(
     ensures count { out.new.count ≡ counted out.old.count (items_of region) }
     ensures holder { C.same_holder (items_of region) out.old.holder out.new.holder }
 {
-    let matrix = Matrix {
-        source: input,
-        width,
-        height,
-    };
+    let matrix = Matrix::new(input, width, height);
     let counter = Writes::resumed(&mut out.holder, out.count);
     out.count = put_strips(counter, matrix, region, strips_of(matrix)).writes();
 }
@@ -162,11 +139,7 @@ pub fn transpose_region_counted<C: Cells>(
     ensures count { result ≡ items_of region }
     ensures holder { C.same_holder result cells.old cells.new }
 {
-    let matrix = Matrix {
-        source: input,
-        width,
-        height,
-    };
+    let matrix = Matrix::new(input, width, height);
     put_strips(Writes::new(cells), matrix, region, strips_of(matrix)).writes()
 }
 
@@ -178,7 +151,7 @@ fn transpose_matrix<M: Cells, R: Source<Item = M::Item> + Copy>(out: M, matrix: 
     ensures order { IsTranspose matrix.width matrix.height (R.items matrix.source) (M.items result) }
     ensures holder { M.same_holder (matrix.width * matrix.height) out result }
 {
-    let whole = whole(matrix.width, matrix.height);
+    let whole = matrix.whole();
     if out.len() > LARGE_MATRIX {
         let (out, _) = put_split(out, matrix, whole, ENOUGH_LEVELS);
         out
@@ -198,17 +171,5 @@ fn strips_of<R: Source + Copy>(matrix: Matrix<R>) -> Strips {
         Strips::Low
     } else {
         Strips::Tiles
-    }
-}
-
-/// The region that is a whole matrix.
-fn whole(width: usize, height: usize) -> Region
-    ensures { result ≡ record { row_start = 0; row_end = height; col_start = 0; col_end = width } }
-{
-    Region {
-        row_start: 0,
-        row_end: height,
-        col_start: 0,
-        col_end: width,
     }
 }

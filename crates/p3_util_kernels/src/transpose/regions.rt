@@ -11,6 +11,35 @@ pub(crate) struct Matrix<R> {
     pub height: usize,
 }
 
+impl<R> Matrix<R> {
+    /// The matrix of these sides.
+    #[inline(always)]
+    pub(crate) fn new(source: R, width: usize, height: usize) -> Self
+        ensures source { result.source ≡ source }
+        ensures width { result.width ≡ width }
+        ensures height { result.height ≡ height }
+    {
+        Matrix {
+            source,
+            width,
+            height,
+        }
+    }
+
+    /// The region that is the whole matrix.
+    #[inline(always)]
+    pub(crate) fn whole(&self) -> Region
+        ensures { result ≡ record { row_start = 0; row_end = self.now.height; col_start = 0; col_end = self.now.width } }
+    {
+        Region {
+            row_start: 0,
+            row_end: self.height,
+            col_start: 0,
+            col_end: self.width,
+        }
+    }
+}
+
 /// The rows from `row_start` to below `row_end` of a matrix, and of these the columns from `col_start` to below `col_end`.
 #[derive(Clone, Copy, Debug, PartialEq, Eq)]
 pub struct Region {

@@ -41,11 +41,7 @@ pub fn transpose_split_on<C: Cells>(
     ensures bound { result ≤ 57 }
     ensures holder { C.same_holder (items_of region) out.old.holder out.new.holder }
 {
-    let matrix = Matrix {
-        source: input,
-        width,
-        height,
-    };
+    let matrix = Matrix::new(input, width, height);
     let (_, count, nested) = put_split_counted(&mut out.holder, out.count, matrix, region, levels);
     out.count = count;
     nested
@@ -74,11 +70,7 @@ where
     ensures bound { result ≤ 57 }
     ensures holder { C.same_holder (items_of region) out.old.holder out.new.holder }
 {
-    let matrix = Matrix {
-        source: input,
-        width,
-        height,
-    };
+    let matrix = Matrix::new(input, width, height);
     let (_, count, nested) = put_split_counted(&mut out.holder, out.count, matrix, region, levels);
     out.count = count;
     nested
