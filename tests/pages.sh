@@ -1,5 +1,6 @@
 #!/usr/bin/env bash
-# Compares the pages with the code (tests/facts.py), prints what is wrong, a line each, and fails if anything is.
+# Compares the pages with the code (tests/facts.py), and docs/CONTRACTS.md with what tests/contracts.py makes of it. Prints what
+# is wrong, a line each, and fails if anything is.
 set -euo pipefail
 cd "$(dirname "$0")/.."
 
@@ -11,4 +12,11 @@ if ! git rev-parse --is-inside-work-tree >/dev/null 2>&1; then
     echo "tests/pages.sh takes the list of files from git, and this folder is no checkout (it has no .git)." >&2
     exit 1
 fi
-exec python3 tests/facts.py
+wrong=0
+contracts=$(python3 tests/contracts.py)
+if [ "$contracts" != "$(cat docs/CONTRACTS.md)" ]; then
+    echo "docs/CONTRACTS.md is stale: write it anew by python3 tests/contracts.py >docs/CONTRACTS.md"
+    wrong=1
+fi
+python3 tests/facts.py || wrong=1
+exit "$wrong"

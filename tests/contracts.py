@@ -1,0 +1,100 @@
+"""Prints docs/CONTRACTS.md: the public calls of p3_util and p3_util_kernels with their clauses, the public types with their
+fields, and the public traits with what their implementations say of them, all as the sources have it."""
+import glob
+import re
+import textwrap
+
+MODULES = ["reverse", "transpose", "places", "bits", "laws", "chunks", "views", "linear_map", "zip_eq", "array_serialization"]
+HEAD = """# Contracts
+
+This page lists each public call of `p3_util` with its arguments, its conditions (`requires`) and what it promises
+(`ensures`), as the source has them. [CALLING](CALLING.md) says how such a clause is read, and shows each module in use.
+[MODEL](MODEL.md) says what the words of a clause mean.
+
+A struct is listed with its private fields too, since a clause may name them. Below a trait that a type implements stands
+what a clause sees of that type. The page is made by `python3 tests/contracts.py >docs/CONTRACTS.md`."""
+CLAUSE = re.compile(r"\s*(requires|ensures)(\*?) ?(\w*) \{")
+HEAD_ENDS = re.compile(r"\n\s*(?:requires|ensures)\b|\{|;$", re.M)
+
+
+def read(path):
+    with open(path, encoding="utf-8") as text:
+        return re.sub(r"^ *(//.*|#!?\[.*\])\n", "", text.read(), flags=re.M)
+
+
+def closed(text, opened):
+    """What stands between the brace at `opened` and the one that closes it, and the place after that."""
+    depth = 1
+    for at in range(opened + 1, len(text)):
+        depth += {"{": 1, "}": -1}.get(text[at], 0)
+        if depth == 0:
+            return text[opened + 1:at], at + 1
+    raise ValueError(f"no brace closes that of {text[opened:opened + 40]}")
+
+
+def line(indent, code):
+    code = re.sub(r",( })|, ?(\))", r"\1\2", " ".join(code.split()).rstrip(",")).replace("( ", "(")
+    return textwrap.fill(code, 118, initial_indent=" " * indent, subsequent_indent=" " * (indent + 4), break_long_words=False)
+
+
+def declarations(text, indent):
+    """Of each declaration at this indent: whether it is public, its kind, its head, its clauses and what its braces hold."""
+    kinds = rf"^ {{{indent}}}(pub )?(fn|struct|enum|trait|type|impl|ghost(?! use))\b"
+    for start in re.finditer(kinds, text, re.M):
+        end = HEAD_ENDS.search(text, start.end()).start()
+        head, clauses = " ".join(text[start.start(2):end].split()), []
+        while start[2] == "fn" and (clause := CLAUSE.match(text, end)):
+            said, end = closed(text, clause.end() - 1)
+            clauses.append((f"{clause[1]}{clause[2]} {clause[3]}".rstrip(), said))
+        yield start[1], start[2], head, clauses, closed(text, end)[0] if text[end] == "{" else ""
+
+
+def function(indent, owner, head, clauses):
+    return [line(indent, f"fn {owner}{head[3:]}")] + [line(indent + 2, f"{name}: {said}") for name, said in clauses]
+
+
+def members(body):
+    """What a trait or an implementation of one says, without its laws."""
+    for _, kind, head, clauses, said in declarations(body, 4):
+        if kind == "fn" and clauses:
+            yield from function(2, "", head, clauses)
+        elif kind == "ghost" and not re.match(r"ghost (laws|\w+_(refl|trans)) =", head):
+            yield line(2, f"{head} {said}")
+
+
+def items(text, names):
+    """The contracts of a file, of which others see the functions and types in `names`."""
+    for public, kind, head, clauses, body in declarations(text, 0):
+        owner = re.match(r"(?:impl(?:<.*?>)? (?=\w)|\w+ )(\w+)", head)[1]
+        if kind == "impl" and " for " not in head:
+            for inner_public, inner, inner_head, inner_clauses, _ in declarations(body, 4):
+                if inner_public and inner == "fn":
+                    yield from function(0, f"{owner}::", inner_head, inner_clauses)
+        elif kind == "impl" and (said := list(members(body))):
+            yield from [line(0, head), *said]
+        elif public and owner in names and kind == "fn":
+            yield from function(0, "", head, clauses)
+        elif public and owner in names:
+            yield from [line(0, head), *members(body)] if kind == "trait" else [line(0, f"{head} {{ {body} }}" if body else head)]
+
+
+def names_of(text, module):
+    """The names that a file hands on from a module below it."""
+    found = re.search(rf"pub use {module}::(\w+|\{{[^}}]*\}})", text)
+    return re.findall(r"\w+", found[1]) if found else []
+
+
+def section(title, lines):
+    print(f"\n## {title}\n\n```text", *lines, "```", sep="\n")
+
+
+print(HEAD)
+for module in MODULES:
+    path = (glob.glob(f"crates/p3_util_kernels/src/{module}.rt") + glob.glob(f"crates/p3_util/src/{module}.rt"))[0]
+    parent = read(path)
+    lines = list(items(parent, re.findall(r"\w+", parent)))
+    for child in sorted(glob.glob(path.replace(".rt", "/*.rt"))):
+        lines += items(read(child), names_of(parent, re.search(r"(\w+)\.rt", child)[1]))
+    section(f"`{module}`", lines)
+root = read("crates/p3_util/src/lib.rt")
+section("At the root", items(root, re.findall(r"\w+", root)))
