@@ -8,11 +8,12 @@ MODULES = ["reverse", "transpose", "places", "bits", "laws", "chunks", "views", 
 HEAD = """# Contracts
 
 This page lists each public call of `p3_util` with its arguments, its conditions (`requires`) and what it promises
-(`ensures`), as the source has them. [CALLING](CALLING.md) says how such a clause is read, and shows each module in use.
-[MODEL](MODEL.md) says what the words of a clause mean.
+(`ensures`), as the sources have them. [CALLING](CALLING.md) says how such a clause is read, and shows each module in
+use. [MODEL](MODEL.md) says what the words of a clause mean. The headings are modules of `p3_util`, and what its
+`lib.rt` uses from them is at its root too.
 
-A struct is listed with its private fields too, since a clause may name them. Below a trait that a type implements stands
-what a clause sees of that type. The page is made by `python3 tests/contracts.py >docs/CONTRACTS.md`."""
+A struct is listed with its private fields too, since a clause may name them. Where a type implements a trait, the lines
+below say what a clause sees of that type. The page is made by `python3 tests/contracts.py >docs/CONTRACTS.md`."""
 CLAUSE = re.compile(r"\s*(requires|ensures)(\*?) ?(\w*) \{")
 HEAD_ENDS = re.compile(r"\n\s*(?:requires|ensures)\b|\{|;$", re.M)
 
@@ -29,7 +30,7 @@ def closed(text, opened):
         depth += {"{": 1, "}": -1}.get(text[at], 0)
         if depth == 0:
             return text[opened + 1:at], at + 1
-    raise ValueError(f"no brace closes that of {text[opened:opened + 40]}")
+    raise ValueError(text[opened:opened + 40])
 
 
 def line(indent, code):
@@ -58,7 +59,7 @@ def members(body):
     for _, kind, head, clauses, said in declarations(body, 4):
         if kind == "fn" and clauses:
             yield from function(2, "", head, clauses)
-        elif kind == "ghost" and not re.match(r"ghost (laws|\w+_(refl|trans)) =", head):
+        elif kind == "ghost" and not re.match(r"ghost (laws|\w+_(refl|trans)) =", head) or kind == "type" and "=" not in head:
             yield line(2, f"{head} {said}")
 
 
@@ -84,10 +85,6 @@ def names_of(text, module):
     return re.findall(r"\w+", found[1]) if found else []
 
 
-def section(title, lines):
-    print(f"\n## {title}\n\n```text", *lines, "```", sep="\n")
-
-
 print(HEAD)
 for module in MODULES:
     path = (glob.glob(f"crates/p3_util_kernels/src/{module}.rt") + glob.glob(f"crates/p3_util/src/{module}.rt"))[0]
@@ -95,6 +92,6 @@ for module in MODULES:
     lines = list(items(parent, re.findall(r"\w+", parent)))
     for child in sorted(glob.glob(path.replace(".rt", "/*.rt"))):
         lines += items(read(child), names_of(parent, re.search(r"(\w+)\.rt", child)[1]))
-    section(f"`{module}`", lines)
+    print(f"\n## `{module}`\n\n```text", *lines, "```", sep="\n")
 root = read("crates/p3_util/src/lib.rt")
-section("At the root", items(root, re.findall(r"\w+", root)))
+print("\n## The root\n\n```text", *items(root, re.findall(r"\w+", root)), "```", sep="\n")
