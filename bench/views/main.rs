@@ -11,6 +11,7 @@ unsafe extern "C" {
     fn transpose_view(input: *const u64, input_len: usize, rows: *mut [u64; 4], len: usize, width: usize, height: usize) -> bool;
     fn transpose_slice(input: *const u64, input_len: usize, output: *mut u64, len: usize, width: usize, height: usize) -> bool;
     fn transpose_over(input: *const u64, input_len: usize, output: *mut u64, len: usize, width: usize, height: usize) -> bool;
+    fn split_over(input: *const u64, input_len: usize, output: *mut u64, len: usize, width: usize, height: usize) -> bool;
 }
 
 const RUNS: usize = 400;
@@ -53,7 +54,7 @@ fn main() {
         let kept = least(|| unsafe { reverse_on(at, len) }, || unsafe { reverse_slice(at, len) });
         print(&format!("reversal of 2^{log_len}, a counter"), len, kept);
     }
-    for side in [64, 1024] {
+    for side in [64, 1024, 2048] {
         let len = side * side;
         let input: Vec<u64> = (0..len as u64).collect();
         let mut output = vec![0u64; len];
@@ -64,5 +65,9 @@ fn main() {
         print(&format!("transpose of {side} x {side}, a view"), len, view);
         let kept = least(|| unsafe { transpose_over(from, len, to, len, side, side) }, slice);
         print(&format!("transpose of {side} x {side}, a counter"), len, kept);
+        if side > 1024 {
+            let split = least(|| unsafe { split_over(from, len, to, len, side, side) }, slice);
+            print(&format!("split of {side} x {side}, a counter"), len, split);
+        }
     }
 }
