@@ -88,7 +88,7 @@ of_test() {
         [[ -e $work/refused ]] || break
     done
     echo "$3: $((n - 1)) growths, each refused once"
-    [[ $((n - 1)) == "$wanted" ]] || failed "$3" "it is written that it makes ${wanted:-no number of} requests"
+    [[ $((n - 1)) == "$wanted" ]] || failed "$3" "it made $((n - 1)) requests, and ${wanted:-no number} is written beside it"
 }
 
 program=crates/p3_util_run/out/p3_util_run

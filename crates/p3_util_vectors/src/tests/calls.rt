@@ -100,7 +100,7 @@ fn transpose_square<S: Places>(
 }
 
 /// Makes `call` over a counter of `places`, and returns the number of swaps.
-fn count_on<S: Places>(rt: &impl Abort, places: &mut S, call: Call) -> u128 {
+pub(crate) fn count_on<S: Places>(rt: &impl Abort, places: &mut S, call: Call) -> u128 {
     let mut m = Swaps::new(places);
     match call {
         Call::Reversal => reverse_on(rt, &mut m),
@@ -116,7 +116,7 @@ fn count_on<S: Places>(rt: &impl Abort, places: &mut S, call: Call) -> u128 {
 }
 
 /// Makes the counted form of `call`, and returns the number of swaps.
-fn count_by_form<S: Places>(rt: &impl Abort, places: &mut S, call: Call) -> u128 {
+pub(crate) fn count_by_form<S: Places>(rt: &impl Abort, places: &mut S, call: Call) -> u128 {
     match call {
         Call::Reversal => {
             assert!(rt; fits_rows(places.len(), 1));
@@ -143,17 +143,15 @@ pub(crate) fn count_swaps<S: Places>(
     swaps
 }
 
-/// What the slice form of `call` leaves of `list`, or the call itself where it has none.
-fn by_slice(rt: &impl Abort, alloc: Global, list: &[u64], call: Call) -> Vec<u64> {
-    let mut items = copied(rt, alloc, list);
+/// Makes the slice form of `call`, or the call itself where it has none.
+pub(crate) fn reorder_slice<F>(rt: &impl Abort, mut list: &mut [F], call: Call) {
     match call {
-        Call::Reversal => reverse_slice(rt, &mut items),
-        Call::Rows(row_width) => reverse_slice_rows(rt, &mut items, row_width),
+        Call::Reversal => reverse_slice(rt, list),
+        Call::Rows(row_width) => reverse_slice_rows(rt, list, row_width),
         _ => {
-            let _ = count_on(rt, &mut SlicePlaces::new(&mut items), call);
+            let _ = count_on(rt, &mut list, call);
         }
     }
-    items
 }
 
 /// What `call` leaves of `list` by each of its forms, which have to agree, and the number of swaps.
@@ -168,7 +166,8 @@ pub(crate) fn reordered(
     let mut over_counter = SlicePlaces::new(&mut items);
     let mut by_form = SlicePlaces::new(&mut counted);
     let swaps = count_swaps(rt, &mut over_counter, &mut by_form, call);
-    let sliced = by_slice(rt, alloc, list, call);
+    let mut sliced = copied(rt, alloc, list);
+    reorder_slice(rt, &mut sliced, call);
     same(rt, list.len(), &counted.as_slice(), &items.as_slice());
     same(rt, list.len(), &sliced.as_slice(), &items.as_slice());
     (items, swaps)

@@ -1,7 +1,7 @@
 //! Calls that reorder a list, against worked examples, their definition and the original crate.
 
 use crate::joined::Joined;
-use crate::tests::calls::{Call, count_swaps, reordered, reverse_slice};
+use crate::tests::calls::{Call, count_by_form, count_on, count_swaps, reorder_slice, reordered};
 use crate::tests::checks::{Owner, equal, found, numbers, owners, reversed, same};
 use crate::tests::oracle::reversals::REVERSALS;
 use crate::tests::oracle::{hash, item, items};
@@ -156,28 +156,35 @@ impl HasNumber for Owner<'_> {
     }
 }
 
-/// Asserts that each place has the item whose number is the place, with its `bits` low digits reversed where there are any.
-fn check_numbers<T: HasNumber>(rt: &impl Abort, list: &[T], bits: Option<u32>) {
+/// Asserts that each place has the item whose number is the place, or the place whose item `call` puts there.
+fn check_numbers<T: HasNumber>(rt: &impl Abort, list: &[T], call: Option<Call>) {
     for (place, item) in list.iter().enumerate() {
-        let wanted = match bits {
-            Some(bits) => reversed(place, bits),
+        let wanted = match call {
+            Some(call) => place_before(call, list.len(), place),
             None => place,
         };
         same(rt, place, &item.number(), &wanted);
     }
 }
 
-/// Asserts that a reversal puts at each place the item with the reversed number, and a second one each item back.
-fn reverse_numbered<T: HasNumber>(rt: &impl Abort, list: &mut [T], bits: u32) {
-    reverse_slice(rt, list);
-    check_numbers(rt, list, Some(bits));
-    reverse_slice(rt, list);
-    check_numbers(rt, list, None);
+/// Asserts that a reversal by any of its forms puts each item where it belongs, and a second one each item back.
+fn reverse_numbered<T: HasNumber>(rt: &impl Abort, mut list: Vec<T>, call: Call) -> Vec<T> {
+    reorder_slice(rt, &mut list, call);
+    check_numbers(rt, &list, Some(call));
+    let swaps = count_on(rt, &mut SlicePlaces::new(&mut list), call);
+    check_numbers(rt, &list, None);
+    let counted = count_by_form(rt, &mut SlicePlaces::new(&mut list), call);
+    check_numbers(rt, &list, Some(call));
+    same(rt, list.len(), &counted, &swaps);
+    reorder_slice(rt, &mut list, call);
+    check_numbers(rt, &list, None);
+    list
 }
 
 #[test]
 fn numbers_below_256(rt: HostRuntime) {
-    reverse_numbered(&rt, &mut numbers(&rt, rt.alloc(), 256), 8);
+    let list = numbers(&rt, rt.alloc(), 256);
+    let _ = reverse_numbered(&rt, list, Call::Reversal);
 }
 
 /// Lists that are in no order, reversed twice.
@@ -208,11 +215,8 @@ fn texts(alloc: Global, count: usize) -> Result<Vec<String>, AllocError> {
 #[test]
 fn decimal_texts(rt: HostRuntime) {
     for bits in 0..15u32 {
-        reverse_numbered(
-            &rt,
-            &mut found(&rt, texts(rt.alloc(), 1usize << bits)),
-            bits,
-        );
+        let list = found(&rt, texts(rt.alloc(), 1usize << bits));
+        let _ = reverse_numbered(&rt, list, Call::Reversal);
     }
 }
 
@@ -226,20 +230,34 @@ fn owners_by_the_long_path(rt: HostRuntime) {
     let mut by_form = SlicePlaces::new(&mut other);
     let swaps = count_swaps(&rt, &mut over_counter, &mut by_form, Call::Reversal);
     equal(&rt, &swaps, &44928);
-    check_numbers(&rt, &list, Some(15));
-    check_numbers(&rt, &other, Some(15));
+    check_numbers(&rt, &list, Some(Call::Reversal));
+    check_numbers(&rt, &other, Some(Call::Reversal));
     equal(&rt, &drops.get(), &0);
+}
+
+/// Asserts the same of so many owners, and that each is dropped once, at the end.
+fn reverse_owners(rt: &impl Abort, alloc: Global, count: usize, call: Call) {
+    let drops = Cell::new(0);
+    let list = reverse_numbered(rt, owners(rt, alloc, count, &drops), call);
+    equal(rt, &drops.get(), &0);
+    drop(list);
+    equal(rt, &drops.get(), &count);
 }
 
 #[test]
 fn owners_without_clone(rt: HostRuntime) {
     for bits in 0..16u32 {
-        let drops = Cell::new(0);
-        let mut list = owners(&rt, rt.alloc(), 1usize << bits, &drops);
-        reverse_numbered(&rt, &mut list, bits);
-        equal(&rt, &drops.get(), &0);
-        drop(list);
-        equal(&rt, &drops.get(), &(1usize << bits));
+        reverse_owners(&rt, rt.alloc(), 1usize << bits, Call::Reversal);
+    }
+}
+
+#[test]
+fn owners_in_rows(rt: HostRuntime) {
+    for row_width in [1usize, 2, 3, 5, 8] {
+        for bits in 0..11u32 {
+            let call = Call::Rows(row_width);
+            reverse_owners(&rt, rt.alloc(), row_width << bits, call);
+        }
     }
 }
 

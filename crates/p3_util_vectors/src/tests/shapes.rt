@@ -179,7 +179,8 @@ fn check_shapes<T: Numbered>(rt: &impl Abort, alloc: Global, shapes: &[(usize, u
     }
 }
 
-/// Asserts the same for items of each type.
+/// Asserts the same for items of each type. With the checks of `rt try`, where each test has to end within a minute, this takes
+/// longer: `rt try --test --seconds 300`.
 fn check_types(rt: &impl Abort, alloc: Global, shapes: &[(usize, usize)]) {
     check_shapes::<u8>(rt, alloc, shapes);
     check_shapes::<u32>(rt, alloc, shapes);

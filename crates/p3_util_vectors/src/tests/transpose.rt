@@ -64,13 +64,23 @@ const WRITES: [(usize, usize, u128); 7] = [
     (1025, 1024, 1_049_600),
 ];
 
+/// Asserts where each of the numbers from 0 on is put, and the number of writes.
+fn check_numbered(rt: &impl Abort, alloc: Global, width: usize, height: usize, writes: u128) {
+    let input = numbers(rt, alloc, width.saturating_mul(height));
+    let (output, count) = transposed(rt, alloc, &input, width, height);
+    same(rt, width, &count, &writes);
+    check_transposed(rt, &output, width, height);
+}
+
+/// These, and matrices of one row or of one column.
 #[test]
 fn numbered_items(rt: HostRuntime) {
-    for (width, height, wanted) in WRITES {
-        let input = numbers(&rt, rt.alloc(), width.saturating_mul(height));
-        let (output, count) = transposed(&rt, rt.alloc(), &input, width, height);
-        same(&rt, width, &count, &wanted);
-        check_transposed(&rt, &output, width, height);
+    for (width, height, writes) in WRITES {
+        check_numbered(&rt, rt.alloc(), width, height, writes);
+    }
+    for length in 1..=200usize {
+        check_numbered(&rt, rt.alloc(), length, 1, length as u128);
+        check_numbered(&rt, rt.alloc(), 1, length, length as u128);
     }
 }
 
