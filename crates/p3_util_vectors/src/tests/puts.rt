@@ -85,13 +85,16 @@ fn check_parts(rt: &impl Abort, puts: &[(usize, usize)], count: usize, part: Par
     }
 }
 
-/// A block of a tile, a tile, a run of one in a column, and a leaf of the split.
+/// A block of a tile.
 const BLOCK: Part = Part { cols: 4, rows: 4 };
 
+/// A tile.
 const TILE: Part = Part { cols: 16, rows: 16 };
 
+/// A column of a tile.
 const RUN: Part = Part { cols: 1, rows: 16 };
 
+/// A part of the matrix that the split leaves whole.
 const LEAF: Part = Part {
     cols: 128,
     rows: 128,
