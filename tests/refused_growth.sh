@@ -7,8 +7,8 @@
 #
 # It takes what `rt ci` left in crates/*/out: the program, as each compiler built it, and the tests. What is not there it
 # builds. The program has to print that it is out of memory, end with status 3 and write nothing; a test has to pass,
-# whatever is refused. Each run has to give back all memory that it was given. Calls that take no memory have tests of their
-# own, which make them as often as TIMES says: once and twice have to make as many requests.
+# whatever is refused, and has to make as many requests as are written beside it. Each run has to give back all memory that
+# it was given.
 set -uo pipefail
 cd "$(dirname "$0")/.."
 
@@ -67,29 +67,28 @@ of_program() {
     ((n > 1)) || failed "$name" 'no growth was refused'
 }
 
-# of_test PROGRAM TEST: leaves the number of growths in `growths`.
-of_test() {
-    local n=0 status
-    while :; do
-        n=$((n + 1))
-        refusing "$n" "$1" "$2" </dev/null
-        status=$?
-        ((status == 0)) || failed "$2" "status $status where growth $n was refused"
-        [[ -e $work/refused ]] || break
-    done
-    growths=$((n - 1))
-    echo "$2: $growths growths, each refused once"
+# beside CRATE TEST: the number of requests for memory that is written beside a test.
+beside() {
+    local path=${2%::*}
+    awk -v name="${2##*::}" '
+        /^\/\/\/ .*[0-9]+ requests? for memory\.$/ { count = $(NF - 3) }
+        index($0, "fn " name "(") == 1 { print count; exit }
+        /^}/ { count = "" }' "crates/$1/src/${path//:://}.rt"
 }
 
-# of_calls PROGRAM TEST: calls that take no memory make no more requests when they are made twice.
-of_calls() {
-    local once
-    export TIMES
-    TIMES=1 && of_test "$@"
-    once=$growths
-    TIMES=2 && of_test "$@"
-    unset TIMES
-    ((growths == once)) || failed "$2" "$((growths - once)) growths of calls that take no memory"
+# of_test CRATE PROGRAM TEST
+of_test() {
+    local n=0 status wanted
+    wanted=$(beside "$1" "$3")
+    while :; do
+        n=$((n + 1))
+        refusing "$n" "$2" "$3" </dev/null
+        status=$?
+        ((status == 0)) || failed "$3" "status $status where growth $n was refused"
+        [[ -e $work/refused ]] || break
+    done
+    echo "$3: $((n - 1)) growths, each refused once"
+    [[ $((n - 1)) == "$wanted" ]] || failed "$3" "it made $((n - 1)) requests, and ${wanted:-no number} is written beside it"
 }
 
 program=crates/p3_util_run/out/p3_util_run
@@ -113,11 +112,7 @@ for line in "${tests[@]}"; do
         continue
     fi
     for name in $names; do
-        if [[ $prefix == tests::takes_no_memory::* ]]; then
-            of_calls "$built" "$name"
-        else
-            of_test "$built" "$name"
-        fi
+        of_test "$crate" "$built" "$name"
     done
 done
 exit "$bad"

@@ -184,9 +184,6 @@ module _ {A : Type 0} where
     there : get_or rows r [] ≡ y
     there = sym (get_or_default rows r y [] lr) ∙ sym row
 
-    pub slice_get-row : slice_get (get_or rows r []) c ≡ Some x
-    slice_get-row = ap (λ l. slice_get l c) there ∙ read
-
     pub slice_get-flat : slice_get (flat rows) i ≡ Some x
     slice_get-flat =
         let inside : c < length (get_or rows r []) = rw there (omega (arith, len)) in

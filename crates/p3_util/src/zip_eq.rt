@@ -38,7 +38,7 @@ where
 }
 
 /// The iterator that [`zip_eq`] makes.
-#[derive(Debug, Drop)]
+#[derive(Drop)]
 pub struct ZipEq<A, B> {
     first: A,
     second: B,

@@ -10,7 +10,7 @@ use std::io::{Read, Write};
 use std::marker::Model;
 
 /// Where a reader is, by what its reads returned so far.
-#[derive(Clone, Copy)]
+#[derive(Drop)]
 pub enum InputEnd {
     /// No read found the end.
     Ahead,

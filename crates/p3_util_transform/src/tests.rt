@@ -120,10 +120,11 @@ fn columns(alloc: Global, values: Vec<u32>, width: usize) -> Result<RowMajorMatr
     Ok(matrix.transpose(alloc)?)
 }
 
-/// Each column is transformed by itself, there and back.
+/// Each column is transformed by itself, there and back. A transform or a transpose that is out of memory for many rows or
+/// columns, whatever memory there is, meets its contract, and fails here.
 #[test]
 fn columns_alone(rt: HostRuntime) -> Result<(), Fail> {
-    for (width, count) in [(1, 16u64), (3, 48), (16, 256)] {
+    for (width, count) in [(1, 16u64), (3, 48), (16, 256), (1, 8192), (4096, 8192)] {
         let mut values = Vec::new(rt.alloc());
         for exponent in 0..count {
             values.push(pow(1_234_567_891, exponent))?;

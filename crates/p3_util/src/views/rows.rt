@@ -196,15 +196,6 @@ fn put_item<T: Drop, const N: usize>(rows: &mut [[T; N]], i: usize, v: T)
     rows[r][c] = v;
 }
 
-/// Item `c` of a row.
-pub(super) fn item_in_row<T, const N: usize>(row: &[T; N], c: usize) -> &T
-    requires { c < N }
-    ensures item { slice_get row.now c ≡ Some result.now }
-    ensures len { length row.now ≡ N }
-{
-    &row[c]
-}
-
 #[inline(always)]
 fn exchange_in_two_rows<T, const N: usize>(
     rows: &mut [[T; N]],

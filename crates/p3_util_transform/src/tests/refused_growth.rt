@@ -1,10 +1,13 @@
-//! Where there is no memory for the powers of the root, the matrix is as it was.
+//! Where there is no memory for the powers of the root, the matrix is as it was, and all memory is given back.
 //!
 //! A plain run refuses nothing. `tests/refused_growth.sh` runs each of these tests once for each of its requests for memory
-//! and refuses that one. Where a test's own list is refused, it ends.
+//! and refuses that one. Each has the number of its requests beside it, so that a call is seen which makes fewer than it has
+//! to, since it does nothing, or more. Where a test's own list is refused, it ends.
 
 use crate::matrix::RowMajorMatrix;
-use crate::transform::{fits_transform, inverse_transform_columns, transform_columns};
+use crate::transform::{
+    fits_transform, inverse_transform_columns, transform_and_back, transform_columns,
+};
 use std::alloc::{AllocError, Global};
 
 /// The matrix that the tests begin with.
@@ -12,6 +15,7 @@ fn small(alloc: Global) -> Result<Option<RowMajorMatrix<u32>>, AllocError> {
     Ok(RowMajorMatrix::new([1u32, 2, 3, 4].to_vec(alloc)?, 1))
 }
 
+/// The values and the powers. It makes 2 requests for memory.
 #[test]
 fn transforms(rt: HostRuntime) {
     let Ok(Some(mut matrix)) = small(rt.alloc()) else {
@@ -25,6 +29,7 @@ fn transforms(rt: HostRuntime) {
     assert_eq!(rt; matrix.values(), wanted.as_slice());
 }
 
+/// The same. It makes 2 requests for memory.
 #[test]
 fn inverses(rt: HostRuntime) {
     let Ok(Some(mut matrix)) = small(rt.alloc()) else {
@@ -36,4 +41,37 @@ fn inverses(rt: HostRuntime) {
         Err(AllocError) => matrix.values() != [1, 2, 3, 4].as_slice(),
     };
     assert!(rt; !given);
+}
+
+/// The values and the powers of both ways. It makes 3 requests for memory.
+#[test]
+fn there_and_back(rt: HostRuntime) {
+    let Ok(Some(mut matrix)) = small(rt.alloc()) else {
+        return;
+    };
+    assert!(rt; fits_transform(&matrix));
+    if transform_and_back(rt.alloc(), &mut matrix).is_ok() {
+        assert_eq!(rt; matrix.values(), [1, 2, 3, 4].as_slice());
+    }
+}
+
+/// The values, and those of the transpose. It makes 2 requests for memory.
+#[test]
+fn transposes(rt: HostRuntime) {
+    let Ok(Some(matrix)) = small(rt.alloc()) else {
+        return;
+    };
+    if let Ok(turned) = matrix.transpose(rt.alloc()) {
+        assert_eq!(rt; (turned.width(), turned.height()), (4, 1));
+        assert_eq!(rt; turned.values(), [1, 2, 3, 4].as_slice());
+    }
+}
+
+/// Values that are no whole rows give their memory back. It makes 1 request for memory.
+#[test]
+fn values_of_no_rows(rt: HostRuntime) {
+    let Ok(values) = [1u32, 2, 3].to_vec(rt.alloc()) else {
+        return;
+    };
+    assert!(rt; RowMajorMatrix::new(values, 2).is_none());
 }

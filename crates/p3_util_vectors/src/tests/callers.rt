@@ -6,6 +6,7 @@ use crate::callers::compose::{
     transpose_by_rows, transpose_twice_on,
 };
 use crate::callers::from_end::{reverse_from_end, transpose_from_end, transpose_to_end};
+use crate::callers::places::rotate_three;
 use crate::callers::two_lists::{reverse_joined, transpose_into_joined};
 use crate::columns::ColumnShape;
 use crate::joined::Joined;
@@ -13,6 +14,24 @@ use crate::tests::checks::{equal, numbers};
 use p3_util::fits_rows;
 use p3_util::places::{SliceCells, SlicePlaces, Swaps, Writes};
 use p3_util::transpose::Region;
+
+/// Two swaps and a write, each counted, and the holders again.
+#[test]
+fn counters(rt: HostRuntime) {
+    let mut values = [10u64, 20, 30];
+    let mut m = Swaps::new(SlicePlaces::new(&mut values));
+    assert!(rt; m.len() == 3);
+    rotate_three(&mut m, 0, 1, 2);
+    equal(&rt, &m.swaps(), &2);
+    let _ = m.into_inner();
+    equal(&rt, &values, &[20, 30, 10]);
+    let mut writes = Writes::new(SliceCells::new(&mut values));
+    assert!(rt; writes.len() == 3);
+    writes.put(1, 7);
+    equal(&rt, &writes.writes(), &1);
+    let _ = writes.into_inner();
+    equal(&rt, &values, &[20, 7, 10]);
+}
 
 /// Column 1 of four rows of three numbers. The other columns stay.
 #[test]

@@ -16,10 +16,13 @@ pub(crate) fn same<T: PartialEq + Debug>(rt: &impl Abort, at: usize, got: &T, wa
     assert_eq!(rt; *got, *wanted, "at {at}");
 }
 
-/// Asserts what a list holds at these places, in row `row` of a table.
-pub(crate) fn check_places(rt: &impl Abort, row: usize, items: &[u64], places: &[(usize, u64)]) {
-    for (place, held) in places {
-        assert_eq!(rt; items.get(*place), Some(held), "at {place}, in row {row}");
+/// Asserts that a list is the transpose of the numbers from 0 on, which are `height` rows of `width`.
+pub(crate) fn check_transposed(rt: &impl Abort, list: &[u64], width: usize, height: usize) {
+    for (place, held) in list.iter().enumerate() {
+        let x = place.checked_div(height).unwrap_or(0);
+        let y = place.checked_rem(height).unwrap_or(0);
+        let wanted = y.wrapping_mul(width).wrapping_add(x);
+        same(rt, place, held, &(wanted as u64));
     }
 }
 

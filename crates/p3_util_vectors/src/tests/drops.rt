@@ -1,7 +1,8 @@
 //! What calls let go of: each owner is dropped once, by the call that is to drop it or with what it was given to.
 //!
 //! No value can be dropped twice, so a wrong body forgets one. `tests/refused_growth.sh` runs these tests too, refuses each
-//! growth in turn, and fails where memory is not given back. Where a test's own list is refused, it ends.
+//! growth in turn, and fails where memory is not given back. Where a test's own list is refused, it ends. Each test has the
+//! number of its requests for memory beside it.
 
 ghost use Rattle.serde_json.specs.Data.{number, unsigned};
 ghost use Rattle.std.specs.Prelude.{ℕ, ◌<◌, ◌^◌, true};
@@ -11,6 +12,7 @@ use crate::tests::checks::{Owner, equal, listed, same};
 use p3_util::array_serialization::{ArrayElement, ElementError, deserialize, serialize};
 use p3_util::chunks::{apply_to_chunks, iter_array_chunks_padded};
 use p3_util::linear_map::LinearMap;
+use p3_util::views::Rows;
 use p3_util::zip_eq::zip_eq;
 use serde_json::Value;
 use std::alloc::{AllocError, Global};
@@ -52,11 +54,36 @@ fn check_zip(
     Ok(())
 }
 
+/// It makes 7 requests for memory.
 #[test]
 fn zips(rt: HostRuntime) {
     for (first, second) in [(3, 2), (0, 4), (5, 0), (2, 2), (0, 0)] {
         let _ = check_zip(&rt, rt.alloc(), first, second);
     }
+}
+
+/// Puts `item` in the place of item `i` of some rows.
+fn put_in_rows<S: Rows>(rt: &impl Abort, rows: &mut S, i: usize, item: S::Item)
+where
+    S::Item: Drop,
+{
+    assert!(rt; i < rows.items_of().len());
+    rows.put(i, item);
+}
+
+/// An item that is put into rows takes the place of one that is dropped. It makes 0 requests for memory.
+#[test]
+fn items_put_into_rows(rt: HostRuntime) {
+    let drops = Cell::new(0);
+    let owner = |number| Owner {
+        number,
+        drops: &drops,
+    };
+    let mut rows = [[owner(0), owner(1)], [owner(2), owner(3)]];
+    put_in_rows(&rt, &mut rows.as_mut_slice(), 2, owner(4));
+    equal(&rt, &drops.get(), &1);
+    drop(rows);
+    equal(&rt, &drops.get(), &5);
 }
 
 /// How often owners with the counter of this one were dropped. A closure that calls this has the owner, and not its fields.
@@ -86,7 +113,7 @@ fn dropped_by_pieces<const BUFLEN: usize>(alloc: Global) -> Result<(usize, usize
     Ok((before.get(), drops.get()))
 }
 
-/// `apply_to_chunks` drops its closure and its iterator, also where it calls neither.
+/// `apply_to_chunks` drops its closure and its iterator, also where it calls neither. It makes 2 requests for memory.
 #[test]
 fn closures_on_pieces(rt: HostRuntime) {
     for answer in [
@@ -100,7 +127,7 @@ fn closures_on_pieces(rt: HostRuntime) {
 }
 
 /// Padded pieces have their iterator until they are dropped, and ask it no more after its end. Their items are `Copy`, so
-/// that there is no drop of one.
+/// that there is no drop of one. It makes 1 request for memory.
 #[test]
 fn iterators_of_padded_pieces(rt: HostRuntime) {
     let Ok(bytes) = (0..3u8).collect::<Vec<u8>>(rt.alloc()) else {
@@ -126,6 +153,7 @@ fn dropped_by_lending(map: &mut LinearMap<u32, usize>, key: u32) -> (usize, Opti
 }
 
 /// The closure is dropped before the value is lent: under a new key, under a known one and where there is no room.
+/// It makes 2 requests for memory.
 #[test]
 fn closures_of_maps(rt: HostRuntime) {
     let mut map = LinearMap::new(rt.alloc());
@@ -191,7 +219,7 @@ impl ArrayElement for Kept {
 }
 
 /// A list that is refused at its last item, for its length, and not at all: the elements that were read give their memory
-/// back.
+/// back. It makes 11 requests for memory.
 #[test]
 fn elements_of_arrays(rt: HostRuntime) {
     let alloc = rt.alloc();
@@ -205,7 +233,7 @@ fn elements_of_arrays(rt: HostRuntime) {
     }
 }
 
-/// Where an element is refused, the list of those before it gives its memory back.
+/// Where an element is refused, the list of those before it gives its memory back. It makes 1 request for memory.
 #[test]
 fn lists_of_refused_elements(rt: HostRuntime) {
     let kept = [1, 3, 2].map(|number| Kept {

@@ -2,9 +2,10 @@
 
 ghost use Rattle.std.specs.Prelude.{◌≡◌};
 
-use crate::tests::checks::{found, numbers};
+use crate::tests::calls::{Call, count_swaps};
+use crate::tests::checks::{equal, found, numbers, same};
 use p3_util_kernels::places::{Cells, Places};
-use std::alloc::Global;
+use std::alloc::{AllocError, Global};
 use std::process::Abort;
 
 /// The places of one call.
@@ -19,14 +20,6 @@ pub enum Note {
 pub struct Noted {
     pub items: Vec<u64>,
     pub notes: Vec<Note>,
-}
-
-/// The places of an exchange.
-pub(crate) fn exchange_of(rt: &impl Abort, note: &Note) -> (usize, usize) {
-    match note {
-        Note::Exchange(first, second) => (*first, *second),
-        Note::Put(_) => panic!(rt; "a write"),
-    }
 }
 
 impl Noted {
@@ -44,6 +37,12 @@ impl Noted {
             let _ = self.notes.push(note);
         }
     }
+}
+
+/// Asserts that two lists have the same numbers and the same notes.
+pub(crate) fn check_same(rt: &impl Abort, first: &Noted, second: &Noted) {
+    equal(rt, &second.items.as_slice(), &first.items.as_slice());
+    equal(rt, &second.notes.as_slice(), &first.notes.as_slice());
 }
 
 impl Places for Noted {
@@ -86,4 +85,39 @@ impl Cells for Noted {
     ghost same_holder_refl = { λ a. tt };
 
     ghost same_holder_trans = { λ m n all a b c p q e. tt };
+}
+
+/// The places of these exchanges, in order.
+fn places_of(
+    rt: &impl Abort,
+    alloc: Global,
+    notes: &[Note],
+) -> Result<Vec<(usize, usize)>, AllocError> {
+    let mut places = Vec::new(alloc);
+    for note in notes {
+        match note {
+            Note::Exchange(first, second) => places.push((*first, *second))?,
+            Note::Put(_) => panic!(rt; "a write"),
+        }
+    }
+    Ok(places)
+}
+
+/// The exchanges that a call makes in a list of `len` items, in order. They are as many as it counts, and the same over a
+/// counter and by the counted form.
+pub(crate) fn exchanges(
+    rt: &impl Abort,
+    alloc: Global,
+    call: Call,
+    len: usize,
+    wanted: u128,
+) -> Vec<(usize, usize)> {
+    let room = len.saturating_mul(2);
+    let mut over_counter = Noted::numbered(rt, alloc, len, room);
+    let mut by_form = Noted::numbered(rt, alloc, len, room);
+    let swaps = count_swaps(rt, &mut over_counter, &mut by_form, call);
+    same(rt, len, &swaps, &wanted);
+    same(rt, len, &(over_counter.notes.len() as u128), &wanted);
+    check_same(rt, &over_counter, &by_form);
+    found(rt, places_of(rt, alloc, &over_counter.notes))
 }

@@ -1,29 +1,11 @@
-//! The writes of a transpose, one by one: each is one put, and their order.
+//! The order of the writes of transposes. They are as many as a call counts, and the same over a counter and by the counted
+//! form.
 
-use super::noted::{Note, Noted};
+use super::noted::{Note, Noted, check_same};
 use crate::tests::calls::count_writes;
 use crate::tests::checks::{equal, found, numbers, same};
-use p3_util_kernels::places::{Cells, Writes};
 use std::alloc::{AllocError, Global};
 use std::process::Abort;
-
-/// Shapes and their numbers of writes.
-const WRITES: [(usize, usize, u128); 5] = [
-    (15, 17, 255),
-    (16, 16, 256),
-    (17, 16, 272),
-    (16, 17, 272),
-    (17, 19, 323),
-];
-
-/// Puts the transpose of the numbers from 0 on into a list that notes each put, through a reference, in a write an item.
-fn noted(rt: &impl Abort, alloc: Global, width: usize, height: usize) -> Noted {
-    let input = numbers(rt, alloc, width.saturating_mul(height));
-    let mut noted = Noted::numbered(rt, alloc, input.len(), input.len().saturating_add(1));
-    let writes = count_writes(rt, &input, &mut noted, width, height);
-    same(rt, width, &writes, &(input.len() as u128));
-    noted
-}
 
 /// The place of a put, as a column and a row of a matrix of `height` rows.
 fn place_of(rt: &impl Abort, note: &Note, height: usize) -> (usize, usize) {
@@ -57,53 +39,93 @@ pub(crate) fn puts(
     width: usize,
     height: usize,
 ) -> Vec<(usize, usize)> {
-    let noted = noted(rt, alloc, width, height);
-    found(rt, places_of(rt, alloc, &noted.notes, height))
+    let input = numbers(rt, alloc, width.saturating_mul(height));
+    let room = input.len().saturating_add(1);
+    let mut over_counter = Noted::numbered(rt, alloc, input.len(), room);
+    let mut by_form = Noted::numbered(rt, alloc, input.len(), room);
+    let writes = count_writes(rt, &input, &mut over_counter, &mut by_form, width, height);
+    same(rt, width, &writes, &(input.len() as u128));
+    same(rt, width, &over_counter.notes.len(), &input.len());
+    check_same(rt, &over_counter, &by_form);
+    found(rt, places_of(rt, alloc, &over_counter.notes, height))
 }
 
-#[test]
-fn each_write_is_one_put(rt: HostRuntime) {
-    for (width, height, wanted) in &WRITES {
-        let noted = noted(&rt, rt.alloc(), *width, *height);
-        same(&rt, *width, &(noted.notes.len() as u128), wanted);
+/// A part of a matrix that is cut into parts of `cols` columns and `rows` rows.
+#[derive(Clone, Copy)]
+struct Part {
+    cols: usize,
+    rows: usize,
+}
+
+impl Part {
+    /// The part in which column `x` and row `y` are, as its own column and row.
+    fn number_of(self, (x, y): (usize, usize)) -> (usize, usize) {
+        (
+            x.checked_div(self.cols).unwrap_or(0),
+            y.checked_div(self.rows).unwrap_or(0),
+        )
     }
 }
 
-/// Puts two numbers at place 2 of four through a counter, and returns the number of writes.
-fn put_twice<C: Cells<Item = u64>>(rt: &impl Abort, cells: &mut C) -> u128 {
-    let mut m = Writes::new(cells);
-    assert!(rt; m.len() == 4);
-    m.put(2, 7);
-    m.put(2, 9);
-    let count = m.writes();
-    let _ = m.into_inner();
-    count
+/// Asserts that of each `count` puts, counted from the first, all lie in one part, and that those of a part of one column
+/// come one below the other.
+fn check_parts(rt: &impl Abort, puts: &[(usize, usize)], count: usize, part: Part) {
+    let mut number = (0, 0);
+    let mut next = (0, 0);
+    for (k, put) in puts.iter().enumerate() {
+        let is_first = k.checked_rem(count) == Some(0);
+        if is_first {
+            number = part.number_of(*put);
+        }
+        same(rt, k, &part.number_of(*put), &number);
+        if part.cols == 1 && !is_first {
+            same(rt, k, put, &next);
+        }
+        next = (put.0, put.1.wrapping_add(1));
+    }
 }
 
-/// Each put asks its holder for one put, also through a reference, and where an item is put twice at one place.
-#[test]
-fn one_put_a_write(rt: HostRuntime) {
-    let mut noted = Noted::numbered(&rt, rt.alloc(), 4, 8);
-    equal(&rt, &put_twice(&rt, &mut noted), &2);
-    equal(&rt, &noted.items.as_slice(), &[0, 1, 9, 3].as_slice());
-    let wanted = [Note::Put(2), Note::Put(2)];
-    equal(&rt, &noted.notes.as_slice(), &wanted.as_slice());
-}
+/// A block of a tile.
+const BLOCK: Part = Part { cols: 4, rows: 4 };
+
+/// A tile.
+const TILE: Part = Part { cols: 16, rows: 16 };
+
+/// A column of a tile.
+const RUN: Part = Part { cols: 1, rows: 16 };
+
+/// A part of the matrix that the split leaves whole.
+const LEAF: Part = Part {
+    cols: 128,
+    rows: 128,
+};
+
+/// A column of a strip of 128 rows.
+const STRIP: Part = Part { cols: 1, rows: 128 };
 
 #[test]
 fn order_of_32_by_32(rt: HostRuntime) {
     let puts = puts(&rt, rt.alloc(), 32, 32);
-    equal(&rt, &puts.len(), &1024);
-    let mut block = (0, 0);
-    let mut tile = (0, 0);
-    for (k, (x, y)) in puts.iter().enumerate() {
-        if k % 16 == 0 {
-            block = (*x / 4, *y / 4);
+    check_parts(&rt, &puts, 16, BLOCK);
+    check_parts(&rt, &puts, 256, TILE);
+}
+
+/// Widths and heights; how many of the first puts are looked at; and how many of them in turn lie in which part.
+const ORDERS: [(usize, usize, usize, [(usize, Part); 2]); 3] = [
+    // Two strips, and 16 rows below.
+    (20, 272, 5120, [(16, RUN), (128, STRIP)]),
+    (16, 256, 4096, [(16, RUN), (128, STRIP)]),
+    (1025, 1024, 16384, [(16, RUN), (16384, LEAF)]),
+];
+
+#[test]
+fn orders_of_puts(rt: HostRuntime) {
+    for (width, height, count, parts) in ORDERS {
+        let puts = puts(&rt, rt.alloc(), width, height);
+        let first = puts.get(..count).unwrap_or(&[]);
+        equal(&rt, &first.len(), &count);
+        for (turn, part) in parts {
+            check_parts(&rt, first, turn, part);
         }
-        if k % 256 == 0 {
-            tile = (*x / 16, *y / 16);
-        }
-        same(&rt, k, &(*x / 4, *y / 4), &block);
-        same(&rt, k, &(*x / 16, *y / 16), &tile);
     }
 }

@@ -1,7 +1,8 @@
 //! Each growth refused in turn, call by call.
 //!
 //! A plain run refuses none. `tests/refused_growth.sh` runs each of these tests once for each of its requests for memory and
-//! refuses that one. Where a test's own list is refused, it ends.
+//! refuses that one. Each has the number of its requests beside it, so that a call which makes one more than it needs is seen.
+//! Where a test's own list is refused, it ends.
 
 ghost use Rattle.serde_json.specs.Data.{array, item, no_items, number, unsigned};
 ghost use Rattle.std.specs.Prelude.{◌==◌, true};
@@ -24,6 +25,7 @@ use std::alloc::{AllocError, Global};
 use std::cell::Cell;
 use std::process::Abort;
 
+/// It makes 1 request for memory.
 #[test]
 fn names(rt: HostRuntime) {
     if let Ok(name) = pretty_name(rt.alloc(), "alloc::vec::Vec<core::option::Option<u32>>") {
@@ -43,17 +45,17 @@ fn inserted(
     }
 }
 
-/// A map that was made with room for three pairs takes three, and in a full map a known key finds its pair: nothing of that
-/// is refused.
+/// A map that was made with room for a hundred pairs takes a hundred, and in a full map a known key finds its pair: nothing of
+/// that is refused. It makes 1 request for memory.
 #[test]
 fn maps_with_room(rt: HostRuntime) {
-    let Ok(mut map) = LinearMap::with_capacity(rt.alloc(), 3) else {
+    let Ok(mut map) = LinearMap::with_capacity(rt.alloc(), 100) else {
         return;
     };
-    for key in 0u32..3 {
+    for key in 0u32..100 {
         equal(&rt, &inserted(&mut map, key, key), &Ok(None));
     }
-    for key in 0u32..3 {
+    for key in 0u32..100 {
         equal(&rt, &inserted(&mut map, key, 9), &Ok(Some(key)));
         equal(&rt, &lent(&mut map, key, 7), &(Ok(9), 0));
     }
@@ -81,7 +83,7 @@ fn check_kept(rt: &impl Abort, map: &LinearMap<u32, u32>, refused: Option<u32>) 
     }
 }
 
-/// A refused pair is handed back, and the map is as before.
+/// A refused pair is handed back, and the map is as before. It makes 3 requests for memory.
 #[test]
 fn inserted_pairs(rt: HostRuntime) {
     let mut map = LinearMap::new(rt.alloc());
@@ -99,7 +101,7 @@ fn inserted_pairs(rt: HostRuntime) {
 }
 
 /// The same by `get_or_insert_with`, whose closure is called for each pair that is added and for no other: room is asked for
-/// first.
+/// first. It makes 3 requests for memory.
 #[test]
 fn closures_of_new_keys(rt: HostRuntime) {
     let mut map = LinearMap::new(rt.alloc());
@@ -166,7 +168,7 @@ fn first_key(map: &LinearMap<Spelling, u32>) -> &'static str {
 }
 
 /// A known key in another spelling finds the pair, which keeps the spelling that came first, also where the growth for a new
-/// key is refused.
+/// key is refused. It makes 3 requests for memory.
 #[test]
 fn spellings(rt: HostRuntime) {
     let mut map = LinearMap::new(rt.alloc());
@@ -202,7 +204,7 @@ fn check_drops(rt: &impl Abort, drops: &[Cell<usize>], count: usize) {
     }
 }
 
-/// Each pair that a refused `try_from_iter` took is dropped once, and no other.
+/// Each pair that a refused `try_from_iter` took is dropped once, and no other. It makes 2 requests for memory.
 #[test]
 fn maps_of_pairs(rt: HostRuntime) {
     let drops = [const { 0usize }; 8].map(Cell::new);
@@ -269,6 +271,7 @@ fn check_items(rt: &impl Abort, items: &[Option<Owner<'_>>]) {
 }
 
 /// A refused `flatten_to_base` hands the vector back, with each item in its place and none of them dropped.
+/// It makes 2 requests for memory.
 #[test]
 fn flattened_rows(rt: HostRuntime) {
     let drops = Cell::new(0);
@@ -289,7 +292,7 @@ fn flattened_rows(rt: HostRuntime) {
     equal(&rt, &drops.get(), &6);
 }
 
-/// The same of `reconstitute_from_base`.
+/// The same of `reconstitute_from_base`. It makes 2 requests for memory.
 #[test]
 fn reconstituted_items(rt: HostRuntime) {
     let drops = Cell::new(0);
@@ -365,7 +368,7 @@ fn check_written(rt: &impl Abort, alloc: Global, value: &Value) {
     }
 }
 
-/// A refused growth of the list, or of one of its elements, refuses the whole.
+/// A refused growth of the list, or of one of its elements, refuses the whole. It makes 4 requests for memory.
 #[test]
 fn written_arrays(rt: HostRuntime) {
     if let Ok(value) = serialize(rt.alloc(), &[10u32, 20, 30]) {
@@ -376,7 +379,7 @@ fn written_arrays(rt: HostRuntime) {
     }
 }
 
-/// The first element that memory runs out for is returned with its place.
+/// The first element that memory runs out for is returned with its place. It makes 1 request for memory.
 #[test]
 fn read_arrays(rt: HostRuntime) {
     if let Ok(value) = serialize(rt.alloc(), &[1u32, 2, 3]) {

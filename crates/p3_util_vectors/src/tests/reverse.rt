@@ -1,51 +1,125 @@
-//! Bit reversal against worked examples and the original crate.
+//! Calls that reorder a list, against worked examples, their definition and the original crate.
 
 use crate::joined::Joined;
-use crate::tests::calls::{count_swaps_of, reverse_slice};
-use crate::tests::checks::{Owner, copied, equal, found, numbers, owners, reversed, same};
+use crate::tests::calls::{Call, count_by_form, count_on, count_swaps, reorder_slice, reordered};
+use crate::tests::checks::{Owner, equal, found, numbers, owners, reversed, same};
 use crate::tests::oracle::reversals::REVERSALS;
-use crate::tests::oracle::{hash, items};
+use crate::tests::oracle::{hash, item, items};
 use p3_util_kernels::places::SlicePlaces;
 use std::alloc::{AllocError, Global};
 use std::cell::Cell;
 use std::process::Abort;
 
-/// Lists with their reversals, and the number of swaps.
-const EXAMPLES: [(&[u64], &[u64], u128); 4] = [
-    (&[], &[], 0),
-    (&[7], &[7], 0),
-    (&[10, 20, 30, 40], &[10, 30, 20, 40], 1),
-    (&[0, 1, 2, 3, 4, 5, 6, 7], &[0, 4, 2, 6, 1, 5, 3, 7], 2),
+const EIGHT: &[u64] = &[0, 1, 2, 3, 4, 5, 6, 7];
+
+const REVERSED_EIGHT: &[u64] = &[0, 4, 2, 6, 1, 5, 3, 7];
+
+/// Calls, lists, what is left of them, and the numbers of swaps.
+const EXAMPLES: [(Call, &[u64], &[u64], u128); 17] = [
+    (Call::Reversal, &[], &[], 0),
+    (Call::Reversal, &[7], &[7], 0),
+    (Call::Reversal, &[10, 20, 30, 40], &[10, 30, 20, 40], 1),
+    (Call::Reversal, EIGHT, REVERSED_EIGHT, 2),
+    (Call::Short, &[], &[], 0),
+    (Call::Long, &[10, 20, 30, 40], &[10, 30, 20, 40], 1),
+    (Call::Long, EIGHT, REVERSED_EIGHT, 2),
+    (Call::Rows(5), &[], &[], 0),
+    (Call::Rows(3), &[7, 8, 9], &[7, 8, 9], 0),
+    (
+        Call::Rows(3),
+        &[0, 1, 2, 3, 4, 5, 6, 7, 8, 9, 10, 11],
+        &[0, 1, 2, 6, 7, 8, 3, 4, 5, 9, 10, 11],
+        3,
+    ),
+    (Call::Rows(1), EIGHT, REVERSED_EIGHT, 2),
+    (Call::Chunks(2, 1), EIGHT, &[0, 1, 4, 5, 2, 3, 6, 7], 2),
+    (Call::Chunks(0, 3), EIGHT, EIGHT, 0),
+    (Call::Chunks(3, 0), EIGHT, REVERSED_EIGHT, 2),
+    (Call::Chunks(0, 0), &[7], &[7], 0),
+    (Call::Square(2, 2, 1), EIGHT, &[0, 1, 2, 6, 4, 5, 3, 7], 1),
+    (Call::Square(1, 1, 0), &[7, 8, 9], &[7, 8, 9], 0),
 ];
-
-/// The reversal of `list` by the slice form.
-fn by_slice(rt: &impl Abort, alloc: Global, list: &[u64]) -> Vec<u64> {
-    let mut reversed = copied(rt, alloc, list);
-    reverse_slice(rt, &mut reversed);
-    reversed
-}
-
-/// The same through a counter, and the number of swaps.
-fn by_counter(rt: &impl Abort, alloc: Global, list: &[u64]) -> (Vec<u64>, u128) {
-    let mut reversed = copied(rt, alloc, list);
-    let swaps = count_swaps_of(rt, &mut SlicePlaces::new(&mut reversed));
-    (reversed, swaps)
-}
-
-/// The reversal of `list` by both, which have to agree, and the number of swaps.
-fn reversal(rt: &impl Abort, alloc: Global, list: &[u64]) -> (Vec<u64>, u128) {
-    let (counted, swaps) = by_counter(rt, alloc, list);
-    let reversed = by_slice(rt, alloc, list);
-    same(rt, list.len(), &counted.as_slice(), &reversed.as_slice());
-    (reversed, swaps)
-}
 
 #[test]
 fn worked_examples(rt: HostRuntime) {
-    for (row, (list, wanted, swaps)) in EXAMPLES.iter().enumerate() {
-        let (got, count) = reversal(&rt, rt.alloc(), list);
+    for (row, (call, list, wanted, swaps)) in EXAMPLES.iter().enumerate() {
+        let (got, count) = reordered(&rt, rt.alloc(), list, *call);
         same(&rt, row, &got.as_slice(), wanted);
         same(&rt, row, &count, swaps);
+    }
+}
+
+/// The place whose item comes to `place` where rows of `width` are reversed.
+fn place_by_rows(width: usize, len: usize, place: usize) -> usize {
+    let rows = len.checked_div(width).unwrap_or(0);
+    let row = place.checked_div(width).unwrap_or(0);
+    let within = place.checked_rem(width).unwrap_or(0);
+    reversed(row, rows.checked_ilog2().unwrap_or(0))
+        .wrapping_mul(width)
+        .wrapping_add(within)
+}
+
+/// The place whose item comes to `place` where a square is transposed.
+fn place_by_square(base: usize, log_stride: usize, log_size: usize, place: usize) -> usize {
+    let (stride, side) = (1usize << (log_stride % 64), 1usize << (log_size % 64));
+    let from_base = place.checked_sub(base).unwrap_or(usize::MAX);
+    let row = from_base.checked_div(stride).unwrap_or(usize::MAX);
+    let column = from_base.checked_rem(stride).unwrap_or(usize::MAX);
+    if row < side && column < side {
+        base.wrapping_add(column.wrapping_mul(stride))
+            .wrapping_add(row)
+    } else {
+        place
+    }
+}
+
+/// The place whose item comes to `place` of `len`, by the definition of the call.
+fn place_before(call: Call, len: usize, place: usize) -> usize {
+    match call {
+        Call::Reversal | Call::Short | Call::Long => place_by_rows(1, len, place),
+        Call::Rows(width) => place_by_rows(width, len, place),
+        Call::Chunks(_, log_size) => place_by_rows(1 << (log_size % 64), len, place),
+        Call::Square(base, log_stride, log_size) => {
+            place_by_square(base, log_stride, log_size, place)
+        }
+    }
+}
+
+/// Asserts where a call puts each of the numbers from 0 to below `len`, and the number of swaps.
+fn check_numbered(rt: &impl Abort, alloc: Global, call: Call, len: usize, wanted: u128) {
+    let (items, swaps) = reordered(rt, alloc, &numbers(rt, alloc, len), call);
+    same(rt, len, &swaps, &wanted);
+    for (place, held) in items.iter().enumerate() {
+        same(rt, place, held, &(place_before(call, len, place) as u64));
+    }
+}
+
+/// Calls, lengths and numbers of swaps.
+const NUMBERED: [(Call, usize, u128); 11] = [
+    (Call::Reversal, 8192, 4032),
+    (Call::Reversal, 16384, 22464),
+    (Call::Reversal, 32768, 44928),
+    (Call::Reversal, 65536, 94080),
+    (Call::Short, 16384, 8128),
+    (Call::Long, 8192, 11200),
+    (Call::Rows(5), 80, 30),
+    (Call::Chunks(7, 7), 16384, 7168),
+    (Call::Square(0, 4, 4), 256, 120),
+    (Call::Square(3, 5, 4), 499, 120),
+    (Call::Square(0, 0, 0), 1, 0),
+];
+
+/// The numbers of swaps of whole squares with sides of 2, 4, 8 and so on.
+const SQUARES: [u128; 10] = [1, 6, 28, 120, 496, 2016, 8128, 32640, 130816, 523776];
+
+#[test]
+fn numbered_items(rt: HostRuntime) {
+    for (call, len, wanted) in NUMBERED {
+        check_numbered(&rt, rt.alloc(), call, len, wanted);
+    }
+    for (log, wanted) in (1usize..).zip(SQUARES) {
+        let len = 1usize << (log.wrapping_mul(2) % 64);
+        check_numbered(&rt, rt.alloc(), Call::Square(0, log, log), len, wanted);
     }
 }
 
@@ -53,7 +127,7 @@ fn worked_examples(rt: HostRuntime) {
 fn hashes_of_the_original(rt: HostRuntime) {
     for (k, wanted) in REVERSALS.iter().enumerate() {
         let list = items(&rt, rt.alloc(), 1usize << (k % 64));
-        let (got, _) = reversal(&rt, rt.alloc(), &list);
+        let (got, _) = reordered(&rt, rt.alloc(), &list, Call::Reversal);
         same(&rt, k, &hash(&got), wanted);
     }
 }
@@ -82,28 +156,51 @@ impl HasNumber for Owner<'_> {
     }
 }
 
-/// Asserts that each place has the item whose number is the place, with its `bits` low digits reversed where there are any.
-fn check_numbers<T: HasNumber>(rt: &impl Abort, list: &[T], bits: Option<u32>) {
+/// Asserts that each place has the item whose number is the place, or the place whose item `call` puts there.
+fn check_numbers<T: HasNumber>(rt: &impl Abort, list: &[T], call: Option<Call>) {
     for (place, item) in list.iter().enumerate() {
-        let wanted = match bits {
-            Some(bits) => reversed(place, bits),
+        let wanted = match call {
+            Some(call) => place_before(call, list.len(), place),
             None => place,
         };
         same(rt, place, &item.number(), &wanted);
     }
 }
 
-/// Asserts that a reversal puts at each place the item with the reversed number, and a second one each item back.
-fn reverse_numbered<T: HasNumber>(rt: &impl Abort, list: &mut [T], bits: u32) {
-    reverse_slice(rt, list);
-    check_numbers(rt, list, Some(bits));
-    reverse_slice(rt, list);
-    check_numbers(rt, list, None);
+/// Asserts that a reversal by any of its forms puts each item where it belongs, and a second one each item back.
+fn reverse_numbered<T: HasNumber>(rt: &impl Abort, mut list: Vec<T>, call: Call) -> Vec<T> {
+    reorder_slice(rt, &mut list, call);
+    check_numbers(rt, &list, Some(call));
+    let swaps = count_on(rt, &mut SlicePlaces::new(&mut list), call);
+    check_numbers(rt, &list, None);
+    let counted = count_by_form(rt, &mut SlicePlaces::new(&mut list), call);
+    check_numbers(rt, &list, Some(call));
+    same(rt, list.len(), &counted, &swaps);
+    reorder_slice(rt, &mut list, call);
+    check_numbers(rt, &list, None);
+    list
 }
 
 #[test]
 fn numbers_below_256(rt: HostRuntime) {
-    reverse_numbered(&rt, &mut numbers(&rt, rt.alloc(), 256), 8);
+    let list = numbers(&rt, rt.alloc(), 256);
+    let _ = reverse_numbered(&rt, list, Call::Reversal);
+}
+
+/// Lists that are in no order, reversed twice.
+#[test]
+fn scattered_items(rt: HostRuntime) {
+    for bits in [5u32, 7, 16] {
+        let list = items(&rt, rt.alloc(), 1usize << (bits % 64));
+        let (once, _) = reordered(&rt, rt.alloc(), &list, Call::Reversal);
+        for (place, held) in once.iter().enumerate() {
+            same(&rt, place, held, &item(reversed(place, bits)));
+        }
+        let (twice, _) = reordered(&rt, rt.alloc(), &once, Call::Reversal);
+        for (place, held) in twice.iter().enumerate() {
+            same(&rt, place, held, &item(place));
+        }
+    }
 }
 
 /// The decimal texts of the numbers from 0 to below `count`.
@@ -118,52 +215,61 @@ fn texts(alloc: Global, count: usize) -> Result<Vec<String>, AllocError> {
 #[test]
 fn decimal_texts(rt: HostRuntime) {
     for bits in 0..15u32 {
-        reverse_numbered(
-            &rt,
-            &mut found(&rt, texts(rt.alloc(), 1usize << bits)),
-            bits,
-        );
+        let list = found(&rt, texts(rt.alloc(), 1usize << bits));
+        let _ = reverse_numbered(&rt, list, Call::Reversal);
     }
 }
 
-fn number_at(list: &[Owner<'_>], place: usize) -> Option<usize> {
-    match list.get(place) {
-        Some(owner) => Some(owner.number),
-        None => None,
-    }
-}
-
+/// Over a counter and by the counted form.
 #[test]
 fn owners_by_the_long_path(rt: HostRuntime) {
     let drops = Cell::new(0);
     let mut list = owners(&rt, rt.alloc(), 32768, &drops);
-    let swaps = count_swaps_of(&rt, &mut SlicePlaces::new(&mut list));
+    let mut other = owners(&rt, rt.alloc(), 32768, &drops);
+    let mut over_counter = SlicePlaces::new(&mut list);
+    let mut by_form = SlicePlaces::new(&mut other);
+    let swaps = count_swaps(&rt, &mut over_counter, &mut by_form, Call::Reversal);
     equal(&rt, &swaps, &44928);
-    for (place, held) in [(1, 16384), (3, 24576), (256, 64)] {
-        same(&rt, place, &number_at(&list, place), &Some(held));
-    }
+    check_numbers(&rt, &list, Some(Call::Reversal));
+    check_numbers(&rt, &other, Some(Call::Reversal));
     equal(&rt, &drops.get(), &0);
+}
+
+/// Asserts the same of so many owners, and that each is dropped once, at the end.
+fn reverse_owners(rt: &impl Abort, alloc: Global, count: usize, call: Call) {
+    let drops = Cell::new(0);
+    let list = reverse_numbered(rt, owners(rt, alloc, count, &drops), call);
+    equal(rt, &drops.get(), &0);
+    drop(list);
+    equal(rt, &drops.get(), &count);
 }
 
 #[test]
 fn owners_without_clone(rt: HostRuntime) {
     for bits in 0..16u32 {
-        let drops = Cell::new(0);
-        let mut list = owners(&rt, rt.alloc(), 1usize << bits, &drops);
-        reverse_numbered(&rt, &mut list, bits);
-        equal(&rt, &drops.get(), &0);
-        drop(list);
-        equal(&rt, &drops.get(), &(1usize << bits));
+        reverse_owners(&rt, rt.alloc(), 1usize << bits, Call::Reversal);
+    }
+}
+
+#[test]
+fn owners_in_rows(rt: HostRuntime) {
+    for row_width in [1usize, 2, 3, 5, 8] {
+        for bits in 0..11u32 {
+            let call = Call::Rows(row_width);
+            reverse_owners(&rt, rt.alloc(), row_width << bits, call);
+        }
     }
 }
 
 /// Two slices, reversed as one list.
 #[test]
 fn joined_slices(rt: HostRuntime) {
-    let mut front = [0u64, 1, 2];
-    let mut back = [3u64, 4, 5, 6, 7];
-    let mut joined = Joined::new(&mut front, &mut back);
-    equal(&rt, &count_swaps_of(&rt, &mut joined), &2);
-    equal(&rt, &front, &[0, 4, 2]);
-    equal(&rt, &back, &[6, 1, 5, 3, 7]);
+    let (mut front, mut back) = ([0u64, 1, 2], [3u64, 4, 5, 6, 7]);
+    let (mut other_front, mut other_back) = (front, back);
+    let mut over_counter = Joined::new(&mut front, &mut back);
+    let mut by_form = Joined::new(&mut other_front, &mut other_back);
+    let swaps = count_swaps(&rt, &mut over_counter, &mut by_form, Call::Reversal);
+    equal(&rt, &swaps, &2);
+    equal(&rt, &(front, back), &([0, 4, 2], [6, 1, 5, 3, 7]));
+    equal(&rt, &(other_front, other_back), &(front, back));
 }

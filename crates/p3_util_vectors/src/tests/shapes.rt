@@ -179,74 +179,26 @@ fn check_shapes<T: Numbered>(rt: &impl Abort, alloc: Global, shapes: &[(usize, u
     }
 }
 
-#[test]
-fn shapes_of_u8(rt: HostRuntime) {
-    check_shapes::<u8>(&rt, rt.alloc(), &found(&rt, shapes(rt.alloc())));
+/// Asserts the same for items of each type. With the checks of `rt try`, where each test has to end within a minute, this takes
+/// longer: `rt try --test --seconds 300`.
+fn check_types(rt: &impl Abort, alloc: Global, shapes: &[(usize, usize)]) {
+    check_shapes::<u8>(rt, alloc, shapes);
+    check_shapes::<u32>(rt, alloc, shapes);
+    check_shapes::<u64>(rt, alloc, shapes);
+    check_shapes::<u128>(rt, alloc, shapes);
+    check_shapes::<[u8; 3]>(rt, alloc, shapes);
+    check_shapes::<[u8; 8]>(rt, alloc, shapes);
+    check_shapes::<[u64; 4]>(rt, alloc, shapes);
 }
 
 #[test]
-fn oblongs_of_u8(rt: HostRuntime) {
-    check_shapes::<u8>(&rt, rt.alloc(), &OBLONGS);
+fn shapes_of_each_type(rt: HostRuntime) {
+    check_types(&rt, rt.alloc(), &found(&rt, shapes(rt.alloc())));
 }
 
 #[test]
-fn shapes_of_u32(rt: HostRuntime) {
-    check_shapes::<u32>(&rt, rt.alloc(), &found(&rt, shapes(rt.alloc())));
-}
-
-#[test]
-fn oblongs_of_u32(rt: HostRuntime) {
-    check_shapes::<u32>(&rt, rt.alloc(), &OBLONGS);
-}
-
-#[test]
-fn shapes_of_u64(rt: HostRuntime) {
-    check_shapes::<u64>(&rt, rt.alloc(), &found(&rt, shapes(rt.alloc())));
-}
-
-#[test]
-fn oblongs_of_u64(rt: HostRuntime) {
-    check_shapes::<u64>(&rt, rt.alloc(), &OBLONGS);
-}
-
-#[test]
-fn shapes_of_u128(rt: HostRuntime) {
-    check_shapes::<u128>(&rt, rt.alloc(), &found(&rt, shapes(rt.alloc())));
-}
-
-#[test]
-fn oblongs_of_u128(rt: HostRuntime) {
-    check_shapes::<u128>(&rt, rt.alloc(), &OBLONGS);
-}
-
-#[test]
-fn shapes_of_three_bytes(rt: HostRuntime) {
-    check_shapes::<[u8; 3]>(&rt, rt.alloc(), &found(&rt, shapes(rt.alloc())));
-}
-
-#[test]
-fn oblongs_of_three_bytes(rt: HostRuntime) {
-    check_shapes::<[u8; 3]>(&rt, rt.alloc(), &OBLONGS);
-}
-
-#[test]
-fn shapes_of_eight_bytes(rt: HostRuntime) {
-    check_shapes::<[u8; 8]>(&rt, rt.alloc(), &found(&rt, shapes(rt.alloc())));
-}
-
-#[test]
-fn oblongs_of_eight_bytes(rt: HostRuntime) {
-    check_shapes::<[u8; 8]>(&rt, rt.alloc(), &OBLONGS);
-}
-
-#[test]
-fn shapes_of_four_words(rt: HostRuntime) {
-    check_shapes::<[u64; 4]>(&rt, rt.alloc(), &found(&rt, shapes(rt.alloc())));
-}
-
-#[test]
-fn oblongs_of_four_words(rt: HostRuntime) {
-    check_shapes::<[u64; 4]>(&rt, rt.alloc(), &OBLONGS);
+fn oblongs_of_each_type(rt: HostRuntime) {
+    check_types(&rt, rt.alloc(), &OBLONGS);
 }
 
 /// Transposes matrices of no items.

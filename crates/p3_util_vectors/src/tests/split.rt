@@ -3,8 +3,8 @@
 use super::noted::Noted;
 use crate::callers::transpose::levels_of;
 use crate::tests::between_views::count_source_writes;
-use crate::tests::calls::put_split;
-use crate::tests::checks::{equal, found, numbers, repeated, same};
+use crate::tests::calls::count_split;
+use crate::tests::checks::{check_transposed, equal, found, numbers, repeated, same};
 use crate::tests::puts::{places_of, puts};
 use p3_util_kernels::places::{SliceCells, SliceSource};
 use std::alloc::Global;
@@ -21,9 +21,20 @@ fn split(
 ) -> (Vec<u64>, u32) {
     let input = numbers(rt, alloc, width.saturating_mul(height));
     let mut output = repeated(rt, alloc, 0, input.len());
-    let mut cells = SliceCells::new(&mut output);
-    let (writes, nested) = put_split(rt, &input, &mut cells, width, height, levels);
+    let mut other = repeated(rt, alloc, 0, input.len());
+    let mut of_slice = SliceCells::new(&mut output);
+    let mut of_source = SliceCells::new(&mut other);
+    let (writes, nested) = count_split(
+        rt,
+        &input,
+        &mut of_slice,
+        &mut of_source,
+        width,
+        height,
+        levels,
+    );
     same(rt, width, &writes, &(input.len() as u128));
+    same(rt, width, &other.as_slice(), &output.as_slice());
     (output, nested)
 }
 
@@ -36,22 +47,17 @@ const SHAPES: [(usize, usize, u32, u32); 5] = [
     (1024, 1025, 7, 7),
 ];
 
+/// With as many levels as they need, and with 64.
 #[test]
 fn nested_splits(rt: HostRuntime) {
     for (height, width, levels, wanted) in &SHAPES {
         same(&rt, *height, &levels_of(*height, *width), levels);
         let (_, nested) = split(&rt, rt.alloc(), *width, *height, *levels);
         same(&rt, *height, &nested, wanted);
+        let (output, nested) = split(&rt, rt.alloc(), *width, *height, 64);
+        same(&rt, *height, &nested, wanted);
+        check_transposed(&rt, &output, *width, *height);
     }
-}
-
-#[test]
-fn split_of_1025_by_1024(rt: HostRuntime) {
-    let (output, nested) = split(&rt, rt.alloc(), 1025, 1024, 64);
-    equal(&rt, &output.len(), &1_049_600);
-    equal(&rt, &nested, &7);
-    same(&rt, 1, &output.get(1), &Some(&1025));
-    same(&rt, 1024, &output.get(1024), &Some(&1));
 }
 
 /// How many puts of the split belong to each of its first parts.

@@ -1,42 +1,33 @@
 //! Calls that take no memory.
 //!
-//! A plain run makes each of them once. `tests/refused_growth.sh` sets TIMES to 1 and to 2, counts the requests for memory of
-//! both runs, and finds as many: a body that makes a request and goes on where it is refused fails there. Where a test's own
-//! list is refused, it ends.
+//! A test has the number of its requests for memory beside it, which are those of its own lists. `tests/refused_growth.sh`
+//! counts them: a body that makes a request and goes on where it is refused fails there. Where a test's own list is refused,
+//! it ends.
 
-use crate::tests::calls::{count_writes, reverse_slice, reverse_slice_rows, transpose_slice};
+use crate::tests::calls::{
+    Call, count_swaps, count_writes, reverse_slice, reverse_slice_rows, transpose_slice,
+};
 use crate::tests::checks::equal;
 use crate::tests::linear_map::lent;
 use p3_util::array_serialization::{ArrayElement, ArrayError, deserialize, serialize};
 use p3_util::chunks::{apply_to_chunks, iter_array_chunks_padded};
 use p3_util::linear_map::LinearMap;
 use p3_util::zip_eq::zip_eq;
-use p3_util_kernels::places::SliceCells;
+use p3_util_kernels::places::{SliceCells, SlicePlaces};
 use std::alloc::{AllocError, Global};
 use std::cell::Cell;
-use std::env::Env;
 use std::fmt::Debug;
 use std::process::Abort;
 
-/// How often a test makes its calls: twice where TIMES says so, else once.
-fn times(rt: &HostRuntime) -> usize {
-    let mut word = [0];
-    match rt.var("TIMES", &mut word) {
-        Ok(1) if word == [b'2'] => 2,
-        _ => 1,
-    }
-}
-
+/// It makes 1 request for memory.
 #[test]
 fn read_arrays(rt: HostRuntime) {
     let Ok(value) = serialize(rt.alloc(), &[1u32, 2, 3]) else {
         return;
     };
-    for _ in 0..times(&rt) {
-        equal(&rt, &deserialize(rt.alloc(), &value), &Ok([1u32, 2, 3]));
-        let shorter = deserialize::<u64, 2>(rt.alloc(), &value);
-        equal(&rt, &shorter, &Err(ArrayError::Length { got: 3 }));
-    }
+    equal(&rt, &deserialize(rt.alloc(), &value), &Ok([1u32, 2, 3]));
+    let shorter = deserialize::<u64, 2>(rt.alloc(), &value);
+    equal(&rt, &shorter, &Err(ArrayError::Length { got: 3 }));
 }
 
 /// Asserts that an element is written and read back.
@@ -51,14 +42,13 @@ fn check_element<T: ArrayElement + PartialEq + Copy + Debug>(
     }
 }
 
+/// It makes 0 requests for memory.
 #[test]
 fn elements(rt: HostRuntime) {
-    for _ in 0..times(&rt) {
-        check_element(&rt, rt.alloc(), 7u32);
-        check_element(&rt, rt.alloc(), u64::MAX);
-        check_element(&rt, rt.alloc(), i64::MIN);
-        check_element(&rt, rt.alloc(), true);
-    }
+    check_element(&rt, rt.alloc(), 7u32);
+    check_element(&rt, rt.alloc(), u64::MAX);
+    check_element(&rt, rt.alloc(), i64::MIN);
+    check_element(&rt, rt.alloc(), true);
 }
 
 /// How many pairs two lists of one length make.
@@ -69,42 +59,50 @@ fn count_pairs(first: &[u8], second: &[u8]) -> Option<usize> {
     }
 }
 
+/// It makes 0 requests for memory.
 #[test]
 fn pairs(rt: HostRuntime) {
-    for _ in 0..times(&rt) {
-        equal(&rt, &count_pairs(&[1, 2, 3], &[4, 5, 6]), &Some(3));
-        equal(&rt, &count_pairs(&[1, 2], &[3]), &None);
-    }
+    equal(&rt, &count_pairs(&[1, 2, 3], &[4, 5, 6]), &Some(3));
+    equal(&rt, &count_pairs(&[1, 2], &[3]), &None);
 }
 
+/// It makes 0 requests for memory.
 #[test]
 fn pieces(rt: HostRuntime) {
-    for _ in 0..times(&rt) {
-        let count = Cell::new(0usize);
-        apply_to_chunks::<4, _, _>(0..10u8, |_| count.set(count.get().wrapping_add(1)));
-        equal(&rt, &count.get(), &3);
-        let mut padded = iter_array_chunks_padded::<_, 2, _>([1, 2, 3], 9u8);
-        equal(&rt, &padded.next(), &Some([1, 2]));
-        equal(&rt, &padded.next(), &Some([3, 9]));
+    let count = Cell::new(0usize);
+    apply_to_chunks::<4, _, _>(0..10u8, |_| count.set(count.get().wrapping_add(1)));
+    equal(&rt, &count.get(), &3);
+    let mut padded = iter_array_chunks_padded::<_, 2, _>([1, 2, 3], 9u8);
+    equal(&rt, &padded.next(), &Some([1, 2]));
+    equal(&rt, &padded.next(), &Some([3, 9]));
+}
+
+/// Reverses lists, and the rows of lists, by each form.
+fn reverse_lists(rt: &impl Abort, mut list: Vec<u64>, mut other: Vec<u64>) {
+    reverse_slice(rt, &mut list);
+    reverse_slice_rows(rt, &mut list, 4);
+    let mut over_counter = SlicePlaces::new(&mut list);
+    let mut by_form = SlicePlaces::new(&mut other);
+    for call in [Call::Reversal, Call::Rows(4)] {
+        let _ = count_swaps(rt, &mut over_counter, &mut by_form, call);
     }
 }
 
-/// The list of the short and the long path, one after the other.
-const LENGTHS: [usize; 2] = [64, 32768];
-
+/// By the short and by the long path. It makes 4 requests for memory.
 #[test]
 fn reversals(rt: HostRuntime) {
-    for len in LENGTHS {
-        let Ok(mut list) = vec![in rt.alloc(); 5u64; len] else {
+    for len in [64, 32768] {
+        let Ok(list) = vec![in rt.alloc(); 5u64; len] else {
             return;
         };
-        for _ in 0..times(&rt) {
-            reverse_slice(&rt, &mut list);
-            reverse_slice_rows(&rt, &mut list, 4);
-        }
+        let Ok(other) = vec![in rt.alloc(); 5u64; len] else {
+            return;
+        };
+        reverse_lists(&rt, list, other);
     }
 }
 
+/// It makes 3 requests for memory.
 #[test]
 fn transposes(rt: HostRuntime) {
     let Ok(input) = vec![in rt.alloc(); 5u64; 4800] else {
@@ -113,11 +111,14 @@ fn transposes(rt: HostRuntime) {
     let Ok(mut output) = vec![in rt.alloc(); 0u64; 4800] else {
         return;
     };
-    for _ in 0..times(&rt) {
-        transpose_slice(&rt, &input, &mut output, 60, 80);
-        let mut cells = SliceCells::new(&mut output);
-        equal(&rt, &count_writes(&rt, &input, &mut cells, 60, 80), &4800);
-    }
+    let Ok(mut other) = vec![in rt.alloc(); 0u64; 4800] else {
+        return;
+    };
+    transpose_slice(&rt, &input, &mut output, 60, 80);
+    let mut over_counter = SliceCells::new(&mut output);
+    let mut by_form = SliceCells::new(&mut other);
+    let writes = count_writes(&rt, &input, &mut over_counter, &mut by_form, 60, 80);
+    equal(&rt, &writes, &4800);
 }
 
 /// A map of one pair that has no room for another.
@@ -129,59 +130,46 @@ fn full_map(alloc: Global) -> Option<LinearMap<u32, u32>> {
     }
 }
 
+/// It makes 1 request for memory.
 #[test]
 fn known_keys(rt: HostRuntime) {
     let Some(mut map) = full_map(rt.alloc()) else {
         return;
     };
-    for _ in 0..times(&rt) {
-        equal(&rt, &map.insert(7, 1).is_ok(), &true);
-        equal(&rt, &lent(&mut map, 7, 9), &(Ok(1), 0));
-        equal(&rt, &map.get(&7).copied(), &Some(1));
-        equal(&rt, &map.get_mut(&7).copied(), &Some(1));
-        equal(&rt, &map.get_mut(&8).is_none(), &true);
-        assert!(rt; map.get(&7).is_some());
-        equal(&rt, &map[&7], &1);
-    }
+    equal(&rt, &map.insert(7, 1).is_ok(), &true);
+    equal(&rt, &lent(&mut map, 7, 9), &(Ok(1), 0));
+    equal(&rt, &map.get(&7).copied(), &Some(1));
+    equal(&rt, &map.get_mut(&7).copied(), &Some(1));
+    equal(&rt, &map.get_mut(&8).is_none(), &true);
+    assert!(rt; map.get(&7).is_some());
+    equal(&rt, &map[&7], &1);
 }
 
-/// The pairs of a map, by each of its iterators over references.
+/// The pairs of a map, by each of its iterators. It makes 1 request for memory.
 #[test]
 fn pairs_of_maps(rt: HostRuntime) {
     let Some(map) = full_map(rt.alloc()) else {
         return;
     };
-    for _ in 0..times(&rt) {
-        equal(&rt, &(map.len(), map.is_empty()), &(1, false));
-        assert!(rt; map.keys().eq([7].iter()));
-        assert!(rt; map.values().eq([1].iter()));
-        assert!(rt; map.iter().eq([(7, 1)].iter()));
-        assert!(rt; (&map).into_iter().eq([(7, 1)].iter()));
-        assert!(rt; map == map);
-    }
+    equal(&rt, &(map.len(), map.is_empty()), &(1, false));
+    assert!(rt; map.keys().eq([7].iter()));
+    assert!(rt; map.values().eq([1].iter()));
+    assert!(rt; map.iter().eq([(7, 1)].iter()));
+    assert!(rt; (&map).into_iter().eq([(7, 1)].iter()));
+    assert!(rt; map == map);
+    assert!(rt; map.into_iter().eq([(7, 1)]));
 }
 
-/// The pairs of two maps by value, of one in each turn.
-#[test]
-fn maps_by_value(rt: HostRuntime) {
-    let maps = [full_map(rt.alloc()), full_map(rt.alloc())];
-    for map in maps.into_iter().flatten().take(times(&rt)) {
-        assert!(rt; map.into_iter().eq([(7, 1)]));
-    }
-}
-
-/// A map of no pairs takes no memory, also where it is made with room for none.
+/// A map of no pairs takes no memory, also where it is made with room for none. It makes 0 requests for memory.
 #[test]
 fn empty_maps(rt: HostRuntime) {
-    for _ in 0..times(&rt) {
-        let map = LinearMap::<u32, u32>::new(rt.alloc());
-        equal(&rt, &(map.len(), map.is_empty()), &(0, true));
-        equal(&rt, &map.get(&7), &None);
-        equal(&rt, &map.into_iter().count(), &0);
-        let roomless = LinearMap::<u32, u32>::with_capacity(rt.alloc(), 0);
-        equal(&rt, &roomless.is_ok(), &true);
-        let no_pairs: [(u32, u32); 0] = [];
-        let made = LinearMap::try_from_iter(rt.alloc(), no_pairs);
-        equal(&rt, &made.is_ok(), &true);
-    }
+    let map = LinearMap::<u32, u32>::new(rt.alloc());
+    equal(&rt, &(map.len(), map.is_empty()), &(0, true));
+    equal(&rt, &map.get(&7), &None);
+    equal(&rt, &map.into_iter().count(), &0);
+    let roomless = LinearMap::<u32, u32>::with_capacity(rt.alloc(), 0);
+    equal(&rt, &roomless.is_ok(), &true);
+    let no_pairs: [(u32, u32); 0] = [];
+    let made = LinearMap::try_from_iter(rt.alloc(), no_pairs);
+    equal(&rt, &made.is_ok(), &true);
 }

@@ -1,60 +1,17 @@
 //! Transposes against worked examples and the original crate.
 
-use crate::tests::calls::{count_writes, transpose_slice};
-use crate::tests::checks::{numbers, repeated, same};
+use crate::tests::calls::transposed;
+use crate::tests::checks::{check_transposed, numbers, same};
 use crate::tests::oracle::transposes::{LARGE, OTHERS, SMALL, SMALL_SIDE};
 use crate::tests::oracle::{hash, items};
-use p3_util_kernels::places::SliceCells;
 use p3_util_kernels::transpose::fits_matrix;
 use std::alloc::Global;
 use std::process::Abort;
 
-/// The transpose of `input`, by the slice form.
-fn by_slice(
-    rt: &impl Abort,
-    alloc: Global,
-    input: &[u64],
-    width: usize,
-    height: usize,
-) -> Vec<u64> {
-    let mut output = repeated(rt, alloc, 0, input.len());
-    transpose_slice(rt, input, &mut output, width, height);
-    output
-}
-
-/// The same through a counter, with a write an item.
-fn by_counter(
-    rt: &impl Abort,
-    alloc: Global,
-    input: &[u64],
-    width: usize,
-    height: usize,
-) -> Vec<u64> {
-    let mut output = repeated(rt, alloc, 0, input.len());
-    let mut cells = SliceCells::new(&mut output);
-    let writes = count_writes(rt, input, &mut cells, width, height);
-    same(rt, width, &writes, &(input.len() as u128));
-    output
-}
-
-/// The transpose of `input` by both, which have to agree.
-fn transposed(
-    rt: &impl Abort,
-    alloc: Global,
-    input: &[u64],
-    width: usize,
-    height: usize,
-) -> Vec<u64> {
-    let output = by_slice(rt, alloc, input, width, height);
-    let counted = by_counter(rt, alloc, input, width, height);
-    same(rt, width, &counted.as_slice(), &output.as_slice());
-    output
-}
-
 /// Asserts that the transpose of the first items has the hash `wanted`.
 fn check_hash(rt: &impl Abort, alloc: Global, width: usize, height: usize, wanted: u64) {
     let input = items(rt, alloc, width.saturating_mul(height));
-    let output = transposed(rt, alloc, &input, width, height);
+    let (output, _) = transposed(rt, alloc, &input, width, height);
     same(rt, width, &hash(&output), &wanted);
 }
 
@@ -73,41 +30,57 @@ fn hashes_of_other_shapes(rt: HostRuntime) {
     }
 }
 
-/// The length of the longest large shape.
-const LONGEST: usize = 2003 * 757;
-
 #[test]
 fn hashes_of_large_shapes(rt: HostRuntime) {
-    let longest = items(&rt, rt.alloc(), LONGEST);
     for (width, height, wanted) in &LARGE {
-        let len = width.saturating_mul(*height);
-        assert!(rt; len <= longest.len());
-        let output = by_slice(&rt, rt.alloc(), &longest[..len], *width, *height);
-        same(&rt, *width, &hash(&output), wanted);
+        check_hash(&rt, rt.alloc(), *width, *height, *wanted);
     }
 }
 
-/// Width, height, matrices and their transposes.
-const EXAMPLES: [(usize, usize, &[u64], &[u64]); 3] = [
-    (3, 2, &[1, 2, 3, 4, 5, 6], &[1, 4, 2, 5, 3, 6]),
-    (1, 6, &[1, 2, 3, 4, 5, 6], &[1, 2, 3, 4, 5, 6]),
-    (0, 5, &[], &[]),
+/// Width, height, matrices, their transposes and the numbers of writes.
+const EXAMPLES: [(usize, usize, &[u64], &[u64], u128); 3] = [
+    (3, 2, &[1, 2, 3, 4, 5, 6], &[1, 4, 2, 5, 3, 6], 6),
+    (1, 6, &[1, 2, 3, 4, 5, 6], &[1, 2, 3, 4, 5, 6], 6),
+    (0, 5, &[], &[], 0),
 ];
 
 #[test]
 fn worked_examples(rt: HostRuntime) {
-    for (row, (width, height, input, wanted)) in EXAMPLES.iter().enumerate() {
-        let output = transposed(&rt, rt.alloc(), input, *width, *height);
+    for (row, (width, height, input, wanted, writes)) in EXAMPLES.iter().enumerate() {
+        let (output, count) = transposed(&rt, rt.alloc(), input, *width, *height);
         same(&rt, row, &output.as_slice(), wanted);
+        same(&rt, row, &count, writes);
     }
 }
 
+/// Widths, heights and numbers of writes.
+const WRITES: [(usize, usize, u128); 7] = [
+    (15, 17, 255),
+    (16, 16, 256),
+    (17, 16, 272),
+    (16, 17, 272),
+    (17, 19, 323),
+    (1024, 1024, 1_048_576),
+    (1025, 1024, 1_049_600),
+];
+
+/// Asserts where each of the numbers from 0 on is put, and the number of writes.
+fn check_numbered(rt: &impl Abort, alloc: Global, width: usize, height: usize, writes: u128) {
+    let input = numbers(rt, alloc, width.saturating_mul(height));
+    let (output, count) = transposed(rt, alloc, &input, width, height);
+    same(rt, width, &count, &writes);
+    check_transposed(rt, &output, width, height);
+}
+
+/// These, and matrices of one row or of one column.
 #[test]
-fn edges_of_17_by_19(rt: HostRuntime) {
-    let input = numbers(&rt, rt.alloc(), 323);
-    let output = transposed(&rt, rt.alloc(), &input, 17, 19);
-    for (place, wanted) in [(1, 17), (19, 1), (304, 16), (322, 322)] {
-        same(&rt, place, &output.get(place).copied(), &Some(wanted));
+fn numbered_items(rt: HostRuntime) {
+    for (width, height, writes) in WRITES {
+        check_numbered(&rt, rt.alloc(), width, height, writes);
+    }
+    for length in 1..=200usize {
+        check_numbered(&rt, rt.alloc(), length, 1, length as u128);
+        check_numbered(&rt, rt.alloc(), 1, length, length as u128);
     }
 }
 

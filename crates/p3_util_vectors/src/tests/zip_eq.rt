@@ -1,7 +1,11 @@
 //! The zip of two lists of one length.
 
+ghost use Rattle.std.specs.Prelude.{length};
+ghost use Rattle.std.specs.Iterator.{at_most};
+
 use crate::tests::checks::{equal, same};
 use p3_util::zip_eq::zip_eq;
+use std::cell::Cell;
 use std::fmt::Debug;
 use std::process::Abort;
 use std::test::Fail;
@@ -38,4 +42,64 @@ fn pairs_by_place(rt: HostRuntime) -> Result<(), Fail> {
     check_pairs(&rt, &[10u32, 20], &[100u32, 200], &[(10, 100), (20, 200)])?;
     check_pairs(&rt, &[1u32, 2], &[3u32, 4], &[(1, 3), (2, 4)])?;
     check_pairs::<u8, u8>(&rt, &[], &[], &[])
+}
+
+/// The items of a list. Each time that it is asked for its length or its next item, it writes its digit behind those in `asked`.
+#[derive(Drop)]
+struct Side<'a> {
+    items: &'a [u8],
+    digit: u32,
+    asked: &'a Cell<u32>,
+}
+
+impl Side<'_> {
+    fn note(&self) {
+        let digits = self.asked.get().wrapping_mul(10);
+        self.asked.set(digits.wrapping_add(self.digit));
+    }
+}
+
+impl Iterator for Side<'_> {
+    type Item = u8;
+
+    ghost remaining = { λ s. at_most (length s.items.now) };
+
+    fn next(&mut self) -> Option<u8> {
+        self.note();
+        let (first, rest) = self.items.split_first()?;
+        self.items = rest;
+        Some(*first)
+    }
+
+    fn size_hint(&self) -> (usize, Option<usize>) {
+        (self.items.len(), Some(self.items.len()))
+    }
+}
+
+impl ExactSizeIterator for Side<'_> {
+    fn len(&self) -> usize {
+        self.note();
+        self.items.len()
+    }
+}
+
+/// The first side is asked before the second: for its length, for each item and at the end.
+#[test]
+fn first_side_first(rt: HostRuntime) {
+    let asked = Cell::new(0);
+    let first = Side {
+        items: &[5, 6],
+        digit: 1,
+        asked: &asked,
+    };
+    let second = Side {
+        items: &[7, 8],
+        digit: 2,
+        asked: &asked,
+    };
+    match zip_eq(first, second, ()) {
+        Ok(pairs) => equal(&rt, &pairs.count(), &2),
+        Err(()) => panic!(rt; "the lengths agree"),
+    }
+    equal(&rt, &asked.get(), &12_121_212);
 }
