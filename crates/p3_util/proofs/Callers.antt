@@ -130,18 +130,19 @@ module _ {A : Type 0} where
   pub reversed_twice : (old mid new : List A) → IsReversal old mid → IsReversal mid new → IsReversible (length old) → new ≡ old
   reversed_twice old mid new first second fits = reversed_once mid new old second (reversed_back old mid first) (rw first.same_length fits)
 
-  pub rows_reversed_once : (row_width rows : ℕ) (old a b : List A) → IsZeroOrPowerOfTwo rows → length old ≡ row_width * rows
-      → IsRowReversal row_width old a → IsRowReversal row_width old b → a ≡ b
-  rows_reversed_once row_width rows old a b fits len = IsRowReversal-unique row_width old a b (rows, fits, len)
+  pub rows_reversed_once : (row_width rows : ℕ) (old a b : List A) → IsRowReversal row_width old a → IsRowReversal row_width old b
+      → length old ≡ row_width * rows → IsZeroOrPowerOfTwo rows → a ≡ b
+  rows_reversed_once row_width rows old a b one other len fits = IsRowReversal-unique row_width old a b (rows, fits, len) one other
 
-  pub rows_reversed_twice : (row_width rows : ℕ) (old mid new : List A) → IsZeroOrPowerOfTwo rows → length old ≡ row_width * rows
-      → IsRowReversal row_width old mid → IsRowReversal row_width mid new → new ≡ old
-  rows_reversed_twice row_width rows old mid new fits len first second =
-      rows_reversed_once row_width rows mid new old fits (first.same_length ∙ len) second (rows_reversed_back row_width old mid first)
+  pub rows_reversed_twice : (row_width rows : ℕ) (old mid new : List A) → IsRowReversal row_width old mid → IsRowReversal row_width mid new
+      → length old ≡ row_width * rows → IsZeroOrPowerOfTwo rows → new ≡ old
+  rows_reversed_twice row_width rows old mid new first second len fits =
+      rows_reversed_once row_width rows mid new old second (rows_reversed_back row_width old mid first) (first.same_length ∙ len) fits
 
   -- one transpose, and there and back is the same
-  pub transposed_once : (width height : ℕ) (old a b : List A) → IsTranspose width height old a → IsTranspose width height old b → a ≡ b
-  transposed_once = IsTranspose-unique
+  pub transposed_once : (width height : ℕ) (old a b : List A) → IsTranspose width height old a → IsTranspose width height old b
+      → length old ≡ width * height → a ≡ b
+  transposed_once width height old a b one other fits = IsTranspose-unique width height old a b one other
 
   pub transposed_twice : (width height : ℕ) (old mid new : List A) → length old ≡ width * height
       → IsTranspose width height old mid → IsTranspose height width mid new → new ≡ old

@@ -84,7 +84,8 @@ pub fn define_key<K: Eq + Copy + Drop, V: Copy>(
     value: V,
 ) -> Result<Option<V>, NoRoom<(K, V)>>
     ensures found { OnOk result (value_at K.eq table.new key ≡ Some value) }
-    ensures others { (other : K) → K.eq key other ≡ false → value_at K.eq table.new other ≡ value_at K.eq table.old other }
+    ensures others { OnOk result ((other : K) → K.eq key other ≡ false
+        → value_at K.eq table.new other ≡ value_at K.eq table.old other) }
 {
     table.insert(key, value)
 }

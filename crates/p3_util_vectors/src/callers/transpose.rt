@@ -50,19 +50,37 @@ pub fn transpose_there_and_back<T: Copy>(
     transpose(scratch, matrix, height, width);
 }
 
-/// Puts the transpose of one matrix into two holders, which have the same items then.
+/// Puts the transpose of one matrix into two slices, which have the same items then.
 #[tactic(auto, using(p3_util::proofs::Callers::transposed_once))]
-pub fn transpose_into_both<C: Cells, D: Cells<Item = C::Item>>(
+pub fn transpose_into_two<T: Copy>(
+    input: &[T],
+    one: &mut [T],
+    other: &mut [T],
+    width: usize,
+    height: usize,
+)
+    requires input_fits { length input.now ≡ width * height }
+    requires one_fits { length one.old ≡ width * height }
+    requires other_fits { length other.old ≡ width * height }
+    ensures { one.new ≡ other.new }
+{
+    transpose(input, one, width, height);
+    transpose(input, other, width, height);
+}
+
+/// The same of any holders.
+#[tactic(auto, using(p3_util::proofs::Callers::transposed_once))]
+pub fn transpose_into_holders<C: Cells>(
     input: &[C::Item],
     one: &mut C,
-    other: &mut D,
+    other: &mut C,
     width: usize,
     height: usize,
 )
     requires input_fits { length input.now ≡ width * height }
     requires one_fits { length (C.items one.old) ≡ width * height }
-    requires other_fits { length (D.items other.old) ≡ width * height }
-    ensures { C.items one.new ≡ D.items other.new }
+    requires other_fits { length (C.items other.old) ≡ width * height }
+    ensures { C.items one.new ≡ C.items other.new }
 {
     transpose_counted(input, one, width, height);
     transpose_counted(input, other, width, height);
