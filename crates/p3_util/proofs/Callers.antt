@@ -26,7 +26,6 @@ use Rattle.p3_util_kernels.specs.Reversal.{IsReversal, IsReversible, IsRowRevers
 use Rattle.p3_util_kernels.specs.Square.{IsSquareTransposed}
 use Rattle.p3_util_kernels.specs.Squares.{AreTransposed}
 use Rattle.p3_util_kernels.specs.Steps.{counted}
-use Rattle.p3_util_kernels.specs.SwapCounts.{long_swaps}
 use Rattle.p3_util_kernels.specs.Transpose.{IsTranspose}
 use Rattle.p3_util_kernels.proofs.Cuts.{slice_get-append_left, slice_get-append_right, slice_get-drop, slice_get-take}
 use Rattle.p3_util_kernels.proofs.Digits.{rev-lt, rev-parts, rev-rev-below, rev-shl, rev-suc, rev-zero}
@@ -39,7 +38,6 @@ use Rattle.p3_util_kernels.proofs.Powers.{power_of_two_test as power_test}
 use Rattle.p3_util_kernels.proofs.Region.{IsCut-cols, IsCut-rows, IsRegionTransposed-cut}
 use Rattle.p3_util_kernels.proofs.Reversal.{IsReversal-places, IsReversal-unique, IsRowReversal-inverse, IsRowReversal-unique}
 use Rattle.p3_util_kernels.proofs.Squares.{AreTransposed-more, square_room}
-use Rattle.p3_util_kernels.proofs.SwapCounts.{long_swaps-le}
 
 -- The k low digits, reversed, are a number of k digits, of which the reverse is that number again.
 pub rev_below : (k x : ℕ) → rev k x < 2 ^ k
@@ -302,16 +300,13 @@ module _ (log_stride log_size : ℕ) (within : log_size ≤ log_stride) where
         let base : 0 * 2 ^ log_size ≡ 0 = omega arith in
         square_more 0 old old new (pow_pos (log_stride - log_size)) (no_square old) (rw base square)
 
--- chunks, one square or two, and chunks again: the order, the number of swaps and its bound
+-- chunks, one square or two, and chunks again: the order and the number of swaps
 module _ (k : ℕ) where
   pub reversed_by_squares : {A : Type 0} (old first second new : List A) → length old ≡ 2 ^ k → IsRowReversal (2 ^ (k - k / 2)) old first
       → AreTransposed (2 ^ (k - k / 2 - k / 2)) (k - k / 2) (k / 2) first second → IsRowReversal (2 ^ (k - k / 2)) second new → IsReversal old new
   reversed_by_squares old first second new fits chunks squares again =
       let whole : k / 2 + (k - k / 2) ≡ k = omega arith in
       IsReversal-composed (k / 2) (k - k / 2) (omega arith) (omega arith) old first second new (rw whole fits) chunks squares again
-
-  pub long_swaps_bound : long_swaps k ≤ 3 * 2 ^ k / 2
-  long_swaps_bound = long_swaps-le k
 
 pub swaps_around : (c0 c1 c2 c3 a b : ℕ) → c1 ≡ counted c0 a → c2 ≡ counted c1 b → c3 ≡ counted c2 a → c3 ≡ counted c0 (2 * a + b)
 swaps_around c0 c1 c2 c3 a b e f g = omega arith

@@ -63,25 +63,28 @@ pub fn reverse_rows_twice_on<S: Places>(m: &mut Swaps<S>, row_width: usize)
     reverse_row_index_bits_on(m, row_width);
 }
 
-/// Reverses the items of `m` and then the order of its rows, over one counter, whose count is the sum of both numbers by
-/// `counted`.
+/// Reverses the items of `m` and then the order of its rows, over one counter, whose count rises by the sum of both numbers:
+/// a search adds them up by `counted`.
 pub fn reverse_items_and_rows_on<S: Places>(m: &mut Swaps<S>, row_width: usize)
     requires items { IsReversible (length (S.items m.old.holder)) }
     requires rows { FitsRows (length (S.items m.old.holder)) row_width }
-    ensures count { let n = length (S.items m.old.holder) in
+    ensures { let n = length (S.items m.old.holder) in
         m.new.count ≡ counted m.old.count (reversal_swaps n + row_width * short_swaps (clog (n / row_width))) }
 {
     reverse_index_bits_on(m);
     reverse_row_index_bits_on(m, row_width);
 }
 
-/// Does the same to a holder, and returns the sum of both numbers, which `same_holder_trans` makes one of the holder.
+/// Does the same to any holder, and returns the sum, which is the holder's number of steps by `same_holder_trans`.
 pub fn reverse_items_and_rows<S: Places>(places: &mut S, row_width: usize) -> u128
     requires items { IsReversible (length (S.items places.old)) }
     requires rows { FitsRows (length (S.items places.old)) row_width }
-    requires small { length (S.items places.old) < 2 ^ 64 }
-    ensures { S.same_holder result places.old places.new }
+    ensures count { let n = length (S.items places.old) in
+        result ≡ reversal_swaps n + row_width * short_swaps (clog (n / row_width)) }
+    ensures holder { S.same_holder result places.old places.new }
 {
+    // Its contract says that the length is a usize, so that the sum fits.
+    let _ = places.len();
     let items = reverse_counted(places);
     let rows = reverse_rows_counted(places, row_width);
     items + rows
