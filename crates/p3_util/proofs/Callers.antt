@@ -1,38 +1,43 @@
 -- Lemmas for callers, under names that `#[tactic(auto, using(..))]` takes: what a reversal and a transpose say of a place, that
--- a list has one of each, and that two of them are the list again; reversed digits in parts; sums by even and odd places; a
--- closure that adds up; a part of a list that is written; some items of a list, seen as a list; a region in two parts; a
--- reversal by chunks and squares.
-use Rattle.std.proofs.Common.{◌≡◌, ◌≢◌, ℕ, zero, suc, ◌+◌, ◌*◌, ◌^◌, ◌-◌, ◌/◌, ◌<◌, ◌≤◌, List, [], ◌∷◌, ◌++◌, length, slice_get, take, drop, set, reverse, sum, refl, sym, ap, ◌∙◌, arith, length-append, length-drop}
+-- a list has one of each, and that two of them are the list again; reversed digits in parts; std's test for a power of two; a
+-- look-up after an insert; sums by even and odd places; a closure that adds up; a part of a list that is written; some items of
+-- a list, seen as a list; a region in two parts; a reversal by chunks and squares.
+use Rattle.std.proofs.Common.{◌≡◌, ◌≢◌, ℕ, zero, suc, ◌+◌, ◌*◌, ◌^◌, ◌-◌, ◌/◌, ◌<◌, ◌≤◌, Bool, true, false, cond, nat_eq, inl, Some, List, [], ◌∷◌, ◌++◌, length, get_or, slice_get, take, drop, set, reverse, sum, refl, sym, ap, ◌∙◌, arith, length-append, length-drop}
 use borrow.Rule.Slice.PartMut.{mid_of, put_mid}
+use Rattle.std.proofs.lemmas.Bool.{ne_eqb}
 use Rattle.std.proofs.lemmas.List.{length-take-le}
-use Rattle.std.proofs.lemmas.Nat.{mul-add-lt, pow_pos, same_from_place}
+use Rattle.std.proofs.lemmas.Nat.{mul-add-lt, pow-add, pow_pos, same_from_place}
 use Rattle.std.proofs.lemmas.List.Sums.{sum_by-append}
+use Rattle.std.specs.Cmp.{IsEquivalence, nat_eq_equiv}
+use Rattle.std.specs.Int.{is_power_of_two}
 use Rattle.std.specs.List.{FoldsTo, swap}
 use Rattle.p3_util.specs.Flat.{flat}
 use Rattle.p3_util.specs.ItemsAt.{AreOthersSame, IsSameOutside, column_of, items_at}
+use Rattle.p3_util.specs.LinearMap.{put, value_at}
 use Rattle.p3_util.proofs.ItemsAt.{from_end-set, from_end-swap, items_at-set, items_at-swap, length-items_at, slice_get-items_at, slice_get-reverse}
+use Rattle.p3_util.proofs.MapLemmas.{lookup_put}
+use Rattle.p3_util.proofs.TwoLists.{across, in-back, in-front, put-back, put-front, swap-sym}
 use Rattle.p3_util_kernels.specs.Digits.{rev, sum_below}
 use Rattle.p3_util_kernels.specs.declared.transpose.regions.Region.{Region}
 use Rattle.p3_util_kernels.specs.Levels.{clog}
+use Rattle.p3_util_kernels.specs.Powers.{HasLog2}
 use Rattle.p3_util_kernels.specs.Region.{IsRegionTransposed}
 use Rattle.p3_util_kernels.specs.Reversal.{IsReversal, IsReversible, IsRowReversal, IsZeroOrPowerOfTwo}
 use Rattle.p3_util_kernels.specs.Square.{IsSquareTransposed}
 use Rattle.p3_util_kernels.specs.Squares.{AreTransposed}
 use Rattle.p3_util_kernels.specs.Steps.{counted}
-use Rattle.p3_util_kernels.specs.SwapCounts.{long_swaps}
 use Rattle.p3_util_kernels.specs.Transpose.{IsTranspose}
 use Rattle.p3_util_kernels.proofs.Cuts.{slice_get-append_left, slice_get-append_right, slice_get-drop, slice_get-take}
 use Rattle.p3_util_kernels.proofs.Digits.{rev-lt, rev-parts, rev-rev-below, rev-shl, rev-suc, rev-zero}
 use Rattle.p3_util_kernels.proofs.Exchange.{slice_get-set_other, slice_get-swap_other}
 use Rattle.p3_util_kernels.proofs.Lengths.{zero_or_power}
-use Rattle.p3_util_kernels.proofs.Levels.{clog_power}
+use Rattle.p3_util_kernels.proofs.Levels.{clog-zero, clog_power}
 use Rattle.p3_util_kernels.proofs.LongPath.{IsReversal-composed}
 use Rattle.p3_util_kernels.proofs.Matrix.{IsTranspose-twice, IsTranspose-unique}
-use Rattle.p3_util_kernels.proofs.Powers.{exponent-same}
+use Rattle.p3_util_kernels.proofs.Powers.{power_of_two_test as power_test}
 use Rattle.p3_util_kernels.proofs.Region.{IsCut-cols, IsCut-rows, IsRegionTransposed-cut}
 use Rattle.p3_util_kernels.proofs.Reversal.{IsReversal-places, IsReversal-unique, IsRowReversal-inverse, IsRowReversal-unique}
 use Rattle.p3_util_kernels.proofs.Squares.{AreTransposed-more, square_room}
-use Rattle.p3_util_kernels.proofs.SwapCounts.{long_swaps-le}
 
 -- The k low digits, reversed, are a number of k digits, of which the reverse is that number again.
 pub rev_below : (k x : ℕ) → rev k x < 2 ^ k
@@ -45,9 +50,6 @@ rev_twice = rev-rev-below
 pub rev_in_parts : (j k a y : ℕ) → y < 2 ^ k → rev (j + k) (a * 2 ^ k + y) ≡ rev k y * 2 ^ j + rev j a
 rev_in_parts = rev-parts
 
-pub rev_none : (x : ℕ) → rev 0 x ≡ 0
-rev_none = rev-zero
-
 -- an even number, and an odd one
 pub rev_even : (k b : ℕ) → rev (k + 1) (2 * b) ≡ rev k b
 rev_even k b =
@@ -59,6 +61,30 @@ rev_odd k b =
     let double : 2 * b + 1 ≡ b * 2 ^ 1 + 1 = omega arith in
     let one : rev 1 1 ≡ 1 = rw (rev-suc 0 1, rev-zero 1) refl in
     rw (double, rev-parts k 1 b 1 (omega arith), one) (omega arith)
+
+-- A number that passes std's test has a logarithm.
+pub power_of_two_test : (n : ℕ) → is_power_of_two n ≡ true → HasLog2 n
+power_of_two_test n tested = inl ((power_test n).0 tested)
+
+-- after `insert`: what a look-up finds
+module _ {K V : Type 0} {eq : K → K → Bool} (laws : IsEquivalence eq) where
+  pub key_found : (pairs : List (K × V)) (k : K) (v : V) → value_at eq (put eq pairs k v) k ≡ Some v
+  key_found pairs k v = lookup_put laws pairs k v k ∙ rw (laws.refl k) refl
+
+  pub key_others : (pairs : List (K × V)) (k : K) (v : V) (q : K) → eq k q ≡ false → value_at eq (put eq pairs k v) q ≡ value_at eq pairs q
+  key_others pairs k v q apart = lookup_put laws pairs k v q ∙ rw apart refl
+
+-- the same where the keys are numbers
+module _ {V : Type 0} where
+  pub number_found : (pairs : List (ℕ × V)) (k : ℕ) (v : V) → value_at nat_eq (put nat_eq pairs k v) k ≡ Some v
+  number_found = key_found nat_eq_equiv
+
+  pub number_others : (pairs : List (ℕ × V)) (k : ℕ) (v : V) (q : ℕ) → q ≢ k → value_at nat_eq (put nat_eq pairs k v) q ≡ value_at nat_eq pairs q
+  number_others pairs k v q apart = key_others nat_eq_equiv pairs k v q (ne_eqb k q (λ same. apart (sym same)))
+
+pub ruleset put_found = (key_found, number_found)
+
+pub ruleset put_others = (key_others, number_others)
 
 -- a sum by even and odd places
 pub sum_below_halves : (n : ℕ) (f : ℕ → ℕ) → sum_below (2 * n) f ≡ sum_below n (λ j. f (2 * j)) + sum_below n (λ j. f (2 * j + 1))
@@ -75,6 +101,19 @@ module _ {A : Type 0} where
   pub reversed_place : (k i : ℕ) (old new : List A) → IsReversal old new → length old ≡ 2 ^ k → i < 2 ^ k → slice_get new i ≡ slice_get old (rev k i)
   reversed_place k i old new reversal e h = IsReversal-places old new reversal k i e h
 
+  -- the places 2i and 2i + 1, which are those of one half and of the other
+  pub reversed_even : (k i : ℕ) (old new : List A) → IsReversal old new → length old ≡ 2 ^ (k + 1) → i < 2 ^ k → slice_get new (2 * i) ≡ slice_get old (rev k i)
+  reversed_even k i old new reversal e h =
+      let double : 2 ^ (k + 1) ≡ 2 ^ k * 2 ^ 1 = pow-add 2 k 1 in
+      reversed_place (k + 1) (2 * i) old new reversal e (omega arith) ∙ ap (slice_get old) (rev_even k i)
+
+  pub reversed_odd : (k i : ℕ) (old new : List A) → IsReversal old new → length old ≡ 2 ^ (k + 1) → i < 2 ^ k
+      → slice_get new (2 * i + 1) ≡ slice_get old (rev k i + 2 ^ k)
+  reversed_odd k i old new reversal e h =
+      let double : 2 ^ (k + 1) ≡ 2 ^ k * 2 ^ 1 = pow-add 2 k 1 in
+      let halves : rev (k + 1) (2 * i + 1) ≡ rev k i + 2 ^ k = rev_odd k i ∙ omega arith in
+      reversed_place (k + 1) (2 * i + 1) old new reversal e (omega arith) ∙ ap (slice_get old) halves
+
   -- the other way round
   pub reversed_back : (old new : List A) → IsReversal old new → IsReversal new old
   reversed_back = IsRowReversal-inverse 1
@@ -82,25 +121,26 @@ module _ {A : Type 0} where
   pub rows_reversed_back : (row_width : ℕ) (old new : List A) → IsRowReversal row_width old new → IsRowReversal row_width new old
   rows_reversed_back = IsRowReversal-inverse
 
-  -- one reversal, and twice is the same
-  pub reversed_once : (old a b : List A) → IsReversible (length old) → IsReversal old a → IsReversal old b → a ≡ b
-  reversed_once old a b fits = IsReversal-unique old a b (zero_or_power (length old) fits)
+  -- One reversal, and twice is the same. The condition comes last: a search has it once the lists are found.
+  pub reversed_once : (old a b : List A) → IsReversal old a → IsReversal old b → IsReversible (length old) → a ≡ b
+  reversed_once old a b one other fits = IsReversal-unique old a b (zero_or_power (length old) fits) one other
 
-  pub reversed_twice : (old mid new : List A) → IsReversible (length old) → IsReversal old mid → IsReversal mid new → new ≡ old
-  reversed_twice old mid new fits first second = reversed_once mid new old (rw first.same_length fits) second (reversed_back old mid first)
+  pub reversed_twice : (old mid new : List A) → IsReversal old mid → IsReversal mid new → IsReversible (length old) → new ≡ old
+  reversed_twice old mid new first second fits = reversed_once mid new old second (reversed_back old mid first) (rw first.same_length fits)
 
-  pub rows_reversed_once : (row_width rows : ℕ) (old a b : List A) → IsZeroOrPowerOfTwo rows → length old ≡ row_width * rows
-      → IsRowReversal row_width old a → IsRowReversal row_width old b → a ≡ b
-  rows_reversed_once row_width rows old a b fits len = IsRowReversal-unique row_width old a b (rows, fits, len)
+  pub rows_reversed_once : (row_width rows : ℕ) (old a b : List A) → IsRowReversal row_width old a → IsRowReversal row_width old b
+      → length old ≡ row_width * rows → IsZeroOrPowerOfTwo rows → a ≡ b
+  rows_reversed_once row_width rows old a b one other len fits = IsRowReversal-unique row_width old a b (rows, fits, len) one other
 
-  pub rows_reversed_twice : (row_width rows : ℕ) (old mid new : List A) → IsZeroOrPowerOfTwo rows → length old ≡ row_width * rows
-      → IsRowReversal row_width old mid → IsRowReversal row_width mid new → new ≡ old
-  rows_reversed_twice row_width rows old mid new fits len first second =
-      rows_reversed_once row_width rows mid new old fits (first.same_length ∙ len) second (rows_reversed_back row_width old mid first)
+  pub rows_reversed_twice : (row_width rows : ℕ) (old mid new : List A) → IsRowReversal row_width old mid → IsRowReversal row_width mid new
+      → length old ≡ row_width * rows → IsZeroOrPowerOfTwo rows → new ≡ old
+  rows_reversed_twice row_width rows old mid new first second len fits =
+      rows_reversed_once row_width rows mid new old second (rows_reversed_back row_width old mid first) (first.same_length ∙ len) fits
 
   -- one transpose, and there and back is the same
-  pub transposed_once : (width height : ℕ) (old a b : List A) → IsTranspose width height old a → IsTranspose width height old b → a ≡ b
-  transposed_once = IsTranspose-unique
+  pub transposed_once : (width height : ℕ) (old a b : List A) → IsTranspose width height old a → IsTranspose width height old b
+      → length old ≡ width * height → a ≡ b
+  transposed_once width height old a b one other fits = IsTranspose-unique width height old a b one other
 
   pub transposed_twice : (width height : ℕ) (old mid new : List A) → length old ≡ width * height
       → IsTranspose width height old mid → IsTranspose height width mid new → new ≡ old
@@ -169,9 +209,6 @@ module _ {A : Type 0} (place : ℕ → ℕ) (n : ℕ) where
   pub others_written : (xs : List A) (i : ℕ) (v : A) → i < n → AreOthersSame place n xs (set xs (place i) v)
   others_written xs i v hi p out = slice_get-set_other xs (place i) p v (out i hi)
 
-  pub others_twice : (old mid new : List A) → AreOthersSame place n old mid → AreOthersSame place n mid new → AreOthersSame place n old new
-  others_twice old mid new first second p out = second p out ∙ first p out
-
 -- a column of a matrix
 pub column_inside : (width height column row : ℕ) → column < width → row < height → row * width + column < height * width
 column_inside width height column row hc hr = omega (arith, mul-add-lt row width column height hr hc)
@@ -204,6 +241,27 @@ module _ {A : Type 0} where
 
   pub from_end_written : (n : ℕ) (xs : List A) → length xs ≡ n → (i : ℕ) (v : A) → i < n → reverse (set xs (n - 1 - i) v) ≡ set (reverse xs) i v
   from_end_written = from_end-set
+
+  -- two lists, one behind the other, as one: an exchange in the first, in the second, and across both, and an item put into it
+  pub joined_front : (xs ys : List A) (i j : ℕ) → i < length xs → j < length xs → swap xs i j ++ ys ≡ swap (xs ++ ys) i j
+  joined_front = in-front
+
+  pub joined_back : (xs ys : List A) (n i j : ℕ) → n ≡ length xs → n ≤ i → n ≤ j → i < length (xs ++ ys) → j < length (xs ++ ys)
+      → xs ++ swap ys (i - n) (j - n) ≡ swap (xs ++ ys) i j
+  joined_back = in-back
+
+  pub joined_across : (xs ys : List A) (i j : ℕ) (x y : A) → i < length xs → j < length ys → x ≡ get_or xs i x → y ≡ get_or ys j y
+      → set xs i y ++ set ys j x ≡ swap (xs ++ ys) i (length xs + j)
+  joined_across = across
+
+  pub swap_turned : (xs : List A) (i j : ℕ) → swap xs i j ≡ swap xs j i
+  swap_turned = swap-sym
+
+  pub joined_put_front : (xs ys : List A) (i : ℕ) (v : A) → i < length xs → set xs i v ++ ys ≡ set (xs ++ ys) i v
+  joined_put_front = put-front
+
+  pub joined_put_back : (xs ys : List A) (n i : ℕ) (v : A) → n ≡ length xs → n ≤ i → xs ++ set ys (i - n) v ≡ set (xs ++ ys) i v
+  joined_put_back = put-back
 
   -- A region put in two parts: the rows before `middle` and then those from there on, or the columns.
   pub region_of_rows : (region : Region) (middle width height : ℕ) (input old mid new : List A)
@@ -242,16 +300,13 @@ module _ (log_stride log_size : ℕ) (within : log_size ≤ log_stride) where
         let base : 0 * 2 ^ log_size ≡ 0 = omega arith in
         square_more 0 old old new (pow_pos (log_stride - log_size)) (no_square old) (rw base square)
 
--- chunks, one square or two, and chunks again: the order, the number of swaps and its bound
+-- chunks, one square or two, and chunks again: the order and the number of swaps
 module _ (k : ℕ) where
   pub reversed_by_squares : {A : Type 0} (old first second new : List A) → length old ≡ 2 ^ k → IsRowReversal (2 ^ (k - k / 2)) old first
       → AreTransposed (2 ^ (k - k / 2 - k / 2)) (k - k / 2) (k / 2) first second → IsRowReversal (2 ^ (k - k / 2)) second new → IsReversal old new
   reversed_by_squares old first second new fits chunks squares again =
       let whole : k / 2 + (k - k / 2) ≡ k = omega arith in
       IsReversal-composed (k / 2) (k - k / 2) (omega arith) (omega arith) old first second new (rw whole fits) chunks squares again
-
-  pub long_swaps_bound : long_swaps k ≤ 3 * 2 ^ k / 2
-  long_swaps_bound = long_swaps-le k
 
 pub swaps_around : (c0 c1 c2 c3 a b : ℕ) → c1 ≡ counted c0 a → c2 ≡ counted c1 b → c3 ≡ counted c2 a → c3 ≡ counted c0 (2 * a + b)
 swaps_around c0 c1 c2 c3 a b e f g = omega arith
@@ -260,5 +315,5 @@ swaps_around c0 c1 c2 c3 a b e f g = omega arith
 pub log_of_power : (n k : ℕ) → n ≡ 2 ^ k → clog n ≡ k
 log_of_power = clog_power
 
-pub same_power : (a b : ℕ) → 2 ^ a ≡ 2 ^ b → a ≡ b
-same_power = exponent-same
+pub log_of_zero : (n : ℕ) → n ≡ 0 → clog n ≡ 0
+log_of_zero = clog-zero

@@ -9,5 +9,6 @@ pub mod Moved
 pub mod OneAnswer
 pub mod PaddedRuns
 pub mod Pieces
+pub mod TwoLists
 pub mod WholePieces
 pub mod ZipEqRuns

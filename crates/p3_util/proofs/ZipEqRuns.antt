@@ -1,12 +1,13 @@
 -- What the runs of an iterator over pairs give, and that the length it says is true.
-use Rattle.std.proofs.Common.{◌≡◌, ◌+◌, ◌⊎◌, inl, inr, Bool, true, false, true≢false, List, [], ◌∷◌, map, Option, Some, None, length, refl, sym, ap, subst, ◌∙◌, arith}
+use Rattle.std.proofs.Common.{◌≡◌, ◌+◌, ◌⊎◌, inl, inr, Bool, true, false, true≢false, List, [], ◌∷◌, ◌++◌, map, Option, Some, None, length, refl, sym, ap, subst, ◌∙◌, arith}
 use Rattle.std.specs.Iterator.{Yields, Count, size}
+use Rattle.std.specs.Iterator.Runs.{Run, SomeRun}
 use Rattle.std.specs.List.{zip}
 use Rattle.std.specs.Option.{option_map}
 use Rattle.std.proofs.iter.runs.Made.{run, took, at-is, run_of_turn}
 use Rattle.std.proofs.lemmas.List.{length-map}
 use Rattle.std.proofs.lemmas.Option.{slice_get-map}
-use Rattle.p3_util.specs.ZipEq.{HasTrueLength, zip_eq_first, zip_eq_second, zip_eq_left, zip_eq_steps, PairsRuns}
+use Rattle.p3_util.specs.ZipEq.{HasTrueLength, zip_eq_first, zip_eq_second, zip_eq_left, zip_eq_steps, AskedRuns, IsAskedRun, PairsRuns}
 use Rattle.p3_util.specs.declared.zip_eq.ZipEq.{ZipEq}
 
 module _ {S A : Type 0} {steps : S → Option A → S → Type 0} {left : S → Count} where
@@ -85,6 +86,87 @@ module _ {S T A B : Type 0} (steps : S → Option A → S → Type 0) (others : 
           },
         ),
       )
+
+  -- an item more on one side is in no pair
+  zip-more : (ps : List (A × B)) (b : B) → ps ≡ zip (map (λ p. p.0) ps) (map (λ p. p.1) ps ++ b ∷ [])
+  zip-more [] b = refl
+  zip-more (p ∷ ps) b = ap (λ l. p ∷ l) (zip-more ps b)
+
+  more-zip : (ps : List (A × B)) (a : A) → ps ≡ zip (map (λ p. p.0) ps ++ a ∷ []) (map (λ p. p.1) ps)
+  more-zip [] a = refl
+  more-zip (p ∷ ps) a = ap (λ l. p ∷ l) (more-zip ps a)
+
+  -- the runs of the two sides with all that the pairs' run asked for
+  abbrev Asked : Run (zip_eq_steps steps others) → Type 0
+  Asked p = SomeRun steps (zip_eq_first p.from) (λ u. SomeRun others (zip_eq_second p.from) (λ v. IsAskedRun p u v))
+
+  asked-open : (p : Run (zip_eq_steps steps others)) → p.whole ≡ false → Asked p
+  asked-open p more =
+      let t = took p in
+      let a = first-came p.items p.from t.0 t.1 in
+      let b = second-came p.items p.from t.0 t.1 in (
+        run steps (zip_eq_first p.from) (map (λ x. x.0) p.items) false (zip_eq_first t.0, a, λ e. absurd (true≢false (sym e))),
+        refl,
+        (
+          run others (zip_eq_second p.from) (map (λ x. x.1) p.items) false (zip_eq_second t.0, b, λ e. absurd (true≢false (sym e))),
+          refl,
+          record { items = zip-maps p.items; ends = λ whole. absurd (true≢false (sym whole ∙ more)) },
+        ),
+      )
+
+  asked-whole : (p : Run (zip_eq_steps steps others)) (t u : ZipEq S T) (o : Option A) (q : Option B) → Yields (zip_eq_steps steps others) p.from p.items t
+      → steps (zip_eq_first t) o (zip_eq_first u) → others (zip_eq_second t) q (zip_eq_second u) → (o ≡ None) ⊎ (q ≡ None) → Asked p
+  asked-whole p t u None None came x y e =
+      let a = first-came p.items p.from t came in
+      let b = second-came p.items p.from t came in (
+        run steps (zip_eq_first p.from) (map (λ i. i.0) p.items) true (zip_eq_first t, a, λ _. (zip_eq_first u, x)),
+        refl,
+        (
+          run others (zip_eq_second p.from) (map (λ i. i.1) p.items) true (zip_eq_second t, b, λ _. (zip_eq_second u, y)),
+          refl,
+          record { items = zip-maps p.items; ends = λ whole. inl (refl, refl) },
+        ),
+      )
+  asked-whole p t u None (Some w) came x y e =
+      let a = first-came p.items p.from t came in
+      let more = run_of_turn others (zip_eq_second p.from) (map (λ i. i.1) p.items) (zip_eq_second t) (second-came p.items p.from t came) w (zip_eq_second u) y in (
+        run steps (zip_eq_first p.from) (map (λ i. i.0) p.items) true (zip_eq_first t, a, λ _. (zip_eq_first u, x)),
+        refl,
+        (
+          more.0,
+          more.1,
+          record {
+            items = zip-more p.items w ∙ ap (λ l. zip (map (λ i. i.0) p.items) l) (sym more.2.0);
+            ends = λ whole. inr (inl (refl, more.2.1 ∙ ap (λ n. n + 1) (length-map p.items (λ i. i.1) ∙ sym (length-map p.items (λ i. i.0)))));
+          },
+        ),
+      )
+  asked-whole p t u (Some w) None came x y e =
+      let b = second-came p.items p.from t came in
+      let more = run_of_turn steps (zip_eq_first p.from) (map (λ i. i.0) p.items) (zip_eq_first t) (first-came p.items p.from t came) w (zip_eq_first u) x in (
+        more.0,
+        more.1,
+        (
+          run others (zip_eq_second p.from) (map (λ i. i.1) p.items) true (zip_eq_second t, b, λ _. (zip_eq_second u, y)),
+          refl,
+          record {
+            items = more-zip p.items w ∙ ap (λ l. zip l (map (λ i. i.1) p.items)) (sym more.2.0);
+            ends = λ whole. inr (inr (refl, more.2.1 ∙ ap (λ n. n + 1) (length-map p.items (λ i. i.0) ∙ sym (length-map p.items (λ i. i.1)))));
+          },
+        ),
+      )
+  asked-whole p t u (Some w) (Some z) came x y (inl e) = absurd cc
+  asked-whole p t u (Some w) (Some z) came x y (inr e) = absurd cc
+
+  asked-at : (p : Run (zip_eq_steps steps others)) (b : Bool) → p.whole ≡ b → Asked p
+  asked-at p false more = asked-open p more
+  asked-at p true whole =
+      let t = took p in
+      let last = t.2 whole in
+      asked-whole p t.0 last.0 last.1.0 last.1.1 t.1 last.1.2 last.1.3 last.1.4
+
+  pub asked-runs : (z : ZipEq S T) → AskedRuns steps others z
+  asked-runs z p seen from = subst (λ s. SomeRun steps (zip_eq_first s) (λ u. SomeRun others (zip_eq_second s) (λ v. IsAskedRun p u v))) from (asked-at p p.whole refl)
 
   module _ (left : S → Count) (others_left : T → Count) where
     -- where both sides state true lengths, which are the same, the pairs end where the length that they state is 0

@@ -21,6 +21,12 @@ pub record IsPairsRun {S T U A B : Type 0} {steps : S → Option (A × B) → S 
   pub seconds : ProjectsRun p v (λ x. x.1)
   pub ends : p.whole ≡ true → ((u.whole ≡ true) × (v.whole ≡ true)) ⊎ ((u.whole ≡ true) × HasMore v) ⊎ ((v.whole ≡ true) × HasMore u)
 
+-- p gave the pairs of the items of u and v, which are all that it asked the two sides for. Where it ended, both sides had ended,
+-- or one had, and the other had given an item more.
+pub record IsAskedRun {S T U A B : Type 0} {steps : S → Option (A × B) → S → Type 0} {first : T → Option A → T → Type 0} {second : U → Option B → U → Type 0} (p : Run steps) (u : Run first) (v : Run second) : Type 0 where
+  pub items : p.items ≡ zip u.items v.items
+  pub ends : p.whole ≡ true → ((u.whole ≡ true) × (v.whole ≡ true)) ⊎ ((u.whole ≡ true) × (v.len ≡ u.len + 1)) ⊎ ((v.whole ≡ true) × (u.len ≡ v.len + 1))
+
 module _ {S T : Type 0} where
   -- the two iterators
   abbrev pub zip_eq_first : ZipEq S T → S
@@ -38,6 +44,10 @@ module _ {S T : Type 0} where
     -- behind each run of z are a run of its first side and a run of its second, whose items it pairs by place
     abbrev pub PairsRuns : ZipEq S T → Type 0
     PairsRuns z = EachRunFrom zip_eq_steps z (λ p. SomeRun steps (zip_eq_first z) (λ u. SomeRun others (zip_eq_second z) (λ v. IsPairsRun p u v)))
+
+    -- the same of the runs that it asked for
+    abbrev pub AskedRuns : ZipEq S T → Type 0
+    AskedRuns z = EachRunFrom zip_eq_steps z (λ p. SomeRun steps (zip_eq_first z) (λ u. SomeRun others (zip_eq_second z) (λ v. IsAskedRun p u v)))
 
 -- as many pairs are left as the first side has items left
 abbrev pub zip_eq_left : {S T : Type 0} → (S → Count) → ZipEq S T → Count

@@ -2,7 +2,7 @@
 ghost use Rattle.std.specs.Prelude.{◌≡◌, MatchResult, IfOk, IfSome, Some};
 ghost use Rattle.std.specs.Iterator.{size, UpTo};
 ghost use Rattle.std.specs.Iterator.SizeHint.{IsWithinCount};
-ghost use Rattle.p3_util.specs.ZipEq.{HasTrueLength, zip_eq_first, zip_eq_second, zip_eq_left, zip_eq_steps, PairsRuns};
+ghost use Rattle.p3_util.specs.ZipEq.{HasTrueLength, zip_eq_first, zip_eq_second, zip_eq_left, zip_eq_steps, AskedRuns, PairsRuns};
 
 /// Pairs the items of `a` and `b` by place, or returns `err` where their lengths differ.
 pub fn zip_eq<A, B, Error>(a: A, b: B, err: Error) -> Result<ZipEq<A::IntoIter, B::IntoIter>, Error>
@@ -21,6 +21,9 @@ where
         (λ z. same × (zip_eq_first z ≡ i) × (zip_eq_second z ≡ j))
         (λ e. (e ≡ err) × ¬ same)) }
     ensures runs { IfOk result (PairsRuns A.IntoIter.next_gives B.IntoIter.next_gives) }
+
+    // The same with all that the two are asked for, by which a caller's search finds the list of the pairs.
+    ensures asked { IfOk result (AskedRuns A.IntoIter.next_gives B.IntoIter.next_gives) }
 
     // The length that the pairs state is true where those of the two iterators are.
     ensures length { IfOk result (λ z.

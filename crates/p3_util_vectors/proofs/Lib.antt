@@ -1,3 +1,2 @@
 pub mod EachRow
 pub mod NoPlace
-pub mod TwoLists

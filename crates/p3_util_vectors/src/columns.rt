@@ -4,7 +4,7 @@
 //! given theirs in the files of `new`, `len` and of what reads or exchanges.
 
 ghost use Rattle.std.specs.Prelude.{◌≡◌, ◌*◌, ◌<◌, Some, length, slice_get, swap};
-ghost use Rattle.std.proofs.Common.{refl, sym, subst, ◌∙◌};
+ghost use Rattle.std.proofs.Common.{rules};
 ghost use Rattle.p3_util.specs.ItemsAt.{IsSameOutside, column_of};
 
 use p3_util::places::{Places, Source};
@@ -91,14 +91,9 @@ impl<'a, T> Places for ColumnMut<'a, T> {
         exchange_in_column(self.values, self.shape, i, j);
     }
 
-    ghost same_holder_refl = { λ a. (refl, refl, λ k out. refl) };
+    ghost same_holder_refl = { Prim.search rules };
 
-    ghost same_holder_trans = { λ m n all a b c p q e. (
-      p.0 ∙ q.0,
-      p.1 ∙ q.1,
-      λ k out.
-          subst (λ s. IsSameOutside s.width s.height s.column b.values.now c.values.now) (sym p.1) q.2 k out ∙ p.2 k out,
-    ) };
+    ghost same_holder_trans = { Prim.search rules };
 }
 
 /// Exchanges the items of rows `i` and `j` of a column of `values`.

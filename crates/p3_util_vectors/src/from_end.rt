@@ -1,7 +1,7 @@
 //! A slice from its last item to its first, as a list to read and as a holder.
 
 ghost use Rattle.std.specs.Prelude.{◌≡◌, ◌<◌, length, reverse, slice_set, swap};
-ghost use Rattle.std.proofs.Common.{refl, ◌∙◌};
+ghost use Rattle.std.proofs.Common.{rules};
 
 use p3_util::places::{Cells, Places, Source};
 
@@ -66,9 +66,9 @@ impl<'a, T> Places for FromEndMut<'a, T> {
         swap_from_end(self.items, i, j);
     }
 
-    ghost same_holder_refl = { λ a. refl };
+    ghost same_holder_refl = { Prim.search rules };
 
-    ghost same_holder_trans = { λ m n all a b c p q e. p ∙ q };
+    ghost same_holder_trans = { Prim.search rules };
 }
 
 impl<'a, T: Copy> Cells for FromEndMut<'a, T> {
@@ -86,9 +86,9 @@ impl<'a, T: Copy> Cells for FromEndMut<'a, T> {
         put_from_end(self.items, i, v);
     }
 
-    ghost same_holder_refl = { λ a. refl };
+    ghost same_holder_refl = { Prim.search rules };
 
-    ghost same_holder_trans = { λ m n all a b c p q e. p ∙ q };
+    ghost same_holder_trans = { Prim.search rules };
 }
 
 /// Puts `v` at the place that is `i` places before the last.

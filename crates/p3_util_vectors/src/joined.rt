@@ -1,7 +1,7 @@
 //! Two slices seen as one list, which a kernel reorders as any other holder.
 
-ghost use Rattle.std.specs.Prelude.{◌≡◌, ◌+◌, ◌++◌, ◌^◌, ◌<◌, length, slice_index_or, slice_set, swap};
-ghost use Rattle.std.proofs.Common.{refl, ◌∙◌};
+ghost use Rattle.std.specs.Prelude.{◌≡◌, ◌+◌, ◌++◌, ◌^◌, ◌<◌, length, slice_set, swap};
+ghost use Rattle.std.proofs.Common.{rules};
 
 use p3_util_kernels::places::{Cells, Places};
 use std::mem;
@@ -41,9 +41,9 @@ impl<'a, F> Places for Joined<'a, F> {
         exchange_in(self.front, self.back, i, j);
     }
 
-    ghost same_holder_refl = { λ a. (refl, refl, refl, refl) };
+    ghost same_holder_refl = { Prim.search rules };
 
-    ghost same_holder_trans = { λ m n all a b c p q e. (p.0 ∙ q.0, p.1 ∙ q.1, q.2 ∙ p.2, q.3 ∙ p.3) };
+    ghost same_holder_trans = { Prim.search rules };
 }
 
 impl<'a, T: Copy> Cells for Joined<'a, T> {
@@ -62,13 +62,13 @@ impl<'a, T: Copy> Cells for Joined<'a, T> {
         put_in(self.front, self.back, i, v);
     }
 
-    ghost same_holder_refl = { λ a. (refl, refl, refl, refl) };
+    ghost same_holder_refl = { Prim.search rules };
 
-    ghost same_holder_trans = { λ m n all a b c p q e. (p.0 ∙ q.0, p.1 ∙ q.1, q.2 ∙ p.2, q.3 ∙ p.3) };
+    ghost same_holder_trans = { Prim.search rules };
 }
 
 /// Puts `v` at place `i` of the list that is `front` and then `back`.
-#[tactic(auto, using(crate::proofs::TwoLists::put_front, crate::proofs::TwoLists::put_back))]
+#[tactic(auto, using(p3_util::proofs::Callers::joined_put_front, p3_util::proofs::Callers::joined_put_back))]
 fn put_in<T: Copy>(front: &mut [T], back: &mut [T], i: usize, v: T)
     requires { i < length (front.old ++ back.old) }
     ensures front { length front.new ≡ length front.old }
@@ -84,6 +84,7 @@ fn put_in<T: Copy>(front: &mut [T], back: &mut [T], i: usize, v: T)
 }
 
 /// Exchanges the items at places `i` and `j` of the list that is `front` and then `back`.
+#[tactic(auto, using(p3_util::proofs::Callers::joined_front, p3_util::proofs::Callers::joined_back, p3_util::proofs::Callers::swap_turned))]
 fn exchange_in<F>(front: &mut [F], back: &mut [F], i: usize, j: usize)
     requires first { i < length (front.old ++ back.old) }
     requires second { j < length (front.old ++ back.old) }
@@ -106,11 +107,13 @@ fn exchange_in<F>(front: &mut [F], back: &mut [F], i: usize, j: usize)
 }
 
 /// Exchanges item `i` of `front` and item `j` of `back`.
+#[tactic(auto, using(p3_util::proofs::Callers::joined_across))]
 fn exchange_between<F>(front: &mut [F], i: usize, back: &mut [F], j: usize)
     requires first { i < length front.old }
     requires second { j < length back.old }
-    ensures front { (x : F) → front.new ≡ slice_set front.old i (slice_index_or back.old j x) }
-    ensures back { (x : F) → back.new ≡ slice_set back.old j (slice_index_or front.old i x) }
+    ensures front { length front.new ≡ length front.old }
+    ensures back { length back.new ≡ length back.old }
+    ensures exchanged { front.new ++ back.new ≡ swap (front.old ++ back.old) i (length front.old + j) }
 {
     mem::swap(&mut front[i], &mut back[j]);
 }

@@ -1,6 +1,7 @@
 //! A mutable slice of arrays, seen as the list of their items.
 
 ghost use Rattle.std.specs.Prelude.{◌≡◌, ◌==◌, ◌*◌, ◌^◌, ◌<◌, ◌≤◌, List, Some, length, slice_get};
+ghost use Rattle.std.proofs.Common.{rules};
 ghost use Rattle.std.specs.Map.Iter.{ShowsInOrder, deref};
 ghost use Rattle.p3_util.specs.Flat.{IsFlat, countable_items, flat};
 ghost use Rattle.std.specs.Borrow.{sem};
@@ -131,9 +132,9 @@ impl<S: Rows> Places for Flattened<S> {
         self.rows.exchange_ordered(i, j);
     }
 
-    ghost same_holder_refl = { λ a. S.same_rows_refl a.rows };
+    ghost same_holder_refl = { Prim.search rules };
 
-    ghost same_holder_trans = { λ m n all a b c p q e. S.same_rows_trans a.rows b.rows c.rows p q };
+    ghost same_holder_trans = { Prim.search rules };
 }
 
 impl<S: Rows> Cells for Flattened<S>
@@ -154,7 +155,7 @@ where
         self.rows.put(i, v);
     }
 
-    ghost same_holder_refl = { λ a. S.same_rows_refl a.rows };
+    ghost same_holder_refl = { Prim.search rules };
 
-    ghost same_holder_trans = { λ m n all a b c p q e. S.same_rows_trans a.rows b.rows c.rows p q };
+    ghost same_holder_trans = { Prim.search rules };
 }

@@ -31,6 +31,18 @@ pub fn log2_or_zero(n: usize) -> usize
     }
 }
 
+/// The logarithm of the length of `items`, where that is a power of two.
+#[tactic(auto, using(p3_util::proofs::Callers::power_of_two_test))]
+pub fn log2_of_len<T>(items: &[T]) -> Option<usize>
+    ensures { MatchOption result (IsFalse (is_power_of_two (length items.now))) (λ k. length items.now ≡ 2 ^ k) }
+{
+    if items.len().is_power_of_two() {
+        Some(log2_strict_usize(items.len()))
+    } else {
+        None
+    }
+}
+
 /// The logarithm of a power of three, where `n` is one.
 pub fn log3_of(n: usize) -> Option<usize>
     ensures { MatchOption result (¬ IsPowerOfThree n) (λ e. n ≡ 3 ^ e) }

@@ -1,20 +1,23 @@
 //! Callers that make a larger call of smaller ones, over any holder and from public contracts alone, with the number of their
-//! steps. Two reversals have a file that names the two, and so have the two that cut a region and the reversal by squares:
-//! the number of items is a product or a power, and the lemma is given its parts.
+//! steps. The two that cut a region and the reversal by squares have a file: the number of items is a product or a power, and
+//! the lemma is given its parts.
 
-ghost use Rattle.std.specs.Prelude.{◌≡◌, ℕ, ◌+◌, ◌-◌, ◌*◌, ◌/◌, ◌^◌, ◌<◌, ◌≤◌, length};
+ghost use Rattle.std.specs.Prelude.{◌≡◌, ℕ, ◌+◌, ◌-◌, ◌*◌, ◌/◌, ◌^◌, ◌<◌, ◌≤◌, if◌then◌else◌, length, nat_le};
 ghost use Rattle.p3_util.specs.Levels.{clog};
 ghost use Rattle.p3_util.specs.Region.{IsRegionTransposed, LiesInMatrix, items_of};
-ghost use Rattle.p3_util.specs.Reversal.{IsReversal, IsReversible, IsZeroOrPowerOfTwo};
+ghost use Rattle.p3_util.specs.Reversal.{FitsRows, IsReversal, IsReversible};
 ghost use Rattle.p3_util.specs.Squares.{AreTransposed};
 ghost use Rattle.p3_util.specs.Steps.{counted};
-ghost use Rattle.p3_util.specs.SwapCounts.{long_swaps, reversal_swaps, square_swaps};
+ghost use Rattle.p3_util.specs.SwapCounts.{long_swaps, reversal_swaps, short_swaps, square_swaps};
 ghost use Rattle.p3_util.specs.Transpose.{IsTranspose};
 
 use crate::callers::transpose::transpose_whole_square;
 use p3_util::places::{Cells, Places, Swaps, Writes};
 use p3_util::transpose::{Region, transpose_region_on, transpose_square_on};
-use p3_util::{log2_strict_usize, reverse_chunks_on, reverse_index_bits_on};
+use p3_util::{
+    log2_strict_usize, reverse_chunks_on, reverse_counted, reverse_index_bits_on,
+    reverse_row_index_bits_on, reverse_rows_counted,
+};
 
 /// Puts the transpose of a whole matrix, as the region that it is, with the contract of `transpose_on`.
 pub fn transpose_as_region<C: Cells>(
@@ -39,13 +42,65 @@ pub fn transpose_as_region<C: Cells>(
 }
 
 /// Reverses `m` by index bits twice, which leaves it as it was. Both are counted.
+#[tactic(auto, using(p3_util::proofs::Callers::reversed_twice))]
 pub fn reverse_twice_on<S: Places>(m: &mut Swaps<S>)
-    requires { IsZeroOrPowerOfTwo (length (S.items m.old.holder)) }
+    requires { IsReversible (length (S.items m.old.holder)) }
     ensures same { S.items m.new.holder ≡ S.items m.old.holder }
     ensures count { m.new.count ≡ counted m.old.count (2 * reversal_swaps (length (S.items m.old.holder))) }
     ensures holder { S.same_holder (2 * reversal_swaps (length (S.items m.old.holder))) m.old.holder m.new.holder }
 {
     reverse_index_bits_on(m);
+    reverse_index_bits_on(m);
+}
+
+/// The same of rows of `row_width` items.
+#[tactic(auto, using(p3_util::proofs::Callers::rows_reversed_twice))]
+pub fn reverse_rows_twice_on<S: Places>(m: &mut Swaps<S>, row_width: usize)
+    requires { FitsRows (length (S.items m.old.holder)) row_width }
+    ensures { S.items m.new.holder ≡ S.items m.old.holder }
+{
+    reverse_row_index_bits_on(m, row_width);
+    reverse_row_index_bits_on(m, row_width);
+}
+
+/// Reverses the items of `m` and then the order of its rows, over one counter, whose count rises by the sum of both numbers:
+/// a search adds them up by `counted`.
+pub fn reverse_items_and_rows_on<S: Places>(m: &mut Swaps<S>, row_width: usize)
+    requires items { IsReversible (length (S.items m.old.holder)) }
+    requires rows { FitsRows (length (S.items m.old.holder)) row_width }
+    ensures { let n = length (S.items m.old.holder) in
+        m.new.count ≡ counted m.old.count (reversal_swaps n + row_width * short_swaps (clog (n / row_width))) }
+{
+    reverse_index_bits_on(m);
+    reverse_row_index_bits_on(m, row_width);
+}
+
+/// Does the same to any holder, and returns the sum, which is the holder's number of steps by `same_holder_trans`.
+pub fn reverse_items_and_rows<S: Places>(places: &mut S, row_width: usize) -> u128
+    requires items { IsReversible (length (S.items places.old)) }
+    requires rows { FitsRows (length (S.items places.old)) row_width }
+    ensures count { let n = length (S.items places.old) in
+        result ≡ reversal_swaps n + row_width * short_swaps (clog (n / row_width)) }
+    ensures holder { S.same_holder result places.old places.new }
+{
+    // Its contract says that the length is a usize, so that the sum fits.
+    let _ = places.len();
+    let items = reverse_counted(places);
+    let rows = reverse_rows_counted(places, row_width);
+    items + rows
+}
+
+/// Reverses `m` by index bits, and says of its count what `reverse_index_bits_on` said before it had one number for every
+/// length: some number of swaps within the bound, which one for each exponent, and none for the empty list.
+#[tactic(auto, using(p3_util::proofs::Callers::log_of_power, p3_util::proofs::Callers::log_of_zero))]
+pub fn reverse_counted_by_exponent<S: Places>(m: &mut Swaps<S>)
+    requires { IsReversible (length (S.items m.old.holder)) }
+    ensures order { IsReversal (S.items m.old.holder) (S.items m.new.holder) }
+    ensures count { (s : ℕ) × (m.new.count ≡ counted m.old.count s) × (s ≤ 3 * length (S.items m.old.holder) / 2) }
+    ensures exact { (k : ℕ) → length (S.items m.old.holder) ≡ 2 ^ k
+        → m.new.count ≡ counted m.old.count (if nat_le (2 ^ k) 8192 then short_swaps k else long_swaps k) }
+    ensures empty { length (S.items m.old.holder) ≡ 0 → m.new.count ≡ m.old.count }
+{
     reverse_index_bits_on(m);
 }
 

@@ -1,9 +1,10 @@
 //! Callers of `LinearMap`, proved by the map's public contracts alone: any list of calls, and the map's pairs as a list.
-ghost use Rattle.std.specs.Prelude.{◌≡◌, [], IfOk, OnOk, OnErr, nat_eq};
+ghost use Rattle.std.specs.Prelude.{◌≡◌, ◌≢◌, ℕ, false, [], Some, IfOk, OnOk, OnErr, nat_eq};
 ghost use Rattle.std.specs.Map.{keys_of, values_of};
-ghost use Rattle.p3_util.specs.LinearMap.{put_all};
+ghost use Rattle.p3_util.specs.LinearMap.{put_all, value_at};
 ghost use Rattle.p3_util_vectors.specs.MapCalls.{answer_of, answers_of, after, pairs_after};
 
+use p3_util::NoRoom;
 use p3_util::linear_map::LinearMap;
 use std::alloc::{AllocError, Global};
 use std::mem::replace;
@@ -60,6 +61,33 @@ pub fn run_calls<K: Eq + Copy, V: Copy>(
         answers.push(answer)?;
     }
     Ok((map, answers))
+}
+
+/// Defines `symbol` in a table of symbols: afterwards it is found, and each other symbol is found as before.
+#[tactic(auto, using(p3_util::proofs::Callers::put_found, p3_util::proofs::Callers::put_others))]
+pub fn define(
+    table: &mut LinearMap<u32, u64>,
+    symbol: u32,
+    offset: u64,
+) -> Result<Option<u64>, NoRoom<(u32, u64)>>
+    ensures found { OnOk result (value_at nat_eq table.new symbol ≡ Some offset) }
+    ensures others { (other : ℕ) → other ≢ symbol → value_at nat_eq table.new other ≡ value_at nat_eq table.old other }
+{
+    table.insert(symbol, offset)
+}
+
+/// The same of keys of any type, which are compared by their own test.
+#[tactic(auto, using(p3_util::proofs::Callers::put_found, p3_util::proofs::Callers::put_others))]
+pub fn define_key<K: Eq + Copy + Drop, V: Copy>(
+    table: &mut LinearMap<K, V>,
+    key: K,
+    value: V,
+) -> Result<Option<V>, NoRoom<(K, V)>>
+    ensures found { OnOk result (value_at K.eq table.new key ≡ Some value) }
+    ensures others { OnOk result ((other : K) → K.eq key other ≡ false
+        → value_at K.eq table.new other ≡ value_at K.eq table.old other) }
+{
+    table.insert(key, value)
 }
 
 /// The keys of a map, in order.

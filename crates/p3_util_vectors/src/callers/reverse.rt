@@ -1,14 +1,15 @@
 //! Callers of bit reversal. None of them has a proof by hand: the test in front of a call is enough, or a lemma that is named.
 
-ghost use Rattle.std.specs.Prelude.{◌≡◌, ◌+◌, ◌^◌, ◌<◌, ◌≤◌, ◌↔◌, [], ◌∷◌, IsTrue, IsFalse, length};
+ghost use Rattle.std.specs.Prelude.{◌≡◌, ℕ, ◌+◌, ◌*◌, ◌^◌, ◌<◌, ◌≤◌, ◌↔◌, [], ◌∷◌, IsTrue, IsFalse, length, slice_get};
 ghost use Rattle.std.specs.Int.{is_power_of_two};
-ghost use Rattle.p3_util_kernels.specs.Reversal.{FitsRows, IsReversal, IsRowReversal, IsZeroOrPowerOfTwo};
+ghost use Rattle.p3_util_kernels.specs.Digits.{rev};
+ghost use Rattle.p3_util_kernels.specs.Reversal.{FitsRows, IsReversal, IsReversible, IsRowReversal, IsZeroOrPowerOfTwo};
 
 use p3_util_kernels::bits::checked_log_size_sum;
 use p3_util_kernels::places::{Places, Swaps};
 use p3_util_kernels::reverse::{
-    fits_rows, reverse_chunks_on, reverse_index_bits_long, reverse_slice_index_bits,
-    reverse_slice_row_index_bits,
+    fits_rows, reverse_chunks_on, reverse_counted, reverse_index_bits_long, reverse_rows_counted,
+    reverse_slice_index_bits, reverse_slice_row_index_bits,
 };
 
 /// Reverses `vals` by index bits. `false`, and nothing done, where the length is neither zero nor a power of two.
@@ -91,11 +92,21 @@ pub fn reverse_chunks_where_they_fit<S: Places>(
 /// Reverses `vals` by index bits twice, as a transform and its inverse do, which leaves it as it was.
 #[tactic(auto, using(p3_util::proofs::Callers::reversed_twice))]
 pub fn reverse_twice<F>(vals: &mut [F])
-    requires { IsZeroOrPowerOfTwo (length vals.old) }
+    requires { IsReversible (length vals.old) }
     ensures { vals.new ≡ vals.old }
 {
     reverse_slice_index_bits(vals);
     reverse_slice_index_bits(vals);
+}
+
+/// The same of any holder.
+#[tactic(auto, using(p3_util::proofs::Callers::reversed_twice))]
+pub fn reverse_holder_twice<S: Places>(places: &mut S)
+    requires { IsReversible (length (S.items places.old)) }
+    ensures { S.items places.new ≡ S.items places.old }
+{
+    reverse_counted(places);
+    reverse_counted(places);
 }
 
 /// Reverses the order of the rows of `vals`, of `row_width` items each, twice, which leaves it as it was.
@@ -106,4 +117,27 @@ pub fn reverse_rows_twice<F>(vals: &mut [F], row_width: usize)
 {
     reverse_slice_row_index_bits(vals, row_width);
     reverse_slice_row_index_bits(vals, row_width);
+}
+
+/// The same of any holder.
+#[tactic(auto, using(p3_util::proofs::Callers::rows_reversed_twice))]
+pub fn reverse_rows_of_holder_twice<S: Places>(places: &mut S, row_width: usize)
+    requires { FitsRows (length (S.items places.old)) row_width }
+    ensures { S.items places.new ≡ S.items places.old }
+{
+    reverse_rows_counted(places, row_width);
+    reverse_rows_counted(places, row_width);
+}
+
+/// In reversed order the items at places `2i` and `2i + 1`, which a fold takes together, are those of one half and of the
+/// other.
+#[tactic(auto, using(p3_util::proofs::Callers::reversed_even, p3_util::proofs::Callers::reversed_odd))]
+pub fn halves_side_by_side<F>(vals: &mut [F])
+    requires { IsReversible (length vals.old) }
+    ensures even { (k i : ℕ) → length vals.old ≡ 2 ^ (k + 1) → i < 2 ^ k
+        → slice_get vals.new (2 * i) ≡ slice_get vals.old (rev k i) }
+    ensures odd { (k i : ℕ) → length vals.old ≡ 2 ^ (k + 1) → i < 2 ^ k
+        → slice_get vals.new (2 * i + 1) ≡ slice_get vals.old (rev k i + 2 ^ k) }
+{
+    reverse_slice_index_bits(vals);
 }

@@ -10,7 +10,7 @@ ghost use Rattle.p3_util_kernels.specs.Transpose.{IsTranspose};
 use p3_util_kernels::bits::log2_ceil_usize;
 use p3_util_kernels::places::{Cells, Places, Swaps, Writes};
 use p3_util_kernels::transpose::{
-    Region, fits_matrix, transpose, transpose_split_on, transpose_square_on,
+    Region, fits_matrix, transpose, transpose_counted, transpose_split_on, transpose_square_on,
 };
 
 /// Transposes `matrix`, of `height` rows of `width` items, by way of `scratch`. `false`, and nothing done, where the
@@ -48,6 +48,42 @@ pub fn transpose_there_and_back<T: Copy>(
 {
     transpose(matrix, scratch, width, height);
     transpose(scratch, matrix, height, width);
+}
+
+/// Puts the transpose of one matrix into two slices, which have the same items then.
+#[tactic(auto, using(p3_util::proofs::Callers::transposed_once))]
+pub fn transpose_into_two<T: Copy>(
+    input: &[T],
+    one: &mut [T],
+    other: &mut [T],
+    width: usize,
+    height: usize,
+)
+    requires input_fits { length input.now ≡ width * height }
+    requires one_fits { length one.old ≡ width * height }
+    requires other_fits { length other.old ≡ width * height }
+    ensures { one.new ≡ other.new }
+{
+    transpose(input, one, width, height);
+    transpose(input, other, width, height);
+}
+
+/// The same of any holders.
+#[tactic(auto, using(p3_util::proofs::Callers::transposed_once))]
+pub fn transpose_into_holders<C: Cells>(
+    input: &[C::Item],
+    one: &mut C,
+    other: &mut C,
+    width: usize,
+    height: usize,
+)
+    requires input_fits { length input.now ≡ width * height }
+    requires one_fits { length (C.items one.old) ≡ width * height }
+    requires other_fits { length (C.items other.old) ≡ width * height }
+    ensures { C.items one.new ≡ C.items other.new }
+{
+    transpose_counted(input, one, width, height);
+    transpose_counted(input, other, width, height);
 }
 
 /// Transposes in place a whole matrix of `2^log_size` rows of as many items.

@@ -6,9 +6,7 @@ ghost use Rattle.p3_util.specs.Flat.{flat};
 ghost use Rattle.p3_util_kernels.specs.Reversal.{FitsRows, IsReversal, IsReversible, IsRowReversal, IsZeroOrPowerOfTwo};
 ghost use Rattle.p3_util_kernels.specs.Transpose.{IsTranspose};
 
-pub mod eight_words;
 pub mod four_items;
-pub mod four_numbers;
 
 use p3_util::views::{Flattened, Rows};
 use p3_util::{as_base_slice, as_base_slice_mut, flat_len};

@@ -1,6 +1,6 @@
-//! Callers of the zip of equal lengths.
+//! Callers of the zip of equal lengths, which collect the pairs or go over them.
 
-ghost use Rattle.std.specs.Prelude.{◌≡◌, ◌≢◌, ◌↔◌, IfOk, length, zip};
+ghost use Rattle.std.specs.Prelude.{◌≡◌, ◌≢◌, ◌+◌, ◌*◌, ◌%◌, ◌^◌, ◌<◌, ◌↔◌, IfOk, IfSome, fold, length, map, sum, zip};
 
 use p3_util::zip_eq::zip_eq;
 use std::alloc::{AllocError, Global};
@@ -30,4 +30,56 @@ pub fn weighted(
         return Err(PairError::Unequal);
     };
     pairs.collect(alloc).map_err(|_| PairError::Memory)
+}
+
+/// The pairs of two lists, or `None` where the lengths differ: collected by `?`.
+///
+/// # Errors
+///
+/// `AllocError` where there is no memory for the pairs.
+pub fn paired(alloc: Global, xs: &[u16], ys: &[u16]) -> Result<Option<Vec<(u16, u16)>>, AllocError>
+    ensures { IfOk result (λ r. IfSome r (λ v. v.items ≡ zip xs.now ys.now)) }
+{
+    let Ok(pairs) = zip_eq(xs.iter().copied(), ys.iter().copied(), ()) else {
+        return Ok(None);
+    };
+    let all = pairs.collect::<Vec<(u16, u16)>>(alloc)?;
+    Ok(Some(all))
+}
+
+/// The same by `match`, and `None` where there is no memory.
+pub fn paired_if_room(alloc: Global, xs: &[u16], ys: &[u16]) -> Option<Vec<(u16, u16)>>
+    ensures { IfSome result (λ v. v.items ≡ zip xs.now ys.now) }
+{
+    match zip_eq(xs.iter().copied(), ys.iter().copied(), ()) {
+        Ok(pairs) => match pairs.collect(alloc) {
+            Ok(all) => Some(all),
+            Err(_) => None,
+        },
+        Err(()) => None,
+    }
+}
+
+/// The sum of the products, which fits by what is asked, of the pairs as they were collected.
+///
+/// # Errors
+///
+/// `AllocError` where the lengths differ or there is no memory for the pairs.
+pub fn inner_product(alloc: Global, xs: &[u16], ys: &[u16]) -> Result<u64, AllocError>
+    requires { sum (map (λ p. p.0 * p.1) (zip xs.now ys.now)) < 2 ^ 64 }
+    ensures { IfOk result (λ s. s ≡ sum (map (λ p. p.0 * p.1) (zip xs.now ys.now))) }
+{
+    let pairs = zip_eq(xs.iter().copied(), ys.iter().copied(), AllocError)?;
+    let all = pairs.collect::<Vec<(u16, u16)>>(alloc)?;
+    Ok(all.iter().map(|p| p.0 as u64 * p.1 as u64).sum())
+}
+
+/// The sum of the products mod 2^64, with no memory, where the lengths are equal.
+pub fn wrapping_inner_product(xs: &[u32], ys: &[u32]) -> Option<u64>
+    ensures { IfSome result (λ s. s ≡ fold (λ s p. (s + p.0 * p.1) % 2 ^ 64) 0 (zip xs.now ys.now)) }
+{
+    match zip_eq(xs.iter().copied(), ys.iter().copied(), ()) {
+        Ok(pairs) => { Some(pairs.fold(0u64, |sum, (x, y)| sum.wrapping_add(x as u64 * y as u64))) }
+        Err(()) => None,
+    }
 }
