@@ -26,7 +26,8 @@ pub fn reverse_items<T, const N: usize>(rows: &mut [[T; N]])
     reverse_counted(&mut view);
 }
 
-/// The same with the tests in front. `false`, and nothing done, where they fail.
+/// Reverses the items of `rows`, taken as one list, by their index bits. `false`, and nothing done, where their number
+/// does not fit.
 pub fn reverse_items_where_they_fit<T, const N: usize>(rows: &mut [[T; N]]) -> bool
     ensures done { IsTrue result → IsReversal (flat rows.old) (flat rows.new) }
     ensures left { IsFalse result → rows.new ≡ rows.old }
