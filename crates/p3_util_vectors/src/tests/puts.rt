@@ -111,7 +111,10 @@ fn order_of_32_by_32(rt: HostRuntime) {
 }
 
 /// Widths and heights; how many of the first puts are looked at; and how many of them in turn lie in which part.
-const ORDERS: [(usize, usize, usize, [(usize, Part); 2]); 3] = [
+const ORDERS: [(usize, usize, usize, [(usize, Part); 2]); 6] = [
+    (64, 64, 4096, [(16, RUN), (256, TILE)]),
+    (48, 32, 1536, [(16, RUN), (256, TILE)]),
+    (16, 240, 3840, [(16, RUN), (256, TILE)]),
     // Two strips, and 16 rows below.
     (20, 272, 5120, [(16, RUN), (128, STRIP)]),
     (16, 256, 4096, [(16, RUN), (128, STRIP)]),
