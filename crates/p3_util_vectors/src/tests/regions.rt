@@ -1,14 +1,18 @@
 //! Transposes of regions.
 
-use crate::tests::checks::{equal, numbers, repeated, same};
-use p3_util_kernels::places::{SliceCells, Writes};
-use p3_util_kernels::transpose::{Region, fits_matrix, transpose_region_on};
+use crate::tests::checks::{copied, equal, numbers, repeated, same};
+use p3_util_kernels::places::{Cells, SliceCells, Writes};
+use p3_util_kernels::transpose::{
+    Region, fits_matrix, transpose_region_counted, transpose_region_on,
+};
 use std::alloc::Global;
 use std::process::Abort;
 
-/// Puts a region of the matrix `input` into `output`, and returns the number of writes.
+/// Puts a region of the matrix `input` into `output` over a counter, and into a copy of it by the counted form, which have to
+/// agree, and returns the number of writes.
 fn put_region(
     rt: &impl Abort,
+    alloc: Global,
     input: &[u64],
     output: &mut [u64],
     region: Region,
@@ -18,9 +22,16 @@ fn put_region(
     assert!(rt; fits_matrix(input.len(), output.len(), width, height));
     assert!(rt; region.row_start <= region.row_end && region.row_end <= height);
     assert!(rt; region.col_start <= region.col_end && region.col_end <= width);
-    let mut writes = Writes::new(SliceCells::new(output));
-    transpose_region_on(input, &mut writes, region, width, height);
-    writes.writes()
+    let mut counted = copied(rt, alloc, output);
+    let mut cells = SliceCells::new(&mut counted);
+    assert!(rt; fits_matrix(input.len(), cells.len(), width, height));
+    let writes = transpose_region_counted(input, &mut cells, region, width, height);
+    let mut over_counter = Writes::new(SliceCells::new(output));
+    transpose_region_on(input, &mut over_counter, region, width, height);
+    same(rt, width, &over_counter.writes(), &writes);
+    let left: &[u64] = output;
+    same(rt, width, &left, &counted.as_slice());
+    writes
 }
 
 #[test]
@@ -33,7 +44,11 @@ fn worked_region(rt: HostRuntime) {
         col_start: 2,
         col_end: 4,
     };
-    equal(&rt, &put_region(&rt, &input, &mut output, region, 4, 3), &4);
+    equal(
+        &rt,
+        &put_region(&rt, rt.alloc(), &input, &mut output, region, 4, 3),
+        &4,
+    );
     let wanted = [99, 99, 99, 99, 99, 99, 99, 6, 10, 99, 7, 11];
     equal(&rt, &output.as_slice(), &wanted.as_slice());
 }
@@ -59,7 +74,7 @@ fn item_after(region: Region, width: usize, place: usize) -> u64 {
 fn check_region(rt: &impl Abort, alloc: Global, region: Region, width: usize, writes: usize) {
     let input = numbers(rt, alloc, width.saturating_mul(HEIGHT));
     let mut output = repeated(rt, alloc, u64::MAX, input.len());
-    let count = put_region(rt, &input, &mut output, region, width, HEIGHT);
+    let count = put_region(rt, alloc, &input, &mut output, region, width, HEIGHT);
     same(rt, width, &count, &(writes as u128));
     for (place, item) in output.iter().enumerate() {
         same(rt, place, item, &item_after(region, width, place));
