@@ -2,7 +2,7 @@
 -- a list has one of each, and that two of them are the list again; reversed digits in parts; std's test for a power of two; a
 -- look-up after an insert; sums by even and odd places; a closure that adds up; a part of a list that is written; some items of
 -- a list, seen as a list; a region in two parts; a reversal by chunks and squares.
-use Rattle.std.proofs.Common.{◌≡◌, ◌≢◌, ℕ, zero, suc, ◌+◌, ◌*◌, ◌^◌, ◌-◌, ◌/◌, ◌<◌, ◌≤◌, Bool, true, false, cond, nat_eq, inl, Some, List, [], ◌∷◌, ◌++◌, length, get_or, slice_get, take, drop, set, reverse, sum, refl, sym, ap, ◌∙◌, arith, length-append, length-drop}
+use Rattle.std.proofs.Common.{◌≡◌, ◌≢◌, ℕ, zero, suc, ◌+◌, ◌*◌, ◌^◌, ◌-◌, ◌/◌, ◌<◌, ◌≤◌, Bool, true, false, nat_eq, inl, Some, List, [], ◌∷◌, ◌++◌, length, get_or, slice_get, take, drop, set, reverse, sum, refl, sym, ap, ◌∙◌, arith, length-append, length-drop}
 use borrow.Rule.Slice.PartMut.{mid_of, put_mid}
 use Rattle.std.proofs.lemmas.Bool.{ne_eqb}
 use Rattle.std.proofs.lemmas.List.{length-take-le}

@@ -1,5 +1,5 @@
 -- An exchange of two items of a list, or a write of one, as those who see only some of its items see it.
-use Rattle.std.proofs.Common.{ℕ, zero, suc, ◌≡◌, ◌+◌, ◌-◌, ◌<◌, List, [], ◌∷◌, length, take, drop, set, slice_get, reverse, inl, inr, refl, sym, ap, ◌∙◌, arith, length-append, length-drop, length-set}
+use Rattle.std.proofs.Common.{ℕ, zero, suc, ◌≡◌, ◌-◌, ◌<◌, List, [], ◌∷◌, length, take, drop, set, slice_get, reverse, inl, inr, refl, sym, ap, ◌∙◌, arith, length-append, length-drop, length-set}
 use Rattle.std.specs.List.{swap}
 use Rattle.std.proofs.lemmas.Bool.{cases_eq, cases_lt}
 use Rattle.std.proofs.lemmas.List.{get_or-reverse, length-reverse, length-take-le}
