@@ -154,9 +154,12 @@ fn transpose_matrix<M: Cells, R: Source<Item = M::Item> + Copy>(out: M, matrix: 
     let whole = matrix.whole();
     if out.len() > LARGE_MATRIX {
         let (out, _) = put_split(out, matrix, whole, ENOUGH_LEVELS);
-        out
-    } else {
-        put_strips(out, matrix, whole, strips_of(matrix))
+        return out;
+    }
+    match strips_of(matrix) {
+        // With strips that the compiler knows, small matrices of any sides take half the time.
+        Strips::High => put_strips(out, matrix, whole, Strips::High),
+        strips => put_strips(out, matrix, whole, strips),
     }
 }
 

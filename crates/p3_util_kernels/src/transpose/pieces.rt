@@ -90,13 +90,10 @@ fn put_strip<M: Cells, R: Source<Item = M::Item> + Copy>(
     ensures holder { M.same_holder (items_of region) out result }
 {
     let (rows, cols) = (region.rows(), region.cols());
-    // The compiler knows how many rows most strips have.
     match strips {
         Strips::Tiles => put_tiles(out, matrix, region),
+        // The compiler knows how many rows most low strips have.
         Strips::Low if rows == TILE_SIDE => put_columns(out, matrix, region.sized(TILE_SIDE, cols)),
-        Strips::High if rows == STRIP_ROWS => {
-            put_columns(out, matrix, region.sized(STRIP_ROWS, cols))
-        }
         _ => put_columns(out, matrix, region),
     }
 }
