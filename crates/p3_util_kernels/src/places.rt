@@ -5,8 +5,9 @@
 //!   ([`Cells`]), and a *source* is a list that is only read ([`Source`]).
 //! - A *swap* is one counted exchange of two places ([`Swaps`]), a *write* one counted put of an item ([`Writes`]).
 //! - A kernel has a holder by value and gives it back. Its contract says after how many steps, so no step is left out and
-//!   none is made beside. A counter is a holder, and so is a reference to a holder: a public call over a `&mut` counter is
-//!   its kernel over that reference, and a slice form is its kernel over the slice.
+//!   none is made beside. A counter is a holder, and so is a reference to a holder. A call on a slice is its kernel over the
+//!   slice, a counted call its kernel over a new counter of the reference, and an `_on` call its kernel over a counter that
+//!   goes on from the caller's count.
 
 ghost use Rattle.std.specs.Prelude.{◌≡◌, ℕ, ◌+◌, ◌-◌, ◌*◌, ◌<◌, ◌≤◌, ◌⊎◌, List, Some, length, swap, slice_get, slice_set};
 ghost use Rattle.p3_util_kernels.specs.Exchanged.{RunsExchanged};

@@ -157,7 +157,7 @@ fn transpose_matrix<M: Cells, R: Source<Item = M::Item> + Copy>(out: M, matrix: 
         return out;
     }
     match strips_of(matrix) {
-        // With strips that the compiler knows, small matrices of any sides take half the time.
+        // With strips that the compiler knows, the smallest matrices take a third less time.
         Strips::High => put_strips(out, matrix, whole, Strips::High),
         strips => put_strips(out, matrix, whole, strips),
     }

@@ -1,6 +1,6 @@
 //! The transpose of a block of 4 by 4 items in two stages, each of which exchanges one bit of the row number with the same
-//! bit of the column number. It is for callers who have such a block; no kernel uses it. A kernel puts a block item by item,
-//! since it would have to hold 16 items of any size at once.
+//! bit of the column number. It is for callers who have such a block. No kernel uses it, since an array of 16 items of any
+//! source asks for the size of an item, which nothing gives.
 
 ghost use Rattle.std.specs.Prelude.{[], ◌∷◌};
 ghost use Rattle.p3_util_kernels.specs.Stages.{IsBlockTransposed, IsStageOne, IsStageTwo};
