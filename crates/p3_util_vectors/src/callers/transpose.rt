@@ -2,15 +2,16 @@
 
 ghost use Rattle.std.specs.Prelude.{◌≡◌, ◌*◌, ◌^◌, ◌<◌, ◌↔◌, IsTrue, IsFalse, length};
 ghost use Rattle.p3_util_kernels.specs.Levels.{lev, nest};
-ghost use Rattle.p3_util_kernels.specs.Region.{IsRegionTransposed, LiesInMatrix, cols_of, rows_of};
+ghost use Rattle.p3_util_kernels.specs.Region.{IsRegionTransposed, LiesInMatrix, cols_of, items_of, rows_of};
 ghost use Rattle.p3_util_kernels.specs.Steps.{counted};
 ghost use Rattle.p3_util_kernels.specs.SwapCounts.{square_swaps};
 ghost use Rattle.p3_util_kernels.specs.Transpose.{IsTranspose};
 
 use p3_util_kernels::bits::log2_ceil_usize;
-use p3_util_kernels::places::{Cells, Places, Swaps, Writes};
+use p3_util_kernels::places::{Cells, Places, SliceCells, Swaps, Writes};
 use p3_util_kernels::transpose::{
-    Region, fits_matrix, transpose, transpose_counted, transpose_split_on, transpose_square_on,
+    Region, fits_matrix, transpose, transpose_counted, transpose_region_counted,
+    transpose_split_on, transpose_square_on,
 };
 
 /// Transposes `matrix`, of `height` rows of `width` items, by way of `scratch`. `false`, and nothing done, where the
@@ -124,4 +125,22 @@ pub fn transpose_part<C: Cells>(
 {
     let levels = levels_of(part.row_end - part.row_start, part.col_end - part.col_start);
     transpose_split_on(input, out, part, width, height, levels)
+}
+
+/// Puts the transpose of `region`, a block of the matrix `input`, into a slice, and returns the number of writes.
+pub fn transpose_block<T: Copy>(
+    input: &[T],
+    output: &mut [T],
+    region: Region,
+    width: usize,
+    height: usize,
+) -> u128
+    requires input_fits { length input.now ≡ width * height }
+    requires output_fits { length output.old ≡ width * height }
+    requires inside { LiesInMatrix region width height }
+    ensures transposed { IsRegionTransposed region width height input.now output.old output.new }
+    ensures count { result ≡ items_of region }
+{
+    let mut cells = SliceCells::new(output);
+    transpose_region_counted(input, &mut cells, region, width, height)
 }
