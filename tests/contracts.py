@@ -14,6 +14,12 @@ use. [MODEL](MODEL.md) says what the words of a clause mean. The headings are mo
 
 A struct is listed with its private fields too, since a clause may name them. Where a type implements a trait, the lines
 below say what a clause sees of that type. The page is made by `python3 tests/contracts.py >docs/CONTRACTS.md`."""
+WORDS = """
+## Where the words of clauses are
+
+A crate that says one of these words in a clause imports it by `ghost use MODULE.{WORD};`.
+
+```text"""
 CLAUSE = re.compile(r"\s*(requires|ensures)(\*?) ?(\w*) \{")
 HEAD_ENDS = re.compile(r"\n\s*(?:requires|ensures)\b|\{|;$", re.M)
 
@@ -40,7 +46,7 @@ def line(indent, code):
 
 def declarations(text, indent):
     """Of each declaration at this indent: whether it is public, its kind, its head, its clauses and what its braces hold."""
-    kinds = rf"^ {{{indent}}}(pub )?(fn|struct|enum|trait|type|impl|ghost(?! use))\b"
+    kinds = rf"^ {{{indent}}}(pub )?(?:const )?(fn|struct|enum|trait|type|impl|ghost(?! use))\b"
     for start in re.finditer(kinds, text, re.M):
         end = HEAD_ENDS.search(text, start.end()).start()
         head, clauses = " ".join(text[start.start(2):end].split()), []
@@ -79,19 +85,45 @@ def items(text, names):
             yield from [line(0, head), *members(body)] if kind == "trait" else [line(0, f"{head} {{ {body} }}" if body else head)]
 
 
+def modules_of_words():
+    """Of each word that a source imports for its clauses, the modules that it imports it from."""
+    found = {}
+    for path in sorted(glob.glob("crates/p3_util_kernels/src/**/*.rt", recursive=True) +
+                       glob.glob("crates/p3_util/src/**/*.rt", recursive=True)):
+        for module, words in re.findall(r"^\s*ghost use ([\w.]+)\.\{([^}]*)\};", read(path), re.M):
+            for word in words.split(","):
+                found.setdefault(word.split(" as ")[0].strip(), set()).add(module.replace("p3_util_kernels", "p3_util"))
+    return found
+
+
+def words_by_module(page):
+    """A line for each module: the words of the page's clauses that it has."""
+    said = set(re.findall(r"\w+", page))
+    homes = {}
+    for word, modules in modules_of_words().items():
+        plain = re.fullmatch(r"\w+", word)
+        own = sorted(module for module in modules if "Prelude" in module) or sorted(modules)
+        if (word in said if plain else word.strip("◌") in page) and not own[0].startswith("Rattle.std.proofs"):
+            homes.setdefault(own[0], []).append(word)
+    return [line(0, f"{module}: {' '.join(sorted(words))}") for module, words in sorted(homes.items())]
+
+
 def names_of(text, module):
     """The names that a file hands on from a module below it."""
     found = re.search(rf"pub use {module}::(\w+|\{{[^}}]*\}})", text)
     return re.findall(r"\w+", found[1]) if found else []
 
 
-print(HEAD)
+sections = []
 for module in MODULES:
     path = (glob.glob(f"crates/p3_util_kernels/src/{module}.rt") + glob.glob(f"crates/p3_util/src/{module}.rt"))[0]
     parent = read(path)
     lines = list(items(parent, re.findall(r"\w+", parent)))
     for child in sorted(glob.glob(path.replace(".rt", "/*.rt"))):
         lines += items(read(child), names_of(parent, re.search(r"(\w+)\.rt", child)[1]))
-    print(f"\n## `{module}`\n\n```text", *lines, "```", sep="\n")
+    sections += [f"\n## `{module}`\n\n```text", *lines, "```"]
 root = read("crates/p3_util/src/lib.rt")
-print("\n## The root\n\n```text", *items(root, re.findall(r"\w+", root)), "```", sep="\n")
+files = [path for path in sorted(glob.glob("crates/p3_util/src/*.rt")) if re.search(r"(\w+)\.rt", path)[1] not in (*MODULES, "lib")]
+lines = [said for path in files for said in items(read(path), names_of(root, re.search(r"(\w+)\.rt", path)[1]))]
+sections += ["\n## The root\n\n```text", *lines, "```"]
+print(HEAD, *sections, WORDS, *words_by_module("\n".join(sections)), "```", sep="\n")

@@ -62,7 +62,7 @@ def check_quotations():
     for page, text in pages.items():
         for block in re.finditer(r"^```rust\n(.*?)^```", text, re.M | re.S):
             for part in re.split(r"\n\s*\n", block.group(1)):
-                name = re.search(r"^(?:pub )?fn (\w+)", part, re.M)
+                name = re.search(r"^(?:pub )?(?:const )?fn (\w+)", part, re.M)
                 departs = name and difference(part, name.group(1))
                 if departs:
                     report(page, block.start(), f"{name.group(1)} is not as in the sources: {departs}")
@@ -75,7 +75,7 @@ def check_clauses():
         named = {label for brackets in re.findall(r"\((`[a-z_`, ]+`)\)", row.group()) for label in re.findall(r"\w+", brackets)}
         calls = re.findall(r"(?<=`)(?:\w+::)?(\w+)(?=`)", re.sub(r"\([^)]*\)", "", row.group(2)))
         heads = [head for call in calls for text in sources.values()
-                 for head in re.findall(rf"^ *(?:pub )?fn {call}\b(.*?)(?:\n *\{{|;$)", text, re.M | re.S)]
+                 for head in re.findall(rf"^ *(?:pub )?(?:const )?fn {call}\b(.*?)(?:\n *\{{|;$)", text, re.M | re.S)]
         for label in sorted(named):
             if heads and not any(re.search(rf"(requires|ensures)\*? {label} \{{", head) for head in heads):
                 report(page, row.start(), f"no call of {', '.join(calls)} has a clause {label}")

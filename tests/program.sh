@@ -61,6 +61,8 @@ words() {
     is 'a further word that is no UTF-8' 2 '' "$unknown"
     run transpose 2 $'2\xc3' <<<"$list"
     is 'a side that is no UTF-8' 2 '' "$unknown"
+    run transpose 3 2 junk <<<'[1,2,3,4,5,6]'
+    is 'a word more than the command takes' 2 '' "$unknown"
     run transpose "$(printf '%0300d' 3)" 2 <<<'[1,2,3,4,5,6]'
     is 'a side with many leading zeros' 0 $'[1,4,2,5,3,6]\n' ''
 

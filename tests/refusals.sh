@@ -5,9 +5,11 @@
 set -euo pipefail
 cd "$(dirname "$0")/.."
 
-# The last function that begins at or above a line of a source file.
+# The last function that begins at or above a line of a source file. An attribute belongs to the function below it.
 function_at() {
-    head -n "$2" "$1" | sed -nE 's/^ *(pub(\([a-z]+\))? )?(const )?fn ([a-z0-9_]+).*/\4/p' | tail -n 1
+    local line=$2
+    while sed -n "${line}p" "$1" | grep -q '^ *#\['; do line=$((line + 1)); done
+    head -n "$line" "$1" | sed -nE 's/^ *(pub(\([a-z]+\))? )?(const )?(extern "C" )?fn ([a-z0-9_]+).*/\5/p' | tail -n 1
 }
 
 edit_line='must-fail ([a-z0-9_]+)/([A-Za-z0-9_.-]+)\.edit: (.*)'

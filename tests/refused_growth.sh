@@ -18,6 +18,7 @@ tests=(
     'p3_util_vectors tests::takes_no_memory::'
     'p3_util_vectors tests::drops::'
     'p3_util_transform tests::refused_growth::'
+    'p3_util_run tests::refused_growth::'
 )
 [[ ${1-} != program ]] || tests=()
 

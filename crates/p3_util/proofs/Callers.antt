@@ -2,15 +2,20 @@
 -- a list has one of each, and that two of them are the list again; reversed digits in parts; std's test for a power of two; a
 -- look-up after an insert; sums by even and odd places; a closure that adds up; a part of a list that is written; some items of
 -- a list, seen as a list; a region in two parts; a reversal by chunks and squares.
-use Rattle.std.proofs.Common.{◌≡◌, ◌≢◌, ℕ, zero, suc, ◌+◌, ◌*◌, ◌^◌, ◌-◌, ◌/◌, ◌<◌, ◌≤◌, Bool, true, false, nat_eq, inl, Some, List, [], ◌∷◌, ◌++◌, length, get_or, slice_get, take, drop, set, reverse, sum, refl, sym, ap, ◌∙◌, arith, length-append, length-drop}
+use Rattle.std.proofs.Common.{◌≡◌, ◌≢◌, ℕ, zero, suc, ◌+◌, ◌*◌, ◌^◌, ◌-◌, ◌/◌, ◌<◌, ◌≤◌, Bool, true, false, not, cond, nat_eq, inl, Some, None, List, [], ◌∷◌, ◌++◌, length, get_or, slice_get, take, drop, set, reverse, sum, refl, sym, ap, ◌∙◌, arith, length-append, length-drop}
 use borrow.Rule.Slice.PartMut.{mid_of, put_mid}
 use Rattle.std.proofs.lemmas.Bool.{ne_eqb}
-use Rattle.std.proofs.lemmas.List.{length-take-le}
+use Rattle.std.proofs.lemmas.List.{length-take-le, map-append}
+use Rattle.std.proofs.lemmas.Map.Entries.{sum_by-set_value}
+use Rattle.std.proofs.lemmas.Map.Steps.{lookup-le-sum}
+use Rattle.std.proofs.lemmas.Option.{slice_get-get_or}
 use Rattle.std.proofs.lemmas.Nat.{mul-add-lt, pow-add, pow_pos, same_from_place}
 use Rattle.std.proofs.lemmas.List.Sums.{sum_by-append}
 use Rattle.std.specs.Cmp.{IsEquivalence, nat_eq_equiv}
 use Rattle.std.specs.Int.{is_power_of_two}
-use Rattle.std.specs.List.{FoldsTo, swap}
+use Rattle.std.specs.List.{FoldsTo, position_or_len, swap}
+use Rattle.std.specs.Map.{keys_of, lookup, set_value, values_of}
+use Rattle.std.specs.Option.{UnwrapsOrElse, unwrap_or}
 use Rattle.p3_util.specs.Flat.{flat}
 use Rattle.p3_util.specs.ItemsAt.{AreOthersSame, IsSameOutside, column_of, items_at}
 use Rattle.p3_util.specs.LinearMap.{put, value_at}
@@ -36,7 +41,7 @@ use Rattle.p3_util_kernels.proofs.LongPath.{IsReversal-composed}
 use Rattle.p3_util_kernels.proofs.Matrix.{IsTranspose-twice, IsTranspose-unique}
 use Rattle.p3_util_kernels.proofs.Powers.{power_of_two_test as power_test}
 use Rattle.p3_util_kernels.proofs.Region.{IsCut-cols, IsCut-rows, IsRegionTransposed-cut}
-use Rattle.p3_util_kernels.proofs.Reversal.{IsReversal-places, IsReversal-unique, IsRowReversal-inverse, IsRowReversal-unique}
+use Rattle.p3_util_kernels.proofs.Reversal.{IsReversal-places, IsReversal-unique, row_reversed_back, IsRowReversal-unique}
 use Rattle.p3_util_kernels.proofs.Squares.{AreTransposed-more, square_room}
 
 -- The k low digits, reversed, are a number of k digits, of which the reverse is that number again.
@@ -86,6 +91,70 @@ pub ruleset put_found = (key_found, number_found)
 
 pub ruleset put_others = (key_others, number_others)
 
+-- the first value whose key passes, replaced
+value_replaced : {K V : Type 0} (test : K → Bool) (es : List (K × V)) (old new : V) → lookup test es ≡ Some old
+    → values_of (set_value test es new) ≡ set (values_of es) (position_or_len test (keys_of es)) new
+value_replaced test [] old new found = absurd (cc)
+value_replaced test (e ∷ es) old new found =
+    elim (test e.0) as (λ b. cond b (Some e.1) (lookup test es) ≡ Some old
+    → values_of (cond b ((e.0, new) ∷ es) (e ∷ set_value test es new)) ≡ set (values_of (e ∷ es)) (cond (not b) (1 + position_or_len test (keys_of es)) 0) new) [
+      | true ↦ λ first. refl
+      | false ↦ λ later.
+          let next : 1 + position_or_len test (keys_of es) ≡ suc (position_or_len test (keys_of es)) = omega arith in
+          rw next (ap (λ l. e.1 ∷ l) (value_replaced test es old new later))
+    ] found
+
+-- after `insert`: what all values are, and what they add up to where they are numbers
+module _ {K V : Type 0} (eq : K → K → Bool) (pairs : List (K × V)) (k : K) (v : V) where
+  -- the value of a new key comes last
+  pub new_value_last : value_at eq pairs k ≡ None → values_of (put eq pairs k v) ≡ values_of pairs ++ v ∷ []
+  new_value_last absent = rw absent (map-append (λ (x : K × V). x.1) pairs ((k, v) ∷ []))
+
+  -- that of a known key takes the place of the old one
+  pub known_value_replaced : (old : V) → value_at eq pairs k ≡ Some old
+      → values_of (put eq pairs k v) ≡ set (values_of pairs) (position_or_len (eq k) (keys_of pairs)) v
+  known_value_replaced old found = rw found (value_replaced (eq k) pairs old v found)
+
+-- The values of a map to numbers, where 0 stands for a key that is not there: `insert` adds to their sum what it adds to the
+-- value, and no value is above the sum.
+module _ {K : Type 0} {eq : K → K → Bool} (laws : IsEquivalence eq) (pairs : List (K × ℕ)) (k : K) where
+  pub key_summed : (v : ℕ) → sum (values_of (put eq pairs k v)) + unwrap_or (value_at eq pairs k) 0 ≡ sum (values_of pairs) + v
+  key_summed v =
+      elim (value_at eq pairs k) as (λ o. value_at eq pairs k ≡ o → sum (values_of (put eq pairs k v)) + unwrap_or o 0 ≡ sum (values_of pairs) + v) [
+        | Some old ↦ λ known. rw known (sum_by-set_value (λ x. x) (eq k) pairs old v known)
+        | None ↦ λ absent. rw (new_value_last eq pairs k v absent) (ap (λ n. n + 0) (sum_by-append (λ x. x) (values_of pairs) (v ∷ [])) ∙ omega arith)
+      ] refl
+
+  pub key_within_sum : unwrap_or (value_at eq pairs k) 0 ≤ sum (values_of pairs)
+  key_within_sum = lookup-le-sum (eq k) pairs
+
+  -- the value that `get_or_insert_with` lends, where its closure gives 0
+  pub key_or_zero : (given : ℕ → Type 0) (value : ℕ) → UnwrapsOrElse (value_at eq pairs k) given value → ((x : ℕ) → given x → x ≡ 0)
+      → unwrap_or (value_at eq pairs k) 0 ≡ value
+  key_or_zero given value lent zero_given =
+      elim (value_at eq pairs k) as (λ o. UnwrapsOrElse o given value → unwrap_or o 0 ≡ value) [
+        | Some old ↦ λ same. sym same
+        | None ↦ λ made. sym (zero_given value made)
+      ] lent
+
+-- the same where the keys are numbers
+module _ (pairs : List (ℕ × ℕ)) (k : ℕ) where
+  pub number_summed : (v : ℕ) → sum (values_of (put nat_eq pairs k v)) + unwrap_or (value_at nat_eq pairs k) 0 ≡ sum (values_of pairs) + v
+  number_summed = key_summed nat_eq_equiv pairs k
+
+  pub number_within_sum : unwrap_or (value_at nat_eq pairs k) 0 ≤ sum (values_of pairs)
+  number_within_sum = key_within_sum nat_eq_equiv pairs k
+
+  pub number_or_zero : (given : ℕ → Type 0) (value : ℕ) → UnwrapsOrElse (value_at nat_eq pairs k) given value → ((x : ℕ) → given x → x ≡ 0)
+      → unwrap_or (value_at nat_eq pairs k) 0 ≡ value
+  number_or_zero = key_or_zero nat_eq_equiv pairs k
+
+pub ruleset values_after_new = (new_value_last)
+
+pub ruleset values_after_known = (known_value_replaced)
+
+pub ruleset values_summed = (key_summed, number_summed, key_within_sum, number_within_sum, key_or_zero, number_or_zero)
+
 -- a sum by even and odd places
 pub sum_below_halves : (n : ℕ) (f : ℕ → ℕ) → sum_below (2 * n) f ≡ sum_below n (λ j. f (2 * j)) + sum_below n (λ j. f (2 * j + 1))
 unfolding sum_below
@@ -116,10 +185,10 @@ module _ {A : Type 0} where
 
   -- the other way round
   pub reversed_back : (old new : List A) → IsReversal old new → IsReversal new old
-  reversed_back = IsRowReversal-inverse 1
+  reversed_back = row_reversed_back 1
 
   pub rows_reversed_back : (row_width : ℕ) (old new : List A) → IsRowReversal row_width old new → IsRowReversal row_width new old
-  rows_reversed_back = IsRowReversal-inverse
+  rows_reversed_back = row_reversed_back
 
   -- One reversal, and twice is the same. The condition comes last: a search has it once the lists are found.
   pub reversed_once : (old a b : List A) → IsReversal old a → IsReversal old b → IsReversible (length old) → a ≡ b
@@ -222,6 +291,11 @@ module _ {A : Type 0} (width height column : ℕ) (xs : List A) (fits : length x
 
   pub column_place : (row : ℕ) → row < height → slice_get (column_of width height column xs) row ≡ slice_get xs (row * width + column)
   column_place = slice_get-items_at (λ row. row * width + column) height xs inside
+
+  -- what an index into the list read
+  pub column_read : (row : ℕ) (item : A) → row < height → item ≡ get_or xs (row * width + column) item
+      → slice_get (column_of width height column xs) row ≡ Some item
+  column_read row item hr read = column_place row hr ∙ slice_get-get_or xs (row * width + column) item (inside row hr) ∙ ap Some (sym read)
 
   pub column_swapped : (i j : ℕ) → i < height → j < height
       → column_of width height column (swap xs (i * width + column) (j * width + column)) ≡ swap (column_of width height column xs) i j

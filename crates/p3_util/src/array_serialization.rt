@@ -126,7 +126,7 @@ pub fn deserialize<T: ArrayElement + Drop, const N: usize>(
     Ok(items)
 }
 
-// The whole number of 64 bits that a value is.
+/// The whole number of 64 bits that a value is.
 fn whole(v: &Value) -> Result<i128, ElementError>
     ensures { IsElementAnswer false (whole_number (view v.now)) result }
 {

@@ -7,10 +7,12 @@
 pub mod array_serialization;
 pub mod chunks;
 pub mod linear_map;
+mod no_room;
 pub mod views;
 pub mod zip_eq;
 
 pub use chunks::{ArrayChunksPadded, apply_to_chunks, iter_array_chunks_padded};
+pub use no_room::NoRoom;
 pub use p3_util_kernels::bits::{
     assert_clone, branch_hint, checked_log_size_sum, checked_pow2, indices_arr, is_power_of_three,
     log2_ceil_u64, log2_ceil_usize, log2_floor_usize, log2_strict_usize, log3_strict_usize,
@@ -26,9 +28,3 @@ pub use views::{
     BaseIter, BaseSlice, BaseSliceMut, as_base_slice, as_base_slice_mut, flat_len, flatten_to_base,
     reconstitute_from_base,
 };
-
-/// A refusal where memory runs out, with what the refused call was given, unchanged.
-#[derive(Debug, Drop)]
-pub struct NoRoom<G> {
-    pub given: G,
-}

@@ -100,7 +100,7 @@ impl<K: Eq, V> LinearMap<K, V> {
         Iter::new(&self.pairs)
     }
 
-    // The place of the pair whose key equals `k`.
+    /// The place of the pair whose key equals `k`.
     fn place_of(&self, k: &K) -> Option<usize>
         ensures { result ≡ position (λ e. K.eq k.now e.0) self.now }
     {

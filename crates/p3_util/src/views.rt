@@ -6,6 +6,7 @@ mod base_iter;
 mod base_slice;
 mod base_slice_mut;
 mod loans;
+mod places;
 mod rows;
 mod vectors;
 

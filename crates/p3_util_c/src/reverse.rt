@@ -1,4 +1,6 @@
-//! Bit reversal of lists.
+//! Bit reversal of lists, by the size of an item in bytes. `p3_util_reverse_8` is for items of 8 bytes, and so on.
+//!
+//! Each call reverses the order of `vals` by index bits where the length is zero or a power of two, and returns whether it is.
 
 ghost use Rattle.std.specs.Prelude.{◌≡◌, ◌↔◌, IsTrue, length};
 ghost use Rattle.std.specs.Bool.{OnTrue, OnFalse};
@@ -7,8 +9,6 @@ ghost use Rattle.p3_util_c.specs.Tried.{IsTriedReversal};
 
 use p3_util_kernels::reverse::{fits_rows, reverse_slice_index_bits};
 
-/// Reverses the order of `vals`, items of one byte, by index bits, where the length is zero or a power of two. Returns
-/// whether it is.
 #[unsafe(no_mangle)]
 pub extern "C" fn p3_util_reverse_1(vals: &mut [u8]) -> bool
     ensures { IsTriedReversal result vals.old vals.new }
@@ -16,8 +16,6 @@ pub extern "C" fn p3_util_reverse_1(vals: &mut [u8]) -> bool
     reverse_where_it_fits(vals)
 }
 
-/// Reverses the order of `vals`, items of 2 bytes, by index bits, where the length is zero or a power of two. Returns
-/// whether it is.
 #[unsafe(no_mangle)]
 pub extern "C" fn p3_util_reverse_2(vals: &mut [[u8; 2]]) -> bool
     ensures { IsTriedReversal result vals.old vals.new }
@@ -25,8 +23,6 @@ pub extern "C" fn p3_util_reverse_2(vals: &mut [[u8; 2]]) -> bool
     reverse_where_it_fits(vals)
 }
 
-/// Reverses the order of `vals`, items of 4 bytes, by index bits, where the length is zero or a power of two. Returns
-/// whether it is.
 #[unsafe(no_mangle)]
 pub extern "C" fn p3_util_reverse_4(vals: &mut [[u8; 4]]) -> bool
     ensures { IsTriedReversal result vals.old vals.new }
@@ -34,8 +30,6 @@ pub extern "C" fn p3_util_reverse_4(vals: &mut [[u8; 4]]) -> bool
     reverse_where_it_fits(vals)
 }
 
-/// Reverses the order of `vals`, items of 8 bytes, by index bits, where the length is zero or a power of two. Returns
-/// whether it is.
 #[unsafe(no_mangle)]
 pub extern "C" fn p3_util_reverse_8(vals: &mut [[u8; 8]]) -> bool
     ensures { IsTriedReversal result vals.old vals.new }
@@ -43,8 +37,6 @@ pub extern "C" fn p3_util_reverse_8(vals: &mut [[u8; 8]]) -> bool
     reverse_where_it_fits(vals)
 }
 
-/// Reverses the order of `vals`, items of 12 bytes, by index bits, where the length is zero or a power of two. Returns
-/// whether it is.
 #[unsafe(no_mangle)]
 pub extern "C" fn p3_util_reverse_12(vals: &mut [[[u8; 4]; 3]]) -> bool
     ensures { IsTriedReversal result vals.old vals.new }
@@ -52,8 +44,6 @@ pub extern "C" fn p3_util_reverse_12(vals: &mut [[[u8; 4]; 3]]) -> bool
     reverse_where_it_fits(vals)
 }
 
-/// Reverses the order of `vals`, items of 16 bytes, by index bits, where the length is zero or a power of two. Returns
-/// whether it is.
 #[unsafe(no_mangle)]
 pub extern "C" fn p3_util_reverse_16(vals: &mut [[[u8; 8]; 2]]) -> bool
     ensures { IsTriedReversal result vals.old vals.new }
@@ -61,8 +51,6 @@ pub extern "C" fn p3_util_reverse_16(vals: &mut [[[u8; 8]; 2]]) -> bool
     reverse_where_it_fits(vals)
 }
 
-/// Reverses the order of `vals`, items of 20 bytes, by index bits, where the length is zero or a power of two. Returns
-/// whether it is.
 #[unsafe(no_mangle)]
 pub extern "C" fn p3_util_reverse_20(vals: &mut [[[u8; 4]; 5]]) -> bool
     ensures { IsTriedReversal result vals.old vals.new }
@@ -70,8 +58,6 @@ pub extern "C" fn p3_util_reverse_20(vals: &mut [[[u8; 4]; 5]]) -> bool
     reverse_where_it_fits(vals)
 }
 
-/// Reverses the order of `vals`, items of 24 bytes, by index bits, where the length is zero or a power of two. Returns
-/// whether it is.
 #[unsafe(no_mangle)]
 pub extern "C" fn p3_util_reverse_24(vals: &mut [[[u8; 8]; 3]]) -> bool
     ensures { IsTriedReversal result vals.old vals.new }
@@ -79,8 +65,6 @@ pub extern "C" fn p3_util_reverse_24(vals: &mut [[[u8; 8]; 3]]) -> bool
     reverse_where_it_fits(vals)
 }
 
-/// Reverses the order of `vals`, items of 32 bytes, by index bits, where the length is zero or a power of two. Returns
-/// whether it is.
 #[unsafe(no_mangle)]
 pub extern "C" fn p3_util_reverse_32(vals: &mut [[[u8; 8]; 4]]) -> bool
     ensures { IsTriedReversal result vals.old vals.new }
@@ -88,8 +72,6 @@ pub extern "C" fn p3_util_reverse_32(vals: &mut [[[u8; 8]; 4]]) -> bool
     reverse_where_it_fits(vals)
 }
 
-/// Reverses the order of `vals`, items of 40 bytes, by index bits, where the length is zero or a power of two. Returns
-/// whether it is.
 #[unsafe(no_mangle)]
 pub extern "C" fn p3_util_reverse_40(vals: &mut [[[u8; 8]; 5]]) -> bool
     ensures { IsTriedReversal result vals.old vals.new }
@@ -97,8 +79,6 @@ pub extern "C" fn p3_util_reverse_40(vals: &mut [[[u8; 8]; 5]]) -> bool
     reverse_where_it_fits(vals)
 }
 
-/// Reverses the order of `vals`, items of 48 bytes, by index bits, where the length is zero or a power of two. Returns
-/// whether it is.
 #[unsafe(no_mangle)]
 pub extern "C" fn p3_util_reverse_48(vals: &mut [[[u8; 8]; 6]]) -> bool
     ensures { IsTriedReversal result vals.old vals.new }
@@ -106,8 +86,6 @@ pub extern "C" fn p3_util_reverse_48(vals: &mut [[[u8; 8]; 6]]) -> bool
     reverse_where_it_fits(vals)
 }
 
-/// Reverses the order of `vals`, items of 64 bytes, by index bits, where the length is zero or a power of two. Returns
-/// whether it is.
 #[unsafe(no_mangle)]
 pub extern "C" fn p3_util_reverse_64(vals: &mut [[[u8; 8]; 8]]) -> bool
     ensures { IsTriedReversal result vals.old vals.new }
@@ -115,8 +93,6 @@ pub extern "C" fn p3_util_reverse_64(vals: &mut [[[u8; 8]; 8]]) -> bool
     reverse_where_it_fits(vals)
 }
 
-/// Reverses the order of `vals`, items of 96 bytes, by index bits, where the length is zero or a power of two. Returns
-/// whether it is.
 #[unsafe(no_mangle)]
 pub extern "C" fn p3_util_reverse_96(vals: &mut [[[u8; 8]; 12]]) -> bool
     ensures { IsTriedReversal result vals.old vals.new }
@@ -124,8 +100,6 @@ pub extern "C" fn p3_util_reverse_96(vals: &mut [[[u8; 8]; 12]]) -> bool
     reverse_where_it_fits(vals)
 }
 
-/// Reverses the order of `vals`, items of 128 bytes, by index bits, where the length is zero or a power of two. Returns
-/// whether it is.
 #[unsafe(no_mangle)]
 pub extern "C" fn p3_util_reverse_128(vals: &mut [[[u8; 8]; 16]]) -> bool
     ensures { IsTriedReversal result vals.old vals.new }
@@ -133,8 +107,6 @@ pub extern "C" fn p3_util_reverse_128(vals: &mut [[[u8; 8]; 16]]) -> bool
     reverse_where_it_fits(vals)
 }
 
-/// Reverses the order of `vals`, items of 160 bytes, by index bits, where the length is zero or a power of two. Returns
-/// whether it is.
 #[unsafe(no_mangle)]
 pub extern "C" fn p3_util_reverse_160(vals: &mut [[[u8; 8]; 20]]) -> bool
     ensures { IsTriedReversal result vals.old vals.new }
@@ -142,8 +114,6 @@ pub extern "C" fn p3_util_reverse_160(vals: &mut [[[u8; 8]; 20]]) -> bool
     reverse_where_it_fits(vals)
 }
 
-/// Reverses the order of `vals`, items of 256 bytes, by index bits, where the length is zero or a power of two. Returns
-/// whether it is.
 #[unsafe(no_mangle)]
 pub extern "C" fn p3_util_reverse_256(vals: &mut [[[u8; 8]; 32]]) -> bool
     ensures { IsTriedReversal result vals.old vals.new }

@@ -1,4 +1,7 @@
-//! Bit reversal of rows: each row moves as one item.
+//! Bit reversal of rows, by the size of an item in bytes: each row moves as one item.
+//!
+//! Each call reverses the order of the rows of `vals`, each of `row_width` items, by index bits where the length is `row_width`
+//! times zero or a power of two, and returns whether it is.
 
 ghost use Rattle.std.specs.Prelude.{◌≡◌, ◌↔◌, IsTrue, length};
 ghost use Rattle.std.specs.Bool.{OnTrue, OnFalse};
@@ -7,8 +10,6 @@ ghost use Rattle.p3_util_c.specs.Tried.{IsTriedRowReversal};
 
 use p3_util_kernels::reverse::{fits_rows, reverse_slice_row_index_bits};
 
-/// Reverses the order of the rows of `vals`, each of `row_width` items of one byte, by index bits, where the length is
-/// `row_width` times zero or a power of two. Returns whether it is.
 #[unsafe(no_mangle)]
 pub extern "C" fn p3_util_reverse_rows_1(vals: &mut [u8], row_width: usize) -> bool
     ensures { IsTriedRowReversal result row_width vals.old vals.new }
@@ -16,8 +17,6 @@ pub extern "C" fn p3_util_reverse_rows_1(vals: &mut [u8], row_width: usize) -> b
     reverse_rows_where_they_fit(vals, row_width)
 }
 
-/// Reverses the order of the rows of `vals`, each of `row_width` items of 2 bytes, by index bits, where the length is
-/// `row_width` times zero or a power of two. Returns whether it is.
 #[unsafe(no_mangle)]
 pub extern "C" fn p3_util_reverse_rows_2(vals: &mut [[u8; 2]], row_width: usize) -> bool
     ensures { IsTriedRowReversal result row_width vals.old vals.new }
@@ -25,8 +24,6 @@ pub extern "C" fn p3_util_reverse_rows_2(vals: &mut [[u8; 2]], row_width: usize)
     reverse_rows_where_they_fit(vals, row_width)
 }
 
-/// Reverses the order of the rows of `vals`, each of `row_width` items of 4 bytes, by index bits, where the length is
-/// `row_width` times zero or a power of two. Returns whether it is.
 #[unsafe(no_mangle)]
 pub extern "C" fn p3_util_reverse_rows_4(vals: &mut [[u8; 4]], row_width: usize) -> bool
     ensures { IsTriedRowReversal result row_width vals.old vals.new }
@@ -34,8 +31,6 @@ pub extern "C" fn p3_util_reverse_rows_4(vals: &mut [[u8; 4]], row_width: usize)
     reverse_rows_where_they_fit(vals, row_width)
 }
 
-/// Reverses the order of the rows of `vals`, each of `row_width` items of 8 bytes, by index bits, where the length is
-/// `row_width` times zero or a power of two. Returns whether it is.
 #[unsafe(no_mangle)]
 pub extern "C" fn p3_util_reverse_rows_8(vals: &mut [[u8; 8]], row_width: usize) -> bool
     ensures { IsTriedRowReversal result row_width vals.old vals.new }
@@ -43,8 +38,6 @@ pub extern "C" fn p3_util_reverse_rows_8(vals: &mut [[u8; 8]], row_width: usize)
     reverse_rows_where_they_fit(vals, row_width)
 }
 
-/// Reverses the order of the rows of `vals`, each of `row_width` items of 12 bytes, by index bits, where the length is
-/// `row_width` times zero or a power of two. Returns whether it is.
 #[unsafe(no_mangle)]
 pub extern "C" fn p3_util_reverse_rows_12(vals: &mut [[[u8; 4]; 3]], row_width: usize) -> bool
     ensures { IsTriedRowReversal result row_width vals.old vals.new }
@@ -52,8 +45,6 @@ pub extern "C" fn p3_util_reverse_rows_12(vals: &mut [[[u8; 4]; 3]], row_width: 
     reverse_rows_where_they_fit(vals, row_width)
 }
 
-/// Reverses the order of the rows of `vals`, each of `row_width` items of 16 bytes, by index bits, where the length is
-/// `row_width` times zero or a power of two. Returns whether it is.
 #[unsafe(no_mangle)]
 pub extern "C" fn p3_util_reverse_rows_16(vals: &mut [[[u8; 8]; 2]], row_width: usize) -> bool
     ensures { IsTriedRowReversal result row_width vals.old vals.new }
@@ -61,8 +52,6 @@ pub extern "C" fn p3_util_reverse_rows_16(vals: &mut [[[u8; 8]; 2]], row_width: 
     reverse_rows_where_they_fit(vals, row_width)
 }
 
-/// Reverses the order of the rows of `vals`, each of `row_width` items of 20 bytes, by index bits, where the length is
-/// `row_width` times zero or a power of two. Returns whether it is.
 #[unsafe(no_mangle)]
 pub extern "C" fn p3_util_reverse_rows_20(vals: &mut [[[u8; 4]; 5]], row_width: usize) -> bool
     ensures { IsTriedRowReversal result row_width vals.old vals.new }
@@ -70,8 +59,6 @@ pub extern "C" fn p3_util_reverse_rows_20(vals: &mut [[[u8; 4]; 5]], row_width: 
     reverse_rows_where_they_fit(vals, row_width)
 }
 
-/// Reverses the order of the rows of `vals`, each of `row_width` items of 24 bytes, by index bits, where the length is
-/// `row_width` times zero or a power of two. Returns whether it is.
 #[unsafe(no_mangle)]
 pub extern "C" fn p3_util_reverse_rows_24(vals: &mut [[[u8; 8]; 3]], row_width: usize) -> bool
     ensures { IsTriedRowReversal result row_width vals.old vals.new }
@@ -79,8 +66,6 @@ pub extern "C" fn p3_util_reverse_rows_24(vals: &mut [[[u8; 8]; 3]], row_width: 
     reverse_rows_where_they_fit(vals, row_width)
 }
 
-/// Reverses the order of the rows of `vals`, each of `row_width` items of 32 bytes, by index bits, where the length is
-/// `row_width` times zero or a power of two. Returns whether it is.
 #[unsafe(no_mangle)]
 pub extern "C" fn p3_util_reverse_rows_32(vals: &mut [[[u8; 8]; 4]], row_width: usize) -> bool
     ensures { IsTriedRowReversal result row_width vals.old vals.new }
@@ -88,8 +73,6 @@ pub extern "C" fn p3_util_reverse_rows_32(vals: &mut [[[u8; 8]; 4]], row_width: 
     reverse_rows_where_they_fit(vals, row_width)
 }
 
-/// Reverses the order of the rows of `vals`, each of `row_width` items of 40 bytes, by index bits, where the length is
-/// `row_width` times zero or a power of two. Returns whether it is.
 #[unsafe(no_mangle)]
 pub extern "C" fn p3_util_reverse_rows_40(vals: &mut [[[u8; 8]; 5]], row_width: usize) -> bool
     ensures { IsTriedRowReversal result row_width vals.old vals.new }
@@ -97,8 +80,6 @@ pub extern "C" fn p3_util_reverse_rows_40(vals: &mut [[[u8; 8]; 5]], row_width: 
     reverse_rows_where_they_fit(vals, row_width)
 }
 
-/// Reverses the order of the rows of `vals`, each of `row_width` items of 48 bytes, by index bits, where the length is
-/// `row_width` times zero or a power of two. Returns whether it is.
 #[unsafe(no_mangle)]
 pub extern "C" fn p3_util_reverse_rows_48(vals: &mut [[[u8; 8]; 6]], row_width: usize) -> bool
     ensures { IsTriedRowReversal result row_width vals.old vals.new }
@@ -106,8 +87,6 @@ pub extern "C" fn p3_util_reverse_rows_48(vals: &mut [[[u8; 8]; 6]], row_width: 
     reverse_rows_where_they_fit(vals, row_width)
 }
 
-/// Reverses the order of the rows of `vals`, each of `row_width` items of 64 bytes, by index bits, where the length is
-/// `row_width` times zero or a power of two. Returns whether it is.
 #[unsafe(no_mangle)]
 pub extern "C" fn p3_util_reverse_rows_64(vals: &mut [[[u8; 8]; 8]], row_width: usize) -> bool
     ensures { IsTriedRowReversal result row_width vals.old vals.new }
@@ -115,8 +94,6 @@ pub extern "C" fn p3_util_reverse_rows_64(vals: &mut [[[u8; 8]; 8]], row_width: 
     reverse_rows_where_they_fit(vals, row_width)
 }
 
-/// Reverses the order of the rows of `vals`, each of `row_width` items of 96 bytes, by index bits, where the length is
-/// `row_width` times zero or a power of two. Returns whether it is.
 #[unsafe(no_mangle)]
 pub extern "C" fn p3_util_reverse_rows_96(vals: &mut [[[u8; 8]; 12]], row_width: usize) -> bool
     ensures { IsTriedRowReversal result row_width vals.old vals.new }
@@ -124,8 +101,6 @@ pub extern "C" fn p3_util_reverse_rows_96(vals: &mut [[[u8; 8]; 12]], row_width:
     reverse_rows_where_they_fit(vals, row_width)
 }
 
-/// Reverses the order of the rows of `vals`, each of `row_width` items of 128 bytes, by index bits, where the length is
-/// `row_width` times zero or a power of two. Returns whether it is.
 #[unsafe(no_mangle)]
 pub extern "C" fn p3_util_reverse_rows_128(vals: &mut [[[u8; 8]; 16]], row_width: usize) -> bool
     ensures { IsTriedRowReversal result row_width vals.old vals.new }
@@ -133,8 +108,6 @@ pub extern "C" fn p3_util_reverse_rows_128(vals: &mut [[[u8; 8]; 16]], row_width
     reverse_rows_where_they_fit(vals, row_width)
 }
 
-/// Reverses the order of the rows of `vals`, each of `row_width` items of 160 bytes, by index bits, where the length is
-/// `row_width` times zero or a power of two. Returns whether it is.
 #[unsafe(no_mangle)]
 pub extern "C" fn p3_util_reverse_rows_160(vals: &mut [[[u8; 8]; 20]], row_width: usize) -> bool
     ensures { IsTriedRowReversal result row_width vals.old vals.new }
@@ -142,8 +115,6 @@ pub extern "C" fn p3_util_reverse_rows_160(vals: &mut [[[u8; 8]; 20]], row_width
     reverse_rows_where_they_fit(vals, row_width)
 }
 
-/// Reverses the order of the rows of `vals`, each of `row_width` items of 256 bytes, by index bits, where the length is
-/// `row_width` times zero or a power of two. Returns whether it is.
 #[unsafe(no_mangle)]
 pub extern "C" fn p3_util_reverse_rows_256(vals: &mut [[[u8; 8]; 32]], row_width: usize) -> bool
     ensures { IsTriedRowReversal result row_width vals.old vals.new }

@@ -1,4 +1,7 @@
-//! Transposes of matrices that are held as flat lists, row after row.
+//! Transposes of matrices that are held as flat lists, row after row, by the size of an item in bytes.
+//!
+//! Each call writes to `output` the transpose of `input`, `height` rows of `width` items, where both lengths are `width` times
+//! `height`, and returns whether they are.
 
 ghost use Rattle.std.specs.Prelude.{◌≡◌, ◌*◌, ◌↔◌, IsTrue, length};
 ghost use Rattle.std.specs.Bool.{OnTrue, OnFalse};
@@ -7,8 +10,6 @@ ghost use Rattle.p3_util_c.specs.Tried.{IsTriedTranspose};
 
 use p3_util_kernels::transpose::{fits_matrix, transpose};
 
-/// Writes to `output` the transpose of `input`, `height` rows of `width` items of one byte, where both lengths are
-/// `width` times `height`. Returns whether they are.
 #[unsafe(no_mangle)]
 pub extern "C" fn p3_util_transpose_1(
     input: &[u8],
@@ -21,8 +22,6 @@ pub extern "C" fn p3_util_transpose_1(
     transpose_where_it_fits(input, output, width, height)
 }
 
-/// Writes to `output` the transpose of `input`, `height` rows of `width` items of 2 bytes, where both lengths are
-/// `width` times `height`. Returns whether they are.
 #[unsafe(no_mangle)]
 pub extern "C" fn p3_util_transpose_2(
     input: &[[u8; 2]],
@@ -35,8 +34,6 @@ pub extern "C" fn p3_util_transpose_2(
     transpose_where_it_fits(input, output, width, height)
 }
 
-/// Writes to `output` the transpose of `input`, `height` rows of `width` items of 4 bytes, where both lengths are
-/// `width` times `height`. Returns whether they are.
 #[unsafe(no_mangle)]
 pub extern "C" fn p3_util_transpose_4(
     input: &[[u8; 4]],
@@ -49,8 +46,6 @@ pub extern "C" fn p3_util_transpose_4(
     transpose_where_it_fits(input, output, width, height)
 }
 
-/// Writes to `output` the transpose of `input`, `height` rows of `width` items of 8 bytes, where both lengths are
-/// `width` times `height`. Returns whether they are.
 #[unsafe(no_mangle)]
 pub extern "C" fn p3_util_transpose_8(
     input: &[[u8; 8]],
@@ -63,8 +58,6 @@ pub extern "C" fn p3_util_transpose_8(
     transpose_where_it_fits(input, output, width, height)
 }
 
-/// Writes to `output` the transpose of `input`, `height` rows of `width` items of 12 bytes, where both lengths are
-/// `width` times `height`. Returns whether they are.
 #[unsafe(no_mangle)]
 pub extern "C" fn p3_util_transpose_12(
     input: &[[[u8; 4]; 3]],
@@ -77,8 +70,6 @@ pub extern "C" fn p3_util_transpose_12(
     transpose_where_it_fits(input, output, width, height)
 }
 
-/// Writes to `output` the transpose of `input`, `height` rows of `width` items of 16 bytes, where both lengths are
-/// `width` times `height`. Returns whether they are.
 #[unsafe(no_mangle)]
 pub extern "C" fn p3_util_transpose_16(
     input: &[[[u8; 8]; 2]],
@@ -91,8 +82,6 @@ pub extern "C" fn p3_util_transpose_16(
     transpose_where_it_fits(input, output, width, height)
 }
 
-/// Writes to `output` the transpose of `input`, `height` rows of `width` items of 20 bytes, where both lengths are
-/// `width` times `height`. Returns whether they are.
 #[unsafe(no_mangle)]
 pub extern "C" fn p3_util_transpose_20(
     input: &[[[u8; 4]; 5]],
@@ -105,8 +94,6 @@ pub extern "C" fn p3_util_transpose_20(
     transpose_where_it_fits(input, output, width, height)
 }
 
-/// Writes to `output` the transpose of `input`, `height` rows of `width` items of 24 bytes, where both lengths are
-/// `width` times `height`. Returns whether they are.
 #[unsafe(no_mangle)]
 pub extern "C" fn p3_util_transpose_24(
     input: &[[[u8; 8]; 3]],
@@ -119,8 +106,6 @@ pub extern "C" fn p3_util_transpose_24(
     transpose_where_it_fits(input, output, width, height)
 }
 
-/// Writes to `output` the transpose of `input`, `height` rows of `width` items of 32 bytes, where both lengths are
-/// `width` times `height`. Returns whether they are.
 #[unsafe(no_mangle)]
 pub extern "C" fn p3_util_transpose_32(
     input: &[[[u8; 8]; 4]],
@@ -133,8 +118,6 @@ pub extern "C" fn p3_util_transpose_32(
     transpose_where_it_fits(input, output, width, height)
 }
 
-/// Writes to `output` the transpose of `input`, `height` rows of `width` items of 40 bytes, where both lengths are
-/// `width` times `height`. Returns whether they are.
 #[unsafe(no_mangle)]
 pub extern "C" fn p3_util_transpose_40(
     input: &[[[u8; 8]; 5]],
@@ -147,8 +130,6 @@ pub extern "C" fn p3_util_transpose_40(
     transpose_where_it_fits(input, output, width, height)
 }
 
-/// Writes to `output` the transpose of `input`, `height` rows of `width` items of 48 bytes, where both lengths are
-/// `width` times `height`. Returns whether they are.
 #[unsafe(no_mangle)]
 pub extern "C" fn p3_util_transpose_48(
     input: &[[[u8; 8]; 6]],
@@ -161,8 +142,6 @@ pub extern "C" fn p3_util_transpose_48(
     transpose_where_it_fits(input, output, width, height)
 }
 
-/// Writes to `output` the transpose of `input`, `height` rows of `width` items of 64 bytes, where both lengths are
-/// `width` times `height`. Returns whether they are.
 #[unsafe(no_mangle)]
 pub extern "C" fn p3_util_transpose_64(
     input: &[[[u8; 8]; 8]],
@@ -175,8 +154,6 @@ pub extern "C" fn p3_util_transpose_64(
     transpose_where_it_fits(input, output, width, height)
 }
 
-/// Writes to `output` the transpose of `input`, `height` rows of `width` items of 96 bytes, where both lengths are
-/// `width` times `height`. Returns whether they are.
 #[unsafe(no_mangle)]
 pub extern "C" fn p3_util_transpose_96(
     input: &[[[u8; 8]; 12]],
@@ -189,8 +166,6 @@ pub extern "C" fn p3_util_transpose_96(
     transpose_where_it_fits(input, output, width, height)
 }
 
-/// Writes to `output` the transpose of `input`, `height` rows of `width` items of 128 bytes, where both lengths are
-/// `width` times `height`. Returns whether they are.
 #[unsafe(no_mangle)]
 pub extern "C" fn p3_util_transpose_128(
     input: &[[[u8; 8]; 16]],
@@ -203,8 +178,6 @@ pub extern "C" fn p3_util_transpose_128(
     transpose_where_it_fits(input, output, width, height)
 }
 
-/// Writes to `output` the transpose of `input`, `height` rows of `width` items of 160 bytes, where both lengths are
-/// `width` times `height`. Returns whether they are.
 #[unsafe(no_mangle)]
 pub extern "C" fn p3_util_transpose_160(
     input: &[[[u8; 8]; 20]],
@@ -217,8 +190,6 @@ pub extern "C" fn p3_util_transpose_160(
     transpose_where_it_fits(input, output, width, height)
 }
 
-/// Writes to `output` the transpose of `input`, `height` rows of `width` items of 256 bytes, where both lengths are
-/// `width` times `height`. Returns whether they are.
 #[unsafe(no_mangle)]
 pub extern "C" fn p3_util_transpose_256(
     input: &[[[u8; 8]; 32]],

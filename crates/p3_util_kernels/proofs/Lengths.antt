@@ -1,12 +1,14 @@
 -- Lengths that are zero or a power of two, and lengths of rows.
-use Rattle.std.proofs.Common.{◌≡◌, ℕ, zero, suc, ◌+◌, ◌-◌, ◌*◌, ◌/◌, ◌%◌, ◌^◌, ◌<◌, ◌↔◌, IsTrue, ◌==◌, bit_and, inl, inr, refl, sym, ap, ◌∙◌, arith, eqb-true}
+use Rattle.std.proofs.Common.{◌≤◌, ◌≡◌, ℕ, zero, suc, ◌+◌, ◌-◌, ◌*◌, ◌/◌, ◌%◌, ◌^◌, ◌<◌, ◌↔◌, IsTrue, ◌==◌, bit_and, inl, inr, refl, sym, ap, ◌∙◌, arith, eqb-true}
 use Rattle.std.specs.Int.{is_power_of_two}
 use Rattle.std.specs.Int.Bits.{and_self}
-use Rattle.std.proofs.Math.Nat.{mul-div_cancel_left, pow-suc}
+use Rattle.std.proofs.Math.Nat.{le-mul_of_pos_right, mul-div_cancel_left, pow-suc, zero-div}
 use Rattle.std.proofs.lemmas.Bool.{cases_eq, or_cases}
-use Rattle.std.proofs.lemmas.Nat.{and_block, div-add-mod', div-mul-add, mod-mul-add}
+use Rattle.std.proofs.lemmas.Nat.{and_block, div-add-mod', div-mul-add, mod-mul-add, pow-add, pow_pos}
+use Rattle.p3_util_kernels.specs.Levels.{clog}
 use Rattle.p3_util_kernels.specs.Reversal.{IsZeroOrPowerOfTwo, IsReversible, FitsRows}
-use Rattle.p3_util_kernels.proofs.Powers.{exponent-same, power_of_two_test}
+use Rattle.p3_util_kernels.proofs.Levels.{clog_power, clog-zero}
+use Rattle.p3_util_kernels.proofs.Powers.{exponent-lt, exponent-same, power_of_two_test}
 
 -- twice a number that is zero or a power of two is one too
 doubled : (m n : ℕ) → n ≡ m * 2 → IsZeroOrPowerOfTwo m → IsZeroOrPowerOfTwo n
@@ -102,3 +104,38 @@ IsPowerOfRows-from len row_width some (rows, inr (k, is), e) =
       rows = ap (λ n. n / row_width) whole ∙ mul-div_cancel_left (2 ^ k) wide;
       whole = whole;
     }
+
+-- 2 ^ h chunks of 2 ^ c items are rows
+pub chunks_fit : (h c n : ℕ) → n ≡ 2 ^ (h + c) → FitsRows n (2 ^ c)
+chunks_fit h c n whole = (2 ^ h, inr (h, refl), omega (arith, pow-add 2 h c))
+
+-- the number of chunks
+pub chunks_counted : (h c n : ℕ) → n ≡ 2 ^ (h + c) → clog (n / 2 ^ c) ≡ h
+chunks_counted h c n whole =
+    let chunks : n ≡ 2 ^ c * 2 ^ h = omega (arith, pow-add 2 h c) in
+    clog_power _ h (ap (λ x. x / 2 ^ c) chunks ∙ mul-div_cancel_left (2 ^ h) (pow_pos c))
+
+-- a list that is not empty, by the digits of the number of its rows
+pub record IsDigitsOfRows (len row_width digits : ℕ) : Type 0 where
+  pub wide : 0 < row_width
+  pub whole : len ≡ row_width * 2 ^ digits
+  pub few : len < 2 ^ 64 → digits < 64
+
+pub IsDigitsOfRows-from : (len row_width digits : ℕ) → (len ≡ 0 → ⊥) → FitsRows len row_width → digits ≡ clog (len / row_width)
+    → IsDigitsOfRows len row_width digits
+IsDigitsOfRows-from len row_width digits some fits counted =
+    let rows = IsPowerOfRows-from len row_width some fits in
+    let same : digits ≡ rows.exponent = counted ∙ clog_power (len / row_width) rows.exponent rows.rows in
+    let whole : len ≡ row_width * 2 ^ digits = rows.whole ∙ ap (λ k. row_width * 2 ^ k) (sym same) in
+    let wide = rows.wide in
+    record {
+      wide = wide;
+      whole = whole;
+      few = λ small.
+          let scaled : 2 ^ digits ≤ 2 ^ digits * row_width = le-mul_of_pos_right (2 ^ digits) wide in
+          omega (arith, exponent-lt digits 63 (omega arith));
+    }
+
+-- no rows have no digits
+pub no_digits : (len row_width : ℕ) → len ≡ 0 → clog (len / row_width) ≡ 0
+no_digits len row_width e = clog-zero (len / row_width) (rw e (zero-div row_width))

@@ -35,8 +35,8 @@ IsReversal-from_power k old new e same at =
     at i (omega arith) ∙ ap (λ b. slice_get old (rev b i)) (sym power))
 
 -- the reversal of the reversal is the list
-pub IsRowReversal-inverse : {A : Type 0} (row_width : ℕ) (old new : List A) → IsRowReversal row_width old new → IsRowReversal row_width new old
-IsRowReversal-inverse row_width old new reversal = record {
+pub row_reversed_back : {A : Type 0} (row_width : ℕ) (old new : List A) → IsRowReversal row_width old new → IsRowReversal row_width new old
+row_reversed_back row_width old new reversal = record {
   same_length = sym reversal.same_length;
   places = λ k r j e h inside.
       let length_is : length old ≡ row_width * 2 ^ k = sym reversal.same_length ∙ e in

@@ -6,7 +6,7 @@ use Rattle.std.proofs.Math.Nat.{mul-div_cancel_left}
 use Rattle.std.proofs.lemmas.Bool.{cases_eq}
 use Rattle.p3_util_kernels.specs.Levels.{clog}
 use Rattle.p3_util_kernels.specs.Reversal.{FitsRows, IsReversible, IsZeroOrPowerOfTwo}
-use Rattle.p3_util_kernels.specs.SwapCounts.{short_swaps, long_swaps, square_swaps, reversal_swaps}
+use Rattle.p3_util_kernels.specs.SwapCounts.{short_swaps, long_swaps, square_swaps, reversal_swaps, row_swaps}
 use Rattle.p3_util_kernels.proofs.Lengths.{zero_or_power}
 use Rattle.p3_util_kernels.proofs.Levels.{clog_power, clog-zero}
 use Rattle.p3_util_kernels.proofs.Pairs.{twice-pairs}
@@ -47,20 +47,20 @@ long_swaps-le k =
     (rw whole at (chunk_swaps-le size stride)) (rw whole at (squares_swaps-le stride size (omega arith)))
 
 -- the same of a length that is zero or a power of two
-row_swaps : (row_width rows : ℕ) → IsZeroOrPowerOfTwo rows → row_width * short_swaps (clog rows) ≤ row_width * rows / 2
-row_swaps row_width rows (inl none) = let zero : clog rows ≡ 0 = clog-zero rows none in rw zero (omega arith)
-row_swaps row_width rows (inr (k, is)) = rw (clog_power rows k is, is) (row_swaps-le row_width k)
+pairs_of_rows : (row_width rows : ℕ) → IsZeroOrPowerOfTwo rows → row_width * short_swaps (clog rows) ≤ row_width * rows / 2
+pairs_of_rows row_width rows (inl none) = let zero : clog rows ≡ 0 = clog-zero rows none in rw zero (omega arith)
+pairs_of_rows row_width rows (inr (k, is)) = rw (clog_power rows k is, is) (row_swaps-le row_width k)
 
 pub short_bound : (n : ℕ) → IsReversible n → short_swaps (clog n) ≤ n / 2
-short_bound n fits = omega (arith, row_swaps 1 n (zero_or_power n fits))
+short_bound n fits = omega (arith, pairs_of_rows 1 n (zero_or_power n fits))
 
-pub rows_bound : (n row_width : ℕ) → FitsRows n row_width → row_width * short_swaps (clog (n / row_width)) ≤ n / 2
+pub rows_bound : (n row_width : ℕ) → FitsRows n row_width → row_swaps n row_width ≤ n / 2
 rows_bound n row_width (rows, fits, e) =
     elim (cases_eq row_width 0) [
       | inl none ↦ rw none (omega arith)
       | inr wide ↦
           let same : n / row_width ≡ rows = ap (λ x. x / row_width) e ∙ mul-div_cancel_left rows (omega arith) in
-          rw (same, e) (row_swaps row_width rows fits)
+          rw (same, e) (pairs_of_rows row_width rows fits)
     ]
 
 pub long_bound : (n : ℕ) → IsReversible n → 4 ≤ n → long_swaps (clog n) ≤ 3 * n / 2

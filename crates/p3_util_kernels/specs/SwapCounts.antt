@@ -7,6 +7,10 @@ use Rattle.p3_util_kernels.specs.Levels.{clog}
 abbrev pub short_swaps : ℕ → ℕ
 short_swaps k = (2 ^ k - 2 ^ ((k + 1) / 2)) / 2
 
+-- Rows of `row_width` items that are exchanged as short_swaps says, each item by a swap: of `items` items.
+abbrev pub row_swaps : (items row_width : ℕ) → ℕ
+row_swaps items row_width = row_width * short_swaps (clog (items / row_width))
+
 -- The pairs of places of a square of `side` rows that mirror one another across its diagonal.
 abbrev pub square_swaps : ℕ → ℕ
 square_swaps side = side * (side - 1) / 2

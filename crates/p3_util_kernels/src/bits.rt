@@ -64,7 +64,7 @@ static EXPONENTS_OF_THREE: [u8; 64] = [
 ];
 
 /// The least `e` with `n <= 2^e`, which is 0 for 0 and 1.
-pub fn log2_ceil_usize(n: usize) -> usize
+pub const fn log2_ceil_usize(n: usize) -> usize
     ensures enough { n ≤ 2 ^ result }
     ensures least { (e : ℕ) → n ≤ 2 ^ e → result ≤ e }
     ensures counted { result ≡ clog n }
@@ -77,7 +77,7 @@ pub fn log2_ceil_usize(n: usize) -> usize
 }
 
 /// The greatest `e` with `2^e <= n`, and 0 for 0.
-pub fn log2_floor_usize(n: usize) -> usize
+pub const fn log2_floor_usize(n: usize) -> usize
     ensures zero { n ≡ 0 → result ≡ 0 }
     ensures within { 0 < n → 2 ^ result ≤ n }
     ensures greatest { (e : ℕ) → 2 ^ e ≤ n → e ≤ result }
@@ -86,7 +86,7 @@ pub fn log2_floor_usize(n: usize) -> usize
 }
 
 /// The least `e` with `n <= 2^e`, which is 0 for 0 and 1.
-pub fn log2_ceil_u64(n: u64) -> u64
+pub const fn log2_ceil_u64(n: u64) -> u64
     ensures enough { n ≤ 2 ^ result }
     ensures least { (e : ℕ) → n ≤ 2 ^ e → result ≤ e }
 {
@@ -95,7 +95,7 @@ pub fn log2_ceil_u64(n: u64) -> u64
 
 /// 2 to the power of `exponent`.
 #[inline(always)]
-pub(crate) fn pow2(exponent: usize) -> usize
+pub(crate) const fn pow2(exponent: usize) -> usize
     requires { exponent < 64 }
     ensures { result ≡ 2 ^ exponent }
 {
@@ -103,7 +103,7 @@ pub(crate) fn pow2(exponent: usize) -> usize
 }
 
 /// `2^log_degree`, or `None` where that does not fit a word.
-pub fn checked_pow2(log_degree: usize) -> Option<usize>
+pub const fn checked_pow2(log_degree: usize) -> Option<usize>
     ensures { SomeIff result (log_degree < 64) (2 ^ log_degree) }
 {
     if log_degree < 64 {
@@ -114,16 +114,18 @@ pub fn checked_pow2(log_degree: usize) -> Option<usize>
 }
 
 /// `a + b` and `2^(a + b)`, or `None` where the power does not fit a word.
-pub fn checked_log_size_sum(a: usize, b: usize) -> Option<(usize, usize)>
+pub const fn checked_log_size_sum(a: usize, b: usize) -> Option<(usize, usize)>
     ensures { SomeIff result (a + b < 64) (a + b, 2 ^ (a + b)) }
 {
-    let log_size = a.checked_add(b)?;
-    let size = checked_pow2(log_size)?;
-    Some((log_size, size))
+    if a < 64 && b < 64 - a {
+        Some((a + b, 1 << (a + b)))
+    } else {
+        None
+    }
 }
 
 /// The logarithm to base 2 of a power of two. std's `is_power_of_two` is the test for `n`.
-pub fn log2_strict_usize(n: usize) -> usize
+pub const fn log2_strict_usize(n: usize) -> usize
     requires { HasLog2 n }
     ensures power { n ≡ 2 ^ result }
     ensures counted { result ≡ clog n }
@@ -134,7 +136,7 @@ pub fn log2_strict_usize(n: usize) -> usize
 }
 
 /// The logarithm to base 3 of a power of three. [`is_power_of_three`] is the test for `n`.
-pub fn log3_strict_usize(n: usize) -> usize
+pub const fn log3_strict_usize(n: usize) -> usize
     requires { HasLog3 n }
     ensures power { n ≡ 3 ^ result }
     ensures bound { result < 41 }
@@ -144,14 +146,14 @@ pub fn log3_strict_usize(n: usize) -> usize
 }
 
 /// Whether some `e` has `n = 3^e`.
-pub fn is_power_of_three(n: usize) -> bool
+pub const fn is_power_of_three(n: usize) -> bool
     ensures { IsTrue result ↔ IsPowerOfThree n }
 {
     n != 0 && powers_of_three()[exponent_of_three(n.ilog2() as usize)] == n
 }
 
-// The table of the powers of three: they are all that fit a word, and no two share their highest binary digit.
-fn powers_of_three() -> &'static [usize; 41]
+/// The table of the powers of three: they are all that fit a word, and no two share their highest binary digit.
+const fn powers_of_three() -> &'static [usize; 41]
     ensures powers { (e : ℕ) → e < 41 → slice_index result.now e ≡ 3 ^ e }
     ensures all { (e : ℕ) → 3 ^ e < 2 ^ 64 ↔ e < 41 }
     ensures apart { (d e top : ℕ) → 2 ^ top ≤ 3 ^ d → 3 ^ d < 2 ^ (top + 1)
@@ -160,29 +162,31 @@ fn powers_of_three() -> &'static [usize; 41]
     &POWERS_OF_THREE
 }
 
-// The exponent of the power of three whose highest binary digit is at place `top`, where there is one.
-fn exponent_of_three(top: usize) -> usize
+/// The exponent of the power of three whose highest binary digit is at place `top`, where there is one.
+const fn exponent_of_three(top: usize) -> usize
     requires { top < 64 }
     ensures found { (e : ℕ) → 2 ^ top ≤ 3 ^ e → 3 ^ e < 2 ^ (top + 1) → result ≡ e }
     ensures bound { result < 41 }
 {
-    usize::from(EXPONENTS_OF_THREE[top])
+    EXPONENTS_OF_THREE[top] as usize
 }
 
 /// The array of its own indices: `[0, 1, .., N - 1]`.
-pub fn indices_arr<const N: usize>() -> [usize; N]
+pub const fn indices_arr<const N: usize>() -> [usize; N]
     ensures len { length result ≡ N }
     ensures places { (i : ℕ) → i < N → slice_index result i ≡ i }
 {
     let mut indices = [0; N];
-    for i in 0..N {
+    let mut i = 0;
+    while i < N {
         indices[i] = i;
+        i += 1;
     }
     indices
 }
 
 /// Does nothing. It marks a branch that a program seldom takes.
-pub fn branch_hint() {}
+pub const fn branch_hint() {}
 
 /// Does nothing. A call shows that `T` is `Clone`.
-pub fn assert_clone<T: Clone>() {}
+pub const fn assert_clone<T: Clone>() {}

@@ -25,6 +25,7 @@ pub use slices::{SliceCells, SlicePlaces, SliceSource};
 /// that borrows its items says that b still borrows the same slice, so what changes in the holder changes in that slice; one
 /// that does not count ignores n.
 pub trait Places {
+    /// What is at a place.
     type Item;
 
     ghost items: { Self → List Self.Item };
@@ -80,6 +81,7 @@ pub trait Places {
 /// Contracts see an implementation as the list of its items, and `same_holder n a b` says that b is a after n puts, as in
 /// [`Places`].
 pub trait Cells {
+    /// What is put at a place.
     type Item: Copy;
 
     ghost items: { Self → List Self.Item };
@@ -105,6 +107,7 @@ pub trait Cells {
 ///
 /// Contracts see an implementation as the list of its items.
 pub trait Source {
+    /// What is at a place.
     type Item: Copy;
 
     ghost items: { Self → List Self.Item };

@@ -4,16 +4,17 @@ ghost use Rattle.std.specs.Prelude.{◌≡◌, ℕ, ◌*◌, ◌/◌, ◌^◌, �
 ghost use Rattle.p3_util_kernels.specs.Reversal.{FitsRows, IsReversal, IsReversible, IsRowReversal, IsZeroOrPowerOfTwo};
 ghost use Rattle.p3_util_kernels.specs.Levels.{clog};
 ghost use Rattle.p3_util_kernels.specs.Steps.{counted};
-ghost use Rattle.p3_util_kernels.specs.SwapCounts.{reversal_swaps, short_swaps};
+ghost use Rattle.p3_util_kernels.specs.SwapCounts.{reversal_swaps, row_swaps};
 
 mod long;
 mod rows;
 
-use crate::places::{Places, Swaps};
+use crate::places::{Places, SlicePlaces, Swaps};
 pub use long::reverse_index_bits_long;
 use long::reverse_long;
+use rows::reverse_short;
+pub(crate) use rows::{RowDigits, reverse_rows};
 pub use rows::{reverse_chunks_on, reverse_index_bits_short, reverse_row_index_bits_on};
-use rows::{reverse_rows, reverse_short};
 
 /// The greatest number of items for which the short path is picked.
 const SHORT_PATH_ITEMS: usize = 8192;
@@ -38,7 +39,7 @@ pub fn reverse_slice_index_bits<F>(vals: &mut [F])
     ensures order { IsReversal vals.old vals.new }
     ensures inverse { IsReversal vals.new vals.old }
 {
-    let _ = reverse_index_bits(vals);
+    let _ = reverse_items(vals);
 }
 
 /// Reverses `places` by index bits, as [`reverse_index_bits_on`] does over a fresh counter, and returns the number of
@@ -64,7 +65,7 @@ pub fn reverse_slice_row_index_bits<F>(vals: &mut [F], row_width: usize)
     ensures order { IsRowReversal row_width vals.old vals.new }
     ensures inverse { IsRowReversal row_width vals.new vals.old }
 {
-    let _ = reverse_rows(vals, row_width);
+    let _ = reverse_rows_of_items(vals, row_width);
 }
 
 /// Reverses the rows of `places` by index bits, as [`reverse_row_index_bits_on`] does over a fresh counter, and returns the
@@ -75,11 +76,12 @@ pub fn reverse_rows_counted<S: Places>(places: &mut S, row_width: usize) -> u128
     requires { FitsRows (length (S.items places.old)) row_width }
     ensures order { IsRowReversal row_width (S.items places.old) (S.items places.new) }
     ensures inverse { IsRowReversal row_width (S.items places.new) (S.items places.old) }
-    ensures count { result ≡ row_width * short_swaps (clog (length (S.items places.old) / row_width)) }
+    ensures count { result ≡ row_swaps (length (S.items places.old)) row_width }
     ensures bound { result ≤ length (S.items places.old) / 2 }
     ensures holder { S.same_holder result places.old places.new }
 {
-    reverse_rows(Swaps::new(places), row_width).swaps()
+    let rows = RowDigits::of(places.len(), row_width);
+    reverse_rows(Swaps::new(places), rows).swaps()
 }
 
 /// Reverses `m` by index bits, as [`reverse_slice_index_bits`] does, in at most 3n/2 swaps at length n: by the short path
@@ -95,9 +97,32 @@ pub fn reverse_index_bits_on<S: Places>(m: &mut Swaps<S>)
     m.count = reverse_index_bits(Swaps::resumed(&mut m.holder, m.count)).swaps();
 }
 
+/// The kernel over the slice, which comes back: a caller learns nothing of a slice that is lent to a holder by value.
+#[inline(always)]
+fn reverse_items<F>(vals: &mut [F]) -> &mut [F]
+    requires { IsReversible (length vals.old) }
+    ensures order { IsReversal vals.old result.now }
+    ensures slice { result.ghost_name ≡ vals.entry.ghost_name }
+{
+    let SlicePlaces { items } = reverse_index_bits(SlicePlaces::new(vals));
+    items
+}
+
+/// As [`reverse_items`], for rows.
+#[inline(always)]
+fn reverse_rows_of_items<F>(vals: &mut [F], row_width: usize) -> &mut [F]
+    requires { FitsRows (length vals.old) row_width }
+    ensures order { IsRowReversal row_width vals.old result.now }
+    ensures slice { result.ghost_name ≡ vals.entry.ghost_name }
+{
+    let rows = RowDigits::of(vals.len(), row_width);
+    let SlicePlaces { items } = reverse_rows(SlicePlaces::new(vals), rows);
+    items
+}
+
 /// The kernel of [`reverse_index_bits_on`].
 #[inline(always)]
-fn reverse_index_bits<M: Places>(m: M) -> M
+pub(crate) fn reverse_index_bits<M: Places>(m: M) -> M
     requires { IsReversible (length (M.items m)) }
     ensures order { IsReversal (M.items m) (M.items result) }
     ensures holder { M.same_holder (reversal_swaps (length (M.items m))) m result }

@@ -6,23 +6,20 @@ ghost use Rattle.p3_util_kernels.specs.Steps.{counted};
 ghost use Rattle.p3_util_kernels.specs.Transpose.{IsTranspose};
 
 mod butterfly;
-mod pieces;
 mod regions;
 mod split;
 mod square;
+mod strips;
 
-use crate::places::{Cells, Source, Writes};
+use crate::places::{Cells, SliceCells, SliceSource, Source, Writes};
 pub use butterfly::{butterfly_4x4, butterfly_stage1, butterfly_stage2};
-use pieces::{Strips, TILE_SIDE, put_strips};
-use regions::Matrix;
+pub(crate) use regions::Matrix;
 pub use regions::Region;
 use split::put_split;
 pub use split::{transpose_source_split_on, transpose_split_on};
 pub(crate) use square::transpose_square;
 pub use square::transpose_square_on;
-
-/// The greatest number of items of a matrix whose tiles are put by blocks.
-const SMALL_MATRIX: usize = 1024;
+use strips::{Strips, put_strips};
 
 /// The number of items above which a matrix is split.
 const LARGE_MATRIX: usize = 1_048_576;
@@ -50,7 +47,7 @@ pub fn transpose<T: Copy>(input: &[T], output: &mut [T], width: usize, height: u
     ensures order { IsTranspose width height input.now output.new }
     ensures inverse { IsTranspose height width output.new input.now }
 {
-    let _ = transpose_matrix(output, Matrix::new(input, width, height));
+    let _ = transpose_items(Matrix::new(SliceSource::new(input), width, height), output);
 }
 
 /// Puts the transpose of `input` into `cells`, as [`transpose_on`] does over a fresh counter, and returns the number of
@@ -67,6 +64,20 @@ pub fn transpose_counted<C: Cells>(
     ensures count { result ≡ width * height }
     ensures holder { C.same_holder result cells.old cells.new }
 {
+    transpose_source_counted(&SliceSource::new(input), cells, width, height)
+}
+
+/// Puts the transpose of any source into `cells`, as [`transpose_counted`] does that of a slice.
+pub fn transpose_source_counted<R, C>(input: &R, cells: &mut C, width: usize, height: usize) -> u128
+where
+    C: Cells,
+    R: Source<Item = C::Item>,
+    requires input_fits { length (R.items input.now) ≡ width * height }
+    requires output_fits { length (C.items cells.old) ≡ width * height }
+    ensures order { IsTranspose width height (R.items input.now) (C.items cells.new) }
+    ensures count { result ≡ width * height }
+    ensures holder { C.same_holder result cells.old cells.new }
+{
     let matrix = Matrix::new(input, width, height);
     transpose_matrix(Writes::new(cells), matrix).writes()
 }
@@ -80,9 +91,7 @@ pub fn transpose_on<C: Cells>(input: &[C::Item], out: &mut Writes<C>, width: usi
     ensures count { out.new.count ≡ counted out.old.count (width * height) }
     ensures holder { C.same_holder (width * height) out.old.holder out.new.holder }
 {
-    let matrix = Matrix::new(input, width, height);
-    let counter = Writes::resumed(&mut out.holder, out.count);
-    out.count = transpose_matrix(counter, matrix).writes();
+    transpose_source_on(&SliceSource::new(input), out, width, height);
 }
 
 /// Puts the transpose of any source into `out`, as [`transpose_on`] does that of a slice.
@@ -119,9 +128,9 @@ pub fn transpose_region_on<C: Cells>(
     ensures count { out.new.count ≡ counted out.old.count (items_of region) }
     ensures holder { C.same_holder (items_of region) out.old.holder out.new.holder }
 {
-    let matrix = Matrix::new(input, width, height);
+    let matrix = Matrix::new(SliceSource::new(input), width, height);
     let counter = Writes::resumed(&mut out.holder, out.count);
-    out.count = put_strips(counter, matrix, region, strips_of(matrix)).writes();
+    out.count = put_strips(counter, matrix, region, Strips::of(matrix)).writes();
 }
 
 /// Puts the transpose of `region`, as [`transpose_region_on`] does over a fresh counter, and returns the number of writes.
@@ -139,13 +148,31 @@ pub fn transpose_region_counted<C: Cells>(
     ensures count { result ≡ items_of region }
     ensures holder { C.same_holder result cells.old cells.new }
 {
-    let matrix = Matrix::new(input, width, height);
-    put_strips(Writes::new(cells), matrix, region, strips_of(matrix)).writes()
+    let matrix = Matrix::new(SliceSource::new(input), width, height);
+    put_strips(Writes::new(cells), matrix, region, Strips::of(matrix)).writes()
+}
+
+/// The kernel over the slice, which comes back: a caller learns nothing of a slice that is lent to a holder by value.
+#[inline(always)]
+fn transpose_items<T: Copy, R: Source<Item = T> + Copy>(
+    matrix: Matrix<R>,
+    output: &mut [T],
+) -> &mut [T]
+    requires input_fits { length (R.items matrix.source) ≡ matrix.width * matrix.height }
+    requires output_fits { length output.old ≡ matrix.width * matrix.height }
+    ensures order { IsTranspose matrix.width matrix.height (R.items matrix.source) result.now }
+    ensures slice { result.ghost_name ≡ output.entry.ghost_name }
+{
+    let SliceCells { values } = transpose_matrix(SliceCells::new(output), matrix);
+    values
 }
 
 /// The kernel of [`transpose_source_on`]. The source goes by value here and below, so that its address is not read again at
 /// each item.
-fn transpose_matrix<M: Cells, R: Source<Item = M::Item> + Copy>(out: M, matrix: Matrix<R>) -> M
+pub(crate) fn transpose_matrix<M: Cells, R: Source<Item = M::Item> + Copy>(
+    out: M,
+    matrix: Matrix<R>,
+) -> M
     requires input_fits { length (R.items matrix.source) ≡ matrix.width * matrix.height }
     requires output_fits { length (M.items out) ≡ matrix.width * matrix.height }
     ensures order { IsTranspose matrix.width matrix.height (R.items matrix.source) (M.items result) }
@@ -156,23 +183,9 @@ fn transpose_matrix<M: Cells, R: Source<Item = M::Item> + Copy>(out: M, matrix: 
         let (out, _) = put_split(out, matrix, whole, ENOUGH_LEVELS);
         return out;
     }
-    match strips_of(matrix) {
+    match Strips::of(matrix) {
         // With strips that the compiler knows, the smallest matrices take a third less time.
         Strips::High => put_strips(out, matrix, whole, Strips::High),
         strips => put_strips(out, matrix, whole, strips),
-    }
-}
-
-/// The choice of how a region of `matrix` is put.
-///
-/// Where rows begin a multiple of 16 items apart, many of them meet in one set of a cache, and few of them at a time are
-/// faster, unless the matrix is far higher than wide. The blocks of a small matrix lie in few lines of the cache.
-fn strips_of<R: Source + Copy>(matrix: Matrix<R>) -> Strips {
-    if matrix.width % TILE_SIDE != 0 || matrix.height / TILE_SIDE >= matrix.width {
-        Strips::High
-    } else if matrix.source.len() > SMALL_MATRIX {
-        Strips::Low
-    } else {
-        Strips::Tiles
     }
 }

@@ -1,5 +1,7 @@
 //! What runs print, and runs over readers and writers that fail or go a byte at a time.
 
+mod refused_growth;
+
 use crate::fault::RunFault;
 use crate::program::run;
 use crate::watched::Watched;

@@ -4,7 +4,9 @@ mod refused_growth;
 
 use crate::field::{PRIME, add, mul, pow};
 use crate::matrix::RowMajorMatrix;
-use crate::transform::{fits_transform, inverse_transform_columns, transform_columns};
+use crate::transform::{
+    fits_transform, inverse_transform_columns, transform_and_back, transform_columns,
+};
 use p3_util::reverse::fits_rows;
 use std::alloc::Global;
 use std::process::Abort;
@@ -120,8 +122,8 @@ fn columns(alloc: Global, values: Vec<u32>, width: usize) -> Result<RowMajorMatr
     Ok(matrix.transpose(alloc)?)
 }
 
-/// Each column is transformed by itself, there and back. A transform or a transpose that is out of memory for many rows or
-/// columns, whatever memory there is, meets its contract, and fails here.
+/// Each column is transformed by itself, there and back, by two calls and by one. A call that is out of memory for many rows
+/// or columns, whatever memory there is, meets its contract, and fails here.
 #[test]
 fn columns_alone(rt: HostRuntime) -> Result<(), Fail> {
     for (width, count) in [(1, 16u64), (3, 48), (16, 256), (1, 8192), (4096, 8192)] {
@@ -132,6 +134,9 @@ fn columns_alone(rt: HostRuntime) -> Result<(), Fail> {
         let all = after(&rt, rt.alloc(), &values, width, false)?;
         let back = after(&rt, rt.alloc(), &all, width, true)?;
         assert_eq!(rt; back.as_slice(), values.as_slice());
+        let mut kept = RowMajorMatrix::new(back, width).ok_or("no whole rows")?;
+        assert!(rt; fits_transform(&kept));
+        transform_and_back(rt.alloc(), &mut kept)?;
         let old = columns(rt.alloc(), values, width)?;
         let new = columns(rt.alloc(), all, width)?;
         assert_eq!(rt; new.height(), width);

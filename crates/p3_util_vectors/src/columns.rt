@@ -26,6 +26,7 @@ pub struct Column<'a, T> {
     ghost inside: { shape.column < shape.width },
 }
 
+#[tactic(auto, using(p3_util::proofs::Callers::column_length))]
 impl<'a, T: Copy> Column<'a, T> {
     /// A column of `values`.
     pub fn new(values: &'a [T], shape: ColumnShape) -> Self
@@ -39,6 +40,7 @@ impl<'a, T: Copy> Column<'a, T> {
     }
 }
 
+#[tactic(auto, using(p3_util::proofs::Callers::column_length))]
 impl<'a, T: Copy> Source for Column<'a, T> {
     type Item = T;
 
@@ -62,6 +64,7 @@ pub struct ColumnMut<'a, T> {
     ghost inside: { shape.column < shape.width },
 }
 
+#[tactic(auto, using(p3_util::proofs::Callers::column_length))]
 impl<'a, T> ColumnMut<'a, T> {
     /// A column of `values`.
     pub fn new(values: &'a mut [T], shape: ColumnShape) -> Self
@@ -75,6 +78,7 @@ impl<'a, T> ColumnMut<'a, T> {
     }
 }
 
+#[tactic(auto, using(p3_util::proofs::Callers::column_length))]
 impl<'a, T> Places for ColumnMut<'a, T> {
     type Item = T;
 
@@ -97,7 +101,7 @@ impl<'a, T> Places for ColumnMut<'a, T> {
 }
 
 /// Exchanges the items of rows `i` and `j` of a column of `values`.
-#[tactic(auto, using(p3_util::proofs::Callers::column_inside))]
+#[tactic(auto, using(p3_util::proofs::Callers::column_inside, p3_util::proofs::Callers::column_swapped, p3_util::proofs::Callers::column_others))]
 fn exchange_in_column<T>(values: &mut [T], shape: ColumnShape, i: usize, j: usize)
     requires fits { length values.old ≡ shape.height * shape.width }
     requires inside { shape.column < shape.width }
@@ -114,7 +118,7 @@ fn exchange_in_column<T>(values: &mut [T], shape: ColumnShape, i: usize, j: usiz
 }
 
 /// The item of row `i` of a column of `values`.
-#[tactic(auto, using(p3_util::proofs::Callers::column_inside))]
+#[tactic(auto, using(p3_util::proofs::Callers::column_inside, p3_util::proofs::Callers::column_read))]
 fn item_in_column<T: Copy>(values: &[T], shape: ColumnShape, i: usize) -> T
     requires fits { length values.now ≡ shape.height * shape.width }
     requires inside { shape.column < shape.width }

@@ -27,11 +27,11 @@ impl<'a, T: Copy> Source for FromEnd<'a, T> {
     ghost items = { λ s. reverse s.items.now };
 
     fn len(&self) -> usize {
-        <[T]>::len(self.items)
+        self.items.len()
     }
 
     fn at(&self, i: usize) -> T {
-        self.items[<[T]>::len(self.items) - 1 - i]
+        self.items[self.items.len() - 1 - i]
     }
 }
 
@@ -59,7 +59,7 @@ impl<'a, T> Places for FromEndMut<'a, T> {
     ghost same_holder = { λ n a b. a.items.ghost_name ≡ b.items.ghost_name };
 
     fn len(&self) -> usize {
-        <[T]>::len(self.items)
+        self.items.len()
     }
 
     fn exchange(&mut self, i: usize, j: usize) {
@@ -79,7 +79,7 @@ impl<'a, T: Copy> Cells for FromEndMut<'a, T> {
     ghost same_holder = { λ n a b. a.items.ghost_name ≡ b.items.ghost_name };
 
     fn len(&self) -> usize {
-        <[T]>::len(self.items)
+        self.items.len()
     }
 
     fn put(&mut self, i: usize, v: T) {
@@ -97,7 +97,7 @@ fn put_from_end<T: Copy>(items: &mut [T], i: usize, v: T)
     requires { i < length items.old }
     ensures { reverse items.new ≡ slice_set (reverse items.old) i v }
 {
-    let last = <[T]>::len(items) - 1;
+    let last = items.len() - 1;
     items[last - i] = v;
 }
 
@@ -108,6 +108,6 @@ fn swap_from_end<T>(items: &mut [T], i: usize, j: usize)
     requires second { j < length items.old }
     ensures { reverse items.new ≡ swap (reverse items.old) i j }
 {
-    let last = <[T]>::len(items) - 1;
+    let last = items.len() - 1;
     items.swap(last - i, last - j);
 }

@@ -3,7 +3,7 @@
 ghost use Rattle.std.specs.Prelude.{◌≡◌, ◌+◌, ◌++◌, ◌^◌, ◌<◌, length, slice_set, swap};
 ghost use Rattle.std.proofs.Common.{rules};
 
-use p3_util_kernels::places::{Cells, Places};
+use p3_util::places::{Cells, Places};
 use std::mem;
 
 /// The items of one slice and then those of another. What it holds is in the two when the borrows end.
@@ -34,7 +34,7 @@ impl<'a, F> Places for Joined<'a, F> {
         × (length b.front.now ≡ length a.front.now) × (length b.back.now ≡ length a.back.now) };
 
     fn len(&self) -> usize {
-        <[F]>::len(self.front) + <[F]>::len(self.back)
+        self.front.len() + self.back.len()
     }
 
     fn exchange(&mut self, i: usize, j: usize) {
@@ -55,7 +55,7 @@ impl<'a, T: Copy> Cells for Joined<'a, T> {
         × (length b.front.now ≡ length a.front.now) × (length b.back.now ≡ length a.back.now) };
 
     fn len(&self) -> usize {
-        <[T]>::len(self.front) + <[T]>::len(self.back)
+        self.front.len() + self.back.len()
     }
 
     fn put(&mut self, i: usize, v: T) {
@@ -75,7 +75,7 @@ fn put_in<T: Copy>(front: &mut [T], back: &mut [T], i: usize, v: T)
     ensures back { length back.new ≡ length back.old }
     ensures written { front.new ++ back.new ≡ slice_set (front.old ++ back.old) i v }
 {
-    let n = <[T]>::len(front);
+    let n = front.len();
     if i < n {
         front[i] = v;
     } else {
@@ -92,7 +92,7 @@ fn exchange_in<F>(front: &mut [F], back: &mut [F], i: usize, j: usize)
     ensures back { length back.new ≡ length back.old }
     ensures exchanged { front.new ++ back.new ≡ swap (front.old ++ back.old) i j }
 {
-    let n = <[F]>::len(front);
+    let n = front.len();
     if i < n {
         if j < n {
             front.swap(i, j);

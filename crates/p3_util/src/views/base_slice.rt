@@ -6,7 +6,7 @@ ghost use Rattle.std.specs.Option.{option_copied};
 ghost use Rattle.p3_util.specs.Flat.{IsFlat, flat};
 
 use super::BaseIter;
-use super::rows::each_in_its_row;
+use super::places::each_in_its_row;
 use p3_util_kernels::places::{SliceSource, Source};
 use std::alloc::AllocError;
 use std::fmt;

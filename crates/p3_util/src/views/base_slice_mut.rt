@@ -8,7 +8,8 @@ ghost use Rattle.std.specs.Borrow.{sem};
 ghost use Rattle.std.specs.Option.{option_copied, option_copied_mut};
 
 use super::BaseIter;
-use super::rows::{Rows, each_in_its_row};
+use super::places::each_in_its_row;
+use super::rows::Rows;
 use p3_util_kernels::places::{Cells, Places};
 use std::ops::Index;
 
@@ -48,21 +49,21 @@ impl<S: Rows> Flattened<S> {
     pub fn len(&self) -> usize
         ensures { result ≡ length (S.items self.now.rows) }
     {
-        self.rows.items_of().len()
+        self.rows.row_items().len()
     }
 
     /// Whether there is no item.
     pub fn is_empty(&self) -> bool
         ensures { result ≡ (length (S.items self.now.rows) == 0) }
     {
-        self.rows.items_of().is_empty()
+        self.rows.row_items().is_empty()
     }
 
     /// Item `i`, or `None` where there are no more than `i` items.
     pub fn get(&self, i: usize) -> Option<&S::Item>
         ensures { option_copied result ≡ slice_get (S.items self.now.rows) i }
     {
-        self.rows.items_of().get(i)
+        self.rows.row_items().get(i)
     }
 
     /// Item `i`, to be written, or `None` where there are no more than `i` items.
@@ -82,7 +83,7 @@ impl<S: Rows> Flattened<S> {
         ensures rest { result ≡ S.items self.now.rows }
         ensures runs { ShowsInOrder (deref {X = S.Item}) }
     {
-        BaseIter::new(self.rows.items_of())
+        BaseIter::new(self.rows.row_items())
     }
 }
 

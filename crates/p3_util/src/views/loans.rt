@@ -9,7 +9,7 @@ ghost use Rattle.std.specs.Option.{option_copied_mut};
 ghost use Rattle.p3_util.specs.Flat.{countable_items};
 ghost use Rattle.p3_util.specs.RowLends.{lends_item_of_row, lends_item_of_rows, lends_place, lends_row};
 
-use super::rows::{countable, place_of};
+use super::places::{countable, place_of};
 
 /// Item `i` of all rows, to be written, or `None` where there are no more than `i`.
 pub(super) fn item_of_rows<T, const N: usize>(rows: &mut [[T; N]], i: usize) -> Option<&mut T>
@@ -35,6 +35,7 @@ fn item_at<T, const N: usize>(rows: &mut [[T; N]], r: usize, c: usize) -> &mut T
     item_of_row(row_of(rows, r), c)
 }
 
+/// Row `r`, to be written.
 fn row_of<R>(rows: &mut [R], r: usize) -> &mut R
     requires { r < length rows.old }
     ensures* writes_back { sem 𝓛 (lends_row R.row rows.entry r result) }
@@ -43,6 +44,7 @@ fn row_of<R>(rows: &mut [R], r: usize) -> &mut R
     &mut rows[r]
 }
 
+/// Item `c` of a row, to be written.
 fn item_of_row<T, const N: usize>(row: &mut [T; N], c: usize) -> &mut T
     requires { c < N }
     ensures* writes_back { sem 𝓛 (lends_item_of_row T.row N row.entry c result) }

@@ -1,12 +1,13 @@
 //! Arrays as rows of one list of items.
 
-ghost use Rattle.std.specs.Prelude.{◌≡◌, ℕ, ◌+◌, ◌*◌, ◌/◌, ◌%◌, ◌^◌, ◌<◌, List, IsTrue, Some, length, slice_get, slice_set, swap, take};
+ghost use Rattle.std.specs.Prelude.{◌≡◌, ℕ, ◌+◌, ◌*◌, ◌^◌, ◌<◌, List, Some, length, slice_get, slice_set, swap, take};
 ghost use Rattle.std.proofs.Common.{refl, ◌∙◌};
 ghost use Rattle.std.specs.Borrow.{sem};
 ghost use Rattle.std.specs.Option.{option_copied_mut};
-ghost use Rattle.p3_util.specs.Flat.{IsFlat, countable_items, flat};
+ghost use Rattle.p3_util.specs.Flat.{countable_items, flat};
 
 use super::loans::item_of_rows;
+use super::places::{countable, place_of, width_of};
 use std::mem;
 
 /// A reference to rows of as many items as each other, to be exchanged or written.
@@ -24,7 +25,7 @@ pub trait Rows {
     ghost same_rows: { Self → Self → Type 0 };
 
     /// The items of all rows, row after row.
-    fn items_of(&self) -> &[Self::Item]
+    fn row_items(&self) -> &[Self::Item]
         ensures { result.now ≡ items self.now };
 
     /// Item `i` of all rows, to be written, or `None` where there are no more than `i`.
@@ -66,7 +67,7 @@ impl<'a, T, const N: usize> Rows for &'a mut [[T; N]] {
 
     ghost same_rows = { λ a b. (a.ghost_name ≡ b.ghost_name) × (length (flat a.now) ≡ length (flat b.now)) };
 
-    fn items_of(&self) -> &[T] {
+    fn row_items(&self) -> &[T] {
         countable(self)
     }
 
@@ -97,60 +98,7 @@ impl<'a, T, const N: usize> Rows for &'a mut [[T; N]] {
     ghost same_rows_trans = { λ a b c p q. (p.0 ∙ q.0, p.1 ∙ q.1) };
 }
 
-/// The items of all rows, or none where a `usize` cannot count them.
-pub(super) fn countable<T, const N: usize>(rows: &[[T; N]]) -> &[T]
-    ensures items { result.now ≡ countable_items rows.now }
-    ensures fits { 0 < length result.now → length rows.now * N < 2 ^ 64 }
-    ensures len { 0 < length result.now → length result.now ≡ length rows.now * N }
-{
-    let most = usize::MAX / N.max(1);
-    if rows.len() <= most {
-        return rows.as_flattened();
-    }
-    // So many rows have as many items as fit, and there is one row more.
-    prove!(rows[..most].as_flattened().len() == most * N);
-    prove!(width_of(&rows[most]) == N);
-    rows[..0].as_flattened()
-}
-
-/// The number of items of a row.
-#[inline(always)]
-fn width_of<T, const N: usize>(row: &[T; N]) -> usize
-    ensures width { result ≡ N }
-    ensures row { length row.now ≡ N }
-{
-    row.len()
-}
-
-/// Whether item `i` of all rows is item `i % N` of row `i / N`, as it always is. For a `prove!` alone: its loop does nothing,
-/// and the compiler removes it.
-#[inline(always)]
-pub(super) fn each_in_its_row<T, const N: usize>(rows: &[[T; N]]) -> bool
-    ensures yes { IsTrue result }
-    ensures places { IsFlat N rows.now (flat rows.now) }
-{
-    for r in 0..rows.len() {
-        let _ = width_of(&rows[r]);
-    }
-    true
-}
-
-/// The row in which item `i` of all rows is, and its place in that row.
-#[inline(always)]
-pub(super) fn place_of<T, const N: usize>(rows: &[[T; N]], i: usize) -> (usize, usize)
-    requires { i < length (countable_items rows.now) }
-    ensures row { result.0 < length rows.now }
-    ensures place { result.1 < N }
-    ensures before { length (flat (take result.0 rows.now)) ≡ result.0 * N }
-    ensures item { i ≡ result.0 * N + result.1 }
-    ensures is { result ≡ (i / N, i % N) }
-{
-    prove!(i < countable(rows).len());
-    let (row, place) = (i / N, i % N);
-    prove!(rows[..row].as_flattened().len() <= i);
-    (row, place)
-}
-
+/// Exchanges items `i` and `j` of all rows.
 #[inline(always)]
 fn exchange_items<T, const N: usize>(rows: &mut [[T; N]], i: usize, j: usize)
     requires first { i < length (countable_items rows.old) }
@@ -186,6 +134,7 @@ fn exchange_ordered_items<T, const N: usize>(rows: &mut [[T; N]], i: usize, j: u
     }
 }
 
+/// Puts `v` in the place of item `i` of all rows.
 #[inline(always)]
 fn put_item<T: Drop, const N: usize>(rows: &mut [[T; N]], i: usize, v: T)
     requires { i < length (countable_items rows.old) }
@@ -196,6 +145,7 @@ fn put_item<T: Drop, const N: usize>(rows: &mut [[T; N]], i: usize, v: T)
     rows[r][c] = v;
 }
 
+/// Exchanges item `c` of row `r` and item `d` of row `s`, which is a later row.
 #[inline(always)]
 fn exchange_in_two_rows<T, const N: usize>(
     rows: &mut [[T; N]],

@@ -28,7 +28,7 @@ static REVERSED_BYTES: [u8; 256] = [
 
 /// Reverses as many low digits of `x` as `n`, a power of two, has below its set digit: `reverse_bits_len(x, log2 n)`.
 /// std's `is_power_of_two` is the test for `n`.
-pub fn reverse_bits(x: usize, n: usize) -> usize
+pub const fn reverse_bits(x: usize, n: usize) -> usize
     requires { HasLog2 n }
     ensures { (k : ℕ) → n ≡ 2 ^ k → result ≡ rev_word k x }
 {
@@ -37,7 +37,7 @@ pub fn reverse_bits(x: usize, n: usize) -> usize
 
 /// Reverses the `bit_len` low binary digits of `x` and drops the others. For a `bit_len` of 0 it reverses the whole word
 /// of 64 digits.
-pub fn reverse_bits_len(x: usize, bit_len: usize) -> usize
+pub const fn reverse_bits_len(x: usize, bit_len: usize) -> usize
     requires { bit_len ≤ 64 }
     ensures reversed { result ≡ rev_word bit_len x }
     ensures digits { 1 ≤ bit_len → result ≡ rev bit_len x }
@@ -53,26 +53,25 @@ pub fn reverse_bits_len(x: usize, bit_len: usize) -> usize
     }
 }
 
-fn reverse_u64(x: u64) -> u64
+const fn reverse_u64(x: u64) -> u64
     ensures { result ≡ rev 64 x }
 {
-    (u64::from(reverse_u32((x & 0xffff_ffff) as u32)) << 32)
-        | u64::from(reverse_u32((x >> 32) as u32))
+    ((reverse_u32((x & 0xffff_ffff) as u32) as u64) << 32) | (reverse_u32((x >> 32) as u32) as u64)
 }
 
-fn reverse_u32(x: u32) -> u32
+const fn reverse_u32(x: u32) -> u32
     ensures { result ≡ rev 32 x }
 {
-    (u32::from(reverse_u16((x & 0xffff) as u16)) << 16) | u32::from(reverse_u16((x >> 16) as u16))
+    ((reverse_u16((x & 0xffff) as u16) as u32) << 16) | reverse_u16((x >> 16) as u16) as u32
 }
 
-fn reverse_u16(x: u16) -> u16
+const fn reverse_u16(x: u16) -> u16
     ensures { result ≡ rev 16 x }
 {
-    (u16::from(reverse_u8((x & 0xff) as u8)) << 8) | u16::from(reverse_u8((x >> 8) as u8))
+    ((reverse_u8((x & 0xff) as u8) as u16) << 8) | reverse_u8((x >> 8) as u8) as u16
 }
 
-fn reverse_u8(x: u8) -> u8
+const fn reverse_u8(x: u8) -> u8
     ensures { result ≡ rev 8 x }
 {
     REVERSED_BYTES[x as usize]

@@ -29,7 +29,7 @@ pub fn pretty_name(alloc: Global, name: &str) -> Result<String, AllocError>
     Ok(short)
 }
 
-// The place of the first `<`, `>` or `,`.
+/// The place of the first `<`, `>` or `,`.
 fn first_mark(name: &str) -> Option<usize>
     ensures place { result ≡ position is_mark name.now }
     ensures fits { IfSome result (λ i. i + 1 < 2 ^ 64) }
@@ -38,7 +38,7 @@ fn first_mark(name: &str) -> Option<usize>
         .position(|b| b == b'<' || b == b'>' || b == b',')
 }
 
-// What follows the last `::`, or all of the text.
+/// What follows the last `::`, or all of the text.
 fn last_part(text: &str) -> &str
     ensures { result.now ≡ last_part text.now }
 {

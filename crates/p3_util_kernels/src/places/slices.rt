@@ -9,6 +9,7 @@ use crate::places::{Cells, Places, Source};
 /// The items of a mutable slice. What it holds is in the slice when the borrow ends.
 #[derive(Drop)]
 pub struct SlicePlaces<'a, F> {
+    /// The slice.
     pub items: &'a mut [F],
 }
 
@@ -29,7 +30,7 @@ impl<'a, F> Places for SlicePlaces<'a, F> {
     ghost same_holder = { λ n a b. a.items.ghost_name ≡ b.items.ghost_name };
 
     fn len(&self) -> usize {
-        <[F]>::len(self.items)
+        self.items.len()
     }
 
     #[inline(always)]
@@ -45,39 +46,6 @@ impl<'a, F> Places for SlicePlaces<'a, F> {
     #[inline(always)]
     fn exchange_runs(&mut self, i: usize, j: usize, len: usize) {
         swap_runs(self.items, i, j, len);
-    }
-
-    ghost same_holder_refl = { Prim.search rules };
-
-    ghost same_holder_trans = { Prim.search rules };
-}
-
-/// A slice behind a reference. It goes by value through a kernel, so that its address stays in registers. What it holds is
-/// in the slice when the borrow ends.
-impl<F> Places for &mut [F] {
-    type Item = F;
-
-    ghost items = { λ s. s.now };
-
-    ghost same_holder = { λ n a b. a.ghost_name ≡ b.ghost_name };
-
-    fn len(&self) -> usize {
-        <[F]>::len(self)
-    }
-
-    #[inline(always)]
-    fn exchange(&mut self, i: usize, j: usize) {
-        self.swap(i, j);
-    }
-
-    #[inline(always)]
-    fn exchange_ordered(&mut self, i: usize, j: usize) {
-        swap_ordered(self, i, j);
-    }
-
-    #[inline(always)]
-    fn exchange_runs(&mut self, i: usize, j: usize, len: usize) {
-        swap_runs(self, i, j, len);
     }
 
     ghost same_holder_refl = { Prim.search rules };
@@ -112,6 +80,7 @@ fn swap_runs<F>(items: &mut [F], i: usize, j: usize, len: usize)
 /// The places of a mutable slice. What it holds is in the slice when the borrow ends.
 #[derive(Drop)]
 pub struct SliceCells<'a, T> {
+    /// The slice.
     pub values: &'a mut [T],
 }
 
@@ -132,7 +101,7 @@ impl<'a, T: Copy> Cells for SliceCells<'a, T> {
     ghost same_holder = { λ n a b. a.values.ghost_name ≡ b.values.ghost_name };
 
     fn len(&self) -> usize {
-        <[T]>::len(self.values)
+        self.values.len()
     }
 
     #[inline(always)]
@@ -145,31 +114,10 @@ impl<'a, T: Copy> Cells for SliceCells<'a, T> {
     ghost same_holder_trans = { Prim.search rules };
 }
 
-/// A slice behind a reference, as it is for places.
-impl<T: Copy> Cells for &mut [T] {
-    type Item = T;
-
-    ghost items = { λ s. s.now };
-
-    ghost same_holder = { λ n a b. a.ghost_name ≡ b.ghost_name };
-
-    fn len(&self) -> usize {
-        <[T]>::len(self)
-    }
-
-    #[inline(always)]
-    fn put(&mut self, i: usize, v: T) {
-        self[i] = v;
-    }
-
-    ghost same_holder_refl = { Prim.search rules };
-
-    ghost same_holder_trans = { Prim.search rules };
-}
-
 /// The items of a slice, to be read.
 #[derive(Clone, Copy)]
 pub struct SliceSource<'a, T> {
+    /// The slice.
     pub slice: &'a [T],
 }
 
@@ -188,27 +136,11 @@ impl<'a, T: Copy> Source for SliceSource<'a, T> {
     ghost items = { λ s. s.slice.now };
 
     fn len(&self) -> usize {
-        <[T]>::len(self.slice)
+        self.slice.len()
     }
 
     #[inline(always)]
     fn at(&self, i: usize) -> T {
         self.slice[i]
-    }
-}
-
-/// A slice behind a reference, as it is for places.
-impl<T: Copy> Source for &[T] {
-    type Item = T;
-
-    ghost items = { λ s. s.now };
-
-    fn len(&self) -> usize {
-        <[T]>::len(self)
-    }
-
-    #[inline(always)]
-    fn at(&self, i: usize) -> T {
-        self[i]
     }
 }

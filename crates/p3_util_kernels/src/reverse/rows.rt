@@ -19,7 +19,7 @@ ghost use Rattle.p3_util_kernels.specs.Exchanged.{RunsExchanged};
 ghost use Rattle.p3_util_kernels.specs.Levels.{clog};
 ghost use Rattle.p3_util_kernels.specs.Reversal.{FitsRows, IsReversal, IsReversible, IsRowReversal};
 ghost use Rattle.p3_util_kernels.specs.Steps.{counted};
-ghost use Rattle.p3_util_kernels.specs.SwapCounts.{short_swaps};
+ghost use Rattle.p3_util_kernels.specs.SwapCounts.{row_swaps, short_swaps};
 
 use crate::bits::{log2_strict_usize, pow2, reverse_bits_len};
 use crate::places::{Places, Swaps};
@@ -31,11 +31,27 @@ static REVERSED_SIX: [u8; 64] = [
     19, 51, 11, 43, 27, 59, 7, 39, 23, 55, 15, 47, 31, 63,
 ];
 
-/// Rows of `width` items, whose indices have `digits` binary digits.
+/// Rows of `width` items, whose indices have `digits` binary digits: there are `2^digits` of them, or none.
 #[derive(Clone, Copy)]
-struct Rows {
+pub(crate) struct RowDigits {
     width: usize,
     digits: usize,
+}
+
+impl RowDigits {
+    /// The rows of `width` items of a list of `len` items.
+    #[inline(always)]
+    pub(crate) fn of(len: usize, width: usize) -> Self
+        requires { FitsRows len width }
+        ensures width { result.width ≡ width }
+        ensures digits { result.digits ≡ clog (len / width) }
+    {
+        if len == 0 {
+            return RowDigits { width, digits: 0 };
+        }
+        let digits = log2_strict_usize(len / width);
+        RowDigits { width, digits }
+    }
 }
 
 /// Reverses the rows of `m`, of `row_width` items each, by index bits: with 2^k rows, row `r` becomes the row whose index
@@ -46,12 +62,12 @@ struct Rows {
 pub fn reverse_row_index_bits_on<S: Places>(m: &mut Swaps<S>, row_width: usize)
     requires { FitsRows (length (S.items m.old.holder)) row_width }
     ensures order { IsRowReversal row_width (S.items m.old.holder) (S.items m.new.holder) }
-    ensures count { m.new.count ≡ counted m.old.count (row_width * short_swaps (clog (length (S.items m.old.holder) / row_width))) }
-    ensures bound { let n = length (S.items m.old.holder) in row_width * short_swaps (clog (n / row_width)) ≤ n / 2 }
-    ensures holder { S.same_holder (row_width * short_swaps (clog (length (S.items m.old.holder) / row_width)))
-        m.old.holder m.new.holder }
+    ensures count { m.new.count ≡ counted m.old.count (row_swaps (length (S.items m.old.holder)) row_width) }
+    ensures bound { let n = length (S.items m.old.holder) in row_swaps n row_width ≤ n / 2 }
+    ensures holder { S.same_holder (row_swaps (length (S.items m.old.holder)) row_width) m.old.holder m.new.holder }
 {
-    m.count = reverse_rows(Swaps::resumed(&mut m.holder, m.count), row_width).swaps();
+    let rows = RowDigits::of(m.len(), row_width);
+    m.count = reverse_rows(Swaps::resumed(&mut m.holder, m.count), rows).swaps();
 }
 
 /// Reverses `m` by index bits, as [`reverse_slice_index_bits`] does, by one exchange of each two places that belong to
@@ -91,33 +107,8 @@ pub(crate) fn reverse_short<M: Places>(m: M) -> M
     ensures order { IsReversal (M.items m) (M.items result) }
     ensures holder { M.same_holder (short_swaps (clog (length (M.items m)))) m result }
 {
-    reverse_rows(m, 1)
-}
-
-/// The kernel of [`reverse_row_index_bits_on`].
-#[inline(always)]
-pub(crate) fn reverse_rows<M: Places>(m: M, row_width: usize) -> M
-    requires { FitsRows (length (M.items m)) row_width }
-    ensures order { IsRowReversal row_width (M.items m) (M.items result) }
-    ensures holder { M.same_holder (row_width * short_swaps (clog (length (M.items m) / row_width))) m result }
-{
-    let len = m.len();
-    if len == 0 {
-        return m;
-    }
-    // With a number that the compiler knows, the pairs of few rows are exchanged one after the other.
-    let digits = log2_strict_usize(len / row_width);
-    let rows = Rows {
-        width: row_width,
-        digits,
-    };
-    match digits {
-        0 | 1 => m,
-        2 => exchange_pairs(m, Rows { digits: 2, ..rows }),
-        3 => exchange_pairs(m, Rows { digits: 3, ..rows }),
-        4 => exchange_pairs(m, Rows { digits: 4, ..rows }),
-        _ => exchange_pairs(m, rows),
-    }
+    let rows = RowDigits::of(m.len(), 1);
+    reverse_rows(m, rows)
 }
 
 /// The kernel of [`reverse_chunks_on`].
@@ -128,12 +119,36 @@ pub(crate) fn reverse_chunks<M: Places>(m: M, log_chunks: usize, log_size: usize
     ensures order { IsRowReversal (2 ^ log_size) (M.items m) (M.items result) }
     ensures holder { M.same_holder (short_swaps log_chunks * 2 ^ log_size) m result }
 {
-    reverse_rows(m, pow2(log_size))
+    let width = pow2(log_size);
+    let rows = RowDigits {
+        width,
+        digits: log_chunks,
+    };
+    reverse_rows(m, rows)
+}
+
+/// The kernel of [`reverse_row_index_bits_on`].
+#[inline(always)]
+pub(crate) fn reverse_rows<M: Places>(m: M, rows: RowDigits) -> M
+    requires fits { FitsRows (length (M.items m)) rows.width }
+    requires digits { rows.digits ≡ clog (length (M.items m) / rows.width) }
+    requires len_fits { length (M.items m) < 2 ^ 64 }
+    ensures order { IsRowReversal rows.width (M.items m) (M.items result) }
+    ensures holder { M.same_holder (row_swaps (length (M.items m)) rows.width) m result }
+{
+    // With a number that the compiler knows, the pairs of few rows are exchanged one after the other.
+    match rows.digits {
+        0 | 1 => m,
+        2 => exchange_pairs(m, RowDigits { digits: 2, ..rows }),
+        3 => exchange_pairs(m, RowDigits { digits: 3, ..rows }),
+        4 => exchange_pairs(m, RowDigits { digits: 4, ..rows }),
+        _ => exchange_pairs(m, rows),
+    }
 }
 
 /// Exchanges all pairs of rows.
 #[inline(always)]
-fn exchange_pairs<M: Places>(m: M, rows: Rows) -> M
+fn exchange_pairs<M: Places>(m: M, rows: RowDigits) -> M
     requires several { 2 ≤ rows.digits }
     requires ready { HoldsRows rows.width rows.digits (M.items m) }
     ensures order { IsRowReversal rows.width (M.items m) (M.items result) }
@@ -152,7 +167,7 @@ fn exchange_pairs<M: Places>(m: M, rows: Rows) -> M
 
 /// Exchanges the pairs of rows of one middle digit and of `y` and `y + 1`, with each `x` below them.
 #[inline(always)]
-fn exchange_lines<M: Places>(m: M, rows: Rows, middle: usize, y: usize) -> M
+fn exchange_lines<M: Places>(m: M, rows: RowDigits, middle: usize, y: usize) -> M
     requires middle { middle < 2 ^ (rows.digits % 2) }
     requires even { y % 2 ≡ 0 }
     requires y { y + 1 < 2 ^ (rows.digits / 2) }
@@ -172,7 +187,7 @@ fn exchange_lines<M: Places>(m: M, rows: Rows, middle: usize, y: usize) -> M
 
 /// Exchanges the row of `x` and `y` with the row of `y` and `x`.
 #[inline(always)]
-fn exchange_pair<M: Places>(m: M, rows: Rows, middle: usize, x: usize, y: usize) -> M
+fn exchange_pair<M: Places>(m: M, rows: RowDigits, middle: usize, x: usize, y: usize) -> M
     requires middle { middle < 2 ^ (rows.digits % 2) }
     requires less { x < y }
     requires y { y < 2 ^ (rows.digits / 2) }
@@ -228,7 +243,7 @@ fn reverse_digits(x: usize, digits: usize) -> usize
     ensures { result ≡ rev digits x }
 {
     if digits <= 6 {
-        usize::from(REVERSED_SIX[x * (64 >> digits)])
+        usize::from(REVERSED_SIX[x * (64 >> digits) % 64])
     } else {
         reverse_bits_len(x, digits)
     }

@@ -43,9 +43,13 @@ impl<R> Matrix<R> {
 /// The rows from `row_start` to below `row_end` of a matrix, and of these the columns from `col_start` to below `col_end`.
 #[derive(Clone, Copy, Debug, PartialEq, Eq)]
 pub struct Region {
+    /// The first row.
     pub row_start: usize,
+    /// The row after the last one.
     pub row_end: usize,
+    /// The first column.
     pub col_start: usize,
+    /// The column after the last one.
     pub col_end: usize,
 }
 
@@ -94,7 +98,7 @@ impl Region {
 
     /// The same region, of which the compiler learns the numbers of rows and columns where it knows `rows` and `cols`.
     #[inline(always)]
-    pub(crate) fn sized(self, rows: usize, cols: usize) -> Region
+    pub(crate) fn with_known_sides(self, rows: usize, cols: usize) -> Region
         requires rows_in_order { self.row_start ≤ self.row_end }
         requires cols_in_order { self.col_start ≤ self.col_end }
         requires rows { rows ≡ rows_of self }

@@ -7,9 +7,9 @@ ghost use Rattle.p3_util_kernels.specs.Levels.{lev, nest};
 ghost use Rattle.p3_util_kernels.specs.Region.{IsReady, IsRegionTransposed, LiesInMatrix, cols_of, items_of, rows_of};
 ghost use Rattle.p3_util_kernels.specs.Steps.{counted};
 
-use crate::places::{Cells, Source, Writes};
-use crate::transpose::pieces::{Strips, put_strips};
+use crate::places::{Cells, SliceSource, Source, Writes};
 use crate::transpose::regions::{Matrix, Region};
+use crate::transpose::strips::{Strips, put_strips};
 
 /// The greatest side of a part that is not halved where its other side is no longer.
 const LEAF_SIDE: usize = 128;
@@ -41,10 +41,7 @@ pub fn transpose_split_on<C: Cells>(
     ensures bound { result ≤ 57 }
     ensures holder { C.same_holder (items_of region) out.old.holder out.new.holder }
 {
-    let matrix = Matrix::new(input, width, height);
-    let (_, count, nested) = put_split_counted(&mut out.holder, out.count, matrix, region, levels);
-    out.count = count;
-    nested
+    transpose_source_split_on(&SliceSource::new(input), out, region, width, height, levels)
 }
 
 /// Puts the transpose of a region of any source into `out`, as [`transpose_split_on`] does that of a slice.

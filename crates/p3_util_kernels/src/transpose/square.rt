@@ -103,7 +103,7 @@ fn swap_region<M: Places>(m: M, square: Square, region: Region) -> M
     let (rows, cols) = (region.rows(), region.cols());
     if rows <= LEAF_ROWS && cols == LEAF_COLS {
         // The compiler knows how many columns most leaves have.
-        swap_leaf(m, square, region.sized(rows, LEAF_COLS))
+        swap_leaf(m, square, region.with_known_sides(rows, LEAF_COLS))
     } else if rows <= LEAF_ROWS && cols < LEAF_COLS {
         swap_leaf(m, square, region)
     } else if rows / 2 > cols {

@@ -8,7 +8,7 @@ ghost use Rattle.p3_util.specs.Region.{IsRegionTransposed, LiesInMatrix, items_o
 ghost use Rattle.p3_util.specs.Reversal.{FitsRows, IsReversal, IsReversible};
 ghost use Rattle.p3_util.specs.Squares.{AreTransposed};
 ghost use Rattle.p3_util.specs.Steps.{counted};
-ghost use Rattle.p3_util.specs.SwapCounts.{long_swaps, reversal_swaps, short_swaps, square_swaps};
+ghost use Rattle.p3_util.specs.SwapCounts.{long_swaps, reversal_swaps, row_swaps, short_swaps, square_swaps};
 ghost use Rattle.p3_util.specs.Transpose.{IsTranspose};
 
 use crate::callers::transpose::transpose_whole_square;
@@ -69,7 +69,7 @@ pub fn reverse_items_and_rows_on<S: Places>(m: &mut Swaps<S>, row_width: usize)
     requires items { IsReversible (length (S.items m.old.holder)) }
     requires rows { FitsRows (length (S.items m.old.holder)) row_width }
     ensures { let n = length (S.items m.old.holder) in
-        m.new.count ≡ counted m.old.count (reversal_swaps n + row_width * short_swaps (clog (n / row_width))) }
+        m.new.count ≡ counted m.old.count (reversal_swaps n + row_swaps n row_width) }
 {
     reverse_index_bits_on(m);
     reverse_row_index_bits_on(m, row_width);
@@ -80,7 +80,7 @@ pub fn reverse_items_and_rows<S: Places>(places: &mut S, row_width: usize) -> u1
     requires items { IsReversible (length (S.items places.old)) }
     requires rows { FitsRows (length (S.items places.old)) row_width }
     ensures count { let n = length (S.items places.old) in
-        result ≡ reversal_swaps n + row_width * short_swaps (clog (n / row_width)) }
+        result ≡ reversal_swaps n + row_swaps n row_width }
     ensures holder { S.same_holder result places.old places.new }
 {
     // Its contract says that the length is a usize, so that the sum fits.

@@ -18,7 +18,7 @@ pub fn reverse_where_it_fits<F>(vals: &mut [F]) -> bool
     ensures left { IsFalse result → vals.new ≡ vals.old }
     ensures fits { IsTrue result ↔ IsZeroOrPowerOfTwo (length vals.old) }
 {
-    let fits = fits_rows(<[F]>::len(vals), 1);
+    let fits = fits_rows(vals.len(), 1);
     if fits {
         reverse_slice_index_bits(vals);
     }
@@ -30,7 +30,7 @@ pub fn reverse_power_of_two<F>(vals: &mut [F])
     ensures done { IsTrue (is_power_of_two (length vals.old)) → IsReversal vals.old vals.new }
     ensures left { IsFalse (is_power_of_two (length vals.old)) → vals.new ≡ vals.old }
 {
-    if <[F]>::len(vals).is_power_of_two() {
+    if vals.len().is_power_of_two() {
         reverse_slice_index_bits(vals);
     }
 }

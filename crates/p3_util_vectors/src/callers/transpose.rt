@@ -26,7 +26,7 @@ pub fn transpose_by_way_of<T: Copy>(
     ensures left { IsFalse result → matrix.new ≡ matrix.old }
     ensures fits { IsTrue result ↔ ((length matrix.old ≡ width * height) × (length scratch.old ≡ width * height)) }
 {
-    if !fits_matrix(<[T]>::len(matrix), <[T]>::len(scratch), width, height) {
+    if !fits_matrix(matrix.len(), scratch.len(), width, height) {
         return false;
     }
     transpose(matrix, scratch, width, height);

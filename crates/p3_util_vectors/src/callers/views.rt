@@ -1,6 +1,6 @@
 //! Callers of the views over rows of any length, and of written lengths: the kernels, and single items.
 
-ghost use Rattle.std.specs.Prelude.{◌≡◌, ◌+◌, ◌*◌, ◌^◌, ◌<◌, ◌↔◌, IsTrue, IsFalse, Some, length, slice_get, slice_set, swap};
+ghost use Rattle.std.specs.Prelude.{◌≡◌, ◌+◌, ◌*◌, ◌^◌, ◌<◌, ◌↔◌, IsTrue, IsFalse, Some, length, slice_get, slice_set, swap, vec_len};
 ghost use Rattle.std.specs.Int.{is_power_of_two};
 ghost use Rattle.p3_util.specs.Flat.{flat};
 ghost use Rattle.p3_util_kernels.specs.Reversal.{FitsRows, IsReversal, IsReversible, IsRowReversal, IsZeroOrPowerOfTwo};
@@ -14,7 +14,9 @@ use p3_util_kernels::places::{Cells, Places, Writes};
 use p3_util_kernels::reverse::{
     fits_rows, reverse_counted, reverse_rows_counted, reverse_slice_index_bits,
 };
-use p3_util_kernels::transpose::{fits_matrix, transpose_counted, transpose_source_on};
+use p3_util_kernels::transpose::{
+    fits_matrix, transpose_counted, transpose_source_counted, transpose_source_on,
+};
 
 /// Reverses the items of `rows`, taken as one list, by their index bits: what a kernel leaves in a view is in the rows.
 pub fn reverse_items<T, const N: usize>(rows: &mut [[T; N]])
@@ -34,7 +36,7 @@ pub fn reverse_items_where_they_fit<T, const N: usize>(rows: &mut [[T; N]]) -> b
     ensures fits { length rows.old * N < 2 ^ 64
         → (IsTrue result ↔ IsZeroOrPowerOfTwo (length rows.old * N)) }
 {
-    if flat_len(<[_]>::len(rows), N).is_none() {
+    if flat_len(rows.len(), N).is_none() {
         return false;
     }
     let mut view = as_base_slice_mut(rows);
@@ -88,7 +90,7 @@ pub fn transpose_to_items<T: Copy, const N: usize>(
     ensures left { IsFalse result → flat rows.new ≡ flat rows.old }
 {
     let mut view = as_base_slice_mut(rows);
-    let fits = fits_matrix(input.len(), Cells::len(&view), width, height);
+    let fits = fits_matrix(input.len(), view.len(), width, height);
     if fits {
         transpose_counted(input, &mut view, width, height);
     }
@@ -108,6 +110,34 @@ pub fn transpose_from_items<T: Copy, C: Cells<Item = T>, const N: usize>(
     ensures { IsTranspose width height (flat rows.now) (C.items out.new.holder) }
 {
     transpose_source_on(&as_base_slice(rows), out, width, height);
+}
+
+/// Puts the transpose of the items of `input` into the items of `output`, both taken as one list, and returns the number of
+/// writes.
+pub fn transpose_between_views<T: Copy, const N: usize, const M: usize>(
+    input: &[[T; N]],
+    output: &mut [[T; M]],
+    width: usize,
+    height: usize,
+) -> u128
+    requires input_counts { length input.now * N < 2 ^ 64 }
+    requires output_counts { length output.old * M < 2 ^ 64 }
+    requires input_fits { length input.now * N ≡ width * height }
+    requires output_fits { length output.old * M ≡ width * height }
+    ensures order { IsTranspose width height (flat input.now) (flat output.new) }
+    ensures count { result ≡ width * height }
+{
+    let mut cells = as_base_slice_mut(output);
+    transpose_source_counted(&as_base_slice(input), &mut cells, width, height)
+}
+
+/// Reverses the items of a vector of rows, by way of its slice.
+pub fn reverse_items_in_vec<T, const N: usize>(rows: &mut Vec<[T; N]>)
+    requires fits { vec_len rows.old * N < 2 ^ 64 }
+    requires power { IsZeroOrPowerOfTwo (length (flat rows.old.items)) }
+    ensures { IsReversal (flat rows.old.items) (flat rows.new.items) }
+{
+    reverse_items(rows);
 }
 
 /// Item `i`, or `None` where there are no more.

@@ -1,30 +1,10 @@
 //! Transposes from a view into a view.
 
-use crate::tests::checks::equal;
+use crate::tests::calls::put_source_on;
+use crate::tests::checks::{Shape, equal};
 use p3_util::{as_base_slice, as_base_slice_mut, flat_len};
-use p3_util_kernels::places::{Cells, Source, Writes};
-use p3_util_kernels::transpose::{fits_matrix, transpose_source_on};
+use p3_util_kernels::places::Writes;
 use std::process::Abort;
-
-/// Puts the transpose of any source into `cells`, and returns the number of writes.
-pub(crate) fn count_source_writes<R, C>(
-    rt: &impl Abort,
-    input: &R,
-    cells: &mut C,
-    width: usize,
-    height: usize,
-) -> u128
-where
-    C: Cells,
-    R: Source<Item = C::Item>,
-{
-    let mut out = Writes::new(cells);
-    assert!(rt; fits_matrix(input.len(), out.len(), width, height));
-    transpose_source_on(input, &mut out, width, height);
-    let count = out.writes();
-    let _ = out.into_inner();
-    count
-}
 
 /// Puts the transpose of the items of `from` into those of `to`, and returns the number of writes.
 fn between_views<const N: usize, const M: usize>(
@@ -36,8 +16,8 @@ fn between_views<const N: usize, const M: usize>(
 ) -> u128 {
     assert!(rt; flat_len(from.len(), N).is_some() && flat_len(to.len(), M).is_some());
     let input = as_base_slice(from);
-    let mut output = as_base_slice_mut(to);
-    count_source_writes(rt, &input, &mut output, width, height)
+    let output = Writes::new(as_base_slice_mut(to));
+    put_source_on(rt, &input, output, Shape { width, height })
 }
 
 /// `M` rows of `N` items: those of the numbers from 0 on, or of their transpose, where 17 numbers are a row.

@@ -16,12 +16,26 @@ pub(crate) fn same<T: PartialEq + Debug>(rt: &impl Abort, at: usize, got: &T, wa
     assert_eq!(rt; *got, *wanted, "at {at}");
 }
 
-/// Asserts that a list is the transpose of the numbers from 0 on, which are `height` rows of `width`.
-pub(crate) fn check_transposed(rt: &impl Abort, list: &[u64], width: usize, height: usize) {
+/// The sides of a matrix.
+#[derive(Clone, Copy, Debug)]
+pub(crate) struct Shape {
+    pub(crate) width: usize,
+    pub(crate) height: usize,
+}
+
+impl Shape {
+    /// The number of items of the matrix.
+    pub(crate) fn len(self) -> usize {
+        self.width.saturating_mul(self.height)
+    }
+}
+
+/// Asserts that a list is the transpose of the numbers from 0 on.
+pub(crate) fn check_transposed(rt: &impl Abort, list: &[u64], shape: Shape) {
     for (place, held) in list.iter().enumerate() {
-        let x = place.checked_div(height).unwrap_or(0);
-        let y = place.checked_rem(height).unwrap_or(0);
-        let wanted = y.wrapping_mul(width).wrapping_add(x);
+        let x = place.checked_div(shape.height).unwrap_or(0);
+        let y = place.checked_rem(shape.height).unwrap_or(0);
+        let wanted = y.wrapping_mul(shape.width).wrapping_add(x);
         same(rt, place, held, &(wanted as u64));
     }
 }

@@ -67,7 +67,7 @@ fn put_in_rows<S: Rows>(rt: &impl Abort, rows: &mut S, i: usize, item: S::Item)
 where
     S::Item: Drop,
 {
-    assert!(rt; i < rows.items_of().len());
+    assert!(rt; i < rows.row_items().len());
     rows.put(i, item);
 }
 

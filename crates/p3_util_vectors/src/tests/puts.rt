@@ -1,65 +1,25 @@
-//! The order of the writes of transposes. They are as many as a call counts, and the same over a counter and by the counted
-//! form.
+//! The order of the writes of transposes, for each call that picks a path.
 
-use super::noted::{Note, Noted, check_same};
-use crate::tests::calls::count_writes;
-use crate::tests::checks::{equal, found, numbers, same};
-use std::alloc::{AllocError, Global};
+use super::noted::puts;
+use crate::tests::calls::Put;
+use crate::tests::checks::{Shape, same};
+use std::alloc::Global;
 use std::process::Abort;
 
-/// The place of a put, as a column and a row of a matrix of `height` rows.
-fn place_of(rt: &impl Abort, note: &Note, height: usize) -> (usize, usize) {
-    match note {
-        Note::Put(place) => (
-            place.checked_div(height).unwrap_or(0),
-            place.checked_rem(height).unwrap_or(0),
-        ),
-        Note::Exchange(..) => panic!(rt; "an exchange"),
-    }
-}
-
-/// The places of these puts, in order.
-pub(crate) fn places_of(
-    rt: &impl Abort,
-    alloc: Global,
-    notes: &[Note],
-    height: usize,
-) -> Result<Vec<(usize, usize)>, AllocError> {
-    let mut places = Vec::new(alloc);
-    for note in notes {
-        places.push(place_of(rt, note, height))?;
-    }
-    Ok(places)
-}
-
-/// The columns and the rows of the puts of a transpose, in order.
-pub(crate) fn puts(
-    rt: &impl Abort,
-    alloc: Global,
-    width: usize,
-    height: usize,
-) -> Vec<(usize, usize)> {
-    let input = numbers(rt, alloc, width.saturating_mul(height));
-    let room = input.len().saturating_add(1);
-    let mut over_counter = Noted::numbered(rt, alloc, input.len(), room);
-    let mut by_form = Noted::numbered(rt, alloc, input.len(), room);
-    let writes = count_writes(rt, &input, &mut over_counter, &mut by_form, width, height);
-    same(rt, width, &writes, &(input.len() as u128));
-    same(rt, width, &over_counter.notes.len(), &input.len());
-    check_same(rt, &over_counter, &by_form);
-    found(rt, places_of(rt, alloc, &over_counter.notes, height))
-}
-
-/// A part of a matrix that is cut into parts of `cols` columns and `rows` rows.
+/// Of `len` puts in turn, counted from the first, all lie in one part of a matrix that is cut into parts of `cols` columns and
+/// `rows` rows. Those of a part of one column come one below the other.
 #[derive(Clone, Copy)]
-struct Part {
+struct Turn {
+    len: usize,
     cols: usize,
     rows: usize,
 }
 
-impl Part {
-    /// The part in which column `x` and row `y` are, as its own column and row.
-    fn number_of(self, (x, y): (usize, usize)) -> (usize, usize) {
+impl Turn {
+    /// The part in which a place of a matrix of `height` rows is, as its own column and row.
+    fn part_of(self, place: usize, height: usize) -> (usize, usize) {
+        let x = place.checked_div(height).unwrap_or(0);
+        let y = place.checked_rem(height).unwrap_or(0);
         (
             x.checked_div(self.cols).unwrap_or(0),
             y.checked_div(self.rows).unwrap_or(0),
@@ -67,68 +27,172 @@ impl Part {
     }
 }
 
-/// Asserts that of each `count` puts, counted from the first, all lie in one part, and that those of a part of one column
-/// come one below the other.
-fn check_parts(rt: &impl Abort, puts: &[(usize, usize)], count: usize, part: Part) {
-    let mut number = (0, 0);
-    let mut next = (0, 0);
-    for (k, put) in puts.iter().enumerate() {
-        let is_first = k.checked_rem(count) == Some(0);
-        if is_first {
-            number = part.number_of(*put);
+/// Asserts that puts come in these turns.
+fn check_turns(rt: &impl Abort, puts: &[usize], height: usize, turn: Turn) {
+    let mut part = (0, 0);
+    let mut next = 0usize;
+    for (k, place) in puts.iter().enumerate() {
+        if k.checked_rem(turn.len) == Some(0) {
+            part = turn.part_of(*place, height);
+            next = *place;
         }
-        same(rt, k, &part.number_of(*put), &number);
-        if part.cols == 1 && !is_first {
-            same(rt, k, put, &next);
+        same(rt, k, &turn.part_of(*place, height), &part);
+        if turn.cols == 1 {
+            same(rt, k, place, &next);
         }
-        next = (put.0, put.1.wrapping_add(1));
+        next = place.wrapping_add(1);
     }
 }
 
-/// A block of a tile.
-const BLOCK: Part = Part { cols: 4, rows: 4 };
+/// The blocks of tiles, of four columns and four rows.
+const BLOCKS: Turn = Turn {
+    len: 16,
+    cols: 4,
+    rows: 4,
+};
 
-/// A tile.
-const TILE: Part = Part { cols: 16, rows: 16 };
+/// Tiles, of sixteen columns and sixteen rows.
+const TILES: Turn = Turn {
+    len: 256,
+    cols: 16,
+    rows: 16,
+};
 
-/// A column of a tile.
-const RUN: Part = Part { cols: 1, rows: 16 };
+/// Sixteen places one below the other.
+const RUNS: Turn = Turn {
+    len: 16,
+    cols: 1,
+    rows: 16,
+};
 
-/// A part of the matrix that the split leaves whole.
-const LEAF: Part = Part {
+/// The columns of strips of 128 rows.
+const STRIPS: Turn = Turn {
+    len: 128,
+    cols: 1,
+    rows: 128,
+};
+
+/// The parts of a matrix that the split leaves whole.
+const LEAVES: Turn = Turn {
+    len: 16384,
     cols: 128,
     rows: 128,
 };
 
-/// A column of a strip of 128 rows.
-const STRIP: Part = Part { cols: 1, rows: 128 };
+/// A width and a height; how many of the first puts are looked at; and the turns that they come in.
+type Order = (usize, usize, usize, [Turn; 2]);
 
-#[test]
-fn order_of_32_by_32(rt: HostRuntime) {
-    let puts = puts(&rt, rt.alloc(), 32, 32);
-    check_parts(&rt, &puts, 16, BLOCK);
-    check_parts(&rt, &puts, 256, TILE);
+/// Asserts the order of what each of these calls puts.
+fn check_orders(rt: &impl Abort, alloc: Global, calls: &[Put], orders: &[Order]) {
+    for (width, height, count, turns) in orders {
+        let (width, height) = (*width, *height);
+        for call in calls {
+            let puts = puts(rt, alloc, *call, Shape { width, height }, *count);
+            for turn in turns {
+                check_turns(rt, &puts, height, *turn);
+            }
+        }
+    }
 }
 
-/// Widths and heights; how many of the first puts are looked at; and how many of them in turn lie in which part.
-const ORDERS: [(usize, usize, usize, [(usize, Part); 2]); 6] = [
-    (64, 64, 4096, [(16, RUN), (256, TILE)]),
-    (48, 32, 1536, [(16, RUN), (256, TILE)]),
-    (16, 240, 3840, [(16, RUN), (256, TILE)]),
+/// The calls that pick how a matrix is put by its shape.
+const PICKING: [Put; 6] = [
+    Put::On,
+    Put::SourceOn,
+    Put::Counted,
+    Put::SourceCounted,
+    Put::Region,
+    Put::CountedRegion,
+];
+
+/// Blocks up to 1024 items, and beyond runs, where 16 divides the width and the matrix is not far higher than wide.
+const SMALL: [Order; 7] = [
+    (32, 32, 1024, [BLOCKS, TILES]),
+    (16, 65, 1024, [RUNS, TILES]),
+    (64, 64, 4096, [RUNS, TILES]),
+    (48, 32, 1536, [RUNS, TILES]),
+    (16, 240, 3840, [RUNS, TILES]),
     // Two strips, and 16 rows below.
-    (20, 272, 5120, [(16, RUN), (128, STRIP)]),
-    (16, 256, 4096, [(16, RUN), (128, STRIP)]),
-    (1025, 1024, 16384, [(16, RUN), (16384, LEAF)]),
+    (20, 272, 5120, [RUNS, STRIPS]),
+    (16, 256, 4096, [RUNS, STRIPS]),
 ];
 
 #[test]
 fn orders_of_puts(rt: HostRuntime) {
-    for (width, height, count, parts) in ORDERS {
-        let puts = puts(&rt, rt.alloc(), width, height);
-        let first = puts.get(..count).unwrap_or(&[]);
-        equal(&rt, &first.len(), &count);
-        for (turn, part) in parts {
-            check_parts(&rt, first, turn, part);
-        }
+    check_orders(&rt, rt.alloc(), &PICKING, &SMALL);
+}
+
+/// The greatest matrix that is not split, and the smallest that is. Its first part has 120 rows, where a strip has 128.
+const LARGE: [Order; 2] = [
+    (
+        1024,
+        1024,
+        16384,
+        [
+            RUNS,
+            Turn {
+                len: 16384,
+                cols: 1024,
+                rows: 16,
+            },
+        ],
+    ),
+    (
+        17,
+        61681,
+        2040,
+        [
+            Turn {
+                len: 120,
+                cols: 1,
+                rows: 120,
+            },
+            Turn {
+                len: 2040,
+                cols: 17,
+                rows: 120,
+            },
+        ],
+    ),
+];
+
+#[test]
+fn orders_of_large_matrices(rt: HostRuntime) {
+    check_orders(&rt, rt.alloc(), &PICKING[..4], &LARGE);
+    check_orders(&rt, rt.alloc(), &PICKING[4..], &LARGE[..1]);
+}
+
+/// Four parts that make a quarter, and not four in a row.
+const QUARTER: [Turn; 3] = [
+    RUNS,
+    LEAVES,
+    Turn {
+        len: 65536,
+        cols: 256,
+        rows: 256,
+    },
+];
+
+/// Asserts the order of what a call puts of a matrix of 1025 by 1024, from the first quarter to the last part.
+fn check_split(rt: &impl Abort, alloc: Global, call: Put) {
+    let shape = Shape {
+        width: 1025,
+        height: 1024,
+    };
+    let puts = puts(rt, alloc, call, shape, 1_049_600);
+    for turn in QUARTER {
+        check_turns(rt, puts.get(..65536).unwrap_or(&[]), 1024, turn);
     }
+    for (k, place) in puts.iter().enumerate().skip(1_049_600 - 8320) {
+        same(rt, k, &(place / 1024 >= 960 && place % 1024 >= 896), &true);
+    }
+}
+
+#[test]
+fn orders_of_splits(rt: HostRuntime) {
+    for call in &PICKING[..4] {
+        check_split(&rt, rt.alloc(), *call);
+    }
+    check_split(&rt, rt.alloc(), Put::Split);
+    check_split(&rt, rt.alloc(), Put::SourceSplit);
 }

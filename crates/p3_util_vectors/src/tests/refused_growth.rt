@@ -45,19 +45,21 @@ fn inserted(
     }
 }
 
-/// A map that was made with room for a hundred pairs takes a hundred, and in a full map a known key finds its pair: nothing of
-/// that is refused. It makes 1 request for memory.
+/// A map that was made with room for three pairs, or for a hundred, takes as many, and in a full map a known key finds its
+/// pair: nothing of that is refused. It makes 2 requests for memory.
 #[test]
 fn maps_with_room(rt: HostRuntime) {
-    let Ok(mut map) = LinearMap::with_capacity(rt.alloc(), 100) else {
-        return;
-    };
-    for key in 0u32..100 {
-        equal(&rt, &inserted(&mut map, key, key), &Ok(None));
-    }
-    for key in 0u32..100 {
-        equal(&rt, &inserted(&mut map, key, 9), &Ok(Some(key)));
-        equal(&rt, &lent(&mut map, key, 7), &(Ok(9), 0));
+    for room in [3u32, 100] {
+        let Ok(mut map) = LinearMap::with_capacity(rt.alloc(), room as usize) else {
+            return;
+        };
+        for key in 0..room {
+            equal(&rt, &inserted(&mut map, key, key), &Ok(None));
+        }
+        for key in 0..room {
+            equal(&rt, &inserted(&mut map, key, 9), &Ok(Some(key)));
+            equal(&rt, &lent(&mut map, key, 7), &(Ok(9), 0));
+        }
     }
 }
 

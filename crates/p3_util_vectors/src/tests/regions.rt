@@ -1,59 +1,39 @@
 //! Transposes of regions.
 
-use crate::tests::checks::{copied, equal, numbers, repeated, same};
-use p3_util_kernels::places::{Cells, SliceCells, Writes};
-use p3_util_kernels::transpose::{
-    Region, fits_matrix, transpose_region_counted, transpose_region_on,
-};
+use crate::tests::calls::{put_region_counted, put_region_on};
+use crate::tests::checks::{Shape, equal, numbers, repeated, same};
+use p3_util_kernels::places::{SliceCells, Writes};
+use p3_util_kernels::transpose::Region;
 use std::alloc::Global;
 use std::process::Abort;
 
-/// Puts a region of the matrix `input` into `output` over a counter, and into a copy of it by the counted form, which have to
-/// agree, and returns the number of writes.
-fn put_region(
-    rt: &impl Abort,
-    alloc: Global,
-    input: &[u64],
-    output: &mut [u64],
-    region: Region,
-    width: usize,
-    height: usize,
-) -> u128 {
-    assert!(rt; fits_matrix(input.len(), output.len(), width, height));
-    assert!(rt; region.row_start <= region.row_end && region.row_end <= height);
-    assert!(rt; region.col_start <= region.col_end && region.col_end <= width);
-    let mut counted = copied(rt, alloc, output);
-    let mut cells = SliceCells::new(&mut counted);
-    assert!(rt; fits_matrix(input.len(), cells.len(), width, height));
-    let writes = transpose_region_counted(input, &mut cells, region, width, height);
-    let mut over_counter = Writes::new(SliceCells::new(output));
-    transpose_region_on(input, &mut over_counter, region, width, height);
-    same(rt, width, &over_counter.writes(), &writes);
-    let left: &[u64] = output;
-    same(rt, width, &left, &counted.as_slice());
-    writes
-}
-
+/// Two rows of two items in the middle of a matrix, over a counter and by the counted form.
 #[test]
 fn worked_region(rt: HostRuntime) {
     let input = numbers(&rt, rt.alloc(), 12);
-    let mut output = repeated(&rt, rt.alloc(), 99, 12);
+    let shape = Shape {
+        width: 4,
+        height: 3,
+    };
     let region = Region {
         row_start: 1,
         row_end: 3,
         col_start: 2,
         col_end: 4,
     };
-    equal(
-        &rt,
-        &put_region(&rt, rt.alloc(), &input, &mut output, region, 4, 3),
-        &4,
-    );
     let wanted = [99, 99, 99, 99, 99, 99, 99, 6, 10, 99, 7, 11];
-    equal(&rt, &output.as_slice(), &wanted.as_slice());
+    let mut output = [99u64; 12];
+    let out = Writes::new(SliceCells::new(&mut output));
+    equal(&rt, &put_region_on(&rt, &input, out, region, shape), &4);
+    equal(&rt, &output, &wanted);
+    let mut output = [99u64; 12];
+    let mut cells = SliceCells::new(&mut output);
+    let writes = put_region_counted(&rt, &input, &mut cells, region, shape);
+    equal(&rt, &writes, &4);
+    equal(&rt, &output, &wanted);
 }
 
-/// Widths of matrices, and the greatest row and column where a region of them begins.
+/// Widths of matrices whose regions are put.
 const WIDTHS: [usize; 2] = [48, 43];
 
 /// The height of those matrices.
@@ -72,9 +52,14 @@ fn item_after(region: Region, width: usize, place: usize) -> u64 {
 
 /// Puts a region of the matrix of the numbers from 0 on, and asserts what is at each place.
 fn check_region(rt: &impl Abort, alloc: Global, region: Region, width: usize, writes: usize) {
-    let input = numbers(rt, alloc, width.saturating_mul(HEIGHT));
+    let shape = Shape {
+        width,
+        height: HEIGHT,
+    };
+    let input = numbers(rt, alloc, shape.len());
     let mut output = repeated(rt, alloc, u64::MAX, input.len());
-    let count = put_region(rt, alloc, &input, &mut output, region, width, HEIGHT);
+    let out = Writes::new(SliceCells::new(&mut output));
+    let count = put_region_on(rt, &input, out, region, shape);
     same(rt, width, &count, &(writes as u128));
     for (place, item) in output.iter().enumerate() {
         same(rt, place, item, &item_after(region, width, place));

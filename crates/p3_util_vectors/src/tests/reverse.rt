@@ -1,11 +1,12 @@
 //! Calls that reorder a list, against worked examples, their definition and the original crate.
 
 use crate::joined::Joined;
-use crate::tests::calls::{Call, count_by_form, count_on, count_swaps, reorder_slice, reordered};
+use crate::tests::calls::{Call, count_swaps, reordered, reverse_slice, reverse_slice_rows};
 use crate::tests::checks::{Owner, equal, found, numbers, owners, reversed, same};
 use crate::tests::oracle::reversals::REVERSALS;
 use crate::tests::oracle::{hash, item, items};
 use p3_util_kernels::places::SlicePlaces;
+use p3_util_kernels::reverse::fits_rows;
 use std::alloc::{AllocError, Global};
 use std::cell::Cell;
 use std::process::Abort;
@@ -15,11 +16,12 @@ const EIGHT: &[u64] = &[0, 1, 2, 3, 4, 5, 6, 7];
 const REVERSED_EIGHT: &[u64] = &[0, 4, 2, 6, 1, 5, 3, 7];
 
 /// Calls, lists, what is left of them, and the numbers of swaps.
-const EXAMPLES: [(Call, &[u64], &[u64], u128); 17] = [
+const EXAMPLES: [(Call, &[u64], &[u64], u128); 19] = [
     (Call::Reversal, &[], &[], 0),
     (Call::Reversal, &[7], &[7], 0),
     (Call::Reversal, &[10, 20, 30, 40], &[10, 30, 20, 40], 1),
     (Call::Reversal, EIGHT, REVERSED_EIGHT, 2),
+    (Call::Counted, EIGHT, REVERSED_EIGHT, 2),
     (Call::Short, &[], &[], 0),
     (Call::Long, &[10, 20, 30, 40], &[10, 30, 20, 40], 1),
     (Call::Long, EIGHT, REVERSED_EIGHT, 2),
@@ -31,6 +33,7 @@ const EXAMPLES: [(Call, &[u64], &[u64], u128); 17] = [
         &[0, 1, 2, 6, 7, 8, 3, 4, 5, 9, 10, 11],
         3,
     ),
+    (Call::CountedRows(2), EIGHT, &[0, 1, 4, 5, 2, 3, 6, 7], 2),
     (Call::Rows(1), EIGHT, REVERSED_EIGHT, 2),
     (Call::Chunks(2, 1), EIGHT, &[0, 1, 4, 5, 2, 3, 6, 7], 2),
     (Call::Chunks(0, 3), EIGHT, EIGHT, 0),
@@ -76,8 +79,8 @@ fn place_by_square(base: usize, log_stride: usize, log_size: usize, place: usize
 /// The place whose item comes to `place` of `len`, by the definition of the call.
 fn place_before(call: Call, len: usize, place: usize) -> usize {
     match call {
-        Call::Reversal | Call::Short | Call::Long => place_by_rows(1, len, place),
-        Call::Rows(width) => place_by_rows(width, len, place),
+        Call::Reversal | Call::Counted | Call::Short | Call::Long => place_by_rows(1, len, place),
+        Call::Rows(width) | Call::CountedRows(width) => place_by_rows(width, len, place),
         Call::Chunks(_, log_size) => place_by_rows(1 << (log_size % 64), len, place),
         Call::Square(base, log_stride, log_size) => {
             place_by_square(base, log_stride, log_size, place)
@@ -167,16 +170,19 @@ fn check_numbers<T: HasNumber>(rt: &impl Abort, list: &[T], call: Option<Call>) 
     }
 }
 
-/// Asserts that a reversal by any of its forms puts each item where it belongs, and a second one each item back.
+/// Reverses `list`, or its rows, as a slice.
+fn reverse_as_slice<T>(rt: &impl Abort, list: &mut [T], call: Call) {
+    match call {
+        Call::Rows(row_width) => reverse_slice_rows(rt, list, row_width),
+        _ => reverse_slice(rt, list),
+    }
+}
+
+/// Asserts that a reversal of a slice puts each item where it belongs, and that a counted one puts each item back.
 fn reverse_numbered<T: HasNumber>(rt: &impl Abort, mut list: Vec<T>, call: Call) -> Vec<T> {
-    reorder_slice(rt, &mut list, call);
+    reverse_as_slice(rt, &mut list, call);
     check_numbers(rt, &list, Some(call));
-    let swaps = count_on(rt, &mut SlicePlaces::new(&mut list), call);
-    check_numbers(rt, &list, None);
-    let counted = count_by_form(rt, &mut SlicePlaces::new(&mut list), call);
-    check_numbers(rt, &list, Some(call));
-    same(rt, list.len(), &counted, &swaps);
-    reorder_slice(rt, &mut list, call);
+    let _ = count_swaps(rt, &mut SlicePlaces::new(&mut list), call);
     check_numbers(rt, &list, None);
     list
 }
@@ -220,18 +226,13 @@ fn decimal_texts(rt: HostRuntime) {
     }
 }
 
-/// Over a counter and by the counted form.
 #[test]
 fn owners_by_the_long_path(rt: HostRuntime) {
     let drops = Cell::new(0);
     let mut list = owners(&rt, rt.alloc(), 32768, &drops);
-    let mut other = owners(&rt, rt.alloc(), 32768, &drops);
-    let mut over_counter = SlicePlaces::new(&mut list);
-    let mut by_form = SlicePlaces::new(&mut other);
-    let swaps = count_swaps(&rt, &mut over_counter, &mut by_form, Call::Reversal);
+    let swaps = count_swaps(&rt, &mut SlicePlaces::new(&mut list), Call::Reversal);
     equal(&rt, &swaps, &44928);
     check_numbers(&rt, &list, Some(Call::Reversal));
-    check_numbers(&rt, &other, Some(Call::Reversal));
     equal(&rt, &drops.get(), &0);
 }
 
@@ -265,11 +266,29 @@ fn owners_in_rows(rt: HostRuntime) {
 #[test]
 fn joined_slices(rt: HostRuntime) {
     let (mut front, mut back) = ([0u64, 1, 2], [3u64, 4, 5, 6, 7]);
-    let (mut other_front, mut other_back) = (front, back);
-    let mut over_counter = Joined::new(&mut front, &mut back);
-    let mut by_form = Joined::new(&mut other_front, &mut other_back);
-    let swaps = count_swaps(&rt, &mut over_counter, &mut by_form, Call::Reversal);
+    let mut joined = Joined::new(&mut front, &mut back);
+    let swaps = count_swaps(&rt, &mut joined, Call::Reversal);
     equal(&rt, &swaps, &2);
     equal(&rt, &(front, back), &([0, 4, 2], [6, 1, 5, 3, 7]));
-    equal(&rt, &(other_front, other_back), &(front, back));
+}
+
+/// Lengths, widths of rows, and whether the one is rows of the other whose number is zero or a power of two.
+const LENGTHS: [(usize, usize, bool); 10] = [
+    (12, 3, true),
+    (9, 3, false),
+    (7, 7, true),
+    (7, 8, false),
+    (0, 0, true),
+    (1, 0, false),
+    (0, usize::MAX, true),
+    (8, 1, true),
+    (6, 1, false),
+    (usize::MAX, usize::MAX, true),
+];
+
+#[test]
+fn lengths_of_rows(rt: HostRuntime) {
+    for (row, (len, row_width, wanted)) in LENGTHS.iter().enumerate() {
+        same(&rt, row, &fits_rows(*len, *row_width), wanted);
+    }
 }

@@ -1,7 +1,7 @@
 //! Transposes of many shapes and item types, against the definition.
 
 use crate::tests::calls::transpose_slice;
-use crate::tests::checks::found;
+use crate::tests::checks::{Shape, found};
 use std::alloc::{AllocError, Global};
 use std::fmt::Debug;
 use std::process::Abort;
@@ -98,14 +98,9 @@ fn is_column<T: Numbered>(input: &[T], column: &[T], x: usize, width: usize) -> 
 }
 
 /// Asserts that `transpose` leaves at `x * height + y` what was at `y * width + x`, for each `x` and `y`.
-fn check_shape<T: Numbered>(
-    rt: &impl Abort,
-    input: &[T],
-    output: &mut [T],
-    width: usize,
-    height: usize,
-) {
-    transpose_slice(rt, input, output, width, height);
+fn check_shape<T: Numbered>(rt: &impl Abort, input: &[T], output: &mut [T], shape: Shape) {
+    transpose_slice(rt, input, output, shape);
+    let Shape { width, height } = shape;
     assert!(rt; height > 0);
     for (x, column) in output.chunks_exact(height).enumerate() {
         assert!(rt;
@@ -175,7 +170,11 @@ fn check_shapes<T: Numbered>(rt: &impl Abort, alloc: Global, shapes: &[(usize, u
     for (width, height) in shapes {
         let len = width.saturating_mul(*height);
         assert!(rt; len <= input.len() && len <= output.len());
-        check_shape(rt, &input[..len], &mut output[..len], *width, *height);
+        let shape = Shape {
+            width: *width,
+            height: *height,
+        };
+        check_shape(rt, &input[..len], &mut output[..len], shape);
     }
 }
 
@@ -205,7 +204,7 @@ fn oblongs_of_each_type(rt: HostRuntime) {
 fn transpose_nothing<T: Copy>(rt: &impl Abort) {
     for (width, height) in [(0, 0), (0, 5), (usize::MAX, 0), (0, usize::MAX), (16, 0)] {
         let mut output: [T; 0] = [];
-        transpose_slice(rt, &[], &mut output, width, height);
+        transpose_slice(rt, &[], &mut output, Shape { width, height });
     }
 }
 

@@ -5,9 +5,9 @@
 //! it ends.
 
 use crate::tests::calls::{
-    Call, count_swaps, count_writes, reverse_slice, reverse_slice_rows, transpose_slice,
+    Call, Put, count_swaps, count_writes, reverse_slice, reverse_slice_rows, transpose_slice,
 };
-use crate::tests::checks::equal;
+use crate::tests::checks::{Shape, equal};
 use crate::tests::linear_map::lent;
 use p3_util::array_serialization::{ArrayElement, ArrayError, deserialize, serialize};
 use p3_util::chunks::{apply_to_chunks, iter_array_chunks_padded};
@@ -77,32 +77,33 @@ fn pieces(rt: HostRuntime) {
     equal(&rt, &padded.next(), &Some([3, 9]));
 }
 
-/// Reverses lists, and the rows of lists, by each form.
-fn reverse_lists(rt: &impl Abort, mut list: Vec<u64>, mut other: Vec<u64>) {
+/// Reverses a list and its rows, by each form.
+fn reverse_list(rt: &impl Abort, mut list: Vec<u64>) {
     reverse_slice(rt, &mut list);
     reverse_slice_rows(rt, &mut list, 4);
-    let mut over_counter = SlicePlaces::new(&mut list);
-    let mut by_form = SlicePlaces::new(&mut other);
-    for call in [Call::Reversal, Call::Rows(4)] {
-        let _ = count_swaps(rt, &mut over_counter, &mut by_form, call);
+    let mut places = SlicePlaces::new(&mut list);
+    for call in [
+        Call::Reversal,
+        Call::Counted,
+        Call::Rows(4),
+        Call::CountedRows(4),
+    ] {
+        let _ = count_swaps(rt, &mut places, call);
     }
 }
 
-/// By the short and by the long path. It makes 4 requests for memory.
+/// By the short and by the long path. It makes 2 requests for memory.
 #[test]
 fn reversals(rt: HostRuntime) {
     for len in [64, 32768] {
         let Ok(list) = vec![in rt.alloc(); 5u64; len] else {
             return;
         };
-        let Ok(other) = vec![in rt.alloc(); 5u64; len] else {
-            return;
-        };
-        reverse_lists(&rt, list, other);
+        reverse_list(&rt, list);
     }
 }
 
-/// It makes 3 requests for memory.
+/// It makes 2 requests for memory.
 #[test]
 fn transposes(rt: HostRuntime) {
     let Ok(input) = vec![in rt.alloc(); 5u64; 4800] else {
@@ -111,14 +112,19 @@ fn transposes(rt: HostRuntime) {
     let Ok(mut output) = vec![in rt.alloc(); 0u64; 4800] else {
         return;
     };
-    let Ok(mut other) = vec![in rt.alloc(); 0u64; 4800] else {
-        return;
+    let shape = Shape {
+        width: 60,
+        height: 80,
     };
-    transpose_slice(&rt, &input, &mut output, 60, 80);
-    let mut over_counter = SliceCells::new(&mut output);
-    let mut by_form = SliceCells::new(&mut other);
-    let writes = count_writes(&rt, &input, &mut over_counter, &mut by_form, 60, 80);
-    equal(&rt, &writes, &4800);
+    transpose_slice(&rt, &input, &mut output, shape);
+    for call in [Put::On, Put::Counted, Put::Region, Put::Split] {
+        let mut cells = SliceCells::new(&mut output);
+        equal(
+            &rt,
+            &count_writes(&rt, call, &input, &mut cells, shape),
+            &4800,
+        );
+    }
 }
 
 /// A map of one pair that has no room for another.

@@ -1,55 +1,60 @@
 //! Transposes against worked examples and the original crate.
 
-use crate::tests::calls::transposed;
-use crate::tests::checks::{check_transposed, numbers, same};
-use crate::tests::oracle::transposes::{LARGE, OTHERS, SMALL, SMALL_SIDE};
+use crate::callers::transpose::levels_of;
+use crate::tests::calls::{Put, split_on, split_source_on, transpose_slice, transposed};
+use crate::tests::checks::{Shape, check_transposed, numbers, repeated, same};
+use crate::tests::oracle::transposes::TRANSPOSES;
 use crate::tests::oracle::{hash, items};
+use p3_util_kernels::places::{SliceCells, Writes};
 use p3_util_kernels::transpose::fits_matrix;
 use std::alloc::Global;
 use std::process::Abort;
 
-/// Asserts that the transpose of the first items has the hash `wanted`.
-fn check_hash(rt: &impl Abort, alloc: Global, width: usize, height: usize, wanted: u64) {
-    let input = items(rt, alloc, width.saturating_mul(height));
-    let (output, _) = transposed(rt, alloc, &input, width, height);
-    same(rt, width, &hash(&output), &wanted);
-}
-
 #[test]
-fn hashes_of_small_shapes(rt: HostRuntime) {
-    for (k, wanted) in SMALL.iter().enumerate() {
-        let (width, height) = (k / SMALL_SIDE + 1, k % SMALL_SIDE + 1);
-        check_hash(&rt, rt.alloc(), width, height, *wanted);
+fn hashes_of_the_original(rt: HostRuntime) {
+    for (width, height, wanted) in TRANSPOSES {
+        let shape = Shape { width, height };
+        let input = items(&rt, rt.alloc(), shape.len());
+        let (output, _) = transposed(&rt, rt.alloc(), Put::On, &input, shape);
+        same(&rt, width, &hash(&output), &wanted);
     }
 }
 
-#[test]
-fn hashes_of_other_shapes(rt: HostRuntime) {
-    for (width, height, wanted) in &OTHERS {
-        check_hash(&rt, rt.alloc(), *width, *height, *wanted);
-    }
-}
-
-#[test]
-fn hashes_of_large_shapes(rt: HostRuntime) {
-    for (width, height, wanted) in &LARGE {
-        check_hash(&rt, rt.alloc(), *width, *height, *wanted);
-    }
-}
-
-/// Width, height, matrices, their transposes and the numbers of writes.
-const EXAMPLES: [(usize, usize, &[u64], &[u64], u128); 3] = [
-    (3, 2, &[1, 2, 3, 4, 5, 6], &[1, 4, 2, 5, 3, 6], 6),
-    (1, 6, &[1, 2, 3, 4, 5, 6], &[1, 2, 3, 4, 5, 6], 6),
-    (0, 5, &[], &[], 0),
+/// Each call that counts its writes.
+const PUTS: [Put; 8] = [
+    Put::On,
+    Put::SourceOn,
+    Put::Counted,
+    Put::SourceCounted,
+    Put::Region,
+    Put::CountedRegion,
+    Put::Split,
+    Put::SourceSplit,
 ];
 
+/// Width, height, matrices and their transposes.
+const EXAMPLES: [(usize, usize, &[u64], &[u64]); 3] = [
+    (3, 2, &[1, 2, 3, 4, 5, 6], &[1, 4, 2, 5, 3, 6]),
+    (1, 6, &[1, 2, 3, 4, 5, 6], &[1, 2, 3, 4, 5, 6]),
+    (0, 5, &[], &[]),
+];
+
+/// By each call, in a write an item, and by the call on slices.
 #[test]
 fn worked_examples(rt: HostRuntime) {
-    for (row, (width, height, input, wanted, writes)) in EXAMPLES.iter().enumerate() {
-        let (output, count) = transposed(&rt, rt.alloc(), input, *width, *height);
+    for (row, (width, height, input, wanted)) in EXAMPLES.iter().enumerate() {
+        let shape = Shape {
+            width: *width,
+            height: *height,
+        };
+        for call in PUTS {
+            let (output, writes) = transposed(&rt, rt.alloc(), call, input, shape);
+            same(&rt, row, &output.as_slice(), wanted);
+            same(&rt, row, &writes, &(wanted.len() as u128));
+        }
+        let mut output = repeated(&rt, rt.alloc(), 0, input.len());
+        transpose_slice(&rt, input, &mut output, shape);
         same(&rt, row, &output.as_slice(), wanted);
-        same(&rt, row, &count, writes);
     }
 }
 
@@ -64,23 +69,48 @@ const WRITES: [(usize, usize, u128); 7] = [
     (1025, 1024, 1_049_600),
 ];
 
-/// Asserts where each of the numbers from 0 on is put, and the number of writes.
-fn check_numbered(rt: &impl Abort, alloc: Global, width: usize, height: usize, writes: u128) {
-    let input = numbers(rt, alloc, width.saturating_mul(height));
-    let (output, count) = transposed(rt, alloc, &input, width, height);
-    same(rt, width, &count, &writes);
-    check_transposed(rt, &output, width, height);
-}
-
-/// These, and matrices of one row or of one column.
+/// Where each of the numbers from 0 on is put, and how many writes it takes.
 #[test]
 fn numbered_items(rt: HostRuntime) {
-    for (width, height, writes) in WRITES {
-        check_numbered(&rt, rt.alloc(), width, height, writes);
+    for (width, height, wanted) in WRITES {
+        let shape = Shape { width, height };
+        let input = numbers(&rt, rt.alloc(), shape.len());
+        let (output, writes) = transposed(&rt, rt.alloc(), Put::On, &input, shape);
+        same(&rt, width, &writes, &wanted);
+        check_transposed(&rt, &output, shape);
     }
-    for length in 1..=200usize {
-        check_numbered(&rt, rt.alloc(), length, 1, length as u128);
-        check_numbered(&rt, rt.alloc(), 1, length, length as u128);
+}
+
+/// Rows, columns, the levels that their split needs, and how many splits nest.
+const SPLITS: [(usize, usize, u32, u32); 5] = [
+    (128, 128, 0, 0),
+    (129, 128, 1, 1),
+    (2, 1000, 3, 0),
+    (3, 1000, 3, 3),
+    (1024, 1025, 7, 7),
+];
+
+/// Asserts what is left by a split of a slice with as many levels as it needs, and by one of a source with 64 levels.
+fn check_split(rt: &impl Abort, alloc: Global, shape: Shape, levels: u32, nested: u32) {
+    let input = numbers(rt, alloc, shape.len());
+    let wanted = (input.len() as u128, nested);
+    let mut output = repeated(rt, alloc, 0, input.len());
+    let out = Writes::new(SliceCells::new(&mut output));
+    let counts = split_on(rt, &input, out, shape, levels);
+    same(rt, shape.width, &counts, &wanted);
+    check_transposed(rt, &output, shape);
+    let mut output = repeated(rt, alloc, 0, input.len());
+    let out = Writes::new(SliceCells::new(&mut output));
+    let counts = split_source_on(rt, &input, out, shape, 64);
+    same(rt, shape.width, &counts, &wanted);
+    check_transposed(rt, &output, shape);
+}
+
+#[test]
+fn nested_splits(rt: HostRuntime) {
+    for (height, width, levels, nested) in SPLITS {
+        same(&rt, height, &levels_of(height, width), &levels);
+        check_split(&rt, rt.alloc(), Shape { width, height }, levels, nested);
     }
 }
 
@@ -94,12 +124,12 @@ const LENGTHS: [(usize, usize, usize, usize, bool); 4] = [
 
 #[test]
 fn products_that_wrap_do_not_fit(rt: HostRuntime) {
-    for (row, (input, output, width, height, wanted)) in LENGTHS.iter().enumerate() {
+    for (row, (input, output, width, height, wanted)) in LENGTHS.into_iter().enumerate() {
         same(
             &rt,
             row,
-            &fits_matrix(*input, *output, *width, *height),
-            wanted,
+            &fits_matrix(input, output, width, height),
+            &wanted,
         );
     }
 }

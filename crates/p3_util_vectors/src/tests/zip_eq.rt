@@ -1,6 +1,6 @@
 //! The zip of two lists of one length.
 
-ghost use Rattle.std.specs.Prelude.{length};
+ghost use Rattle.std.specs.Prelude.{◌≡◌, length};
 ghost use Rattle.std.specs.Iterator.{at_most};
 
 use crate::tests::checks::{equal, same};
@@ -83,7 +83,26 @@ impl ExactSizeIterator for Side<'_> {
     }
 }
 
-/// The first side is asked before the second: for its length, for each item and at the end.
+/// A list that notes when its iterator is made.
+#[derive(Drop)]
+struct Made<'a> {
+    side: Side<'a>,
+}
+
+impl<'a> IntoIterator for Made<'a> {
+    type Item = u8;
+
+    type IntoIter = Side<'a>;
+
+    ghost into_iter_gives = { λ m r. r ≡ m.side };
+
+    fn into_iter(self) -> Side<'a> {
+        self.side.note();
+        self.side
+    }
+}
+
+/// The first side is asked before the second: for its iterator, its length, for each item and at the end.
 #[test]
 fn first_side_first(rt: HostRuntime) {
     let asked = Cell::new(0);
@@ -97,9 +116,10 @@ fn first_side_first(rt: HostRuntime) {
         digit: 2,
         asked: &asked,
     };
+    let (first, second) = (Made { side: first }, Made { side: second });
     match zip_eq(first, second, ()) {
         Ok(pairs) => equal(&rt, &pairs.count(), &2),
         Err(()) => panic!(rt; "the lengths agree"),
     }
-    equal(&rt, &asked.get(), &12_121_212);
+    equal(&rt, &asked.get(), &1_212_121_212);
 }

@@ -2,6 +2,10 @@ use Rattle.std.proofs.Common.{rules}
 use Rattle.p3_util.proofs.ZipEqRuns.{asked-runs, pairs-runs, pairs-length}
 use Rattle.p3_util.proofs.zip_eq.zip_eq.Goals as goal
 
+-- Before `returns-clause-length`, which wants the same test of the lengths, so that it is named first where that is missing.
+pub returns-clause-lengths : goal.returns-clause-lengths
+returns-clause-lengths g c = search rules
+
 pub returns-clause-runs : goal.returns-clause-runs
 returns-clause-runs g c = pairs-runs g.A.IntoIter.Iterator.next_gives g.B.IntoIter.Iterator.next_gives _
 

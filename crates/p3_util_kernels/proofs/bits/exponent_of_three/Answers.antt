@@ -1,9 +1,8 @@
-use Rattle.std.proofs.Common.{◌∙◌}
 use Rattle.p3_util_kernels.proofs.Tables.{exponent_found, exponent_bound}
 use Rattle.p3_util_kernels.proofs.bits.exponent_of_three.Goals as goal
 
 pub returns-clause-found : goal.returns-clause-found
-returns-clause-found c e low high = c.from.ensures ∙ exponent_found c.args.top e c.requires low high
+returns-clause-found c e low high = exponent_found c.args.top e c.requires low high
 
 pub returns-clause-bound : goal.returns-clause-bound
-returns-clause-bound c = rw c.from.ensures (exponent_bound c.args.top c.requires)
+returns-clause-bound c = exponent_bound c.args.top c.requires

@@ -1,6 +1,6 @@
 use Rattle.std.proofs.Common.{rules}
-use Rattle.p3_util_kernels.proofs.Reversal.{IsRowReversal-inverse}
+use Rattle.p3_util_kernels.proofs.Reversal.{row_reversed_back}
 use Rattle.p3_util_kernels.proofs.reverse.reverse_counted.Goals as goal
 
 pub returns-clause-inverse : goal.returns-clause-inverse
-returns-clause-inverse g c = let inverse = IsRowReversal-inverse _ _ _ c.reverse_index_bits.ensures.order in search (rules, inverse)
+returns-clause-inverse g c = let inverse = row_reversed_back _ _ _ c.reverse_index_bits.ensures.order in search (rules, inverse)

@@ -31,7 +31,7 @@ pub fn reverse_items_where_they_fit<T>(rows: &mut [[T; 4]]) -> bool
     ensures fits { length rows.old * 4 < 2 ^ 64
         → (IsTrue result ↔ IsZeroOrPowerOfTwo (length rows.old * 4)) }
 {
-    if flat_len(<[_]>::len(rows), 4).is_none() {
+    if flat_len(rows.len(), 4).is_none() {
         return false;
     }
     let mut view = as_base_slice_mut(rows);
@@ -85,7 +85,7 @@ pub fn transpose_to_items<T: Copy>(
     ensures left { IsFalse result → flat rows.new ≡ flat rows.old }
 {
     let mut view = as_base_slice_mut(rows);
-    let fits = fits_matrix(input.len(), Cells::len(&view), width, height);
+    let fits = fits_matrix(input.len(), view.len(), width, height);
     if fits {
         transpose_counted(input, &mut view, width, height);
     }

@@ -1,9 +1,10 @@
-use Rattle.std.proofs.Common.{◌≡◌, ◌+◌, ◌-◌, ◌*◌, ◌/◌, ◌^◌, ◌<◌, ◌≤◌, ℕ, sym, ap, ◌∙◌, arith}
+use Rattle.std.proofs.Common.{◌≡◌, ◌+◌, ◌-◌, ◌*◌, ◌/◌, ◌^◌, ◌<◌, ◌≤◌, ℕ, sym, ap, ◌∙◌, arith, get_or}
 use Rattle.std.proofs.lemmas.Nat.{pow-add, pow_pos, shl-shr}
-use Rattle.std.proofs.Math.Nat.{mul-le-mul_right}
+use Rattle.std.proofs.Math.Nat.{mod-eq_of_lt, mul-le-mul_right}
 use Rattle.p3_util_kernels.specs.Digits.{rev}
 use Rattle.p3_util_kernels.proofs.Digits.{rev-shl, rev_word-above}
 use Rattle.p3_util_kernels.proofs.Tables.{reversed_six}
+use Rattle.p3_util_kernels.specs.declared.reverse.rows.TheConstants.{REVERSED_SIX}
 use Rattle.p3_util_kernels.proofs.reverse.rows.reverse_digits.Goals as goal
 
 -- 64 shifted to the right by a few digits
@@ -24,7 +25,9 @@ inside x digits few below =
 pub returns-then-digits-le6 : goal.returns-then-digits-le6
 returns-then-digits-le6 c =
     let all : c.args.digits + (6 - c.args.digits) ≡ 6 = omega arith in
-    c.from.ensures ∙ reversed_six _ (inside c.args.x c.args.digits c.if-digits-le6.true c.requires.below)
+    c.from.ensures
+    ∙ ap (λ n. get_or REVERSED_SIX n 0) (mod-eq_of_lt (inside c.args.x c.args.digits c.if-digits-le6.true c.requires.below))
+    ∙ reversed_six _ (inside c.args.x c.args.digits c.if-digits-le6.true c.requires.below)
     ∙ ap (λ n. rev 6 (c.args.x * n)) (step c.args.digits c.if-digits-le6.true)
     ∙ ap (λ k. rev k (c.args.x * 2 ^ (6 - c.args.digits))) (sym all) ∙ rev-shl c.args.digits (6 - c.args.digits) c.args.x
 

@@ -1,7 +1,0 @@
-use Rattle.std.proofs.Common.{arith, sym, ◌∙◌}
-use Rattle.p3_util.proofs.Flat.{countable-past}
-use Rattle.p3_util.proofs.views.rows.countable.Goals as goal
-
-pub returns-clause-items : goal.returns-clause-items
-returns-clause-items g c =
-    c.as_flattened-3.ensures.value ∙ sym (countable-past _ _ _ _ _ c.max-most.ensures (omega arith) c.well_formed.0.0 c.index-rows-most.is c.width_of.ensures.row c.as_flattened-2.ensures.value c.if-prove.false)

@@ -1,6 +1,0 @@
-use Rattle.std.proofs.Common.{arith}
-use Rattle.p3_util.proofs.Flat.{IsFlat-width}
-use Rattle.p3_util.proofs.views.rows.each_in_its_row.Goals as goal
-
-pub returns-clause-places : goal.returns-clause-places
-returns-clause-places g c = IsFlat-width _ _ (λ k lt. c.loop-r.invariant k (omega arith))

@@ -1,5 +1,0 @@
-use Rattle.std.proofs.Common.{ℕ, [], ◌≡◌, ◌<◌, get_or, length}
-use Rattle.p3_util.proofs.views.rows.each_in_its_row.Given as goal
-
-abbrev pub invariant-loop-r : goal.invariant-loop-r
-invariant-loop-r g l = (k : ℕ) → k < l.r → length (get_or l.rows k []) ≡ g.row.N

@@ -1,0 +1,58 @@
+//! Where item `i` of all rows is, and how many items there are.
+
+ghost use Rattle.std.specs.Prelude.{◌≡◌, ◌+◌, ◌*◌, ◌/◌, ◌%◌, ◌^◌, ◌<◌, IsTrue, length, take};
+ghost use Rattle.p3_util.specs.Flat.{IsFlat, countable_items, flat};
+
+/// The items of all rows, or none where a `usize` cannot count them.
+pub(super) fn countable<T, const N: usize>(rows: &[[T; N]]) -> &[T]
+    ensures items { result.now ≡ countable_items rows.now }
+    ensures fits { 0 < length result.now → length rows.now * N < 2 ^ 64 }
+    ensures len { 0 < length result.now → length result.now ≡ length rows.now * N }
+{
+    let most = usize::MAX / N.max(1);
+    if rows.len() <= most {
+        return rows.as_flattened();
+    }
+    // So many rows have as many items as fit, and there is one row more.
+    prove!(rows[..most].as_flattened().len() == most * N);
+    prove!(width_of(&rows[most]) == N);
+    rows[..0].as_flattened()
+}
+
+/// The number of items of a row.
+#[inline(always)]
+pub(super) fn width_of<T, const N: usize>(row: &[T; N]) -> usize
+    ensures width { result ≡ N }
+    ensures row { length row.now ≡ N }
+{
+    row.len()
+}
+
+/// Whether item `i` of all rows is item `i % N` of row `i / N`, as it always is. For a `prove!` alone: its loop does nothing,
+/// and the compiler removes it.
+#[inline(always)]
+pub(super) fn each_in_its_row<T, const N: usize>(rows: &[[T; N]]) -> bool
+    ensures yes { IsTrue result }
+    ensures places { IsFlat N rows.now (flat rows.now) }
+{
+    for r in 0..rows.len() {
+        let _ = width_of(&rows[r]);
+    }
+    true
+}
+
+/// The row in which item `i` of all rows is, and its place in that row.
+#[inline(always)]
+pub(super) fn place_of<T, const N: usize>(rows: &[[T; N]], i: usize) -> (usize, usize)
+    requires { i < length (countable_items rows.now) }
+    ensures row { result.0 < length rows.now }
+    ensures place { result.1 < N }
+    ensures before { length (flat (take result.0 rows.now)) ≡ result.0 * N }
+    ensures item { i ≡ result.0 * N + result.1 }
+    ensures is { result ≡ (i / N, i % N) }
+{
+    prove!(i < countable(rows).len());
+    let (row, place) = (i / N, i % N);
+    prove!(rows[..row].as_flattened().len() <= i);
+    (row, place)
+}

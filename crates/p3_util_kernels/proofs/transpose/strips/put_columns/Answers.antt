@@ -1,0 +1,23 @@
+use Rattle.std.proofs.Common.{◌≡◌, ◌+◌, ◌-◌, refl, arith}
+use Rattle.p3_util_kernels.specs.Region.{rows_of}
+use Rattle.p3_util_kernels.proofs.Pairs.{mul-parts_right}
+use Rattle.p3_util_kernels.proofs.Columns.{HoldsColumn-region, IsRegionTransposed-column}
+use Rattle.p3_util_kernels.proofs.Region.{IsRegionTransposed-more_cols}
+use Rattle.p3_util_kernels.proofs.transpose.strips.put_columns.Goals as goal
+
+pub put_column-out-requires : goal.put_column-out-requires
+put_column-out-requires g c = record {
+  column = rw c.rows.ensures (HoldsColumn-region c.args.region _ c.args.matrix.height c.loop-col.col _ _ _ c.requires.some_rows c.loop-col-test.true c.loop-col.invariant.transposed.same_length c.requires.ready);
+}
+
+pub loop-col-preserved : goal.loop-col-preserved
+loop-col-preserved g c = record {
+  transposed = IsRegionTransposed-more_cols c.args.matrix.width c.args.matrix.height _ c.args.region _ c.loop-col.col c.loop-col.col (c.loop-col.col + 1) _ _ _ refl (omega arith) (omega arith) (omega arith) (omega arith)
+      c.loop-col.invariant.transposed
+      (IsRegionTransposed-column c.args.region _ _ c.loop-col.col _ _ _ (omega arith) (rw c.rows.ensures at c.put_column-out.ensures.put));
+  holder = g.met.M.Cells.same_holder_trans _ _ _ _ _ _ c.loop-col.invariant.holder c.put_column-out.ensures.holder
+      (omega (arith, c.rows.ensures, mul-parts_right (c.loop-col.col - c.args.region.col_start) 1 (c.loop-col.col + 1 - c.args.region.col_start) (rows_of c.args.region) (omega arith)));
+}
+
+pub returns-clause-transposed : goal.returns-clause-transposed
+returns-clause-transposed g c = let end : c.loop-col.col ≡ c.args.region.col_end = omega arith in rw end at c.loop-col.invariant.transposed

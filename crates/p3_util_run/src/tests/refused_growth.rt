@@ -1,0 +1,80 @@
+//! Where a growth is refused, `run` answers `Memory`, whose status is 3, and nothing is written.
+//!
+//! A plain run refuses nothing. `tests/refused_growth.sh` runs each of these tests once for each of its requests for memory
+//! and refuses that one. Each has the number of its requests beside it, so that a call is seen which makes fewer than it has
+//! to, or more. Where a test's own words are refused, it ends.
+
+use super::{Outcome, equal, outcome_of};
+use crate::fault::RunFault;
+use std::alloc::Global;
+use std::io;
+use std::io::{ErrorKind, Write};
+use std::process::Abort;
+
+/// A writer that takes what is expected, and fails at anything else. It wants no memory.
+#[derive(Drop)]
+struct Expecting<'a> {
+    rest: &'a [u8],
+}
+
+impl Write for Expecting<'_> {
+    fn write(&mut self, buf: &[u8]) -> io::Result<usize> {
+        match self.rest.strip_prefix(buf) {
+            Some(rest) => {
+                self.rest = rest;
+                Ok(buf.len())
+            }
+            None => Err(io::Error::from(ErrorKind::InvalidData)),
+        }
+    }
+
+    fn flush(&mut self) -> io::Result<()> {
+        Ok(())
+    }
+}
+
+/// Asserts that a run on these words writes `output`, or answers `Memory` and writes nothing.
+fn answers(rt: &impl Abort, alloc: Global, texts: &[&str], input: &str, output: &str) {
+    let writer = Expecting {
+        rest: output.as_bytes(),
+    };
+    let Ok(Outcome { result, writer, .. }) = outcome_of(alloc, texts, input.as_bytes(), writer)
+    else {
+        return;
+    };
+    let left = match result {
+        Ok(()) => 0,
+        Err(fault) => {
+            equal(rt, &fault, &RunFault::Memory);
+            equal(rt, &fault.status(), &3);
+            output.len()
+        }
+    };
+    equal(rt, &writer.rest.len(), &left);
+}
+
+/// The words, the input, its numbers and the text. It makes 8 requests for memory.
+#[test]
+fn reverses(rt: HostRuntime) {
+    answers(
+        &rt,
+        rt.alloc(),
+        &["revbits"],
+        "[10,20,30,40]",
+        "[10,30,20,40]\n",
+    );
+}
+
+/// The same. It makes 10 requests for memory.
+#[test]
+fn reverses_rows(rt: HostRuntime) {
+    let (input, output) = ("[0,1,2,3,4,5,6,7]", "[0,1,4,5,2,3,6,7]\n");
+    answers(&rt, rt.alloc(), &["revrows", "2"], input, output);
+}
+
+/// The same, and the transpose. It makes 12 requests for memory.
+#[test]
+fn transposes(rt: HostRuntime) {
+    let (input, output) = ("[1,2,3,4,5,6]", "[1,4,2,5,3,6]\n");
+    answers(&rt, rt.alloc(), &["transpose", "3", "2"], input, output);
+}

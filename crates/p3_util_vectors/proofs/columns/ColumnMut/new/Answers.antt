@@ -1,5 +1,0 @@
-use Rattle.p3_util.proofs.Callers.{column_length}
-use Rattle.p3_util_vectors.proofs.columns.ColumnMut.new.Goals as goal
-
-pub returns-clause-len : goal.returns-clause-len
-returns-clause-len g c = column_length _ _ _ _ c.requires.fits c.requires.inside
