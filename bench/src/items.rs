@@ -1,7 +1,36 @@
 //! Items of each size, and the calls on them.
 
 use crate::cases::{Case, Work};
-use crate::library;
+#[cfg(library)]
+use over_library::{reverse, reverse_rows, transpose};
+#[cfg(not(library))]
+use p3_util_proved::{
+    reverse_slice_index_bits as reverse, reverse_slice_row_index_bits as reverse_rows, transpose::transpose,
+};
+
+/// The calls of the static library, whose conditions hold for each case.
+#[cfg(library)]
+mod over_library {
+    use crate::library;
+
+    pub fn reverse<T: super::Item>(vals: &mut [T]) {
+        assert!(library::reverse(vals));
+    }
+
+    pub fn reverse_rows<T: super::Item>(vals: &mut [T], row_width: usize) {
+        assert!(library::reverse_rows(vals, row_width));
+    }
+
+    pub fn transpose<T: super::Item>(input: &[T], output: &mut [T], width: usize, height: usize) {
+        assert!(library::transpose(input, output, width, height));
+    }
+}
+
+/// The sizes of an item in bytes.
+#[cfg(library)]
+pub const SIZES: &[usize] = &[1, 2, 4, 8, 12, 16, 20, 24, 32, 40, 48, 64];
+#[cfg(not(library))]
+pub const SIZES: &[usize] = &[1, 2, 3, 4, 8, 12, 16, 20, 24, 32, 40, 48, 64];
 
 pub trait Item: Copy + PartialEq + Send + Sync {
     fn numbered(i: usize) -> Self;
@@ -38,6 +67,8 @@ pub fn visit<V: Visitor>(case: &Case, visitor: V) -> V::Answer {
     match case.item_size {
         1 => visitor.visit::<u8>(case),
         2 => visitor.visit::<u16>(case),
+        #[cfg(not(library))]
+        3 => visitor.visit::<[u8; 3]>(case),
         4 => visitor.visit::<u32>(case),
         8 => visitor.visit::<u64>(case),
         12 => visitor.visit::<[u32; 3]>(case),
@@ -48,10 +79,6 @@ pub fn visit<V: Visitor>(case: &Case, visitor: V) -> V::Answer {
         40 => visitor.visit::<[u64; 5]>(case),
         48 => visitor.visit::<[u64; 6]>(case),
         64 => visitor.visit::<[u64; 8]>(case),
-        96 => visitor.visit::<[u64; 12]>(case),
-        128 => visitor.visit::<[u64; 16]>(case),
-        160 => visitor.visit::<[u64; 20]>(case),
-        256 => visitor.visit::<[u64; 32]>(case),
         size => unreachable!("there are no items of {size} bytes"),
     }
 }
@@ -97,9 +124,9 @@ impl<T: Item> Lists<T> {
     pub fn run(&mut self, contender: Contender) {
         let (from, to) = (self.from.as_slice(), self.to.as_mut_slice());
         match (contender, self.case.work) {
-            (Contender::Proved, Work::Reverse { .. }) => library::reverse(to),
-            (Contender::Proved, Work::Rows { .. }) => library::reverse_rows(to, self.case.row_width()),
-            (Contender::Proved, Work::Transpose { width, height }) => library::transpose(from, to, width, height),
+            (Contender::Proved, Work::Reverse { .. }) => reverse(to),
+            (Contender::Proved, Work::Rows { .. }) => reverse_rows(to, self.case.row_width()),
+            (Contender::Proved, Work::Transpose { width, height }) => transpose(from, to, width, height),
             #[cfg(original)]
             (Contender::Original, Work::Reverse { .. }) => p3_util::reverse_slice_index_bits(to),
             #[cfg(original)]

@@ -1,8 +1,6 @@
-//! The calls of the static library, by the size of an item.
+//! The calls of the static library, by the size of an item. Each returns whether its condition holds.
 
 use std::ffi::c_void;
-
-use crate::items::Item;
 
 #[derive(Clone, Copy)]
 struct Calls {
@@ -20,9 +18,6 @@ struct Calls {
 
 macro_rules! calls {
     ($($size:literal)*) => {
-        /// The sizes of an item in bytes.
-        pub const SIZES: &[usize] = &[$($size),*];
-
         const fn calls_for(size: usize) -> Calls {
             match size {
                 $($size => {
@@ -52,27 +47,24 @@ macro_rules! calls {
 calls! { 1 2 4 8 12 16 20 24 32 40 48 64 96 128 160 256 }
 
 /// Reverses the order of `vals` by index bits.
-pub fn reverse<T: Item>(vals: &mut [T]) {
+pub fn reverse<T: Copy>(vals: &mut [T]) -> bool {
     let calls = const { calls_for(size_of::<T>()) };
     // SAFETY: the pointer and the length are those of one exclusive slice, whose items have the size in the call's name.
-    let fits = unsafe { (calls.reverse)(vals.as_mut_ptr().cast(), vals.len()) };
-    assert!(fits, "{} items are neither none nor a power of two", vals.len());
+    unsafe { (calls.reverse)(vals.as_mut_ptr().cast(), vals.len()) }
 }
 
 /// Reverses the order of the rows of `vals`, each of `row_width` items.
-pub fn reverse_rows<T: Item>(vals: &mut [T], row_width: usize) {
+pub fn reverse_rows<T: Copy>(vals: &mut [T], row_width: usize) -> bool {
     let calls = const { calls_for(size_of::<T>()) };
     // SAFETY: as in `reverse`.
-    let fits = unsafe { (calls.reverse_rows)(vals.as_mut_ptr().cast(), vals.len(), row_width) };
-    assert!(fits, "{} items are no rows of {row_width}", vals.len());
+    unsafe { (calls.reverse_rows)(vals.as_mut_ptr().cast(), vals.len(), row_width) }
 }
 
 /// Writes to `output` the transpose of `input`, a matrix of `height` rows of `width` items.
-pub fn transpose<T: Item>(input: &[T], output: &mut [T], width: usize, height: usize) {
+pub fn transpose<T: Copy>(input: &[T], output: &mut [T], width: usize, height: usize) -> bool {
     let calls = const { calls_for(size_of::<T>()) };
     let (from, to) = (input.as_ptr().cast(), output.as_mut_ptr().cast());
     // SAFETY: the pointers and lengths are those of a shared and of an exclusive slice, whose items have the size in the
     // call's name.
-    let fits = unsafe { (calls.transpose)(from, input.len(), to, output.len(), width, height) };
-    assert!(fits, "the lengths are not {width} times {height}");
+    unsafe { (calls.transpose)(from, input.len(), to, output.len(), width, height) }
 }

@@ -3,6 +3,7 @@
 mod cases;
 mod counts;
 mod items;
+#[cfg(library)]
 mod library;
 mod options;
 mod picture;

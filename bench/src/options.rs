@@ -3,12 +3,12 @@
 use std::path::PathBuf;
 
 use crate::cases::CALLS;
-use crate::library::SIZES;
+use crate::items::SIZES;
 
 pub const USAGE: &str = "\
 options:
   --calls reverse,transpose   which calls, of reverse rows transpose (all)
-  --items 1,4,8,32            sizes of an item in bytes, of 1 2 4 8 12 16 20 24 32 40 48 64 96 128 160 256 (1,4,8,32)
+  --items 1,4,8,32            sizes of an item in bytes, of 1 2 3 4 8 12 16 20 24 32 40 48 64, 3 without --library (1,4,8,32)
   --sizes 2-22                reversals of 2^2 to 2^22 items; also a list, as 3,7,13 (2-22)
   --rows 64x16,1024x256       reversals of rows of so many bytes, a multiple of 32, by so many rows, a power of two
                               (the table of docs/PERFORMANCE.md), where a row is of whole items; the time is that of a row

@@ -1,0 +1,212 @@
+//! Arithmetic on single words: logarithms and powers, the reversal of binary digits, and the short names of types.
+
+mod digits;
+mod names;
+
+pub use digits::{reverse_bits, reverse_bits_len};
+pub use names::pretty_name;
+
+/// The powers of three below 2^64, in order.
+static POWERS_OF_THREE: [usize; 41] = [
+    1,
+    3,
+    9,
+    27,
+    81,
+    243,
+    729,
+    2_187,
+    6_561,
+    19_683,
+    59_049,
+    177_147,
+    531_441,
+    1_594_323,
+    4_782_969,
+    14_348_907,
+    43_046_721,
+    129_140_163,
+    387_420_489,
+    1_162_261_467,
+    3_486_784_401,
+    10_460_353_203,
+    31_381_059_609,
+    94_143_178_827,
+    282_429_536_481,
+    847_288_609_443,
+    2_541_865_828_329,
+    7_625_597_484_987,
+    22_876_792_454_961,
+    68_630_377_364_883,
+    205_891_132_094_649,
+    617_673_396_283_947,
+    1_853_020_188_851_841,
+    5_559_060_566_555_523,
+    16_677_181_699_666_569,
+    50_031_545_098_999_707,
+    150_094_635_296_999_121,
+    450_283_905_890_997_363,
+    1_350_851_717_672_992_089,
+    4_052_555_153_018_976_267,
+    12_157_665_459_056_928_801,
+];
+
+/// For each place of a binary digit, the exponent of the greatest power of three whose highest digit is no higher. Where a
+/// power of three has its highest digit at that place, this is its exponent.
+static EXPONENTS_OF_THREE: [u8; 64] = [
+    0, 1, 1, 2, 3, 3, 4, 5, 5, 6, 6, 7, 8, 8, 9, 10, 10, 11, 11, 12, 13, 13, 14, 15, 15, 16, 17,
+    17, 18, 18, 19, 20, 20, 21, 22, 22, 23, 23, 24, 25, 25, 26, 27, 27, 28, 29, 29, 30, 30, 31, 32,
+    32, 33, 34, 34, 35, 35, 36, 37, 37, 38, 39, 39, 40,
+];
+
+/// The least `e` with `n <= 2^e`, which is 0 for 0 and 1.
+///
+/// # Contract
+///
+/// ```text
+/// ensures enough { n ≤ 2 ^ result }
+/// ensures least { (e : ℕ) → n ≤ 2 ^ e → result ≤ e }
+/// ensures counted { result ≡ clog n }
+/// ```
+pub const fn log2_ceil_usize(n: usize) -> usize {
+    if n <= 1 {
+        0
+    } else {
+        (n - 1).ilog2() as usize + 1
+    }
+}
+
+/// The greatest `e` with `2^e <= n`, and 0 for 0.
+///
+/// # Contract
+///
+/// ```text
+/// ensures zero { n ≡ 0 → result ≡ 0 }
+/// ensures within { 0 < n → 2 ^ result ≤ n }
+/// ensures greatest { (e : ℕ) → 2 ^ e ≤ n → e ≤ result }
+/// ```
+pub const fn log2_floor_usize(n: usize) -> usize {
+    if n == 0 { 0 } else { n.ilog2() as usize }
+}
+
+/// The least `e` with `n <= 2^e`, which is 0 for 0 and 1.
+///
+/// # Contract
+///
+/// ```text
+/// ensures enough { n ≤ 2 ^ result }
+/// ensures least { (e : ℕ) → n ≤ 2 ^ e → result ≤ e }
+/// ```
+pub const fn log2_ceil_u64(n: u64) -> u64 {
+    log2_ceil_usize(n as usize) as u64
+}
+
+/// 2 to the power of `exponent`.
+#[inline(always)]
+pub(crate) const fn pow2(exponent: usize) -> usize {
+    1 << exponent
+}
+
+/// `2^log_degree`, or `None` where that does not fit a word.
+///
+/// # Contract
+///
+/// ```text
+/// ensures { SomeIff result (log_degree < 64) (2 ^ log_degree) }
+/// ```
+pub const fn checked_pow2(log_degree: usize) -> Option<usize> {
+    if log_degree < 64 {
+        Some(1 << log_degree)
+    } else {
+        None
+    }
+}
+
+/// `a + b` and `2^(a + b)`, or `None` where the power does not fit a word.
+///
+/// # Contract
+///
+/// ```text
+/// ensures { SomeIff result (a + b < 64) (a + b, 2 ^ (a + b)) }
+/// ```
+pub const fn checked_log_size_sum(a: usize, b: usize) -> Option<(usize, usize)> {
+    if a < 64 && b < 64 - a {
+        Some((a + b, 1 << (a + b)))
+    } else {
+        None
+    }
+}
+
+/// The logarithm to base 2 of a power of two. std's `is_power_of_two` is the test for `n`.
+///
+/// # Contract
+///
+/// ```text
+/// requires { HasLog2 n }
+/// ensures power { n ≡ 2 ^ result }
+/// ensures counted { result ≡ clog n }
+/// ensures bound { result < 64 }
+/// ```
+pub const fn log2_strict_usize(n: usize) -> usize {
+    let exponent = n.ilog2();
+    exponent as usize
+}
+
+/// The logarithm to base 3 of a power of three. [`is_power_of_three`] is the test for `n`.
+///
+/// # Contract
+///
+/// ```text
+/// requires { HasLog3 n }
+/// ensures power { n ≡ 3 ^ result }
+/// ensures bound { result < 41 }
+/// ```
+pub const fn log3_strict_usize(n: usize) -> usize {
+    let top = n.ilog2();
+    exponent_of_three(top as usize)
+}
+
+/// Whether some `e` has `n = 3^e`.
+///
+/// # Contract
+///
+/// ```text
+/// ensures { IsTrue result ↔ IsPowerOfThree n }
+/// ```
+pub const fn is_power_of_three(n: usize) -> bool {
+    n != 0 && powers_of_three()[exponent_of_three(n.ilog2() as usize)] == n
+}
+
+/// The table of the powers of three: they are all that fit a word, and no two share their highest binary digit.
+const fn powers_of_three() -> &'static [usize; 41] {
+    &POWERS_OF_THREE
+}
+
+/// The exponent of the power of three whose highest binary digit is at place `top`, where there is one.
+const fn exponent_of_three(top: usize) -> usize {
+    EXPONENTS_OF_THREE[top] as usize
+}
+
+/// The array of its own indices: `[0, 1, .., N - 1]`.
+///
+/// # Contract
+///
+/// ```text
+/// ensures len { length result ≡ N }
+/// ensures places { (i : ℕ) → i < N → slice_index result i ≡ i }
+/// ```
+pub const fn indices_arr<const N: usize>() -> [usize; N] {
+    let mut indices = [0; N];
+    let mut i = 0;
+    while i < N {
+        indices[i] = i;
+        i += 1;
+    }
+    indices
+}
+
+/// Does nothing. It marks a branch that a program seldom takes.
+pub const fn branch_hint() {}
+
+/// Does nothing. A call shows that `T` is `Clone`.
+pub const fn assert_clone<T: Clone>() {}

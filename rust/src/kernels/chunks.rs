@@ -1,0 +1,100 @@
+//! Iterators cut into chunks of one size.
+
+/// Calls `func` on each chunk of `BUFLEN` bytes of `input` in turn; the last chunk may be shorter. The chunks joined are the
+/// bytes.
+///
+/// The bytes are those before the first `None` of the iterator, which is not asked again after it.
+/// Where `BUFLEN` is 0 there is no chunk: neither `func` nor the iterator is called.
+/// `BUFLEN` is below 2^63, as the length of every array of bytes is.
+///
+/// # Contract
+///
+/// ```text
+/// requires fits { BUFLEN < 2 ^ 63 }
+/// requires finite { 0 < BUFLEN
+///     → IsFiniteIterable I.into_iter_gives I.IntoIter.can_next I.IntoIter.remaining input }
+/// requires callable { 0 < BUFLEN → H.IsAlwaysCallable func }
+/// ensures runs { 0 < BUFLEN → (it : I.IntoIter) × I.into_iter_gives input it
+///     × WholeRun I.IntoIter.next_gives it (λ p. CallsOnPieces H.FnMut BUFLEN func p.items) }
+/// ensures joined { 0 < BUFLEN → (items : List ℕ) → flat (pieces BUFLEN items) ≡ items }
+/// ```
+pub fn apply_to_chunks<const BUFLEN: usize, I, H>(input: I, mut func: H)
+where
+    I: IntoIterator<Item = u8>,
+    H: FnMut(&[u8]),
+{
+    let iter = input.into_iter();
+    if BUFLEN == 0 {
+        return;
+    }
+    let mut buf = [0; BUFLEN];
+    let mut len = 0;
+    for byte in iter {
+        buf[len] = byte;
+        len += 1;
+        if len == BUFLEN {
+            func(buf.as_slice());
+            len = 0;
+        }
+    }
+    if len > 0 {
+        func(&buf.as_slice()[..len]);
+    }
+}
+
+/// Cuts what `iter` gives up to its first `None` into arrays of `N` items. The last array is filled with `default` where
+/// they do not divide.
+///
+/// After that `None` the iterator is not asked again. Where `N` is 0 there is no array, and it is never asked.
+///
+/// # Contract
+///
+/// ```text
+/// ensures source { I.into_iter_gives iter (padded_source result) }
+/// ensures fresh { padded_done result ≡ false }
+/// ensures fill { padded_fill result ≡ default }
+/// ensures runs { PadsRuns I.IntoIter.next_gives default result }
+/// ensures ends { EndsForGood (padded_steps {A = T} {n = N} I.IntoIter.next_gives) }
+/// ```
+pub fn iter_array_chunks_padded<T: Copy, const N: usize, I: IntoIterator<Item = T>>(
+    iter: I,
+    default: T,
+) -> ArrayChunksPadded<I::IntoIter, T, N> {
+    ArrayChunksPadded {
+        iter: iter.into_iter(),
+        default,
+        done: false,
+    }
+}
+
+/// The iterator that [`iter_array_chunks_padded`] makes.
+pub struct ArrayChunksPadded<I, T, const N: usize> {
+    iter: I,
+    default: T,
+    done: bool,
+}
+
+impl<T: Copy, const N: usize, I: Iterator<Item = T>> Iterator for ArrayChunksPadded<I, T, N> {
+    type Item = [T; N];
+
+    fn next(&mut self) -> Option<[T; N]> {
+        if self.done {
+            return None;
+        }
+        let mut chunk = [self.default; N];
+        let mut len = 0;
+        while len < N {
+            let Some(item) = self.iter.next() else {
+                self.done = true;
+                break;
+            };
+            chunk[len] = item;
+            len += 1;
+        }
+        if len == 0 { None } else { Some(chunk) }
+    }
+
+    fn size_hint(&self) -> (usize, Option<usize>) {
+        (0, None)
+    }
+}

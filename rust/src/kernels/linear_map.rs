@@ -1,0 +1,266 @@
+//! A map that keeps its pairs in the order of insertion and finds a key by comparing it with each.
+
+mod iter;
+
+use crate::kernels::NoRoom;
+pub use iter::{Iter, Keys, Values};
+use crate::memory::{AllocError, Global, Vec};
+use alloc::vec;
+use core::slice;
+use core::mem::replace;
+use core::ops::Index;
+
+/// A map in insertion order, for few keys. A look-up compares the key with each stored one.
+#[derive(Debug)]
+pub struct LinearMap<K: Eq, V> {
+    pairs: Vec<(K, V)>,
+}
+
+impl<K: Eq, V> LinearMap<K, V> {
+    /// An empty map, which takes no memory until the first pair.
+    ///
+    /// # Contract
+    ///
+    /// ```text
+    /// ensures { result ≡ [] }
+    /// ```
+    pub fn new(alloc: Global) -> Self {
+        LinearMap {
+            pairs: Vec::new(alloc),
+        }
+    }
+
+    /// An empty map with room for `capacity` pairs.
+    ///
+    /// # Contract
+    ///
+    /// ```text
+    /// ensures empty { IfOk result (λ m. m ≡ []) }
+    /// ensures needs_none { capacity ≡ 0 → IsOk result }
+    /// ```
+    pub fn with_capacity(alloc: Global, capacity: usize) -> Result<Self, AllocError> {
+        Ok(LinearMap {
+            pairs: Vec::with_capacity(alloc, capacity)?,
+        })
+    }
+
+    /// The number of pairs.
+    ///
+    /// # Contract
+    ///
+    /// ```text
+    /// ensures len { result ≡ length self.now }
+    /// ensures distinct { HasDistinctKeys K.eq self.now }
+    /// ```
+    pub fn len(&self) -> usize {
+        self.pairs.len()
+    }
+
+    /// Whether there is no pair.
+    ///
+    /// # Contract
+    ///
+    /// ```text
+    /// ensures { result ≡ (length self.now == 0) }
+    /// ```
+    pub fn is_empty(&self) -> bool {
+        self.pairs.is_empty()
+    }
+
+    /// The values, in order.
+    ///
+    /// # Contract
+    ///
+    /// ```text
+    /// ensures rest { result ≡ values_of self.now }
+    /// ensures runs { ShowsInOrder (deref {X = V}) }
+    /// ```
+    pub fn values(&self) -> Values<'_, K, V> {
+        Values::new(&self.pairs)
+    }
+
+    /// The keys, in order.
+    ///
+    /// # Contract
+    ///
+    /// ```text
+    /// ensures rest { result ≡ keys_of self.now }
+    /// ensures runs { ShowsInOrder (deref {X = K}) }
+    /// ```
+    pub fn keys(&self) -> Keys<'_, K, V> {
+        Keys::new(&self.pairs)
+    }
+
+    /// The pairs, in order.
+    ///
+    /// # Contract
+    ///
+    /// ```text
+    /// ensures rest { result ≡ self.now }
+    /// ensures runs { ShowsInOrder (deref {X = K × V}) }
+    /// ```
+    pub fn iter(&self) -> Iter<'_, K, V> {
+        Iter::new(&self.pairs)
+    }
+
+    /// The place of the pair whose key equals `k`.
+    fn place_of(&self, k: &K) -> Option<usize> {
+        self.pairs.iter().position(|pair| *k == pair.0)
+    }
+
+    /// The value of the pair whose key equals `k`, or `None` where there is none.
+    ///
+    /// # Contract
+    ///
+    /// ```text
+    /// ensures { option_copied result ≡ value_at K.eq self.now k.now }
+    /// ```
+    pub fn get(&self, k: &K) -> Option<&V> {
+        let place = self.place_of(k)?;
+        Some(&self.pairs[place].1)
+    }
+
+    /// The same value, to write to. A write changes that value alone.
+    ///
+    /// # Contract
+    ///
+    /// ```text
+    /// ensures* writes_back { sem 𝓛 (lends_value K.row V.row K.eq self.entry k.now result) }
+    /// ensures value { option_copied_mut result ≡ value_at K.eq self.old k.now }
+    /// ```
+    pub fn get_mut(&mut self, k: &K) -> Option<&mut V> {
+        let place = self.place_of(k)?;
+        Some(&mut self.pairs[place].1)
+    }
+}
+
+impl<K: Eq, V> LinearMap<K, V> {
+    /// Gives `k` the value `v`. A known key keeps its place and its stored spelling, its old value is returned, and `k` is
+    /// dropped. A new pair goes last. Only a new pair can need memory: `NoRoom` hands it back, and the map stays as it
+    /// was.
+    ///
+    /// # Contract
+    ///
+    /// ```text
+    /// ensures old { IfOk result (λ old. old ≡ value_at K.eq self.old k) }
+    /// ensures put { OnOk result (self.new ≡ put K.eq self.old k v) }
+    /// ensures given { IfErr result (λ e. e.given ≡ (k, v)) }
+    /// ensures unchanged { OnErr result (self.new ≡ self.old) }
+    /// ensures refuses_new { OnErr result (value_at K.eq self.old k ≡ None) }
+    /// ensures known { IsSome (value_at K.eq self.old k) → IsOk result }
+    /// ensures known_keys { IsSome (value_at K.eq self.old k) → keys_of self.new ≡ keys_of self.old }
+    /// ensures distinct { HasDistinctKeys K.eq self.new }
+    /// ```
+    pub fn insert(&mut self, k: K, v: V) -> Result<Option<V>, NoRoom<(K, V)>> {
+        if let Some(place) = self.place_of(&k) {
+            return Ok(Some(replace(&mut self.pairs[place].1, v)));
+        }
+        if let Err(refused) = self.pairs.push((k, v)) {
+            return Err(NoRoom {
+                given: refused.value,
+            });
+        }
+        Ok(None)
+    }
+
+    /// The value at the key `k`, to write to. For a new key, first room is asked for, and then what `f` returns is added
+    /// last. Under a known key `f` is not called. Only a new key can need memory: `NoRoom` hands it back, and the map stays
+    /// as it was.
+    ///
+    /// # Contract
+    ///
+    /// ```text
+    /// requires { value_at K.eq self.old k ≡ None → F.pre f }
+    /// ensures* writes_back { sem 𝓛 (lends_put K.row V.row K.eq self.entry k result) }
+    /// ensures value { IfOk result (λ v. UnwrapsOrElse (value_at K.eq self.old k) (F.post f) v.now) }
+    /// ensures given { IfErr result (λ e. e.given ≡ k) }
+    /// ensures refuses_new { OnErr result (value_at K.eq self.old k ≡ None) }
+    /// ensures known { IsSome (value_at K.eq self.old k) → IsOk result }
+    /// ```
+    pub fn get_or_insert_with<F: FnOnce() -> V>(&mut self, k: K, f: F) -> Result<&mut V, NoRoom<K>> {
+        if let Some(place) = self.place_of(&k) {
+            return Ok(&mut self.pairs[place].1);
+        }
+        let last = self.len();
+        if self.pairs.reserve(1).is_err() {
+            return Err(NoRoom { given: k });
+        }
+        self.pairs.push_reserved((k, f()));
+        Ok(&mut self.pairs[last].1)
+    }
+}
+
+impl<K: Eq, V> LinearMap<K, V> {
+    /// The map after each pair of `it` is inserted in order. On a refusal the pairs that were taken are dropped.
+    ///
+    /// # Contract
+    ///
+    /// ```text
+    /// requires { IsFiniteIterable I.into_iter_gives I.IntoIter.can_next I.IntoIter.remaining it }
+    /// ensures pairs { IfOk result
+    ///     (λ m. (from : I.IntoIter) × (xs : List (K × V)) × I.into_iter_gives it from
+    ///     × Drains I.IntoIter.next_gives from xs × (m ≡ put_all K.eq [] xs)) }
+    ///
+    /// // The refused pair x has a new key. The pairs xs came before it.
+    /// ensures refuses_new { OnErr result ((from : I.IntoIter) × (xs : List (K × V)) × (x : K × V) × (rest : I.IntoIter)
+    ///     × I.into_iter_gives it from × YieldsThen I.IntoIter.next_gives from xs (Some x) rest
+    ///     × (value_at K.eq (put_all K.eq [] xs) x.0 ≡ None)) }
+    ///
+    /// // The same, as one run of `next`, from which a chain of iterators is proved.
+    /// ensures runs { IfOk result
+    ///     (λ m. (from : I.IntoIter) × I.into_iter_gives it from
+    ///     × WholeRun I.IntoIter.next_gives from (λ run. m ≡ put_all K.eq [] run.items)) }
+    /// ```
+    pub fn try_from_iter<I: IntoIterator<Item = (K, V)>>(
+        alloc: Global,
+        it: I,
+    ) -> Result<Self, AllocError> {
+        let mut map = LinearMap::new(alloc);
+        for (k, v) in it {
+            if map.insert(k, v).is_err() {
+                return Err(AllocError);
+            }
+        }
+        Ok(map)
+    }
+}
+
+/// The value of the pair whose key equals `k`, which has to be there: `get` is the test.
+impl<'q, K: Eq, V> Index<&'q K> for LinearMap<K, V> {
+    type Output = V;
+
+    fn index(&self, k: &'q K) -> &V {
+        self.get(k).unwrap()
+    }
+}
+
+/// Two maps are equal where they have equal pairs in the same order.
+impl<K: Eq, V: PartialEq> PartialEq for LinearMap<K, V> {
+    fn eq(&self, other: &Self) -> bool {
+        self.pairs == other.pairs
+    }
+}
+
+impl<K: Eq, V: Eq> Eq for LinearMap<K, V> {}
+
+/// The pairs by value, in order.
+impl<K: Eq, V> IntoIterator for LinearMap<K, V> {
+    type Item = (K, V);
+
+    type IntoIter = vec::IntoIter<(K, V)>;
+
+    fn into_iter(self) -> vec::IntoIter<(K, V)> {
+        self.pairs.into_iter()
+    }
+}
+
+/// References to the pairs, in order.
+impl<'a, K: Eq, V> IntoIterator for &'a LinearMap<K, V> {
+    type Item = &'a (K, V);
+
+    type IntoIter = slice::Iter<'a, (K, V)>;
+
+    fn into_iter(self) -> slice::Iter<'a, (K, V)> {
+        self.pairs.as_slice().iter()
+    }
+}

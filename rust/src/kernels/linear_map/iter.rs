@@ -1,0 +1,132 @@
+//! The iterators that lend the pairs, the keys or the values of a map, in its order. Each is seen as the list of what it
+//! has left.
+
+use core::slice;
+
+/// The pairs of a map, in order.
+pub struct Iter<'a, K, V> {
+    pairs: slice::Iter<'a, (K, V)>,
+}
+
+impl<'a, K, V> Iter<'a, K, V> {
+    pub(super) fn new(pairs: &'a [(K, V)]) -> Self {
+        Iter {
+            pairs: pairs.iter(),
+        }
+    }
+}
+
+impl<'a, K, V> Iterator for Iter<'a, K, V> {
+    type Item = &'a (K, V);
+
+    fn next(&mut self) -> Option<&'a (K, V)> {
+        self.pairs.next()
+    }
+
+    /// The number of pairs that are left, twice.
+    ///
+    /// # Contract
+    ///
+    /// ```text
+    /// ensures lower { IsWithinCount result.0 (at_most (length self.now)) }
+    /// ensures upper { IfSome result.1 (UpTo (at_most (length self.now))) }
+    /// ensures exact { result ≡ (length self.now, Some (length self.now)) }
+    /// ```
+    fn size_hint(&self) -> (usize, Option<usize>) {
+        let pairs = self.len();
+        (pairs, Some(pairs))
+    }
+}
+
+impl<'a, K, V> ExactSizeIterator for Iter<'a, K, V> {
+    /// The number of pairs that are left.
+    fn len(&self) -> usize {
+        self.pairs.len()
+    }
+}
+
+/// The keys of a map, in order.
+pub struct Keys<'a, K, V> {
+    pairs: slice::Iter<'a, (K, V)>,
+}
+
+impl<'a, K, V> Keys<'a, K, V> {
+    pub(super) fn new(pairs: &'a [(K, V)]) -> Self {
+        Keys {
+            pairs: pairs.iter(),
+        }
+    }
+}
+
+impl<'a, K, V> Iterator for Keys<'a, K, V> {
+    type Item = &'a K;
+
+    fn next(&mut self) -> Option<&'a K> {
+        let pair = self.pairs.next()?;
+        Some(&pair.0)
+    }
+
+    /// The number of keys that are left, twice.
+    ///
+    /// # Contract
+    ///
+    /// ```text
+    /// ensures lower { IsWithinCount result.0 (at_most (length self.now)) }
+    /// ensures upper { IfSome result.1 (UpTo (at_most (length self.now))) }
+    /// ensures exact { result ≡ (length self.now, Some (length self.now)) }
+    /// ```
+    fn size_hint(&self) -> (usize, Option<usize>) {
+        let keys = self.len();
+        (keys, Some(keys))
+    }
+}
+
+impl<'a, K, V> ExactSizeIterator for Keys<'a, K, V> {
+    /// The number of keys that are left.
+    fn len(&self) -> usize {
+        self.pairs.len()
+    }
+}
+
+/// The values of a map, in order.
+pub struct Values<'a, K, V> {
+    pairs: slice::Iter<'a, (K, V)>,
+}
+
+impl<'a, K, V> Values<'a, K, V> {
+    pub(super) fn new(pairs: &'a [(K, V)]) -> Self {
+        Values {
+            pairs: pairs.iter(),
+        }
+    }
+}
+
+impl<'a, K, V> Iterator for Values<'a, K, V> {
+    type Item = &'a V;
+
+    fn next(&mut self) -> Option<&'a V> {
+        let pair = self.pairs.next()?;
+        Some(&pair.1)
+    }
+
+    /// The number of values that are left, twice.
+    ///
+    /// # Contract
+    ///
+    /// ```text
+    /// ensures lower { IsWithinCount result.0 (at_most (length self.now)) }
+    /// ensures upper { IfSome result.1 (UpTo (at_most (length self.now))) }
+    /// ensures exact { result ≡ (length self.now, Some (length self.now)) }
+    /// ```
+    fn size_hint(&self) -> (usize, Option<usize>) {
+        let values = self.len();
+        (values, Some(values))
+    }
+}
+
+impl<'a, K, V> ExactSizeIterator for Values<'a, K, V> {
+    /// The number of values that are left.
+    fn len(&self) -> usize {
+        self.pairs.len()
+    }
+}

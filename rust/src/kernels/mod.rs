@@ -1,0 +1,14 @@
+// rust/erase writes this folder from the proved sources in crates/. What is to change is changed there.
+//! Bit reversal and transposes of large slices, and the counted traits that their kernels are written over.
+
+pub mod bits;
+pub mod places;
+pub mod reverse;
+pub mod transpose;
+
+pub mod chunks;
+pub mod linear_map;
+mod no_room;
+pub mod zip_eq;
+
+pub use no_room::NoRoom;

@@ -1,0 +1,140 @@
+//! Lists that kernels change by place alone, and counters that see each change.
+//!
+//! - A *holder* is what has the list: a slice, a view of rows, or a type of your own.
+//! - A *place* is an index of a list whose items may be exchanged ([`Places`]), a *cell* one whose item may be written
+//!   ([`Cells`]), and a *source* is a list that is only read ([`Source`]).
+//! - A *swap* is one counted exchange of two places ([`Swaps`]), a *write* one counted put of an item ([`Writes`]).
+//! - A kernel has a holder by value and gives it back. Its contract says after how many steps, so no step is left out and
+//!   none is made beside. A counter is a holder, and so is a reference to a holder. A call on a slice is its kernel over the
+//!   slice, a counted call its kernel over a new counter of the reference, and an `_on` call its kernel over a counter that
+//!   goes on from the caller's count.
+
+mod counters;
+mod references;
+mod slices;
+
+pub use counters::{Swaps, Writes};
+pub use slices::{SliceCells, SlicePlaces, SliceSource};
+
+/// A list whose items can be exchanged, and neither read nor moved in another way.
+///
+/// Contracts see an implementation as the list of its items. `same_holder n a b` says that b is a after n exchanges. A holder
+/// that borrows its items says that b still borrows the same slice, so what changes in the holder changes in that slice; one
+/// that does not count ignores n.
+pub trait Places {
+    /// What is at a place.
+    type Item;
+
+    /// The number of places.
+    ///
+    /// # Contract
+    ///
+    /// ```text
+    /// ensures { result ≡ length (items self.now) }
+    /// ```
+    fn len(&self) -> usize;
+
+    /// Exchanges the items at places `i` and `j`. Where they are one place, nothing changes.
+    ///
+    /// # Contract
+    ///
+    /// ```text
+    /// requires first { i < length (items self.old) }
+    /// requires second { j < length (items self.old) }
+    /// ensures exchanged { items self.new ≡ swap (items self.old) i j }
+    /// ensures holder { same_holder 1 self.old self.new }
+    /// ```
+    fn exchange(&mut self, i: usize, j: usize);
+
+    /// As `exchange`, where `i` is below `j`. A holder may do so without a test of their order.
+    ///
+    /// # Contract
+    ///
+    /// ```text
+    /// requires order { i < j }
+    /// requires second { j < length (items self.old) }
+    /// ensures exchanged { items self.new ≡ swap (items self.old) i j }
+    /// ensures holder { same_holder 1 self.old self.new }
+    /// ```
+    #[inline(always)]
+    fn exchange_ordered(&mut self, i: usize, j: usize) {
+        self.exchange(i, j);
+    }
+
+    /// Exchanges the `len` items from place `i` on with the `len` items from place `j` on, in order. The two runs have no
+    /// place in common. A holder may do so in a faster way than by its `exchange`.
+    ///
+    /// # Contract
+    ///
+    /// ```text
+    /// requires apart { (i + len ≤ j) ⊎ (j + len ≤ i) }
+    /// requires first { i + len ≤ length (items self.old) }
+    /// requires second { j + len ≤ length (items self.old) }
+    /// ensures exchanged { RunsExchanged i j len (items self.old) (items self.new) }
+    /// ensures holder { same_holder len self.old self.new }
+    /// ```
+    #[inline(always)]
+    fn exchange_runs(&mut self, i: usize, j: usize, len: usize) {
+        // Its contract says that the length is a usize.
+        let _ = self.len();
+        for t in 0..len {
+            self.exchange(i + t, j + t);
+        }
+    }
+}
+
+/// A list whose places can be written, and not read.
+///
+/// Contracts see an implementation as the list of its items, and `same_holder n a b` says that b is a after n puts, as in
+/// [`Places`].
+pub trait Cells {
+    /// What is put at a place.
+    type Item: Copy;
+
+    /// The number of places.
+    ///
+    /// # Contract
+    ///
+    /// ```text
+    /// ensures { result ≡ length (items self.now) }
+    /// ```
+    fn len(&self) -> usize;
+
+    /// Puts `v` at place `i`. All other items stay.
+    ///
+    /// # Contract
+    ///
+    /// ```text
+    /// requires { i < length (items self.old) }
+    /// ensures written { items self.new ≡ slice_set (items self.old) i v }
+    /// ensures holder { same_holder 1 self.old self.new }
+    /// ```
+    fn put(&mut self, i: usize, v: Self::Item);
+}
+
+/// A list whose items can be read, and not changed.
+///
+/// Contracts see an implementation as the list of its items.
+pub trait Source {
+    /// What is at a place.
+    type Item: Copy;
+
+    /// The number of items.
+    ///
+    /// # Contract
+    ///
+    /// ```text
+    /// ensures { result ≡ length (items self.now) }
+    /// ```
+    fn len(&self) -> usize;
+
+    /// The item at place `i`.
+    ///
+    /// # Contract
+    ///
+    /// ```text
+    /// requires { i < length (items self.now) }
+    /// ensures { slice_get (items self.now) i ≡ Some result }
+    /// ```
+    fn at(&self, i: usize) -> Self::Item;
+}

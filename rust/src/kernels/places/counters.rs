@@ -1,0 +1,205 @@
+//! Counters over holders, which see each exchange and each write.
+//!
+//! A counter is a holder too, whose count rises by as many steps as its own holder made. Its fields are for the calls that
+//! lend its holder to a kernel; a kernel, which is generic over its holder, cannot name them.
+
+use crate::kernels::places::{Cells, Places};
+
+/// A holder of places that counts its exchanges. The count stays at `u128::MAX` once it is there.
+pub struct Swaps<S> {
+    pub(crate) holder: S,
+    pub(crate) count: u128,
+}
+
+impl<S: Places> Swaps<S> {
+    /// Counts the exchanges in `holder` from 0.
+    ///
+    /// # Contract
+    ///
+    /// ```text
+    /// ensures holder { result.holder ≡ holder }
+    /// ensures count { result.count ≡ 0 }
+    /// ensures len_fits { length (S.items holder) < 2 ^ 64 }
+    /// ```
+    pub fn new(holder: S) -> Self {
+        Swaps::resumed(holder, 0)
+    }
+
+    /// Counts the exchanges in `holder` from `count` on.
+    #[inline(always)]
+    pub(crate) fn resumed(holder: S, count: u128) -> Self {
+        // Its contract says that the length is a usize, as kernels need to know.
+        let _ = holder.len();
+        Swaps { holder, count }
+    }
+
+    /// The number of places.
+    ///
+    /// # Contract
+    ///
+    /// ```text
+    /// ensures { result ≡ length (S.items self.now.holder) }
+    /// ```
+    pub fn len(&self) -> usize {
+        self.holder.len()
+    }
+
+    /// Exchanges the items at places `i` and `j`, by one exchange, and counts it.
+    ///
+    /// # Contract
+    ///
+    /// ```text
+    /// requires first { i < length (S.items self.old.holder) }
+    /// requires second { j < length (S.items self.old.holder) }
+    /// ensures exchanged { S.items self.new.holder ≡ swap (S.items self.old.holder) i j }
+    /// ensures count { self.new.count ≡ counted self.old.count 1 }
+    /// ensures holder { S.same_holder 1 self.old.holder self.new.holder }
+    /// ```
+    #[inline(always)]
+    pub fn swap(&mut self, i: usize, j: usize) {
+        self.holder.exchange(i, j);
+        self.count = self.count.saturating_add(1);
+    }
+
+    /// How many exchanges were made, at most `u128::MAX`.
+    ///
+    /// # Contract
+    ///
+    /// ```text
+    /// ensures { result ≡ self.now.count }
+    /// ```
+    pub fn swaps(&self) -> u128 {
+        self.count
+    }
+
+    /// The holder.
+    ///
+    /// # Contract
+    ///
+    /// ```text
+    /// ensures { result ≡ self.holder }
+    /// ```
+    pub fn into_inner(self) -> S {
+        let Swaps { holder, count: _ } = self;
+        holder
+    }
+}
+
+/// A holder of places that counts its writes. The count stays at `u128::MAX` once it is there.
+pub struct Writes<C> {
+    pub(crate) holder: C,
+    pub(crate) count: u128,
+}
+
+impl<C: Cells> Writes<C> {
+    /// Counts the writes to `holder` from 0.
+    ///
+    /// # Contract
+    ///
+    /// ```text
+    /// ensures holder { result.holder ≡ holder }
+    /// ensures count { result.count ≡ 0 }
+    /// ensures len_fits { length (C.items holder) < 2 ^ 64 }
+    /// ```
+    pub fn new(holder: C) -> Self {
+        Writes::resumed(holder, 0)
+    }
+
+    /// Counts the writes to `holder` from `count` on.
+    #[inline(always)]
+    pub(crate) fn resumed(holder: C, count: u128) -> Self {
+        // As for a counter of exchanges.
+        let _ = holder.len();
+        Writes { holder, count }
+    }
+
+    /// The number of places.
+    ///
+    /// # Contract
+    ///
+    /// ```text
+    /// ensures { result ≡ length (C.items self.now.holder) }
+    /// ```
+    pub fn len(&self) -> usize {
+        self.holder.len()
+    }
+
+    /// Puts `v` at place `i`, by one write, and counts it.
+    ///
+    /// # Contract
+    ///
+    /// ```text
+    /// requires { i < length (C.items self.old.holder) }
+    /// ensures written { C.items self.new.holder ≡ slice_set (C.items self.old.holder) i v }
+    /// ensures count { self.new.count ≡ counted self.old.count 1 }
+    /// ensures holder { C.same_holder 1 self.old.holder self.new.holder }
+    /// ```
+    #[inline(always)]
+    pub fn put(&mut self, i: usize, v: C::Item) {
+        self.holder.put(i, v);
+        self.count = self.count.saturating_add(1);
+    }
+
+    /// How many writes were made, at most `u128::MAX`.
+    ///
+    /// # Contract
+    ///
+    /// ```text
+    /// ensures { result ≡ self.now.count }
+    /// ```
+    pub fn writes(&self) -> u128 {
+        self.count
+    }
+
+    /// The holder.
+    ///
+    /// # Contract
+    ///
+    /// ```text
+    /// ensures { result ≡ self.holder }
+    /// ```
+    pub fn into_inner(self) -> C {
+        let Writes { holder, count: _ } = self;
+        holder
+    }
+}
+
+/// Each exchange is one of the counter's holder, and counted.
+impl<S: Places> Places for Swaps<S> {
+    type Item = S::Item;
+
+    fn len(&self) -> usize {
+        Swaps::len(self)
+    }
+
+    #[inline(always)]
+    fn exchange(&mut self, i: usize, j: usize) {
+        Swaps::swap(self, i, j);
+    }
+
+    #[inline(always)]
+    fn exchange_ordered(&mut self, i: usize, j: usize) {
+        self.holder.exchange_ordered(i, j);
+        self.count = self.count.saturating_add(1);
+    }
+
+    #[inline(always)]
+    fn exchange_runs(&mut self, i: usize, j: usize, len: usize) {
+        self.holder.exchange_runs(i, j, len);
+        self.count = self.count.saturating_add(len as u128);
+    }
+}
+
+/// Each put is one of the counter's holder, and counted.
+impl<C: Cells> Cells for Writes<C> {
+    type Item = C::Item;
+
+    fn len(&self) -> usize {
+        Writes::len(self)
+    }
+
+    #[inline(always)]
+    fn put(&mut self, i: usize, v: Self::Item) {
+        Writes::put(self, i, v);
+    }
+}

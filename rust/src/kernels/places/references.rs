@@ -1,0 +1,55 @@
+//! A reference to a holder is a holder too.
+
+use crate::kernels::places::{Cells, Places, Source};
+
+/// The holder behind the reference is the holder.
+impl<S: Places> Places for &mut S {
+    type Item = S::Item;
+
+    fn len(&self) -> usize {
+        S::len(self)
+    }
+
+    #[inline(always)]
+    fn exchange(&mut self, i: usize, j: usize) {
+        S::exchange(self, i, j);
+    }
+
+    #[inline(always)]
+    fn exchange_ordered(&mut self, i: usize, j: usize) {
+        S::exchange_ordered(self, i, j);
+    }
+
+    #[inline(always)]
+    fn exchange_runs(&mut self, i: usize, j: usize, len: usize) {
+        S::exchange_runs(self, i, j, len);
+    }
+}
+
+/// The holder behind the reference is the holder.
+impl<C: Cells> Cells for &mut C {
+    type Item = C::Item;
+
+    fn len(&self) -> usize {
+        C::len(self)
+    }
+
+    #[inline(always)]
+    fn put(&mut self, i: usize, v: Self::Item) {
+        C::put(self, i, v);
+    }
+}
+
+/// The source behind the reference is the source.
+impl<R: Source> Source for &R {
+    type Item = R::Item;
+
+    fn len(&self) -> usize {
+        R::len(self)
+    }
+
+    #[inline(always)]
+    fn at(&self, i: usize) -> Self::Item {
+        R::at(self, i)
+    }
+}

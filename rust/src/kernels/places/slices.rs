@@ -1,0 +1,125 @@
+//! Slices as holders: their places, their cells and what they are read from.
+
+use crate::kernels::places::{Cells, Places, Source};
+
+/// The items of a mutable slice. What it holds is in the slice when the borrow ends.
+pub struct SlicePlaces<'a, F> {
+    /// The slice.
+    pub items: &'a mut [F],
+}
+
+impl<'a, F> SlicePlaces<'a, F> {
+    /// The items of `items`, in order.
+    ///
+    /// # Contract
+    ///
+    /// ```text
+    /// ensures { result.items ≡ items.entry }
+    /// ```
+    pub fn new(items: &'a mut [F]) -> Self {
+        SlicePlaces { items }
+    }
+}
+
+impl<'a, F> Places for SlicePlaces<'a, F> {
+    type Item = F;
+
+    fn len(&self) -> usize {
+        self.items.len()
+    }
+
+    #[inline(always)]
+    fn exchange(&mut self, i: usize, j: usize) {
+        self.items.swap(i, j);
+    }
+
+    #[inline(always)]
+    fn exchange_ordered(&mut self, i: usize, j: usize) {
+        swap_ordered(self.items, i, j);
+    }
+
+    #[inline(always)]
+    fn exchange_runs(&mut self, i: usize, j: usize, len: usize) {
+        swap_runs(self.items, i, j, len);
+    }
+}
+
+/// Exchanges the items at places `i` and `j`, with no test of their order.
+#[inline(always)]
+fn swap_ordered<F>(items: &mut [F], i: usize, j: usize) {
+    let (front, back) = items.split_at_mut(j);
+    core::mem::swap(&mut front[i], &mut back[0]);
+}
+
+/// Exchanges the `len` items of `items` from place `i` on with those from place `j` on.
+#[inline(always)]
+fn swap_runs<F>(items: &mut [F], i: usize, j: usize, len: usize) {
+    let (low, high) = (i.min(j), i.max(j));
+    let (front, back) = items.split_at_mut(high);
+    front[low..low + len].swap_with_slice(&mut back[..len]);
+}
+
+/// The places of a mutable slice. What it holds is in the slice when the borrow ends.
+pub struct SliceCells<'a, T> {
+    /// The slice.
+    pub values: &'a mut [T],
+}
+
+impl<'a, T: Copy> SliceCells<'a, T> {
+    /// The places of `values`, in order.
+    ///
+    /// # Contract
+    ///
+    /// ```text
+    /// ensures { result.values ≡ values.entry }
+    /// ```
+    pub fn new(values: &'a mut [T]) -> Self {
+        SliceCells { values }
+    }
+}
+
+impl<'a, T: Copy> Cells for SliceCells<'a, T> {
+    type Item = T;
+
+    fn len(&self) -> usize {
+        self.values.len()
+    }
+
+    #[inline(always)]
+    fn put(&mut self, i: usize, v: T) {
+        self.values[i] = v;
+    }
+}
+
+/// The items of a slice, to be read.
+#[derive(Clone, Copy)]
+pub struct SliceSource<'a, T> {
+    /// The slice.
+    pub slice: &'a [T],
+}
+
+impl<'a, T: Copy> SliceSource<'a, T> {
+    /// The items of `slice`, in order.
+    ///
+    /// # Contract
+    ///
+    /// ```text
+    /// ensures { result.slice ≡ slice.entry }
+    /// ```
+    pub fn new(slice: &'a [T]) -> Self {
+        SliceSource { slice }
+    }
+}
+
+impl<'a, T: Copy> Source for SliceSource<'a, T> {
+    type Item = T;
+
+    fn len(&self) -> usize {
+        self.slice.len()
+    }
+
+    #[inline(always)]
+    fn at(&self, i: usize) -> T {
+        self.slice[i]
+    }
+}

@@ -1,0 +1,138 @@
+//! Bit reversal of lists: each item goes to the place whose index has the same binary digits in reversed order.
+
+mod long;
+mod rows;
+
+use crate::kernels::places::{Places, SlicePlaces, Swaps};
+pub use long::reverse_index_bits_long;
+use long::reverse_long;
+use rows::reverse_short;
+pub(crate) use rows::{RowDigits, reverse_rows};
+pub use rows::{reverse_chunks_on, reverse_index_bits_short, reverse_row_index_bits_on};
+
+/// The greatest number of items for which the short path is picked.
+const SHORT_PATH_ITEMS: usize = 8192;
+
+/// Whether `len` items are rows of `row_width` whose number is zero or a power of two. Of rows of one item this is
+/// whether `len` is zero or a power of two, and of rows of no items whether it is zero.
+///
+/// # Contract
+///
+/// ```text
+/// ensures rows { IsTrue result ↔ FitsRows len row_width }
+/// ensures items { row_width ≡ 1 → (IsTrue result ↔ IsZeroOrPowerOfTwo len) }
+/// ```
+pub fn fits_rows(len: usize, row_width: usize) -> bool {
+    if row_width == 0 {
+        return len == 0;
+    }
+    len == 0 || (len % row_width == 0 && (len / row_width).is_power_of_two())
+}
+
+/// Reverses the order of `vals` by index bits: with 2^k items, place `i` gets the item from the place whose index has
+/// the k bits of `i` in reversed order. The length is zero or a power of two, which `fits_rows(vals.len(), 1)` tests, and
+/// std's `is_power_of_two`. The same call restores the order. No item is cloned or dropped.
+///
+/// # Contract
+///
+/// ```text
+/// requires { IsReversible (length vals.old) }
+/// ensures order { IsReversal vals.old vals.new }
+/// ensures inverse { IsReversal vals.new vals.old }
+/// ```
+pub fn reverse_slice_index_bits<F>(vals: &mut [F]) {
+    let _ = reverse_items(vals);
+}
+
+/// Reverses `places` by index bits, as [`reverse_index_bits_on`] does over a fresh counter, and returns the number of
+/// exchanges.
+///
+/// # Contract
+///
+/// ```text
+/// requires { IsReversible (length (S.items places.old)) }
+/// ensures order { IsReversal (S.items places.old) (S.items places.new) }
+/// ensures inverse { IsReversal (S.items places.new) (S.items places.old) }
+/// ensures count { result ≡ reversal_swaps (length (S.items places.old)) }
+/// ensures bound { result ≤ 3 * length (S.items places.old) / 2 }
+/// ensures holder { S.same_holder result places.old places.new }
+/// ```
+#[inline(always)]
+pub fn reverse_counted<S: Places>(places: &mut S) -> u128 {
+    reverse_index_bits(Swaps::new(places)).swaps()
+}
+
+/// Reverses the order of the rows of `vals`, of `row_width` items each, by index bits: with 2^k rows, row `r` becomes the
+/// row whose index has the k bits of `r` in reversed order. The number of rows is zero or a power of two, which
+/// [`fits_rows`] tests. The same call restores the order. No item is cloned or dropped.
+///
+/// # Contract
+///
+/// ```text
+/// requires { FitsRows (length vals.old) row_width }
+/// ensures order { IsRowReversal row_width vals.old vals.new }
+/// ensures inverse { IsRowReversal row_width vals.new vals.old }
+/// ```
+pub fn reverse_slice_row_index_bits<F>(vals: &mut [F], row_width: usize) {
+    let _ = reverse_rows_of_items(vals, row_width);
+}
+
+/// Reverses the rows of `places` by index bits, as [`reverse_row_index_bits_on`] does over a fresh counter, and returns the
+/// number of exchanges.
+///
+/// # Contract
+///
+/// ```text
+/// requires { FitsRows (length (S.items places.old)) row_width }
+/// ensures order { IsRowReversal row_width (S.items places.old) (S.items places.new) }
+/// ensures inverse { IsRowReversal row_width (S.items places.new) (S.items places.old) }
+/// ensures count { result ≡ row_swaps (length (S.items places.old)) row_width }
+/// ensures bound { result ≤ length (S.items places.old) / 2 }
+/// ensures holder { S.same_holder result places.old places.new }
+/// ```
+#[inline(always)]
+pub fn reverse_rows_counted<S: Places>(places: &mut S, row_width: usize) -> u128 {
+    let rows = RowDigits::of(places.len(), row_width);
+    reverse_rows(Swaps::new(places), rows).swaps()
+}
+
+/// Reverses `m` by index bits, as [`reverse_slice_index_bits`] does, in at most 3n/2 swaps at length n: by the short path
+/// up to 8192 items, and else by the long one. The length is zero or a power of two.
+///
+/// # Contract
+///
+/// ```text
+/// requires { IsReversible (length (S.items m.old.holder)) }
+/// ensures order { IsReversal (S.items m.old.holder) (S.items m.new.holder) }
+/// ensures count { m.new.count ≡ counted m.old.count (reversal_swaps (length (S.items m.old.holder))) }
+/// ensures bound { let n = length (S.items m.old.holder) in reversal_swaps n ≤ 3 * n / 2 }
+/// ensures holder { S.same_holder (reversal_swaps (length (S.items m.old.holder))) m.old.holder m.new.holder }
+/// ```
+pub fn reverse_index_bits_on<S: Places>(m: &mut Swaps<S>) {
+    m.count = reverse_index_bits(Swaps::resumed(&mut m.holder, m.count)).swaps();
+}
+
+/// The kernel over the slice, which comes back: a caller learns nothing of a slice that is lent to a holder by value.
+#[inline(always)]
+fn reverse_items<F>(vals: &mut [F]) -> &mut [F] {
+    let SlicePlaces { items } = reverse_index_bits(SlicePlaces::new(vals));
+    items
+}
+
+/// As [`reverse_items`], for rows.
+#[inline(always)]
+fn reverse_rows_of_items<F>(vals: &mut [F], row_width: usize) -> &mut [F] {
+    let rows = RowDigits::of(vals.len(), row_width);
+    let SlicePlaces { items } = reverse_rows(SlicePlaces::new(vals), rows);
+    items
+}
+
+/// The kernel of [`reverse_index_bits_on`].
+#[inline(always)]
+pub(crate) fn reverse_index_bits<M: Places>(m: M) -> M {
+    if m.len() <= SHORT_PATH_ITEMS {
+        reverse_short(m)
+    } else {
+        reverse_long(m)
+    }
+}

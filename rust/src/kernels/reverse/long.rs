@@ -1,0 +1,50 @@
+//! Bit reversal of long lists: chunks, squares, and chunks again.
+//!
+//! With `2^k` items, `half = k / 2` and `c = k - half`, the list is `2^half` rows of `2^c` items, and `c` is `half` or
+//! `half + 1`. So it is one square or two side by side. The index of an item is a row, a square and a column. The two
+//! passes over rows, which are the chunks, reverse the bits of the row; the transposes between them exchange row and column.
+
+use crate::kernels::bits::{log2_strict_usize, pow2};
+use crate::kernels::places::{Places, Swaps};
+use crate::kernels::reverse::rows::reverse_chunks;
+use crate::kernels::transpose::transpose_square;
+
+/// Reverses `m` by index bits, as [`reverse_slice_index_bits`](crate::kernels::reverse::reverse_slice_index_bits) does, by chunks
+/// and squares. The length is a power of two, and at least 4. It makes at most 3n/2 swaps at length n: more than
+/// [`reverse_index_bits_short`](crate::kernels::reverse::reverse_index_bits_short), and in an order that suits lists beyond the caches.
+///
+/// # Contract
+///
+/// ```text
+/// requires fits { IsReversible (length (S.items m.old.holder)) }
+/// requires not_short { 4 ≤ length (S.items m.old.holder) }
+/// ensures order { IsReversal (S.items m.old.holder) (S.items m.new.holder) }
+/// ensures count { m.new.count ≡ counted m.old.count (long_swaps (clog (length (S.items m.old.holder)))) }
+/// ensures bound { let n = length (S.items m.old.holder) in long_swaps (clog n) ≤ 3 * n / 2 }
+/// ensures holder { S.same_holder (long_swaps (clog (length (S.items m.old.holder)))) m.old.holder m.new.holder }
+/// ```
+pub fn reverse_index_bits_long<S: Places>(m: &mut Swaps<S>) {
+    m.count = reverse_long(Swaps::resumed(&mut m.holder, m.count)).swaps();
+}
+
+/// The kernel of [`reverse_index_bits_long`].
+#[inline(never)]
+pub(crate) fn reverse_long<M: Places>(m: M) -> M {
+    let bits = log2_strict_usize(m.len());
+    let half = bits / 2;
+    let m = reverse_chunks(m, half, bits - half);
+    let m = transpose_squares(m, bits - half, half);
+    reverse_chunks(m, half, bits - half)
+}
+
+/// Transposes each of the squares of `2^log_size` rows and columns that lie side by side, where `m` is `2^log_size` rows of
+/// `2^log_stride` items. It makes at most n/2 swaps at length n.
+fn transpose_squares<M: Places>(m: M, log_stride: usize, log_size: usize) -> M {
+    let side = pow2(log_size);
+    let squares = pow2(log_stride - log_size);
+    let mut m = m;
+    for square in 0..squares {
+        m = transpose_square(m, square * side, log_stride, log_size);
+    }
+    m
+}

@@ -1,0 +1,209 @@
+//! Transposes of matrices that are held as flat lists, row after row.
+
+mod butterfly;
+mod regions;
+mod split;
+mod square;
+mod strips;
+
+use crate::kernels::places::{Cells, SliceCells, SliceSource, Source, Writes};
+pub use butterfly::{butterfly_4x4, butterfly_stage1, butterfly_stage2};
+pub(crate) use regions::Matrix;
+pub use regions::Region;
+use split::put_split;
+pub use split::{transpose_source_split_on, transpose_split_on};
+pub(crate) use square::transpose_square;
+pub use square::transpose_square_on;
+use strips::{Strips, put_strips};
+
+/// The number of items above which a matrix is split.
+const LARGE_MATRIX: usize = 1_048_576;
+
+/// As many levels as the split of any matrix needs, and more.
+const ENOUGH_LEVELS: u32 = 64;
+
+/// Whether an input and an output of these lengths hold a matrix of `width` by `height` items, with the product as a
+/// whole number that does not wrap. It is the test for the condition of [`transpose`] and [`transpose_on`].
+///
+/// # Contract
+///
+/// ```text
+/// ensures { IsTrue result ↔ ((input_len ≡ width * height) × (output_len ≡ width * height)) }
+/// ```
+pub fn fits_matrix(input_len: usize, output_len: usize, width: usize, height: usize) -> bool {
+    width
+        .checked_mul(height)
+        .is_some_and(|items| input_len == items && output_len == items)
+}
+
+/// Writes to `output` the transpose of `input`, a matrix of `height` rows of `width` items: what stood at
+/// `y * width + x` is put at `x * height + y`. Both lengths are `width` times `height`, which [`fits_matrix`] tests. The
+/// transpose of `output` the other way round, with `height` for the width, is `input` again.
+///
+/// # Contract
+///
+/// ```text
+/// requires input_fits { length input.now ≡ width * height }
+/// requires output_fits { length output.old ≡ width * height }
+/// ensures order { IsTranspose width height input.now output.new }
+/// ensures inverse { IsTranspose height width output.new input.now }
+/// ```
+pub fn transpose<T: Copy>(input: &[T], output: &mut [T], width: usize, height: usize) {
+    let _ = transpose_items(Matrix::new(SliceSource::new(input), width, height), output);
+}
+
+/// Puts the transpose of `input` into `cells`, as [`transpose_on`] does over a fresh counter, and returns the number of
+/// writes.
+///
+/// # Contract
+///
+/// ```text
+/// requires input_fits { length input.now ≡ width * height }
+/// requires output_fits { length (C.items cells.old) ≡ width * height }
+/// ensures order { IsTranspose width height input.now (C.items cells.new) }
+/// ensures count { result ≡ width * height }
+/// ensures holder { C.same_holder result cells.old cells.new }
+/// ```
+pub fn transpose_counted<C: Cells>(
+    input: &[C::Item],
+    cells: &mut C,
+    width: usize,
+    height: usize,
+) -> u128 {
+    transpose_source_counted(&SliceSource::new(input), cells, width, height)
+}
+
+/// Puts the transpose of any source into `cells`, as [`transpose_counted`] does that of a slice.
+///
+/// # Contract
+///
+/// ```text
+/// requires input_fits { length (R.items input.now) ≡ width * height }
+/// requires output_fits { length (C.items cells.old) ≡ width * height }
+/// ensures order { IsTranspose width height (R.items input.now) (C.items cells.new) }
+/// ensures count { result ≡ width * height }
+/// ensures holder { C.same_holder result cells.old cells.new }
+/// ```
+pub fn transpose_source_counted<R, C>(input: &R, cells: &mut C, width: usize, height: usize) -> u128
+where
+    C: Cells,
+    R: Source<Item = C::Item>,
+{
+    let matrix = Matrix::new(input, width, height);
+    transpose_matrix(Writes::new(cells), matrix).writes()
+}
+
+/// Puts the transpose of `input` into `out`, as [`transpose`] does, in exactly `width * height` writes. Both lengths are
+/// `width` times `height`, which [`fits_matrix`] tests.
+///
+/// # Contract
+///
+/// ```text
+/// requires input_fits { length input.now ≡ width * height }
+/// requires output_fits { length (C.items out.old.holder) ≡ width * height }
+/// ensures order { IsTranspose width height input.now (C.items out.new.holder) }
+/// ensures count { out.new.count ≡ counted out.old.count (width * height) }
+/// ensures holder { C.same_holder (width * height) out.old.holder out.new.holder }
+/// ```
+pub fn transpose_on<C: Cells>(input: &[C::Item], out: &mut Writes<C>, width: usize, height: usize) {
+    transpose_source_on(&SliceSource::new(input), out, width, height);
+}
+
+/// Puts the transpose of any source into `out`, as [`transpose_on`] does that of a slice.
+///
+/// # Contract
+///
+/// ```text
+/// requires input_fits { length (R.items input.now) ≡ width * height }
+/// requires output_fits { length (C.items out.old.holder) ≡ width * height }
+/// ensures order { IsTranspose width height (R.items input.now) (C.items out.new.holder) }
+/// ensures count { out.new.count ≡ counted out.old.count (width * height) }
+/// ensures holder { C.same_holder (width * height) out.old.holder out.new.holder }
+/// ```
+pub fn transpose_source_on<R, C>(input: &R, out: &mut Writes<C>, width: usize, height: usize)
+where
+    C: Cells,
+    R: Source<Item = C::Item>,
+{
+    let matrix = Matrix::new(input, width, height);
+    let counter = Writes::resumed(&mut out.holder, out.count);
+    out.count = transpose_matrix(counter, matrix).writes();
+}
+
+/// Puts the transpose of `region`, a part of the matrix `input`, into `out`, in one write an item: what stood at
+/// `y * width + x` is put at `x * height + y`, for each row y and column x of the region. Every other place stays. Both
+/// lengths are `width` times `height`, which [`fits_matrix`] tests.
+///
+/// # Contract
+///
+/// ```text
+/// requires input_fits { length input.now ≡ width * height }
+/// requires output_fits { length (C.items out.old.holder) ≡ width * height }
+/// requires inside { LiesInMatrix region width height }
+/// ensures transposed { IsRegionTransposed region width height input.now
+///     (C.items out.old.holder) (C.items out.new.holder) }
+/// ensures count { out.new.count ≡ counted out.old.count (items_of region) }
+/// ensures holder { C.same_holder (items_of region) out.old.holder out.new.holder }
+/// ```
+pub fn transpose_region_on<C: Cells>(
+    input: &[C::Item],
+    out: &mut Writes<C>,
+    region: Region,
+    width: usize,
+    height: usize,
+) {
+    let matrix = Matrix::new(SliceSource::new(input), width, height);
+    let counter = Writes::resumed(&mut out.holder, out.count);
+    out.count = put_strips(counter, matrix, region, Strips::of(matrix)).writes();
+}
+
+/// Puts the transpose of `region`, as [`transpose_region_on`] does over a fresh counter, and returns the number of writes.
+///
+/// # Contract
+///
+/// ```text
+/// requires input_fits { length input.now ≡ width * height }
+/// requires output_fits { length (C.items cells.old) ≡ width * height }
+/// requires inside { LiesInMatrix region width height }
+/// ensures transposed { IsRegionTransposed region width height input.now (C.items cells.old) (C.items cells.new) }
+/// ensures count { result ≡ items_of region }
+/// ensures holder { C.same_holder result cells.old cells.new }
+/// ```
+pub fn transpose_region_counted<C: Cells>(
+    input: &[C::Item],
+    cells: &mut C,
+    region: Region,
+    width: usize,
+    height: usize,
+) -> u128 {
+    let matrix = Matrix::new(SliceSource::new(input), width, height);
+    put_strips(Writes::new(cells), matrix, region, Strips::of(matrix)).writes()
+}
+
+/// The kernel over the slice, which comes back: a caller learns nothing of a slice that is lent to a holder by value.
+#[inline(always)]
+fn transpose_items<T: Copy, R: Source<Item = T> + Copy>(
+    matrix: Matrix<R>,
+    output: &mut [T],
+) -> &mut [T] {
+    let SliceCells { values } = transpose_matrix(SliceCells::new(output), matrix);
+    values
+}
+
+/// The kernel of [`transpose_source_on`]. The source goes by value here and below, so that its address is not read again at
+/// each item.
+pub(crate) fn transpose_matrix<M: Cells, R: Source<Item = M::Item> + Copy>(
+    out: M,
+    matrix: Matrix<R>,
+) -> M {
+    let whole = matrix.whole();
+    if out.len() > LARGE_MATRIX {
+        let (out, _) = put_split(out, matrix, whole, ENOUGH_LEVELS);
+        return out;
+    }
+    match Strips::of(matrix) {
+        // With strips that the compiler knows, the smallest matrices take a third less time.
+        Strips::High => put_strips(out, matrix, whole, Strips::High),
+        strips => put_strips(out, matrix, whole, strips),
+    }
+}

@@ -1,0 +1,90 @@
+//! A matrix that is read, its regions, and the parts that they are cut into.
+
+/// A matrix of `height` rows of `width` items, row after row in `source`.
+#[derive(Clone, Copy)]
+pub(crate) struct Matrix<R> {
+    pub source: R,
+    pub width: usize,
+    pub height: usize,
+}
+
+impl<R> Matrix<R> {
+    /// The matrix of these sides.
+    #[inline(always)]
+    pub(crate) fn new(source: R, width: usize, height: usize) -> Self {
+        Matrix {
+            source,
+            width,
+            height,
+        }
+    }
+
+    /// The region that is the whole matrix.
+    #[inline(always)]
+    pub(crate) fn whole(&self) -> Region {
+        Region {
+            row_start: 0,
+            row_end: self.height,
+            col_start: 0,
+            col_end: self.width,
+        }
+    }
+}
+
+/// The rows from `row_start` to below `row_end` of a matrix, and of these the columns from `col_start` to below `col_end`.
+#[derive(Clone, Copy, Debug, PartialEq, Eq)]
+pub struct Region {
+    /// The first row.
+    pub row_start: usize,
+    /// The row after the last one.
+    pub row_end: usize,
+    /// The first column.
+    pub col_start: usize,
+    /// The column after the last one.
+    pub col_end: usize,
+}
+
+impl Region {
+    /// The number of rows.
+    #[inline(always)]
+    pub(crate) fn rows(self) -> usize {
+        self.row_end - self.row_start
+    }
+
+    /// The number of columns.
+    #[inline(always)]
+    pub(crate) fn cols(self) -> usize {
+        self.col_end - self.col_start
+    }
+
+    /// The rows of the region from `start` to below `end`, rows of the matrix.
+    #[inline(always)]
+    pub(crate) fn with_rows(self, start: usize, end: usize) -> Region {
+        Region {
+            row_start: start,
+            row_end: end,
+            ..self
+        }
+    }
+
+    /// The columns of the region from `start` to below `end`, columns of the matrix.
+    #[inline(always)]
+    pub(crate) fn with_cols(self, start: usize, end: usize) -> Region {
+        Region {
+            col_start: start,
+            col_end: end,
+            ..self
+        }
+    }
+
+    /// The same region, of which the compiler learns the numbers of rows and columns where it knows `rows` and `cols`.
+    #[inline(always)]
+    pub(crate) fn with_known_sides(self, rows: usize, cols: usize) -> Region {
+        Region {
+            row_start: self.row_start,
+            row_end: self.row_start + rows,
+            col_start: self.col_start,
+            col_end: self.col_start + cols,
+        }
+    }
+}

@@ -1,0 +1,127 @@
+//! The transpose of a large region, whose longer side is halved until the parts are small.
+
+use crate::kernels::places::{Cells, SliceSource, Source, Writes};
+use crate::kernels::transpose::regions::{Matrix, Region};
+use crate::kernels::transpose::strips::{Strips, put_strips};
+
+/// The greatest side of a part that is not halved where its other side is no longer.
+const LEAF_SIDE: usize = 128;
+
+/// The greatest side of a part that is not halved, however long its other side is.
+const NARROW_SIDE: usize = 2;
+
+/// Puts the transpose of `region` into `out` as [`transpose_region_on`](crate::kernels::transpose::transpose_region_on) does, by
+/// halves, and returns how many splits are nested on the longest path, which is at most 57. Where both sides of the
+/// region are at most 128 or one of them is at most 2 there is no split. Else the longer side is halved, the rows where
+/// the sides are equal, and each half is put in the same way with one level less. 64 levels are enough for every region of
+/// a matrix.
+///
+/// # Contract
+///
+/// ```text
+/// requires input_fits { length input.now ≡ width * height }
+/// requires output_fits { length (C.items out.old.holder) ≡ width * height }
+/// requires inside { LiesInMatrix region width height }
+/// requires enough { lev (rows_of region) (cols_of region) ≤ levels }
+/// ensures transposed { IsRegionTransposed region width height input.now
+///     (C.items out.old.holder) (C.items out.new.holder) }
+/// ensures count { out.new.count ≡ counted out.old.count (items_of region) }
+/// ensures nested { result ≡ nest (rows_of region) (cols_of region) }
+/// ensures bound { result ≤ 57 }
+/// ensures holder { C.same_holder (items_of region) out.old.holder out.new.holder }
+/// ```
+pub fn transpose_split_on<C: Cells>(
+    input: &[C::Item],
+    out: &mut Writes<C>,
+    region: Region,
+    width: usize,
+    height: usize,
+    levels: u32,
+) -> u32 {
+    transpose_source_split_on(&SliceSource::new(input), out, region, width, height, levels)
+}
+
+/// Puts the transpose of a region of any source into `out`, as [`transpose_split_on`] does that of a slice.
+///
+/// # Contract
+///
+/// ```text
+/// requires input_fits { length (R.items input.now) ≡ width * height }
+/// requires output_fits { length (C.items out.old.holder) ≡ width * height }
+/// requires inside { LiesInMatrix region width height }
+/// requires enough { lev (rows_of region) (cols_of region) ≤ levels }
+/// ensures transposed { IsRegionTransposed region width height (R.items input.now)
+///     (C.items out.old.holder) (C.items out.new.holder) }
+/// ensures count { out.new.count ≡ counted out.old.count (items_of region) }
+/// ensures nested { result ≡ nest (rows_of region) (cols_of region) }
+/// ensures bound { result ≤ 57 }
+/// ensures holder { C.same_holder (items_of region) out.old.holder out.new.holder }
+/// ```
+pub fn transpose_source_split_on<R, C>(
+    input: &R,
+    out: &mut Writes<C>,
+    region: Region,
+    width: usize,
+    height: usize,
+    levels: u32,
+) -> u32
+where
+    C: Cells,
+    R: Source<Item = C::Item>,
+{
+    let matrix = Matrix::new(input, width, height);
+    let (_, count, nested) = put_split_counted(&mut out.holder, out.count, matrix, region, levels);
+    out.count = count;
+    nested
+}
+
+/// Puts `region` by halves over a counter that goes on from `count`, and returns its holder, its count and how many splits are
+/// nested.
+fn put_split_counted<C: Cells, R: Source<Item = C::Item> + Copy>(
+    cells: C,
+    count: u128,
+    matrix: Matrix<R>,
+    region: Region,
+    levels: u32,
+) -> (C, u128, u32) {
+    let (done, nested) = put_split(Writes::resumed(cells, count), matrix, region, levels);
+    let count = done.writes();
+    (done.into_inner(), count, nested)
+}
+
+/// The kernel of [`transpose_source_split_on`]: puts `region` by halves, with at most `levels` levels, and returns how many
+/// splits are nested too.
+pub(crate) fn put_split<M: Cells, R: Source<Item = M::Item> + Copy>(
+    out: M,
+    matrix: Matrix<R>,
+    region: Region,
+    levels: u32,
+) -> (M, u32) {
+    if is_leaf(region) {
+        return (put_strips(out, matrix, region, Strips::High), 0);
+    }
+    let (first, second) = halves(region);
+    let (out, nested) = put_split(out, matrix, first, levels - 1);
+    let (out, nested_after) = put_split(out, matrix, second, levels - 1);
+    (out, 1 + nested.max(nested_after))
+}
+
+/// Whether `region` is put without a split.
+fn is_leaf(region: Region) -> bool {
+    let (rows, cols) = (region.rows(), region.cols());
+    rows.min(cols) <= NARROW_SIDE || rows.max(cols) <= LEAF_SIDE
+}
+
+/// The halves of `region` at its longer side, or at its rows where both are equal.
+fn halves(region: Region) -> (Region, Region) {
+    let (rows, cols) = (region.rows(), region.cols());
+    if rows >= cols {
+        let middle = region.row_start + rows / 2;
+        let upper = region.with_rows(region.row_start, middle);
+        (upper, region.with_rows(middle, region.row_end))
+    } else {
+        let middle = region.col_start + cols / 2;
+        let left = region.with_cols(region.col_start, middle);
+        (left, region.with_cols(middle, region.col_end))
+    }
+}

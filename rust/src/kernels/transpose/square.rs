@@ -1,0 +1,116 @@
+//! The transpose of a square of items in place.
+//!
+//! Row `a` and column `b` of the square are at place `base + a * stride + b` of the list. Each exchange is of two places
+//! that mirror one another across the diagonal, and each such pair is exchanged once.
+
+use crate::kernels::bits::pow2;
+use crate::kernels::places::{Places, Swaps};
+use crate::kernels::transpose::regions::Region;
+
+/// The greatest numbers of rows and columns of a region that is exchanged item by item.
+const LEAF_ROWS: usize = 16;
+
+const LEAF_COLS: usize = 8;
+
+/// Where a square lies in a list: its first place, and how far apart its rows begin.
+#[derive(Clone, Copy)]
+struct Square {
+    base: usize,
+    stride: usize,
+}
+
+/// Transposes in place the square of `s = 2^log_size` rows and columns whose first place is `base` and whose rows begin
+/// `2^log_stride` places apart, by `s * (s - 1) / 2` exchanges. All other places stay.
+///
+/// # Contract
+///
+/// ```text
+/// requires rows_apart { log_size ≤ log_stride }
+/// requires stride_fits { log_stride < 64 }
+/// requires room { let s = 2 ^ log_size in
+///     base + (s - 1) * 2 ^ log_stride + (s - 1) < length (S.items m.old.holder) }
+/// ensures transposed { IsSquareTransposed base log_stride log_size (S.items m.old.holder) (S.items m.new.holder) }
+/// ensures count { let s = 2 ^ log_size in m.new.count ≡ counted m.old.count (s * (s - 1) / 2) }
+/// ensures holder { let s = 2 ^ log_size in S.same_holder (s * (s - 1) / 2) m.old.holder m.new.holder }
+/// ```
+pub fn transpose_square_on<S: Places>(
+    m: &mut Swaps<S>,
+    base: usize,
+    log_stride: usize,
+    log_size: usize,
+) {
+    let counter = Swaps::resumed(&mut m.holder, m.count);
+    m.count = transpose_square(counter, base, log_stride, log_size).swaps();
+}
+
+/// The kernel of [`transpose_square_on`].
+pub(crate) fn transpose_square<M: Places>(
+    m: M,
+    base: usize,
+    log_stride: usize,
+    log_size: usize,
+) -> M {
+    let square = Square {
+        base,
+        stride: pow2(log_stride),
+    };
+    transpose_part(m, square, 0, pow2(log_size))
+}
+
+/// Transposes the `size` rows and columns from row and column `start` on, by quadrants.
+fn transpose_part<M: Places>(m: M, square: Square, start: usize, size: usize) -> M {
+    if size <= 1 {
+        return m;
+    }
+    let half = size / 2;
+    let upper_right = Region {
+        row_start: start,
+        row_end: start + half,
+        col_start: start + half,
+        col_end: start + size,
+    };
+    let m = transpose_part(m, square, start, half);
+    let m = swap_region(m, square, upper_right);
+    transpose_part(m, square, start + half, size - half)
+}
+
+/// Exchanges a region above the diagonal with its mirror image below. A large one is halved: the rows where they are more than
+/// twice the columns, else the columns.
+fn swap_region<M: Places>(m: M, square: Square, region: Region) -> M {
+    let (rows, cols) = (region.rows(), region.cols());
+    if rows <= LEAF_ROWS && cols == LEAF_COLS {
+        // The compiler knows how many columns most leaves have.
+        swap_leaf(m, square, region.with_known_sides(rows, LEAF_COLS))
+    } else if rows <= LEAF_ROWS && cols < LEAF_COLS {
+        swap_leaf(m, square, region)
+    } else if rows / 2 > cols {
+        let middle = region.row_start + rows / 2;
+        let m = swap_region(m, square, region.with_rows(region.row_start, middle));
+        swap_region(m, square, region.with_rows(middle, region.row_end))
+    } else {
+        let middle = region.col_start + cols / 2;
+        let m = swap_region(m, square, region.with_cols(region.col_start, middle));
+        swap_region(m, square, region.with_cols(middle, region.col_end))
+    }
+}
+
+/// As [`swap_region`], row after row.
+#[inline(always)]
+fn swap_leaf<M: Places>(m: M, square: Square, region: Region) -> M {
+    let mut m = m;
+    for row in region.row_start..region.row_end {
+        m = swap_row(m, square, row, region);
+    }
+    m
+}
+
+/// Exchanges row `row` of the columns of `region`, which are right of the diagonal, with its mirror image.
+#[inline(always)]
+fn swap_row<M: Places>(m: M, square: Square, row: usize, region: Region) -> M {
+    let Square { base, stride } = square;
+    let mut m = m;
+    for col in region.col_start..region.col_end {
+        m.exchange_ordered(base + row * stride + col, base + col * stride + row);
+    }
+    m
+}

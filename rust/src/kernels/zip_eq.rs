@@ -1,0 +1,75 @@
+//! Two iterators of one length as one iterator of pairs.
+
+/// Pairs the items of `a` and `b` by place, or returns `err` where their lengths differ.
+///
+/// # Contract
+///
+/// ```text
+/// ensures lengths { (i : A.IntoIter) × (j : B.IntoIter)
+///     × A.into_iter_gives a i × B.into_iter_gives b j
+///     × (let same = size (A.IntoIter.remaining i) ≡ size (B.IntoIter.remaining j) in
+///     MatchResult result
+///     (λ z. same × (zip_eq_first z ≡ i) × (zip_eq_second z ≡ j))
+///     (λ e. (e ≡ err) × ¬ same)) }
+/// ensures runs { IfOk result (PairsRuns A.IntoIter.next_gives B.IntoIter.next_gives) }
+///
+/// // The same with all that the two are asked for, by which a caller's search finds the list of the pairs.
+/// ensures asked { IfOk result (AskedRuns A.IntoIter.next_gives B.IntoIter.next_gives) }
+///
+/// // The length that the pairs state is true where those of the two iterators are.
+/// ensures length { IfOk result (λ z.
+///     HasTrueLength A.IntoIter.next_gives A.IntoIter.remaining (zip_eq_first z)
+///     → HasTrueLength B.IntoIter.next_gives B.IntoIter.remaining (zip_eq_second z)
+///     → HasTrueLength (zip_eq_steps A.IntoIter.next_gives B.IntoIter.next_gives)
+///     (zip_eq_left A.IntoIter.remaining) z) }
+/// ```
+pub fn zip_eq<A, B, Error>(a: A, b: B, err: Error) -> Result<ZipEq<A::IntoIter, B::IntoIter>, Error>
+where
+    A: IntoIterator,
+    A::IntoIter: ExactSizeIterator,
+    B: IntoIterator,
+    B::IntoIter: ExactSizeIterator,
+{
+    let first = a.into_iter();
+    let second = b.into_iter();
+    if first.len() != second.len() {
+        return Err(err);
+    }
+    Ok(ZipEq { first, second })
+}
+
+/// The iterator that [`zip_eq`] makes.
+pub struct ZipEq<A, B> {
+    first: A,
+    second: B,
+}
+
+impl<A: ExactSizeIterator, B: ExactSizeIterator> Iterator for ZipEq<A, B> {
+    type Item = (A::Item, B::Item);
+
+    fn next(&mut self) -> Option<(A::Item, B::Item)> {
+        match (self.first.next(), self.second.next()) {
+            (Some(x), Some(y)) => Some((x, y)),
+            _ => None,
+        }
+    }
+
+    /// # Contract
+    ///
+    /// ```text
+    /// ensures lower { IsWithinCount result.0 (zip_eq_left A.remaining self.now) }
+    /// ensures upper { IfSome result.1 (UpTo (zip_eq_left A.remaining self.now)) }
+    /// ensures exact { let left = size (zip_eq_left A.remaining self.now) in
+    ///     (result.0 ≡ left) × (result.1 ≡ Some left) }
+    /// ```
+    fn size_hint(&self) -> (usize, Option<usize>) {
+        let len = self.len();
+        (len, Some(len))
+    }
+}
+
+impl<A: ExactSizeIterator, B: ExactSizeIterator> ExactSizeIterator for ZipEq<A, B> {
+    fn len(&self) -> usize {
+        self.first.len()
+    }
+}

@@ -1,0 +1,137 @@
+//! A map that keeps its pairs in the order of insertion and finds a key by comparing it with each.
+
+use core::fmt::{self, Debug, Formatter};
+use core::ops::Index;
+
+use crate::kernels::linear_map as proved;
+use crate::memory::{Global, granted};
+pub use proved::{Iter, Keys, Values};
+
+/// A map in insertion order, for few keys. A look-up compares the key with each stored one.
+///
+/// Its calls panic where memory runs out. Those of [`proved::LinearMap`], which it is made of, return the refusal.
+pub struct LinearMap<K: Eq, V>(proved::LinearMap<K, V>);
+
+impl<K: Eq, V> LinearMap<K, V> {
+    /// An empty map, which takes no memory until the first pair.
+    pub fn new() -> Self {
+        LinearMap(proved::LinearMap::new(Global))
+    }
+
+    /// An empty map with room for `capacity` pairs.
+    ///
+    /// # Panics
+    ///
+    /// Where memory runs out.
+    #[track_caller]
+    pub fn with_capacity(capacity: usize) -> Self {
+        LinearMap(granted(proved::LinearMap::with_capacity(Global, capacity)))
+    }
+
+    /// The value of the pair whose key equals `k`, or `None` where there is none.
+    pub fn get(&self, k: &K) -> Option<&V> {
+        self.0.get(k)
+    }
+
+    /// The same value, to write to.
+    pub fn get_mut(&mut self, k: &K) -> Option<&mut V> {
+        self.0.get_mut(k)
+    }
+
+    /// Gives `k` the value `v`, and returns the value that it had. A known key keeps its place and its stored spelling, and a
+    /// new pair goes last.
+    ///
+    /// # Panics
+    ///
+    /// Where memory runs out.
+    #[track_caller]
+    pub fn insert(&mut self, k: K, v: V) -> Option<V> {
+        granted(self.0.insert(k, v))
+    }
+
+    /// The value at the key `k`, to write to. A new key is added last, with what `f` returns. Under a known one `f` is not
+    /// called.
+    ///
+    /// # Panics
+    ///
+    /// Where memory runs out.
+    #[track_caller]
+    pub fn get_or_insert_with(&mut self, k: K, f: impl FnOnce() -> V) -> &mut V {
+        granted(self.0.get_or_insert_with(k, f))
+    }
+
+    /// The keys, in order.
+    pub fn keys(&self) -> Keys<'_, K, V> {
+        self.0.keys()
+    }
+
+    /// The values, in order.
+    pub fn values(&self) -> Values<'_, K, V> {
+        self.0.values()
+    }
+
+    /// The pairs, in order.
+    pub fn iter(&self) -> Iter<'_, K, V> {
+        self.0.iter()
+    }
+}
+
+impl<K: Eq + Debug, V: Debug> Debug for LinearMap<K, V> {
+    fn fmt(&self, f: &mut Formatter<'_>) -> fmt::Result {
+        f.debug_tuple("LinearMap").field(&self.into_iter().as_slice()).finish()
+    }
+}
+
+impl<K: Eq, V> Default for LinearMap<K, V> {
+    fn default() -> Self {
+        Self::new()
+    }
+}
+
+/// Inserts each pair in turn.
+///
+/// # Panics
+///
+/// Where memory runs out.
+impl<K: Eq, V> FromIterator<(K, V)> for LinearMap<K, V> {
+    #[track_caller]
+    fn from_iter<I: IntoIterator<Item = (K, V)>>(pairs: I) -> Self {
+        LinearMap(granted(proved::LinearMap::try_from_iter(Global, pairs)))
+    }
+}
+
+/// The value of the pair whose key equals `k`.
+///
+/// # Panics
+///
+/// Where there is none.
+impl<K: Eq, V> Index<&K> for LinearMap<K, V> {
+    type Output = V;
+
+    #[track_caller]
+    fn index(&self, k: &K) -> &V {
+        self.get(k).unwrap()
+    }
+}
+
+/// The pairs by value, in order.
+impl<K: Eq, V> IntoIterator for LinearMap<K, V> {
+    type Item = (K, V);
+
+    type IntoIter = alloc::vec::IntoIter<(K, V)>;
+
+    fn into_iter(self) -> Self::IntoIter {
+        self.0.into_iter()
+    }
+}
+
+/// References to the pairs, in order.
+impl<'a, K: Eq, V> IntoIterator for &'a LinearMap<K, V> {
+    type Item = &'a (K, V);
+
+    type IntoIter = core::slice::Iter<'a, (K, V)>;
+
+    fn into_iter(self) -> Self::IntoIter {
+        (&self.0).into_iter()
+    }
+}

@@ -1,0 +1,89 @@
+//! Lists of every length and matrices of every shape, beside the definitions.
+
+use p3_util_proved::reverse_slice_index_bits;
+use p3_util_proved::transpose::transpose;
+
+use crate::{panics, reversed};
+
+/// Reverses the numbers below `len`, where it is zero or a power of two; else the call panics and changes nothing.
+fn check_length(len: usize) {
+    let mut list: Vec<usize> = (0..len).collect();
+    let panicked = panics(|| reverse_slice_index_bits(&mut list));
+    assert_eq!(panicked, len != 0 && !len.is_power_of_two(), "{len}");
+    let bits = if panicked || len == 0 { 0 } else { len.ilog2() };
+    for (i, got) in list.iter().enumerate() {
+        let wanted = if panicked { i } else { reversed(bits, i) };
+        assert_eq!(*got, wanted, "place {i} of {len}");
+    }
+}
+
+#[test]
+fn lists_of_each_length() {
+    (0..=1 << 12).for_each(check_length);
+    (13..=16).for_each(|bits| check_length(1 << bits));
+}
+
+/// Transposes the items that `item` makes, and compares each column.
+fn check_shape<T: Copy + PartialEq + Send + Sync>(item: &impl Fn(usize) -> T, (width, height): (usize, usize)) {
+    let input: Vec<T> = (0..width * height).map(item).collect();
+    let mut output = vec![item(usize::MAX); input.len()];
+    transpose(&input, &mut output, width, height);
+    for (x, column) in output.chunks_exact(height).enumerate() {
+        let wanted = input[x..].iter().step_by(width);
+        assert!(column.iter().eq(wanted), "column {x} of {width} by {height}");
+    }
+}
+
+fn check_shapes<T: Copy + PartialEq + Send + Sync>(item: impl Fn(usize) -> T) {
+    let pairs = (1..=70).flat_map(|width| (1..=70).map(move |height| (width, height)));
+    pairs.for_each(|shape| check_shape(&item, shape));
+}
+
+#[test]
+fn every_pair_of_sides() {
+    check_shapes(|i| i as u32);
+    check_shapes(|i| [i as u8, (i >> 8) as u8, 7]);
+    check_shapes(|i| i as u64);
+}
+
+/// The larger shapes that the benchmark measures, and the original's tests have.
+const SHAPES: [(usize, usize); 27] = [
+    (300, 60),
+    (60, 300),
+    (120, 140),
+    (128, 129),
+    (255, 1),
+    (1, 256),
+    (512, 512),
+    (1000, 1024),
+    (1024, 1024),
+    (1025, 1024),
+    (1024, 1025),
+    (1025, 1025),
+    (1100, 1000),
+    (2048, 2048),
+    (4096, 4096),
+    (2050, 512),
+    (2003, 757),
+    (757, 2003),
+    (4096, 16),
+    (16, 65_536),
+    (300, 4096),
+    (100, 16_384),
+    (40, 65_536),
+    (12, 262_144),
+    (65_536, 40),
+    (262_144, 12),
+    (17, 61_681),
+];
+
+#[test]
+fn shapes_of_the_benchmark() {
+    SHAPES.into_iter().for_each(|shape| check_shape(&|i| i as u32, shape));
+}
+
+#[test]
+fn shapes_of_the_benchmark_of_three_bytes() {
+    let item = |i| [i as u8, (i >> 8) as u8, (i >> 16) as u8];
+    SHAPES.into_iter().for_each(|shape| check_shape(&item, shape));
+}

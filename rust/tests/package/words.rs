@@ -1,0 +1,107 @@
+//! The calls on single words.
+
+use p3_util_proved::*;
+
+use crate::answers::{LOGARITHMS, POWERS, REVERSED_BELOW_POWERS, REVERSED_DIGITS, SUMS};
+use crate::{panics, reversed};
+
+#[test]
+fn originals_answers() {
+    for (n, ceil, floor) in LOGARITHMS {
+        assert_eq!((log2_ceil_usize(*n), log2_floor_usize(*n)), (*ceil, *floor), "{n}");
+        assert_eq!(log2_ceil_u64(*n as u64), *ceil as u64, "{n}");
+    }
+    for (exponent, wanted) in POWERS {
+        assert_eq!(checked_pow2(*exponent), *wanted, "{exponent}");
+    }
+    for (a, b, wanted) in SUMS {
+        assert_eq!(checked_log_size_sum(*a, *b), *wanted, "{a} {b}");
+    }
+    for (x, n, wanted) in REVERSED_BELOW_POWERS {
+        assert_eq!(reverse_bits(*x, *n), *wanted, "{x} {n}");
+    }
+    for (x, bit_len, wanted) in REVERSED_DIGITS {
+        assert_eq!(reverse_bits_len(*x, *bit_len), *wanted, "{x} {bit_len}");
+    }
+}
+
+/// The powers of two and of three, and what is beside them.
+fn powers_and_neighbours() -> impl Iterator<Item = usize> {
+    let twos = (0..64).map(|e| 1 << e);
+    let threes = (0..=40).map(|e| 3usize.pow(e));
+    let near = |n: usize| [n - 1, n, n.wrapping_add(1)];
+    twos.chain(threes).flat_map(near).chain([usize::MAX])
+}
+
+#[test]
+fn powers_and_their_neighbours() {
+    for n in powers_and_neighbours() {
+        let floor = (0..64).rev().find(|e| 1 << e <= n).unwrap_or(0);
+        let ceil = (0..64).find(|e| n <= 1 << e).unwrap_or(64);
+        assert_eq!((log2_floor_usize(n), log2_ceil_usize(n)), (floor, ceil), "{n}");
+        let two = (0..64).find(|e| n == 1 << e);
+        let three = (0..=40).find(|e| n == 3usize.pow(*e));
+        assert_eq!(two.is_none(), panics(|| _ = log2_strict_usize(n)), "{n}");
+        assert_eq!(two.is_none(), panics(|| _ = reverse_bits(1, n)), "{n}");
+        assert_eq!(three.is_none(), panics(|| _ = log3_strict_usize(n)), "{n}");
+        assert!(two.is_none_or(|e| log2_strict_usize(n) == e), "{n}");
+        assert!(three.is_none_or(|e| log3_strict_usize(n) == e as usize), "{n}");
+        for bits in 1..=64 {
+            assert_eq!(reverse_bits_len(n, bits), reversed(bits as u32, n), "{n} {bits}");
+        }
+        assert_eq!(reverse_bits_len(n, 0), reversed(64, n), "{n}");
+    }
+}
+
+const ROWS: usize = 1 << 5;
+const LOG_ROWS: usize = log2_strict_usize(ROWS);
+static PLACES: [usize; ROWS] = {
+    let mut places = indices_arr::<ROWS>();
+    let mut i = 0;
+    while i < ROWS {
+        places[i] = reverse_bits_len(places[i], LOG_ROWS);
+        i += 1;
+    }
+    places
+};
+const OTHERS: (usize, usize, u64, usize, usize) = (
+    log2_ceil_usize(9),
+    log2_floor_usize(9),
+    log2_ceil_u64(9),
+    log3_strict_usize(531_441),
+    reverse_bits(0b01011, ROWS),
+);
+const CHECKED: (Option<usize>, Option<(usize, usize)>) = (checked_pow2(64), checked_log_size_sum(20, 3));
+
+#[test]
+fn constants() {
+    assert_eq!(LOG_ROWS, 5);
+    assert_eq!(PLACES[..5], [0, 16, 8, 24, 4]);
+    assert_eq!(OTHERS, (4, 3, 4, 12, 0b11010));
+    assert_eq!(CHECKED, (None, Some((23, 8_388_608))));
+    assert_eq!(indices_arr::<0>(), [0; 0]);
+}
+
+/// Each answer that the original warns of where it is not used, as a warning that has to come.
+#[test]
+#[deny(unfulfilled_lint_expectations)]
+fn unused_answers() {
+    macro_rules! unused {
+        ($($call:expr;)*) => {
+            $(#[expect(unused_must_use)]
+            {
+                $call;
+            })*
+        };
+    }
+    unused! {
+        log2_ceil_usize(3);
+        log2_ceil_u64(3);
+        log2_floor_usize(3);
+        log2_strict_usize(4);
+        log3_strict_usize(3);
+        checked_pow2(3);
+        checked_log_size_sum(3, 4);
+        indices_arr::<3>();
+    }
+}
