@@ -13,7 +13,8 @@ use. [MODEL](MODEL.md) says what the words of a clause mean. The headings are mo
 `lib.rt` uses from them is at its root too.
 
 A struct is listed with its private fields too, since a clause may name them. Where a type implements a trait, the lines
-below say what a clause sees of that type. The page is made by `python3 tests/contracts.py >docs/CONTRACTS.md`."""
+below say what a clause sees of that type. `rt check` in the folder of a crate that calls these proves what they ask, or
+names what is open. The page is made by `python3 tests/contracts.py >docs/CONTRACTS.md`."""
 WORDS = """
 ## Where the words of clauses are
 

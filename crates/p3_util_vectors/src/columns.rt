@@ -1,7 +1,7 @@
 //! A column of a matrix as a list to read, and as one whose items a kernel exchanges.
 //!
-//! The place of an item is a product and a sum, in which no search finds row and column again. So the lemmas of a column are
-//! given theirs in the files of `new`, `len` and of what reads or exchanges.
+//! The place of an item is `row * width + column`, as the lemmas of a column write it. So the search finds row and column
+//! again, and no type or function here has a proof file.
 
 ghost use Rattle.std.specs.Prelude.{◌≡◌, ◌*◌, ◌<◌, Some, length, slice_get, swap};
 ghost use Rattle.std.proofs.Common.{rules};

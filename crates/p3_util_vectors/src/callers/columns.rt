@@ -24,6 +24,21 @@ pub fn reverse_column<T>(values: &mut [T], shape: ColumnShape)
     reverse_counted(&mut column);
 }
 
+/// Reverses every second item of `values` by index bits, from the first on. They are a column of rows of two items.
+pub fn reverse_every_second<T>(values: &mut [T], pairs: usize)
+    requires fits { length values.old ≡ pairs * 2 }
+    requires power { IsReversible pairs }
+    ensures order { IsReversal (column_of 2 pairs 0 values.old) (column_of 2 pairs 0 values.new) }
+    ensures outside { IsSameOutside 2 pairs 0 values.old values.new }
+{
+    let shape = ColumnShape {
+        width: 2,
+        height: pairs,
+        column: 0,
+    };
+    reverse_column(values, shape);
+}
+
 /// Puts the transpose of a column of the matrix `values` into `out`, where the column is `height` rows of `width` items.
 pub fn transpose_column<C: Cells>(
     values: &[C::Item],

@@ -39,22 +39,22 @@ const EXAMPLES: [(usize, usize, &[u64], &[u64]); 3] = [
     (0, 5, &[], &[]),
 ];
 
-/// By each call, in a write an item, and by the call on slices.
+/// Asserts what each call makes of `input`, in a write an item, and what the call on slices makes of it.
+fn check_example(rt: &impl Abort, alloc: Global, shape: Shape, input: &[u64], wanted: &[u64]) {
+    for call in PUTS {
+        let (output, writes) = transposed(rt, alloc, call, input, shape);
+        same(rt, shape.width, &output.as_slice(), &wanted);
+        same(rt, shape.width, &writes, &(wanted.len() as u128));
+    }
+    let mut output = repeated(rt, alloc, 0, input.len());
+    transpose_slice(rt, input, &mut output, shape);
+    same(rt, shape.width, &output.as_slice(), &wanted);
+}
+
 #[test]
 fn worked_examples(rt: HostRuntime) {
-    for (row, (width, height, input, wanted)) in EXAMPLES.iter().enumerate() {
-        let shape = Shape {
-            width: *width,
-            height: *height,
-        };
-        for call in PUTS {
-            let (output, writes) = transposed(&rt, rt.alloc(), call, input, shape);
-            same(&rt, row, &output.as_slice(), wanted);
-            same(&rt, row, &writes, &(wanted.len() as u128));
-        }
-        let mut output = repeated(&rt, rt.alloc(), 0, input.len());
-        transpose_slice(&rt, input, &mut output, shape);
-        same(&rt, row, &output.as_slice(), wanted);
+    for (width, height, input, wanted) in EXAMPLES {
+        check_example(&rt, rt.alloc(), Shape { width, height }, input, wanted);
     }
 }
 
