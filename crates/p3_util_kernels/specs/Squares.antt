@@ -1,4 +1,5 @@
--- Squares side by side in a list, transposed one after another, for the long path and for who builds one of the same calls.
+-- Squares side by side in a list, the first of which are transposed. It serves the private contract of the long path's
+-- `transpose_squares`, and callers that make such a path of public calls.
 use Rattle.std.specs.Prelude.{ℕ, ◌≡◌, ◌+◌, ◌-◌, ◌*◌, ◌^◌, ◌<◌, ◌≤◌, List, length, slice_get}
 
 -- The list is 2 ^ log_size rows of 2 ^ log_stride items, so that squares lie side by side in it. The first `count` of them
