@@ -211,6 +211,33 @@ fn a_square_within_a_list() {
     assert!(noted.items.into_iter().eq(wanted));
 }
 
+/// The region that is a whole matrix.
+fn whole(width: usize, height: usize) -> Region {
+    Region {
+        row_start: 0,
+        row_end: height,
+        col_start: 0,
+        col_end: width,
+    }
+}
+
+/// Asserts that calls on a region put a whole matrix as a transpose does: where it is large those that split it, else the
+/// others.
+fn check_whole_region(input: &[u64], noted: &Noted, width: usize, height: usize) {
+    let whole = whole(width, height);
+    let (mut first, mut second) = (Noted::numbered(input.len()), Noted::numbered(input.len()));
+    let mut out = Writes::new(&mut first);
+    if input.len() > 1 << 20 {
+        let source = SliceSource::new(input);
+        transpose_split_on(input, &mut out, whole, width, height, 64);
+        transpose_source_split_on(&source, &mut Writes::new(&mut second), whole, width, height, 64);
+    } else {
+        transpose_region_on(input, &mut out, whole, width, height);
+        transpose_region_counted(input, &mut second, whole, width, height);
+    }
+    assert!(first == *noted && second == *noted, "{width} by {height}");
+}
+
 /// The columns and the rows of the puts of a transpose, in order. Each form of the call makes the same, as many as items.
 fn puts(width: usize, height: usize) -> Vec<(usize, usize)> {
     let input: Vec<u64> = (0..(width * height) as u64).collect();
@@ -225,6 +252,7 @@ fn puts(width: usize, height: usize) -> Vec<(usize, usize)> {
     let mut over_counter = Noted::numbered(input.len());
     transpose_on(&input, &mut Writes::new(&mut over_counter), width, height);
     assert!(over_counter == noted);
+    check_whole_region(&input, &noted, width, height);
     noted
         .puts
         .iter()
@@ -246,9 +274,10 @@ fn check_parts(puts: &[(usize, usize)], cols: usize, rows: usize) {
 }
 
 /// Widths, heights, how many of the first puts are looked at, and the columns and rows of the parts that they come in.
-const ORDERS: [(usize, usize, usize, [(usize, usize); 2]); 8] = [
+const ORDERS: [(usize, usize, usize, [(usize, usize); 2]); 9] = [
     (16, 16, 256, [(4, 4), (16, 16)]),
     (32, 32, 1024, [(4, 4), (16, 16)]),
+    (16, 65, 1024, [(1, 16), (16, 16)]),
     (64, 64, 4096, [(1, 16), (16, 16)]),
     (48, 32, 1536, [(1, 16), (16, 16)]),
     (16, 240, 3840, [(1, 16), (16, 16)]),
@@ -310,12 +339,7 @@ const SPLITS: [(usize, usize, u32, u32); 5] = [
 fn nested_splits() {
     for (height, width, needed, nested) in SPLITS {
         let input: Vec<u64> = (0..(width * height) as u64).collect();
-        let whole = Region {
-            row_start: 0,
-            row_end: height,
-            col_start: 0,
-            col_end: width,
-        };
+        let whole = whole(width, height);
         for levels in [needed, 64] {
             let (mut first, mut second) = (Noted::numbered(input.len()), Noted::numbered(input.len()));
             let (mut of_slice, mut of_source) = (Writes::new(&mut first), Writes::new(&mut second));
