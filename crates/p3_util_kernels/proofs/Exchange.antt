@@ -2,6 +2,7 @@
 use Rattle.std.proofs.Common.{ℕ, zero, suc, ◌≡◌, ◌≢◌, ◌<◌, List, [], ◌∷◌, length, set, get_or, Some, slice_get, refl, sym, ap, arith, inl, inr, length-set, ◌∙◌}
 use Rattle.std.specs.List.{swap}
 use Rattle.std.proofs.lemmas.Bool.{cases_eq}
+use Rattle.std.proofs.lemmas.List.{set-set}
 use Rattle.std.proofs.lemmas.Option.{slice_get-get_or}
 
 pub slice_get-set_same : {A : Type 0} (xs : List A) (i : ℕ) (v : A) → i < length xs → slice_get (set xs i v) i ≡ Some v
@@ -37,3 +38,7 @@ pub slice_get-swap_other : {A : Type 0} (xs : List A) (i j p : ℕ) → p ≢ i 
 slice_get-swap_other [] i j p hi hj = refl
 slice_get-swap_other (d ∷ ys) i j p hi hj =
     slice_get-set_other (set (d ∷ ys) i (get_or (d ∷ ys) j d)) j p (get_or (d ∷ ys) i d) hj ∙ slice_get-set_other (d ∷ ys) i p (get_or (d ∷ ys) j d) hi
+
+-- an item put twice at one place is put once
+pub set_again : {A : Type 0} (xs : List A) (i : ℕ) (v : A) → set (set xs i v) i v ≡ set xs i v
+set_again xs i v = set-set xs i v v
