@@ -1,4 +1,4 @@
-use Rattle.std.proofs.Common.{◌≡◌, ◌/◌, inl, ap, sym, ◌∙◌, arith}
+use Rattle.std.proofs.Common.{inl, sym}
 use Rattle.p3_util_kernels.proofs.Lengths.{IsPowerOfRows-from, no_digits}
 use Rattle.p3_util_kernels.proofs.reverse.rows.RowDigits.of.Goals as goal
 
