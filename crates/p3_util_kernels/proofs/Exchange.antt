@@ -39,6 +39,6 @@ slice_get-swap_other [] i j p hi hj = refl
 slice_get-swap_other (d ∷ ys) i j p hi hj =
     slice_get-set_other (set (d ∷ ys) i (get_or (d ∷ ys) j d)) j p (get_or (d ∷ ys) i d) hj ∙ slice_get-set_other (d ∷ ys) i p (get_or (d ∷ ys) j d) hi
 
--- an item put twice at one place is put once
+-- an item put twice at one place is put once, which must-fail/put_makes_two.edit names
 pub set_again : {A : Type 0} (xs : List A) (i : ℕ) (v : A) → set (set xs i v) i v ≡ set xs i v
 set_again xs i v = set-set xs i v v

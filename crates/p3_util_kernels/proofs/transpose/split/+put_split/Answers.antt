@@ -1,4 +1,4 @@
-use Rattle.std.proofs.Common.{◌∙◌, arith, rules}
+use Rattle.std.proofs.Common.{arith, rules}
 use Rattle.p3_util_kernels.specs.Region.{cols_of, rows_of}
 use Rattle.p3_util_kernels.proofs.Halves.{lev-of_region}
 use Rattle.p3_util_kernels.proofs.Levels.{nest_le}
@@ -21,7 +21,7 @@ put_split-out-requires g t c =
           (
             search rules,
             (
-              record { inside = c.halves.ensures.first_inside _ _ c.requires.ready.inside; input_fits = c.requires.ready.input_fits; output_fits = c.requires.ready.output_fits; length_fits = c.requires.ready.length_fits },
+              grind (arith, c.requires.ready, c.halves.ensures.first_inside _ _ c.requires.ready.inside),
               omega (arith, c.requires.enough),
             ),
           ),
@@ -45,7 +45,7 @@ put_split-out-requires-2 g t c =
           (
             search rules,
             (
-              record { inside = c.halves.ensures.second_inside _ _ c.requires.ready.inside; input_fits = c.requires.ready.input_fits; output_fits = c.put_split-out.ensures.transposed.same_length ∙ c.requires.ready.output_fits; length_fits = c.requires.ready.length_fits },
+              grind (arith, c.requires.ready, c.halves.ensures.second_inside _ _ c.requires.ready.inside),
               omega (arith, c.requires.enough),
             ),
           ),
