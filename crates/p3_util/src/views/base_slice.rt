@@ -7,7 +7,7 @@ ghost use Rattle.p3_util.specs.Flat.{IsFlat, flat};
 
 use super::BaseIter;
 use super::places::each_in_its_row;
-use p3_util_kernels::places::{SliceSource, Source};
+use p3_util_kernels::places::Source;
 use std::alloc::AllocError;
 use std::fmt;
 use std::marker::Model;
@@ -142,6 +142,8 @@ impl<'a, Base: Copy, const N: usize> Source for BaseSlice<'a, Base, N> {
     }
 
     fn at(&self, i: usize) -> Base {
-        SliceSource::new(self.items).at(i)
+        // That a slice fits in memory is known of a variable, and not of a field behind a `Model`.
+        let items = self.items;
+        items[i]
     }
 }
