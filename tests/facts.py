@@ -59,11 +59,12 @@ def difference(quoted, name):
 
 
 def check_quotations():
-    """Each function in a block of Rust is as a source has it, with its comment, all its clauses, and its body if it is there."""
+    """Each function in a block of Rust is as a source has it, with its comment, all its clauses, and its body if it is there.
+    A reader's own `main` is of no source."""
     for page, text in pages.items():
         for block in re.finditer(r"^```rust\n(.*?)^```", text, re.M | re.S):
             for part in re.split(r"\n\s*\n", block.group(1)):
-                name = re.search(r"^(?:pub )?(?:const )?fn (\w+)", part, re.M)
+                name = re.search(r"^(?:pub )?(?:const )?fn (?!main\b)(\w+)", part, re.M)
                 departs = name and difference(part, name.group(1))
                 if departs:
                     report(page, block.start(), f"{name.group(1)} is not as in the sources: {departs}")
