@@ -69,6 +69,20 @@ impl Work {
         }
     }
 
+    /// The cases that this one is summed up with: those of its call of about as many items.
+    pub fn group(self) -> &'static str {
+        match self {
+            Work::Reverse { log: ..=13 } => "reverse, up to 2^13 items",
+            Work::Reverse { .. } => "reverse, beyond",
+            Work::Rows { .. } => "rows, all",
+            Work::Transpose { .. } => match self.units() {
+                ..=64 => "transpose, up to 8x8",
+                ..=0x10_0000 => "transpose, up to 2^20 items",
+                _ => "transpose, beyond",
+            },
+        }
+    }
+
     /// The number of items, or of rows, that move.
     pub fn units(self) -> usize {
         match self {

@@ -151,7 +151,14 @@ pub fn summaries(rows: &[Row]) -> String {
                 .collect();
             summary(&mut out, &format!("{call}, items of {size}"), &group);
         }
-        summary(&mut out, &format!("{call}, all"), &of_call);
+        for name in distinct(of_call.iter().map(|row| row.case.work.group())) {
+            let group: Vec<&Row> = of_call
+                .iter()
+                .copied()
+                .filter(|row| row.case.work.group() == name)
+                .collect();
+            summary(&mut out, name, &group);
+        }
     }
     out
 }
