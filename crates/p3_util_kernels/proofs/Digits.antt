@@ -125,7 +125,7 @@ rev-parts j k a y h =
     rev-add j k (a * 2 ^ k + y) ∙ rw (high, low) refl
 
 -- at most one digit is its own reverse
-rev-one : (d m : ℕ) → d ≤ 1 → m < 2 ^ d → rev d m ≡ m
+pub rev-one : (d m : ℕ) → d ≤ 1 → m < 2 ^ d → rev d m ≡ m
 rev-one zero m few h = rw (rev-zero m) (omega arith)
 rev-one (suc zero) m few h = rw (rev-suc zero m, rev-zero m, div-one m) (omega arith)
 rev-one (suc (suc d)) m few h = absurd (omega arith)
@@ -142,15 +142,15 @@ rev-around q d a m y few middle h =
 pub rev-shr : (j k x : ℕ) → rev (j + k) x / 2 ^ j ≡ rev k x
 rev-shr j k x = rw (rev-add j k x) (div-mul-add (rev k x) (2 ^ j) (rev j (x / 2 ^ k)) (rev-lt j (x / 2 ^ k)))
 
--- The digits of a word of two halves, reversed: the reversed halves in the other order, put together as code does.
-pub rev-halves : (k x : ℕ) → x < 2 ^ (k + k)
-    → bit_or (rev k (bit_and x (2 ^ k - 1)) * 2 ^ k % 2 ^ (k + k)) (rev k (x / 2 ^ k)) ≡ rev (k + k) x
-rev-halves k x h =
+-- The digits of two halves, reversed: the reversed halves in the other order, put together as code of words of w digits does.
+pub rev-halves : (w k x : ℕ) → k + k ≤ w
+    → bit_or (rev k (bit_and x (2 ^ k - 1)) * 2 ^ k % 2 ^ w) (rev k (x / 2 ^ k)) ≡ rev (k + k) x
+rev-halves w k x fits =
     let low : rev k (x % 2 ^ k) ≡ rev k x = rev-mod k x in
     rw (
       and_mask x k,
       low,
-      shl_whole (rev k x) k k (k + k) (rev-lt k x) (omega arith),
+      shl_whole (rev k x) k k w (rev-lt k x) fits,
       or_shifted (rev k x) k (rev k (x / 2 ^ k)) (rev-lt k (x / 2 ^ k)),
     )
     (sym (rev-add k k x))
@@ -165,11 +165,12 @@ unfolding rev_word
 rev_word-above zero x h = absurd (omega arith)
 rev_word-above (suc k) x h = refl
 
--- the k low digits reversed are the high end of the reversed word
-pub rev-word-shr : (k x : ℕ) → k ≤ 64 → rev 64 x / 2 ^ (64 - k) ≡ rev k x
-rev-word-shr k x h =
-    let e : (64 - k) + k ≡ 64 = omega arith in
-    sym (ap (λ w. rev w x / 2 ^ (64 - k)) e) ∙ rev-shr (64 - k) k x
+-- the k low digits reversed are the high end of the reversed word r, and for no digits the whole of it
+pub rev_word-shr : (r k s x : ℕ) → r ≡ rev 64 x → (k ≡ 0 → s ≡ 0) → (0 < k → s + k ≡ 64) → r / 2 ^ s ≡ rev_word k x
+rev_word-shr r zero s x is whole part = rw (whole refl, div-one r) (is ∙ sym (rev_word-zero x))
+rev_word-shr r (suc k) s x is whole part =
+    let e : s + suc k ≡ 64 = part (omega arith) in
+    rw is (sym (ap (λ w. rev w x / 2 ^ s) e) ∙ rev-shr s (suc k) x ∙ sym (rev_word-above (suc k) x (omega arith)))
 
 -- the number 0 is its own reverse
 pub rev-of-zero : (k : ℕ) → rev k 0 ≡ 0

@@ -1,11 +1,12 @@
 -- Laws of powers of two, and what std's test for them says.
-use Rattle.std.proofs.Common.{◌≡◌, ℕ, zero, suc, ◌+◌, ◌*◌, ◌/◌, ◌%◌, ◌^◌, ◌<◌, ◌≤◌, ◌↔◌, IsTrue, refl, sym, ◌∙◌, ap, add-one, arith, inl, inr}
+use Rattle.std.proofs.Common.{◌≡◌, ℕ, zero, suc, ◌+◌, ◌-◌, ◌*◌, ◌/◌, ◌%◌, ◌^◌, ◌<◌, ◌≤◌, ◌↔◌, IsTrue, w64, refl, sym, ◌∙◌, ap, add-one, arith, inl, inr}
 use Rattle.std.proofs.Math.Nat.{pow-suc, pow-le-pow_right, one-le-pow}
 use Rattle.std.proofs.lemmas.Bool.{cases_lt, cases_order, cases_eq, eqb-true, eq-eqb}
-use Rattle.std.proofs.lemmas.Nat.{pow_pos, pow_below, zero_from_ones}
-use Rattle.std.specs.Int.{IsPowerOfTwo, is_power_of_two}
+use Rattle.std.proofs.lemmas.Nat.{pow_pos, pow_below, zero_from_ones, leading_length}
+use Rattle.std.proofs.lemmas.Nat.Bits.{bit_at-pow_other, bit_at-trailing_zeros}
+use Rattle.std.specs.Int.{IsPowerOfTwo, is_power_of_two, bit_at, trailing_zeros}
 use Rattle.p3_util_kernels.specs.Powers.{IsPowerOfThree}
-use Rattle.std.specs.Int.Count.{ones, ones_in, ones_step, ones_cat}
+use Rattle.std.specs.Int.Count.{count_leading_zeros, ones, ones_in, ones_step, ones_cat}
 
 -- powers in order have exponents in order
 pub exponent-le : (a b : ℕ) → 2 ^ a ≤ 2 ^ b → a ≤ b
@@ -25,14 +26,6 @@ exponent-lt a b h =
       | inl less ↦ let up : 2 ^ suc b ≤ 2 ^ a = pow-le-pow_right (omega arith) less in absurd (omega (arith, pow-suc 2 b))
       | inr le ↦ le
     ]
-
--- the highest set digit of a power is its exponent
-pub highest-power : (n r : ℕ) → IsPowerOfTwo n → 2 ^ r ≤ n → n < 2 * 2 ^ r → n ≡ 2 ^ r
-highest-power n r (e, is) low high =
-    let up : r ≤ e = exponent-le r e (omega arith) in
-    let down : e ≤ r = exponent-lt e r (omega arith) in
-    let same : e ≡ r = omega arith in
-    is ∙ ap (λ k. 2 ^ k) same
 
 ones_of_zero : ones 0 ≡ 0
 unfolding ones ones_in
@@ -71,12 +64,31 @@ power_of_two_test n = (
   λ p. eq-eqb (ones n) 1 (ap ones p.1 ∙ power-ones p.0),
 )
 
--- a power above n has a greater exponent than one that is at most n
-pub exponent-above : (n a b : ℕ) → 2 ^ a ≤ n → n < 2 ^ b → a + 1 ≤ b
-exponent-above n a b low high =
-    elim (cases_lt a b) [
-      | inl less ↦ omega arith
-      | inr le ↦ absurd (omega (arith, let up : 2 ^ b ≤ 2 ^ a = pow-le-pow_right (omega arith) le in up))
+-- the one digit of a power that is set is the lowest
+pub lowest-power : (n k : ℕ) → n ≡ 2 ^ k → n < 2 ^ 64 → trailing_zeros w64 n ≡ k
+lowest-power n k is fits =
+    let place = trailing_zeros w64 n in
+    let lowest = bit_at-trailing_zeros w64 n (omega (arith, pow_pos k)) fits in
+    elim (cases_eq place k) [
+      | inl same ↦ same
+      | inr apart ↦ let other : bit_at n place ≡ 0 = ap (λ m. bit_at m place) is ∙ bit_at-pow_other k place apart in absurd (omega (arith, lowest.1))
+    ]
+
+-- with as many digits as a has, of k at most, a power is above a, and no lower one is
+pub digits_above : (k a : ℕ) → a < 2 ^ k → a < 2 ^ (k - count_leading_zeros k a)
+digits_above k a fits =
+    let length = leading_length k a fits in
+    let digits : k - count_leading_zeros k a ≡ length.0 = omega (arith, length.1) in
+    rw digits length.2
+
+pub digits_least : (k a e : ℕ) → a < 2 ^ k → a < 2 ^ e → k - count_leading_zeros k a ≤ e
+digits_least k a e fits above =
+    let length = leading_length k a fits in
+    elim (cases_lt e length.0) [
+      | inl less ↦
+          let up : 2 ^ suc e ≤ 2 ^ length.0 = pow-le-pow_right (omega arith) less in
+          absurd (omega (arith, length.3, pow-suc 2 e))
+      | inr le ↦ omega (arith, length.1)
     ]
 
 pub three-pos : (e : ℕ) → 0 < 3 ^ e

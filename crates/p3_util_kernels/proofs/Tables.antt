@@ -5,7 +5,6 @@ use Rattle.std.proofs.Math.Nat.{pow-le-pow_right}
 use Rattle.p3_util_kernels.specs.Digits.{rev, sum_below}
 use Rattle.p3_util_kernels.specs.declared.reverse.rows.TheConstants.{REVERSED_SIX}
 use Rattle.p3_util_kernels.specs.declared.bits.TheConstants.{POWERS_OF_THREE, EXPONENTS_OF_THREE}
-use Rattle.p3_util_kernels.specs.declared.bits.digits.TheConstants.{REVERSED_BYTES}
 use Rattle.p3_util_kernels.proofs.Powers.{three-fits, three-greatest}
 
 -- each number below n passes the test
@@ -22,14 +21,6 @@ all_below-at p (suc n) j h lt =
       | inl below ↦ all_below-at p n j parts.1 below
       | inr last ↦ let at : n ≡ j = omega arith in subst (λ k. p k ≡ true) at parts.0
     ]
-
-bytes_pass : all_below (λ b. get_or REVERSED_BYTES b 0 == rev 8 b) 256 ≡ true
-unfolding all_below rev sum_below
-bytes_pass = refl
-
--- each byte's entry is the byte with its 8 digits reversed
-pub reversed_byte : (b : ℕ) → b < 256 → get_or REVERSED_BYTES b 0 ≡ rev 8 b
-reversed_byte b h = eqb-true _ _ (all_below-at (λ b. get_or REVERSED_BYTES b 0 == rev 8 b) 256 b bytes_pass h)
 
 powers_pass : all_below (λ e. get_or POWERS_OF_THREE e 0 == 3 ^ e) 41 ≡ true
 unfolding all_below

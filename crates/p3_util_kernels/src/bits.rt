@@ -64,19 +64,18 @@ static EXPONENTS_OF_THREE: [u8; 64] = [
 ];
 
 /// The least `e` with `n <= 2^e`, which is 0 for 0 and 1.
+#[inline]
 pub const fn log2_ceil_usize(n: usize) -> usize
     ensures enough { n ≤ 2 ^ result }
     ensures least { (e : ℕ) → n ≤ 2 ^ e → result ≤ e }
     ensures counted { result ≡ clog n }
 {
-    if n <= 1 {
-        0
-    } else {
-        (n - 1).ilog2() as usize + 1
-    }
+    // This is how many binary digits n - 1 has.
+    (usize::BITS - n.saturating_sub(1).leading_zeros()) as usize
 }
 
 /// The greatest `e` with `2^e <= n`, and 0 for 0.
+#[inline]
 pub const fn log2_floor_usize(n: usize) -> usize
     ensures zero { n ≡ 0 → result ≡ 0 }
     ensures within { 0 < n → 2 ^ result ≤ n }
@@ -86,6 +85,7 @@ pub const fn log2_floor_usize(n: usize) -> usize
 }
 
 /// The least `e` with `n <= 2^e`, which is 0 for 0 and 1.
+#[inline]
 pub const fn log2_ceil_u64(n: u64) -> u64
     ensures enough { n ≤ 2 ^ result }
     ensures least { (e : ℕ) → n ≤ 2 ^ e → result ≤ e }
@@ -103,6 +103,7 @@ pub(crate) const fn pow2(exponent: usize) -> usize
 }
 
 /// `2^log_degree`, or `None` where that does not fit a word.
+#[inline]
 pub const fn checked_pow2(log_degree: usize) -> Option<usize>
     ensures { SomeIff result (log_degree < 64) (2 ^ log_degree) }
 {
@@ -114,6 +115,7 @@ pub const fn checked_pow2(log_degree: usize) -> Option<usize>
 }
 
 /// `a + b` and `2^(a + b)`, or `None` where the power does not fit a word.
+#[inline]
 pub const fn checked_log_size_sum(a: usize, b: usize) -> Option<(usize, usize)>
     ensures { SomeIff result (a + b < 64) (a + b, 2 ^ (a + b)) }
 {
@@ -125,17 +127,18 @@ pub const fn checked_log_size_sum(a: usize, b: usize) -> Option<(usize, usize)>
 }
 
 /// The logarithm to base 2 of a power of two. std's `is_power_of_two` is the test for `n`.
+#[inline]
 pub const fn log2_strict_usize(n: usize) -> usize
     requires { HasLog2 n }
     ensures power { n ≡ 2 ^ result }
     ensures counted { result ≡ clog n }
     ensures bound { result < 64 }
 {
-    let exponent = n.ilog2();
-    exponent as usize
+    n.trailing_zeros() as usize
 }
 
 /// The logarithm to base 3 of a power of three. [`is_power_of_three`] is the test for `n`.
+#[inline]
 pub const fn log3_strict_usize(n: usize) -> usize
     requires { HasLog3 n }
     ensures power { n ≡ 3 ^ result }
@@ -146,6 +149,7 @@ pub const fn log3_strict_usize(n: usize) -> usize
 }
 
 /// Whether some `e` has `n = 3^e`.
+#[inline]
 pub const fn is_power_of_three(n: usize) -> bool
     ensures { IsTrue result ↔ IsPowerOfThree n }
 {
@@ -153,6 +157,7 @@ pub const fn is_power_of_three(n: usize) -> bool
 }
 
 /// The table of the powers of three: they are all that fit a word, and no two share their highest binary digit.
+#[inline]
 const fn powers_of_three() -> &'static [usize; 41]
     ensures powers { (e : ℕ) → e < 41 → slice_index result.now e ≡ 3 ^ e }
     ensures all { (e : ℕ) → 3 ^ e < 2 ^ 64 ↔ e < 41 }
@@ -163,6 +168,7 @@ const fn powers_of_three() -> &'static [usize; 41]
 }
 
 /// The exponent of the power of three whose highest binary digit is at place `top`, where there is one.
+#[inline]
 const fn exponent_of_three(top: usize) -> usize
     requires { top < 64 }
     ensures found { (e : ℕ) → 2 ^ top ≤ 3 ^ e → 3 ^ e < 2 ^ (top + 1) → result ≡ e }
@@ -172,6 +178,7 @@ const fn exponent_of_three(top: usize) -> usize
 }
 
 /// The array of its own indices: `[0, 1, .., N - 1]`.
+#[inline]
 pub const fn indices_arr<const N: usize>() -> [usize; N]
     ensures len { length result ≡ N }
     ensures places { (i : ℕ) → i < N → slice_index result i ≡ i }
@@ -185,8 +192,11 @@ pub const fn indices_arr<const N: usize>() -> [usize; N]
     indices
 }
 
-/// Does nothing. It marks a branch that a program seldom takes.
+/// Does nothing. It marks a branch that a program seldom takes. The original has an empty line of assembly here, so that the
+/// compiler keeps the branch. This body is empty, and the compiler may make a conditional move of the branch.
+#[inline]
 pub const fn branch_hint() {}
 
 /// Does nothing. A call shows that `T` is `Clone`.
+#[inline]
 pub const fn assert_clone<T: Clone>() {}

@@ -1,17 +1,14 @@
-use Rattle.std.proofs.Common.{◌≡◌, ◌+◌, ◌-◌, ◌*◌, ◌^◌, add-one, arith}
-use Rattle.std.proofs.Math.Nat.{pow-suc}
+use Rattle.std.proofs.Common.{arith}
+use Rattle.std.proofs.lemmas.Nat.{pow_pos}
 use Rattle.p3_util_kernels.proofs.Levels.{clog_only}
-use Rattle.p3_util_kernels.proofs.Powers.{exponent-above}
+use Rattle.p3_util_kernels.proofs.Powers.{digits_above, digits_least}
 use Rattle.p3_util_kernels.proofs.bits.log2_ceil_usize.Goals as goal
 
-pub returns-then-n-le1-clause-counted : goal.returns-then-n-le1-clause-counted
-returns-then-n-le1-clause-counted c = clog_only c.args.n 0 (omega arith) (λ d h. omega arith)
+pub returns-clause-enough : goal.returns-clause-enough
+returns-clause-enough c = omega (arith, digits_above 64 c.saturating_sub.result c.saturating_sub.type_inv)
 
-pub returns-else-n-le1-clause-least : goal.returns-else-n-le1-clause-least
-returns-else-n-le1-clause-least c e h =
-    exponent-above (c.args.n - 1) c.ilog2.result e c.ilog2.ensures.power_le (omega arith)
+pub returns-clause-least : goal.returns-clause-least
+returns-clause-least c e enough = digits_least 64 _ e c.saturating_sub.type_inv (omega (arith, pow_pos e))
 
-pub returns-else-n-le1-clause-counted : goal.returns-else-n-le1-clause-counted
-returns-else-n-le1-clause-counted c =
-    let twice : 2 ^ (c.ilog2.result + 1) ≡ 2 ^ c.ilog2.result * 2 = rw add-one (pow-suc 2 c.ilog2.result) in
-    clog_only c.args.n _ (omega arith) (λ e h. exponent-above (c.args.n - 1) c.ilog2.result e c.ilog2.ensures.power_le (omega arith))
+pub returns-clause-counted : goal.returns-clause-counted
+returns-clause-counted c = clog_only _ _ (returns-clause-enough c) (returns-clause-least c)

@@ -1,17 +1,21 @@
-use Rattle.std.proofs.Common.{sym, arith}
-use Rattle.std.proofs.lemmas.Nat.{pow_pos}
+use Rattle.std.proofs.Common.{◌≡◌, ◌^◌, ◌≤◌, ◌∙◌, ap, sym, arith}
 use Rattle.p3_util_kernels.proofs.Levels.{clog_power}
 use Rattle.p3_util_kernels.proofs.Logs.{power_of_two}
-use Rattle.p3_util_kernels.proofs.Powers.{highest-power}
+use Rattle.p3_util_kernels.proofs.Powers.{exponent-lt, lowest-power}
 use Rattle.p3_util_kernels.proofs.bits.log2_strict_usize.Goals as goal
 
 pub returns-clause-power : goal.returns-clause-power
 returns-clause-power c =
-    highest-power c.args.n c.ilog2-exponent.result (power_of_two _ c.requires) c.ilog2-exponent.ensures.power_le c.ilog2-exponent.ensures.next_power_gt
-
-pub ilog2-exponent-requires : goal.ilog2-exponent-requires
-ilog2-exponent-requires c = let power = power_of_two _ c.requires in omega (arith, pow_pos power.0, power.1)
+    let power = power_of_two _ c.requires in
+    power.1 ∙ ap (λ e. 2 ^ e) (sym (lowest-power c.args.n power.0 power.1 c.ranges.n.fits))
 
 pub returns-clause-counted : goal.returns-clause-counted
 returns-clause-counted c =
-    sym (clog_power _ _ (highest-power c.args.n c.ilog2-exponent.result (power_of_two _ c.requires) c.ilog2-exponent.ensures.power_le c.ilog2-exponent.ensures.next_power_gt))
+    let power = power_of_two _ c.requires in
+    lowest-power c.args.n power.0 power.1 c.ranges.n.fits ∙ sym (clog_power c.args.n power.0 power.1)
+
+pub returns-clause-bound : goal.returns-clause-bound
+returns-clause-bound c =
+    let power = power_of_two _ c.requires in
+    let digits : power.0 ≤ 63 = exponent-lt power.0 63 (rw power.1 at c.ranges.n.fits) in
+    omega (arith, lowest-power c.args.n power.0 power.1 c.ranges.n.fits)

@@ -1,9 +1,7 @@
-use Rattle.std.proofs.Common.{◌∙◌, ap, sym}
+use Rattle.std.proofs.Common.{◌∙◌, ap}
 use Rattle.p3_util_kernels.specs.Digits.{rev_word}
-use Rattle.p3_util_kernels.proofs.Powers.{exponent-same}
+use Rattle.p3_util_kernels.proofs.Powers.{lowest-power}
 use Rattle.p3_util_kernels.proofs.bits.digits.reverse_bits.Goals as goal
 
 pub returns : goal.returns
-returns c k is =
-    let same = exponent-same c.log2_strict_usize.result k (sym c.log2_strict_usize.ensures.power ∙ is) in
-    c.reverse_bits_len.ensures.reversed ∙ ap (λ e. rev_word e c.args.x) same
+returns c k is = c.reverse_bits_len.ensures.reversed ∙ ap (λ e. rev_word e c.args.x) (lowest-power c.args.n k is c.ranges.n.fits)

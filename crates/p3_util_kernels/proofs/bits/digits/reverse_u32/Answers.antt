@@ -3,4 +3,4 @@ use Rattle.p3_util_kernels.proofs.Digits.{rev-halves}
 use Rattle.p3_util_kernels.proofs.bits.digits.reverse_u32.Goals as goal
 
 pub returns : goal.returns
-returns c = let whole = rev-halves 16 c.args.x (omega arith) in cc
+returns c = let whole = rev-halves 32 16 c.args.x (omega arith) in cc

@@ -1,6 +1,6 @@
 use Rattle.std.proofs.Common.{arith}
-use Rattle.p3_util_kernels.proofs.Tables.{reversed_byte}
+use Rattle.p3_util_kernels.proofs.Digits.{rev-halves}
 use Rattle.p3_util_kernels.proofs.bits.digits.reverse_u8.Goals as goal
 
 pub returns : goal.returns
-returns c = reversed_byte c.args.x (omega arith)
+returns c = let whole = rev-halves 8 4 c.args.x (omega arith) in cc
