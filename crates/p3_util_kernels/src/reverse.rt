@@ -21,7 +21,9 @@ const SHORT_PATH_ITEMS: usize = 8192;
 
 /// Whether `len` items are rows of `row_width` whose number is zero or a power of two. Of rows of one item this is
 /// whether `len` is zero or a power of two, and of rows of no items whether it is zero.
-pub fn fits_rows(len: usize, row_width: usize) -> bool
+#[inline]
+#[must_use]
+pub const fn fits_rows(len: usize, row_width: usize) -> bool
     ensures rows { IsTrue result ↔ FitsRows len row_width }
     ensures items { row_width ≡ 1 → (IsTrue result ↔ IsZeroOrPowerOfTwo len) }
 {

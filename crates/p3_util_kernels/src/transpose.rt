@@ -29,12 +29,15 @@ const ENOUGH_LEVELS: u32 = 64;
 
 /// Whether an input and an output of these lengths hold a matrix of `width` by `height` items, with the product as a
 /// whole number that does not wrap. It is the test for the condition of [`transpose`] and [`transpose_on`].
-pub fn fits_matrix(input_len: usize, output_len: usize, width: usize, height: usize) -> bool
+#[inline]
+#[must_use]
+pub const fn fits_matrix(input_len: usize, output_len: usize, width: usize, height: usize) -> bool
     ensures { IsTrue result ↔ ((input_len ≡ width * height) × (output_len ≡ width * height)) }
 {
-    width
-        .checked_mul(height)
-        .is_some_and(|items| input_len == items && output_len == items)
+    match width.checked_mul(height) {
+        Some(items) => input_len == items && output_len == items,
+        None => false,
+    }
 }
 
 /// Writes to `output` the transpose of `input`, a matrix of `height` rows of `width` items: what stood at
