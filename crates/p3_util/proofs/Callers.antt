@@ -1,21 +1,23 @@
 -- Lemmas for callers, under names that `#[tactic(auto, using(..))]` takes: what a reversal and a transpose say of a place, that
--- a list has one of each, and that two of them are the list again; reversed digits in parts; std's test for a power of two; a
--- look-up after an insert; sums by even and odd places; a closure that adds up; a part of a list that is written; some items of
--- a list, seen as a list; a region in two parts; a reversal by chunks and squares.
-use Rattle.std.proofs.Common.{◌≡◌, ◌≢◌, ℕ, zero, suc, ◌+◌, ◌*◌, ◌^◌, ◌-◌, ◌/◌, ◌<◌, ◌≤◌, Bool, true, false, not, cond, nat_eq, inl, Some, None, List, [], ◌∷◌, ◌++◌, length, get_or, slice_get, take, drop, set, reverse, sum, refl, sym, ap, ◌∙◌, arith, length-append, length-drop}
+-- a list has one of each, and that two of them are the list again, also with work on each item in between; reversed digits in
+-- parts; powers of two; a look-up after an insert; sums by even and odd places; a closure that adds up; a part of a list that is
+-- written; some items of a list, seen as a list; a region in two parts; a reversal by chunks and squares.
+use Rattle.std.proofs.Common.{◌≡◌, ◌≢◌, ℕ, zero, suc, ◌+◌, ◌*◌, ◌^◌, ◌-◌, ◌/◌, ◌<◌, ◌≤◌, Bool, true, false, not, cond, nat_eq, inl, Some, None, List, [], ◌∷◌, ◌++◌, Bor, length, get_or, map, slice_get, take, drop, set, reverse, sum, refl, sym, ap, ◌∙◌, arith, length-append, length-drop}
 use borrow.Rule.Slice.PartMut.{mid_of, put_mid}
 use Rattle.std.proofs.lemmas.Bool.{ne_eqb}
-use Rattle.std.proofs.lemmas.List.{length-take-le, map-append}
+use Rattle.std.proofs.lemmas.List.{get_or_default, length-map, length-take-le, map-append}
 use Rattle.std.proofs.lemmas.Map.Entries.{sum_by-set_value}
 use Rattle.std.proofs.lemmas.Map.Steps.{lookup-le-sum}
-use Rattle.std.proofs.lemmas.Option.{slice_get-get_or}
+use Rattle.std.proofs.lemmas.Option.{slice_get-get_or, slice_get-map}
 use Rattle.std.proofs.lemmas.Nat.{mul-add-lt, pow-add, pow_pos, same_from_place}
 use Rattle.std.proofs.lemmas.List.Sums.{sum_by-append}
+use Rattle.std.proofs.Math.Pow.{pow_mono}
 use Rattle.std.specs.Cmp.{IsEquivalence, nat_eq_equiv}
+use Rattle.std.specs.Cmp.Lexicographic.{on_texts_equal, pointwise}
 use Rattle.std.specs.Int.{is_power_of_two}
 use Rattle.std.specs.List.{FoldsTo, position_or_len, swap}
 use Rattle.std.specs.Map.{keys_of, lookup, set_value, values_of}
-use Rattle.std.specs.Option.{UnwrapsOrElse, unwrap_or}
+use Rattle.std.specs.Option.{UnwrapsOrElse, option_map, unwrap_or}
 use Rattle.p3_util.specs.Flat.{flat}
 use Rattle.p3_util.specs.ItemsAt.{AreOthersSame, IsSameOutside, column_of, items_at}
 use Rattle.p3_util.specs.LinearMap.{put, value_at}
@@ -70,6 +72,9 @@ rev_odd k b =
 -- A number that passes std's test has a logarithm.
 pub power_of_two_test : (n : ℕ) → is_power_of_two n ≡ true → HasLog2 n
 power_of_two_test n tested = inl ((power_test n).0 tested)
+
+-- A greater exponent has a greater power.
+pub ruleset power_up = (pow_mono)
 
 -- after `insert`: what a look-up finds
 module _ {K V : Type 0} {eq : K → K → Bool} (laws : IsEquivalence eq) where
@@ -137,6 +142,21 @@ module _ {K : Type 0} {eq : K → K → Bool} (laws : IsEquivalence eq) (pairs :
         | None ↦ λ made. sym (zero_given value made)
       ] lent
 
+-- the same where the keys are texts, as `&str` compares them
+abbrev pub text_eq : Bor (List ℕ) → Bor (List ℕ) → Bool
+text_eq x y = pointwise nat_eq x.now y.now
+
+module _ (pairs : List (Bor (List ℕ) × ℕ)) (k : Bor (List ℕ)) where
+  pub text_summed : (v : ℕ) → sum (values_of (put text_eq pairs k v)) + unwrap_or (value_at text_eq pairs k) 0 ≡ sum (values_of pairs) + v
+  text_summed = key_summed (on_texts_equal (λ x. x.now)) pairs k
+
+  pub text_within_sum : unwrap_or (value_at text_eq pairs k) 0 ≤ sum (values_of pairs)
+  text_within_sum = key_within_sum (on_texts_equal (λ x. x.now)) pairs k
+
+  pub text_or_zero : (given : ℕ → Type 0) (value : ℕ) → UnwrapsOrElse (value_at text_eq pairs k) given value → ((x : ℕ) → given x → x ≡ 0)
+      → unwrap_or (value_at text_eq pairs k) 0 ≡ value
+  text_or_zero = key_or_zero (on_texts_equal (λ x. x.now)) pairs k
+
 -- the same where the keys are numbers
 module _ (pairs : List (ℕ × ℕ)) (k : ℕ) where
   pub number_summed : (v : ℕ) → sum (values_of (put nat_eq pairs k v)) + unwrap_or (value_at nat_eq pairs k) 0 ≡ sum (values_of pairs) + v
@@ -153,7 +173,7 @@ pub ruleset values_after_new = (new_value_last)
 
 pub ruleset values_after_known = (known_value_replaced)
 
-pub ruleset values_summed = (key_summed, number_summed, key_within_sum, number_within_sum, key_or_zero, number_or_zero)
+pub ruleset values_summed = (key_summed, number_summed, text_summed, key_within_sum, number_within_sum, text_within_sum, key_or_zero, number_or_zero, text_or_zero)
 
 -- a sum by even and odd places
 pub sum_below_halves : (n : ℕ) (f : ℕ → ℕ) → sum_below (2 * n) f ≡ sum_below n (λ j. f (2 * j)) + sum_below n (λ j. f (2 * j + 1))
@@ -169,6 +189,16 @@ module _ {A : Type 0} where
   -- place i of a reversal of 2 ^ k items
   pub reversed_place : (k i : ℕ) (old new : List A) → IsReversal old new → length old ≡ 2 ^ k → i < 2 ^ k → slice_get new i ≡ slice_get old (rev k i)
   reversed_place k i old new reversal e h = IsReversal-places old new reversal k i e h
+
+  -- the same as an index reads it, and an item that is read before and one that is read after
+  pub reversed_index : (k i : ℕ) (d : A) (old new : List A) → IsReversal old new → length old ≡ 2 ^ k → i < 2 ^ k → get_or new i d ≡ get_or old (rev k i) d
+  reversed_index k i d old new reversal e h =
+      grind (arith, reversed_place k i old new reversal e h, rev_below k i, reversal.same_length, slice_get-get_or)
+
+  pub reversed_item : (k i : ℕ) (before after : A) (old new : List A) → IsReversal old new → length old ≡ 2 ^ k → i < 2 ^ k
+      → before ≡ get_or old (rev k i) before → after ≡ get_or new i after → before ≡ after
+  reversed_item k i before after old new reversal e h at-old at-new =
+      at-old ∙ get_or_default old (rev k i) before after (rw e (rev_below k i)) ∙ sym (at-new ∙ reversed_index k i after old new reversal e h)
 
   -- the places 2i and 2i + 1, which are those of one half and of the other
   pub reversed_even : (k i : ℕ) (old new : List A) → IsReversal old new → length old ≡ 2 ^ (k + 1) → i < 2 ^ k → slice_get new (2 * i) ≡ slice_get old (rev k i)
@@ -206,14 +236,31 @@ module _ {A : Type 0} where
   rows_reversed_twice row_width rows old mid new first second len fits =
       rows_reversed_once row_width rows mid new old second (rows_reversed_back row_width old mid first) (first.same_length ∙ len) fits
 
-  -- one transpose, and there and back is the same
+  -- One transpose, and there and back is the same. The second one comes first, so that a search finds its lists.
   pub transposed_once : (width height : ℕ) (old a b : List A) → IsTranspose width height old a → IsTranspose width height old b
       → length old ≡ width * height → a ≡ b
   transposed_once width height old a b one other fits = IsTranspose-unique width height old a b one other
 
-  pub transposed_twice : (width height : ℕ) (old mid new : List A) → length old ≡ width * height
-      → IsTranspose width height old mid → IsTranspose height width mid new → new ≡ old
-  transposed_twice = IsTranspose-twice
+  pub transposed_back : (width height : ℕ) (old mid new : List A) → IsTranspose width height mid new → IsTranspose height width old mid
+      → length old ≡ height * width → new ≡ old
+  transposed_back width height old mid new second first fits = IsTranspose-twice height width old mid new fits first second
+
+pub ruleset reversed_read = (reversed_index, reversed_item)
+
+-- a reversal, the same done to each item, and a reversal back
+module _ {A B : Type 0} (f : A → B) where
+  reversal_of_worked : (old new : List A) → IsReversal old new → IsReversal (map f old) (map f new)
+  reversal_of_worked old new reversal = record {
+    same_length = length-map new f ∙ reversal.same_length ∙ sym (length-map old f);
+    places = λ k i j e hi hj. slice_get-map f new (i * 1 + j) ∙ ap (option_map f) (reversal.places k i j (sym (length-map old f) ∙ e) hi hj)
+        ∙ sym (slice_get-map f old (rev k i * 1 + j));
+  }
+
+  pub reversed_worked : (old mid : List A) (worked new : List B) → IsReversal old mid → worked ≡ map f mid → IsReversal worked new
+      → IsReversible (length old) → new ≡ map f old
+  reversed_worked old mid worked new first same second fits =
+      let back : IsReversal worked (map f old) = rw same (reversal_of_worked mid old (reversed_back old mid first)) in
+      reversed_once worked new (map f old) second back (rw (same, length-map mid f, first.same_length) fits)
 
 -- Where each step over a piece adds its bytes to what `total` reads, the steps over all pieces add the bytes of all.
 pub folded_sum : {H : Type 0} (step : H → List ℕ → H → Type 0) (total : H → ℕ) (rows : List (List ℕ)) (f last : H)
@@ -301,9 +348,18 @@ module _ {A : Type 0} (width height column : ℕ) (xs : List A) (fits : length x
       → column_of width height column (swap xs (i * width + column) (j * width + column)) ≡ swap (column_of width height column xs) i j
   column_swapped = items_at-swap (λ row. row * width + column) height xs inside (λ a b ha hb e. (same_from_place a column b column width hc hc e).0)
 
-  pub column_others : (i j : ℕ) → i < height → j < height
+  pub column_written : (i : ℕ) (v : A) → i < height → column_of width height column (set xs (i * width + column) v) ≡ set (column_of width height column xs) i v
+  column_written = items_at-set (λ row. row * width + column) height xs inside (λ a b ha hb e. (same_from_place a column b column width hc hc e).0)
+
+  -- what lies outside of it stays
+  pub others_of_swap : (i j : ℕ) → i < height → j < height
       → IsSameOutside width height column xs (swap xs (i * width + column) (j * width + column))
-  column_others = others_swapped (λ row. row * width + column) height xs
+  others_of_swap = others_swapped (λ row. row * width + column) height xs
+
+  pub others_of_write : (i : ℕ) (v : A) → i < height → IsSameOutside width height column xs (set xs (i * width + column) v)
+  others_of_write = others_written (λ row. row * width + column) height xs
+
+pub ruleset column_others = (others_of_swap, others_of_write)
 
 module _ {A : Type 0} where
   -- the items from the end on

@@ -6,10 +6,13 @@ ghost use Rattle.p3_util.specs.PaddedPieces.{padded_source, padded_done, padded_
 ghost use Rattle.p3_util.specs.Flat.{flat};
 ghost use Rattle.p3_util.specs.Pieces.{CallsOnPieces, pieces};
 
-/// Calls `func` on each chunk of `BUFLEN` bytes of `input` in turn; the last chunk may be shorter. The chunks joined are the
-/// bytes.
+use std::iter::FusedIterator;
+
+/// Calls `func` on each chunk of `BUFLEN` bytes of `input` in turn; the last chunk may be shorter. The chunks joined are
+/// the bytes.
 ///
-/// The bytes are those before the first `None` of the iterator, which is not asked again after it.
+/// The bytes are those before the first `None` of the iterator, which is not asked again after it. It is dropped after
+/// the last call of `func`.
 /// Where `BUFLEN` is 0 there is no chunk: neither `func` nor the iterator is called.
 /// `BUFLEN` is below 2^63, as the length of every array of bytes is.
 pub fn apply_to_chunks<const BUFLEN: usize, I, H>(input: I, mut func: H)
@@ -24,13 +27,13 @@ where
         × WholeRun I.IntoIter.next_gives it (λ p. CallsOnPieces H.FnMut BUFLEN func p.items) }
     ensures joined { 0 < BUFLEN → (items : List ℕ) → flat (pieces BUFLEN items) ≡ items }
 {
-    let iter = input.into_iter();
+    let mut iter = input.into_iter();
     if BUFLEN == 0 {
         return;
     }
     let mut buf = [0; BUFLEN];
     let mut len = 0;
-    for byte in iter {
+    for byte in &mut iter {
         buf[len] = byte;
         len += 1;
         if len == BUFLEN {
@@ -65,7 +68,8 @@ pub fn iter_array_chunks_padded<T: Copy, const N: usize, I: IntoIterator<Item = 
 }
 
 /// The iterator that [`iter_array_chunks_padded`] makes.
-#[derive(Drop)]
+#[derive(Clone, Debug, Drop)]
+#[must_use = "iterators are lazy and do nothing unless consumed"]
 pub struct ArrayChunksPadded<I, T, const N: usize> {
     iter: I,
     default: T,
@@ -104,3 +108,5 @@ impl<T: Copy, const N: usize, I: Iterator<Item = T>> Iterator for ArrayChunksPad
         (0, None)
     }
 }
+
+impl<T: Copy, const N: usize, I: Iterator<Item = T>> FusedIterator for ArrayChunksPadded<I, T, N> {}

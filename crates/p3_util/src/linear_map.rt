@@ -24,7 +24,7 @@ use std::mem::replace;
 use std::ops::Index;
 use std::{slice, vec};
 
-/// A map in insertion order, for few keys. A look-up compares the key with each stored one.
+/// A map in insertion order, for few keys. A look-up compares each stored key with the given one, as `stored == given`.
 #[derive(Debug, Drop)]
 pub struct LinearMap<K: Eq, V> {
     pairs: Vec<(K, V)>,
@@ -104,7 +104,7 @@ impl<K: Eq, V> LinearMap<K, V> {
     fn place_of(&self, k: &K) -> Option<usize>
         ensures { result ≡ position (λ e. K.eq k.now e.0) self.now }
     {
-        self.pairs.iter().position(|pair| *k == pair.0)
+        self.pairs.iter().position(|pair| pair.0 == *k)
     }
 
     /// The value of the pair whose key equals `k`, or `None` where there is none.

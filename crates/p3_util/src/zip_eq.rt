@@ -4,6 +4,8 @@ ghost use Rattle.std.specs.Iterator.{size, UpTo};
 ghost use Rattle.std.specs.Iterator.SizeHint.{IsWithinCount};
 ghost use Rattle.p3_util.specs.ZipEq.{HasTrueLength, zip_eq_first, zip_eq_second, zip_eq_left, zip_eq_steps, AskedRuns, PairsRuns};
 
+use std::iter::FusedIterator;
+
 /// Pairs the items of `a` and `b` by place, or returns `err` where their lengths differ.
 pub fn zip_eq<A, B, Error>(a: A, b: B, err: Error) -> Result<ZipEq<A::IntoIter, B::IntoIter>, Error>
 where
@@ -41,7 +43,8 @@ where
 }
 
 /// The iterator that [`zip_eq`] makes.
-#[derive(Drop)]
+#[derive(Clone, Debug, Drop)]
+#[must_use = "iterators are lazy and do nothing unless consumed"]
 pub struct ZipEq<A, B> {
     first: A,
     second: B,
@@ -87,3 +90,10 @@ where
         self.first.len()
     }
 }
+
+impl<A: ExactSizeIterator + FusedIterator, B: ExactSizeIterator + FusedIterator> FusedIterator
+    for ZipEq<A, B>
+where
+    A::Item: Drop,
+    B::Item: Drop,
+{}

@@ -4,6 +4,7 @@
 #![tactic(auto)]
 
 pub mod bits;
+mod callers;
 mod interface;
 pub mod reverse;
 pub mod rows;

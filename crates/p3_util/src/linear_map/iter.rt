@@ -4,13 +4,15 @@ ghost use Rattle.std.specs.Prelude.{◌≡◌, Some, length, IfSome};
 ghost use Rattle.std.specs.Iterator.{item_count, at_most, UpTo};
 ghost use Rattle.std.specs.Iterator.SizeHint.{IsWithinCount};
 ghost use Rattle.std.specs.Map.{keys_of, values_of};
-ghost use Rattle.std.specs.Map.Iter.{TakesFirst, deref};
+ghost use Rattle.std.specs.Map.Iter.{TakesFirst, TakesLast, deref};
 
+use std::iter::FusedIterator;
 use std::marker::Model;
 use std::slice;
 
 /// The pairs of a map, in order.
-#[derive(Drop)]
+#[derive(Clone, Debug, Drop)]
+#[must_use = "iterators are lazy and do nothing unless consumed"]
 pub struct Iter<'a, K, V> {
     pairs: slice::Iter<'a, (K, V)>,
 }
@@ -56,6 +58,14 @@ impl<'a, K, V> Iterator for Iter<'a, K, V> {
     }
 }
 
+impl<'a, K, V> DoubleEndedIterator for Iter<'a, K, V> {
+    ghost next_back_gives = { TakesLast (deref {X = K × V}) };
+
+    fn next_back(&mut self) -> Option<&'a (K, V)> {
+        self.pairs.next_back()
+    }
+}
+
 impl<'a, K, V> ExactSizeIterator for Iter<'a, K, V> {
     /// The number of pairs that are left.
     fn len(&self) -> usize {
@@ -63,8 +73,11 @@ impl<'a, K, V> ExactSizeIterator for Iter<'a, K, V> {
     }
 }
 
+impl<'a, K, V> FusedIterator for Iter<'a, K, V> {}
+
 /// The keys of a map, in order.
-#[derive(Drop)]
+#[derive(Clone, Debug, Drop)]
+#[must_use = "iterators are lazy and do nothing unless consumed"]
 pub struct Keys<'a, K, V> {
     pairs: slice::Iter<'a, (K, V)>,
 }
@@ -112,6 +125,15 @@ impl<'a, K, V> Iterator for Keys<'a, K, V> {
     }
 }
 
+impl<'a, K, V> DoubleEndedIterator for Keys<'a, K, V> {
+    ghost next_back_gives = { TakesLast (deref {X = K}) };
+
+    fn next_back(&mut self) -> Option<&'a K> {
+        let pair = self.pairs.next_back()?;
+        Some(&pair.0)
+    }
+}
+
 impl<'a, K, V> ExactSizeIterator for Keys<'a, K, V> {
     /// The number of keys that are left.
     fn len(&self) -> usize {
@@ -119,8 +141,11 @@ impl<'a, K, V> ExactSizeIterator for Keys<'a, K, V> {
     }
 }
 
+impl<'a, K, V> FusedIterator for Keys<'a, K, V> {}
+
 /// The values of a map, in order.
-#[derive(Drop)]
+#[derive(Clone, Debug, Drop)]
+#[must_use = "iterators are lazy and do nothing unless consumed"]
 pub struct Values<'a, K, V> {
     pairs: slice::Iter<'a, (K, V)>,
 }
@@ -168,9 +193,20 @@ impl<'a, K, V> Iterator for Values<'a, K, V> {
     }
 }
 
+impl<'a, K, V> DoubleEndedIterator for Values<'a, K, V> {
+    ghost next_back_gives = { TakesLast (deref {X = V}) };
+
+    fn next_back(&mut self) -> Option<&'a V> {
+        let pair = self.pairs.next_back()?;
+        Some(&pair.1)
+    }
+}
+
 impl<'a, K, V> ExactSizeIterator for Values<'a, K, V> {
     /// The number of values that are left.
     fn len(&self) -> usize {
         self.pairs.len()
     }
 }
+
+impl<'a, K, V> FusedIterator for Values<'a, K, V> {}

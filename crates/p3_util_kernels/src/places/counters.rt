@@ -11,7 +11,7 @@ ghost use Rattle.p3_util_kernels.specs.Steps.{counted};
 use crate::places::{Cells, Places};
 
 /// A holder of places that counts its exchanges. The count stays at `u128::MAX` once it is there.
-#[derive(Drop)]
+#[derive(Debug, Drop)]
 pub struct Swaps<S> {
     pub(crate) holder: S,
     pub(crate) count: u128,
@@ -77,7 +77,7 @@ impl<S: Places> Swaps<S> {
 }
 
 /// A holder of places that counts its writes. The count stays at `u128::MAX` once it is there.
-#[derive(Drop)]
+#[derive(Debug, Drop)]
 pub struct Writes<C> {
     pub(crate) holder: C,
     pub(crate) count: u128,

@@ -7,7 +7,7 @@ ghost use Rattle.p3_util_kernels.specs.Exchanged.{RunsExchanged};
 use crate::places::{Cells, Places, Source};
 
 /// The items of a mutable slice. What it holds is in the slice when the borrow ends.
-#[derive(Drop)]
+#[derive(Debug, Drop)]
 pub struct SlicePlaces<'a, F> {
     /// The slice.
     pub items: &'a mut [F],
@@ -78,7 +78,7 @@ fn swap_runs<F>(items: &mut [F], i: usize, j: usize, len: usize)
 }
 
 /// The places of a mutable slice. What it holds is in the slice when the borrow ends.
-#[derive(Drop)]
+#[derive(Debug, Drop)]
 pub struct SliceCells<'a, T> {
     /// The slice.
     pub values: &'a mut [T],
@@ -115,7 +115,7 @@ impl<'a, T: Copy> Cells for SliceCells<'a, T> {
 }
 
 /// The items of a slice, to be read.
-#[derive(Clone, Copy)]
+#[derive(Clone, Copy, Debug)]
 pub struct SliceSource<'a, T> {
     /// The slice.
     pub slice: &'a [T],

@@ -1,5 +1,5 @@
 use denote.Param.Always.{mut_next}
-use Rattle.std.proofs.Common.{ap, take, refl, arith}
+use Rattle.std.proofs.Common.{rules, ap, take, refl, arith}
 use Rattle.std.proofs.lemmas.List.{length-replicate}
 use Rattle.p3_util.proofs.Pieces.{joined-pieces}
 use Rattle.p3_util.proofs.WholePieces.{FoldsWhole-start, FoldsWhole-flush, FoldsWhole-short, FoldsWhole-end, calls-whole}
@@ -19,7 +19,7 @@ returns-then-len-gt0 g c = record {
   runs = λ some. (
     c.into_iter-iter.result,
     c.into_iter-iter.ensures.into_iter_gives,
-    calls-whole g.H.FnMut g.I.IntoIter.Iterator.next_gives _ c.loop-byte.yielded _ _ c.into_iter-byte-iterator.ensures.into_iter_gives c.loop-byte.yielded_by c.in-None.ensures.steps
+    calls-whole g.H.FnMut g.I.IntoIter.Iterator.next_gives _ c.loop-byte.yielded _ _ (search rules) c.loop-byte.yielded_by c.in-None.ensures.steps
         (FoldsWhole-short c.loop-byte.invariant.0 c.if-len-gt0.true (record { shown = _; shows = ap (take c.loop-byte.len) c.as_slice-then-len-gt0.ensures; called = c.func-then-len-gt0.ensures })),
   );
   joined = λ some items. joined-pieces g.row.BUFLEN items some;
@@ -30,7 +30,7 @@ returns g c = record {
   runs = λ some. (
     c.into_iter-iter.result,
     c.into_iter-iter.ensures.into_iter_gives,
-    calls-whole g.H.FnMut g.I.IntoIter.Iterator.next_gives _ c.loop-byte.yielded _ _ c.into_iter-byte-iterator.ensures.into_iter_gives c.loop-byte.yielded_by c.in-None.ensures.steps (FoldsWhole-end c.loop-byte.invariant.0 (omega (arith, c.if-len-gt0.false))),
+    calls-whole g.H.FnMut g.I.IntoIter.Iterator.next_gives _ c.loop-byte.yielded _ _ (search rules) c.loop-byte.yielded_by c.in-None.ensures.steps (FoldsWhole-end c.loop-byte.invariant.0 (omega (arith, c.if-len-gt0.false))),
   );
   joined = λ some items. joined-pieces g.row.BUFLEN items some;
 }
