@@ -1,7 +1,7 @@
 //! The package and the static library in one program. Two compilers made them of one source: on random lists, lengths and
 //! words they have to leave equal lists and give equal answers, also where a condition does not hold.
 
-#[path = "../../bench/src/library.rs"]
+#[path = "../../c/slices.rs"]
 mod library;
 
 use std::panic::{AssertUnwindSafe, catch_unwind, set_hook, take_hook};
@@ -22,7 +22,10 @@ struct Random(u64);
 
 impl Random {
     fn number(&mut self) -> u64 {
-        self.0 = self.0.wrapping_mul(6_364_136_223_846_793_005).wrapping_add(1_442_695_040_888_963_407);
+        self.0 = self
+            .0
+            .wrapping_mul(6_364_136_223_846_793_005)
+            .wrapping_add(1_442_695_040_888_963_407);
         self.0 ^ (self.0 >> 32)
     }
 
@@ -42,11 +45,20 @@ fn answer<A>(call: impl FnOnce() -> A) -> Option<A> {
 }
 
 /// Calls both on a list of so many items.
-fn on_list<const N: usize>(len: usize, ours: fn(&mut [[u8; N]], usize), theirs: fn(&mut [[u8; N]], usize) -> bool, width: usize) {
+fn on_list<const N: usize>(
+    len: usize,
+    ours: fn(&mut [[u8; N]], usize),
+    theirs: fn(&mut [[u8; N]], usize) -> bool,
+    width: usize,
+) {
     let mut list = Random(len as u64).list(len);
     let mut other = list.clone();
     let fits = answer(|| ours(&mut list, width)).is_some();
-    assert_eq!(fits, theirs(&mut other, width), "{len} items of {N} bytes, in rows of {width}");
+    assert_eq!(
+        fits,
+        theirs(&mut other, width),
+        "{len} items of {N} bytes, in rows of {width}"
+    );
     assert!(list == other, "{len} items of {N} bytes, in rows of {width}");
 }
 
@@ -57,13 +69,22 @@ fn on_matrix<const N: usize>(input: usize, output: usize, width: usize, height: 
     let mut list = random.list(output);
     let mut other = list.clone();
     let fits = answer(|| transpose(&input, &mut list, width, height)).is_some();
-    assert_eq!(fits, library::transpose(&input, &mut other, width, height), "{width} by {height} of {N} bytes");
+    assert_eq!(
+        fits,
+        library::transpose(&input, &mut other, width, height),
+        "{width} by {height} of {N} bytes"
+    );
     assert!(list == other, "{width} by {height} of {N} bytes");
 }
 
 fn items<const N: usize>() {
     for len in (0..70).chain((7..16).map(|log| 1 << log)) {
-        on_list::<N>(len, |list, _| reverse_slice_index_bits(list), |list, _| library::reverse(list), 1);
+        on_list::<N>(
+            len,
+            |list, _| reverse_slice_index_bits(list),
+            |list, _| library::reverse(list),
+            1,
+        );
     }
     for len in (0..70).chain([96 << 5, 7 << 9, 1 << 12]) {
         for width in (0..9).chain([33, 64, 96, 1 << 63]) {
@@ -95,17 +116,32 @@ fn words() {
     let powers = (0..64).map(|k| 1 << k).chain((0..41).map(|k| 3_usize.pow(k)));
     for n in powers.flat_map(|n| [n - 1, n, n + 1]).chain([usize::MAX]) {
         word(n);
-        assert_eq!(answer(|| log2_strict_usize(n)), written(|it| p3_util_log2_strict(n, it)), "log2 of {n}");
-        assert_eq!(answer(|| log3_strict_usize(n)), written(|it| p3_util_log3_strict(n, it)), "log3 of {n}");
+        assert_eq!(
+            answer(|| log2_strict_usize(n)),
+            written(|it| p3_util_log2_strict(n, it)),
+            "log2 of {n}"
+        );
+        assert_eq!(
+            answer(|| log3_strict_usize(n)),
+            written(|it| p3_util_log3_strict(n, it)),
+            "log3 of {n}"
+        );
     }
     let mut random = Random(1);
     for bits in (0..1_000_000).map(|i| i % 70) {
         let n = random.number() as usize;
         word(n >> (bits % 64));
-        let ours = if bits <= 64 { Some(reverse_bits_len(n, bits)) } else { None };
-        assert_eq!(ours, written(|it| p3_util_reverse_bits_len(n, bits, it)), "{bits} bits of {n}");
+        let ours = if bits <= 64 {
+            Some(reverse_bits_len(n, bits))
+        } else {
+            None
+        };
+        assert_eq!(
+            ours,
+            written(|it| p3_util_reverse_bits_len(n, bits, it)),
+            "{bits} bits of {n}"
+        );
     }
-    assert_eq!(answer(|| reverse_bits_len(1, 65)), None);
 }
 
 fn main() {

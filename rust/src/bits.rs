@@ -32,7 +32,7 @@ pub const fn log2_floor_usize(n: usize) -> usize {
 #[must_use]
 #[track_caller]
 pub const fn log2_strict_usize(n: usize) -> usize {
-    assert!(n.is_power_of_two(), "Not a power of two");
+    assert!(n.wrapping_shr(n.trailing_zeros()) == 1, "Not a power of two");
     proved::log2_strict_usize(n)
 }
 
@@ -79,11 +79,11 @@ pub const fn indices_arr<const N: usize>() -> [usize; N] {
 ///
 /// # Panics
 ///
-/// Where `n` is no power of two.
+/// With debug assertions, where `n` is no power of two. Without them such an `n` counts as its lowest set digit.
 #[inline]
 #[track_caller]
 pub const fn reverse_bits(x: usize, n: usize) -> usize {
-    assert!(n.is_power_of_two());
+    debug_assert!(n.is_power_of_two());
     proved::reverse_bits(x, n)
 }
 
@@ -91,10 +91,10 @@ pub const fn reverse_bits(x: usize, n: usize) -> usize {
 ///
 /// # Panics
 ///
-/// Where `bit_len` is above 64.
+/// With debug assertions, where `bit_len` is above 64. Without them its remainder by 64 counts.
 #[inline]
 #[track_caller]
 pub const fn reverse_bits_len(x: usize, bit_len: usize) -> usize {
-    assert!(bit_len <= usize::BITS as usize);
+    debug_assert!(bit_len <= usize::BITS as usize);
     proved::reverse_bits_len(x, bit_len)
 }

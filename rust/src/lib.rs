@@ -30,7 +30,7 @@ use core::any::type_name;
 
 mod bits;
 /// The proved sources themselves, with their contracts as documentation: every call over a holder of your own, and with the
-/// exact number of its steps.
+/// exact number of its steps. [`contracts`](kernels::contracts) says what the words of a contract mean.
 ///
 /// Nothing here tests a condition. Where one does not hold, a call leaves another order, panics or does not end; it never
 /// touches memory outside the lists. `fits_rows` and `fits_matrix` test the conditions.
@@ -68,28 +68,34 @@ mod bits;
 #[rustfmt::skip]
 pub mod kernels;
 pub mod linear_map;
-pub mod memory;
+mod memory;
 pub mod transpose;
 #[cfg_attr(not(feature = "checked"), allow(unsafe_code))]
 mod unchecked;
+pub mod zip_eq;
 
 pub use bits::{
     checked_log_size_sum, checked_pow2, indices_arr, log2_ceil_u64, log2_ceil_usize, log2_floor_usize,
     log2_strict_usize, log3_strict_usize, reverse_bits, reverse_bits_len,
 };
+#[doc(inline)]
 pub use kernels::bits::{assert_clone, branch_hint};
+#[doc(inline)]
 pub use kernels::chunks::apply_to_chunks;
 
-/// Two iterators of one length as one iterator of pairs.
-pub mod zip_eq {
-    pub use crate::kernels::zip_eq::{ZipEq, zip_eq};
-}
-
-/// Does nothing. A call shows that `T` is `Send`.
+/// Does nothing. A call shows that `T` is `Send`, and one that is not is refused:
+///
+/// ```compile_fail,E0277
+/// p3_util_proved::assert_send::<std::rc::Rc<u8>>();
+/// ```
 #[inline]
 pub const fn assert_send<T: Send>() {}
 
-/// Does nothing. A call shows that `T` is `Sync`.
+/// Does nothing. A call shows that `T` is `Sync`, and one that is not is refused:
+///
+/// ```compile_fail,E0277
+/// p3_util_proved::assert_sync::<std::cell::Cell<u8>>();
+/// ```
 #[inline]
 pub const fn assert_sync<T: Sync>() {}
 
@@ -120,7 +126,7 @@ pub fn reverse_slice_index_bits<F: Send + Sync>(vals: &mut [F]) {
 /// Where the length is not `row_width` times zero or a power of two. Of rows of no items it is zero.
 #[inline]
 #[track_caller]
-pub fn reverse_slice_row_index_bits<F: Send + Sync>(vals: &mut [F], row_width: usize) {
+pub fn reverse_slice_row_index_bits<F>(vals: &mut [F], row_width: usize) {
     let fits = unchecked::reverse_rows(vals, row_width);
     assert!(
         fits,

@@ -4,12 +4,14 @@ use core::fmt::{self, Debug, Formatter};
 use core::ops::Index;
 
 use crate::kernels::linear_map as proved;
+#[doc(inline)]
+pub use crate::kernels::linear_map::{Iter, Keys, Values};
 use crate::memory::{Global, granted};
-pub use proved::{Iter, Keys, Values};
 
 /// A map in insertion order, for few keys. A look-up compares the key with each stored one.
 ///
-/// Its calls panic where memory runs out. Those of [`proved::LinearMap`], which it is made of, return the refusal.
+/// Its calls panic where memory runs out. Those of [`kernels::linear_map::LinearMap`](proved::LinearMap), which it is made
+/// of, return the refusal.
 pub struct LinearMap<K: Eq, V>(proved::LinearMap<K, V>);
 
 impl<K: Eq, V> LinearMap<K, V> {

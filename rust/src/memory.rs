@@ -124,3 +124,7 @@ impl<T> IntoIterator for Vec<T> {
         self.0.into_iter()
     }
 }
+
+#[cfg(test)]
+#[path = "../tests/unit/memory.rs"]
+mod tests;

@@ -49,6 +49,9 @@ pub(crate) fn transpose<T: Copy>(input: &[T], output: &mut [T], width: usize, he
 /// Slices as holders that test no index, but where debug assertions are on.
 #[cfg(not(feature = "checked"))]
 mod slices {
+    use core::slice::from_raw_parts_mut;
+    use core::sync::atomic::{Ordering, compiler_fence};
+
     use crate::kernels::places::{Cells, Places, Source};
 
     /// The places of a slice.
@@ -82,8 +85,9 @@ mod slices {
         #[inline(always)]
         fn exchange_ordered(&mut self, i: usize, j: usize) {
             debug_assert!(i < j && j < self.items.len());
+            let first = self.items.as_mut_ptr();
             // SAFETY: `i < j` by the clause `order` of `Places::exchange_ordered`, and `j` is within the slice by `second`.
-            let [x, y] = unsafe { self.items.get_disjoint_unchecked_mut([i, j]) };
+            let (x, y) = unsafe { (&mut *first.add(i), &mut *first.add(j)) };
             core::mem::swap(x, y);
         }
 
@@ -91,10 +95,11 @@ mod slices {
         fn exchange_runs(&mut self, i: usize, j: usize, len: usize) {
             let n = self.items.len();
             debug_assert!(len <= n && i <= n - len && j <= n - len && i.abs_diff(j) >= len);
+            let first = self.items.as_mut_ptr();
             // SAFETY: both runs are within the slice, by the clauses `first` and `second` of `Places::exchange_runs`, and have
             // no place in common, by `apart`.
-            let [x, y] = unsafe { self.items.get_disjoint_unchecked_mut([i..i + len, j..j + len]) };
-            x.swap_with_slice(y);
+            let run = |start| unsafe { from_raw_parts_mut(first.add(start), len) };
+            run(i).swap_with_slice(run(j));
         }
     }
 
@@ -123,6 +128,11 @@ mod slices {
             // SAFETY: the place is within the slice, by the `requires` of `Cells::put`.
             let cell = unsafe { self.values.get_unchecked_mut(i) };
             *cell = v;
+            // An input and an output are known to be apart, so the compiler would read eight items at once before it writes
+            // them. For processors with AVX-512 it makes one gather of these reads, which lie in eight rows, and that takes
+            // two to three times as long as item by item. A fence of the compiler keeps each read behind the write before it.
+            // The processor sees nothing of it.
+            compiler_fence(Ordering::SeqCst);
         }
     }
 
@@ -155,6 +165,6 @@ mod slices {
     }
 }
 
-#[cfg(all(test, any(debug_assertions, feature = "checked")))]
+#[cfg(test)]
 #[path = "../tests/unit/holders.rs"]
 mod tests;

@@ -63,28 +63,31 @@ static EXPONENTS_OF_THREE: [u8; 64] = [
 ///
 /// # Contract
 ///
+/// In the words of [`contracts`](crate::kernels::contracts):
+///
 /// ```text
 /// ensures enough { n ≤ 2 ^ result }
 /// ensures least { (e : ℕ) → n ≤ 2 ^ e → result ≤ e }
 /// ensures counted { result ≡ clog n }
 /// ```
+#[inline]
 pub const fn log2_ceil_usize(n: usize) -> usize {
-    if n <= 1 {
-        0
-    } else {
-        (n - 1).ilog2() as usize + 1
-    }
+    // This is how many binary digits n - 1 has.
+    (usize::BITS - n.saturating_sub(1).leading_zeros()) as usize
 }
 
 /// The greatest `e` with `2^e <= n`, and 0 for 0.
 ///
 /// # Contract
 ///
+/// In the words of [`contracts`](crate::kernels::contracts):
+///
 /// ```text
 /// ensures zero { n ≡ 0 → result ≡ 0 }
 /// ensures within { 0 < n → 2 ^ result ≤ n }
 /// ensures greatest { (e : ℕ) → 2 ^ e ≤ n → e ≤ result }
 /// ```
+#[inline]
 pub const fn log2_floor_usize(n: usize) -> usize {
     if n == 0 { 0 } else { n.ilog2() as usize }
 }
@@ -93,10 +96,13 @@ pub const fn log2_floor_usize(n: usize) -> usize {
 ///
 /// # Contract
 ///
+/// In the words of [`contracts`](crate::kernels::contracts):
+///
 /// ```text
 /// ensures enough { n ≤ 2 ^ result }
 /// ensures least { (e : ℕ) → n ≤ 2 ^ e → result ≤ e }
 /// ```
+#[inline]
 pub const fn log2_ceil_u64(n: u64) -> u64 {
     log2_ceil_usize(n as usize) as u64
 }
@@ -111,9 +117,12 @@ pub(crate) const fn pow2(exponent: usize) -> usize {
 ///
 /// # Contract
 ///
+/// In the words of [`contracts`](crate::kernels::contracts):
+///
 /// ```text
 /// ensures { SomeIff result (log_degree < 64) (2 ^ log_degree) }
 /// ```
+#[inline]
 pub const fn checked_pow2(log_degree: usize) -> Option<usize> {
     if log_degree < 64 {
         Some(1 << log_degree)
@@ -126,9 +135,12 @@ pub const fn checked_pow2(log_degree: usize) -> Option<usize> {
 ///
 /// # Contract
 ///
+/// In the words of [`contracts`](crate::kernels::contracts):
+///
 /// ```text
 /// ensures { SomeIff result (a + b < 64) (a + b, 2 ^ (a + b)) }
 /// ```
+#[inline]
 pub const fn checked_log_size_sum(a: usize, b: usize) -> Option<(usize, usize)> {
     if a < 64 && b < 64 - a {
         Some((a + b, 1 << (a + b)))
@@ -141,26 +153,31 @@ pub const fn checked_log_size_sum(a: usize, b: usize) -> Option<(usize, usize)> 
 ///
 /// # Contract
 ///
+/// In the words of [`contracts`](crate::kernels::contracts):
+///
 /// ```text
 /// requires { HasLog2 n }
 /// ensures power { n ≡ 2 ^ result }
 /// ensures counted { result ≡ clog n }
 /// ensures bound { result < 64 }
 /// ```
+#[inline]
 pub const fn log2_strict_usize(n: usize) -> usize {
-    let exponent = n.ilog2();
-    exponent as usize
+    n.trailing_zeros() as usize
 }
 
 /// The logarithm to base 3 of a power of three. [`is_power_of_three`] is the test for `n`.
 ///
 /// # Contract
 ///
+/// In the words of [`contracts`](crate::kernels::contracts):
+///
 /// ```text
 /// requires { HasLog3 n }
 /// ensures power { n ≡ 3 ^ result }
 /// ensures bound { result < 41 }
 /// ```
+#[inline]
 pub const fn log3_strict_usize(n: usize) -> usize {
     let top = n.ilog2();
     exponent_of_three(top as usize)
@@ -170,19 +187,24 @@ pub const fn log3_strict_usize(n: usize) -> usize {
 ///
 /// # Contract
 ///
+/// In the words of [`contracts`](crate::kernels::contracts):
+///
 /// ```text
 /// ensures { IsTrue result ↔ IsPowerOfThree n }
 /// ```
+#[inline]
 pub const fn is_power_of_three(n: usize) -> bool {
     n != 0 && powers_of_three()[exponent_of_three(n.ilog2() as usize)] == n
 }
 
 /// The table of the powers of three: they are all that fit a word, and no two share their highest binary digit.
+#[inline]
 const fn powers_of_three() -> &'static [usize; 41] {
     &POWERS_OF_THREE
 }
 
 /// The exponent of the power of three whose highest binary digit is at place `top`, where there is one.
+#[inline]
 const fn exponent_of_three(top: usize) -> usize {
     EXPONENTS_OF_THREE[top] as usize
 }
@@ -191,10 +213,13 @@ const fn exponent_of_three(top: usize) -> usize {
 ///
 /// # Contract
 ///
+/// In the words of [`contracts`](crate::kernels::contracts):
+///
 /// ```text
 /// ensures len { length result ≡ N }
 /// ensures places { (i : ℕ) → i < N → slice_index result i ≡ i }
 /// ```
+#[inline]
 pub const fn indices_arr<const N: usize>() -> [usize; N] {
     let mut indices = [0; N];
     let mut i = 0;
@@ -205,8 +230,11 @@ pub const fn indices_arr<const N: usize>() -> [usize; N] {
     indices
 }
 
-/// Does nothing. It marks a branch that a program seldom takes.
+/// Does nothing. It marks a branch that a program seldom takes. The original has an empty line of assembly here, so that the
+/// compiler keeps the branch. This body is empty, and the compiler may make a conditional move of the branch.
+#[inline]
 pub const fn branch_hint() {}
 
 /// Does nothing. A call shows that `T` is `Clone`.
+#[inline]
 pub const fn assert_clone<T: Clone>() {}

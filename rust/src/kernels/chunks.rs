@@ -1,13 +1,18 @@
 //! Iterators cut into chunks of one size.
 
-/// Calls `func` on each chunk of `BUFLEN` bytes of `input` in turn; the last chunk may be shorter. The chunks joined are the
-/// bytes.
+use core::iter::FusedIterator;
+
+/// Calls `func` on each chunk of `BUFLEN` bytes of `input` in turn; the last chunk may be shorter. The chunks joined are
+/// the bytes.
 ///
-/// The bytes are those before the first `None` of the iterator, which is not asked again after it.
+/// The bytes are those before the first `None` of the iterator, which is not asked again after it. It is dropped after
+/// the last call of `func`.
 /// Where `BUFLEN` is 0 there is no chunk: neither `func` nor the iterator is called.
 /// `BUFLEN` is below 2^63, as the length of every array of bytes is.
 ///
 /// # Contract
+///
+/// In the words of [`contracts`](crate::kernels::contracts):
 ///
 /// ```text
 /// requires fits { BUFLEN < 2 ^ 63 }
@@ -23,13 +28,13 @@ where
     I: IntoIterator<Item = u8>,
     H: FnMut(&[u8]),
 {
-    let iter = input.into_iter();
+    let mut iter = input.into_iter();
     if BUFLEN == 0 {
         return;
     }
     let mut buf = [0; BUFLEN];
     let mut len = 0;
-    for byte in iter {
+    for byte in &mut iter {
         buf[len] = byte;
         len += 1;
         if len == BUFLEN {
@@ -48,6 +53,8 @@ where
 /// After that `None` the iterator is not asked again. Where `N` is 0 there is no array, and it is never asked.
 ///
 /// # Contract
+///
+/// In the words of [`contracts`](crate::kernels::contracts):
 ///
 /// ```text
 /// ensures source { I.into_iter_gives iter (padded_source result) }
@@ -68,6 +75,8 @@ pub fn iter_array_chunks_padded<T: Copy, const N: usize, I: IntoIterator<Item = 
 }
 
 /// The iterator that [`iter_array_chunks_padded`] makes.
+#[derive(Clone, Debug)]
+#[must_use = "iterators are lazy and do nothing unless consumed"]
 pub struct ArrayChunksPadded<I, T, const N: usize> {
     iter: I,
     default: T,
@@ -98,3 +107,5 @@ impl<T: Copy, const N: usize, I: Iterator<Item = T>> Iterator for ArrayChunksPad
         (0, None)
     }
 }
+
+impl<T: Copy, const N: usize, I: Iterator<Item = T>> FusedIterator for ArrayChunksPadded<I, T, N> {}

@@ -10,7 +10,7 @@ use core::slice;
 use core::mem::replace;
 use core::ops::Index;
 
-/// A map in insertion order, for few keys. A look-up compares the key with each stored one.
+/// A map in insertion order, for few keys. A look-up compares each stored key with the given one, as `stored == given`.
 #[derive(Debug)]
 pub struct LinearMap<K: Eq, V> {
     pairs: Vec<(K, V)>,
@@ -20,6 +20,8 @@ impl<K: Eq, V> LinearMap<K, V> {
     /// An empty map, which takes no memory until the first pair.
     ///
     /// # Contract
+    ///
+    /// In the words of [`contracts`](crate::kernels::contracts):
     ///
     /// ```text
     /// ensures { result ≡ [] }
@@ -33,6 +35,8 @@ impl<K: Eq, V> LinearMap<K, V> {
     /// An empty map with room for `capacity` pairs.
     ///
     /// # Contract
+    ///
+    /// In the words of [`contracts`](crate::kernels::contracts):
     ///
     /// ```text
     /// ensures empty { IfOk result (λ m. m ≡ []) }
@@ -48,6 +52,8 @@ impl<K: Eq, V> LinearMap<K, V> {
     ///
     /// # Contract
     ///
+    /// In the words of [`contracts`](crate::kernels::contracts):
+    ///
     /// ```text
     /// ensures len { result ≡ length self.now }
     /// ensures distinct { HasDistinctKeys K.eq self.now }
@@ -60,6 +66,8 @@ impl<K: Eq, V> LinearMap<K, V> {
     ///
     /// # Contract
     ///
+    /// In the words of [`contracts`](crate::kernels::contracts):
+    ///
     /// ```text
     /// ensures { result ≡ (length self.now == 0) }
     /// ```
@@ -70,6 +78,8 @@ impl<K: Eq, V> LinearMap<K, V> {
     /// The values, in order.
     ///
     /// # Contract
+    ///
+    /// In the words of [`contracts`](crate::kernels::contracts):
     ///
     /// ```text
     /// ensures rest { result ≡ values_of self.now }
@@ -83,6 +93,8 @@ impl<K: Eq, V> LinearMap<K, V> {
     ///
     /// # Contract
     ///
+    /// In the words of [`contracts`](crate::kernels::contracts):
+    ///
     /// ```text
     /// ensures rest { result ≡ keys_of self.now }
     /// ensures runs { ShowsInOrder (deref {X = K}) }
@@ -95,6 +107,8 @@ impl<K: Eq, V> LinearMap<K, V> {
     ///
     /// # Contract
     ///
+    /// In the words of [`contracts`](crate::kernels::contracts):
+    ///
     /// ```text
     /// ensures rest { result ≡ self.now }
     /// ensures runs { ShowsInOrder (deref {X = K × V}) }
@@ -105,12 +119,14 @@ impl<K: Eq, V> LinearMap<K, V> {
 
     /// The place of the pair whose key equals `k`.
     fn place_of(&self, k: &K) -> Option<usize> {
-        self.pairs.iter().position(|pair| *k == pair.0)
+        self.pairs.iter().position(|pair| pair.0 == *k)
     }
 
     /// The value of the pair whose key equals `k`, or `None` where there is none.
     ///
     /// # Contract
+    ///
+    /// In the words of [`contracts`](crate::kernels::contracts):
     ///
     /// ```text
     /// ensures { option_copied result ≡ value_at K.eq self.now k.now }
@@ -123,6 +139,8 @@ impl<K: Eq, V> LinearMap<K, V> {
     /// The same value, to write to. A write changes that value alone.
     ///
     /// # Contract
+    ///
+    /// In the words of [`contracts`](crate::kernels::contracts):
     ///
     /// ```text
     /// ensures* writes_back { sem 𝓛 (lends_value K.row V.row K.eq self.entry k.now result) }
@@ -140,6 +158,8 @@ impl<K: Eq, V> LinearMap<K, V> {
     /// was.
     ///
     /// # Contract
+    ///
+    /// In the words of [`contracts`](crate::kernels::contracts):
     ///
     /// ```text
     /// ensures old { IfOk result (λ old. old ≡ value_at K.eq self.old k) }
@@ -169,6 +189,8 @@ impl<K: Eq, V> LinearMap<K, V> {
     ///
     /// # Contract
     ///
+    /// In the words of [`contracts`](crate::kernels::contracts):
+    ///
     /// ```text
     /// requires { value_at K.eq self.old k ≡ None → F.pre f }
     /// ensures* writes_back { sem 𝓛 (lends_put K.row V.row K.eq self.entry k result) }
@@ -194,6 +216,8 @@ impl<K: Eq, V> LinearMap<K, V> {
     /// The map after each pair of `it` is inserted in order. On a refusal the pairs that were taken are dropped.
     ///
     /// # Contract
+    ///
+    /// In the words of [`contracts`](crate::kernels::contracts):
     ///
     /// ```text
     /// requires { IsFiniteIterable I.into_iter_gives I.IntoIter.can_next I.IntoIter.remaining it }

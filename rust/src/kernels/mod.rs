@@ -12,3 +12,10 @@ mod no_room;
 pub mod zip_eq;
 
 pub use no_room::NoRoom;
+
+pub mod contracts;
+
+/// What a call takes or returns that may need memory, written by hand in the place of Rattle's std.
+pub mod memory {
+    pub use crate::memory::{AllocError, Global, String};
+}

@@ -29,6 +29,8 @@ pub trait Places {
     ///
     /// # Contract
     ///
+    /// In the words of [`contracts`](crate::kernels::contracts):
+    ///
     /// ```text
     /// ensures { result ≡ length (items self.now) }
     /// ```
@@ -37,6 +39,8 @@ pub trait Places {
     /// Exchanges the items at places `i` and `j`. Where they are one place, nothing changes.
     ///
     /// # Contract
+    ///
+    /// In the words of [`contracts`](crate::kernels::contracts):
     ///
     /// ```text
     /// requires first { i < length (items self.old) }
@@ -49,6 +53,8 @@ pub trait Places {
     /// As `exchange`, where `i` is below `j`. A holder may do so without a test of their order.
     ///
     /// # Contract
+    ///
+    /// In the words of [`contracts`](crate::kernels::contracts):
     ///
     /// ```text
     /// requires order { i < j }
@@ -65,6 +71,8 @@ pub trait Places {
     /// place in common. A holder may do so in a faster way than by its `exchange`.
     ///
     /// # Contract
+    ///
+    /// In the words of [`contracts`](crate::kernels::contracts):
     ///
     /// ```text
     /// requires apart { (i + len ≤ j) ⊎ (j + len ≤ i) }
@@ -95,6 +103,8 @@ pub trait Cells {
     ///
     /// # Contract
     ///
+    /// In the words of [`contracts`](crate::kernels::contracts):
+    ///
     /// ```text
     /// ensures { result ≡ length (items self.now) }
     /// ```
@@ -103,6 +113,8 @@ pub trait Cells {
     /// Puts `v` at place `i`. All other items stay.
     ///
     /// # Contract
+    ///
+    /// In the words of [`contracts`](crate::kernels::contracts):
     ///
     /// ```text
     /// requires { i < length (items self.old) }
@@ -123,6 +135,8 @@ pub trait Source {
     ///
     /// # Contract
     ///
+    /// In the words of [`contracts`](crate::kernels::contracts):
+    ///
     /// ```text
     /// ensures { result ≡ length (items self.now) }
     /// ```
@@ -131,6 +145,8 @@ pub trait Source {
     /// The item at place `i`.
     ///
     /// # Contract
+    ///
+    /// In the words of [`contracts`](crate::kernels::contracts):
     ///
     /// ```text
     /// requires { i < length (items self.now) }

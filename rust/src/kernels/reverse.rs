@@ -18,11 +18,15 @@ const SHORT_PATH_ITEMS: usize = 8192;
 ///
 /// # Contract
 ///
+/// In the words of [`contracts`](crate::kernels::contracts):
+///
 /// ```text
 /// ensures rows { IsTrue result ↔ FitsRows len row_width }
 /// ensures items { row_width ≡ 1 → (IsTrue result ↔ IsZeroOrPowerOfTwo len) }
 /// ```
-pub fn fits_rows(len: usize, row_width: usize) -> bool {
+#[inline]
+#[must_use]
+pub const fn fits_rows(len: usize, row_width: usize) -> bool {
     if row_width == 0 {
         return len == 0;
     }
@@ -34,6 +38,8 @@ pub fn fits_rows(len: usize, row_width: usize) -> bool {
 /// std's `is_power_of_two`. The same call restores the order. No item is cloned or dropped.
 ///
 /// # Contract
+///
+/// In the words of [`contracts`](crate::kernels::contracts):
 ///
 /// ```text
 /// requires { IsReversible (length vals.old) }
@@ -48,6 +54,8 @@ pub fn reverse_slice_index_bits<F>(vals: &mut [F]) {
 /// exchanges.
 ///
 /// # Contract
+///
+/// In the words of [`contracts`](crate::kernels::contracts):
 ///
 /// ```text
 /// requires { IsReversible (length (S.items places.old)) }
@@ -68,6 +76,8 @@ pub fn reverse_counted<S: Places>(places: &mut S) -> u128 {
 ///
 /// # Contract
 ///
+/// In the words of [`contracts`](crate::kernels::contracts):
+///
 /// ```text
 /// requires { FitsRows (length vals.old) row_width }
 /// ensures order { IsRowReversal row_width vals.old vals.new }
@@ -81,6 +91,8 @@ pub fn reverse_slice_row_index_bits<F>(vals: &mut [F], row_width: usize) {
 /// number of exchanges.
 ///
 /// # Contract
+///
+/// In the words of [`contracts`](crate::kernels::contracts):
 ///
 /// ```text
 /// requires { FitsRows (length (S.items places.old)) row_width }
@@ -100,6 +112,8 @@ pub fn reverse_rows_counted<S: Places>(places: &mut S, row_width: usize) -> u128
 /// up to 8192 items, and else by the long one. The length is zero or a power of two.
 ///
 /// # Contract
+///
+/// In the words of [`contracts`](crate::kernels::contracts):
 ///
 /// ```text
 /// requires { IsReversible (length (S.items m.old.holder)) }

@@ -27,13 +27,18 @@ const ENOUGH_LEVELS: u32 = 64;
 ///
 /// # Contract
 ///
+/// In the words of [`contracts`](crate::kernels::contracts):
+///
 /// ```text
 /// ensures { IsTrue result ↔ ((input_len ≡ width * height) × (output_len ≡ width * height)) }
 /// ```
-pub fn fits_matrix(input_len: usize, output_len: usize, width: usize, height: usize) -> bool {
-    width
-        .checked_mul(height)
-        .is_some_and(|items| input_len == items && output_len == items)
+#[inline]
+#[must_use]
+pub const fn fits_matrix(input_len: usize, output_len: usize, width: usize, height: usize) -> bool {
+    match width.checked_mul(height) {
+        Some(items) => input_len == items && output_len == items,
+        None => false,
+    }
 }
 
 /// Writes to `output` the transpose of `input`, a matrix of `height` rows of `width` items: what stood at
@@ -41,6 +46,8 @@ pub fn fits_matrix(input_len: usize, output_len: usize, width: usize, height: us
 /// transpose of `output` the other way round, with `height` for the width, is `input` again.
 ///
 /// # Contract
+///
+/// In the words of [`contracts`](crate::kernels::contracts):
 ///
 /// ```text
 /// requires input_fits { length input.now ≡ width * height }
@@ -56,6 +63,8 @@ pub fn transpose<T: Copy>(input: &[T], output: &mut [T], width: usize, height: u
 /// writes.
 ///
 /// # Contract
+///
+/// In the words of [`contracts`](crate::kernels::contracts):
 ///
 /// ```text
 /// requires input_fits { length input.now ≡ width * height }
@@ -76,6 +85,8 @@ pub fn transpose_counted<C: Cells>(
 /// Puts the transpose of any source into `cells`, as [`transpose_counted`] does that of a slice.
 ///
 /// # Contract
+///
+/// In the words of [`contracts`](crate::kernels::contracts):
 ///
 /// ```text
 /// requires input_fits { length (R.items input.now) ≡ width * height }
@@ -98,6 +109,8 @@ where
 ///
 /// # Contract
 ///
+/// In the words of [`contracts`](crate::kernels::contracts):
+///
 /// ```text
 /// requires input_fits { length input.now ≡ width * height }
 /// requires output_fits { length (C.items out.old.holder) ≡ width * height }
@@ -112,6 +125,8 @@ pub fn transpose_on<C: Cells>(input: &[C::Item], out: &mut Writes<C>, width: usi
 /// Puts the transpose of any source into `out`, as [`transpose_on`] does that of a slice.
 ///
 /// # Contract
+///
+/// In the words of [`contracts`](crate::kernels::contracts):
 ///
 /// ```text
 /// requires input_fits { length (R.items input.now) ≡ width * height }
@@ -135,6 +150,8 @@ where
 /// lengths are `width` times `height`, which [`fits_matrix`] tests.
 ///
 /// # Contract
+///
+/// In the words of [`contracts`](crate::kernels::contracts):
 ///
 /// ```text
 /// requires input_fits { length input.now ≡ width * height }
@@ -160,6 +177,8 @@ pub fn transpose_region_on<C: Cells>(
 /// Puts the transpose of `region`, as [`transpose_region_on`] does over a fresh counter, and returns the number of writes.
 ///
 /// # Contract
+///
+/// In the words of [`contracts`](crate::kernels::contracts):
 ///
 /// ```text
 /// requires input_fits { length input.now ≡ width * height }

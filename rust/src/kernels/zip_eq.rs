@@ -1,8 +1,12 @@
 //! Two iterators of one length as one iterator of pairs.
 
+use core::iter::FusedIterator;
+
 /// Pairs the items of `a` and `b` by place, or returns `err` where their lengths differ.
 ///
 /// # Contract
+///
+/// In the words of [`contracts`](crate::kernels::contracts):
 ///
 /// ```text
 /// ensures lengths { (i : A.IntoIter) × (j : B.IntoIter)
@@ -39,6 +43,8 @@ where
 }
 
 /// The iterator that [`zip_eq`] makes.
+#[derive(Clone, Debug)]
+#[must_use = "iterators are lazy and do nothing unless consumed"]
 pub struct ZipEq<A, B> {
     first: A,
     second: B,
@@ -55,6 +61,8 @@ impl<A: ExactSizeIterator, B: ExactSizeIterator> Iterator for ZipEq<A, B> {
     }
 
     /// # Contract
+    ///
+    /// In the words of [`contracts`](crate::kernels::contracts):
     ///
     /// ```text
     /// ensures lower { IsWithinCount result.0 (zip_eq_left A.remaining self.now) }
@@ -73,3 +81,6 @@ impl<A: ExactSizeIterator, B: ExactSizeIterator> ExactSizeIterator for ZipEq<A, 
         self.first.len()
     }
 }
+
+impl<A: ExactSizeIterator + FusedIterator, B: ExactSizeIterator + FusedIterator> FusedIterator
+    for ZipEq<A, B> {}

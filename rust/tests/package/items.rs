@@ -1,12 +1,14 @@
 //! Items of every size, alignment and kind.
 
+use std::array;
 use std::fmt::Debug;
-use std::sync::atomic::{AtomicUsize, Ordering};
+use std::rc::Rc;
+use std::sync::atomic::{AtomicUsize, Ordering::Relaxed};
 
 use p3_util_proved::transpose::transpose;
 use p3_util_proved::{reverse_slice_index_bits, reverse_slice_row_index_bits};
 
-use crate::{panics, reversed, transposed};
+use crate::{Owner, panics, reversed, transposed};
 
 /// Reverses 2^`bits` rows of `width` items, of which `item` makes the i-th, and compares each place.
 fn reverses<F: Debug + PartialEq + Send + Sync>(bits: u32, width: usize, item: impl Fn(usize) -> F) {
@@ -109,42 +111,87 @@ fn structs_and_references() {
     moves(Box::new);
 }
 
-#[derive(Debug, PartialEq)]
-struct Owner(Box<usize>);
+/// Reverses 2^`bits` rows of `width` owners, and reverses them again. No owner is dropped, and then each of them once.
+fn check_owners(bits: u32, width: usize) {
+    let count = width << bits;
+    let drops = AtomicUsize::new(0);
+    let mut owners = Owner::list(count, &drops);
+    let reverse = |owners: &mut [Owner]| match width {
+        1 => reverse_slice_index_bits(owners),
+        _ => reverse_slice_row_index_bits(owners, width),
+    };
+    reverse(&mut owners);
+    for (i, owner) in owners.iter().enumerate() {
+        let wanted = reversed(bits, i / width) * width + i % width;
+        assert_eq!(owner.number, wanted, "place {i} of 2^{bits} rows of {width}");
+    }
+    reverse(&mut owners);
+    assert!(owners.iter().map(|owner| owner.number).eq(0..count));
+    assert_eq!(drops.load(Relaxed), 0);
+    drop(owners);
+    assert_eq!(drops.load(Relaxed), count);
+}
 
-static DROPPED: AtomicUsize = AtomicUsize::new(0);
-
-impl Drop for Owner {
-    fn drop(&mut self) {
-        DROPPED.fetch_add(1, Ordering::Relaxed);
+#[test]
+fn owners() {
+    (0..=15).for_each(|bits| check_owners(bits, 1));
+    for (bits, width) in (0..=10).flat_map(|bits| [2, 3, 5, 8].map(|width| (bits, width))) {
+        check_owners(bits, width);
     }
 }
 
 #[test]
-fn no_owner_is_dropped() {
-    let mut owners: Vec<Owner> = (0..1 << 14).map(|i| Owner(Box::new(i))).collect();
-    reverse_slice_index_bits(&mut owners);
-    reverse_slice_row_index_bits(&mut owners, 8);
-    assert!(panics(|| reverse_slice_index_bits(&mut owners[1..])));
-    assert_eq!(DROPPED.load(Ordering::Relaxed), 0);
-    drop(owners);
-    assert_eq!(DROPPED.load(Ordering::Relaxed), 1 << 14);
+fn a_refused_call_drops_no_owner() {
+    let drops = AtomicUsize::new(0);
+    let mut owners = Owner::list(6, &drops);
+    assert!(panics(|| reverse_slice_index_bits(&mut owners)));
+    assert!(panics(|| reverse_slice_row_index_bits(&mut owners, 4)));
+    assert_eq!(drops.load(Relaxed), 0);
+}
+
+/// The call for rows, which the original has not, asks for no bound.
+#[test]
+fn rows_of_items_that_stay_on_their_thread() {
+    let items: Vec<Rc<u8>> = (0..8).map(Rc::new).collect();
+    let mut rows = items.clone();
+    reverse_slice_row_index_bits(&mut rows, 2);
+    assert!(
+        rows.iter()
+            .zip([0, 1, 4, 5, 2, 3, 6, 7])
+            .all(|(item, i)| Rc::ptr_eq(item, &items[i]))
+    );
+}
+
+/// A list that lies `START` bytes behind an address that 8 divides.
+#[repr(C, align(8))]
+struct Behind<const START: usize> {
+    _before: [u8; START],
+    items: [[u8; 8]; 256],
+}
+
+fn check_address<const START: usize>() {
+    let numbered = || Behind {
+        _before: [0; START],
+        items: array::from_fn(|i| (i as u64 * 0x0001_0203_0405_0607).to_ne_bytes()),
+    };
+    let (before, mut moved, mut output) = (numbered(), numbered(), numbered());
+    assert_eq!(moved.items.as_ptr().addr() % 8, START);
+    reverse_slice_index_bits(&mut moved.items);
+    assert!((0..256).all(|i| moved.items[i] == before.items[reversed(8, i)]));
+    transpose(&before.items[..240], &mut output.items[..240], 24, 10);
+    assert!((0..240).all(|i| output.items[i] == before.items[transposed(24, 10, i)]));
 }
 
 #[test]
 fn lists_at_odd_addresses() {
-    let bytes: Vec<u8> = (0..8 * 257).map(|i| (i % 251) as u8).collect();
-    for start in 0..8 {
-        let mut moved = bytes.clone();
-        let (items, _) = moved[start..].as_chunks_mut::<8>();
-        let (before, _) = bytes[start..].as_chunks::<8>();
-        reverse_slice_index_bits(&mut items[..256]);
-        assert!((0..256).all(|i| items[i] == before[reversed(8, i)]));
-        let mut output = vec![0; bytes.len()];
-        let output = &mut output[start..].as_chunks_mut::<8>().0[..240];
-        transpose(&before[..240], output, 24, 10);
-        assert!((0..240).all(|i| output[i] == before[transposed(24, 10, i)]));
-    }
+    check_address::<0>();
+    check_address::<1>();
+    check_address::<2>();
+    check_address::<3>();
+    check_address::<4>();
+    check_address::<5>();
+    check_address::<6>();
+    check_address::<7>();
 }
 
 #[test]

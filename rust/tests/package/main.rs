@@ -4,16 +4,18 @@
 
 mod answers;
 mod items;
+mod iterators;
 mod map;
 mod originals;
 mod panics;
+mod refusal;
 mod shapes;
 mod steps;
 mod words;
 
-use std::cell::Cell;
-use std::panic::{AssertUnwindSafe, catch_unwind, set_hook, take_hook};
-use std::sync::Once;
+use std::sync::atomic::{AtomicUsize, Ordering::Relaxed};
+
+use refusal::refusal;
 
 /// `i` with its `bits` low binary digits in reversed order, which are all that it has.
 fn reversed(bits: u32, i: usize) -> usize {
@@ -25,43 +27,56 @@ fn transposed(width: usize, height: usize, place: usize) -> usize {
     place % height * width + place / height
 }
 
-/// The text of a panic, and the file that it names.
-#[derive(Debug, PartialEq)]
-struct Refusal {
-    text: String,
-    file: String,
+/// A number that cannot be cloned, and that counts its drops. Owners are equal where their numbers are.
+#[derive(Debug)]
+struct Owner<'a> {
+    number: usize,
+    drops: &'a AtomicUsize,
 }
 
-thread_local! {
-    /// Whether a panic of this thread is caught and not shown.
-    static EXPECTED: Cell<bool> = const { Cell::new(false) };
+impl<'a> Owner<'a> {
+    fn new(number: usize, drops: &'a AtomicUsize) -> Self {
+        Owner { number, drops }
+    }
 
-    /// The file that the last one named.
-    static FILE: Cell<Option<String>> = const { Cell::new(None) };
+    /// The owners of the numbers below `count`.
+    fn list(count: usize, drops: &'a AtomicUsize) -> Vec<Self> {
+        (0..count).map(|number| Owner::new(number, drops)).collect()
+    }
+
+    /// How often owners with this counter were dropped. A closure that calls this has the owner, and not its fields.
+    fn dropped(&self) -> usize {
+        self.drops.load(Relaxed)
+    }
 }
 
-/// The panic of `call`, where it does panic.
-fn refusal(call: impl FnOnce()) -> Option<Refusal> {
-    static HOOK: Once = Once::new();
-    HOOK.call_once(|| {
-        let shown = take_hook();
-        set_hook(Box::new(move |info| match info.location() {
-            Some(at) if EXPECTED.get() => FILE.set(Some(at.file().to_owned())),
-            _ => shown(info),
-        }));
-    });
-    EXPECTED.set(true);
-    let outcome = catch_unwind(AssertUnwindSafe(call));
-    EXPECTED.set(false);
-    let payload = outcome.err()?;
-    let text = match payload.downcast_ref::<String>() {
-        Some(text) => text.clone(),
-        None => payload.downcast_ref::<&str>()?.to_string(),
-    };
-    let file = FILE.take()?;
-    Some(Refusal { text, file })
+impl Drop for Owner<'_> {
+    fn drop(&mut self) {
+        self.drops.fetch_add(1, Relaxed);
+    }
 }
+
+impl PartialEq for Owner<'_> {
+    fn eq(&self, other: &Self) -> bool {
+        self.number == other.number
+    }
+}
+
+impl Eq for Owner<'_> {}
 
 fn panics(call: impl FnOnce()) -> bool {
     refusal(call).is_some()
+}
+
+/// The lines of the root that refuse words of other sizes and, with the feature `checked`, unsafe code: on a system of 64 bits,
+/// and where no such code is, nothing shows that they are there.
+#[test]
+fn refusals_of_the_root() {
+    let root = include_str!("../../src/lib.rs");
+    for lines in [
+        "\n#![cfg_attr(feature = \"checked\", forbid(unsafe_code))]\n",
+        "\n#[cfg(not(target_pointer_width = \"64\"))]\ncompile_error!(",
+    ] {
+        assert!(root.contains(lines), "{lines}");
+    }
 }

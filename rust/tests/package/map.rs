@@ -1,7 +1,11 @@
 //! The map.
 
-use p3_util_proved::linear_map::LinearMap;
+use std::cell::{Cell, RefCell};
+use std::sync::atomic::{AtomicUsize, Ordering::Relaxed};
 
+use p3_util_proved::linear_map::{Iter, Keys, LinearMap, Values};
+
+use crate::Owner;
 use crate::answers::{Call, PAIRS, SCRIPT};
 
 #[test]
@@ -46,6 +50,58 @@ fn a_known_key_keeps_its_place_and_spelling() {
     assert_eq!(format!("{map:?}"), r#"LinearMap([(Word("one"), 3), (Word("two"), 5)])"#);
 }
 
+/// A key that writes its name and the other's when it is compared. Keys are equal where their names are the same letter.
+struct Named<'a> {
+    name: char,
+    compared: &'a RefCell<String>,
+}
+
+impl PartialEq for Named<'_> {
+    fn eq(&self, other: &Self) -> bool {
+        self.compared.borrow_mut().extend([self.name, other.name]);
+        self.name.eq_ignore_ascii_case(&other.name)
+    }
+}
+
+impl Eq for Named<'_> {}
+
+/// Each stored key in turn is asked about the given one, up to the first that equals it.
+#[test]
+fn stored_keys_are_compared_with_the_given_one() {
+    let compared = &RefCell::new(String::new());
+    let given = Named { name: 'B', compared };
+    let stored = ['a', 'b', 'c'].map(|name| (Named { name, compared }, 1));
+    let mut map = LinearMap::from_iter(stored);
+    assert_eq!(compared.take(), "abacbc");
+    assert_eq!((map.get(&given), compared.take().as_str()), (Some(&1), "aBbB"));
+    assert_eq!((map.get_mut(&given), compared.take().as_str()), (Some(&mut 1), "aBbB"));
+    assert_eq!((map[&given], compared.take().as_str()), (1, "aBbB"));
+    let again = Named { name: 'B', compared };
+    assert_eq!((map.insert(again, 2), compared.take().as_str()), (Some(1), "aBbB"));
+    assert_eq!(
+        (*map.get_or_insert_with(given, || 3), compared.take().as_str()),
+        (2, "aBbB")
+    );
+}
+
+#[test]
+fn iterators_from_both_ends() {
+    let map = LinearMap::from_iter([(1, 'a'), (2, 'b'), (3, 'c')]);
+    let (mut pairs, mut keys, mut values) = (map.iter(), map.keys(), map.values());
+    let lens = |pairs: &Iter<_, _>, keys: &Keys<_, _>, values: &Values<_, _>| [pairs.len(), keys.len(), values.len()];
+    assert_eq!(
+        (pairs.next_back(), keys.next_back(), values.next_back()),
+        (Some(&(3, 'c')), Some(&3), Some(&'c'))
+    );
+    assert_eq!(lens(&pairs, &keys, &values), [2; 3]);
+    assert_eq!(
+        (pairs.next(), keys.next(), values.next()),
+        (Some(&(1, 'a')), Some(&1), Some(&'a'))
+    );
+    assert_eq!(lens(&pairs.clone(), &keys.clone(), &values.clone()), [1; 3]);
+    assert!(pairs.rev().eq(&[(2, 'b')]) && keys.rev().eq(&[2]) && values.rev().eq(&['b']));
+}
+
 #[test]
 fn empty_maps() {
     let maps = [LinearMap::new(), LinearMap::default(), LinearMap::with_capacity(0)];
@@ -54,4 +110,62 @@ fn empty_maps() {
         assert_eq!(format!("{map:?}"), "LinearMap([])");
         assert_eq!(map.into_iter().next(), None::<(u8, u8)>);
     }
+}
+
+/// Bodies that refuse a pair from some number on, whatever memory there is, meet their contracts, and fail here.
+#[test]
+fn maps_of_many_pairs() {
+    const KEYS: usize = 5000;
+    let mut map = LinearMap::new();
+    for key in (0..KEYS).step_by(2) {
+        assert_eq!(map.insert(key, key), None);
+        assert_eq!(*map.get_or_insert_with(key + 1, || key + 1), key + 1);
+    }
+    assert!(map.keys().copied().eq(0..KEYS));
+    let made: LinearMap<usize, usize> = map.iter().copied().collect();
+    assert!(made.into_iter().eq(map));
+    let mut roomy = LinearMap::with_capacity(1 << 20);
+    assert_eq!(roomy.insert(7, 7), None);
+}
+
+/// The closure is called once, and under a new key alone. It is dropped before the value is lent.
+#[test]
+fn closures() {
+    let mut map = LinearMap::new();
+    for (key, given, wanted, calls) in [(10, 123, 123, 1), (10, 456, 123, 0), (20, 777, 777, 1)] {
+        let (called, drops) = (Cell::new(0), AtomicUsize::new(0));
+        let owner = Owner::new(given, &drops);
+        let value = *map.get_or_insert_with(key, || {
+            called.set(called.get() + 1);
+            let owner = owner;
+            owner.number
+        });
+        assert_eq!((value, called.get(), drops.load(Relaxed)), (wanted, calls, 1), "{key}");
+    }
+}
+
+/// A known key is dropped by the call that it is given to, and the stored one with the map.
+#[test]
+fn known_keys_are_dropped() {
+    let drops = AtomicUsize::new(0);
+    let key = || Owner::new(1, &drops);
+    let mut map = LinearMap::new();
+    assert_eq!((map.insert(key(), 10), drops.load(Relaxed)), (None, 0));
+    assert_eq!((map.insert(key(), 20), drops.load(Relaxed)), (Some(10), 1));
+    assert_eq!((*map.get_or_insert_with(key(), || 30), drops.load(Relaxed)), (20, 2));
+    drop(map);
+    assert_eq!(drops.load(Relaxed), 3);
+}
+
+/// Of pairs with equal keys the first key and the last value stay, and all others are dropped as the map is made.
+#[test]
+fn pairs_are_dropped() {
+    let [of_keys, of_values] = [0; 2].map(AtomicUsize::new);
+    let counts = || [&of_keys, &of_values].map(|drops| drops.load(Relaxed));
+    let pairs = (0..12).map(|i| (Owner::new(i % 5, &of_keys), Owner::new(i, &of_values)));
+    let map: LinearMap<Owner, Owner> = pairs.collect();
+    assert_eq!(counts(), [7, 7]);
+    assert!(map.values().map(|value| value.number).eq([10, 11, 7, 8, 9]));
+    drop(map);
+    assert_eq!(counts(), [12, 12]);
 }

@@ -100,6 +100,15 @@ fn short_names() {
     assert!(map.starts_with("HashMap<String,Vec<Option<u64>>"), "{map}");
 }
 
+/// A name of some 100,000 bytes. A body that refuses such a name meets its contract, and fails here.
+#[test]
+fn long_names() {
+    type Four<T> = ((T, T), (T, T));
+    type Many<T> = Four<Four<Four<T>>>;
+    let wanted = (0..12).fold(String::from("String"), |name, _| format!("{name},{name})"));
+    assert_eq!(pretty_name::<Many<Many<String>>>(), wanted);
+}
+
 #[test]
 fn calls_that_do_nothing() {
     use p3_util_proved::{assert_clone, assert_send, assert_sync, branch_hint};

@@ -4,9 +4,20 @@ use p3_util_proved::linear_map::LinearMap;
 use p3_util_proved::transpose::transpose;
 use p3_util_proved::*;
 
-use crate::{panics, refusal};
+use crate::panics;
+use crate::refusal::refusal;
 
-/// The original's whole texts, as its build with debug assertions prints them, and the caller's file, which it names.
+/// Asserts that a call panics with the original's whole text, as its build with debug assertions prints it, and that the
+/// panic names the caller's file.
+fn check_text(call: fn(), original: &str) {
+    let refused = refusal(call).unwrap();
+    assert!(
+        refused.text.contains(original),
+        "{refused:?} does not contain {original:?}"
+    );
+    assert_eq!(refused.file, file!(), "{original:?}");
+}
+
 #[test]
 fn texts_of_the_original() {
     let cases: &[(fn(), &str)] = &[
@@ -16,11 +27,6 @@ fn texts_of_the_original() {
         (
             || _ = log3_strict_usize(6),
             "log3_strict_usize: input is not a power of 3",
-        ),
-        (|| _ = reverse_bits(1, 6), "assertion failed: n.is_power_of_two()"),
-        (
-            || _ = reverse_bits_len(1, 65),
-            "assertion failed: bit_len <= usize::BITS as usize",
         ),
         (|| reverse_slice_index_bits(&mut [0u8; 6]), "Not a power of two"),
         (|| reverse_slice_index_bits(&mut [(); 6]), "Not a power of two"),
@@ -42,12 +48,7 @@ fn texts_of_the_original() {
         ),
     ];
     for (call, original) in cases {
-        let refused = refusal(call).unwrap();
-        assert!(
-            refused.text.contains(original),
-            "{refused:?} does not contain {original:?}"
-        );
-        assert_eq!(refused.file, file!(), "{original:?}");
+        check_text(*call, original);
     }
 }
 
@@ -67,10 +68,21 @@ fn texts_of_the_package() {
     }
 }
 
+/// The conditions that the original tests with debug assertions alone, and what its release build answers without them.
 #[test]
-fn more_bits_than_a_word() {
-    for bit_len in [65, 1 << 32, usize::MAX] {
-        assert!(panics(|| _ = reverse_bits_len(1, bit_len)), "{bit_len}");
+fn digits_by_other_numbers() {
+    if cfg!(debug_assertions) {
+        check_text(|| _ = reverse_bits(1, 6), "assertion failed: n.is_power_of_two()");
+        check_text(
+            || _ = reverse_bits_len(1, 65),
+            "assertion failed: bit_len <= usize::BITS as usize",
+        );
+    } else {
+        let by_len =
+            [(1, 65), (11, 70), (1, 1 << 32), (5, usize::MAX)].map(|(x, bit_len)| reverse_bits_len(x, bit_len));
+        assert_eq!(by_len, [1, 0x34, 1 << 63, 5 << 60]);
+        let by_power = [(5, 6), (11, 12), (1, 0), (7, usize::MAX)].map(|(x, n)| reverse_bits(x, n));
+        assert_eq!(by_power, [1, 3, 1 << 63, 7 << 61]);
     }
 }
 
@@ -101,8 +113,17 @@ fn rows_that_no_memory_holds() {
 
 #[test]
 fn matrices_of_other_lengths() {
-    let input: Vec<u16> = (0..30).collect();
-    for (input_len, output_len) in [(29, 30), (30, 29), (29, 29), (0, 30), (30, 0)] {
+    let input: Vec<u16> = (0..31).collect();
+    for (input_len, output_len) in [
+        (29, 30),
+        (30, 29),
+        (29, 29),
+        (31, 30),
+        (30, 31),
+        (31, 31),
+        (0, 30),
+        (30, 0),
+    ] {
         let mut output = vec![7; output_len];
         assert!(panics(|| transpose(&input[..input_len], &mut output, 5, 6)));
         assert!(output.iter().all(|it| *it == 7));

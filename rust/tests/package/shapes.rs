@@ -34,38 +34,83 @@ fn check_shape<T: Copy + PartialEq + Send + Sync>(item: &impl Fn(usize) -> T, (w
     }
 }
 
-fn check_shapes<T: Copy + PartialEq + Send + Sync>(item: impl Fn(usize) -> T) {
-    let pairs = (1..=70).flat_map(|width| (1..=70).map(move |height| (width, height)));
-    pairs.for_each(|shape| check_shape(&item, shape));
-}
-
-#[test]
-fn every_pair_of_sides() {
-    check_shapes(|i| i as u32);
-    check_shapes(|i| [i as u8, (i >> 8) as u8, 7]);
-    check_shapes(|i| i as u64);
-}
-
-/// The larger shapes that the benchmark measures, and the original's tests have.
-const SHAPES: [(usize, usize); 27] = [
-    (300, 60),
-    (60, 300),
+/// The shapes of the original's tests, but for those of a side up to 17.
+const SHAPES: [(usize, usize); 22] = [
+    (255, 1),
+    (256, 1),
+    (1, 256),
+    (32, 32),
+    (64, 64),
+    (17, 96),
+    (96, 17),
+    (63, 50),
     (120, 140),
     (128, 129),
-    (255, 1),
-    (1, 256),
-    (512, 512),
-    (1000, 1024),
+    (140, 120),
+    (300, 60),
+    (60, 300),
     (1024, 1024),
     (1025, 1024),
     (1024, 1025),
     (1025, 1025),
     (1100, 1000),
-    (2048, 2048),
-    (4096, 4096),
     (2050, 512),
+    (512, 2050),
     (2003, 757),
     (757, 2003),
+];
+
+/// Every pair of sides up to 70, one row and one column of up to 200 items, and `SHAPES`.
+fn check_shapes<T: Copy + PartialEq + Send + Sync>(item: impl Fn(usize) -> T) {
+    let pairs = (1..=70).flat_map(|width| (1..=70).map(move |height| (width, height)));
+    let lines = (71..=200).flat_map(|len| [(len, 1), (1, len)]);
+    pairs
+        .chain(lines)
+        .chain(SHAPES)
+        .for_each(|shape| check_shape(&item, shape));
+}
+
+#[test]
+fn shapes_of_bytes() {
+    check_shapes(|i| (i % 251) as u8);
+}
+
+#[test]
+fn shapes_of_half_words() {
+    check_shapes(|i| i as u32);
+}
+
+#[test]
+fn shapes_of_words() {
+    check_shapes(|i| i as u64);
+}
+
+#[test]
+fn shapes_of_double_words() {
+    check_shapes(|i| i as u128);
+}
+
+#[test]
+fn shapes_of_three_bytes() {
+    check_shapes(|i| [(i % 251) as u8, (i % 241) as u8, (i % 239) as u8]);
+}
+
+#[test]
+fn shapes_of_eight_bytes() {
+    check_shapes(|i| i.to_le_bytes());
+}
+
+#[test]
+fn shapes_of_four_words() {
+    check_shapes(|i| [i as u64, 1, i as u64, 3]);
+}
+
+/// Further shapes that the benchmark measures, and the least matrix that is split.
+const LARGE_SHAPES: [(usize, usize); 14] = [
+    (512, 512),
+    (1000, 1024),
+    (2048, 2048),
+    (4096, 4096),
     (4096, 16),
     (16, 65_536),
     (300, 4096),
@@ -75,15 +120,18 @@ const SHAPES: [(usize, usize); 27] = [
     (65_536, 40),
     (262_144, 12),
     (17, 61_681),
+    (61_681, 17),
 ];
 
 #[test]
 fn shapes_of_the_benchmark() {
-    SHAPES.into_iter().for_each(|shape| check_shape(&|i| i as u32, shape));
+    LARGE_SHAPES
+        .into_iter()
+        .for_each(|shape| check_shape(&|i| i as u32, shape));
 }
 
 #[test]
 fn shapes_of_the_benchmark_of_three_bytes() {
     let item = |i| [i as u8, (i >> 8) as u8, (i >> 16) as u8];
-    SHAPES.into_iter().for_each(|shape| check_shape(&item, shape));
+    LARGE_SHAPES.into_iter().for_each(|shape| check_shape(&item, shape));
 }

@@ -135,8 +135,8 @@ fn a_count_goes_on_from_the_one_before() {
     assert_eq!(cells.items, [8; 12]);
 }
 
-/// On the long path of 16384 items, which are 128 chunks of 128, come 7168 exchanges of items of two chunks, 8128 across the
-/// diagonal of the square, and the first 7168 again.
+/// On the long path of 16384 items, which are 128 chunks of 128, come 7168 exchanges of items of two chunks, 8128
+/// across the diagonal of the square, and the first 7168 again.
 #[test]
 fn long_path_in_order() {
     let pairs = swapped(1 << 14, reverse_index_bits_on).exchanges;
@@ -158,8 +158,8 @@ fn long_path_in_order() {
     assert_eq!(pairs[..7168], pairs[15_296..]);
 }
 
-/// When two rows, whose numbers have `bits` digits, are exchanged: two neighbouring lines after two others, and in these by
-/// the low digits of the row `second` and then by those of `first`, which are greater.
+/// When two rows, whose numbers have `bits` digits, are exchanged: two neighbouring lines after two others, and in
+/// these by the low digits of the row `second` and then by those of `first`, which are greater.
 fn turn_of_rows(first: usize, second: usize, bits: u32) -> (usize, usize, usize) {
     let side = 1 << (bits / 2);
     let (y, x) = (first % side, second % side);
@@ -170,25 +170,28 @@ fn turn_of_rows(first: usize, second: usize, bits: u32) -> (usize, usize, usize)
 #[test]
 fn short_path_in_order() {
     for bits in 0..=13 {
-        let pairs = swapped(1 << bits, reverse_index_bits_on).exchanges;
+        let noted = swapped(1 << bits, reverse_index_bits_on);
+        let pairs = &noted.exchanges;
         assert!(pairs.iter().all(|(first, second)| *second == reversed(bits, *first)));
         let turns = pairs.iter().map(|(first, second)| turn_of_rows(*first, *second, bits));
         assert!(turns.is_sorted_by(|a, b| a < b), "2^{bits}");
+        assert_eq!(swapped(1 << bits, |m| reverse_row_index_bits_on(m, 1)), noted);
+        assert_eq!(swapped(1 << bits, reverse_index_bits_short), noted);
     }
 }
 
-/// When row `row` and column `column`, which is greater, of a square of 32 come up: blocks by their first column, which are
-/// squares above the diagonal; a block of 16 as its left and its right half; a half or a smaller block row after row.
-fn turn_of_blocks(row: usize, column: usize) -> (usize, usize, usize, usize) {
-    let sides = [16, 8, 4, 2, 1];
+/// When row `row` and column `column`, which is greater, of a square of 64 come up: blocks by their first column, which
+/// are squares above the diagonal; in a block 8 columns after 8 others, and these row after row.
+fn turn_of_blocks(row: usize, column: usize) -> [usize; 4] {
+    let sides = [32, 16, 8, 4, 2, 1];
     let side = sides.into_iter().find(|side| row / side != column / side).unwrap();
     let (a, b) = (row % side, column % side);
-    (column / side * side, b / 8, a, b % 8)
+    [column / side * side, b / 8, a, b % 8]
 }
 
 #[test]
 fn squares_in_order() {
-    for (log_side, wanted) in [(0, 0), (1, 1), (3, 28), (4, 120), (5, 496)] {
+    for (log_side, wanted) in [(0, 0), (1, 1), (3, 28), (4, 120), (5, 496), (6, 2016)] {
         let side = 1 << log_side;
         let pairs = swapped(side * side, |m| transpose_square_on(m, 0, log_side, log_side)).exchanges;
         assert_eq!(pairs.len(), wanted);
@@ -198,6 +201,18 @@ fn squares_in_order() {
             .iter()
             .map(|(first, _)| turn_of_blocks(first / side, first % side));
         assert!(turns.is_sorted_by(|a, b| a < b), "a side of {side}");
+    }
+}
+
+/// Squares of every size: all exchanges together are the transpose, one for each pair of places across the diagonal.
+#[test]
+fn squares_of_every_size() {
+    for log_side in 0..=10 {
+        let side = 1 << log_side;
+        let noted = swapped(side * side, |m| transpose_square_on(m, 0, log_side, log_side));
+        let wanted = (0..side * side).map(|place| transposed(side, side, place) as u64);
+        assert!(noted.items.into_iter().eq(wanted), "a side of {side}");
+        assert_eq!(noted.exchanges.len(), side * (side - 1) / 2);
     }
 }
 
@@ -221,8 +236,8 @@ fn whole(width: usize, height: usize) -> Region {
     }
 }
 
-/// Asserts that calls on a region put a whole matrix as a transpose does: where it is large those that split it, else the
-/// others.
+/// Asserts that calls on a region put a whole matrix as a transpose does: where it is large those that split it, else
+/// the others.
 fn check_whole_region(input: &[u64], noted: &Noted, width: usize, height: usize) {
     let whole = whole(width, height);
     let (mut first, mut second) = (Noted::numbered(input.len()), Noted::numbered(input.len()));
@@ -238,7 +253,8 @@ fn check_whole_region(input: &[u64], noted: &Noted, width: usize, height: usize)
     assert!(first == *noted && second == *noted, "{width} by {height}");
 }
 
-/// The columns and the rows of the puts of a transpose, in order. Each form of the call makes the same, as many as items.
+/// The columns and the rows of the puts of a transpose, in order. Each form of the call makes the same, as many as
+/// items.
 fn puts(width: usize, height: usize) -> Vec<(usize, usize)> {
     let input: Vec<u64> = (0..(width * height) as u64).collect();
     let source = SliceSource::new(&input);
@@ -249,9 +265,10 @@ fn puts(width: usize, height: usize) -> Vec<(usize, usize)> {
     let mut by_source = Noted::numbered(input.len());
     assert_eq!(transpose_source_counted(&source, &mut by_source, width, height), count);
     assert!(by_source == noted);
-    let mut over_counter = Noted::numbered(input.len());
-    transpose_on(&input, &mut Writes::new(&mut over_counter), width, height);
-    assert!(over_counter == noted);
+    let (mut first, mut second) = (Noted::numbered(input.len()), Noted::numbered(input.len()));
+    transpose_on(&input, &mut Writes::new(&mut first), width, height);
+    transpose_source_on(&source, &mut Writes::new(&mut second), width, height);
+    assert!(first == noted && second == noted);
     check_whole_region(&input, &noted, width, height);
     noted
         .puts
@@ -260,8 +277,8 @@ fn puts(width: usize, height: usize) -> Vec<(usize, usize)> {
         .collect()
 }
 
-/// Asserts that of each `cols * rows` puts, counted from the first, all lie in one part of as many columns and rows, and that
-/// those of a part of one column come one below the other.
+/// Asserts that of each `cols * rows` puts, counted from the first, all lie in one part of as many columns and rows,
+/// and that those of a part of one column come one below the other.
 fn check_parts(puts: &[(usize, usize)], cols: usize, rows: usize) {
     for part in puts.chunks(cols * rows) {
         let (x, y) = part[0];
@@ -274,17 +291,24 @@ fn check_parts(puts: &[(usize, usize)], cols: usize, rows: usize) {
 }
 
 /// Widths, heights, how many of the first puts are looked at, and the columns and rows of the parts that they come in.
-const ORDERS: [(usize, usize, usize, [(usize, usize); 2]); 9] = [
+const ORDERS: [(usize, usize, usize, [(usize, usize); 2]); 14] = [
+    // Up to 1024 items: tiles and their blocks where 16 divides the width, and else strips of at most 128 rows.
     (16, 16, 256, [(4, 4), (16, 16)]),
     (32, 32, 1024, [(4, 4), (16, 16)]),
+    (20, 51, 1020, [(1, 51), (20, 51)]),
+    (5, 204, 640, [(1, 128), (5, 128)]),
+    // More items: strips of 16 rows.
     (16, 65, 1024, [(1, 16), (16, 16)]),
     (64, 64, 4096, [(1, 16), (16, 16)]),
     (48, 32, 1536, [(1, 16), (16, 16)]),
-    (16, 240, 3840, [(1, 16), (16, 16)]),
-    // Two strips, and 16 rows below.
-    (20, 272, 5120, [(1, 16), (1, 128)]),
-    (16, 256, 4096, [(1, 16), (1, 128)]),
-    (1025, 1024, 16_384, [(1, 16), (128, 128)]),
+    (20, 272, 5440, [(1, 16), (20, 16)]),
+    (16, 256, 4096, [(1, 16), (16, 16)]),
+    (5000, 20, 80_000, [(1, 16), (5000, 16)]),
+    // The greatest matrix that is not split, and three that are.
+    (1024, 1024, 65_536, [(1, 16), (1024, 16)]),
+    (1025, 1024, 65_536, [(1, 16), (256, 256)]),
+    (1040, 1024, 66_560, [(1, 16), (260, 256)]),
+    (50_000, 37, 1552, [(1, 16), (97, 16)]),
 ];
 
 #[test]
@@ -297,33 +321,24 @@ fn puts_in_order() {
     }
 }
 
-/// How many puts of a split of 1024 rows belong to each of its first parts.
-const PART: usize = 128 * 128;
-
+/// The least number of items that is split: the first part has 120 rows, so that its last strip has eight. Without a split
+/// it would have 16.
 #[test]
-fn a_matrix_of_1024_by_1024_is_not_split() {
-    let puts = puts(1024, 1024);
-    assert!(puts[..PART].iter().any(|(x, y)| *x >= 128 || *y >= 128));
+fn the_least_matrix_that_is_split() {
+    let puts = puts(17, 61_681);
+    assert!(puts[..17 * 120].iter().all(|(_, y)| *y < 120));
 }
 
+/// The parts of a split come by halves, and four of them make a quarter. Without a split the third one would be to the
+/// right of the second.
 #[test]
-fn a_matrix_of_1025_by_1024_is_split() {
+fn parts_of_a_split_in_order() {
     let puts = puts(1025, 1024);
-    assert!(puts[..PART].iter().all(|(x, y)| *x < 128 && *y < 128));
-    // The third part lies below the first. Without a split it would be to the right of the second.
-    assert!(
-        puts[2 * PART..3 * PART]
-            .iter()
-            .all(|(x, y)| *x < 128 && (128..256).contains(y))
-    );
+    check_parts(&puts[..65_536], 128, 128);
+    let third = &puts[2 * 128 * 128..3 * 128 * 128];
+    assert!(third.iter().all(|(x, y)| *x < 128 && (128..256).contains(y)));
     let last = &puts[puts.len() - 65 * 128..];
     assert!(last.iter().all(|(x, y)| *x >= 960 && *y >= 896));
-}
-
-/// The least number of items that is split: the first part has 120 rows, where a strip without a split has 128.
-#[test]
-fn a_matrix_of_17_by_61681_is_split() {
-    assert!(puts(17, 61_681)[..17 * 120].iter().all(|(_, y)| *y < 120));
 }
 
 /// Rows, columns, the levels that their split needs, and how many splits nest.
@@ -358,9 +373,8 @@ fn nested_splits() {
 }
 
 #[test]
-fn regions_of_many_sizes() {
-    let sizes = [0, 1, 3, 4, 15, 16, 17, 32, 33, 40];
-    let shapes = sizes.into_iter().flat_map(|rows| sizes.map(|cols| (rows, cols)));
+fn regions_of_every_size() {
+    let shapes = (0..=40).flat_map(|rows| (0..=40).map(move |cols| (rows, cols)));
     for ((rows, cols), width) in shapes.flat_map(|shape| [(shape, 48), (shape, 43)]) {
         let height = 44;
         let (row_start, col_start) = (3, 2);

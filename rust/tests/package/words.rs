@@ -1,5 +1,9 @@
 //! The calls on single words.
 
+use p3_util_proved::kernels::reverse::fits_rows;
+use p3_util_proved::kernels::transpose::fits_matrix;
+use p3_util_proved::linear_map::LinearMap;
+use p3_util_proved::zip_eq::zip_eq;
 use p3_util_proved::*;
 
 use crate::answers::{LOGARITHMS, POWERS, REVERSED_BELOW_POWERS, REVERSED_DIGITS, SUMS};
@@ -42,7 +46,6 @@ fn powers_and_their_neighbours() {
         let two = (0..64).find(|e| n == 1 << e);
         let three = (0..=40).find(|e| n == 3usize.pow(*e));
         assert_eq!(two.is_none(), panics(|| _ = log2_strict_usize(n)), "{n}");
-        assert_eq!(two.is_none(), panics(|| _ = reverse_bits(1, n)), "{n}");
         assert_eq!(three.is_none(), panics(|| _ = log3_strict_usize(n)), "{n}");
         assert!(two.is_none_or(|e| log2_strict_usize(n) == e), "{n}");
         assert!(three.is_none_or(|e| log3_strict_usize(n) == e as usize), "{n}");
@@ -71,6 +74,7 @@ const OTHERS: (usize, usize, u64, usize, usize) = (
     log3_strict_usize(531_441),
     reverse_bits(0b01011, ROWS),
 );
+const FITS: (bool, bool) = (fits_rows(12, 3), fits_matrix(6, 6, 3, 3));
 const CHECKED: (Option<usize>, Option<(usize, usize)>) = (checked_pow2(64), checked_log_size_sum(20, 3));
 
 #[test]
@@ -78,11 +82,13 @@ fn constants() {
     assert_eq!(LOG_ROWS, 5);
     assert_eq!(PLACES[..5], [0, 16, 8, 24, 4]);
     assert_eq!(OTHERS, (4, 3, 4, 12, 0b11010));
+    assert_eq!(FITS, (true, false));
     assert_eq!(CHECKED, (None, Some((23, 8_388_608))));
     assert_eq!(indices_arr::<0>(), [0; 0]);
 }
 
-/// Each answer that the original warns of where it is not used, as a warning that has to come.
+/// Each answer that the original warns of where it is not used, and those of the new tests of conditions, as a warning that has
+/// to come.
 #[test]
 #[deny(unfulfilled_lint_expectations)]
 fn unused_answers() {
@@ -103,5 +109,12 @@ fn unused_answers() {
         checked_pow2(3);
         checked_log_size_sum(3, 4);
         indices_arr::<3>();
+        iter_array_chunks_padded::<u8, 3>([], 0);
+        zip_eq([1], [2], ()).unwrap();
+        LinearMap::<u8, u8>::new().iter();
+        LinearMap::<u8, u8>::new().keys();
+        LinearMap::<u8, u8>::new().values();
+        fits_rows(4, 2);
+        fits_matrix(6, 6, 3, 2);
     }
 }

@@ -14,6 +14,8 @@ use crate::memory::{AllocError, Global, String};
 ///
 /// # Contract
 ///
+/// In the words of [`contracts`](crate::kernels::contracts):
+///
 /// ```text
 /// ensures short { IfOk result (λ s. string_bytes s ≡ short_name name.now) }
 /// ensures refused { OnErr result (0 < length name.now) }

@@ -2,8 +2,11 @@
 //! has left.
 
 use core::slice;
+use core::iter::FusedIterator;
 
 /// The pairs of a map, in order.
+#[derive(Clone, Debug)]
+#[must_use = "iterators are lazy and do nothing unless consumed"]
 pub struct Iter<'a, K, V> {
     pairs: slice::Iter<'a, (K, V)>,
 }
@@ -27,6 +30,8 @@ impl<'a, K, V> Iterator for Iter<'a, K, V> {
     ///
     /// # Contract
     ///
+    /// In the words of [`contracts`](crate::kernels::contracts):
+    ///
     /// ```text
     /// ensures lower { IsWithinCount result.0 (at_most (length self.now)) }
     /// ensures upper { IfSome result.1 (UpTo (at_most (length self.now))) }
@@ -38,6 +43,12 @@ impl<'a, K, V> Iterator for Iter<'a, K, V> {
     }
 }
 
+impl<'a, K, V> DoubleEndedIterator for Iter<'a, K, V> {
+    fn next_back(&mut self) -> Option<&'a (K, V)> {
+        self.pairs.next_back()
+    }
+}
+
 impl<'a, K, V> ExactSizeIterator for Iter<'a, K, V> {
     /// The number of pairs that are left.
     fn len(&self) -> usize {
@@ -45,7 +56,11 @@ impl<'a, K, V> ExactSizeIterator for Iter<'a, K, V> {
     }
 }
 
+impl<'a, K, V> FusedIterator for Iter<'a, K, V> {}
+
 /// The keys of a map, in order.
+#[derive(Clone, Debug)]
+#[must_use = "iterators are lazy and do nothing unless consumed"]
 pub struct Keys<'a, K, V> {
     pairs: slice::Iter<'a, (K, V)>,
 }
@@ -70,6 +85,8 @@ impl<'a, K, V> Iterator for Keys<'a, K, V> {
     ///
     /// # Contract
     ///
+    /// In the words of [`contracts`](crate::kernels::contracts):
+    ///
     /// ```text
     /// ensures lower { IsWithinCount result.0 (at_most (length self.now)) }
     /// ensures upper { IfSome result.1 (UpTo (at_most (length self.now))) }
@@ -81,6 +98,13 @@ impl<'a, K, V> Iterator for Keys<'a, K, V> {
     }
 }
 
+impl<'a, K, V> DoubleEndedIterator for Keys<'a, K, V> {
+    fn next_back(&mut self) -> Option<&'a K> {
+        let pair = self.pairs.next_back()?;
+        Some(&pair.0)
+    }
+}
+
 impl<'a, K, V> ExactSizeIterator for Keys<'a, K, V> {
     /// The number of keys that are left.
     fn len(&self) -> usize {
@@ -88,7 +112,11 @@ impl<'a, K, V> ExactSizeIterator for Keys<'a, K, V> {
     }
 }
 
+impl<'a, K, V> FusedIterator for Keys<'a, K, V> {}
+
 /// The values of a map, in order.
+#[derive(Clone, Debug)]
+#[must_use = "iterators are lazy and do nothing unless consumed"]
 pub struct Values<'a, K, V> {
     pairs: slice::Iter<'a, (K, V)>,
 }
@@ -113,6 +141,8 @@ impl<'a, K, V> Iterator for Values<'a, K, V> {
     ///
     /// # Contract
     ///
+    /// In the words of [`contracts`](crate::kernels::contracts):
+    ///
     /// ```text
     /// ensures lower { IsWithinCount result.0 (at_most (length self.now)) }
     /// ensures upper { IfSome result.1 (UpTo (at_most (length self.now))) }
@@ -124,9 +154,18 @@ impl<'a, K, V> Iterator for Values<'a, K, V> {
     }
 }
 
+impl<'a, K, V> DoubleEndedIterator for Values<'a, K, V> {
+    fn next_back(&mut self) -> Option<&'a V> {
+        let pair = self.pairs.next_back()?;
+        Some(&pair.1)
+    }
+}
+
 impl<'a, K, V> ExactSizeIterator for Values<'a, K, V> {
     /// The number of values that are left.
     fn len(&self) -> usize {
         self.pairs.len()
     }
 }
+
+impl<'a, K, V> FusedIterator for Values<'a, K, V> {}

@@ -6,6 +6,7 @@
 use crate::kernels::places::{Cells, Places};
 
 /// A holder of places that counts its exchanges. The count stays at `u128::MAX` once it is there.
+#[derive(Debug)]
 pub struct Swaps<S> {
     pub(crate) holder: S,
     pub(crate) count: u128,
@@ -15,6 +16,8 @@ impl<S: Places> Swaps<S> {
     /// Counts the exchanges in `holder` from 0.
     ///
     /// # Contract
+    ///
+    /// In the words of [`contracts`](crate::kernels::contracts):
     ///
     /// ```text
     /// ensures holder { result.holder ≡ holder }
@@ -37,6 +40,8 @@ impl<S: Places> Swaps<S> {
     ///
     /// # Contract
     ///
+    /// In the words of [`contracts`](crate::kernels::contracts):
+    ///
     /// ```text
     /// ensures { result ≡ length (S.items self.now.holder) }
     /// ```
@@ -47,6 +52,8 @@ impl<S: Places> Swaps<S> {
     /// Exchanges the items at places `i` and `j`, by one exchange, and counts it.
     ///
     /// # Contract
+    ///
+    /// In the words of [`contracts`](crate::kernels::contracts):
     ///
     /// ```text
     /// requires first { i < length (S.items self.old.holder) }
@@ -65,6 +72,8 @@ impl<S: Places> Swaps<S> {
     ///
     /// # Contract
     ///
+    /// In the words of [`contracts`](crate::kernels::contracts):
+    ///
     /// ```text
     /// ensures { result ≡ self.now.count }
     /// ```
@@ -76,6 +85,8 @@ impl<S: Places> Swaps<S> {
     ///
     /// # Contract
     ///
+    /// In the words of [`contracts`](crate::kernels::contracts):
+    ///
     /// ```text
     /// ensures { result ≡ self.holder }
     /// ```
@@ -86,6 +97,7 @@ impl<S: Places> Swaps<S> {
 }
 
 /// A holder of places that counts its writes. The count stays at `u128::MAX` once it is there.
+#[derive(Debug)]
 pub struct Writes<C> {
     pub(crate) holder: C,
     pub(crate) count: u128,
@@ -95,6 +107,8 @@ impl<C: Cells> Writes<C> {
     /// Counts the writes to `holder` from 0.
     ///
     /// # Contract
+    ///
+    /// In the words of [`contracts`](crate::kernels::contracts):
     ///
     /// ```text
     /// ensures holder { result.holder ≡ holder }
@@ -117,6 +131,8 @@ impl<C: Cells> Writes<C> {
     ///
     /// # Contract
     ///
+    /// In the words of [`contracts`](crate::kernels::contracts):
+    ///
     /// ```text
     /// ensures { result ≡ length (C.items self.now.holder) }
     /// ```
@@ -127,6 +143,8 @@ impl<C: Cells> Writes<C> {
     /// Puts `v` at place `i`, by one write, and counts it.
     ///
     /// # Contract
+    ///
+    /// In the words of [`contracts`](crate::kernels::contracts):
     ///
     /// ```text
     /// requires { i < length (C.items self.old.holder) }
@@ -144,6 +162,8 @@ impl<C: Cells> Writes<C> {
     ///
     /// # Contract
     ///
+    /// In the words of [`contracts`](crate::kernels::contracts):
+    ///
     /// ```text
     /// ensures { result ≡ self.now.count }
     /// ```
@@ -154,6 +174,8 @@ impl<C: Cells> Writes<C> {
     /// The holder.
     ///
     /// # Contract
+    ///
+    /// In the words of [`contracts`](crate::kernels::contracts):
     ///
     /// ```text
     /// ensures { result ≡ self.holder }

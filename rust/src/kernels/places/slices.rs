@@ -3,6 +3,7 @@
 use crate::kernels::places::{Cells, Places, Source};
 
 /// The items of a mutable slice. What it holds is in the slice when the borrow ends.
+#[derive(Debug)]
 pub struct SlicePlaces<'a, F> {
     /// The slice.
     pub items: &'a mut [F],
@@ -12,6 +13,8 @@ impl<'a, F> SlicePlaces<'a, F> {
     /// The items of `items`, in order.
     ///
     /// # Contract
+    ///
+    /// In the words of [`contracts`](crate::kernels::contracts):
     ///
     /// ```text
     /// ensures { result.items ≡ items.entry }
@@ -60,6 +63,7 @@ fn swap_runs<F>(items: &mut [F], i: usize, j: usize, len: usize) {
 }
 
 /// The places of a mutable slice. What it holds is in the slice when the borrow ends.
+#[derive(Debug)]
 pub struct SliceCells<'a, T> {
     /// The slice.
     pub values: &'a mut [T],
@@ -69,6 +73,8 @@ impl<'a, T: Copy> SliceCells<'a, T> {
     /// The places of `values`, in order.
     ///
     /// # Contract
+    ///
+    /// In the words of [`contracts`](crate::kernels::contracts):
     ///
     /// ```text
     /// ensures { result.values ≡ values.entry }
@@ -92,7 +98,7 @@ impl<'a, T: Copy> Cells for SliceCells<'a, T> {
 }
 
 /// The items of a slice, to be read.
-#[derive(Clone, Copy)]
+#[derive(Clone, Copy, Debug)]
 pub struct SliceSource<'a, T> {
     /// The slice.
     pub slice: &'a [T],
@@ -102,6 +108,8 @@ impl<'a, T: Copy> SliceSource<'a, T> {
     /// The items of `slice`, in order.
     ///
     /// # Contract
+    ///
+    /// In the words of [`contracts`](crate::kernels::contracts):
     ///
     /// ```text
     /// ensures { result.slice ≡ slice.entry }

@@ -15,6 +15,8 @@ use crate::kernels::transpose::transpose_square;
 ///
 /// # Contract
 ///
+/// In the words of [`contracts`](crate::kernels::contracts):
+///
 /// ```text
 /// requires fits { IsReversible (length (S.items m.old.holder)) }
 /// requires not_short { 4 ≤ length (S.items m.old.holder) }

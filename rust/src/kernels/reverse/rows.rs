@@ -15,7 +15,8 @@
 use crate::kernels::bits::{log2_strict_usize, pow2, reverse_bits_len};
 use crate::kernels::places::{Places, Swaps};
 
-/// Each number below 64 with its six binary digits in reversed order.
+/// Each number below 64 with its six binary digits in reversed order. Of so few digits one read is faster than their reversal
+/// by halves.
 static REVERSED_SIX: [u8; 64] = [
     0, 32, 16, 48, 8, 40, 24, 56, 4, 36, 20, 52, 12, 44, 28, 60, 2, 34, 18, 50, 10, 42, 26, 58, 6,
     38, 22, 54, 14, 46, 30, 62, 1, 33, 17, 49, 9, 41, 25, 57, 5, 37, 21, 53, 13, 45, 29, 61, 3, 35,
@@ -48,6 +49,8 @@ impl RowDigits {
 ///
 /// # Contract
 ///
+/// In the words of [`contracts`](crate::kernels::contracts):
+///
 /// ```text
 /// requires { FitsRows (length (S.items m.old.holder)) row_width }
 /// ensures order { IsRowReversal row_width (S.items m.old.holder) (S.items m.new.holder) }
@@ -67,6 +70,8 @@ pub fn reverse_row_index_bits_on<S: Places>(m: &mut Swaps<S>, row_width: usize) 
 ///
 /// # Contract
 ///
+/// In the words of [`contracts`](crate::kernels::contracts):
+///
 /// ```text
 /// requires { IsReversible (length (S.items m.old.holder)) }
 /// ensures order { IsReversal (S.items m.old.holder) (S.items m.new.holder) }
@@ -82,6 +87,8 @@ pub fn reverse_index_bits_short<S: Places>(m: &mut Swaps<S>) {
 /// place `i` gets the item from `rev(h, i / 2^c) * 2^c + i mod 2^c`. The length is `2^(h + c)`. It makes at most n/2 swaps.
 ///
 /// # Contract
+///
+/// In the words of [`contracts`](crate::kernels::contracts):
 ///
 /// ```text
 /// requires { length (S.items m.old.holder) ≡ 2 ^ (lb_num_chunks + lb_chunk_size) }
@@ -178,8 +185,8 @@ fn row_at(digits: usize, middle: usize, x: usize, y: usize) -> usize {
     reverse_digits(x, half) * pow2(digits - half) + (middle * pow2(half) + y)
 }
 
-/// `x` with its binary digits, of which it has `digits` at most, in reversed order. std's `reverse_bits` runs bit by bit, some
-/// 20 ns a call.
+/// `x` with its binary digits, of which it has `digits` at most, in reversed order. Rattle's compilers make a loop over single
+/// digits of std's `reverse_bits`, which takes about 20 ns a call, so more than six digits go by halves.
 #[inline(always)]
 fn reverse_digits(x: usize, digits: usize) -> usize {
     if digits <= 6 {

@@ -6,6 +6,8 @@
 ///
 /// # Contract
 ///
+/// In the words of [`contracts`](crate::kernels::contracts):
+///
 /// ```text
 /// ensures { IsBlockTransposed block result }
 /// ```
@@ -16,6 +18,8 @@ pub fn butterfly_4x4<T: Copy>(block: [[T; 4]; 4]) -> [[T; 4]; 4] {
 /// Exchanges the lowest bit of the row number with that of the column number: each square of 2 by 2 items is transposed.
 ///
 /// # Contract
+///
+/// In the words of [`contracts`](crate::kernels::contracts):
 ///
 /// ```text
 /// ensures { IsStageOne block result }
@@ -29,6 +33,8 @@ pub fn butterfly_stage1<T: Copy>(block: [[T; 4]; 4]) -> [[T; 4]; 4] {
 /// changes places with the lower left one.
 ///
 /// # Contract
+///
+/// In the words of [`contracts`](crate::kernels::contracts):
 ///
 /// ```text
 /// ensures { IsStageTwo block result }

@@ -18,6 +18,8 @@ const NARROW_SIDE: usize = 2;
 ///
 /// # Contract
 ///
+/// In the words of [`contracts`](crate::kernels::contracts):
+///
 /// ```text
 /// requires input_fits { length input.now ≡ width * height }
 /// requires output_fits { length (C.items out.old.holder) ≡ width * height }
@@ -44,6 +46,8 @@ pub fn transpose_split_on<C: Cells>(
 /// Puts the transpose of a region of any source into `out`, as [`transpose_split_on`] does that of a slice.
 ///
 /// # Contract
+///
+/// In the words of [`contracts`](crate::kernels::contracts):
 ///
 /// ```text
 /// requires input_fits { length (R.items input.now) ≡ width * height }
@@ -98,7 +102,7 @@ pub(crate) fn put_split<M: Cells, R: Source<Item = M::Item> + Copy>(
     levels: u32,
 ) -> (M, u32) {
     if is_leaf(region) {
-        return (put_strips(out, matrix, region, Strips::High), 0);
+        return (put_strips(out, matrix, region, Strips::Low), 0);
     }
     let (first, second) = halves(region);
     let (out, nested) = put_split(out, matrix, first, levels - 1);

@@ -24,6 +24,8 @@ struct Square {
 ///
 /// # Contract
 ///
+/// In the words of [`contracts`](crate::kernels::contracts):
+///
 /// ```text
 /// requires rows_apart { log_size ≤ log_stride }
 /// requires stride_fits { log_stride < 64 }

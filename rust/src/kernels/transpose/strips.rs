@@ -10,7 +10,7 @@
 use crate::kernels::places::{Cells, Source};
 use crate::kernels::transpose::regions::{Matrix, Region};
 
-/// The greatest number of items of a matrix whose tiles are put by blocks.
+/// The greatest number of items of a small matrix, which is not put by low strips.
 const SMALL_MATRIX: usize = 1024;
 
 /// The side of a tile.
@@ -37,18 +37,20 @@ pub(crate) enum Strips {
 }
 
 impl Strips {
-    /// The choice of how a region of `matrix` is put.
+    /// The choice of how a region of `matrix` is put, by its shape alone.
     ///
-    /// Where rows begin a multiple of 16 items apart, many of them meet in one set of a cache, and few of them at a time are
-    /// faster, unless the matrix is far higher than wide. That those of a small matrix are put block by block is promised to
-    /// those who watch the order of the puts. It costs up to four tenths of the time at 16 by 16.
+    /// A strip reads one item of each of its rows and then the next items of the same rows, so that the lines of the cache
+    /// that have them are used several times. In a large matrix the rows of a high strip may lie in more lines, or in more
+    /// pages of memory, than a processor keeps at hand, above all where they begin a multiple of a high power of two apart.
+    /// Those of 16 rows stay there. A small matrix stays there as a whole, and takes less time in high strips, since most of
+    /// them are the whole matrix. Where 16 divides its width it is put block by block, an order that callers may rely on.
     pub(crate) fn of<R: Source + Copy>(matrix: Matrix<R>) -> Self {
-        if matrix.width % TILE_SIDE != 0 || matrix.height / TILE_SIDE >= matrix.width {
-            Strips::High
-        } else if matrix.source.len() > SMALL_MATRIX {
+        if matrix.source.len() > SMALL_MATRIX {
             Strips::Low
-        } else {
+        } else if matrix.width % TILE_SIDE == 0 {
             Strips::Tiles
+        } else {
+            Strips::High
         }
     }
 

@@ -1,0 +1,243 @@
+//! How often an iterator is asked, in which order two are, and what the calls on iterators drop.
+
+use std::cell::Cell;
+use std::fmt::Debug;
+use std::iter::FusedIterator;
+use std::sync::atomic::{AtomicUsize, Ordering::Relaxed};
+
+use p3_util_proved::linear_map::LinearMap;
+use p3_util_proved::zip_eq::zip_eq;
+use p3_util_proved::{apply_to_chunks, iter_array_chunks_padded, kernels};
+
+use crate::Owner;
+
+/// Gives the answers in turn and then `None`, and counts how often it is asked.
+struct Asked<'a> {
+    answers: &'a [Option<u8>],
+    asks: &'a Cell<usize>,
+}
+
+impl Iterator for Asked<'_> {
+    type Item = u8;
+
+    fn next(&mut self) -> Option<u8> {
+        self.asks.set(self.asks.get() + 1);
+        let (first, rest) = self.answers.split_first()?;
+        self.answers = rest;
+        *first
+    }
+}
+
+/// The pieces that `apply_to_chunks` calls its closure on, and how often it asks its iterator.
+fn pieces<const BUFLEN: usize>(answers: &[Option<u8>]) -> (Vec<Vec<u8>>, usize) {
+    let (mut pieces, asks) = (vec![], Cell::new(0));
+    apply_to_chunks::<BUFLEN, _, _>(Asked { answers, asks: &asks }, |piece| pieces.push(piece.to_vec()));
+    (pieces, asks.get())
+}
+
+/// The padded pieces and how often their iterator asks its own. It is asked twice more after its end.
+fn padded<const N: usize>(answers: &[Option<u8>], fill: u8) -> (Vec<[u8; N]>, usize) {
+    let asks = Cell::new(0);
+    let mut padded = iter_array_chunks_padded(Asked { answers, asks: &asks }, fill);
+    let pieces = padded.by_ref().collect();
+    assert_eq!((padded.next(), padded.next()), (None, None));
+    drop(padded);
+    (pieces, asks.get())
+}
+
+/// Cuts lists of up to 20 numbers. Each number is asked for once, and the end once.
+fn check_lengths<const N: usize>() {
+    for len in 0..=20 {
+        let numbers: Vec<u8> = (1..=len).collect();
+        let answers: Vec<Option<u8>> = numbers.iter().copied().map(Some).collect();
+        let filled = numbers.chunks(N).map(|piece| {
+            let mut filled = [99; N];
+            filled[..piece.len()].copy_from_slice(piece);
+            filled
+        });
+        let asks = numbers.len() + 1;
+        let cut: Vec<Vec<u8>> = numbers.chunks(N).map(<[u8]>::to_vec).collect();
+        assert_eq!(pieces::<N>(&answers), (cut, asks), "{len} by {N}");
+        assert_eq!(padded::<N>(&answers, 99), (filled.collect(), asks), "{len} by {N}");
+    }
+}
+
+#[test]
+fn pieces_of_each_length() {
+    check_lengths::<1>();
+    check_lengths::<2>();
+    check_lengths::<3>();
+    check_lengths::<4>();
+    check_lengths::<5>();
+    check_lengths::<7>();
+    check_lengths::<20>();
+    check_lengths::<100>();
+}
+
+#[test]
+fn pieces_of_no_items() {
+    let answers = [Some(1), Some(2)];
+    assert_eq!(pieces::<0>(&answers), (vec![], 0));
+    assert_eq!(padded::<0>(&answers, 9), (vec![], 0));
+}
+
+/// Bodies that ask again after a short piece, or call the closure once more, fail here.
+#[test]
+fn asks_no_more_after_the_first_none() {
+    let broken = [Some(1), Some(2), None, Some(3)];
+    assert_eq!(pieces::<3>(&broken), (vec![vec![1, 2]], 3));
+    assert_eq!(pieces::<2>(&broken), (vec![vec![1, 2]], 3));
+    assert_eq!(padded::<3>(&broken, 0), (vec![[1, 2, 0]], 3));
+    assert_eq!(padded::<2>(&broken, 0), (vec![[1, 2]], 3));
+}
+
+/// Cuts ten bytes, and returns how often the closure and the iterator were dropped at the last call, and at the end.
+fn dropped_by_pieces<const BUFLEN: usize>() -> [[usize; 2]; 2] {
+    let (of_closure, of_iterator) = (AtomicUsize::new(0), AtomicUsize::new(0));
+    let (closure, iterator) = (Owner::new(0, &of_closure), Owner::new(0, &of_iterator));
+    let last_call = Cell::new([0; 2]);
+    let (seen, iterators) = (&last_call, &of_iterator);
+    let bytes = (0..10).inspect(move |_| _ = iterator.dropped());
+    apply_to_chunks::<BUFLEN, _, _>(bytes, move |_| {
+        seen.set([closure.dropped(), iterators.load(Relaxed)]);
+    });
+    [last_call.get(), [of_closure.load(Relaxed), of_iterator.load(Relaxed)]]
+}
+
+/// The closure and the iterator are dropped after the last call, which may be on a short piece, also where neither is called.
+#[test]
+fn closures_on_pieces() {
+    assert_eq!(dropped_by_pieces::<3>(), [[0; 2], [1; 2]]);
+    assert_eq!(dropped_by_pieces::<5>(), [[0; 2], [1; 2]]);
+    assert_eq!(dropped_by_pieces::<0>(), [[0; 2], [1; 2]]);
+}
+
+/// The items of a list. It writes its digit behind those in `asked` each time that it is asked for its length or its next
+/// item, and when it is made of a [`Made`].
+struct Side<'a> {
+    items: &'a [u8],
+    digit: u32,
+    asked: &'a Cell<u32>,
+}
+
+impl Side<'_> {
+    fn note(&self) {
+        self.asked.set(10 * self.asked.get() + self.digit);
+    }
+}
+
+impl Iterator for Side<'_> {
+    type Item = u8;
+
+    fn next(&mut self) -> Option<u8> {
+        self.note();
+        let (first, rest) = self.items.split_first()?;
+        self.items = rest;
+        Some(*first)
+    }
+
+    fn size_hint(&self) -> (usize, Option<usize>) {
+        (self.items.len(), Some(self.items.len()))
+    }
+}
+
+impl ExactSizeIterator for Side<'_> {
+    fn len(&self) -> usize {
+        self.note();
+        self.items.len()
+    }
+}
+
+/// What a [`Side`] is made of.
+struct Made<'a>(Side<'a>);
+
+impl<'a> IntoIterator for Made<'a> {
+    type Item = u8;
+
+    type IntoIter = Side<'a>;
+
+    fn into_iter(self) -> Side<'a> {
+        self.0.note();
+        self.0
+    }
+}
+
+/// The first side is asked before the second: for its iterator, its length, for each item and at the end.
+#[test]
+fn first_side_first() {
+    let asked = Cell::new(0);
+    let side = |items, digit| {
+        let asked = &asked;
+        Made(Side { items, digit, asked })
+    };
+    let pairs = zip_eq(side(&[5, 6], 1), side(&[7, 8], 2), ()).unwrap();
+    assert_eq!(pairs.fold(0, |count, _| count + 1), 2);
+    assert_eq!(asked.get(), 1_212_121_212);
+}
+
+/// The items of a list, which states a length of its own and has a size hint that says nothing.
+struct Stating<'a>(&'a [u8], usize);
+
+impl Iterator for Stating<'_> {
+    type Item = u8;
+
+    fn next(&mut self) -> Option<u8> {
+        let (first, rest) = self.0.split_first()?;
+        self.0 = rest;
+        Some(*first)
+    }
+
+    fn size_hint(&self) -> (usize, Option<usize>) {
+        (0, None)
+    }
+}
+
+impl ExactSizeIterator for Stating<'_> {
+    fn len(&self) -> usize {
+        self.1
+    }
+}
+
+/// The size is the length that the first side states, twice. Where it is false the pairs end with the shorter side.
+#[test]
+fn pairs_under_stated_lengths() {
+    let cases: [(&[u8], &[u8], &[(u8, u8)]); 4] = [
+        (&[1, 2], &[3, 4], &[(1, 3), (2, 4)]),
+        (&[1, 2], &[3], &[(1, 3)]),
+        (&[1], &[3, 4], &[(1, 3)]),
+        (&[], &[3], &[]),
+    ];
+    for (first, second, wanted) in cases {
+        let mut pairs = zip_eq::<_, _, _, _, ()>(Stating(first, 2), Stating(second, 2), ()).unwrap();
+        assert_eq!((pairs.size_hint(), pairs.len()), ((2, Some(2)), 2));
+        assert!(pairs.by_ref().eq(wanted.iter().copied()), "{first:?} {second:?}");
+    }
+}
+
+/// What a caller may ask of each iterator of the package.
+fn ends_for_good(_: impl FusedIterator + Clone + Debug) {}
+
+#[test]
+fn iterators_end_for_good() {
+    let map = LinearMap::from_iter([(1, 2)]);
+    ends_for_good(map.iter());
+    ends_for_good(map.keys());
+    ends_for_good(map.values());
+    ends_for_good(zip_eq([1], [2], ()).unwrap());
+    ends_for_good(kernels::chunks::iter_array_chunks_padded::<u8, 2, _>([1], 0));
+}
+
+/// Where the lengths differ the call drops both lists, and else the error.
+#[test]
+fn zips_drop_what_they_do_not_return() {
+    for (first, second) in [(3, 2), (0, 4), (5, 0), (2, 2), (0, 0)] {
+        let [of_first, of_second, of_error] = [0; 3].map(AtomicUsize::new);
+        let counts = || [&of_first, &of_second, &of_error].map(|drops| drops.load(Relaxed));
+        let (left, right) = (Owner::list(first, &of_first), Owner::list(second, &of_second));
+        match zip_eq(left, right, Owner::new(0, &of_error)) {
+            Ok(_pairs) => assert_eq!((first, counts()), (second, [0, 0, 1])),
+            Err(_error) => assert_eq!(counts(), [first, second, 0]),
+        }
+        assert_eq!(counts(), [first, second, 1]);
+    }
+}
