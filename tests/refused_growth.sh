@@ -1,26 +1,30 @@
 #!/usr/bin/env bash
-# Each growth refused in turn: a run whose Nth request for memory is refused, for every N until none is refused any more.
+# Each growth refused in turn: a run whose Nth request for memory is refused, for every N until none is refused any
+# more.
 #
 #     tests/refused_growth.sh [program]
 #
-# With the word `program` it runs the program alone, and else the tests of the library too.
+# With the word `program` it runs the program alone, and else tests too.
 #
-# It takes what `rt ci` left in crates/*/out: the program, as each compiler built it, and the tests. What is not there it
-# builds. The program has to print that it is out of memory, end with status 3 and write nothing; a test has to pass,
-# whatever is refused, and has to make as many requests as are written beside it. Each run has to give back all memory that
-# it was given.
+# It takes what `rt ci` left in crates/*/out: the program, as each compiler built it, and the tests. What is not there
+# it builds. The program has to print that it is out of memory, end with status 3 and write nothing; a test has to pass,
+# whatever is refused, and has to make as many requests as are written beside it. Each run has to give back all memory
+# that it was given. The tests of the library have no proof. They count their requests and the memory that is held
+# themselves, and `rt try` refuses one of the requests.
 set -uo pipefail
-cd "$(dirname "$0")/.."
+cd "$(dirname "$0")/.." || exit
 
 # The tests that are run so: a crate, and how the names of its tests begin.
 tests=(
-    'p3_util_vectors tests::refused_growth::'
-    'p3_util_vectors tests::takes_no_memory::'
-    'p3_util_vectors tests::drops::'
     'p3_util_transform tests::refused_growth::'
     'p3_util_run tests::refused_growth::'
 )
 [[ ${1-} != program ]] || tests=()
+
+# The tests of the library, and the greatest number of requests that one of them makes.
+growth=tests/unproved/src/growth.rt.in
+most=$(sed -nE 's/.* makes_requests\(&rt, ([0-9]+), .*/\1/p' "$growth" | sort -n | tail -n 1)
+[[ ${1-} != program ]] || most=0
 
 work=$(mktemp -d)
 trap 'rm -rf "$work"' EXIT
@@ -48,8 +52,8 @@ failed() {
     bad=1
 }
 
-# of_program PROGRAM INPUT STATUS OUTPUT WORD..: with ample memory the program ends with the status, and prints OUTPUT, which
-# is a fault where the status is not 0.
+# of_program PROGRAM INPUT STATUS OUTPUT WORD..: with ample memory the program ends with the status, and prints OUTPUT,
+# which is a fault where the status is not 0.
 of_program() {
     local program=$1 input=$2 wanted=$3 output=$4 name="${1##*/} ${*:5}" n=0 status
     while :; do
@@ -115,5 +119,14 @@ for line in "${tests[@]}"; do
     for name in $names; do
         of_test "$crate" "$built" "$name"
     done
+done
+
+for ((n = 1; n <= most; n++)); do
+    tests/unproved.sh --fail-alloc "$n" -- growth:: >"$work/all" 2>"$work/err"
+    status=$?
+    grep -v ' ok$' "$work/all" >"$work/out"
+    passed=$(grep -c '^test growth::.* ok$' "$work/all")
+    ((status == 0 && passed > 0)) || failed 'tests/unproved growth::' "status $status where request $n was refused"
+    echo "tests/unproved: request $n refused in each of $passed tests"
 done
 exit "$bad"

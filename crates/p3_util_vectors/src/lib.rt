@@ -1,9 +1,10 @@
-//! Worked examples and outside vectors for the crates of this workspace, as tests, and proved callers of their modules.
+//! Worked examples and outside vectors for the crates of this workspace, as tests, and the types that they are made of.
 #![tactic(auto)]
 
-pub mod callers;
-pub mod columns;
-pub mod from_end;
-pub mod joined;
+pub use p3_util_callers::holders::joined::Joined;
+
+pub mod elements;
+pub mod keys;
+pub mod noted;
 #[cfg(test)]
 mod tests;

@@ -1,26 +1,17 @@
-//! Worked rows, the original's answers, and what no clause says: orders of steps, memory, drops and printed text.
+//! Worked rows, orders of steps, and the original's answers, each against values from outside. A test is here where it
+//! is small and says what a call means. What no clause says is tested with no proof: by the package, and in
+//! `tests/unproved`.
 
-mod ample_memory;
 mod array_serialization;
-mod between_views;
 mod bits;
-mod butterfly;
-mod callers;
 mod calls;
 mod checks;
 mod chunks;
-mod drops;
-mod exchanges;
 mod laws;
 mod linear_map;
-mod noted;
 mod oracle;
-mod puts;
-mod refused_growth;
-mod regions;
+mod orders;
 mod reverse;
-mod shapes;
-mod takes_no_memory;
 mod transpose;
 mod views;
 mod zip_eq;

@@ -23,8 +23,8 @@ pub(crate) fn items(rt: &impl Abort, alloc: Global, count: usize) -> Vec<u64> {
     found(rt, (0..count).map(item).collect(alloc))
 }
 
-/// The hash of a list: it starts at 14695981039346656037, and for each item becomes the exclusive or with the item, times
-/// 1099511628211, without what does not fit 64 bits.
+/// The hash of a list: it starts at 14695981039346656037, and for each item becomes the exclusive or with the item,
+/// times 1099511628211, without what does not fit 64 bits.
 pub(crate) fn hash(list: &[u64]) -> u64 {
     let mut hash = 14_695_981_039_346_656_037u64;
     for x in list {

@@ -1,36 +1,47 @@
 //! Transposes against worked examples and the original crate.
 
-use crate::callers::transpose::levels_of;
-use crate::tests::calls::{Put, split_on, split_source_on, transpose_slice, transposed};
-use crate::tests::checks::{Shape, check_transposed, numbers, repeated, same};
+use crate::tests::calls::{Put, count_writes, split_on, whole};
+use crate::tests::checks::{Shape, check_places, equal, found, numbers, same};
 use crate::tests::oracle::transposes::TRANSPOSES;
 use crate::tests::oracle::{hash, items};
-use p3_util_kernels::places::{SliceCells, Writes};
-use p3_util_kernels::transpose::fits_matrix;
+use p3_util::places::{SliceCells, Writes};
+use p3_util::transpose::{
+    Region, butterfly_4x4, butterfly_stage1, butterfly_stage2, fits_matrix, transpose,
+};
+use p3_util_callers::transpose::levels_of;
 use std::alloc::Global;
 use std::process::Abort;
+
+/// The transpose of `input`, and the number of writes.
+fn transposed(
+    rt: &impl Abort,
+    alloc: Global,
+    call: Put,
+    input: &[u64],
+    shape: Shape,
+) -> (Vec<u64>, u128) {
+    let mut output = found(rt, vec![in alloc; 99; input.len()]);
+    let writes = count_writes(rt, call, input, &mut SliceCells::new(&mut output), shape);
+    (output, writes)
+}
+
+/// The same by the call on slices, which counts no writes.
+fn transposed_slice(rt: &impl Abort, alloc: Global, input: &[u64], shape: Shape) -> Vec<u64> {
+    let mut output = found(rt, vec![in alloc; 99; input.len()]);
+    assert!(rt; fits_matrix(input.len(), output.len(), shape.width, shape.height));
+    transpose(input, &mut output, shape.width, shape.height);
+    output
+}
 
 #[test]
 fn hashes_of_the_original(rt: HostRuntime) {
     for (width, height, wanted) in TRANSPOSES {
         let shape = Shape { width, height };
         let input = items(&rt, rt.alloc(), shape.len());
-        let (output, _) = transposed(&rt, rt.alloc(), Put::On, &input, shape);
+        let output = transposed_slice(&rt, rt.alloc(), &input, shape);
         same(&rt, width, &hash(&output), &wanted);
     }
 }
-
-/// Each call that counts its writes.
-const PUTS: [Put; 8] = [
-    Put::On,
-    Put::SourceOn,
-    Put::Counted,
-    Put::SourceCounted,
-    Put::Region,
-    Put::CountedRegion,
-    Put::Split,
-    Put::SourceSplit,
-];
 
 /// Width, height, matrices and their transposes.
 const EXAMPLES: [(usize, usize, &[u64], &[u64]); 3] = [
@@ -39,45 +50,49 @@ const EXAMPLES: [(usize, usize, &[u64], &[u64]); 3] = [
     (0, 5, &[], &[]),
 ];
 
-/// Asserts what each call makes of `input`, in a write an item, and what the call on slices makes of it.
-fn check_example(rt: &impl Abort, alloc: Global, shape: Shape, input: &[u64], wanted: &[u64]) {
-    for call in PUTS {
-        let (output, writes) = transposed(rt, alloc, call, input, shape);
-        same(rt, shape.width, &output.as_slice(), &wanted);
-        same(rt, shape.width, &writes, &(wanted.len() as u128));
-    }
-    let mut output = repeated(rt, alloc, 0, input.len());
-    transpose_slice(rt, input, &mut output, shape);
-    same(rt, shape.width, &output.as_slice(), &wanted);
-}
-
+/// What each call makes of a matrix, in a write an item, and what the call on slices makes of it.
 #[test]
 fn worked_examples(rt: HostRuntime) {
     for (width, height, input, wanted) in EXAMPLES {
-        check_example(&rt, rt.alloc(), Shape { width, height }, input, wanted);
+        let shape = Shape { width, height };
+        for call in [
+            Put::On,
+            Put::SourceOn,
+            Put::Counted,
+            Put::SourceCounted,
+            Put::Region(whole(shape)),
+            Put::CountedRegion(whole(shape)),
+            Put::Split(0),
+            Put::SourceSplit(0),
+        ] {
+            let (output, writes) = transposed(&rt, rt.alloc(), call, input, shape);
+            same(&rt, width, &output.as_slice(), &wanted);
+            same(&rt, width, &writes, &(wanted.len() as u128));
+        }
+        let output = transposed_slice(&rt, rt.alloc(), input, shape);
+        same(&rt, width, &output.as_slice(), &wanted);
     }
 }
 
-/// Widths, heights and numbers of writes.
-const WRITES: [(usize, usize, u128); 7] = [
-    (15, 17, 255),
-    (16, 16, 256),
-    (17, 16, 272),
-    (16, 17, 272),
-    (17, 19, 323),
-    (1024, 1024, 1_048_576),
-    (1025, 1024, 1_049_600),
+/// Matrices of the numbers from 0 on: widths, heights, numbers of writes, and which items come to some places.
+const NUMBERED: [(usize, usize, u128, &[(usize, u64)]); 7] = [
+    (15, 17, 255, &[(1, 15), (17, 1)]),
+    (16, 16, 256, &[(1, 16), (16, 1)]),
+    (17, 16, 272, &[(1, 17), (271, 271)]),
+    (16, 17, 272, &[(1, 16), (271, 271)]),
+    (17, 19, 323, &[(1, 17), (19, 1), (304, 16), (322, 322)]),
+    (1024, 1024, 1_048_576, &[(1, 1024), (1024, 1)]),
+    (1025, 1024, 1_049_600, &[(1, 1025), (1024, 1)]),
 ];
 
-/// Where each of the numbers from 0 on is put, and how many writes it takes.
 #[test]
 fn numbered_items(rt: HostRuntime) {
-    for (width, height, wanted) in WRITES {
+    for (width, height, wanted, places) in NUMBERED {
         let shape = Shape { width, height };
         let input = numbers(&rt, rt.alloc(), shape.len());
         let (output, writes) = transposed(&rt, rt.alloc(), Put::On, &input, shape);
         same(&rt, width, &writes, &wanted);
-        check_transposed(&rt, &output, shape);
+        check_places(&rt, &output, places);
     }
 }
 
@@ -90,28 +105,77 @@ const SPLITS: [(usize, usize, u32, u32); 5] = [
     (1024, 1025, 7, 7),
 ];
 
-/// Asserts what is left by a split of a slice with as many levels as it needs, and by one of a source with 64 levels.
-fn check_split(rt: &impl Abort, alloc: Global, shape: Shape, levels: u32, nested: u32) {
-    let input = numbers(rt, alloc, shape.len());
-    let wanted = (input.len() as u128, nested);
-    let mut output = repeated(rt, alloc, 0, input.len());
-    let out = Writes::new(SliceCells::new(&mut output));
-    let counts = split_on(rt, &input, out, shape, levels);
-    same(rt, shape.width, &counts, &wanted);
-    check_transposed(rt, &output, shape);
-    let mut output = repeated(rt, alloc, 0, input.len());
-    let out = Writes::new(SliceCells::new(&mut output));
-    let counts = split_source_on(rt, &input, out, shape, 64);
-    same(rt, shape.width, &counts, &wanted);
-    check_transposed(rt, &output, shape);
+/// With as many levels as it needs, and with 64.
+#[test]
+fn nested_splits(rt: HostRuntime) {
+    for (height, width, needed, nested) in SPLITS {
+        same(&rt, height, &levels_of(height, width), &needed);
+        let shape = Shape { width, height };
+        let input = numbers(&rt, rt.alloc(), shape.len());
+        for call in [Put::Split(needed), Put::Split(64), Put::SourceSplit(64)] {
+            let mut output = numbers(&rt, rt.alloc(), shape.len());
+            let out = Writes::new(SliceCells::new(&mut output));
+            let counts = split_on(&rt, call, &input, out, shape);
+            same(&rt, height, &counts, &(shape.len() as u128, nested));
+            check_places(&rt, &output, &[(1, width as u64), (height, 1)]);
+        }
+    }
+}
+
+/// Two rows of two items in the middle of a matrix, and no row.
+#[test]
+fn regions(rt: HostRuntime) {
+    let input = numbers(&rt, rt.alloc(), 12);
+    let shape = Shape {
+        width: 4,
+        height: 3,
+    };
+    let region = Region {
+        row_start: 1,
+        row_end: 3,
+        col_start: 2,
+        col_end: 4,
+    };
+    let wanted = [99u64, 99, 99, 99, 99, 99, 99, 6, 10, 99, 7, 11];
+    for call in [Put::Region(region), Put::CountedRegion(region)] {
+        let (output, writes) = transposed(&rt, rt.alloc(), call, &input, shape);
+        equal(&rt, &writes, &4);
+        equal(&rt, &output.as_slice(), &wanted.as_slice());
+    }
+    let empty = Region {
+        row_end: 1,
+        ..region
+    };
+    equal(
+        &rt,
+        &transposed(&rt, rt.alloc(), Put::Region(empty), &input, shape).1,
+        &0,
+    );
 }
 
 #[test]
-fn nested_splits(rt: HostRuntime) {
-    for (height, width, levels, nested) in SPLITS {
-        same(&rt, height, &levels_of(height, width), &levels);
-        check_split(&rt, rt.alloc(), Shape { width, height }, levels, nested);
-    }
+fn stages_of_a_block(rt: HostRuntime) {
+    let block = [
+        [0u8, 1, 2, 3],
+        [4, 5, 6, 7],
+        [8, 9, 10, 11],
+        [12, 13, 14, 15],
+    ];
+    let first = [
+        [0u8, 4, 2, 6],
+        [1, 5, 3, 7],
+        [8, 12, 10, 14],
+        [9, 13, 11, 15],
+    ];
+    let turned = [
+        [0u8, 4, 8, 12],
+        [1, 5, 9, 13],
+        [2, 6, 10, 14],
+        [3, 7, 11, 15],
+    ];
+    equal(&rt, &butterfly_stage1(block), &first);
+    equal(&rt, &butterfly_stage2(first), &turned);
+    equal(&rt, &butterfly_4x4(block), &turned);
 }
 
 /// The lengths of two lists, widths and heights, and whether both lists have as many items as such a matrix.

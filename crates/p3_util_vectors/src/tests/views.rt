@@ -1,19 +1,23 @@
 //! Views of arrays and moved vectors against worked examples, and the kernels over views.
 ghost use Rattle.std.specs.Prelude.{◌≤◌};
 
-use crate::tests::calls::{Call, Put, count_swaps, count_writes};
-use crate::tests::checks::{Shape, copied, equal, numbers, same};
+use crate::tests::calls::{Call, Put, count_swaps, count_writes, put_between};
+use crate::tests::checks::{Shape, equal, found, numbers, same};
 use p3_util::{
     as_base_slice, as_base_slice_mut, flat_len, flatten_to_base, reconstitute_from_base,
 };
-use std::alloc::{AllocError, Global};
+use std::alloc::Global;
 use std::process::Abort;
 
 /// Numbers of arrays and their lengths, and the number of their items.
 const LENGTHS: [(usize, usize, Option<usize>); 4] = [
     (3, 4, Some(12)),
-    (9223372036854775808, 2, None),
-    (9223372036854775808, 1, Some(9223372036854775808)),
+    (9_223_372_036_854_775_808, 2, None),
+    (
+        9_223_372_036_854_775_808,
+        1,
+        Some(9_223_372_036_854_775_808),
+    ),
     (usize::MAX, 0, Some(0)),
 ];
 
@@ -28,87 +32,63 @@ fn lengths(rt: HostRuntime) {
 fn check_view<const N: usize>(rt: &impl Abort, rows: &[[u64; N]], wanted: &[u64]) {
     assert!(rt; flat_len(rows.len(), N).is_some());
     let view = as_base_slice(rows);
-    equal(rt, &view.len(), &wanted.len());
-    equal(rt, &view.is_empty(), &wanted.is_empty());
+    equal(
+        rt,
+        &(view.len(), view.is_empty()),
+        &(wanted.len(), wanted.is_empty()),
+    );
     for (place, item) in wanted.iter().enumerate() {
-        same(rt, place, &view.get(place).copied(), &Some(*item));
+        same(rt, place, &view.get(place), &Some(item));
     }
-    equal(rt, &view.get(wanted.len()).copied(), &None);
-    assert!(rt; view.iter().eq(wanted.iter()));
+    equal(rt, &view.get(wanted.len()), &None);
+    assert!(rt; view.iter().eq(wanted.iter()) && view.into_iter().eq(wanted.iter()));
 }
 
 /// The same of a view that can be written.
 fn check_view_mut<const N: usize>(rt: &impl Abort, rows: &mut [[u64; N]], wanted: &[u64]) {
     assert!(rt; flat_len(rows.len(), N).is_some());
-    let mut view = as_base_slice_mut(rows);
-    equal(rt, &view.len(), &wanted.len());
-    equal(rt, &view.is_empty(), &wanted.is_empty());
-    assert!(rt; view.iter().eq(wanted.iter()));
-    assert!(rt; view.get_mut(wanted.len()).is_none());
-}
-
-fn check_places_mut<const N: usize>(rt: &impl Abort, rows: &mut [[u64; N]], wanted: &[u64]) {
-    assert!(rt; flat_len(rows.len(), N).is_some());
     let view = as_base_slice_mut(rows);
+    equal(
+        rt,
+        &(view.len(), view.is_empty()),
+        &(wanted.len(), wanted.is_empty()),
+    );
     for (place, item) in wanted.iter().enumerate() {
         same(rt, place, &view.get(place).copied(), &Some(*item));
     }
     equal(rt, &view.get(wanted.len()).copied(), &None);
+    assert!(rt; view.iter().eq(wanted.iter()));
 }
 
 /// The same of both views.
 fn check_views<const N: usize>(rt: &impl Abort, rows: &mut [[u64; N]], wanted: &[u64]) {
     check_view(rt, rows, wanted);
     check_view_mut(rt, rows, wanted);
-    check_places_mut(rt, rows, wanted);
 }
 
 #[test]
 fn items_of_views(rt: HostRuntime) {
     check_views(&rt, &mut [[1, 2, 3], [4, 5, 6]], &[1, 2, 3, 4, 5, 6]);
-    check_views(&rt, &mut [[7], [8], [9]], &[7, 8, 9]);
     check_views::<0>(&rt, &mut [[], [], [], [], []], &[]);
 }
 
-/// The text of a view is that of the list of its items, and a clone has the same items. A `Debug` that writes nothing, or
-/// some items alone, meets its contract, and fails here.
 #[test]
-fn a_view_as_text(rt: HostRuntime) -> Result<(), AllocError> {
-    let rows = [[1u64, 2, 3, 4], [5, 6, 7, 8], [9, 10, 11, 12]];
-    let view = as_base_slice(&rows);
-    let text = format!(in rt.alloc(); "{view:?}")?;
-    equal(
-        &rt,
-        &text.as_str(),
-        &"[1, 2, 3, 4, 5, 6, 7, 8, 9, 10, 11, 12]",
-    );
-    let again = view.clone()?;
-    assert!(rt; again.iter().eq(view.iter()));
-    same(&rt, 4, &again[4], &5);
-    Ok(())
-}
-
-#[test]
-fn a_write_through_a_view(rt: HostRuntime) {
+fn writes_through_a_view(rt: HostRuntime) {
     let mut rows = [[1u64, 2], [3, 4]];
     let mut view = as_base_slice_mut(&mut rows);
     if let Some(item) = view.get_mut(3) {
         *item = 9;
     }
-    same(&rt, 3, &view.get(3).copied(), &Some(9));
+    assert!(rt; view.get_mut(4).is_none());
     equal(&rt, &rows, &[[1, 2], [3, 9]]);
 }
 
 #[test]
-fn a_reversal_of_a_view(rt: HostRuntime) {
+fn reversals_of_a_view(rt: HostRuntime) {
     let mut rows = [[0u64, 1], [2, 3], [4, 5], [6, 7]];
     let mut view = as_base_slice_mut(&mut rows);
     equal(&rt, &count_swaps(&rt, &mut view, Call::Reversal), &2);
     equal(&rt, &rows, &[[0, 4], [2, 6], [1, 5], [3, 7]]);
-}
-
-#[test]
-fn rows_of_a_view(rt: HostRuntime) {
     let mut rows = [[0u64, 1], [2, 3], [4, 5], [6, 7]];
     let mut view = as_base_slice_mut(&mut rows);
     equal(&rt, &count_swaps(&rt, &mut view, Call::Rows(2)), &2);
@@ -128,50 +108,89 @@ fn a_transpose_into_a_view(rt: HostRuntime) {
     equal(&rt, &rows, &[[1, 4], [2, 5], [3, 6]]);
 }
 
-/// `items` moved to arrays.
-fn to_rows<const N: usize>(rt: &impl Abort, alloc: Global, items: Vec<u64>) -> Vec<[u64; N]>
-    requires { 1 ≤ N }
-{
-    assert!(rt; items.len() % N == 0);
-    match reconstitute_from_base::<u64, N>(alloc, items) {
-        Ok(rows) => rows,
-        Err(_) => panic!(rt; "no room for the arrays"),
-    }
+/// Puts the transpose of the items of `from` into those of `to`, and returns the number of writes.
+fn between_views<const N: usize, const M: usize>(
+    rt: &impl Abort,
+    from: &[[u64; N]],
+    to: &mut [[u64; M]],
+    width: usize,
+    height: usize,
+) -> u128 {
+    assert!(rt; flat_len(from.len(), N).is_some() && flat_len(to.len(), M).is_some());
+    let mut cells = as_base_slice_mut(to);
+    put_between(
+        rt,
+        &as_base_slice(from),
+        &mut cells,
+        Shape { width, height },
+    )
 }
 
-/// The items of `rows`, moved out of them.
-fn to_items<const N: usize>(rt: &impl Abort, alloc: Global, rows: Vec<[u64; N]>) -> Vec<u64> {
-    assert!(rt; flat_len(rows.len(), N).is_some());
-    match flatten_to_base(alloc, rows) {
-        Ok(items) => items,
-        Err(_) => panic!(rt; "no room for the items"),
+/// 19 rows of 17 items, which are the numbers from 0 on.
+fn numbered_rows() -> [[u64; 17]; 19] {
+    let mut rows = [[0; 17]; 19];
+    let mut next = 0u64;
+    for row in rows.iter_mut() {
+        for item in row.iter_mut() {
+            *item = next;
+            next = next.wrapping_add(1);
+        }
     }
+    rows
 }
 
-/// Asserts that numbers from 0 on are moved to arrays, to the rows `wanted`, and back.
+#[test]
+fn transposes_between_views(rt: HostRuntime) {
+    let mut turned = [[0u64; 2]; 3];
+    let writes = between_views(&rt, &[[0, 1, 2], [3, 4, 5]], &mut turned, 3, 2);
+    equal(&rt, &writes, &6);
+    equal(&rt, &turned, &[[0, 3], [1, 4], [2, 5]]);
+    let mut none = [[0u64; 4]; 0];
+    let writes = between_views::<3, 4>(&rt, &[], &mut none, 0, 5);
+    equal(&rt, &writes, &0);
+    let mut turned = [[0u64; 19]; 17];
+    equal(
+        &rt,
+        &between_views(&rt, &numbered_rows(), &mut turned, 17, 19),
+        &323,
+    );
+    let [first, second, .., last] = turned;
+    equal(&rt, &(first[0], first[1]), &(0, 17));
+    equal(&rt, &(second[0], second[1]), &(1, 18));
+    equal(&rt, &last[18], &322);
+}
+
+/// Asserts that the numbers from 0 on are moved to arrays, to the rows `wanted`, and back.
 fn there_and_back<const N: usize>(rt: &impl Abort, alloc: Global, wanted: &[[u64; N]])
     requires { 1 ≤ N }
 {
     let items = numbers(rt, alloc, wanted.len().saturating_mul(N));
-    let rows = to_rows::<N>(rt, alloc, copied(rt, alloc, &items));
+    assert!(rt; items.len() % N == 0);
+    let Ok(rows) = reconstitute_from_base::<u64, N>(alloc, items) else {
+        panic!(rt; "no room for the arrays");
+    };
     equal(rt, &rows.as_slice(), &wanted);
-    same(
-        rt,
-        1,
-        &to_items(rt, alloc, rows).as_slice(),
-        &items.as_slice(),
-    );
+    check_flattened(rt, alloc, rows, wanted.len().saturating_mul(N));
+}
+
+/// Asserts that the items of `rows` are the numbers below `count`.
+fn check_flattened<const N: usize>(
+    rt: &impl Abort,
+    alloc: Global,
+    rows: Vec<[u64; N]>,
+    count: usize,
+) {
+    assert!(rt; flat_len(rows.len(), N).is_some());
+    let Ok(items) = flatten_to_base(alloc, rows) else {
+        panic!(rt; "no room for the items");
+    };
+    equal(rt, &items.as_slice(), &numbers(rt, alloc, count).as_slice());
 }
 
 #[test]
 fn vectors_there_and_back(rt: HostRuntime) {
     there_and_back(&rt, rt.alloc(), &[[0, 1], [2, 3], [4, 5], [6, 7]]);
     there_and_back::<2>(&rt, rt.alloc(), &[]);
-}
-
-#[test]
-fn arrays_without_items(rt: HostRuntime) -> Result<(), AllocError> {
-    let none: Vec<[u64; 0]> = vec![in rt.alloc(); [], [], []]?;
-    equal(&rt, &to_items(&rt, rt.alloc(), none).len(), &0);
-    Ok(())
+    let none = found(&rt, <[[u64; 0]]>::to_vec(&[[], [], []], rt.alloc()));
+    check_flattened(&rt, rt.alloc(), none, 0);
 }

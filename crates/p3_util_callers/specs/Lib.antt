@@ -1,0 +1,2 @@
+pub mod EachRow
+pub mod MapCalls

@@ -1,0 +1,59 @@
+//! Callers of the chunks of iterators.
+
+ghost use Rattle.std.specs.Prelude.{◌≡◌, ℕ, ◌+◌, ◌*◌, ◌%◌, ◌^◌, List, IfOk, fold, slice_index, sum};
+ghost use Rattle.std.specs.Fn.{CalledAt};
+ghost use Rattle.std.specs.List.{FoldsTo};
+ghost use Rattle.p3_util.specs.Flat.{flat};
+ghost use Rattle.p3_util.specs.Pieces.{padded_pieces, pieces};
+
+use p3_util::{apply_to_chunks, iter_array_chunks_padded};
+use std::alloc::{AllocError, Global};
+
+/// Hands `bytes` to `absorb` in blocks of 64, in order. The last block may be shorter.
+pub fn absorb_blocks<H: FnMut(&[u8]) + Drop>(bytes: &[u8], absorb: H)
+    requires { H.IsAlwaysCallable absorb }
+    ensures absorbed { (last : H)
+        × FoldsTo (λ f piece g. CalledAt H.FnMut f piece tt g) absorb (pieces 64 bytes.now) last }
+    ensures joined { flat (pieces 64 bytes.now) ≡ bytes.now }
+{
+    apply_to_chunks::<64, _, H>(bytes.iter().copied(), absorb);
+}
+
+/// Adds up `bytes` by way of `add`, to which it hands them in blocks of 64: where each call raises what `total` reads by the
+/// sum of its block, all calls raise it by the sum of all bytes. The closure goes by value, so that the caller has its last
+/// state no more: [`mixed_lanes`] keeps a state.
+pub fn add_blocks<H: FnMut(&[u8]) + Drop>(bytes: &[u8], add: H)
+    requires { H.IsAlwaysCallable add }
+    ensures { (total : H → ℕ)
+        → ((f g : H) (piece : List ℕ) → CalledAt H.FnMut f piece tt g → total g ≡ total f + sum piece)
+        → (last : H) × FoldsTo (λ f piece g. CalledAt H.FnMut f piece tt g) add (pieces 64 bytes.now) last
+        × (total last ≡ total add + sum bytes.now) }
+{
+    absorb_blocks(bytes, add);
+}
+
+/// `xs` in lanes of 4, the last of which is filled with `fill`.
+pub fn lanes(alloc: Global, xs: &[u32], fill: u32) -> Result<Vec<[u32; 4]>, AllocError>
+    ensures { IfOk result (λ v. v.items ≡ padded_pieces 4 fill xs.now) }
+{
+    iter_array_chunks_padded::<u32, 4, _>(xs.iter().copied(), fill).collect(alloc)
+}
+
+/// The state after it took in each lane of 2 of `xs`, which are collected first.
+///
+/// # Errors
+///
+/// `AllocError` where there is no memory for the lanes.
+pub fn mixed_lanes(alloc: Global, xs: &[u32]) -> Result<u64, AllocError>
+    ensures { IfOk result (λ state. state ≡ fold (λ s lane. (s + slice_index lane 0 * slice_index lane 1) % 2 ^ 64) 0
+        (padded_pieces 2 0 xs.now)) }
+{
+    let lanes = iter_array_chunks_padded::<u32, 2, _>(xs.iter().copied(), 0).collect::<
+        Vec<[u32; 2]>,
+    >(alloc)?;
+    Ok(
+        lanes.iter().fold(0u64, |state, lane| {
+            state.wrapping_add(lane[0] as u64 * lane[1] as u64)
+        }),
+    )
+}

@@ -1,0 +1,38 @@
+//! Callers of the calls that move the items of vectors.
+
+ghost use Rattle.std.specs.Prelude.{◌≡◌, ◌*◌, ◌%◌, ◌^◌, ◌<◌, ◌≤◌, IfOk, vec_len};
+
+use p3_util::{flatten_to_base, reconstitute_from_base};
+use std::alloc::{AllocError, Global};
+
+/// The rows again, after they were flattened.
+pub fn flattened_and_back<T: Default + Drop, const N: usize>(
+    alloc: Global,
+    rows: Vec<[T; N]>,
+) -> Result<Vec<[T; N]>, AllocError>
+    requires width { 1 ≤ N }
+    requires fits { vec_len rows * N < 2 ^ 64 }
+    ensures { IfOk result (λ again. again.items ≡ rows.items) }
+{
+    let Ok(items) = flatten_to_base(alloc, rows) else {
+        return Err(AllocError);
+    };
+    let Ok(again) = reconstitute_from_base(alloc, items) else {
+        return Err(AllocError);
+    };
+    Ok(again)
+}
+
+/// The numbers again, after they were made elements of an extension field, each of four numbers.
+pub fn reconstituted_and_back(alloc: Global, numbers: Vec<u64>) -> Result<Vec<u64>, AllocError>
+    requires { vec_len numbers % 4 ≡ 0 }
+    ensures { IfOk result (λ again. again.items ≡ numbers.items) }
+{
+    let Ok(elements) = reconstitute_from_base::<u64, 4>(alloc, numbers) else {
+        return Err(AllocError);
+    };
+    let Ok(again) = flatten_to_base(alloc, elements) else {
+        return Err(AllocError);
+    };
+    Ok(again)
+}

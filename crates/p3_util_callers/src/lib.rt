@@ -1,0 +1,19 @@
+//! Callers of the modules of `p3_util`, and holders of a caller's own, proved from public contracts and lemmas alone.
+#![tactic(auto)]
+
+pub mod array_serialization;
+pub mod bits;
+pub mod chunks;
+pub mod columns;
+pub mod compose;
+pub mod flat;
+pub mod from_end;
+pub mod holders;
+pub mod linear_map;
+pub mod places;
+pub mod reverse;
+pub mod rows;
+pub mod transpose;
+pub mod two_lists;
+pub mod views;
+pub mod zip_eq;

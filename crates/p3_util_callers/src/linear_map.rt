@@ -1,0 +1,163 @@
+//! Callers of `LinearMap`, proved by the map's public contracts alone: any list of calls, and the map's pairs as a list.
+ghost use Rattle.std.specs.Prelude.{◌≡◌, ◌≢◌, ℕ, ◌+◌, ◌^◌, ◌<◌, ◌++◌, false, [], ◌∷◌, None, Some, IfOk, OnOk, OnErr, length, nat_eq, slice_set, sum};
+ghost use Rattle.std.specs.List.{position_or_len};
+ghost use Rattle.std.specs.Map.{keys_of, values_of};
+ghost use Rattle.p3_util.specs.LinearMap.{put_all, value_at};
+ghost use Rattle.p3_util_callers.specs.MapCalls.{answer_of, answers_of, after, pairs_after};
+
+use p3_util::NoRoom;
+use p3_util::linear_map::LinearMap;
+use std::alloc::{AllocError, Global};
+use std::mem::replace;
+
+/// A call on a map.
+#[derive(Drop)]
+pub enum Call<K, V> {
+    Insert(K, V),
+    Get(K),
+    /// Writes to the value that `get_mut` lends, if the key is there.
+    Write(K, V),
+    /// `get_or_insert_with` with a closure that gives the value.
+    GetOrInsert(K, V),
+}
+
+/// Makes one call, and gives what it answered.
+pub fn run_call<K: Eq + Copy, V: Copy>(
+    map: &mut LinearMap<K, V>,
+    call: &Call<K, V>,
+) -> Result<Option<V>, AllocError>
+    ensures map { OnOk result (map.new ≡ after K.eq map.old call.now) }
+    ensures answer { IfOk result (λ a. a ≡ answer_of K.eq map.old call.now) }
+    ensures refused { OnErr result (map.new ≡ map.old) }
+{
+    match call {
+        Call::Insert(k, v) => match map.insert(*k, *v) {
+            Ok(old) => Ok(old),
+            Err(_) => Err(AllocError),
+        },
+        Call::Get(k) => Ok(map.get(k).copied()),
+        Call::Write(k, v) => match map.get_mut(k) {
+            Some(value) => Ok(Some(replace(value, *v))),
+            None => Ok(None),
+        },
+        Call::GetOrInsert(k, v) => match map.get_or_insert_with(*k, || *v) {
+            Ok(value) => Ok(Some(*value)),
+            Err(_) => Err(AllocError),
+        },
+    }
+}
+
+/// The map after `calls` on a new one, and what each call answered.
+pub fn run_calls<K: Eq + Copy, V: Copy>(
+    alloc: Global,
+    calls: &[Call<K, V>],
+) -> Result<(LinearMap<K, V>, Vec<Option<V>>), AllocError>
+    ensures map { IfOk result (λ r. r.0 ≡ pairs_after K.eq [] calls.now) }
+    ensures answers { IfOk result (λ r. r.1.items ≡ answers_of K.eq [] calls.now) }
+{
+    let mut map = LinearMap::new(alloc);
+    let mut answers = Vec::new(alloc);
+    for call in calls {
+        let answer = run_call(&mut map, call)?;
+        answers.push(answer)?;
+    }
+    Ok((map, answers))
+}
+
+/// Defines `symbol` in a table of symbols: afterwards it is found, and each other symbol is found as before.
+#[tactic(auto, using(p3_util::proofs::Callers::put_found, p3_util::proofs::Callers::put_others))]
+pub fn define(
+    table: &mut LinearMap<u32, u64>,
+    symbol: u32,
+    offset: u64,
+) -> Result<Option<u64>, NoRoom<(u32, u64)>>
+    ensures found { OnOk result (value_at nat_eq table.new symbol ≡ Some offset) }
+    ensures others { (other : ℕ) → other ≢ symbol → value_at nat_eq table.new other ≡ value_at nat_eq table.old other }
+{
+    table.insert(symbol, offset)
+}
+
+/// The same of keys of any type, which are compared by their own test.
+#[tactic(auto, using(p3_util::proofs::Callers::put_found, p3_util::proofs::Callers::put_others))]
+pub fn define_key<K: Eq + Copy + Drop, V: Copy>(
+    table: &mut LinearMap<K, V>,
+    key: K,
+    value: V,
+) -> Result<Option<V>, NoRoom<(K, V)>>
+    ensures found { OnOk result (value_at K.eq table.new key ≡ Some value) }
+    ensures others { OnOk result ((other : K) → K.eq key other ≡ false
+        → value_at K.eq table.new other ≡ value_at K.eq table.old other) }
+{
+    table.insert(key, value)
+}
+
+/// Gives `key` a value, after which all values are known: a new one comes last, and else it takes the place of the old one.
+#[tactic(auto, using(p3_util::proofs::Callers::values_after_new, p3_util::proofs::Callers::values_after_known))]
+pub fn insert_value<K: Eq + Copy + Drop, V: Copy>(
+    map: &mut LinearMap<K, V>,
+    key: K,
+    value: V,
+) -> Result<Option<V>, NoRoom<(K, V)>>
+    ensures new { OnOk result (value_at K.eq map.old key ≡ None
+        → values_of map.new ≡ values_of map.old ++ value ∷ []) }
+    ensures known { OnOk result ((before : V) → value_at K.eq map.old key ≡ Some before
+        → values_of map.new ≡ slice_set (values_of map.old) (position_or_len (K.eq key) (keys_of map.old)) value) }
+{
+    map.insert(key, value)
+}
+
+/// Counts `word` once more, by a look-up and `insert`: the sum of all counts grows by one.
+#[tactic(auto, using(p3_util::proofs::Callers::values_summed))]
+pub fn count_word<K: Eq + Copy + Drop>(
+    counts: &mut LinearMap<K, u64>,
+    word: K,
+) -> Result<Option<u64>, NoRoom<(K, u64)>>
+    requires { sum (values_of counts.old) + 1 < 2 ^ 64 }
+    ensures { OnOk result (sum (values_of counts.new) ≡ sum (values_of counts.old) + 1) }
+{
+    let count = counts.get(&word).copied().unwrap_or(0);
+    counts.insert(word, count + 1)
+}
+
+/// The same by `get_or_insert_with`, which compares the word once.
+#[tactic(auto, using(p3_util::proofs::Callers::values_summed))]
+pub fn count_word_in_place<K: Eq + Copy + Drop>(
+    counts: &mut LinearMap<K, u64>,
+    word: K,
+) -> Result<(), AllocError>
+    requires { sum (values_of counts.old) + 1 < 2 ^ 64 }
+    ensures { OnOk result (sum (values_of counts.new) ≡ sum (values_of counts.old) + 1) }
+{
+    match counts.get_or_insert_with(word, || 0) {
+        Ok(count) => {
+            *count += 1;
+            Ok(())
+        }
+        Err(_) => Err(AllocError),
+    }
+}
+
+/// How often each word comes.
+#[tactic(auto, using(p3_util::proofs::Callers::values_summed))]
+pub fn count_words<'a>(
+    alloc: Global,
+    words: &[&'a str],
+) -> Result<LinearMap<&'a str, u64>, AllocError>
+    ensures { IfOk result (λ counts. sum (values_of counts) ≡ length words.now) }
+{
+    let mut counts = LinearMap::new(alloc);
+    for word in words {
+        match counts.get_or_insert_with(*word, || 0) {
+            Ok(count) => *count += 1,
+            Err(_) => return Err(AllocError),
+        }
+    }
+    Ok(counts)
+}
+
+/// The map that a list of pairs makes.
+pub fn made_of(alloc: Global, pairs: &[(u32, u8)]) -> Result<LinearMap<u32, u8>, AllocError>
+    ensures { IfOk result (λ m. m ≡ put_all nat_eq [] pairs.now) }
+{
+    LinearMap::try_from_iter(alloc, pairs.iter().copied())
+}

@@ -1,0 +1,31 @@
+//! Callers of the counters, and of a holder's steps on some places of a list.
+
+ghost use Rattle.std.specs.Prelude.{◌≡◌, ◌+◌, ◌*◌, ◌/◌, ◌<◌, length, swap};
+ghost use Rattle.p3_util.specs.ItemsAt.{items_at};
+ghost use Rattle.p3_util.specs.Steps.{counted};
+
+use p3_util::places::{Places, Swaps};
+
+/// Moves the item at place `i` to `k`, that at `k` to `j` and that at `j` to `i`, by two swaps.
+pub fn rotate_three<S: Places>(m: &mut Swaps<S>, i: usize, j: usize, k: usize)
+    requires first { i < length (S.items m.old.holder) }
+    requires second { j < length (S.items m.old.holder) }
+    requires third { k < length (S.items m.old.holder) }
+    ensures rotated { S.items m.new.holder ≡ swap (swap (S.items m.old.holder) i j) j k }
+    ensures count { m.new.count ≡ counted m.old.count 2 }
+    ensures holder { S.same_holder 2 m.old.holder m.new.holder }
+{
+    m.swap(i, j);
+    m.swap(j, k);
+}
+
+/// Exchanges the items at the even places `2 * i` and `2 * j`, which are items `i` and `j` of the list of those. The lemma is
+/// given the function of the places in a file, since no search finds a function.
+pub fn exchange_even<F>(items: &mut [F], i: usize, j: usize)
+    requires first { 2 * i < length items.old }
+    requires second { 2 * j < length items.old }
+    ensures { let even = items_at (λ k. 2 * k) ((length items.old + 1) / 2) in
+        even items.new ≡ swap (even items.old) i j }
+{
+    items.swap(2 * i, 2 * j);
+}

@@ -1,0 +1,164 @@
+//! Callers of bit reversal. None of them has a proof by hand: the test in front of a call is enough, or a lemma that is named.
+
+ghost use Rattle.std.specs.Prelude.{◌≡◌, ℕ, ◌+◌, ◌*◌, ◌^◌, ◌<◌, ◌≤◌, ◌↔◌, [], ◌∷◌, IsTrue, IsFalse, IfOk, length, map, slice_get, slice_index};
+ghost use Rattle.std.specs.Int.{is_power_of_two};
+ghost use Rattle.p3_util.specs.Digits.{rev};
+ghost use Rattle.p3_util.specs.Reversal.{FitsRows, IsReversal, IsReversible, IsRowReversal, IsZeroOrPowerOfTwo};
+
+use p3_util::bits::{checked_log_size_sum, reverse_bits_len};
+use p3_util::places::{Places, Swaps};
+use p3_util::reverse::{
+    fits_rows, reverse_chunks_on, reverse_counted, reverse_slice_index_bits,
+    reverse_slice_row_index_bits,
+};
+use std::alloc::{AllocError, Global};
+
+/// Reverses `vals` by index bits. `false`, and nothing done, where the length is neither zero nor a power of two.
+pub fn reverse_where_it_fits<F>(vals: &mut [F]) -> bool
+    ensures done { IsTrue result → IsReversal vals.old vals.new }
+    ensures left { IsFalse result → vals.new ≡ vals.old }
+    ensures fits { IsTrue result ↔ IsZeroOrPowerOfTwo (length vals.old) }
+{
+    let fits = fits_rows(vals.len(), 1);
+    if fits {
+        reverse_slice_index_bits(vals);
+    }
+    fits
+}
+
+/// Reverses `vals` by index bits where the length is a power of two, by std's test, and else leaves it.
+pub fn reverse_power_of_two<F>(vals: &mut [F])
+    ensures done { IsTrue (is_power_of_two (length vals.old)) → IsReversal vals.old vals.new }
+    ensures left { IsFalse (is_power_of_two (length vals.old)) → vals.new ≡ vals.old }
+{
+    if vals.len().is_power_of_two() {
+        reverse_slice_index_bits(vals);
+    }
+}
+
+/// Four numbers written out, in the order of their reversed index bits.
+pub fn reversed_literal() -> [u32; 4]
+    ensures { IsReversal (10 ∷ 20 ∷ 30 ∷ 40 ∷ []) result }
+{
+    let mut items = [10, 20, 30, 40];
+    reverse_slice_index_bits(&mut items);
+    items
+}
+
+/// Reverses the order of the `2^log_count` chunks of `2^log_size` items where `m` is as long as these. `false`, and nothing
+/// done, elsewhere.
+pub fn reverse_chunks_where_they_fit<S: Places>(
+    m: &mut Swaps<S>,
+    log_count: usize,
+    log_size: usize,
+) -> bool
+    ensures done { IsTrue result
+        → IsRowReversal (2 ^ log_size) (S.items m.old.holder) (S.items m.new.holder) }
+    ensures left { IsFalse result → m.new ≡ m.old }
+    ensures fits { let log_len = log_count + log_size in
+        IsTrue result ↔ ((log_len < 64) × (length (S.items m.old.holder) ≡ 2 ^ log_len)) }
+{
+    let len = m.len();
+    match checked_log_size_sum(log_count, log_size) {
+        Some((_, size)) if size == len => {
+            reverse_chunks_on(m, log_count, log_size);
+            true
+        }
+        _ => false,
+    }
+}
+
+/// Reverses `vals` by index bits twice, as a transform and its inverse do, which leaves it as it was.
+#[tactic(auto, using(p3_util::proofs::Callers::reversed_twice))]
+pub fn reverse_twice<F>(vals: &mut [F])
+    requires { IsReversible (length vals.old) }
+    ensures { vals.new ≡ vals.old }
+{
+    reverse_slice_index_bits(vals);
+    reverse_slice_index_bits(vals);
+}
+
+/// The same of any holder.
+#[tactic(auto, using(p3_util::proofs::Callers::reversed_twice))]
+pub fn reverse_holder_twice<S: Places>(places: &mut S)
+    requires { IsReversible (length (S.items places.old)) }
+    ensures { S.items places.new ≡ S.items places.old }
+{
+    reverse_counted(places);
+    reverse_counted(places);
+}
+
+/// Reverses `vals` by index bits, and returns the item that is at place `i` then.
+#[tactic(auto, using(p3_util::proofs::Callers::reversed_read))]
+pub fn item_after(vals: &mut [u64], k: usize, i: usize) -> u64
+    requires len { length vals.old ≡ 2 ^ k }
+    requires inside { i < 2 ^ k }
+    ensures { result ≡ slice_index vals.old (rev k i) }
+{
+    reverse_slice_index_bits(vals);
+    vals[i]
+}
+
+/// Reverses `vals` by index bits, and returns one item twice: read before at the reversed index, and after at the index.
+#[tactic(auto, using(p3_util::proofs::Callers::reversed_read))]
+pub fn item_before_and_after<T: Copy>(vals: &mut [T], k: usize, i: usize) -> (T, T)
+    requires some { 1 ≤ k }
+    requires few { k < 64 }
+    requires len { length vals.old ≡ 2 ^ k }
+    requires inside { i < 2 ^ k }
+    ensures { result.0 ≡ result.1 }
+{
+    let before = vals[reverse_bits_len(i, k)];
+    reverse_slice_index_bits(vals);
+    (before, vals[i])
+}
+
+/// Twice each of `vals`.
+pub fn doubled(alloc: Global, vals: &[u32]) -> Result<Vec<u64>, AllocError>
+    ensures { IfOk result (λ twice. twice.items ≡ map (λ x. 2 * x) vals.now) }
+{
+    vals.iter().map(|x| 2 * u64::from(*x)).collect(alloc)
+}
+
+/// The same by way of a reversal: it reverses `vals`, doubles each item, and reverses these back. `vals` stays reversed.
+#[tactic(auto, using(p3_util::proofs::Callers::reversed_worked))]
+pub fn doubled_in_reversed_order(alloc: Global, vals: &mut [u32]) -> Result<Vec<u64>, AllocError>
+    requires { IsReversible (length vals.old) }
+    ensures { IfOk result (λ twice. twice.items ≡ map (λ x. 2 * x) vals.old) }
+{
+    reverse_slice_index_bits(vals);
+    let worked = doubled(alloc, vals)?;
+    Ok(reversed(worked))
+}
+
+/// The items of `vals` by reversed index bits.
+pub fn reversed<T>(mut vals: Vec<T>) -> Vec<T>
+    requires { IsReversible (length vals.items) }
+    ensures { IsReversal vals.items result.items }
+{
+    reverse_slice_index_bits(&mut vals);
+    vals
+}
+
+/// Reverses the order of the rows of `vals`, of `row_width` items each, twice, which leaves it as it was.
+#[tactic(auto, using(p3_util::proofs::Callers::rows_reversed_twice))]
+pub fn reverse_rows_twice<F>(vals: &mut [F], row_width: usize)
+    requires { FitsRows (length vals.old) row_width }
+    ensures { vals.new ≡ vals.old }
+{
+    reverse_slice_row_index_bits(vals, row_width);
+    reverse_slice_row_index_bits(vals, row_width);
+}
+
+/// In reversed order the items at places `2i` and `2i + 1`, which a fold takes together, are those of one half and of the
+/// other.
+#[tactic(auto, using(p3_util::proofs::Callers::reversed_even, p3_util::proofs::Callers::reversed_odd))]
+pub fn halves_side_by_side<F>(vals: &mut [F])
+    requires { IsReversible (length vals.old) }
+    ensures even { (k i : ℕ) → length vals.old ≡ 2 ^ (k + 1) → i < 2 ^ k
+        → slice_get vals.new (2 * i) ≡ slice_get vals.old (rev k i) }
+    ensures odd { (k i : ℕ) → length vals.old ≡ 2 ^ (k + 1) → i < 2 ^ k
+        → slice_get vals.new (2 * i + 1) ≡ slice_get vals.old (rev k i + 2 ^ k) }
+{
+    reverse_slice_index_bits(vals);
+}

@@ -1,0 +1,176 @@
+//! Callers of the transposes.
+
+ghost use Rattle.std.specs.Prelude.{◌≡◌, ◌*◌, ◌^◌, ◌<◌, ◌↔◌, IsTrue, IsFalse, List, OnOk, length};
+ghost use Rattle.p3_util.specs.Levels.{lev, nest};
+ghost use Rattle.p3_util.specs.Region.{IsRegionTransposed, LiesInMatrix, cols_of, items_of, rows_of};
+ghost use Rattle.p3_util.specs.Steps.{counted};
+ghost use Rattle.p3_util.specs.SwapCounts.{square_swaps};
+ghost use Rattle.p3_util.specs.Transpose.{IsTranspose};
+
+use p3_util::bits::log2_ceil_usize;
+use p3_util::places::{Cells, Places, SliceCells, Swaps, Writes};
+use p3_util::transpose::{
+    Region, fits_matrix, transpose, transpose_counted, transpose_region_counted,
+    transpose_split_on, transpose_square_on,
+};
+use std::alloc::{AllocError, Global};
+
+/// Transposes `matrix`, of `height` rows of `width` items, by way of `scratch`. `false`, and nothing done, where the
+/// lengths are not those of such a matrix.
+pub fn transpose_by_way_of<T: Copy>(
+    matrix: &mut [T],
+    scratch: &mut [T],
+    width: usize,
+    height: usize,
+) -> bool
+    ensures done { IsTrue result → IsTranspose width height matrix.old matrix.new }
+    ensures left { IsFalse result → matrix.new ≡ matrix.old }
+    ensures fits { IsTrue result ↔ ((length matrix.old ≡ width * height) × (length scratch.old ≡ width * height)) }
+{
+    if !fits_matrix(matrix.len(), scratch.len(), width, height) {
+        return false;
+    }
+    transpose(matrix, scratch, width, height);
+    matrix.copy_from_slice(scratch);
+    true
+}
+
+/// Transposes `matrix` into `scratch` and back, which leaves `matrix` as it was and its transpose in `scratch`.
+#[tactic(auto, using(p3_util::proofs::Callers::transposed_back))]
+pub fn transpose_there_and_back<T: Copy>(
+    matrix: &mut [T],
+    scratch: &mut [T],
+    width: usize,
+    height: usize,
+)
+    requires matrix_fits { length matrix.old ≡ width * height }
+    requires scratch_fits { length scratch.old ≡ width * height }
+    ensures back { matrix.new ≡ matrix.old }
+    ensures there { IsTranspose width height matrix.old scratch.new }
+{
+    transpose(matrix, scratch, width, height);
+    transpose(scratch, matrix, height, width);
+}
+
+/// The same by way of a vector. One `as_mut_slice` serves both calls, since with a loan for each the search loses the items.
+#[tactic(auto, using(p3_util::proofs::Callers::transposed_back))]
+pub fn transpose_by_vector_and_back<T: Copy + Default>(
+    alloc: Global,
+    matrix: &mut [T],
+    width: usize,
+    height: usize,
+) -> Result<(), AllocError>
+    requires { length matrix.old ≡ width * height }
+    ensures { OnOk result (matrix.new ≡ matrix.old) }
+{
+    let mut scratch = vec![in alloc; T::default(); matrix.len()]?;
+    let items = scratch.as_mut_slice();
+    transpose(matrix, items, width, height);
+    transpose(items, matrix, height, width);
+    Ok(())
+}
+
+/// The way back alone: the transpose of `transposed` is the matrix that it is the transpose of.
+#[tactic(auto, using(p3_util::proofs::Callers::transposed_back))]
+pub fn transpose_back<T: Copy>(transposed: &[T], output: &mut [T], width: usize, height: usize)
+    requires transposed_fits { length transposed.now ≡ width * height }
+    requires output_fits { length output.old ≡ width * height }
+    ensures { (matrix : List T) → length matrix ≡ width * height → IsTranspose height width matrix transposed.now
+        → output.new ≡ matrix }
+{
+    transpose(transposed, output, width, height);
+}
+
+/// Puts the transpose of one matrix into two slices, which have the same items then.
+#[tactic(auto, using(p3_util::proofs::Callers::transposed_once))]
+pub fn transpose_into_two<T: Copy>(
+    input: &[T],
+    one: &mut [T],
+    other: &mut [T],
+    width: usize,
+    height: usize,
+)
+    requires input_fits { length input.now ≡ width * height }
+    requires one_fits { length one.old ≡ width * height }
+    requires other_fits { length other.old ≡ width * height }
+    ensures { one.new ≡ other.new }
+{
+    transpose(input, one, width, height);
+    transpose(input, other, width, height);
+}
+
+/// The same of any holders.
+#[tactic(auto, using(p3_util::proofs::Callers::transposed_once))]
+pub fn transpose_into_holders<C: Cells>(
+    input: &[C::Item],
+    one: &mut C,
+    other: &mut C,
+    width: usize,
+    height: usize,
+)
+    requires input_fits { length input.now ≡ width * height }
+    requires one_fits { length (C.items one.old) ≡ width * height }
+    requires other_fits { length (C.items other.old) ≡ width * height }
+    ensures { C.items one.new ≡ C.items other.new }
+{
+    transpose_counted(input, one, width, height);
+    transpose_counted(input, other, width, height);
+}
+
+/// Transposes in place a whole matrix of `2^log_size` rows of as many items.
+pub fn transpose_whole_square<S: Places>(m: &mut Swaps<S>, log_size: usize)
+    requires fits { length (S.items m.old.holder) ≡ 2 ^ log_size * 2 ^ log_size }
+    requires small { log_size < 64 }
+    ensures order { IsTranspose (2 ^ log_size) (2 ^ log_size) (S.items m.old.holder) (S.items m.new.holder) }
+    ensures count { m.new.count ≡ counted m.old.count (square_swaps (2 ^ log_size)) }
+    ensures holder { S.same_holder (square_swaps (2 ^ log_size)) m.old.holder m.new.holder }
+{
+    transpose_square_on(m, 0, log_size, log_size);
+}
+
+/// The number of levels that the split of a region of these sides needs.
+pub fn levels_of(rows: usize, cols: usize) -> u32
+    ensures { result ≡ lev rows cols }
+{
+    let tall = log2_ceil_usize(rows).saturating_sub(7);
+    let wide = log2_ceil_usize(cols).saturating_sub(7);
+    (tall + wide) as u32
+}
+
+/// Puts the transpose of a part of a matrix into `out`, with no more levels than it needs. It returns how many splits are
+/// nested.
+pub fn transpose_part<C: Cells>(
+    input: &[C::Item],
+    out: &mut Writes<C>,
+    part: Region,
+    width: usize,
+    height: usize,
+) -> u32
+    requires input_fits { length input.now ≡ width * height }
+    requires output_fits { length (C.items out.old.holder) ≡ width * height }
+    requires inside { LiesInMatrix part width height }
+    ensures transposed { IsRegionTransposed part width height input.now
+        (C.items out.old.holder) (C.items out.new.holder) }
+    ensures nested { result ≡ nest (rows_of part) (cols_of part) }
+{
+    let levels = levels_of(part.row_end - part.row_start, part.col_end - part.col_start);
+    transpose_split_on(input, out, part, width, height, levels)
+}
+
+/// Puts the transpose of `region`, a block of the matrix `input`, into a slice, and returns the number of writes.
+pub fn transpose_block<T: Copy>(
+    input: &[T],
+    output: &mut [T],
+    region: Region,
+    width: usize,
+    height: usize,
+) -> u128
+    requires input_fits { length input.now ≡ width * height }
+    requires output_fits { length output.old ≡ width * height }
+    requires inside { LiesInMatrix region width height }
+    ensures transposed { IsRegionTransposed region width height input.now output.old output.new }
+    ensures count { result ≡ items_of region }
+{
+    let mut cells = SliceCells::new(output);
+    transpose_region_counted(input, &mut cells, region, width, height)
+}

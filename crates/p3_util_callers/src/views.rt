@@ -1,0 +1,211 @@
+//! Callers of the views over rows of any length, and of written lengths: the kernels, and single items.
+
+ghost use Rattle.std.specs.Prelude.{◌≡◌, ◌+◌, ◌*◌, ◌^◌, ◌<◌, ◌↔◌, IsTrue, IsFalse, Some, length, slice_get, slice_set, swap, vec_len};
+ghost use Rattle.std.specs.Int.{is_power_of_two};
+ghost use Rattle.p3_util.specs.Flat.{flat};
+ghost use Rattle.p3_util.specs.Reversal.{FitsRows, IsReversal, IsRowReversal, IsZeroOrPowerOfTwo};
+ghost use Rattle.p3_util.specs.Transpose.{IsTranspose};
+
+pub mod four_items;
+
+use p3_util::places::{Cells, Places, Writes};
+use p3_util::reverse::{fits_rows, reverse_counted, reverse_rows_counted};
+use p3_util::transpose::{
+    fits_matrix, transpose_counted, transpose_source_counted, transpose_source_on,
+};
+use p3_util::views::{Flattened, Rows};
+use p3_util::{as_base_slice, as_base_slice_mut, flat_len};
+
+/// Reverses the items of `rows`, taken as one list, by their index bits: what a kernel leaves in a view is in the rows.
+pub fn reverse_items<T, const N: usize>(rows: &mut [[T; N]])
+    requires fits { length rows.old * N < 2 ^ 64 }
+    requires power { IsZeroOrPowerOfTwo (length (flat rows.old)) }
+    ensures { IsReversal (flat rows.old) (flat rows.new) }
+{
+    let mut view = as_base_slice_mut(rows);
+    reverse_counted(&mut view);
+}
+
+/// Reverses the items of `rows`, taken as one list, by their index bits. `false`, and nothing done, where their number
+/// does not fit.
+pub fn reverse_items_where_they_fit<T, const N: usize>(rows: &mut [[T; N]]) -> bool
+    ensures done { IsTrue result → IsReversal (flat rows.old) (flat rows.new) }
+    ensures left { IsFalse result → rows.new ≡ rows.old }
+    ensures fits { length rows.old * N < 2 ^ 64
+        → (IsTrue result ↔ IsZeroOrPowerOfTwo (length rows.old * N)) }
+{
+    if flat_len(rows.len(), N).is_none() {
+        return false;
+    }
+    let mut view = as_base_slice_mut(rows);
+    let fits = fits_rows(view.len(), 1);
+    if fits {
+        reverse_counted(&mut view);
+    }
+    fits
+}
+
+/// Reverses the items where their number is a power of two, by std's test, and else leaves them.
+pub fn reverse_power_of_two<T, const N: usize>(rows: &mut [[T; N]])
+    requires { length rows.old * N < 2 ^ 64 }
+    ensures done { IsTrue (is_power_of_two (length rows.old * N)) → IsReversal (flat rows.old) (flat rows.new) }
+    ensures left { IsFalse (is_power_of_two (length rows.old * N)) → flat rows.new ≡ flat rows.old }
+{
+    let mut view = as_base_slice_mut(rows);
+    if view.len().is_power_of_two() {
+        reverse_counted(&mut view);
+    }
+}
+
+/// Reverses the order of the rows by way of their items.
+pub fn reverse_rows<T, const N: usize>(rows: &mut [[T; N]])
+    requires fits { length rows.old * N < 2 ^ 64 }
+    requires power { FitsRows (length (flat rows.old)) N }
+    ensures { IsRowReversal N (flat rows.old) (flat rows.new) }
+{
+    let mut view = as_base_slice_mut(rows);
+    reverse_rows_counted(&mut view, N);
+}
+
+/// Writes the transpose of `input` to the items of `rows`. `false`, and nothing done, where the lengths are not those of
+/// such a matrix.
+pub fn transpose_to_items<T: Copy, const N: usize>(
+    input: &[T],
+    rows: &mut [[T; N]],
+    width: usize,
+    height: usize,
+) -> bool
+    requires { length rows.old * N < 2 ^ 64 }
+    ensures done { IsTrue result → IsTranspose width height input.now (flat rows.new) }
+    ensures left { IsFalse result → flat rows.new ≡ flat rows.old }
+{
+    let mut view = as_base_slice_mut(rows);
+    let fits = fits_matrix(input.len(), view.len(), width, height);
+    if fits {
+        transpose_counted(input, &mut view, width, height);
+    }
+    fits
+}
+
+/// Puts the transpose of the items of `rows` into `out`.
+pub fn transpose_from_items<T: Copy, C: Cells<Item = T>, const N: usize>(
+    rows: &[[T; N]],
+    out: &mut Writes<C>,
+    width: usize,
+    height: usize,
+)
+    requires fits { length rows.now * N < 2 ^ 64 }
+    requires input_fits { length rows.now * N ≡ width * height }
+    requires output_fits { length (C.items out.old.holder) ≡ width * height }
+    ensures { IsTranspose width height (flat rows.now) (C.items out.new.holder) }
+{
+    transpose_source_on(&as_base_slice(rows), out, width, height);
+}
+
+/// Puts the transpose of the items of `input` into the items of `output`, both taken as one list, and returns the number of
+/// writes.
+pub fn transpose_between_views<T: Copy, const N: usize, const M: usize>(
+    input: &[[T; N]],
+    output: &mut [[T; M]],
+    width: usize,
+    height: usize,
+) -> u128
+    requires input_counts { length input.now * N < 2 ^ 64 }
+    requires output_counts { length output.old * M < 2 ^ 64 }
+    requires input_fits { length input.now * N ≡ width * height }
+    requires output_fits { length output.old * M ≡ width * height }
+    ensures order { IsTranspose width height (flat input.now) (flat output.new) }
+    ensures count { result ≡ width * height }
+{
+    let mut cells = as_base_slice_mut(output);
+    transpose_source_counted(&as_base_slice(input), &mut cells, width, height)
+}
+
+/// Reverses the items of a vector of rows, by way of its slice.
+pub fn reverse_items_in_vec<T, const N: usize>(rows: &mut Vec<[T; N]>)
+    requires fits { vec_len rows.old * N < 2 ^ 64 }
+    requires power { IsZeroOrPowerOfTwo (length (flat rows.old.items)) }
+    ensures { IsReversal (flat rows.old.items) (flat rows.new.items) }
+{
+    reverse_items(rows);
+}
+
+/// Item `i`, or `None` where there are no more.
+pub fn item<T: Copy, const N: usize>(rows: &[[T; N]], i: usize) -> Option<T>
+    requires { length rows.now * N < 2 ^ 64 }
+    ensures { result ≡ slice_get (flat rows.now) i }
+{
+    as_base_slice(rows).get(i).copied()
+}
+
+/// Item `i`, which is there, by a view that may change it.
+pub fn item_at<T: Copy, const N: usize>(rows: &mut [[T; N]], i: usize) -> T
+    requires fits { length rows.old * N < 2 ^ 64 }
+    requires inside { i < length rows.old * N }
+    ensures { slice_get (flat rows.old) i ≡ Some result }
+{
+    as_base_slice_mut(rows)[i]
+}
+
+/// Sets item `i` of the rows taken as one list, if there is one: what is written through the loan is in the rows in the
+/// place of that item alone.
+pub fn set_item<T: Drop, const N: usize>(rows: &mut [[T; N]], i: usize, item: T)
+    requires { length rows.old * N < 2 ^ 64 }
+    ensures { flat rows.new ≡ slice_set (flat rows.old) i item }
+{
+    let mut view = as_base_slice_mut(rows);
+    set_item_of_view(&mut view, i, item);
+}
+
+/// Puts `item` in the place of item `i`, which is there.
+pub fn put_item<T: Copy, const N: usize>(rows: &mut [[T; N]], i: usize, item: T)
+    requires fits { length rows.old * N < 2 ^ 64 }
+    requires inside { i < length rows.old * N }
+    ensures { flat rows.new ≡ slice_set (flat rows.old) i item }
+{
+    as_base_slice_mut(rows).put(i, item);
+}
+
+/// Puts `item` in row `row` and column `column`.
+pub fn put_at(rows: &mut [[u64; 2]], row: usize, column: usize, item: u64)
+    requires fits { length rows.old * 2 < 2 ^ 64 }
+    requires row_inside { row < length rows.old }
+    requires column_inside { column < 2 }
+    ensures { flat rows.new ≡ slice_set (flat rows.old) (row * 2 + column) item }
+{
+    as_base_slice_mut(rows).put(row * 2 + column, item);
+}
+
+/// The same of items that are not `Copy`: what was there is dropped.
+pub fn set_at<T: Drop>(rows: &mut [[T; 2]], row: usize, column: usize, item: T)
+    requires fits { length rows.old * 2 < 2 ^ 64 }
+    requires row_inside { row < length rows.old }
+    requires column_inside { column < 2 }
+    ensures { flat rows.new ≡ slice_set (flat rows.old) (row * 2 + column) item }
+{
+    let mut view = as_base_slice_mut(rows);
+    set_item_of_view(&mut view, row * 2 + column, item);
+}
+
+/// Exchanges items `i` and `j`.
+pub fn exchange_items<T, const N: usize>(rows: &mut [[T; N]], i: usize, j: usize)
+    requires fits { length rows.old * N < 2 ^ 64 }
+    requires first { i < length rows.old * N }
+    requires second { j < length rows.old * N }
+    ensures { flat rows.new ≡ swap (flat rows.old) i j }
+{
+    as_base_slice_mut(rows).exchange(i, j);
+}
+
+/// The same of any view. What the rows end as after a write through `get_mut` is known where that write is made in a
+/// function over any rows, as here.
+pub fn set_item_of_view<S: Rows>(view: &mut Flattened<S>, i: usize, item: S::Item)
+where
+    S::Item: Drop,
+    ensures items { S.items view.new.rows ≡ slice_set (S.items view.old.rows) i item }
+    ensures rows { S.same_rows view.old.rows view.new.rows }
+{
+    if let Some(place) = view.get_mut(i) {
+        *place = item;
+    }
+}

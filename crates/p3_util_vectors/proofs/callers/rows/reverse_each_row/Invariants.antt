@@ -1,5 +1,0 @@
-use Rattle.p3_util_vectors.specs.EachRow.{AreRowsReversed}
-use Rattle.p3_util_vectors.proofs.callers.rows.reverse_each_row.Given as goal
-
-abbrev pub invariant-loop-r : goal.invariant-loop-r
-invariant-loop-r g l = AreRowsReversed l.width l.r l.initial.values l.values
