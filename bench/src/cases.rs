@@ -1,9 +1,28 @@
-//! What is measured: a call, an item's size and a shape.
+//! What is measured of the calls on slices: a call, an item's size and a shape.
 
-use crate::options::Options;
+use std::ops::RangeBounds;
+
+use crate::options::{Options, SHAPES, WIDE_SHAPES};
 
 /// The names of the calls.
 pub const CALLS: [&str; 3] = ["reverse", "rows", "transpose"];
+
+/// The name of a group that cases are summed up in, and whether a case is in it.
+type Group = (&'static str, fn(Work) -> bool);
+
+/// A case may be in several groups.
+pub const GROUPS: [Group; 8] = [
+    ("reversals of up to 2^13 items", |it| it.is("reverse", ..=1 << 13)),
+    ("reversals of more items", |it| it.is("reverse", 1 << 14..)),
+    ("rows, beside a copy", |it| it.is("rows", ..)),
+    ("transposes of up to 8x8 items", |it| it.is("transpose", ..=64)),
+    ("transposes of 65 to 2^20 items", |it| it.is("transpose", 65..=1 << 20)),
+    ("transposes of up to 2^20 items", |it| it.is("transpose", ..=1 << 20)),
+    ("transposes of more items", |it| {
+        it.is("transpose", (1 << 20) + 1..) && (it.is_among(SHAPES) || !it.is_among(WIDE_SHAPES))
+    }),
+    ("transposes of wide matrices", |it| it.is_among(WIDE_SHAPES)),
+];
 
 #[derive(Clone, Copy, PartialEq, Eq)]
 pub enum Work {
@@ -69,20 +88,6 @@ impl Work {
         }
     }
 
-    /// The cases that this one is summed up with: those of its call of about as many items.
-    pub fn group(self) -> &'static str {
-        match self {
-            Work::Reverse { log: ..=13 } => "reverse, up to 2^13 items",
-            Work::Reverse { .. } => "reverse, beyond",
-            Work::Rows { .. } => "rows, all",
-            Work::Transpose { .. } => match self.units() {
-                ..=64 => "transpose, up to 8x8",
-                ..=0x10_0000 => "transpose, up to 2^20 items",
-                _ => "transpose, beyond",
-            },
-        }
-    }
-
     /// The number of items, or of rows, that move.
     pub fn units(self) -> usize {
         match self {
@@ -91,12 +96,22 @@ impl Work {
         }
     }
 
+    /// Whether this is such a call with so many units.
+    fn is(self, call: &str, units: impl RangeBounds<usize>) -> bool {
+        self.call() == call && units.contains(&self.units())
+    }
+
     pub fn shape(self) -> String {
         match self {
             Work::Reverse { log } => format!("2^{log}"),
             Work::Rows { bytes, log } => format!("{bytes}x{}", 1 << log),
             Work::Transpose { width, height } => format!("{width}x{height}"),
         }
+    }
+
+    /// Whether this is a transpose of one of these shapes, as the command line gives them.
+    fn is_among(self, shapes: &str) -> bool {
+        self.is("transpose", ..) && shapes.split(',').any(|shape| shape == self.shape())
     }
 
     /// The index that the item, or the row, at place `i` comes from.
@@ -124,8 +139,20 @@ pub fn chosen(options: &Options) -> Vec<Case> {
         .chain(transposes)
         .filter(|work| options.calls.iter().any(|it| it == work.call()))
         .collect();
-    let of_size = |&item_size| works.iter().map(move |&work| Case { work, item_size });
-    let mut cases: Vec<Case> = options.items.iter().flat_map(of_size).filter(Case::is_whole).collect();
+    let of_size = |item_size| works.iter().map(move |&work| Case { work, item_size });
+    let sizes = distinct(options.items.iter().flatten().copied());
+    let mut cases: Vec<Case> = sizes.into_iter().flat_map(of_size).filter(Case::is_whole).collect();
     cases.sort_by_key(|case| case.work.call());
     cases
+}
+
+/// The different values, in the order in which they first come.
+pub fn distinct<T: PartialEq>(values: impl Iterator<Item = T>) -> Vec<T> {
+    let mut list = Vec::new();
+    for value in values {
+        if !list.contains(&value) {
+            list.push(value);
+        }
+    }
+    list
 }

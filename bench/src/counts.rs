@@ -1,21 +1,16 @@
-//! Instructions: each call once under callgrind, which writes a file for each call of `bench_counted`.
+//! Instructions, which others count while the calls are made: callgrind, or the emulator's plugin.
 
 use std::path::Path;
 
-use crate::cases::Case;
-use crate::items::{Item, Lists, Visitor, contenders};
-use crate::table::Row;
-
-pub struct CountEach;
-
-impl Visitor for CountEach {
-    type Answer = ();
-
-    fn visit<T: Item>(self, case: &Case) {
-        let mut lists = Lists::<T>::new(case);
-        for &contender in contenders(case.work) {
-            bench_counted(&mut || lists.run(contender));
+/// Has each contender do its task as many times as each number of `calls` says. Prints a line before each of these and
+/// one after the last, for whoever counts from line to line.
+pub fn count(contenders: usize, calls: &[u32], runner: &mut dyn FnMut(usize, u32)) {
+    for contender in 0..contenders {
+        for &times in calls {
+            println!("counted");
+            bench_counted(&mut || runner(contender, times));
         }
+        println!("counted");
     }
 }
 
@@ -26,21 +21,14 @@ fn bench_counted(work: &mut dyn FnMut()) {
     work();
 }
 
-/// The rows of the cases, from the files `out.1`, `out.2` and so on.
-pub fn read(cases: &[Case], folder: &Path) -> Result<Vec<Row>, String> {
-    let mut files = (1..).map(|k| folder.join(format!("out.{k}")));
-    let row = |case: &Case| {
-        let of_case = files.by_ref().take(contenders(case.work).len());
-        let counts: Result<Vec<f64>, String> = of_case.map(|file| total(&file)).collect();
-        Ok(Row::new(case, &counts?))
-    };
-    cases.iter().map(row).collect()
-}
-
-fn total(file: &Path) -> Result<f64, String> {
+/// The numbers of the file, which has a line for each contender of each task.
+pub fn read(contenders: impl Iterator<Item = usize>, file: &Path) -> Result<Vec<Vec<f64>>, String> {
     let fault = |what: String| format!("{}: {what}", file.display());
     let text = std::fs::read_to_string(file).map_err(|e| fault(e.to_string()))?;
-    let line = text.lines().find_map(|line| line.strip_prefix("totals: "));
-    line.and_then(|it| it.trim().parse().ok())
-        .ok_or_else(|| fault("no line of totals".into()))
+    let mut lines = text.lines();
+    let mut number = || {
+        let line = lines.next().ok_or_else(|| fault("too few lines".into()))?;
+        line.trim().parse().map_err(|_| fault(format!("{line} is no number")))
+    };
+    contenders.map(|len| (0..len).map(|_| number()).collect()).collect()
 }

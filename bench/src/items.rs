@@ -1,6 +1,9 @@
 //! Items of each size, and the calls on them.
 
+use std::hint::black_box;
+
 use crate::cases::{Case, Work};
+use crate::measure::{Runner, Task};
 #[cfg(library)]
 use over_library::{reverse, reverse_rows, transpose};
 #[cfg(not(library))]
@@ -32,7 +35,7 @@ pub const SIZES: &[usize] = &[1, 2, 4, 8, 12, 16, 20, 24, 32, 40, 48, 64];
 #[cfg(not(library))]
 pub const SIZES: &[usize] = &[1, 2, 3, 4, 8, 12, 16, 20, 24, 32, 40, 48, 64];
 
-pub trait Item: Copy + PartialEq + Send + Sync {
+pub trait Item: Copy + PartialEq + Send + Sync + 'static {
     fn numbered(i: usize) -> Self;
 }
 
@@ -56,42 +59,48 @@ impl<T: Item, const N: usize> Item for [T; N] {
     }
 }
 
-/// What is done with a case whose item type is known.
-pub trait Visitor {
-    type Answer;
+impl Task for Case {
+    fn contenders(&self) -> usize {
+        contenders(self.work).len()
+    }
 
-    fn visit<T: Item>(self, case: &Case) -> Self::Answer;
-}
-
-pub fn visit<V: Visitor>(case: &Case, visitor: V) -> V::Answer {
-    match case.item_size {
-        1 => visitor.visit::<u8>(case),
-        2 => visitor.visit::<u16>(case),
-        #[cfg(not(library))]
-        3 => visitor.visit::<[u8; 3]>(case),
-        4 => visitor.visit::<u32>(case),
-        8 => visitor.visit::<u64>(case),
-        12 => visitor.visit::<[u32; 3]>(case),
-        16 => visitor.visit::<[u64; 2]>(case),
-        20 => visitor.visit::<[u32; 5]>(case),
-        24 => visitor.visit::<[u64; 3]>(case),
-        32 => visitor.visit::<[u64; 4]>(case),
-        40 => visitor.visit::<[u64; 5]>(case),
-        48 => visitor.visit::<[u64; 6]>(case),
-        64 => visitor.visit::<[u64; 8]>(case),
-        size => unreachable!("there are no items of {size} bytes"),
+    fn prepare(&self) -> Runner {
+        match self.item_size {
+            1 => runner::<u8>(self),
+            2 => runner::<u16>(self),
+            #[cfg(not(library))]
+            3 => runner::<[u8; 3]>(self),
+            4 => runner::<u32>(self),
+            8 => runner::<u64>(self),
+            12 => runner::<[u32; 3]>(self),
+            16 => runner::<[u64; 2]>(self),
+            20 => runner::<[u32; 5]>(self),
+            24 => runner::<[u64; 3]>(self),
+            32 => runner::<[u64; 4]>(self),
+            40 => runner::<[u64; 5]>(self),
+            48 => runner::<[u64; 6]>(self),
+            64 => runner::<[u64; 8]>(self),
+            size => unreachable!("there are no items of {size} bytes"),
+        }
     }
 }
 
+fn runner<T: Item>(case: &Case) -> Runner {
+    let contenders = contenders(case.work);
+    let mut lists = Lists::<T>::new(case);
+    contenders.iter().for_each(|&contender| lists.check(contender));
+    Box::new(move |contender, times| lists.run(contenders[contender], times))
+}
+
 /// The lists of one case. A reversal works in `to`; a transpose goes from `from` to `to`, and so does a copy.
-pub struct Lists<T> {
+struct Lists<T> {
     case: Case,
     from: Vec<T>,
     to: Vec<T>,
 }
 
 #[derive(Clone, Copy, PartialEq, Eq)]
-pub enum Contender {
+enum Contender {
     Proved,
     #[cfg(original)]
     Original,
@@ -99,7 +108,7 @@ pub enum Contender {
 }
 
 /// What takes turns at a call. The original has no call for rows.
-pub fn contenders(work: Work) -> &'static [Contender] {
+fn contenders(work: Work) -> &'static [Contender] {
     match work {
         Work::Rows { .. } => &[Contender::Proved, Contender::Copy],
         _ => &[
@@ -112,7 +121,7 @@ pub fn contenders(work: Work) -> &'static [Contender] {
 }
 
 impl<T: Item> Lists<T> {
-    pub fn new(case: &Case) -> Self {
+    fn new(case: &Case) -> Self {
         let from: Vec<T> = (0..case.items()).map(T::numbered).collect();
         Lists {
             case: *case,
@@ -121,29 +130,37 @@ impl<T: Item> Lists<T> {
         }
     }
 
-    pub fn run(&mut self, contender: Contender) {
-        let (from, to) = (self.from.as_slice(), self.to.as_mut_slice());
+    /// Makes the contender's call so many times, each on what the one before left.
+    fn run(&mut self, contender: Contender, times: u32) {
+        let (from, to, row_width) = (self.from.as_slice(), self.to.as_mut_slice(), self.case.row_width());
         match (contender, self.case.work) {
-            (Contender::Proved, Work::Reverse { .. }) => reverse(to),
-            (Contender::Proved, Work::Rows { .. }) => reverse_rows(to, self.case.row_width()),
-            (Contender::Proved, Work::Transpose { width, height }) => transpose(from, to, width, height),
+            (Contender::Proved, Work::Reverse { .. }) => repeat(times, to, (), |to, ()| reverse(to)),
+            (Contender::Proved, Work::Rows { .. }) => repeat(times, to, row_width, reverse_rows),
+            (Contender::Proved, Work::Transpose { width, height }) => {
+                repeat(times, to, (from, width, height), |to, (from, width, height)| {
+                    transpose(from, to, width, height)
+                })
+            }
             #[cfg(original)]
-            (Contender::Original, Work::Reverse { .. }) => p3_util::reverse_slice_index_bits(to),
+            (Contender::Original, Work::Reverse { .. }) => {
+                repeat(times, to, (), |to, ()| p3_util::reverse_slice_index_bits(to))
+            }
             #[cfg(original)]
             (Contender::Original, Work::Rows { .. }) => unreachable!("the original has no call for rows"),
             #[cfg(original)]
             (Contender::Original, Work::Transpose { width, height }) => {
-                p3_util::transpose::transpose(from, to, width, height)
+                repeat(times, to, (from, width, height), |to, (from, width, height)| {
+                    p3_util::transpose::transpose(from, to, width, height)
+                })
             }
-            (Contender::Copy, _) => to.copy_from_slice(from),
+            (Contender::Copy, _) => repeat(times, to, from, |to, from| to.copy_from_slice(from)),
         }
-        std::hint::black_box(&mut self.to);
     }
 
     /// Runs once from the same start and compares the list with what the definition says, item by item.
-    pub fn check(&mut self, contender: Contender) {
+    fn check(&mut self, contender: Contender) {
         self.to.copy_from_slice(&self.from);
-        self.run(contender);
+        self.run(contender, 1);
         let is_copy = contender == Contender::Copy;
         for (i, item) in self.to.iter().enumerate() {
             let source = if is_copy { i } else { self.case.source(i) };
@@ -155,4 +172,15 @@ impl<T: Item> Lists<T> {
             );
         }
     }
+}
+
+/// Makes the call so many times. Each call has a loop of its own, so that little time goes to anything else, and the
+/// compiler cannot know what the call is given.
+#[inline(never)]
+fn repeat<T, R: Copy>(times: u32, to: &mut [T], rest: R, call: impl Fn(&mut [T], R)) {
+    for _ in 0..times {
+        let (to, rest) = black_box((&mut *to, rest));
+        call(to, rest);
+    }
+    black_box(to);
 }

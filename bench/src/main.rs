@@ -1,25 +1,30 @@
-//! Measures the proved reversal and transpose beside a copy of the same bytes and, where it is linked, the original.
+//! Measures the proved calls beside the original's, where it is linked. Those on slices are measured beside a copy of
+//! the same bytes too.
 
 mod cases;
 mod counts;
 mod items;
 #[cfg(library)]
+#[path = "../../c/slices.rs"]
 mod library;
+mod measure;
 mod options;
 mod picture;
 mod table;
 mod timing;
+mod words;
 
 use std::process::ExitCode;
 
-use options::{Mode, Options};
-use table::Unit;
+use measure::measured;
+use options::Options;
+use table::Row;
 
 fn main() -> ExitCode {
     let options = match Options::from_words(std::env::args().skip(1)) {
         Ok(options) => options,
         Err(fault) => {
-            eprintln!("{fault}\n{}", options::USAGE);
+            eprintln!("{fault}\nbench/run --help lists the options");
             return ExitCode::from(2);
         }
     };
@@ -33,27 +38,27 @@ fn main() -> ExitCode {
 }
 
 fn run(options: &Options) -> Result<(), String> {
+    if options.words {
+        return words::run(options);
+    }
     let cases = cases::chosen(options);
-    let (rows, unit) = match &options.mode {
-        Mode::Help => {
-            println!("{}", options::USAGE);
-            return Ok(());
-        }
-        Mode::CountEach => {
-            cases.iter().for_each(|case| items::visit(case, counts::CountEach));
-            return Ok(());
-        }
-        Mode::Time => (timing::measure(&cases, options.runs), Unit::Nanoseconds),
-        Mode::Counts(folder) => (counts::read(&cases, folder)?, Unit::Instructions),
+    let Some(took) = measured(&cases, options)? else {
+        return Ok(());
     };
-    let table = if options.wide {
-        table::wide(&rows, unit)
-    } else {
-        table::long(&rows, unit)
-    };
-    print!("{table}{}", table::summaries(&rows));
+    let rows: Vec<Row> = cases
+        .iter()
+        .zip(&took)
+        .map(|(case, took)| Row::new(case, took))
+        .collect();
+    let table = if options.wide { table::wide } else { table::long };
+    print!(
+        "{}{}",
+        table(&rows, options.unit()),
+        table::summaries(&rows, &options.items)
+    );
     if let Some(file) = &options.svg {
-        std::fs::write(file, picture::svg(&rows)).map_err(|e| format!("{}: {e}", file.display()))?;
+        let svg = picture::svg(&rows, options.cpu.as_deref());
+        std::fs::write(file, svg).map_err(|e| format!("{}: {e}", file.display()))?;
     }
     Ok(())
 }

@@ -1,41 +1,34 @@
-//! The words of the command line.
+//! The words of the command line, which `bench/run --help` explains.
 
 use std::path::PathBuf;
+use std::str::FromStr;
 
-use crate::cases::CALLS;
+use crate::cases::{CALLS, distinct};
 use crate::items::SIZES;
-
-pub const USAGE: &str = "\
-options:
-  --calls reverse,transpose   which calls, of reverse rows transpose (all)
-  --items 1,4,8,32            sizes of an item in bytes, of 1 2 3 4 8 12 16 20 24 32 40 48 64, 3 without --library (1,4,8,32)
-  --sizes 2-22                reversals of 2^2 to 2^22 items; also a list, as 3,7,13 (2-22)
-  --rows 64x16,1024x256       reversals of rows of so many bytes, a multiple of 32, by so many rows, a power of two
-                              (the table of docs/PERFORMANCE.md), where a row is of whole items; the time is that of a row
-  --shapes 16x16,300x60       transposes of so many columns by so many rows (the table of docs/PERFORMANCE.md)
-  --runs N                    at least N runs of each, of which the least counts (9)
-  --wide                      one line for each shape, and a column for each size of an item
-  --svg FILE                  writes the table as a picture too";
+use crate::table::Unit;
 
 pub enum Mode {
-    Help,
+    /// Measures times.
     Time,
-    /// Runs each case once, in a function that callgrind knows by its name.
-    CountEach,
-    /// Prints what callgrind left in this folder.
-    Counts(PathBuf),
+    /// Makes so many calls of each contender, and so many, while others count the instructions.
+    Count(Vec<u32>),
+    /// Prints what was counted and is in this file.
+    Counted(PathBuf),
 }
 
 pub struct Options {
     pub mode: Mode,
+    pub words: bool,
     pub calls: Vec<String>,
-    pub items: Vec<usize>,
+    /// Sets of sizes, each summed up by itself.
+    pub items: Vec<Vec<usize>>,
     pub sizes: Vec<u32>,
     pub rows: Vec<(usize, usize)>,
     pub shapes: Vec<(usize, usize)>,
     pub runs: usize,
     pub wide: bool,
     pub svg: Option<PathBuf>,
+    pub cpu: Option<String>,
 }
 
 /// Bytes of a row, and rows. The greatest list has 256 KB.
@@ -43,40 +36,64 @@ const ROWS: &str = "64x16,64x64,64x256,64x1024,64x4096,128x16,128x64,128x256,128
     256x1024,1024x16,1024x64,1024x256";
 
 /// Columns and rows.
-const SHAPES: &str = "2x2,3x3,4x4,5x5,6x6,7x7,8x8,15x17,16x16,17x19,64x64,63x50,300x60,512x512,1024x1024,1025x1024,2048x2048,2003x757,\
-    4096x16,16x65536,1000x1024,300x4096,100x16384,40x65536,12x262144,65536x40,4096x4096,262144x12";
+pub const SHAPES: &str = "2x2,3x3,4x4,5x5,6x6,7x7,8x8,15x17,16x16,17x19,64x64,63x50,300x60,512x512,1024x1024,\
+    1025x1024,2048x2048,2003x757,4096x16,16x65536,1000x1024,300x4096,100x16384,40x65536,12x262144,65536x40,4096x4096,\
+    262144x12";
+
+/// Columns and rows of matrices whose rows are long. Some are among `SHAPES` too.
+pub const WIDE_SHAPES: &str = "1024x2048,2048x1024,2048x2048,4096x512,4096x4096,8192x256,8192x1024,16384x128,16384x256,\
+    16384x100,32768x64,32768x100,65536x20,65536x40,65536x100,131072x24,262144x12,6144x700,12288x300,20000x100,50000x37";
 
 impl Options {
-    pub fn from_words(mut words: impl Iterator<Item = String>) -> Result<Self, String> {
-        let mut options = Options {
+    fn new() -> Result<Self, String> {
+        let shapes: Vec<_> = list(SHAPES, shape)?;
+        Ok(Options {
             mode: Mode::Time,
+            words: false,
             calls: CALLS.map(String::from).into(),
-            items: vec![1, 4, 8, 32],
+            items: Vec::new(),
             sizes: (2..=22).collect(),
             rows: list(ROWS, rows)?,
-            shapes: list(SHAPES, shape)?,
+            shapes: distinct(shapes.into_iter().chain(list(WIDE_SHAPES, shape)?)),
             runs: 9,
             wide: false,
             svg: None,
-        };
+            cpu: None,
+        })
+    }
+
+    pub fn from_words(mut words: impl Iterator<Item = String>) -> Result<Self, String> {
+        let mut options = Options::new()?;
         while let Some(word) = words.next() {
             let mut value = || words.next().ok_or_else(|| format!("{word} wants a value"));
             match word.as_str() {
-                "--help" => options.mode = Mode::Help,
+                "--words" => options.words = true,
                 "--calls" => options.calls = list(&value()?, call)?,
-                "--items" => options.items = list(&value()?, item)?,
+                "--items" => options.items.push(list(&value()?, item)?),
                 "--sizes" => options.sizes = sizes(&value()?)?,
                 "--rows" => options.rows = list(&value()?, rows)?,
                 "--shapes" => options.shapes = list(&value()?, shape)?,
                 "--runs" => options.runs = number(&value()?)?,
                 "--wide" => options.wide = true,
                 "--svg" => options.svg = Some(value()?.into()),
-                "--count-each" => options.mode = Mode::CountEach,
-                "--counts" => options.mode = Mode::Counts(value()?.into()),
+                "--cpu" => options.cpu = Some(value()?),
+                "--count" => options.mode = Mode::Count(list(&value()?, number)?),
+                "--counted" => options.mode = Mode::Counted(value()?.into()),
                 _ => return Err(format!("unknown option {word}")),
             }
         }
+        if options.items.is_empty() {
+            options.items.push(vec![1, 4, 8, 32]);
+        }
         Ok(options)
+    }
+
+    /// What is measured.
+    pub fn unit(&self) -> Unit {
+        match self.mode {
+            Mode::Time => Unit::Nanoseconds,
+            Mode::Count(_) | Mode::Counted(_) => Unit::Instructions,
+        }
     }
 }
 
@@ -84,7 +101,7 @@ fn list<T>(text: &str, read: fn(&str) -> Result<T, String>) -> Result<Vec<T>, St
     text.split(',').map(read).collect()
 }
 
-fn number(text: &str) -> Result<usize, String> {
+fn number<N: FromStr>(text: &str) -> Result<N, String> {
     text.parse().map_err(|_| format!("{text} is no number"))
 }
 

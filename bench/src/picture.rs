@@ -2,7 +2,8 @@
 
 use std::fmt::Write;
 
-use crate::table::{Row, distinct};
+use crate::cases::distinct;
+use crate::table::Row;
 
 const WIDTH: f64 = 900.0;
 const PANEL: f64 = 330.0;
@@ -28,8 +29,10 @@ const COLORS: [(usize, &str); 16] = [
     (128, "#000000"),
 ];
 
-/// The time of each row beside the original's, or beside a copy's where the original was not measured.
-pub fn svg(rows: &[Row]) -> String {
+/// The time of each row beside the original's, or beside a copy's where the original was not measured. The heads of the
+/// panels name the processor that the code was built for.
+pub fn svg(rows: &[Row], cpu: Option<&str>) -> String {
+    let build = cpu.map_or(String::new(), |cpu| format!(", built for {cpu}"));
     let calls = distinct(rows.iter().map(Row::call));
     let height = PANEL * calls.len() as f64;
     let mut out = format!(
@@ -40,7 +43,7 @@ pub fn svg(rows: &[Row]) -> String {
     for (k, call) in calls.iter().enumerate() {
         let group: Vec<&Row> = rows.iter().filter(|it| it.call() == *call).collect();
         let _ = writeln!(out, "<g transform=\"translate(0 {})\">", PANEL * k as f64);
-        panel(&mut out, call, &group);
+        panel(&mut out, &format!("{call}{build}"), &group);
         out.push_str("</g>\n");
     }
     out.push_str("</svg>\n");
@@ -75,12 +78,13 @@ impl Scale {
     }
 }
 
-fn panel(out: &mut String, call: &str, rows: &[&Row]) {
+fn panel(out: &mut String, head: &str, rows: &[&Row]) {
     let scale = Scale::of(rows);
     let beside = rows[0].beside();
     let _ = writeln!(
         out,
-        "<text x=\"{LEFT}\" y=\"16\" font-size=\"14\">{call}: time, where {beside} takes 1</text>"
+        "<text x=\"{LEFT}\" y=\"16\" font-size=\"14\">{head}: time for items of so many bytes, where {beside} takes \
+         1</text>"
     );
     grid(out, &scale);
     let mut place = LEFT;
@@ -91,9 +95,9 @@ fn panel(out: &mut String, call: &str, rows: &[&Row]) {
         }
         let _ = writeln!(
             out,
-            "<text x=\"{place}\" y=\"32\" fill=\"{color}\">items of {size} bytes</text>"
+            "<text x=\"{place}\" y=\"32\" fill=\"{color}\">items of {size}</text>"
         );
-        place += 110.0;
+        place += 66.0;
         curve(out, &scale, &line, color);
     }
 }

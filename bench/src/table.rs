@@ -2,7 +2,7 @@
 
 use std::fmt::Write;
 
-use crate::cases::{CALLS, Case};
+use crate::cases::{CALLS, Case, GROUPS, distinct};
 
 #[derive(Clone, Copy)]
 pub enum Unit {
@@ -64,7 +64,7 @@ impl Row {
 }
 
 impl Unit {
-    fn name(self) -> &'static str {
+    pub fn name(self) -> &'static str {
         match self {
             Unit::Nanoseconds => "ns",
             Unit::Instructions => "instructions",
@@ -109,8 +109,8 @@ pub fn wide(rows: &[Row], unit: Unit) -> String {
         let _ = writeln!(out, "\n|---|{}", "---|".repeat(sizes.len()));
         for shape in distinct(group.iter().map(|row| row.case.work.shape())) {
             let _ = write!(out, "| {shape} |");
-            for row in group.iter().filter(|row| row.case.work.shape() == shape) {
-                let _ = write!(out, " {} |", cell(row, unit));
+            for &size in &sizes {
+                let _ = write!(out, " {} |", cell(&group, &shape, size, unit));
             }
             out.push('\n');
         }
@@ -119,7 +119,12 @@ pub fn wide(rows: &[Row], unit: Unit) -> String {
     out
 }
 
-fn cell(row: &Row, unit: Unit) -> String {
+/// The cell of a shape and a size, empty where none of the rows is theirs.
+fn cell(rows: &[&Row], shape: &str, size: usize, unit: Unit) -> String {
+    let is_here = |case: Case| case.item_size == size && case.work.shape() == shape;
+    let Some(row) = rows.iter().find(|row| is_here(row.case)) else {
+        return String::new();
+    };
     let (an_item, unit, copies) = (row.an_item(), unit.name(), row.copies());
     match row.ratio() {
         Some(ratio) => format!("**{ratio:.2}** ({an_item:.2} {unit}, {copies:.1})"),
@@ -127,53 +132,55 @@ fn cell(row: &Row, unit: Unit) -> String {
     }
 }
 
-/// The different values, in the order in which they first come.
-pub fn distinct<T: PartialEq>(values: impl Iterator<Item = T>) -> Vec<T> {
-    let mut list = Vec::new();
-    for value in values {
-        if !list.contains(&value) {
-            list.push(value);
-        }
-    }
-    list
+/// For each set of sizes a table of what each group of rows comes to, in all and for each size.
+pub fn summaries(rows: &[Row], sets: &[Vec<usize>]) -> String {
+    sets.iter().map(|sizes| summary(rows, sizes)).collect()
 }
 
-/// What each group of rows comes to.
-pub fn summaries(rows: &[Row]) -> String {
-    let mut out = String::new();
-    for call in CALLS {
-        let of_call: Vec<&Row> = rows.iter().filter(|row| row.call() == call).collect();
-        for size in distinct(of_call.iter().map(|row| row.case.item_size)) {
-            let group: Vec<&Row> = of_call
-                .iter()
-                .copied()
-                .filter(|row| row.case.item_size == size)
-                .collect();
-            summary(&mut out, &format!("{call}, items of {size}"), &group);
-        }
-        for name in distinct(of_call.iter().map(|row| row.case.work.group())) {
-            let group: Vec<&Row> = of_call
-                .iter()
-                .copied()
-                .filter(|row| row.case.work.group() == name)
-                .collect();
-            summary(&mut out, name, &group);
-        }
+fn summary(rows: &[Row], sizes: &[usize]) -> String {
+    let rows: Vec<&Row> = rows.iter().filter(|row| sizes.contains(&row.case.item_size)).collect();
+    let Some(first) = rows.first() else {
+        return String::new();
+    };
+    let mut out = format!("| beside {} | mean | worst | where |", first.beside());
+    for size in sizes {
+        let _ = write!(out, " items of {size} |");
     }
+    let _ = writeln!(out, "\n|---|---|---|---|{}", "---|".repeat(sizes.len()));
+    for (name, has) in GROUPS {
+        let group: Vec<&Row> = rows.iter().copied().filter(|row| has(row.case.work)).collect();
+        line(&mut out, name, &group, sizes);
+    }
+    out.push('\n');
     out
 }
 
-/// The geometric mean and the worst of a group of rows.
-fn summary(out: &mut String, name: &str, rows: &[&Row]) {
-    let Some(worst) = rows.iter().max_by(|a, b| a.relative().total_cmp(&b.relative())) else {
+/// The mean and the worst of a group, and the mean for each size.
+fn line(out: &mut String, name: &str, group: &[&Row], sizes: &[usize]) {
+    let Some(worst) = group.iter().max_by(|a, b| a.relative().total_cmp(&b.relative())) else {
         return;
     };
-    let logs: f64 = rows.iter().map(|row| row.relative().ln()).sum();
-    let mean = (logs / rows.len() as f64).exp();
-    let (beside, most) = (worst.beside(), worst.relative());
-    let (size, shape) = (worst.case.item_size, worst.case.work.shape());
-    let _ = writeln!(
+    let (most, size, shape) = (worst.relative(), worst.case.item_size, worst.case.work.shape());
+    let _ = write!(
         out,
-        "{name}: beside {beside} {mean:.2} in the geometric mean, {most:.2} at the worst ({shape}, items of {size})"
+        "| {name} | {} | {most:.2} | {shape}, items of {size} |",
+        mean(group.iter())
     );
+    for &size in sizes {
+        let _ = write!(
+            out,
+            " {} |",
+            mean(group.iter().filter(|row| row.case.item_size == size))
+        );
+    }
+    out.push('\n');
+}
+
+/// The geometric mean as text, empty for no rows.
+fn mean<'a>(rows: impl Iterator<Item = &'a &'a Row>) -> String {
+    let logs: Vec<f64> = rows.map(|row| row.relative().ln()).collect();
+    match logs.len() {
+        0 => String::new(),
+        len => format!("{:.2}", (logs.iter().sum::<f64>() / len as f64).exp()),
+    }
 }

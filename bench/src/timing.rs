@@ -2,71 +2,51 @@
 
 use std::time::Duration;
 
-use crate::cases::Case;
-use crate::items::{self, Contender, Item, Lists, Visitor, contenders};
-use crate::table::Row;
-
-/// A run repeats its call until it takes at least this long.
+/// A run repeats its task until it takes at least this long.
 const LEAST_RUN: Duration = Duration::from_micros(100);
 
-/// The runs of a case go on for this long, where the least number of them takes less.
-const CASE: Duration = Duration::from_millis(60);
+/// The runs of a task go on for this long, where the least number of them takes less.
+const TASK: Duration = Duration::from_millis(60);
 
-pub fn measure(cases: &[Case], runs: usize) -> Vec<Row> {
-    cases.iter().map(|case| items::visit(case, Measure { runs })).collect()
-}
-
-struct Measure {
-    runs: usize,
-}
-
-impl Visitor for Measure {
-    type Answer = Row;
-
-    fn visit<T: Item>(self, case: &Case) -> Row {
-        let mut lists = Lists::<T>::new(case);
-        let contenders = contenders(case.work);
-        contenders.iter().for_each(|&it| lists.check(it));
-        let repeats: Vec<u32> = contenders.iter().map(|&it| repeats(&mut lists, it)).collect();
-        let mut least = vec![f64::INFINITY; contenders.len()];
-        let start = processor_time();
-        let mut done = 0;
-        while done < self.runs || processor_time() - start < CASE {
-            for k in turn(done, contenders.len()) {
-                let contender = contenders[k];
-                let time = run(&mut lists, contender, repeats[k]).as_secs_f64() * 1e9;
-                // On a virtual machine the clock may stay for a while.
-                if time > 0.0 {
-                    least[k] = least[k].min(time / f64::from(repeats[k]));
-                }
+/// The nanoseconds that each contender takes at the least, in so many runs or more. `runner` has the contender of this
+/// number, from 0 on, do its task so many times.
+pub fn least(contenders: usize, runs: usize, runner: &mut dyn FnMut(usize, u32)) -> Vec<f64> {
+    let repeats: Vec<u32> = (0..contenders).map(|k| repeats(runner, k)).collect();
+    let mut least = vec![f64::INFINITY; contenders];
+    let start = processor_time();
+    let mut done = 0;
+    while done < runs || processor_time() - start < TASK {
+        for k in turn(done, contenders) {
+            let time = run(runner, k, repeats[k]).as_secs_f64() * 1e9;
+            // On a virtual machine the clock may stay for a while.
+            if time > 0.0 {
+                least[k] = least[k].min(time / f64::from(repeats[k]));
             }
-            done += 1;
         }
-        Row::new(case, &least)
+        done += 1;
     }
+    least
 }
 
 /// The order of `len` contenders in a round: each one comes first in turn, and each other round goes backwards, so that
 /// each comes after each other one. What the one before left in the caches is thus shared out evenly.
 fn turn(round: usize, len: usize) -> impl Iterator<Item = usize> {
-    let step = if round % 2 == 0 { 1 } else { len - 1 };
+    let step = if round.is_multiple_of(2) { 1 } else { len - 1 };
     (0..len).map(move |i| (round / 2 + i * step) % len)
 }
 
-/// How often a call is repeated in one run.
-fn repeats<T: Item>(lists: &mut Lists<T>, contender: Contender) -> u32 {
+/// How often a contender repeats its task in one run.
+fn repeats(runner: &mut dyn FnMut(usize, u32), contender: usize) -> u32 {
     let mut repeats = 1;
-    while run(lists, contender, repeats) < LEAST_RUN {
+    while run(runner, contender, repeats) < LEAST_RUN {
         repeats *= 2;
     }
     repeats
 }
 
-fn run<T: Item>(lists: &mut Lists<T>, contender: Contender, repeats: u32) -> Duration {
+fn run(runner: &mut dyn FnMut(usize, u32), contender: usize, repeats: u32) -> Duration {
     let start = processor_time();
-    for _ in 0..repeats {
-        lists.run(contender);
-    }
+    runner(contender, repeats);
     processor_time() - start
 }
 

@@ -1,46 +1,67 @@
-//! How long kernels take over views of rows of four numbers, and with a counter that goes on, beside the slice form on the
-//! same bytes.
+//! How long kernels take over views of rows of four numbers, and with a counter that goes on, beside the slice form on
+//! the same bytes.
+
+#[path = "../src/timing.rs"]
+mod timing;
 
 use std::hint::black_box;
-use std::time::{Duration, Instant};
 
 unsafe extern "C" {
     fn reverse_view(rows: *mut [u64; 4], len: usize) -> bool;
     fn reverse_slice(items: *mut u64, len: usize) -> bool;
     fn reverse_on(items: *mut u64, len: usize) -> bool;
-    fn transpose_view(input: *const u64, input_len: usize, rows: *mut [u64; 4], len: usize, width: usize, height: usize) -> bool;
-    fn transpose_slice(input: *const u64, input_len: usize, output: *mut u64, len: usize, width: usize, height: usize) -> bool;
-    fn transpose_over(input: *const u64, input_len: usize, output: *mut u64, len: usize, width: usize, height: usize) -> bool;
-    fn split_over(input: *const u64, input_len: usize, output: *mut u64, len: usize, width: usize, height: usize) -> bool;
+    fn transpose_view(
+        input: *const u64,
+        input_len: usize,
+        rows: *mut [u64; 4],
+        len: usize,
+        width: usize,
+        height: usize,
+    ) -> bool;
+    fn transpose_slice(
+        input: *const u64,
+        input_len: usize,
+        output: *mut u64,
+        len: usize,
+        width: usize,
+        height: usize,
+    ) -> bool;
+    fn transpose_over(
+        input: *const u64,
+        input_len: usize,
+        output: *mut u64,
+        len: usize,
+        width: usize,
+        height: usize,
+    ) -> bool;
+    fn split_over(
+        input: *const u64,
+        input_len: usize,
+        output: *mut u64,
+        len: usize,
+        width: usize,
+        height: usize,
+    ) -> bool;
 }
 
 const RUNS: usize = 400;
 
-/// The least time of one call in nanoseconds: many runs, in which the two forms take turns.
-fn least(mut form: impl FnMut() -> bool, mut slice: impl FnMut() -> bool) -> [f64; 2] {
-    let mut time = |slice_form: bool, calls: u32| {
-        let start = Instant::now();
-        for _ in 0..calls {
-            assert!(if slice_form { slice() } else { form() });
-        }
-        start.elapsed()
-    };
-    let mut calls = 1;
-    while time(false, calls) < Duration::from_micros(100) {
-        calls *= 2;
-    }
-    let mut least = [f64::INFINITY; 2];
-    for run in 0..2 * RUNS {
-        let form = (run + run / 2) % 2;
-        let each = time(form == 1, calls).as_secs_f64() * 1e9 / f64::from(calls);
-        least[form] = least[form].min(each);
-    }
-    least
+/// The least nanoseconds of a form and of the slice form, of many runs in which they take turns.
+fn least(form: impl Fn() -> bool, slice: impl Fn() -> bool) -> [f64; 2] {
+    let times = timing::least(2, RUNS, &mut |k, times| {
+        (0..times).for_each(|_| assert!(if k == 0 { form() } else { slice() }))
+    });
+    [times[0], times[1]]
 }
 
 fn print(name: &str, items: usize, [form, slice]: [f64; 2]) {
     let n = items as f64;
-    println!("{name:<36} {:6.2} ns an item, slice {:6.2}, {:.2} times", form / n, slice / n, form / slice);
+    println!(
+        "{name:<36} {:6.2} ns an item, slice {:6.2}, {:.2} times",
+        form / n,
+        slice / n,
+        form / slice
+    );
 }
 
 fn main() {
@@ -49,7 +70,10 @@ fn main() {
         let mut items: Vec<u64> = (0..len as u64).collect();
         let at = black_box(items.as_mut_ptr());
         // The pointer is to `len` numbers, which are rows of four too.
-        let view = least(|| unsafe { reverse_view(at.cast(), len / 4) }, || unsafe { reverse_slice(at, len) });
+        let view = least(
+            || unsafe { reverse_view(at.cast(), len / 4) },
+            || unsafe { reverse_slice(at, len) },
+        );
         print(&format!("reversal of 2^{log_len}, a view"), len, view);
         let kept = least(|| unsafe { reverse_on(at, len) }, || unsafe { reverse_slice(at, len) });
         print(&format!("reversal of 2^{log_len}, a counter"), len, kept);
@@ -61,7 +85,10 @@ fn main() {
         let (from, to) = (black_box(input.as_ptr()), black_box(output.as_mut_ptr()));
         // The pointers are to `len` numbers each.
         let slice = || unsafe { transpose_slice(from, len, to, len, side, side) };
-        let view = least(|| unsafe { transpose_view(from, len, to.cast(), len / 4, side, side) }, slice);
+        let view = least(
+            || unsafe { transpose_view(from, len, to.cast(), len / 4, side, side) },
+            slice,
+        );
         print(&format!("transpose of {side} x {side}, a view"), len, view);
         let kept = least(|| unsafe { transpose_over(from, len, to, len, side, side) }, slice);
         print(&format!("transpose of {side} x {side}, a counter"), len, kept);

@@ -1,4 +1,6 @@
-//! The calls of the static library, by the size of an item. Each returns whether its condition holds.
+//! The calls of the static library on slices, for a program in Rust. Each returns whether its condition holds.
+//!
+//! This is for the repository's own programs: `bench/src/main.rs` and `release/users/both.rs` include it.
 
 use std::ffi::c_void;
 

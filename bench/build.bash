@@ -1,0 +1,48 @@
+# Sourced by run and aarch64. Reads their options, and builds the package and the benchmark in the folder `out` by the
+# command `rust`. The options that are the benchmark's own are added to `options`.
+original=
+cpu=
+library=
+checked=
+instructions=
+while [ $# -gt 0 ]; do
+    case $1 in
+    --help)
+        cat "$here/help.txt"
+        exit
+        ;;
+    --original)
+        original=${2:?--original FILE}
+        shift
+        ;;
+    --cpu)
+        cpu=${2:?--cpu CPU}
+        options+=(--cpu "$cpu")
+        shift
+        ;;
+    --library) library=yes ;;
+    --checked) checked=yes ;;
+    --instructions) instructions=yes ;;
+    *) options+=("$1") ;;
+    esac
+    shift
+done
+
+mkdir -p "$out"
+rust+=(--edition 2024 -C opt-level=3 ${cpu:+-C target-cpu="$cpu"})
+"${rust[@]}" --crate-type lib --crate-name p3_util_proved --check-cfg 'cfg(test)' \
+    --check-cfg 'cfg(feature, values("checked"))' ${checked:+--cfg 'feature="checked"'} \
+    -o "$out/libp3_util_proved.rlib" "$here/../rust/src/lib.rs"
+link=(--extern "p3_util_proved=$out/libp3_util_proved.rlib")
+if [ -n "$library" ]; then
+    crate=$here/../crates/p3_util_c
+    (cd "$crate" && rt lib ${cpu:+--cpu "$cpu"}) >"$out/rt.log" 2>&1 || {
+        tail -n 40 "$out/rt.log" >&2
+        exit 1
+    }
+    link+=(-L "native=$crate/out" -l static=p3_util_c --cfg library)
+fi
+if [ -n "$original" ]; then
+    link+=(--extern "p3_util=$original" --cfg original)
+fi
+"${rust[@]}" --check-cfg 'cfg(original, library)' --crate-name bench "${link[@]}" -o "$out/bench" "$here/src/main.rs"
