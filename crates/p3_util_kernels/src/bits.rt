@@ -119,8 +119,9 @@ pub const fn checked_pow2(log_degree: usize) -> Option<usize>
 pub const fn checked_log_size_sum(a: usize, b: usize) -> Option<(usize, usize)>
     ensures { SomeIff result (a + b < 64) (a + b, 2 ^ (a + b)) }
 {
-    if a < 64 && b < 64 - a {
-        Some((a + b, 1 << (a + b)))
+    let sum = a.saturating_add(b);
+    if sum < 64 {
+        Some((sum, 1 << sum))
     } else {
         None
     }
