@@ -1,8 +1,8 @@
 #!/usr/bin/env bash
-# Runs README's first command as it stands there, and compares what it prints with what README says.
+# Runs the first of README's two commands as it stands there, and compares what it prints with what README says.
 set -euo pipefail
 cd "$(dirname "$0")/.."
-line=$(awk '/^```sh$/ { getline; print; exit }' README.md)
+line=$(grep -m 1 '^(cd crates/' README.md)
 command=${line%%   #*} wanted=${line##*# }
 printed=$(bash -c "$command")
 if [ "$printed" != "$wanted" ]; then

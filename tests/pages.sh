@@ -1,5 +1,6 @@
 #!/usr/bin/env bash
-# Compares the pages with the code (tests/facts.py), and docs/CONTRACTS.md with what tests/contracts.py makes of it. Prints what
+# Compares the pages with the code (tests/facts.py), docs/CONTRACTS.md with what tests/contracts.py makes of it, the package's
+# license and notice with those of the repository, and the sum of the kit's logic with README's, where the kit is. Prints what
 # is wrong, a line each, and fails if anything is.
 set -euo pipefail
 cd "$(dirname "$0")/.."
@@ -19,4 +20,11 @@ if [ "$contracts" != "$(cat docs/CONTRACTS.md)" ]; then
     wrong=1
 fi
 python3 tests/facts.py || wrong=1
+for file in LICENSE NOTICE; do
+    cmp "$file" "rust/$file" || wrong=1
+done
+if kit=$(rt version 2>/dev/null) && ! grep -qF -- "\`${kit#* }\`" README.md; then
+    echo "README.md has another sum than the kit's: ${kit#* }"
+    wrong=1
+fi
 exit "$wrong"
