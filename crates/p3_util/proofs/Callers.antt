@@ -400,7 +400,7 @@ module _ {A : Type 0} where
       → IsRegionTransposed (record region { row_start = middle }) width height input mid new
       → IsRegionTransposed region width height input old new
   region_of_rows region middle width height input old mid new from to inside =
-      IsRegionTransposed-cut width height input region _ _ old mid new inside (IsCut-rows region middle middle from (omega arith) to)
+      IsRegionTransposed-cut width height input region _ _ old mid new inside (IsCut-rows region middle from to)
 
   pub region_of_cols : (region : Region) (middle width height : ℕ) (input old mid new : List A)
       → region.col_start ≤ middle → middle ≤ region.col_end → region.row_end ≤ height
@@ -408,7 +408,7 @@ module _ {A : Type 0} where
       → IsRegionTransposed (record region { col_start = middle }) width height input mid new
       → IsRegionTransposed region width height input old new
   region_of_cols region middle width height input old mid new from to inside =
-      IsRegionTransposed-cut width height input region _ _ old mid new inside (IsCut-cols region middle middle from (omega arith) to)
+      IsRegionTransposed-cut width height input region _ _ old mid new inside (IsCut-cols region middle from to)
 
 -- A list of 2 ^ log_size rows of 2 ^ log_stride items, in which squares lie side by side: the last place of each is inside the
 -- list, and one square more is transposed.

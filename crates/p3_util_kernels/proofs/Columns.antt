@@ -1,26 +1,12 @@
 -- Columns of a matrix put one after another, and items of a column.
-use Rattle.std.proofs.Common.{◌≡◌, ℕ, ◌+◌, ◌-◌, ◌*◌, ◌<◌, ◌≤◌, List, length, slice_get, set, Some, inl, inr, sym, ap, ◌∙◌, arith, length-set}
+use Rattle.std.proofs.Common.{◌≡◌, ℕ, ◌+◌, ◌-◌, ◌*◌, ◌<◌, ◌≤◌, List, length, inl, inr, ap, ◌∙◌, arith}
 use Rattle.std.proofs.lemmas.Bool.{cases_lt}
 use Rattle.std.proofs.lemmas.Nat.{mul-add-lt}
 use Rattle.p3_util_kernels.specs.declared.transpose.regions.Region.{Region}
 use Rattle.p3_util_kernels.specs.Columns.{HoldsColumn, IsColumnPut}
 use Rattle.p3_util_kernels.specs.Region.{IsReady, IsRegionTransposed, rows_of}
-use Rattle.p3_util_kernels.proofs.Exchange.{slice_get-set_same, slice_get-set_other}
 
 module _ {A : Type 0} (width : ℕ) (input : List A) where
-  -- one item
-  pub IsColumnPut-item : (from to : ℕ) (v : A) (old new : List A) → slice_get input from ≡ Some v → to < length old → new ≡ set old to v
-      → IsColumnPut 1 from width to input old new
-  IsColumnPut-item from to v old new read room put = rw put (record {
-    same_length = length-set old to v;
-    places = λ t ht.
-        let et : t ≡ 0 = omega arith in
-        let there : to + t ≡ to = omega arith in
-        let here : from + t * width ≡ from = rw et (omega arith) in
-        rw (there, here) (slice_get-set_same old to v room ∙ sym read);
-    others = λ p out. slice_get-set_other old to p v (λ e. elim out [ inl before ↦ omega arith | inr after ↦ omega arith ]);
-  })
-
   -- some items, and then some more
   pub IsColumnPut-more : (rows more from to : ℕ) (old mid new : List A)
       → IsColumnPut rows from width to input old mid

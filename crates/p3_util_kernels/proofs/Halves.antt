@@ -58,7 +58,7 @@ AreHalves-rows whole deep high order =
     let rest : whole.row_end - middle ≡ rows - rows / 2 = omega arith in
     let s = IsHalved-of rows (middle - whole.row_start) (whole.row_end - middle) (cols_of whole) high half rest in
     record {
-      cut = IsCut-rows whole middle middle (omega arith) (omega arith) (omega arith);
+      cut = IsCut-rows whole middle (omega arith) (omega arith);
       items = mul-parts_left (middle - whole.row_start) (whole.row_end - middle) rows (cols_of whole) (omega arith);
       first_inside = λ w h k. record { rows_in_order = omega arith; rows_inside = omega (arith, k.rows_inside); cols_in_order = k.cols_in_order; cols_inside = k.cols_inside };
       second_inside = λ w h k. record { rows_in_order = omega arith; rows_inside = k.rows_inside; cols_in_order = k.cols_in_order; cols_inside = k.cols_inside };
@@ -76,7 +76,7 @@ AreHalves-cols whole deep wide order =
     let rest : whole.col_end - middle ≡ cols - cols / 2 = omega arith in
     let s = IsHalved-of cols (middle - whole.col_start) (whole.col_end - middle) (rows_of whole) wide half rest in
     record {
-      cut = IsCut-cols whole middle middle (omega arith) (omega arith) (omega arith);
+      cut = IsCut-cols whole middle (omega arith) (omega arith);
       items = mul-parts_right (middle - whole.col_start) (whole.col_end - middle) cols (rows_of whole) (omega arith);
       first_inside = λ w h k. record { rows_in_order = k.rows_in_order; rows_inside = k.rows_inside; cols_in_order = omega arith; cols_inside = omega (arith, k.cols_inside) };
       second_inside = λ w h k. record { rows_in_order = k.rows_in_order; rows_inside = k.rows_inside; cols_in_order = omega arith; cols_inside = k.cols_inside };

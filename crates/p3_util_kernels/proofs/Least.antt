@@ -1,95 +1,79 @@
 -- How many places a list of exchanges or of writes changes, how many numbers are their own reverse, and what follows for
 -- the least number of steps.
-use Rattle.std.proofs.Common.{◌≡◌, ◌≢◌, ◌↔◌, ◌⊎◌, ℕ, zero, suc, Bool, true, false, not, ◌==◌, ◌&&◌, ◌+◌, ◌-◌, ◌*◌, ◌/◌, ◌%◌, ◌^◌, ◌<◌, ◌≤◌, IsTrue, List, [], ◌∷◌, length, slice_get, slice_set, refl, sym, ◌∙◌, ap, arith, inl, inr}
+use Rattle.std.proofs.Common.{◌≡◌, ◌≢◌, ◌↔◌, ℕ, zero, suc, Bool, true, false, cond, not, min, ◌==◌, ◌&&◌, ◌+◌, ◌-◌, ◌*◌, ◌/◌, ◌%◌, ◌^◌, ◌<◌, ◌≤◌, IsTrue, List, [], ◌∷◌, length, slice_get, slice_set, refl, sym, ◌∙◌, ap, arith, inl, inr}
 use Rattle.std.specs.List.{swap}
-use Rattle.std.proofs.Math.Nat.{pow-suc, mul-le-mul_right}
-use Rattle.std.proofs.lemmas.Bool.{cases_Bool, cases_eq, eqb-true, eq-eqb, ne_eqb, eqb-false, and_from, and_parts, not-true, both_ways, false_from_ne_true}
-use Rattle.std.proofs.lemmas.Nat.{same_from_place, div-add-mod', div-mul-add}
+use Rattle.std.proofs.Math.Nat.{pow-suc}
+use Rattle.std.proofs.lemmas.Bool.{cases_eq, eqb-true, eq-eqb, ne_eqb, eqb-false, and_parts, not-true, both_ways, false_from_ne_true}
+use Rattle.std.proofs.lemmas.Nat.{same_from_place, div-add-mod', div-mul-add, mod-mul-add, mul-add-lt}
 use Rattle.p3_util_kernels.specs.Digits.{bit, rev, sum_below}
 use Rattle.p3_util_kernels.specs.Reversal.{IsReversal}
 use Rattle.p3_util_kernels.specs.SwapCounts.{short_swaps}
 use Rattle.p3_util_kernels.specs.Transpose.{IsTranspose}
 use Rattle.p3_util_kernels.proofs.Reversal.{IsReversal-places}
 use Rattle.p3_util_kernels.specs.Least.{after_swaps, after_puts, count_below, AllDiffer, AreApart, DifferWhere, SwapsChange, PutsChange, Palindromes, LeastReversal, LeastSquare, LeastPuts, ReversalDiffers, SquareDiffers}
-use Rattle.p3_util_kernels.proofs.Digits.{rev-zero, rev-suc, rev-lt, rev-mod, rev-add}
+use Rattle.p3_util_kernels.proofs.Digits.{sum_below-same, rev-zero, rev-suc, rev-lt, rev-mod, rev-add}
 use Rattle.p3_util_kernels.proofs.Exchange.{slice_get-set_other, slice_get-swap_other}
 use Rattle.p3_util_kernels.proofs.Matrix.{each_place}
 use Rattle.p3_util_kernels.proofs.Pairs.{mul-pred, twice-pairs}
 
--- a number that passes is counted, and no other
-count-pass : (n : ℕ) (t : ℕ → Bool) → t n ≡ true → count_below (suc n) t ≡ count_below n t + 1
-unfolding count_below sum_below
-count-pass n t e = rw e refl
-
-count-skip : (n : ℕ) (t : ℕ → Bool) → t n ≡ false → count_below (suc n) t ≡ count_below n t
-unfolding count_below sum_below
-count-skip n t e = rw e (omega arith)
+-- what a number that passes a test, or does not, adds to the count of those that do
+abbrev one : Bool → ℕ
+one b = cond b 1 0
 
 count-zero : (t : ℕ → Bool) → count_below zero t ≡ 0
 unfolding count_below sum_below
 count-zero t = refl
 
--- more numbers pass the weaker test
-count-le : (n : ℕ) (f g : ℕ → Bool) → ((i : ℕ) → i < n → f i ≡ true → g i ≡ true) → count_below n f ≤ count_below n g
-count-le zero f g h = omega (arith, count-zero f)
-count-le (suc n) f g h =
-    let below : count_below n f ≤ count_below n g = count-le n f g (λ i less. h i (omega arith)) in
-    elim (cases_Bool (f n)) [
-      | inl t ↦ omega (arith, count-pass n f t, count-pass n g (h n (omega arith) t))
-      | inr z ↦
-          elim (cases_Bool (g n)) [
-            | inl t ↦ omega (arith, count-skip n f z, count-pass n g t)
-            | inr z' ↦ omega (arith, count-skip n f z, count-skip n g z')
-          ]
-    ]
+count-suc : (n : ℕ) (t : ℕ → Bool) → count_below (suc n) t ≡ count_below n t + one (t n)
+unfolding count_below sum_below
+count-suc n t = refl
 
 count-same : (n : ℕ) (f g : ℕ → Bool) → ((i : ℕ) → i < n → f i ≡ g i) → count_below n f ≡ count_below n g
-count-same n f g h =
-    let up : count_below n f ≤ count_below n g = count-le n f g (λ i less t. sym (h i less) ∙ t) in
-    let down : count_below n g ≤ count_below n f = count-le n g f (λ i less t. h i less ∙ t) in
-    omega arith
+unfolding count_below
+count-same n f g h = sum_below-same n (λ i. one (f i)) (λ i. one (g i)) (λ i less. ap one (h i less))
 
 count-none : (n : ℕ) (t : ℕ → Bool) → ((i : ℕ) → i < n → t i ≡ true → ⊥) → count_below n t ≡ 0
 count-none zero t h = count-zero t
 count-none (suc n) t h =
-    count-skip n t (false_from_ne_true (t n) (h n (omega arith))) ∙ count-none n t (λ i less. h i (omega arith))
+    let last : t n ≡ false = false_from_ne_true (t n) (h n (omega arith)) in
+    count-suc n t ∙ rw last (omega (arith, count-none n t (λ i less. h i (omega arith))))
 
 count-all : (n : ℕ) → count_below n (λ i. true) ≡ n
 count-all zero = count-zero (λ i. true)
-count-all (suc n) = let below : count_below n (λ i. true) ≡ n = count-all n in omega (arith, count-pass n (λ i. true) refl)
+count-all (suc n) = omega (arith, count-suc n (λ i. true), count-all n)
 
 -- a number passes the test or its negation
+one-not : (b : Bool) → one (not b) + one b ≡ 1
+one-not true = refl
+one-not false = refl
+
 count-not : (n : ℕ) (t : ℕ → Bool) → count_below n (λ i. not (t i)) + count_below n t ≡ n
 count-not zero t = omega (arith, count-zero t, count-zero (λ i. not (t i)))
-count-not (suc n) t =
-    let below : count_below n (λ i. not (t i)) + count_below n t ≡ n = count-not n t in
-    elim (cases_Bool (t n)) [
-      | inl y ↦ omega (arith, count-pass n t y, count-skip n (λ i. not (t i)) (rw y refl))
-      | inr z ↦ omega (arith, count-skip n t z, count-pass n (λ i. not (t i)) (rw z refl))
-    ]
+count-not (suc n) t = omega (arith, count-not n t, count-suc n t, count-suc n (λ i. not (t i)), one-not (t n))
 
--- at most one number is p
-count-without : (n p : ℕ) (t : ℕ → Bool) → count_below n t ≤ count_below n (λ i. t i && not (i == p)) + 1
-count-without zero p t = omega (arith, count-zero t)
-count-without (suc n) p t =
-    let t' : ℕ → Bool = λ i. t i && not (i == p) in
-    elim (cases_eq n p) [
+-- what passes a test passes another one too, or not
+one-but : (b c : Bool) → one b ≤ one (b && not c) + one c
+one-but true true = omega arith
+one-but true false = omega arith
+one-but false c = omega arith
+
+count-but : (n : ℕ) (t s : ℕ → Bool) → count_below n t ≤ count_below n (λ i. t i && not (s i)) + count_below n s
+count-but zero t s = omega (arith, count-zero t)
+count-but (suc n) t s =
+    omega (arith, count-but n t s, count-suc n t, count-suc n (λ i. t i && not (s i)), count-suc n s, one-but (t n) (s n))
+
+-- at most one place of those that are apart is a
+count-place : (n a : ℕ) (place : ℕ → ℕ) → AreApart n place → count_below n (λ i. place i == a) ≤ 1
+count-place zero a place apart = omega (arith, count-zero (λ i. place i == a))
+count-place (suc n) a place apart =
+    let t : ℕ → Bool = λ i. place i == a in
+    let below : AreApart n place = λ i j hi hj. apart i j (omega arith) (omega arith) in
+    elim (cases_eq (place n) a) [
       | inl e ↦
-          let below : count_below n t ≤ count_below n t' =
-          count-le n t t' (λ i less y. and_from (t i) (not (i == p)) y (rw (ne_eqb i p (λ same. omega arith)) refl)) in
-          let out : t' n ≡ false = rw (eq-eqb n p e) (elim (cases_Bool (t n)) [ inl y ↦ rw y refl | inr z ↦ rw z refl ]) in
-          elim (cases_Bool (t n)) [
-            | inl y ↦ omega (arith, count-pass n t y, count-skip n t' out)
-            | inr z ↦ omega (arith, count-skip n t z, count-skip n t' out)
-          ]
-      | inr ne ↦
-          let below : count_below n t ≤ count_below n t' + 1 = count-without n p t in
-          elim (cases_Bool (t n)) [
-            | inl y ↦
-                let y' : t' n ≡ true = and_from (t n) (not (n == p)) y (rw (ne_eqb n p ne) refl) in
-                omega (arith, count-pass n t y, count-pass n t' y')
-            | inr z ↦ let z' : t' n ≡ false = rw z refl in omega (arith, count-skip n t z, count-skip n t' z')
-          ]
+          let none : count_below n t ≡ 0 =
+          count-none n t (λ i less y. absurd (omega (arith, apart i n (omega arith) (omega arith) (eqb-true (place i) a y ∙ sym e)))) in
+          omega (arith, count-suc n t, ap one (eq-eqb (place n) a e))
+      | inr ne ↦ omega (arith, count-suc n t, ap one (ne_eqb (place n) a ne), count-place n a place below)
     ]
 
 -- the numbers below a + b, in two parts
@@ -97,13 +81,7 @@ count-add : (a b : ℕ) (t : ℕ → Bool) → count_below (a + b) t ≡ count_b
 count-add a zero t = let e : a + 0 ≡ a = omega arith in rw e (omega (arith, count-zero (λ i. t (a + i))))
 count-add a (suc b) t =
     let e : a + suc b ≡ suc (a + b) = omega arith in
-    let s : ℕ → Bool = λ i. t (a + i) in
-    let below : count_below (a + b) t ≡ count_below a t + count_below b s = count-add a b t in
-    rw e
-    (elim (cases_Bool (t (a + b))) [
-      | inl y ↦ omega (arith, count-pass (a + b) t y, count-pass b s y)
-      | inr z ↦ omega (arith, count-skip (a + b) t z, count-skip b s z)
-    ])
+    rw e (omega (arith, count-add a b t, count-suc (a + b) t, count-suc b (λ i. t (a + i))))
 
 -- the even and the odd numbers
 count-double : (n : ℕ) (t : ℕ → Bool) → count_below (2 * n) t ≡ count_below n (λ i. t (2 * i)) + count_below n (λ i. t (2 * i + 1))
@@ -111,27 +89,16 @@ count-double zero t = omega (arith, count-zero t, count-zero (λ i. t (2 * i)), 
 count-double (suc n) t =
     let e : 2 * suc n ≡ suc (suc (2 * n)) = omega arith in
     let o : suc (2 * n) ≡ 2 * n + 1 = omega arith in
-    let even : ℕ → Bool = λ i. t (2 * i) in
-    let odd : ℕ → Bool = λ i. t (2 * i + 1) in
-    let below : count_below (2 * n) t ≡ count_below n even + count_below n odd = count-double n t in
-    let first : count_below (suc (2 * n)) t + count_below n even ≡ count_below (2 * n) t + count_below (suc n) even =
-    elim (cases_Bool (t (2 * n))) [
-      | inl y ↦ omega (arith, count-pass (2 * n) t y, count-pass n even y)
-      | inr z ↦ omega (arith, count-skip (2 * n) t z, count-skip n even z)
-    ] in
-    let second : count_below (suc (suc (2 * n))) t + count_below n odd ≡ count_below (suc (2 * n)) t + count_below (suc n) odd =
-    elim (cases_Bool (t (2 * n + 1))) [
-      | inl y ↦ omega (arith, count-pass (suc (2 * n)) t (ap t o ∙ y), count-pass n odd y)
-      | inr z ↦ omega (arith, count-skip (suc (2 * n)) t (ap t o ∙ z), count-skip n odd z)
-    ] in
-    rw e (omega arith)
+    let last : one (t (suc (2 * n))) ≡ one (t (2 * n + 1)) = ap (λ i. one (t i)) o in
+    let even = count-suc n (λ i. t (2 * i)) in
+    let odd = count-suc n (λ i. t (2 * i + 1)) in
+    rw e (omega (arith, count-double n t, count-suc (suc (2 * n)) t, count-suc (2 * n) t))
 
 -- one exchange changes at most two places
-swaps-change-from : {A : Type 0} (steps : List (ℕ × ℕ)) (xs : List A) (n : ℕ) (test : ℕ → Bool)
-    → DifferWhere n test xs (after_swaps xs steps) → count_below n test ≤ 2 * length steps
+pub swaps-change : {A : Type 0} → SwapsChange A
 unfolding after_swaps
-swaps-change-from [] xs n test differ = omega (arith, count-none n test (λ i less t. differ i less t refl))
-swaps-change-from (pair ∷ steps) xs n test differ =
+swaps-change {A} xs [] n test differ = omega (arith, count-none n test (λ i less t. differ i less t refl))
+swaps-change {A} xs (pair ∷ steps) n test differ =
     let a : ℕ = pair.0 in
     let b : ℕ = pair.1 in
     let but_a : ℕ → Bool = λ i. test i && not (i == a) in
@@ -143,28 +110,8 @@ swaps-change-from (pair ∷ steps) xs n test differ =
     let apart : i ≢ a = eqb-false i a (not-true (i == a) parts'.1) in
     let apart' : i ≢ b = eqb-false i b (not-true (i == b) parts.1) in
     differ i less parts'.0 (sym (slice_get-swap_other xs a b i apart apart') ∙ e) in
-    let below : count_below n but_both ≤ 2 * length steps = swaps-change-from steps (swap xs a b) n but_both rest in
-    omega (arith, count-without n a test, count-without n b but_a)
-
-pub swaps-change : {A : Type 0} → SwapsChange A
-swaps-change {A} xs steps n test differ = swaps-change-from steps xs n test differ
-
--- the number of a place, or no number has it
-named-or-not : (n a : ℕ) (place : ℕ → ℕ) → ((i : ℕ) × (i < n) × (place i ≡ a)) ⊎ ((i : ℕ) → i < n → place i ≢ a)
-named-or-not zero a place = inr (λ i less e. absurd (omega arith))
-named-or-not (suc n) a place = elim (cases_eq (place n) a) [
-  | inl e ↦ inl (n, omega arith, e)
-  | inr ne ↦
-      elim (named-or-not n a place) [
-        | inl found ↦ inl (found.0, omega arith, found.2)
-        | inr none ↦
-            inr (λ i less e.
-            elim (cases_eq i n) [
-              | inl last ↦ ne (ap place (sym last) ∙ e)
-              | inr before ↦ none i (omega arith) e
-            ])
-      ]
-]
+    let once : (p : ℕ) → count_below n (λ i. i == p) ≤ 1 = λ p. count-place n p (λ i. i) (λ i j hi hj e. e) in
+    omega (arith, swaps-change {A = A} (swap xs a b) steps n but_both rest, count-but n test (λ i. i == a), once a, count-but n but_a (λ i. i == b), once b)
 
 -- one write changes at most one place
 puts-change-from : {A : Type 0} (steps : List (ℕ × A)) (xs : List A) (n : ℕ) (place : ℕ → ℕ) (test : ℕ → Bool) → AreApart n place
@@ -174,23 +121,13 @@ puts-change-from [] xs n place test apart differ = omega (arith, count-none n te
 puts-change-from (put ∷ steps) xs n place test apart differ =
     let a : ℕ = put.0 in
     let next : List _ = slice_set xs a put.1 in
-    elim (named-or-not n a place) [
-      | inl found ↦
-          let but_a : ℕ → Bool = λ i. test i && not (i == found.0) in
-          let rest : (i : ℕ) → i < n → IsTrue (but_a i) → slice_get next (place i) ≢ slice_get (after_puts next steps) (place i) =
-          λ i less t e.
-          let parts = and_parts (test i) (not (i == found.0)) t in
-          let other : i ≢ found.0 = eqb-false i found.0 (not-true (i == found.0) parts.1) in
-          let away : place i ≢ a = λ same. other (apart i found.0 less found.1 (same ∙ sym found.2)) in
-          differ i less parts.0 (sym (slice_get-set_other xs a (place i) put.1 away) ∙ e) in
-          let below : count_below n but_a ≤ length steps = puts-change-from steps next n place but_a apart rest in
-          omega (arith, count-without n found.0 test)
-      | inr none ↦
-          let rest : (i : ℕ) → i < n → IsTrue (test i) → slice_get next (place i) ≢ slice_get (after_puts next steps) (place i) =
-          λ i less t e. differ i less t (sym (slice_get-set_other xs a (place i) put.1 (none i less)) ∙ e) in
-          let below : count_below n test ≤ length steps = puts-change-from steps next n place test apart rest in
-          omega arith
-    ]
+    let but : ℕ → Bool = λ i. test i && not (place i == a) in
+    let rest : (i : ℕ) → i < n → IsTrue (but i) → slice_get next (place i) ≢ slice_get (after_puts next steps) (place i) =
+    λ i less t e.
+    let parts = and_parts (test i) (not (place i == a)) t in
+    let away : place i ≢ a = eqb-false (place i) a (not-true (place i == a) parts.1) in
+    differ i less parts.0 (sym (slice_get-set_other xs a (place i) put.1 away) ∙ e) in
+    omega (arith, puts-change-from steps next n place but apart rest, count-but n test (λ i. place i == a), count-place n a place apart)
 
 pub puts-change : {A : Type 0} → PutsChange A
 puts-change {A} xs steps n test differ = puts-change-from steps xs n (λ i. i) test (λ i j hi hj e. e) differ
@@ -317,25 +254,13 @@ least-reversal {A} k xs steps len apart reversed =
     omega (arith, swaps-change xs steps (2 ^ k) (λ i. not (rev k i == i)) differ, count-moved k)
 
 -- one number is r
-count-one : (n r : ℕ) → r < n → count_below n (λ y. r == y) ≡ 1
-count-one zero r h = absurd (omega arith)
-count-one (suc n) r h =
-    let t : ℕ → Bool = λ y. r == y in
+count-one : (n r : ℕ) → count_below n (λ y. r == y) ≡ min 1 (n - r)
+count-one zero r = count-zero (λ y. r == y) ∙ omega arith
+count-one (suc n) r =
     elim (cases_eq r n) [
-      | inl e ↦
-          let none : count_below n t ≡ 0 = count-none n t (λ i less y. absurd (omega (arith, eqb-true r i y))) in
-          omega (arith, count-pass n t (eq-eqb r n e))
-      | inr ne ↦
-          let before : count_below n t ≡ 1 = count-one n r (omega arith) in
-          omega (arith, count-skip n t (ne_eqb r n ne))
+      | inl e ↦ omega (arith, count-suc n (λ y. r == y), ap one (eq-eqb r n e), count-one n r)
+      | inr ne ↦ omega (arith, count-suc n (λ y. r == y), ap one (ne_eqb r n ne), count-one n r)
     ]
-
--- a place's row and column
-row-of : (side r y : ℕ) → y < side → (r * side + y) / side ≡ r
-row-of side r y h = div-mul-add r side y h
-
-col-of : (side r y : ℕ) → y < side → (r * side + y) % side ≡ y
-col-of side r y h = omega (arith, div-add-mod' (r * side + y) side, ap (λ q. q * side) (row-of side r y h))
 
 -- a row of a square has one place on the diagonal
 count-diagonal : (rows side : ℕ) → rows ≤ side → count_below (rows * side) (λ p. p / side == p % side) ≡ rows
@@ -345,11 +270,8 @@ count-diagonal (suc r) side h =
     let e : suc r * side ≡ r * side + side = omega arith in
     let before : count_below (r * side) t ≡ r = count-diagonal r side (omega arith) in
     let row : count_below side (λ y. t (r * side + y)) ≡ count_below side (λ y. r == y) =
-    count-same side (λ y. t (r * side + y)) (λ y. r == y) (λ y h. rw (row-of side r y h, col-of side r y h) refl) in
-    rw e (omega (arith, count-add (r * side) side t, count-one side r (omega arith)))
-
-place-below : (side x y : ℕ) → x < side → y < side → x * side + y < side * side
-place-below side x y hx hy = let up : suc x * side ≤ side * side = mul-le-mul_right side hx in omega arith
+    count-same side (λ y. t (r * side + y)) (λ y. r == y) (λ y h. rw (div-mul-add r side y h, mod-mul-add r side y h) refl) in
+    rw e (omega (arith, count-add (r * side) side t, count-one side r))
 
 -- a place off the diagonal is one where the lists differ
 square-differs-where : {A : Type 0} (side : ℕ) (old new : List A) → length old ≡ side * side → AllDiffer old → IsTranspose side side old new
@@ -358,11 +280,11 @@ square-differs-where side old new len apart turned p h =
     each_place (λ q. IsTrue (not (q / side == q % side)) ↔ (slice_get old q ≢ slice_get new q)) side side p h
     (λ x y hx hy.
     let q : ℕ = x * side + y in
-    let row : q / side ≡ x = row-of side x y hy in
-    let col : q % side ≡ y = col-of side x y hy in
+    let row : q / side ≡ x = div-mul-add x side y hy in
+    let col : q % side ≡ y = mod-mul-add x side y hy in
     let moved : slice_get new q ≡ slice_get old (y * side + x) = turned.places x y hx hy in
-    let here : q < length old = rw len (place-below side x y hx hy) in
-    let there : y * side + x < length old = rw len (place-below side y x hy hx) in (
+    let here : q < length old = rw len (mul-add-lt x side y side hx hy) in
+    let there : y * side + x < length old = rw len (mul-add-lt y side x side hy hx) in (
       λ t e.
           let same : q ≡ y * side + x = apart q (y * side + x) here there (e ∙ moved) in
           let diagonal : x ≡ y = (same_from_place x y y x side hy hx same).0 in

@@ -86,25 +86,6 @@ pub rows-same : (row_width j k : ℕ) → 0 < row_width → row_width * 2 ^ j �
 rows-same row_width j k wide e =
     exponent-same j k (sym (mul-div_cancel_left (2 ^ j) wide) ∙ ap (λ n. n / row_width) e ∙ mul-div_cancel_left (2 ^ k) wide)
 
--- rows of a list that is not empty
-pub record IsPowerOfRows (len row_width : ℕ) : Type 0 where
-  pub wide : 0 < row_width
-  pub exponent : ℕ
-  pub rows : len / row_width ≡ 2 ^ exponent
-  pub whole : len ≡ row_width * 2 ^ exponent
-
-pub IsPowerOfRows-from : (len row_width : ℕ) → (len ≡ 0 → ⊥) → FitsRows len row_width → IsPowerOfRows len row_width
-IsPowerOfRows-from len row_width some (rows, inl none, e) = absurd (some (e ∙ ap (λ n. row_width * n) none ∙ omega arith))
-IsPowerOfRows-from len row_width some (rows, inr (k, is), e) =
-    let wide : 0 < row_width = elim (cases_eq row_width 0) [ inl none ↦ absurd (some (e ∙ ap (λ w. w * rows) none ∙ omega arith)) | inr ne ↦ omega arith ] in
-    let whole : len ≡ row_width * 2 ^ k = e ∙ ap (λ n. row_width * n) is in
-    record {
-      wide = wide;
-      exponent = k;
-      rows = ap (λ n. n / row_width) whole ∙ mul-div_cancel_left (2 ^ k) wide;
-      whole = whole;
-    }
-
 -- 2 ^ h chunks of 2 ^ c items are rows
 pub chunks_fit : (h c n : ℕ) → n ≡ 2 ^ (h + c) → FitsRows n (2 ^ c)
 chunks_fit h c n whole = (2 ^ h, inr (h, refl), omega (arith, pow-add 2 h c))
@@ -118,22 +99,25 @@ chunks_counted h c n whole =
 -- a list that is not empty, by the digits of the number of its rows
 pub record IsDigitsOfRows (len row_width digits : ℕ) : Type 0 where
   pub wide : 0 < row_width
+  pub rows : len / row_width ≡ 2 ^ digits
   pub whole : len ≡ row_width * 2 ^ digits
   pub few : len < 2 ^ 64 → digits < 64
 
 pub IsDigitsOfRows-from : (len row_width digits : ℕ) → (len ≡ 0 → ⊥) → FitsRows len row_width → digits ≡ clog (len / row_width)
     → IsDigitsOfRows len row_width digits
-IsDigitsOfRows-from len row_width digits some fits counted =
-    let rows = IsPowerOfRows-from len row_width some fits in
-    let same : digits ≡ rows.exponent = counted ∙ clog_power (len / row_width) rows.exponent rows.rows in
-    let whole : len ≡ row_width * 2 ^ digits = rows.whole ∙ ap (λ k. row_width * 2 ^ k) (sym same) in
-    let wide = rows.wide in
+IsDigitsOfRows-from len row_width digits some (rows, inl none, e) counted = absurd (some (e ∙ ap (λ n. row_width * n) none ∙ omega arith))
+IsDigitsOfRows-from len row_width digits some (rows, inr (k, is), e) counted =
+    let wide : 0 < row_width = elim (cases_eq row_width 0) [ inl none ↦ absurd (some (e ∙ ap (λ w. w * rows) none ∙ omega arith)) | inr ne ↦ omega arith ] in
+    let all : len ≡ row_width * 2 ^ k = e ∙ ap (λ n. row_width * n) is in
+    let counts : len / row_width ≡ 2 ^ k = ap (λ n. n / row_width) all ∙ mul-div_cancel_left (2 ^ k) wide in
+    let same : k ≡ digits = sym (counted ∙ clog_power (len / row_width) k counts) in
     record {
       wide = wide;
-      whole = whole;
+      rows = rw same at counts;
+      whole = rw same at all;
       few = λ small.
-          let scaled : 2 ^ digits ≤ 2 ^ digits * row_width = le-mul_of_pos_right (2 ^ digits) wide in
-          omega (arith, exponent-lt digits 63 (omega arith));
+          let scaled : 2 ^ k ≤ 2 ^ k * row_width = le-mul_of_pos_right (2 ^ k) wide in
+          omega (arith, exponent-lt k 63 (omega arith));
     }
 
 -- no rows have no digits

@@ -4,10 +4,10 @@ use Rattle.p3_util_kernels.specs.declared.transpose.regions.Region.{Region}
 use Rattle.p3_util_kernels.specs.Levels.{lev, nest}
 use Rattle.p3_util_kernels.specs.Region.{IsInRegion, LiesInMatrix, cols_of, items_of, rows_of}
 
--- One region is cut into two: each place of it lies in the second, or in the first and not in the second, and neither
--- part has a place outside it.
+-- One region is cut into two: each place of it lies in one of them, and in one alone, and neither part has a place outside it.
 pub record IsCut (whole first second : Region) : Type 0 where
-  pub parts : (x y : ℕ) → IsInRegion whole x y → (IsInRegion second x y) ⊎ (IsInRegion first x y × (IsInRegion second x y → ⊥))
+  pub parts : (x y : ℕ) → IsInRegion whole x y → (IsInRegion first x y) ⊎ (IsInRegion second x y)
+  pub apart : (x y : ℕ) → IsInRegion first x y → IsInRegion second x y → ⊥
   pub first_inside : (x y : ℕ) → IsInRegion first x y → IsInRegion whole x y
   pub second_inside : (x y : ℕ) → IsInRegion second x y → IsInRegion whole x y
 

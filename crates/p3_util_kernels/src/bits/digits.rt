@@ -31,6 +31,7 @@ pub const fn reverse_bits_len(x: usize, bit_len: usize) -> usize
     reversed >> ((64 - bit_len) % 64)
 }
 
+#[tactic(auto, using(crate::proofs::Digits::rev_64))]
 #[inline]
 const fn reverse_u64(x: u64) -> u64
     ensures { result ≡ rev 64 x }
@@ -38,6 +39,7 @@ const fn reverse_u64(x: u64) -> u64
     ((reverse_u32((x & 0xffff_ffff) as u32) as u64) << 32) | (reverse_u32((x >> 32) as u32) as u64)
 }
 
+#[tactic(auto, using(crate::proofs::Digits::rev_32))]
 #[inline]
 const fn reverse_u32(x: u32) -> u32
     ensures { result ≡ rev 32 x }
@@ -45,6 +47,7 @@ const fn reverse_u32(x: u32) -> u32
     ((reverse_u16((x & 0xffff) as u16) as u32) << 16) | reverse_u16((x >> 16) as u16) as u32
 }
 
+#[tactic(auto, using(crate::proofs::Digits::rev_16))]
 #[inline]
 const fn reverse_u16(x: u16) -> u16
     ensures { result ≡ rev 16 x }
@@ -52,6 +55,7 @@ const fn reverse_u16(x: u16) -> u16
     ((reverse_u8((x & 0xff) as u8) as u16) << 8) | reverse_u8((x >> 8) as u8) as u16
 }
 
+#[tactic(auto, using(crate::proofs::Digits::rev_8))]
 #[inline]
 const fn reverse_u8(x: u8) -> u8
     ensures { result ≡ rev 8 x }
@@ -59,6 +63,7 @@ const fn reverse_u8(x: u8) -> u8
     (reverse_four_digits(x & 0xf) << 4) | reverse_four_digits(x >> 4)
 }
 
+#[tactic(auto, using(crate::proofs::Digits::rev_4))]
 #[inline]
 const fn reverse_four_digits(x: u8) -> u8
     requires { x < 2 ^ 4 }

@@ -148,6 +148,7 @@ pub(crate) fn reverse_rows<M: Places>(m: M, rows: RowDigits) -> M
 }
 
 /// Exchanges all pairs of rows.
+#[tactic(auto, using(std::proofs::lemmas::Nat::pow_pos))]
 #[inline(always)]
 fn exchange_pairs<M: Places>(m: M, rows: RowDigits) -> M
     requires several { 2 ≤ rows.digits }

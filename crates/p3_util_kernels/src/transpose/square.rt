@@ -70,7 +70,8 @@ pub(crate) fn transpose_square<M: Places>(
 fn transpose_part<M: Places>(m: M, square: Square, start: usize, size: usize) -> M
     requires within { start + size ≤ square.stride }
     requires ready { HoldsSquare square.base square.stride (start + size - 1) (M.items m) }
-    ensures swapped { SwapsAcross square.base square.stride start (start + size) start (start + size) (M.items m) (M.items result) }
+    ensures swapped { SwapsAcross square.base square.stride
+        (record { row_start = start; row_end = start + size; col_start = start; col_end = start + size }) (M.items m) (M.items result) }
     ensures holder { M.same_holder (size * (size - 1) / 2) m result }
 {
     if size <= 1 {
@@ -96,8 +97,7 @@ fn swap_region<M: Places>(m: M, square: Square, region: Region) -> M
     requires above { region.row_end ≤ region.col_start }
     requires within { region.col_end ≤ square.stride }
     requires ready { HoldsSquare square.base square.stride (region.col_end - 1) (M.items m) }
-    ensures swapped { SwapsAcross square.base square.stride region.row_start region.row_end region.col_start region.col_end
-        (M.items m) (M.items result) }
+    ensures swapped { SwapsAcross square.base square.stride region (M.items m) (M.items result) }
     ensures holder { M.same_holder (items_of region) m result }
 {
     let (rows, cols) = (region.rows(), region.cols());
@@ -125,8 +125,7 @@ fn swap_leaf<M: Places>(m: M, square: Square, region: Region) -> M
     requires above { region.row_end ≤ region.col_start }
     requires within { region.col_end ≤ square.stride }
     requires ready { HoldsSquare square.base square.stride (region.col_end - 1) (M.items m) }
-    ensures swapped { SwapsAcross square.base square.stride region.row_start region.row_end region.col_start region.col_end
-        (M.items m) (M.items result) }
+    ensures swapped { SwapsAcross square.base square.stride region (M.items m) (M.items result) }
     ensures holder { M.same_holder (items_of region) m result }
 {
     let mut m = m;
@@ -143,7 +142,7 @@ fn swap_row<M: Places>(m: M, square: Square, row: usize, region: Region) -> M
     requires above { row < region.col_start }
     requires within { region.col_end ≤ square.stride }
     requires ready { HoldsSquare square.base square.stride (region.col_end - 1) (M.items m) }
-    ensures swapped { SwapsAcross square.base square.stride row (row + 1) region.col_start region.col_end (M.items m) (M.items result) }
+    ensures swapped { SwapsAcross square.base square.stride (record region { row_start = row; row_end = row + 1 }) (M.items m) (M.items result) }
     ensures holder { M.same_holder (region.col_end - region.col_start) m result }
 {
     let Square { base, stride } = square;

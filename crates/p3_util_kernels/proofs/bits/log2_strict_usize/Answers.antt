@@ -1,4 +1,4 @@
-use Rattle.std.proofs.Common.{◌≡◌, ◌^◌, ◌≤◌, ◌∙◌, ap, sym, arith}
+use Rattle.std.proofs.Common.{◌^◌, ◌≤◌, ◌∙◌, ap, sym, arith}
 use Rattle.p3_util_kernels.proofs.Levels.{clog_power}
 use Rattle.p3_util_kernels.proofs.Logs.{power_of_two}
 use Rattle.p3_util_kernels.proofs.Powers.{exponent-lt, lowest-power}

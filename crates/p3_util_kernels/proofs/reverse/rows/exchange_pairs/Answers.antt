@@ -41,12 +41,6 @@ loop-two-init g c = record {
   holder = rw sum_below-none (let none : c.args.rows.width * 0 ≡ 0 = omega arith in rw none (g.met.M.Places.same_holder_refl _));
 }
 
-pub nonzero_div-line : goal.nonzero_div-line
-nonzero_div-line g c = rw c.pow2-side.ensures (pow_pos (c.args.rows.digits / 2))
-
-pub nonzero_rem-line : goal.nonzero_rem-line
-nonzero_rem-line g c = rw c.pow2-side.ensures (pow_pos (c.args.rows.digits / 2))
-
 pub exchange_lines-m-requires-clause-middle : goal.exchange_lines-m-requires-clause-middle
 exchange_lines-m-requires-clause-middle g c =
     let x = c.args.rows.digits in

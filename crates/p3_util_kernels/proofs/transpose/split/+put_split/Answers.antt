@@ -12,22 +12,8 @@ overflow_sub-levels g t c =
 pub put_split-out-requires : goal.put_split-out-requires
 put_split-out-requires g t c =
     let some = c.halves.ensures.first_levels in
-    λ κs k. (
-      omega (arith, c.decreases, c.requires.enough),
-      (
-        search rules,
-        (
-          search rules,
-          (
-            search rules,
-            (
-              grind (arith, c.requires.ready, c.halves.ensures.first_inside _ _ c.requires.ready.inside),
-              omega (arith, c.requires.enough),
-            ),
-          ),
-        ),
-      ),
-    )
+    let inside = c.halves.ensures.first_inside _ _ c.requires.ready.inside in
+    λ κs k. (omega (arith, c.decreases, c.requires.enough), grind (arith, rules, c.requires.ready, c.requires.enough, inside))
 
 pub overflow_sub-levels-2 : goal.overflow_sub-levels-2
 overflow_sub-levels-2 g t c =
@@ -36,22 +22,8 @@ overflow_sub-levels-2 g t c =
 pub put_split-out-requires-2 : goal.put_split-out-requires-2
 put_split-out-requires-2 g t c =
     let some = c.halves.ensures.second_levels in
-    λ κs k. (
-      omega (arith, c.decreases, c.requires.enough),
-      (
-        search rules,
-        (
-          search rules,
-          (
-            search rules,
-            (
-              grind (arith, c.requires.ready, c.halves.ensures.second_inside _ _ c.requires.ready.inside),
-              omega (arith, c.requires.enough),
-            ),
-          ),
-        ),
-      ),
-    )
+    let inside = c.halves.ensures.second_inside _ _ c.requires.ready.inside in
+    λ κs k. (omega (arith, c.decreases, c.requires.enough), grind (arith, rules, c.requires.ready, c.requires.enough, inside))
 
 pub returns-clause-transposed : goal.returns-clause-transposed
 returns-clause-transposed g t c =

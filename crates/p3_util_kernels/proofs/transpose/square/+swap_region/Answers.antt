@@ -1,12 +1,13 @@
 use Rattle.std.proofs.Common.{◌+◌, ◌-◌, ◌/◌, arith}
 use Rattle.p3_util_kernels.specs.Region.{cols_of, rows_of}
-use Rattle.p3_util_kernels.proofs.Diagonal.{SwapsAcross-rows, SwapsAcross-cols}
+use Rattle.p3_util_kernels.proofs.Diagonal.{SwapsAcross-cut}
 use Rattle.p3_util_kernels.proofs.Pairs.{mul-parts_left, mul-parts_right}
+use Rattle.p3_util_kernels.proofs.Region.{IsCut-cols, IsCut-rows}
 use Rattle.p3_util_kernels.proofs.transpose.square.+swap_region.Goals as goal
 
 pub returns-then-rows-cols-clause-swapped : goal.returns-then-rows-cols-clause-swapped
 returns-then-rows-cols-clause-swapped g t c =
-    SwapsAcross-rows _ _ _ (c.args.region.row_start + c.rows-rows.result / 2) _ _ _ _ _ _ (omega arith) (omega arith)
+    SwapsAcross-cut _ _ c.args.region _ _ _ _ _ (IsCut-rows c.args.region (c.args.region.row_start + c.rows-rows.result / 2) (omega arith) (omega arith))
     (rw c.with_rows.ensures at c.swap_region-m.ensures.swapped) (rw c.with_rows-then-rows-cols.ensures at c.swap_region.ensures.swapped)
 
 pub returns-then-rows-cols-clause-holder : goal.returns-then-rows-cols-clause-holder
@@ -19,7 +20,7 @@ returns-then-rows-cols-clause-holder g t c =
 
 pub returns-else-rows-cols-clause-swapped : goal.returns-else-rows-cols-clause-swapped
 returns-else-rows-cols-clause-swapped g t c =
-    SwapsAcross-cols _ _ _ _ _ (c.args.region.col_start + c.cols-cols.result / 2) _ _ _ _ (omega arith) (omega arith)
+    SwapsAcross-cut _ _ c.args.region _ _ _ _ _ (IsCut-cols c.args.region (c.args.region.col_start + c.cols-cols.result / 2) (omega arith) (omega arith))
     (rw c.with_cols.ensures at c.swap_region-m-else-rows-cols.ensures.swapped)
     (rw c.with_cols-else-rows-cols.ensures at c.swap_region-else-rows-cols.ensures.swapped)
 

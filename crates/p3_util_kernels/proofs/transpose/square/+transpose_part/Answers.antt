@@ -3,6 +3,13 @@ use Rattle.p3_util_kernels.proofs.Diagonal.{SwapsAcross-quadrants}
 use Rattle.p3_util_kernels.proofs.Pairs.{pairs-add}
 use Rattle.p3_util_kernels.proofs.transpose.square.+transpose_part.Goals as goal
 
+pub returns-then-size-le1-clause-swapped : goal.returns-then-size-le1-clause-swapped
+returns-then-size-le1-clause-swapped g t c = record {
+  same_length = refl;
+  crossed = λ a b ha hb h. let same : a ≡ b = omega arith in rw same refl;
+  others = λ k out. refl;
+}
+
 pub returns-clause-swapped : goal.returns-clause-swapped
 returns-clause-swapped g t c =
     let half = c.args.size / 2 in

@@ -6,7 +6,6 @@ use Rattle.p3_util_kernels.proofs.transpose.square.swap_leaf.Given as goal
 -- the rows before this one are exchanged
 abbrev pub invariant-loop-row : goal.invariant-loop-row
 invariant-loop-row g l = record {
-  swapped : SwapsAcross l.square.base l.square.stride l.region.row_start l.row l.region.col_start l.region.col_end
-      (g.M.Places.items l.initial.m) (g.M.Places.items l.m);
+  swapped : SwapsAcross l.square.base l.square.stride (record l.region { row_end = l.row }) (g.M.Places.items l.initial.m) (g.M.Places.items l.m);
   holder : g.M.Places.same_holder ((l.row - l.region.row_start) * cols_of l.region) l.initial.m l.m;
 }

@@ -1,8 +1,8 @@
-use Rattle.std.proofs.Common.{◌≡◌, ◌+◌, ◌-◌, refl, arith}
+use Rattle.std.proofs.Common.{◌≡◌, ◌+◌, ◌-◌, arith}
 use Rattle.p3_util_kernels.specs.Region.{rows_of}
 use Rattle.p3_util_kernels.proofs.Pairs.{mul-parts_right}
 use Rattle.p3_util_kernels.proofs.Columns.{HoldsColumn-region, IsRegionTransposed-column}
-use Rattle.p3_util_kernels.proofs.Region.{IsRegionTransposed-more_cols}
+use Rattle.p3_util_kernels.proofs.Region.{IsCut-cols, IsRegionTransposed-cut}
 use Rattle.p3_util_kernels.proofs.transpose.strips.put_columns.Goals as goal
 
 pub put_column-out-requires : goal.put_column-out-requires
@@ -11,8 +11,8 @@ put_column-out-requires g c = record {
 }
 
 pub loop-col-preserved : goal.loop-col-preserved
-loop-col-preserved g c = record {
-  transposed = IsRegionTransposed-more_cols c.args.matrix.width c.args.matrix.height _ c.args.region _ c.loop-col.col c.loop-col.col (c.loop-col.col + 1) _ _ _ refl (omega arith) (omega arith) (omega arith) (omega arith)
+loop-col-preserved g c = let done = record c.args.region { col_end = c.loop-col.col + 1 } in record {
+  transposed = IsRegionTransposed-cut c.args.matrix.width c.args.matrix.height _ done _ _ _ _ _ (omega arith) (IsCut-cols done c.loop-col.col (omega arith) (omega arith))
       c.loop-col.invariant.transposed
       (IsRegionTransposed-column c.args.region _ _ c.loop-col.col _ _ _ (omega arith) (rw c.rows.ensures at c.put_column-out.ensures.put));
   holder = g.met.M.Cells.same_holder_trans _ _ _ _ _ _ c.loop-col.invariant.holder c.put_column-out.ensures.holder

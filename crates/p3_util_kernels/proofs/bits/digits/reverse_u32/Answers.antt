@@ -1,6 +1,0 @@
-use Rattle.std.proofs.Common.{arith}
-use Rattle.p3_util_kernels.proofs.Digits.{rev-halves}
-use Rattle.p3_util_kernels.proofs.bits.digits.reverse_u32.Goals as goal
-
-pub returns : goal.returns
-returns c = let whole = rev-halves 32 16 c.args.x (omega arith) in cc
