@@ -1,5 +1,5 @@
 -- Where memory is never wanted, one value has one answer.
-use Rattle.std.proofs.Common.{◌≡◌, ℕ, zero, suc, ◌<◌, List, [], ◌∷◌, take, Bool, IsTrue, Option, Some, None, Ok, Err, Result, refl, sym, ap, subst, ◌∙◌, arith, inl, inr, MatchOption}
+use Rattle.std.proofs.Common.{◌≡◌, ℕ, ◌<◌, List, take, Bool, IsTrue, Option, Some, None, Ok, Err, Result, refl, sym, ap, subst, ◌∙◌, arith, inl, inr, MatchOption}
 use Rattle.std.specs.Prelude.{slice_get, option_map}
 use Rattle.std.proofs.lemmas.Bool.{cases_lt}
 use Rattle.serde_json.specs.Data.{Data}
@@ -10,12 +10,7 @@ use Rattle.p3_util.specs.declared.array_serialization.ArrayError.{ArrayError}
 use Rattle.p3_util.specs.declared.array_serialization.ArrayError.TheVariants.{NotArray, Element, Length}
 use Rattle.p3_util.specs.JsonArray.{Refusal, listed, IsCause, AreReadAs, IsListAnswer, IsArrayAnswer}
 use Rattle.p3_util.proofs.JsonLists.{same_elements, read_at}
-
-slice_get-take : {A : Type 0} (n i : ℕ) (xs : List A) → i < n → slice_get (take n xs) i ≡ slice_get xs i
-slice_get-take zero i xs h = absurd (omega arith)
-slice_get-take (suc n) i [] h = refl
-slice_get-take (suc n) zero (x ∷ xs) h = refl
-slice_get-take (suc n) (suc i) (x ∷ xs) h = slice_get-take n i xs (omega arith)
+use Rattle.p3_util_kernels.proofs.Cuts.{slice_get-take}
 
 module _ {T : Type 0} (reading : Data → Result T Refusal) (wants_memory : Bool) (never : IsTrue wants_memory → ⊥) where
   -- an item that is read has no cause to be refused
@@ -44,7 +39,7 @@ module _ {T : Type 0} (reading : Data → Result T Refusal) (wants_memory : Bool
   -- no item is refused among the first m, where these are read
   not_before : (ds : List Data) (xs : List T) (m i : ℕ) (d : Data) (e : ElementError) → AreReadAs reading (take m ds) xs → i < m → slice_get ds i ≡ Some d → IsCause wants_memory (reading d) e → ⊥
   not_before ds xs m i d e all below here h =
-      let read = read_at reading (take m ds) xs i d all (slice_get-take m i ds below ∙ here) in
+      let read = read_at reading (take m ds) xs i d all (slice_get-take m ds i below ∙ here) in
       no_cause (reading d) read.0 e read.1 h
 
   module _ (n : ℕ) where

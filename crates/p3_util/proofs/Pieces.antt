@@ -10,6 +10,7 @@ use Rattle.std.specs.Int.{div_ceil}
 use Rattle.std.specs.List.{range_with_len}
 use Rattle.p3_util.specs.Flat.{IsFlat, flat}
 use Rattle.p3_util.specs.Pieces.{piece_count, piece, pieces}
+use Rattle.p3_util_kernels.proofs.Cuts.{slice_get-drop, slice_get-take}
 
 div_ceil-whole : (k n : ℕ) → 0 < n → div_ceil (k * n) n ≡ k
 div_ceil-whole k n some =
@@ -151,17 +152,6 @@ module _ {A : Type 0} where
       let b : length (drop (k * n) xs) < n = omega (arith, length-drop (k * n) xs) in
       subst (λ l. flat (pieces n l) ≡ l) (take-append-drop (k * n) xs) (joined-by n k (take (k * n) xs) (drop (k * n) xs) some h b)
 
-  slice_get-drop : (k i : ℕ) (xs : List A) → slice_get (drop k xs) i ≡ slice_get xs (k + i)
-  slice_get-drop zero i xs = let z : 0 + i ≡ i = omega arith in rw z refl
-  slice_get-drop (suc k) i [] = refl
-  slice_get-drop (suc k) i (x ∷ xs) = let e : suc k + i ≡ suc (k + i) = omega arith in rw e (slice_get-drop k i xs)
-
-  slice_get-take : (n i : ℕ) (xs : List A) → i < n → slice_get (take n xs) i ≡ slice_get xs i
-  slice_get-take zero i xs below = absurd (omega arith)
-  slice_get-take (suc n) i [] below = refl
-  slice_get-take (suc n) zero (x ∷ xs) below = refl
-  slice_get-take (suc n) (suc i) (x ∷ xs) below = slice_get-take n i xs (omega arith)
-
   -- item i is in piece i / n, at place i mod n
   pub slice_get-pieces : (n i : ℕ) (xs : List A) → 0 < n → i < length xs → slice_get xs i ≡ slice_get (get_or (pieces n xs) (i / n) []) (i % n)
   unfolding pieces
@@ -173,7 +163,7 @@ module _ {A : Type 0} where
       let among : i / n < div_ceil (length xs) n = lt_of_mul-lt-mul_left n (omega (arith, place, upper)) in
       let row : get_or (map (piece n xs) (range_with_len 0 (div_ceil (length xs) n))) (i / n) [] ≡ piece n xs (i / n) =
       get_or-map-range_with_len (piece n xs) 0 (div_ceil (length xs) n) (i / n) (i / n) [] among (omega arith) in
-      rw (row, slice_get-take n (i % n) (drop (i / n * n) xs) (mod_below i n some), slice_get-drop (i / n * n) (i % n) xs, place) refl
+      rw (row, slice_get-take n (drop (i / n * n) xs) (i % n) (mod_below i n some), slice_get-drop (i / n * n) xs (i % n) i (omega arith)) refl
 
   -- rows that are the pieces of a list are its rows place by place
   pub IsFlat-pieces : (n : ℕ) (rows : List (List A)) (xs : List A) → length xs ≡ length rows * n → (0 < n → pieces n xs ≡ rows) → IsFlat n rows xs

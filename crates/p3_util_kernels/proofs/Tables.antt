@@ -8,11 +8,11 @@ use Rattle.p3_util_kernels.specs.declared.bits.TheConstants.{POWERS_OF_THREE, EX
 use Rattle.p3_util_kernels.proofs.Powers.{three-fits, three-greatest}
 
 -- each number below n passes the test
-unfoldable all_below : (ℕ → Bool) → ℕ → Bool
+unfoldable pub all_below : (ℕ → Bool) → ℕ → Bool
 all_below p zero = true
 all_below p (suc n) = p n && all_below p n
 
-all_below-at : (p : ℕ → Bool) (n j : ℕ) → all_below p n ≡ true → j < n → p j ≡ true
+pub all_below-at : (p : ℕ → Bool) (n j : ℕ) → all_below p n ≡ true → j < n → p j ≡ true
 unfolding all_below
 all_below-at p zero j h lt = absurd (omega arith)
 all_below-at p (suc n) j h lt =

@@ -1,24 +1,9 @@
 -- Laws of remainders and powers, and of the table of roots.
-use Rattle.std.proofs.Common.{◌≡◌, ◌≢◌, ℕ, zero, suc, ◌+◌, ◌*◌, ◌/◌, ◌%◌, ◌^◌, ◌<◌, Bool, true, ◌&&◌, ◌==◌, get_or, refl, sym, ap, ◌∙◌, subst, arith, inl, inr, eqb-true}
+use Rattle.std.proofs.Common.{◌≡◌, ◌≢◌, ℕ, suc, ◌+◌, ◌*◌, ◌/◌, ◌%◌, ◌^◌, ◌<◌, true, ◌==◌, get_or, refl, sym, ap, ◌∙◌, arith, eqb-true}
 use Rattle.std.proofs.Math.Nat.{pow-suc}
 use Rattle.std.proofs.lemmas.Nat.{pow-add, mul-pow, mul-mod_first, mul-mod_second, pow-mod}
-use Rattle.std.proofs.lemmas.Bool.{cases_lt, and_parts}
+use Rattle.p3_util_kernels.proofs.Tables.{all_below, all_below-at}
 use Rattle.p3_util_transform.specs.declared.field.TheConstants.{PRIME, ROOTS}
-
--- each number below n passes the test
-unfoldable all_below : (ℕ → Bool) → ℕ → Bool
-all_below p zero = true
-all_below p (suc n) = p n && all_below p n
-
-all_below-at : (p : ℕ → Bool) (n j : ℕ) → all_below p n ≡ true → j < n → p j ≡ true
-unfolding all_below
-all_below-at p zero j h lt = absurd (omega arith)
-all_below-at p (suc n) j h lt =
-    let parts = and_parts (p n) (all_below p n) h in
-    elim (cases_lt j n) [
-      | inl below ↦ all_below-at p n j parts.1 below
-      | inr last ↦ let at : n ≡ j = omega arith in subst (λ k. p k ≡ true) at parts.0
-    ]
 
 squares_pass : all_below (λ k. get_or ROOTS k 0 == get_or ROOTS (k + 1) 0 ^ 2 % PRIME) 27 ≡ true
 unfolding all_below

@@ -1,7 +1,7 @@
 -- The roots of the table, and their powers.
 use Rattle.std.proofs.Common.{◌≡◌, ℕ, zero, suc, ◌+◌, ◌*◌, ◌%◌, ◌^◌, ◌<◌, ◌≤◌, get_or, inl, inr, sym, ap, ◌∙◌, arith}
 use Rattle.std.proofs.Math.Nat.{mod-add-mod, pow-suc, pow-zero}
-use Rattle.std.proofs.lemmas.Nat.{mod_below, pow-mod, pow_below}
+use Rattle.std.proofs.lemmas.Nat.{mod_below, pow-mod}
 use Rattle.std.proofs.lemmas.Bool.{cases_lt}
 use Rattle.p3_util_transform.specs.Stages.{IsRoot}
 use Rattle.p3_util_transform.specs.declared.field.TheConstants.{PRIME, ROOTS}
@@ -37,13 +37,6 @@ root-lt k h = elim (cases_lt k 27) [
   | inl below ↦ rw (root-square k below) (mod_below (get_or ROOTS (k + 1) 0 ^ 2) PRIME (omega arith))
   | inr last ↦ let is : k ≡ 27 = omega arith in rw is (omega arith)
 ]
-
--- a power of two has one exponent
-pub exponent-le : (a b : ℕ) → 2 ^ a ≤ 2 ^ b → a ≤ b
-exponent-le a b h = elim (cases_lt b a) [ inl less ↦ absurd (omega (arith, pow_below b a less)) | inr le ↦ le ]
-
-pub exponent-same : (a b : ℕ) → 2 ^ a ≡ 2 ^ b → a ≡ b
-exponent-same a b h = omega (arith, exponent-le a b (omega arith), exponent-le b a (omega arith))
 
 -- the order of each root
 pub root-order : (k : ℕ) → k ≤ 27 → get_or ROOTS k 0 ^ 2 ^ k % PRIME ≡ 1 % PRIME

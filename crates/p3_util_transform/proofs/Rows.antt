@@ -26,15 +26,6 @@ pub record JoinedBelow (width low high t c : ℕ) (old new : List ℕ) : Type 0 
       → get_or new (high * width + j) 0 ≡ (get_or old (low * width + j) 0 + PRIME - get_or old (high * width + j) 0 * t % PRIME) % PRIME
   pub others : (q : ℕ) → ((j : ℕ) → j < c → (q ≢ low * width + j) × (q ≢ high * width + j)) → get_or new q 0 ≡ get_or old q 0
 
-pub JoinedBelow-zero : (width low high t : ℕ) (xs : List ℕ) → AreBelowPrime xs → JoinedBelow width low high t 0 xs xs
-JoinedBelow-zero width low high t xs below = record {
-  same_length = refl;
-  below = below;
-  sums = λ j h. absurd (omega arith);
-  differences = λ j h. absurd (omega arith);
-  others = λ q apart. refl;
-}
-
 -- one column more
 pub JoinedBelow-more : (width low high t c : ℕ) (old now : List ℕ) (s d : ℕ) → JoinedBelow width low high t c old now
     → c < width → low < high → high * width + width ≤ length old
@@ -96,13 +87,6 @@ pub record HalvesJoined (width first half i stride : ℕ) (powers old new : List
   pub joined : (j : ℕ) → j < i → AreJoined width (first + j) (first + half + j) (get_or powers (j * stride) 0) old new
   pub others : (r : ℕ) → ((j : ℕ) → j < i → (r ≢ first + j) × (r ≢ first + half + j)) → SameRow width r old new
 
-pub HalvesJoined-zero : (width first half stride : ℕ) (powers xs : List ℕ) → AreBelowPrime xs → HalvesJoined width first half 0 stride powers xs xs
-HalvesJoined-zero width first half stride powers xs below = record {
-  below = below;
-  joined = λ j h. absurd (omega arith);
-  others = λ r apart c h. refl;
-}
-
 pub HalvesJoined-more : (width first half i stride : ℕ) (powers old mid new : List ℕ) → HalvesJoined width first half i stride powers old mid → i < half
     → AreBelowPrime new → AreJoined width (first + i) (first + half + i) (get_or powers (i * stride) 0) mid new
     → ((r : ℕ) → r ≢ first + i → r ≢ first + half + i → SameRow width r mid new) → HalvesJoined width first half (i + 1) stride powers old new
@@ -125,13 +109,6 @@ pub record BlocksJoined (width half b stride : ℕ) (powers old new : List ℕ) 
   pub below : AreBelowPrime new
   pub joined : AreBlocksJoined width half b stride powers old new
   pub others : (r : ℕ) → b * (2 * half) ≤ r → SameRow width r old new
-
-pub BlocksJoined-zero : (width half stride : ℕ) (powers xs : List ℕ) → AreBelowPrime xs → BlocksJoined width half 0 stride powers xs xs
-BlocksJoined-zero width half stride powers xs below = record {
-  below = below;
-  joined = λ b i h k. absurd (omega arith);
-  others = λ r past c h. refl;
-}
 
 pub BlocksJoined-more : (width half b stride : ℕ) (powers old mid new : List ℕ) → BlocksJoined width half b stride powers old mid → AreBelowPrime new
     → ((i : ℕ) → i < half → AreJoined width (b * (2 * half) + i) (b * (2 * half) + half + i) (get_or powers (i * stride) 0) mid new)
