@@ -8,7 +8,8 @@ use crate::kernels::linear_map as proved;
 pub use crate::kernels::linear_map::{Iter, Keys, Values};
 use crate::memory::{Global, granted};
 
-/// A map in insertion order, for few keys. A look-up compares the key with each stored one.
+/// A map in insertion order, for few keys. A look-up compares each stored key with the given one, as
+/// `stored == given`.
 ///
 /// Its calls panic where memory runs out. Those of [`kernels::linear_map::LinearMap`](proved::LinearMap), which it is made
 /// of, return the refusal.

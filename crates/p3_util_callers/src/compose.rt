@@ -1,6 +1,6 @@
-//! Callers that make a larger call of smaller ones, over any holder and from public contracts alone, with the number of their
-//! steps. The two that cut a region and the reversal by squares have a file: the number of items is a product or a power, and
-//! the lemma is given its parts.
+//! Each caller here makes one larger call of several public ones, over any holder. It is proved from public contracts, and
+//! gives the exact number of its steps. Those that cut a region and those that go by squares have a proof file: their numbers
+//! of items are products and powers, and the file names the parts for a lemma.
 
 ghost use Rattle.std.specs.Prelude.{◌≡◌, ℕ, ◌+◌, ◌-◌, ◌*◌, ◌/◌, ◌^◌, ◌<◌, ◌≤◌, if◌then◌else◌, length, nat_le};
 ghost use Rattle.p3_util.specs.Levels.{clog};
@@ -80,8 +80,8 @@ pub fn reverse_items_and_rows<S: Places>(places: &mut S, row_width: usize) -> u1
     items + rows
 }
 
-/// Reverses `m` by index bits, and says of its count what `reverse_index_bits_on` said before it had one number for every
-/// length: some number of swaps within the bound, which one for each exponent, and none for the empty list.
+/// Reverses `m` by index bits, with weaker clauses on its count in the place of one number for every length: the count rises
+/// by some number within the bound, for each exponent by a number of its own, and for the empty list by none.
 #[tactic(auto, using(p3_util::proofs::Callers::log_of_power, p3_util::proofs::Callers::log_of_zero))]
 pub fn reverse_counted_by_exponent<S: Places>(m: &mut Swaps<S>)
     requires { IsReversible (length (S.items m.old.holder)) }

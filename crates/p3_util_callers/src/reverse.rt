@@ -45,23 +45,23 @@ pub fn reversed_literal() -> [u32; 4]
     items
 }
 
-/// Reverses the order of the `2^log_count` chunks of `2^log_size` items where `m` is as long as these. `false`, and nothing
+/// Reverses the order of the `2^log_chunks` chunks of `2^log_size` items where `m` is as long as these. `false`, and nothing
 /// done, elsewhere.
 pub fn reverse_chunks_where_they_fit<S: Places>(
     m: &mut Swaps<S>,
-    log_count: usize,
+    log_chunks: usize,
     log_size: usize,
 ) -> bool
     ensures done { IsTrue result
         → IsRowReversal (2 ^ log_size) (S.items m.old.holder) (S.items m.new.holder) }
     ensures left { IsFalse result → m.new ≡ m.old }
-    ensures fits { let log_len = log_count + log_size in
+    ensures fits { let log_len = log_chunks + log_size in
         IsTrue result ↔ ((log_len < 64) × (length (S.items m.old.holder) ≡ 2 ^ log_len)) }
 {
     let len = m.len();
-    match checked_log_size_sum(log_count, log_size) {
+    match checked_log_size_sum(log_chunks, log_size) {
         Some((_, size)) if size == len => {
-            reverse_chunks_on(m, log_count, log_size);
+            reverse_chunks_on(m, log_chunks, log_size);
             true
         }
         _ => false,

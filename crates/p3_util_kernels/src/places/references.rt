@@ -1,11 +1,11 @@
-//! A reference to a holder is a holder too.
+//! A reference to a holder is a holder too: what is done to the reference is done to the holder behind it.
 
 ghost use Rattle.std.specs.Prelude.{◌≡◌};
 ghost use Rattle.std.proofs.Common.{rules};
 
 use crate::places::{Cells, Places, Source};
 
-/// The holder behind the reference is the holder.
+/// The exchanges are those of the holder behind the reference.
 impl<S: Places> Places for &mut S {
     type Item = S::Item;
 
@@ -37,7 +37,7 @@ impl<S: Places> Places for &mut S {
     ghost same_holder_trans = { Prim.search rules };
 }
 
-/// The holder behind the reference is the holder.
+/// The puts are those of the holder behind the reference.
 impl<C: Cells> Cells for &mut C {
     type Item = C::Item;
 
@@ -59,7 +59,7 @@ impl<C: Cells> Cells for &mut C {
     ghost same_holder_trans = { Prim.search rules };
 }
 
-/// The source behind the reference is the source.
+/// The items are those of the source behind the reference.
 impl<R: Source> Source for &R {
     type Item = R::Item;
 

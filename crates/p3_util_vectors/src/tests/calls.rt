@@ -1,5 +1,5 @@
-//! Calls that a test makes with its condition asserted first. What a test knows of its own lists is no clause of
-//! theirs, and a test that makes such a call by a function of its own is proved without the call's contract.
+//! Each function here asserts the condition of a call and then makes the call. A test that goes by such a function is proved
+//! without the call's contract, and so with no fact about the lists of the test.
 
 ghost use Rattle.std.specs.Prelude.{◌≡◌};
 
@@ -50,11 +50,11 @@ pub(crate) fn count_swaps<S: Places>(rt: &impl Abort, places: &mut S, call: Call
             assert!(rt; fits_rows(places.len(), row_width));
             reverse_rows_counted(places, row_width)
         }
-        Call::Chunks(log_count, log_size) => {
+        Call::Chunks(log_chunks, log_size) => {
             let mut m = Swaps::new(places);
-            let size = checked_log_size_sum(log_count, log_size);
+            let size = checked_log_size_sum(log_chunks, log_size);
             assert!(rt; matches!(size, Some((_, size)) if size == m.len()));
-            reverse_chunks_on(&mut m, log_count, log_size);
+            reverse_chunks_on(&mut m, log_chunks, log_size);
             m.swaps()
         }
         Call::Square(base, log_stride, log_size) => {

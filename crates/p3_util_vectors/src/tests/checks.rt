@@ -1,5 +1,5 @@
-//! What the tests share. None of these has a clause: what a call of one leaves is not known to the proof of a test,
-//! which is short for that.
+//! Functions that the tests share. They have no clauses, so the proof of a test knows nothing of what they return or leave,
+//! and stays short.
 
 use std::alloc::{AllocError, Global};
 use std::fmt::Debug;

@@ -21,15 +21,15 @@ pub returns-clause-crossed : goal.returns-clause-crossed
 returns-clause-crossed g c =
     let half = c.args.rows.digits / 2 in
     let odd = c.args.rows.digits % 2 in
-    let two = (c.args.middle * 2 ^ half + c.args.y) / 2 in
+    let line_pair = (c.args.middle * 2 ^ half + c.args.y) / 2 in
     let all : c.loop-x.x ≡ c.args.y = omega arith in
     let before = rw all at c.loop-x.invariant.crossed in
     let rest = lines_rest half c.args.middle c.args.y c.requires.even c.requires.y in
     let step = rw (turn-second half c.args.middle c.args.y c.args.y c.requires.even c.requires.y (omega arith)) at c.exchange_pair.ensures.crossed in
-    let end : (two * 2 ^ half + c.args.y) * 2 + 1 + 1 ≤ (two + 1) * 2 ^ half * 2 = omega arith in
+    let end : (line_pair * 2 ^ half + c.args.y) * 2 + 1 + 1 ≤ (line_pair + 1) * 2 ^ half * 2 = omega arith in
     IsCrossed-join half odd c.args.rows.width _ _ _ _ _ _ (omega arith) end
     (IsCrossed-join half odd c.args.rows.width _ _ _ _ _ _ (omega arith) (omega arith)
     (IsCrossed-join half odd c.args.rows.width _ _ _ _ _ _ (omega arith) (omega arith) before
-    (IsCrossed-none half odd c.args.rows.width _ ((two * 2 ^ half + c.args.y) * 2 + 1) _ (λ m x y hx hy from to. rest m x y hx hy from (omega arith) (omega arith))))
+    (IsCrossed-none half odd c.args.rows.width _ ((line_pair * 2 ^ half + c.args.y) * 2 + 1) _ (λ middle x y hx hy from to. rest middle x y hx hy from (omega arith) (omega arith))))
     step)
-    (IsCrossed-none half odd c.args.rows.width _ _ _ (λ m x y hx hy from to. rest m x y hx hy (omega arith) to (omega arith)))
+    (IsCrossed-none half odd c.args.rows.width _ _ _ (λ middle x y hx hy from to. rest middle x y hx hy (omega arith) to (omega arith)))
