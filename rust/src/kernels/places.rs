@@ -4,10 +4,12 @@
 //! - A *place* is an index of a list whose items may be exchanged ([`Places`]), a *cell* one whose item may be written
 //!   ([`Cells`]), and a *source* is a list that is only read ([`Source`]).
 //! - A *swap* is one counted exchange of two places ([`Swaps`]), a *write* one counted put of an item ([`Writes`]).
-//! - A kernel has a holder by value and gives it back. Its contract says after how many steps, so no step is left out and
-//!   none is made beside. A counter is a holder, and so is a reference to a holder. A call on a slice is its kernel over the
-//!   slice, a counted call its kernel over a new counter of the reference, and an `_on` call its kernel over a counter that
-//!   goes on from the caller's count.
+//! - A *step* is one exchange or one put.
+//! - A *kernel* is given a holder by value and gives it back with its list changed. Its contract gives the exact number of
+//!   steps that the holder made, so a kernel leaves no step out and makes none beside them.
+//! - A *counter* is a holder around another one, and counts its steps. A reference to a holder is a holder too.
+//! - A call on a slice runs its kernel over the slice. A counted call runs it over a new counter of the reference that it is
+//!   given, and an `_on` call runs it over a counter that goes on from the caller's count.
 
 mod counters;
 mod references;

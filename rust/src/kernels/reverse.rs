@@ -109,7 +109,7 @@ pub fn reverse_rows_counted<S: Places>(places: &mut S, row_width: usize) -> u128
 }
 
 /// Reverses `m` by index bits, as [`reverse_slice_index_bits`] does, in at most 3n/2 swaps at length n: by the short path
-/// up to 8192 items, and else by the long one. The length is zero or a power of two.
+/// up to 8192 items, and by the long one beyond. The length is zero or a power of two.
 ///
 /// # Contract
 ///
@@ -126,7 +126,8 @@ pub fn reverse_index_bits_on<S: Places>(m: &mut Swaps<S>) {
     m.count = reverse_index_bits(Swaps::resumed(&mut m.holder, m.count)).swaps();
 }
 
-/// The kernel over the slice, which comes back: a caller learns nothing of a slice that is lent to a holder by value.
+/// Runs the kernel over the slice and gives the slice back. A proof knows nothing of a slice that was lent to a holder which
+/// then went by value, so the contract speaks of the slice that comes back.
 #[inline(always)]
 fn reverse_items<F>(vals: &mut [F]) -> &mut [F] {
     let SlicePlaces { items } = reverse_index_bits(SlicePlaces::new(vals));

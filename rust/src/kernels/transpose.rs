@@ -199,7 +199,8 @@ pub fn transpose_region_counted<C: Cells>(
     put_strips(Writes::new(cells), matrix, region, Strips::of(matrix)).writes()
 }
 
-/// The kernel over the slice, which comes back: a caller learns nothing of a slice that is lent to a holder by value.
+/// Runs the kernel over the slice and gives the slice back. A proof knows nothing of a slice that was lent to a holder which
+/// then went by value, so the contract speaks of the slice that comes back.
 #[inline(always)]
 fn transpose_items<T: Copy, R: Source<Item = T> + Copy>(
     matrix: Matrix<R>,
@@ -209,8 +210,8 @@ fn transpose_items<T: Copy, R: Source<Item = T> + Copy>(
     values
 }
 
-/// The kernel of [`transpose_source_on`]. The source goes by value here and below, so that its address is not read again at
-/// each item.
+/// The kernel of [`transpose_source_on`]. The source is passed by value here and below: behind a reference, the address of
+/// its items would be read from memory again for each item.
 pub(crate) fn transpose_matrix<M: Cells, R: Source<Item = M::Item> + Copy>(
     out: M,
     matrix: Matrix<R>,
@@ -221,7 +222,7 @@ pub(crate) fn transpose_matrix<M: Cells, R: Source<Item = M::Item> + Copy>(
         return out;
     }
     match Strips::of(matrix) {
-        // With strips that the compiler knows, the smallest matrices take a third less time.
+        // Where the compiler knows the strips, the smallest matrices take a third less time.
         Strips::High => put_strips(out, matrix, whole, Strips::High),
         strips => put_strips(out, matrix, whole, strips),
     }

@@ -1,7 +1,8 @@
 //! Counters over holders, which see each exchange and each write.
 //!
-//! A counter is a holder too, whose count rises by as many steps as its own holder made. Its fields are for the calls that
-//! lend its holder to a kernel; a kernel, which is generic over its holder, cannot name them.
+//! A counter is a holder around another one, as [`places`](crate::kernels::places) explains: its count rises by the steps that the
+//! holder inside makes. The fields are there for the `_on` calls, which lend that holder to a kernel. A kernel is generic over
+//! its holder, so it cannot name a field.
 
 use crate::kernels::places::{Cells, Places};
 
@@ -122,7 +123,7 @@ impl<C: Cells> Writes<C> {
     /// Counts the writes to `holder` from `count` on.
     #[inline(always)]
     pub(crate) fn resumed(holder: C, count: u128) -> Self {
-        // As for a counter of exchanges.
+        // Its contract says that the length is a usize, as kernels need to know.
         let _ = holder.len();
         Writes { holder, count }
     }
@@ -186,7 +187,7 @@ impl<C: Cells> Writes<C> {
     }
 }
 
-/// Each exchange is one of the counter's holder, and counted.
+/// Each exchange is made by the holder inside, and is counted.
 impl<S: Places> Places for Swaps<S> {
     type Item = S::Item;
 
@@ -212,7 +213,7 @@ impl<S: Places> Places for Swaps<S> {
     }
 }
 
-/// Each put is one of the counter's holder, and counted.
+/// Each put is made by the holder inside, and is counted.
 impl<C: Cells> Cells for Writes<C> {
     type Item = C::Item;
 

@@ -1,8 +1,8 @@
-//! A reference to a holder is a holder too.
+//! A reference to a holder is a holder too: what is done to the reference is done to the holder behind it.
 
 use crate::kernels::places::{Cells, Places, Source};
 
-/// The holder behind the reference is the holder.
+/// The exchanges are those of the holder behind the reference.
 impl<S: Places> Places for &mut S {
     type Item = S::Item;
 
@@ -26,7 +26,7 @@ impl<S: Places> Places for &mut S {
     }
 }
 
-/// The holder behind the reference is the holder.
+/// The puts are those of the holder behind the reference.
 impl<C: Cells> Cells for &mut C {
     type Item = C::Item;
 
@@ -40,7 +40,7 @@ impl<C: Cells> Cells for &mut C {
     }
 }
 
-/// The source behind the reference is the source.
+/// The items are those of the source behind the reference.
 impl<R: Source> Source for &R {
     type Item = R::Item;
 

@@ -1,8 +1,9 @@
 //! Bit reversal of long lists: chunks, squares, and chunks again.
 //!
 //! With `2^k` items, `half = k / 2` and `c = k - half`, the list is `2^half` rows of `2^c` items, and `c` is `half` or
-//! `half + 1`. So it is one square or two side by side. The index of an item is a row, a square and a column. The two
-//! passes over rows, which are the chunks, reverse the bits of the row; the transposes between them exchange row and column.
+//! `half + 1`. So the list is one square, or two squares side by side, and the index of an item gives its row, its square and
+//! its column. The rows are the chunks. The first and the last pass reverse the order of the chunks, and so the bits of the
+//! row. The pass between them transposes each square, and so exchanges row and column.
 
 use crate::kernels::bits::{log2_strict_usize, pow2};
 use crate::kernels::places::{Places, Swaps};

@@ -8,15 +8,15 @@
 //!     reversed   rev(y)  middle  x                                              11 1 01
 //! ```
 //!
-//! So the rows to be exchanged are, for each middle digit and all `x` below `y`, the row of `x` and `y` and the row of `y`
-//! and `x`. A middle digit and a `y` are a line. Two neighbouring lines come together, by their `x`: their rows lie side by
-//! side, so that both are in the cache at once where rows are short.
+//! So for each middle digit and for all `x` below `y`, the row of `x` and `y` is exchanged with the row of `y` and `x`. A
+//! *line* is all pairs that share the middle digit and `y`. The pairs of two neighbouring lines are exchanged in one loop over
+//! `x`: the rows of both lines lie side by side, so that they are in the cache at once where rows are short.
 
 use crate::kernels::bits::{log2_strict_usize, pow2, reverse_bits_len};
 use crate::kernels::places::{Places, Swaps};
 
-/// Each number below 64 with its six binary digits in reversed order. Of so few digits one read is faster than their reversal
-/// by halves.
+/// Each number below 64 with its six binary digits in reversed order. One read of this table is faster than the reversal of so
+/// few digits by halves.
 static REVERSED_SIX: [u8; 64] = [
     0, 32, 16, 48, 8, 40, 24, 56, 4, 36, 20, 52, 12, 44, 28, 60, 2, 34, 18, 50, 10, 42, 26, 58, 6,
     38, 22, 54, 14, 46, 30, 62, 1, 33, 17, 49, 9, 41, 25, 57, 5, 37, 21, 53, 13, 45, 29, 61, 3, 35,
@@ -123,7 +123,7 @@ pub(crate) fn reverse_chunks<M: Places>(m: M, log_chunks: usize, log_size: usize
 /// The kernel of [`reverse_row_index_bits_on`].
 #[inline(always)]
 pub(crate) fn reverse_rows<M: Places>(m: M, rows: RowDigits) -> M {
-    // With a number that the compiler knows, the pairs of few rows are exchanged one after the other.
+    // Where the compiler knows a small number of digits, it writes out the exchanges of all pairs without a loop.
     match rows.digits {
         0 | 1 => m,
         2 => exchange_pairs(m, RowDigits { digits: 2, ..rows }),
@@ -140,8 +140,8 @@ fn exchange_pairs<M: Places>(m: M, rows: RowDigits) -> M {
     let lines = pow2(rows.digits - half);
     let side = pow2(half);
     let mut m = m;
-    for two in 0..lines / 2 {
-        let line = two * 2;
+    for line_pair in 0..lines / 2 {
+        let line = line_pair * 2;
         m = exchange_lines(m, rows, line / side, line % side);
     }
     m
@@ -166,7 +166,7 @@ fn exchange_pair<M: Places>(m: M, rows: RowDigits, middle: usize, x: usize, y: u
     exchange_rows(m, rows.width, i, j)
 }
 
-/// Exchanges rows `i` and `j`: as runs, where a row has several items.
+/// Exchanges rows `i` and `j`. Where a row has several items, they are exchanged as two runs.
 #[inline(always)]
 fn exchange_rows<M: Places>(m: M, row_width: usize, i: usize, j: usize) -> M {
     let mut m = m;
@@ -185,8 +185,8 @@ fn row_at(digits: usize, middle: usize, x: usize, y: usize) -> usize {
     reverse_digits(x, half) * pow2(digits - half) + (middle * pow2(half) + y)
 }
 
-/// `x` with its binary digits, of which it has `digits` at most, in reversed order. Rattle's compilers make a loop over single
-/// digits of std's `reverse_bits`, which takes about 20 ns a call, so more than six digits go by halves.
+/// `x`, which has at most `digits` binary digits, with so many digits in reversed order: up to six are read from the table,
+/// and more are reversed by halves.
 #[inline(always)]
 fn reverse_digits(x: usize, digits: usize) -> usize {
     if digits <= 6 {

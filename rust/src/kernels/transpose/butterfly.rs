@@ -1,6 +1,6 @@
 //! The transpose of a block of 4 by 4 items in two stages, each of which exchanges one bit of the row number with the same
-//! bit of the column number. It is for callers who have such a block. No kernel uses it, since an array of 16 items of any
-//! source asks for the size of an item, which nothing gives.
+//! bit of the column number. It is for callers who have such a block. No kernel uses it, since to make an array of 16 items
+//! one has to know that their bytes fit in memory, and nothing says so of the items of any source.
 
 /// The transpose of a block: the item in row r and column c comes from row c and column r.
 ///

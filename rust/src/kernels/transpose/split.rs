@@ -12,9 +12,9 @@ const NARROW_SIDE: usize = 2;
 
 /// Puts the transpose of `region` into `out` as [`transpose_region_on`](crate::kernels::transpose::transpose_region_on) does, by
 /// halves, and returns how many splits are nested on the longest path, which is at most 57. Where both sides of the
-/// region are at most 128 or one of them is at most 2 there is no split. Else the longer side is halved, the rows where
-/// the sides are equal, and each half is put in the same way with one level less. 64 levels are enough for every region of
-/// a matrix.
+/// region are at most 128 or one of them is at most 2, there is no split. Elsewhere the longer side is halved, or the rows
+/// where both sides are equal, and each half is put in the same way with one level less. 64 levels are enough for every
+/// region of a matrix.
 ///
 /// # Contract
 ///

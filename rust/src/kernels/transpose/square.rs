@@ -76,8 +76,8 @@ fn transpose_part<M: Places>(m: M, square: Square, start: usize, size: usize) ->
     transpose_part(m, square, start + half, size - half)
 }
 
-/// Exchanges a region above the diagonal with its mirror image below. A large one is halved: the rows where they are more than
-/// twice the columns, else the columns.
+/// Exchanges a region above the diagonal with its mirror image below. A large region is halved: its rows are where they are
+/// more than twice as many as its columns, and else its columns are.
 fn swap_region<M: Places>(m: M, square: Square, region: Region) -> M {
     let (rows, cols) = (region.rows(), region.cols());
     if rows <= LEAF_ROWS && cols == LEAF_COLS {

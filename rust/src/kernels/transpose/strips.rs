@@ -2,10 +2,11 @@
 //!
 //! - What is in row y and column x of the matrix, at `y * width + x` of its source, belongs in the cell `x * height + y`.
 //! - A *region* is some neighbouring rows of the matrix, and of these some neighbouring columns.
-//! - It is cut into *strips*, each of some of its rows. They are put from top to bottom, most of them column after column.
+//! - A region is cut into *strips*, each of some of its rows. The strips are put from top to bottom, most of them column after
+//!   column.
 //! - A *tile* is 16 columns of a strip of 16 rows. A *block* is 4 by 4 items of a tile.
 //!
-//! The holder goes in by value and comes back, so that it stays in registers in the loops.
+//! Each function is given the holder by value and gives it back, so that it stays in registers in the loops.
 
 use crate::kernels::places::{Cells, Source};
 use crate::kernels::transpose::regions::{Matrix, Region};
@@ -30,7 +31,7 @@ const COLUMN_ITEMS: usize = 8;
 pub(crate) enum Strips {
     /// At most 128 rows, put column after column.
     High,
-    /// At most 16 rows, put column after column. So each tile is put by runs of 16 items at following cells.
+    /// At most 16 rows, put column after column. So each column of a tile is a run of 16 items at following cells.
     Low,
     /// At most 16 rows, put tile after tile, and each tile by its blocks.
     Tiles,
@@ -39,11 +40,11 @@ pub(crate) enum Strips {
 impl Strips {
     /// The choice of how a region of `matrix` is put, by its shape alone.
     ///
-    /// A strip reads one item of each of its rows and then the next items of the same rows, so that the lines of the cache
-    /// that have them are used several times. In a large matrix the rows of a high strip may lie in more lines, or in more
-    /// pages of memory, than a processor keeps at hand, above all where they begin a multiple of a high power of two apart.
-    /// Those of 16 rows stay there. A small matrix stays there as a whole, and takes less time in high strips, since most of
-    /// them are the whole matrix. Where 16 divides its width it is put block by block, an order that callers may rely on.
+    /// One item of each row of a strip is read, and then the next items of the same rows, so that each line of the cache is
+    /// used several times. In a large matrix the rows of a high strip may lie in more lines, or in more pages of memory, than
+    /// a processor keeps at hand, above all where rows begin a multiple of a high power of two apart. The lines of 16 rows
+    /// stay at hand. All of a small matrix does, and it takes less time in high strips, since mostly one such strip is the
+    /// whole matrix. Where 16 divides its width, a small matrix is put block by block, an order that callers may rely on.
     pub(crate) fn of<R: Source + Copy>(matrix: Matrix<R>) -> Self {
         if matrix.source.len() > SMALL_MATRIX {
             Strips::Low
@@ -73,7 +74,7 @@ pub(crate) fn put_strips<M: Cells, R: Source<Item = M::Item> + Copy>(
     strips: Strips,
 ) -> M {
     if region.cols() == 0 {
-        // However many rows there are, no item is in them.
+        // There is no item, however many rows the region has.
         return out;
     }
     let mut out = out;
@@ -107,7 +108,7 @@ fn put_strip<M: Cells, R: Source<Item = M::Item> + Copy>(
     }
 }
 
-/// Puts a strip of at most 16 rows, a block's columns at a time: four times is a tile.
+/// Puts a strip of at most 16 rows by four columns at a time, which are the columns of a block. Four such steps put a tile.
 #[inline(always)]
 fn put_tiles<M: Cells, R: Source<Item = M::Item> + Copy>(
     out: M,
