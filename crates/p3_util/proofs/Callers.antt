@@ -31,7 +31,7 @@ use Rattle.p3_util_kernels.specs.Powers.{HasLog2}
 use Rattle.p3_util_kernels.specs.Region.{IsRegionTransposed}
 use Rattle.p3_util_kernels.specs.Reversal.{IsReversal, IsReversible, IsRowReversal, IsZeroOrPowerOfTwo}
 use Rattle.p3_util_kernels.specs.Square.{IsSquareTransposed}
-use Rattle.p3_util_kernels.specs.Squares.{AreTransposed}
+use Rattle.p3_util_kernels.specs.SideBySide.{AreTransposed}
 use Rattle.p3_util_kernels.specs.Steps.{counted}
 use Rattle.p3_util_kernels.specs.Transpose.{IsTranspose}
 use Rattle.p3_util_kernels.proofs.Cuts.{slice_get-append_left, slice_get-append_right, slice_get-drop, slice_get-take}
@@ -44,7 +44,7 @@ use Rattle.p3_util_kernels.proofs.Matrix.{IsTranspose-twice, IsTranspose-unique}
 use Rattle.p3_util_kernels.proofs.Powers.{power_of_two_test as power_test}
 use Rattle.p3_util_kernels.proofs.Region.{IsCut-cols, IsCut-rows, IsRegionTransposed-cut}
 use Rattle.p3_util_kernels.proofs.Reversal.{IsReversal-places, IsReversal-unique, row_reversed_back, IsRowReversal-unique}
-use Rattle.p3_util_kernels.proofs.Squares.{AreTransposed-more, square_room}
+use Rattle.p3_util_kernels.proofs.SideBySide.{AreTransposed-more, square_room}
 
 -- The k low digits, reversed, are a number of k digits, of which the reverse is that number again.
 pub rev_below : (k x : ℕ) → rev k x < 2 ^ k

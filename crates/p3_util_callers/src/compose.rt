@@ -6,7 +6,7 @@ ghost use Rattle.std.specs.Prelude.{◌≡◌, ℕ, ◌+◌, ◌-◌, ◌*◌, �
 ghost use Rattle.p3_util.specs.Levels.{clog};
 ghost use Rattle.p3_util.specs.Region.{IsRegionTransposed, LiesInMatrix, items_of};
 ghost use Rattle.p3_util.specs.Reversal.{FitsRows, IsReversal, IsReversible};
-ghost use Rattle.p3_util.specs.Squares.{AreTransposed};
+ghost use Rattle.p3_util.specs.SideBySide.{AreTransposed};
 ghost use Rattle.p3_util.specs.Steps.{counted};
 ghost use Rattle.p3_util.specs.SwapCounts.{long_swaps, reversal_swaps, row_swaps, short_swaps, square_swaps};
 ghost use Rattle.p3_util.specs.Transpose.{IsTranspose};

@@ -10,8 +10,8 @@ pub mod Names
 pub mod Powers
 pub mod Region
 pub mod Reversal
+pub mod SideBySide
 pub mod Square
-pub mod Squares
 pub mod Stages
 pub mod Steps
 pub mod SwapCounts

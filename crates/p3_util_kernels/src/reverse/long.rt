@@ -10,7 +10,7 @@ ghost use Rattle.p3_util_kernels.specs.Levels.{clog};
 ghost use Rattle.p3_util_kernels.specs.Reversal.{IsReversal, IsReversible};
 ghost use Rattle.p3_util_kernels.specs.Steps.{counted};
 ghost use Rattle.p3_util_kernels.specs.SwapCounts.{long_swaps, square_swaps};
-ghost use Rattle.p3_util_kernels.specs.Squares.{AreTransposed};
+ghost use Rattle.p3_util_kernels.specs.SideBySide.{AreTransposed};
 
 use crate::bits::{log2_strict_usize, pow2};
 use crate::places::{Places, Swaps};

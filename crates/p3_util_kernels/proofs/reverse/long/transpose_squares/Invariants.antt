@@ -1,5 +1,5 @@
 use Rattle.std.proofs.Common.{◌*◌, ◌^◌}
-use Rattle.p3_util_kernels.specs.Squares.{AreTransposed}
+use Rattle.p3_util_kernels.specs.SideBySide.{AreTransposed}
 use Rattle.p3_util_kernels.specs.SwapCounts.{square_swaps}
 use Rattle.p3_util_kernels.proofs.reverse.long.transpose_squares.Given as goal
 

@@ -3,7 +3,7 @@ use Rattle.std.proofs.Common.{◌≡◌, ℕ, ◌+◌, ◌-◌, ◌*◌, ◌^◌
 use Rattle.std.proofs.lemmas.Bool.{cases_lt}
 use Rattle.std.proofs.lemmas.Nat.{pow-add, pow_pos, mul-add-lt, same_from_place}
 use Rattle.p3_util_kernels.specs.Square.{IsSquareTransposed}
-use Rattle.p3_util_kernels.specs.Squares.{AreTransposed}
+use Rattle.p3_util_kernels.specs.SideBySide.{AreTransposed}
 
 module _ (log_stride log_size : ℕ) (within : log_size ≤ log_stride) where
   -- the squares fill the rows
