@@ -291,22 +291,23 @@ fn check_parts(puts: &[(usize, usize)], cols: usize, rows: usize) {
 }
 
 /// Widths, heights, how many of the first puts are looked at, and the columns and rows of the parts that they come in.
-const ORDERS: [(usize, usize, usize, [(usize, usize); 2]); 14] = [
-    // Up to 1024 items: tiles and their blocks where 16 divides the width, and else strips of at most 128 rows.
-    (16, 16, 256, [(4, 4), (16, 16)]),
-    (32, 32, 1024, [(4, 4), (16, 16)]),
+const ORDERS: [(usize, usize, usize, [(usize, usize); 2]); 15] = [
+    // Strips of at most 128 rows where 16 does not divide the width.
     (20, 51, 1020, [(1, 51), (20, 51)]),
     (5, 204, 640, [(1, 128), (5, 128)]),
-    // More items: strips of 16 rows.
+    (20, 272, 5120, [(1, 128), (20, 128)]),
+    (5000, 20, 100_000, [(1, 20), (5000, 20)]),
+    // Where it does, tiles and their blocks up to 1024 items, and strips of 16 rows beyond.
+    (16, 16, 256, [(4, 4), (16, 16)]),
+    (32, 32, 1024, [(4, 4), (16, 16)]),
     (16, 65, 1024, [(1, 16), (16, 16)]),
     (64, 64, 4096, [(1, 16), (16, 16)]),
-    (48, 32, 1536, [(1, 16), (16, 16)]),
-    (20, 272, 5440, [(1, 16), (20, 16)]),
+    (48, 32, 1536, [(1, 16), (48, 16)]),
     (16, 256, 4096, [(1, 16), (16, 16)]),
-    (5000, 20, 80_000, [(1, 16), (5000, 16)]),
+    (4992, 20, 79_872, [(1, 16), (4992, 16)]),
     // The greatest matrix that is not split, and three that are.
     (1024, 1024, 65_536, [(1, 16), (1024, 16)]),
-    (1025, 1024, 65_536, [(1, 16), (256, 256)]),
+    (1025, 1024, 65_536, [(1, 128), (256, 256)]),
     (1040, 1024, 66_560, [(1, 16), (260, 256)]),
     (50_000, 37, 1552, [(1, 16), (97, 16)]),
 ];
@@ -321,8 +322,7 @@ fn puts_in_order() {
     }
 }
 
-/// The least number of items that is split: the first part has 120 rows, so that its last strip has eight. Without a split
-/// it would have 16.
+/// The least number of items that is split: the first part has 120 rows. Without a split the first strip would have 128.
 #[test]
 fn the_least_matrix_that_is_split() {
     let puts = puts(17, 61_681);

@@ -15,7 +15,7 @@ ghost use Rattle.p3_util_kernels.specs.Region.{IsReady, IsRegionTransposed, item
 use crate::places::{Cells, Source};
 use crate::transpose::regions::{Matrix, Region};
 
-/// The greatest number of items of a small matrix, which is not put by low strips.
+/// The greatest number of items of a small matrix, which is put by tiles where 16 divides its width.
 const SMALL_MATRIX: usize = 1024;
 
 /// The side of a tile.
@@ -44,18 +44,18 @@ pub(crate) enum Strips {
 impl Strips {
     /// The choice of how a region of `matrix` is put, by its shape alone.
     ///
-    /// One item of each row of a strip is read, and then the next items of the same rows, so that each line of the cache is
-    /// used several times. In a large matrix the rows of a high strip may lie in more lines, or in more pages of memory, than
-    /// a processor keeps at hand, above all where rows begin a multiple of a high power of two apart. The lines of 16 rows
-    /// stay at hand. All of a small matrix does, and it takes less time in high strips, since mostly one such strip is the
-    /// whole matrix. Where 16 divides its width, a small matrix is put block by block, an order that callers may rely on.
+    /// A strip is read one column after the other, and so in all of its rows at once. Where 16 divides the width, the rows
+    /// may begin a multiple of a high power of two apart. The lines of a high strip then meet in few sets of the cache, and
+    /// put each other out before their next items are read. Those of 16 rows stay. Other rows are spread over the sets, and a
+    /// high strip writes longer runs of following cells. A small matrix stays in the cache in any order, and is put block by
+    /// block, an order that callers may rely on.
     pub(crate) fn of<R: Source + Copy>(matrix: Matrix<R>) -> Self {
-        if matrix.source.len() > SMALL_MATRIX {
-            Strips::Low
-        } else if matrix.width % TILE_SIDE == 0 {
-            Strips::Tiles
-        } else {
+        if matrix.width % TILE_SIDE != 0 {
             Strips::High
+        } else if matrix.source.len() > SMALL_MATRIX {
+            Strips::Low
+        } else {
+            Strips::Tiles
         }
     }
 

@@ -102,7 +102,7 @@ pub(crate) fn put_split<M: Cells, R: Source<Item = M::Item> + Copy>(
     levels: u32,
 ) -> (M, u32) {
     if is_leaf(region) {
-        return (put_strips(out, matrix, region, Strips::Low), 0);
+        return (put_strips(out, matrix, region, Strips::of(matrix)), 0);
     }
     let (first, second) = halves(region);
     let (out, nested) = put_split(out, matrix, first, levels - 1);
