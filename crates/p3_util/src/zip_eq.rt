@@ -24,10 +24,10 @@ where
         (λ e. (e ≡ err) × ¬ same)) }
     ensures runs { IfOk result (PairsRuns A.IntoIter.next_gives B.IntoIter.next_gives) }
 
-    // The same with all that the two are asked for, by which a caller's search finds the list of the pairs.
+    // The clause `runs` with all calls of `next` on both iterators. By it a caller's search finds the list of the pairs.
     ensures asked { IfOk result (AskedRuns A.IntoIter.next_gives B.IntoIter.next_gives) }
 
-    // The length that the pairs state is true where those of the two iterators are.
+    // Where the lengths that both iterators state are true, the length that the pairs state is true.
     ensures length { IfOk result (λ z.
         HasTrueLength A.IntoIter.next_gives A.IntoIter.remaining (zip_eq_first z)
         → HasTrueLength B.IntoIter.next_gives B.IntoIter.remaining (zip_eq_second z)

@@ -70,7 +70,7 @@ pub fn transpose_by_vector_and_back<T: Copy + Default>(
     Ok(())
 }
 
-/// The way back alone: the transpose of `transposed` is the matrix that it is the transpose of.
+/// The way back alone: `transposed` is the transpose of a matrix, and `output` becomes that matrix.
 #[tactic(auto, using(p3_util::proofs::Callers::transposed_back))]
 pub fn transpose_back<T: Copy>(transposed: &[T], output: &mut [T], width: usize, height: usize)
     requires transposed_fits { length transposed.now ≡ width * height }

@@ -1,5 +1,5 @@
-//! Callers that reverse two slices as one list, and transpose into them. They have the two as the holder that they make, since
-//! what two `&mut` of one struct end as is lost to a proof in the function that makes it.
+//! Callers that reverse two slices as one list, and transpose into them. Each is given the holder of both slices, which another
+//! function makes: in the function that makes a struct of two `&mut`, a proof does not know what both end as.
 
 ghost use Rattle.std.specs.Prelude.{◌≡◌, ◌*◌, ◌++◌, length};
 ghost use Rattle.p3_util.specs.Reversal.{IsReversal, IsReversible};

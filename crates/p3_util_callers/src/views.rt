@@ -197,8 +197,8 @@ pub fn exchange_items<T, const N: usize>(rows: &mut [[T; N]], i: usize, j: usize
     as_base_slice_mut(rows).exchange(i, j);
 }
 
-/// The same of any view. What the rows end as after a write through `get_mut` is known where that write is made in a
-/// function over any rows, as here.
+/// The same of any view. A proof knows what the rows end as after a write through `get_mut` where the function is over any rows,
+/// as this one is.
 pub fn set_item_of_view<S: Rows>(view: &mut Flattened<S>, i: usize, item: S::Item)
 where
     S::Item: Drop,

@@ -11,7 +11,8 @@ use std::alloc::{AllocError, Global};
 
 /// The numbers of a JSON array. Its bytes are let go of before the numbers are listed.
 ///
-/// `RunFault::NotAnArray` where the bytes are none of numbers of 64 bits without a sign, and `RunFault::Memory`.
+/// `RunFault::NotAnArray` where the bytes are no JSON array of numbers of 64 bits without a sign, and `RunFault::Memory` where
+/// memory runs out.
 pub fn read_array(alloc: Global, bytes: Vec<u8>) -> Result<Vec<u64>, RunFault>
     ensures read { IfOk result (λ v. IsArrayOf bytes.items v.items) }
     ensures kind { IfErr result (λ e. (e ≡ RunFault.NotAnArray) ⊎ (e ≡ RunFault.Memory)) }

@@ -24,7 +24,8 @@ pub enum InputEnd {
 /// call that returns an error, whatever its kind, and a write that takes none of some bytes. The number stays at `u64::MAX`
 /// once it is there.
 ///
-/// Flushed means that nothing which was written through this `Watched` is unflushed. A new one is, whatever its writer holds.
+/// A `Watched` is flushed where nothing that was written through it is unflushed. A new one is flushed, whatever its writer
+/// holds.
 #[derive(Drop)]
 pub struct Watched<T> {
     inner: T,

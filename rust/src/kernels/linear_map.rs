@@ -230,7 +230,7 @@ impl<K: Eq, V> LinearMap<K, V> {
     ///     × I.into_iter_gives it from × YieldsThen I.IntoIter.next_gives from xs (Some x) rest
     ///     × (value_at K.eq (put_all K.eq [] xs) x.0 ≡ None)) }
     ///
-    /// // The same, as one run of `next`, from which a chain of iterators is proved.
+    /// // The clause `pairs` over one run of `next`, which the proof of a chain of iterators is made from.
     /// ensures runs { IfOk result
     ///     (λ m. (from : I.IntoIter) × I.into_iter_gives it from
     ///     × WholeRun I.IntoIter.next_gives from (λ run. m ≡ put_all K.eq [] run.items)) }

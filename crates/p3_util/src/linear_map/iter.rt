@@ -47,7 +47,7 @@ impl<'a, K, V> Iterator for Iter<'a, K, V> {
         self.pairs.next()
     }
 
-    /// The number of pairs that are left, twice.
+    /// The number of pairs that are left, as the lower and as the upper bound.
     fn size_hint(&self) -> (usize, Option<usize>)
         ensures lower { IsWithinCount result.0 (at_most (length self.now)) }
         ensures upper { IfSome result.1 (UpTo (at_most (length self.now))) }
@@ -114,7 +114,7 @@ impl<'a, K, V> Iterator for Keys<'a, K, V> {
         Some(&pair.0)
     }
 
-    /// The number of keys that are left, twice.
+    /// The number of keys that are left, as the lower and as the upper bound.
     fn size_hint(&self) -> (usize, Option<usize>)
         ensures lower { IsWithinCount result.0 (at_most (length self.now)) }
         ensures upper { IfSome result.1 (UpTo (at_most (length self.now))) }
@@ -182,7 +182,7 @@ impl<'a, K, V> Iterator for Values<'a, K, V> {
         Some(&pair.1)
     }
 
-    /// The number of values that are left, twice.
+    /// The number of values that are left, as the lower and as the upper bound.
     fn size_hint(&self) -> (usize, Option<usize>)
         ensures lower { IsWithinCount result.0 (at_most (length self.now)) }
         ensures upper { IfSome result.1 (UpTo (at_most (length self.now))) }

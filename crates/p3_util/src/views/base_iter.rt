@@ -41,7 +41,7 @@ impl<'a, Base> Iterator for BaseIter<'a, Base> {
         self.rest.next()
     }
 
-    /// The number of items left, twice.
+    /// The number of items left, as the lower and as the upper bound.
     fn size_hint(&self) -> (usize, Option<usize>)
         ensures lower { IsWithinCount result.0 (item_count (λ s. s) self.now) }
         ensures upper { IfSome result.1 (UpTo (item_count (λ s. s) self.now)) }

@@ -29,7 +29,7 @@ impl<'a, Base, const N: usize> Model for BaseSlice<'a, Base, N> {
 
 /// The items of the arrays in `buf`, array after array. Nothing is copied.
 ///
-/// Whether the number of items fits a `usize`, [`flat_len`](super::flat_len) tests.
+/// The number of items has to fit a `usize`, which [`flat_len`](super::flat_len) tests.
 pub fn as_base_slice<Base, const N: usize>(buf: &[[Base; N]]) -> BaseSlice<'_, Base, N>
     requires { length buf.now * N < 2 ^ 64 }
     ensures items { result ≡ flat buf.now }
@@ -142,7 +142,7 @@ impl<'a, Base: Copy, const N: usize> Source for BaseSlice<'a, Base, N> {
     }
 
     fn at(&self, i: usize) -> Base {
-        // That a slice fits in memory is known of a variable, and not of a field behind a `Model`.
+        // The checker knows that a slice fits in memory where a variable has it, and not of a field behind a `Model`.
         let items = self.items;
         items[i]
     }

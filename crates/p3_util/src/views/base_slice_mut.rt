@@ -28,7 +28,7 @@ pub type BaseSliceMut<'a, Base, const N: usize> = Flattened<&'a mut [[Base; N]]>
 
 /// The items of the arrays in `buf`, array after array, to be exchanged or written. Nothing is copied.
 ///
-/// Whether the number of items fits a `usize`, [`flat_len`](super::flat_len) tests.
+/// The number of items has to fit a `usize`, which [`flat_len`](super::flat_len) tests.
 pub fn as_base_slice_mut<Base, const N: usize>(buf: &mut [[Base; N]]) -> BaseSliceMut<'_, Base, N>
     requires { length buf.old * N < 2 ^ 64 }
     ensures rows { result.rows ≡ buf.entry }

@@ -1,7 +1,7 @@
 //! The loan of one item of the rows, and what the rows end as.
 //!
-//! The checker follows neither a loan from an array to one of its items nor a loan of a loan; two functions here, and the
-//! loan from behind a view, have proofs by hand.
+//! The checker follows neither a loan from an array to one of its items nor a loan of a loan. So two functions here have proofs
+//! by hand, and so has `item_mut`, the loan from behind a view.
 
 ghost use Rattle.std.specs.Prelude.{◌≡◌, ◌<◌, [], length, slice_get, slice_index_or};
 ghost use Rattle.std.specs.Borrow.{sem};

@@ -13,7 +13,7 @@ pub(super) fn countable<T, const N: usize>(rows: &[[T; N]]) -> &[T]
     if rows.len() <= most {
         return rows.as_flattened();
     }
-    // So many rows have as many items as fit, and there is one row more.
+    // The first `most` rows have as many items as a `usize` can count, and there is at least one row more.
     prove!(rows[..most].as_flattened().len() == most * N);
     prove!(width_of(&rows[most]) == N);
     rows[..0].as_flattened()
@@ -28,8 +28,8 @@ pub(super) fn width_of<T, const N: usize>(row: &[T; N]) -> usize
     row.len()
 }
 
-/// Whether item `i` of all rows is item `i % N` of row `i / N`, as it always is. For a `prove!` alone: its loop does nothing,
-/// and the compiler removes it.
+/// Whether item `i` of all rows is item `i % N` of row `i / N`, which is always so. Only a `prove!` calls this: its loop does
+/// nothing, and the compiler removes it.
 #[inline(always)]
 pub(super) fn each_in_its_row<T, const N: usize>(rows: &[[T; N]]) -> bool
     ensures yes { IsTrue result }

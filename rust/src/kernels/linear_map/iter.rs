@@ -26,7 +26,7 @@ impl<'a, K, V> Iterator for Iter<'a, K, V> {
         self.pairs.next()
     }
 
-    /// The number of pairs that are left, twice.
+    /// The number of pairs that are left, as the lower and as the upper bound.
     ///
     /// # Contract
     ///
@@ -81,7 +81,7 @@ impl<'a, K, V> Iterator for Keys<'a, K, V> {
         Some(&pair.0)
     }
 
-    /// The number of keys that are left, twice.
+    /// The number of keys that are left, as the lower and as the upper bound.
     ///
     /// # Contract
     ///
@@ -137,7 +137,7 @@ impl<'a, K, V> Iterator for Values<'a, K, V> {
         Some(&pair.1)
     }
 
-    /// The number of values that are left, twice.
+    /// The number of values that are left, as the lower and as the upper bound.
     ///
     /// # Contract
     ///
