@@ -123,7 +123,7 @@ pub fn reverse_slice_index_bits<F: Send + Sync>(vals: &mut [F]) {
 ///
 /// # Panics
 ///
-/// Where the length is not `row_width` times zero or a power of two. Of rows of no items it is zero.
+/// Where the length is not `row_width` times zero or a power of two. With a `row_width` of 0 the length has to be 0.
 #[inline]
 #[track_caller]
 pub fn reverse_slice_row_index_bits<F>(vals: &mut [F], row_width: usize) {

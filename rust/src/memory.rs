@@ -18,11 +18,11 @@ pub struct PushError<T> {
     pub value: T,
 }
 
-/// What a call returned that asked for memory.
+/// The value that a call returned which asked for memory.
 ///
 /// # Panics
 ///
-/// Where it was refused.
+/// Where the memory was refused.
 #[track_caller]
 pub(crate) fn granted<T, E>(answer: Result<T, E>) -> T {
     match answer {

@@ -23,7 +23,8 @@ pub(crate) fn reverse<F>(vals: &mut [F]) -> bool {
     fits
 }
 
-/// Reverses rows of `row_width` items by index bits, where their number is zero or a power of two. Returns whether it is.
+/// Reverses the rows of `row_width` items of `vals` by index bits, where the number of rows is zero or a power of two. Returns
+/// whether it is.
 #[inline]
 pub(crate) fn reverse_rows<F>(vals: &mut [F], row_width: usize) -> bool {
     let fits = fits_rows(vals.len(), row_width);
@@ -34,8 +35,8 @@ pub(crate) fn reverse_rows<F>(vals: &mut [F], row_width: usize) -> bool {
     fits
 }
 
-/// Puts into `output` the transpose of `input`, a matrix of `width` by `height` items, where both have as many. Returns
-/// whether they have.
+/// Puts into `output` the transpose of `input`, a matrix of `width` by `height` items, where both lists have so many items.
+/// Returns whether they have.
 #[inline]
 pub(crate) fn transpose<T: Copy>(input: &[T], output: &mut [T], width: usize, height: usize) -> bool {
     let fits = fits_matrix(input.len(), output.len(), width, height);
@@ -77,8 +78,9 @@ mod slices {
         fn exchange(&mut self, i: usize, j: usize) {
             debug_assert!(i < self.items.len() && j < self.items.len());
             let first = self.items.as_mut_ptr();
-            // SAFETY: both places are within the slice, by the clauses `first` and `second` of `Places::exchange`, and they
-            // may be one. By references they may not, and a test of that makes items of a word take half as long again.
+            // SAFETY: both places are within the slice, by the clauses `first` and `second` of `Places::exchange`. They may be
+            // one place, of which there may not be two references. A test for that would make the exchange of items of one
+            // word take half as long again.
             unsafe { core::ptr::swap(first.add(i), first.add(j)) }
         }
 
