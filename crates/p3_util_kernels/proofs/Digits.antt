@@ -158,12 +158,6 @@ rev-halves w k x fits =
     (rev-add k k x)
 
 -- the same of the numbers of digits of the words that are reversed so
-pub rev_4 : (x : ℕ) → rev 4 x ≡ halves 8 2 x
-rev_4 x = rev-halves 8 2 x (omega arith)
-
-pub rev_8 : (x : ℕ) → rev 8 x ≡ halves 8 4 x
-rev_8 x = rev-halves 8 4 x (omega arith)
-
 pub rev_16 : (x : ℕ) → rev 16 x ≡ halves 16 8 x
 rev_16 x = rev-halves 16 8 x (omega arith)
 

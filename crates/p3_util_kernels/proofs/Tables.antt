@@ -1,5 +1,5 @@
 -- The written tables hold what their comments say, entry by entry.
-use Rattle.std.proofs.Common.{◌≡◌, ℕ, zero, suc, ◌+◌, ◌^◌, ◌<◌, ◌≤◌, nat_lt, nat_le, ltb-true, leb-true, Bool, true, ◌&&◌, ◌==◌, get_or, subst, arith, inl, inr, eqb-true, refl}
+use Rattle.std.proofs.Common.{◌≡◌, ℕ, zero, suc, ◌+◌, ◌*◌, ◌/◌, ◌%◌, ◌^◌, ◌<◌, ◌≤◌, nat_lt, nat_le, ltb-true, leb-true, Bool, true, ◌&&◌, ◌==◌, get_or, bit_and, bit_or, subst, arith, inl, inr, eqb-true, refl, sym}
 use Rattle.std.proofs.lemmas.Bool.{cases_lt, and_parts}
 use Rattle.std.proofs.Math.Nat.{pow-le-pow_right}
 use Rattle.p3_util_kernels.specs.Digits.{rev, sum_below}
@@ -66,3 +66,16 @@ six_pass = refl
 -- each entry is the number with its 6 digits reversed
 pub reversed_six : (x : ℕ) → x < 64 → get_or REVERSED_SIX x 0 ≡ rev 6 x
 reversed_six x h = eqb-true _ _ (all_below-at (λ x. get_or REVERSED_SIX x 0 == rev 6 x) 64 x six_pass h)
+
+-- a byte by its eight digits, each moved to its place in the reversed byte
+abbrev digits_moved : ℕ → ℕ
+digits_moved x =
+    bit_or (bit_or (bit_or (bit_or (bit_or (bit_or (bit_or (bit_and x 1 * 128 % 256) (bit_and x 2 * 32 % 256)) (bit_and x 4 * 8 % 256))
+    (bit_and x 8 * 2 % 256)) (bit_and x 16 / 2)) (bit_and x 32 / 8)) (bit_and x 64 / 32)) (x / 128)
+
+bytes_pass : all_below (λ x. digits_moved x == rev 8 x) 256 ≡ true
+unfolding all_below rev sum_below
+bytes_pass = refl
+
+pub reversed_byte : (x : ℕ) → x < 256 → rev 8 x ≡ digits_moved x
+reversed_byte x h = sym (eqb-true _ _ (all_below-at (λ x. digits_moved x == rev 8 x) 256 x bytes_pass h))
