@@ -71,7 +71,7 @@
 //! | `IsPowerOfThree n`, std's `IsPowerOfTwo n` | n is a power of three, or of two |
 //! | `HasLog2 n`, `HasLog3 n` | the same, or a test of it, so that callers need no proof |
 //! | `clog n` | the least e with `n <= 2^e` |
-//! | `short_name t` | t cut after each `<`, `>` and `,`; of each piece what follows its last `::`; joined in order |
+//! | `short_name t` | t cut after each `<`, `>` and `,`; of each piece what follows its last `::`, these being found from the left, so that `a:::b` gives `:b`; joined in order |
 //! | `IsZeroOrPowerOfTwo n` | n is 0 or a power of two |
 //! | `IsReversible n` | the same, or either of two tests of it, so that callers need no proof |
 //! | `FitsRows len w` | `len = w * m` for some m that is 0 or a power of two |
