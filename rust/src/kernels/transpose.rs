@@ -43,7 +43,8 @@ pub const fn fits_matrix(input_len: usize, output_len: usize, width: usize, heig
 
 /// Writes to `output` the transpose of `input`, a matrix of `height` rows of `width` items: what stood at
 /// `y * width + x` is put at `x * height + y`. Both lengths are `width` times `height`, which [`fits_matrix`] tests. The
-/// transpose of `output` the other way round, with `height` for the width, is `input` again.
+/// transpose of `output` the other way round, with `height` for the width, is `input` again. Items are put in the order of
+/// [`transpose_on`].
 ///
 /// # Contract
 ///
@@ -105,7 +106,8 @@ where
 }
 
 /// Puts the transpose of `input` into `out`, as [`transpose`] does, in exactly `width * height` writes. Both lengths are
-/// `width` times `height`, which [`fits_matrix`] tests.
+/// `width` times `height`, which [`fits_matrix`] tests. Where 16 divides `width`, up to 1024 items are put by blocks of 4 by
+/// 4, as far as there are 16 whole rows: no clause says so, but tests of the order of puts show it.
 ///
 /// # Contract
 ///
