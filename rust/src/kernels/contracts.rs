@@ -69,11 +69,11 @@
 //! | `rev k x` | the k low digits of x reversed: the sum over i < k of `bit x i * 2^(k-1-i)` |
 //! | `rev_word b x` | `rev b x`, and for 0 bits the whole word, `rev 64 x` |
 //! | `IsPowerOfThree n`, std's `IsPowerOfTwo n` | n is a power of three, or of two |
-//! | `HasLog2 n`, `HasLog3 n` | the same, or a test of it, so that callers need no proof |
+//! | `HasLog2 n`, `HasLog3 n` | n is a power of two, or of three, by definition or by a test that says the same, so that callers need no proof |
 //! | `clog n` | the least e with `n <= 2^e` |
 //! | `short_name t` | t cut after each `<`, `>` and `,`; of each piece what follows its last `::`, these being found from the left, so that `a:::b` gives `:b`; joined in order |
 //! | `IsZeroOrPowerOfTwo n` | n is 0 or a power of two |
-//! | `IsReversible n` | the same, or either of two tests of it, so that callers need no proof |
+//! | `IsReversible n` | the same, by definition or by either of two tests, so that callers need no proof |
 //! | `FitsRows len w` | `len = w * m` for some m that is 0 or a power of two |
 //! | `IsRowReversal w old new` | same length, and with 2^k rows of w items, item j of row r of `new` is item j of row `rev k r` of `old` |
 //! | `IsReversal old new` | `IsRowReversal 1 old new`: place i of `new` holds what was at place `rev k i` of `old` |
@@ -89,7 +89,7 @@
 //! | `square_swaps s` | `s * (s - 1) / 2`, the number of pairs of places across the diagonal |
 //! | `long_swaps k` | `2 * short_swaps h * 2^c + 2^(c-h) * square_swaps (2^h)`, with h = k/2 and c = k - h |
 //! | `reversal_swaps n` | of n items: `short_swaps (clog n)` up to 8192 items, else `long_swaps (clog n)` |
-//! | `same_holder n a b` | the holder b is the holder a after n steps, exchanges or puts. Each type of holder defines it. It has two laws: it holds for a and a after no step, and m steps and then n are m + n |
+//! | `same_holder n a b` | the [holder](ARCHITECTURE.md#words) b is the holder a after n steps. Each type of holder defines it. It has two laws: a is itself after no step, and m steps and then n are m + n |
 //! | `counted c s` | the count c after s steps, which is `min(2^128 - 1, c + s)` |
 //!
 //! # Words of the chunks, the map and `zip_eq`
