@@ -7,6 +7,7 @@ pub mod Halves
 pub mod Least
 pub mod Levels
 pub mod Names
+pub mod Parts
 pub mod Powers
 pub mod Region
 pub mod Reversal

@@ -3,6 +3,7 @@
 
 pub mod bits;
 pub mod laws;
+pub(crate) mod parts;
 pub mod places;
 pub mod reverse;
 pub mod transpose;
