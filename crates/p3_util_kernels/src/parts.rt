@@ -1,6 +1,6 @@
 //! The cut of a length into parts, by which calls are given to several threads.
 
-ghost use Rattle.std.specs.Prelude.{◌≡◌, ℕ, ◌+◌, ◌*◌, ◌%◌, ◌<◌};
+ghost use Rattle.std.specs.Prelude.{◌≡◌, ℕ, ◌+◌, ◌*◌, ◌%◌, ◌<◌, ◌≤◌, max};
 ghost use Rattle.p3_util_kernels.specs.Parts.{FollowEachOther, parts_in, start_of};
 
 /// The numbers below `len`, cut into parts of `step` neighbouring ones. The last part may have fewer.
@@ -16,6 +16,7 @@ impl Cut {
     pub(crate) fn new(len: usize, parts: usize, unit: usize) -> Cut
         requires { 0 < unit }
         ensures len { result.len ≡ len }
+        ensures few { parts_in result.len result.step ≤ max parts 1 }
         ensures units { (k : ℕ) → k < parts_in result.len result.step → start_of result.len result.step k % unit ≡ 0 }
     {
         let units = len.div_ceil(unit).div_ceil(parts.max(1));

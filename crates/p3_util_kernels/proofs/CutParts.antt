@@ -1,0 +1,50 @@
+-- The cut of a length into parts.
+use Rattle.std.proofs.Common.{◌≡◌, ℕ, ◌+◌, ◌-◌, ◌*◌, ◌%◌, ◌^◌, ◌<◌, ◌≤◌, min, max, ap, inl, inr, arith}
+use Rattle.std.specs.Int.{div_ceil}
+use Rattle.std.proofs.lemmas.Bool.{cases_lt}
+use Rattle.std.proofs.lemmas.Grind.{div_ceil_times}
+use Rattle.std.proofs.Math.Nat.{lt_of_mul-lt-mul_right, mul-le-mul, mul-le-mul_right, mul-mod_left}
+use Rattle.p3_util_kernels.specs.Parts.{parts_in, start_of}
+
+module _ (len unit units step : ℕ) (some : 0 < unit) (most : 0 < units) (fits : len < 2 ^ 64) (step_is : step ≡ min (units * unit) (2 ^ 64 - 1)) where
+  step-some : 0 < step
+  step-some = let positive : 1 * 1 ≤ units * unit = mul-le-mul most some in omega (arith, positive)
+
+  -- a part begins below the length
+  start-below : (k : ℕ) → k < parts_in len step → k * step < len
+  start-below k below =
+      let next : (k + 1) * step ≤ parts_in len step * step = mul-le-mul_right step (omega arith) in
+      omega (arith, (div_ceil_times len step step-some).1, next)
+
+  -- parts of a length whose step is a multiple of `unit`, or no less than the length, begin at multiples of `unit`
+  pub start-aligned : (k : ℕ) → k < parts_in len step → start_of len step k % unit ≡ 0
+  start-aligned k below =
+      let inside : k * step < len = start-below k below in
+      elim (cases_lt (units * unit) (2 ^ 64)) [
+        | inl small ↦
+            let whole : step ≡ units * unit = omega arith in
+            let start : start_of len step k ≡ k * units * unit = omega (arith, ap (λ s. k * s) whole) in
+            rw start (mul-mod_left (k * units) unit)
+        | inr large ↦
+            let alone : k * step < 1 * step = omega arith in
+            let before : k < 1 = lt_of_mul-lt-mul_right step alone in
+            let first : k ≡ 0 = omega arith in
+            let start : start_of len step k ≡ 0 * unit = omega (arith, ap (λ j. j * step) first) in
+            rw start (mul-mod_left 0 unit)
+      ]
+
+  -- the parts are no more than was asked for
+  pub parts-few : (parts : ℕ) → 0 < parts → units ≡ max (div_ceil (div_ceil len unit) parts) 1 → parts_in len step ≤ parts
+  parts-few parts asked units_are =
+      let a : len ≤ div_ceil len unit * unit = (div_ceil_times len unit some).0 in
+      let b : div_ceil len unit ≤ div_ceil (div_ceil len unit) parts * parts = (div_ceil_times (div_ceil len unit) parts asked).0 in
+      let c : div_ceil (div_ceil len unit) parts * parts ≤ units * parts = mul-le-mul_right parts (omega arith) in
+      let d : div_ceil len unit * unit ≤ units * parts * unit = mul-le-mul_right unit (omega arith) in
+      let enough : len ≤ parts * step =
+      elim (cases_lt (units * unit) (2 ^ 64)) [
+        | inl small ↦ let whole : step ≡ units * unit = omega arith in rw whole (omega arith)
+        | inr large ↦ let one : 1 * step ≤ parts * step = mul-le-mul_right step asked in omega arith
+      ] in
+      let next : parts_in len step * step < (parts + 1) * step = omega (arith, (div_ceil_times len step step-some).1, enough) in
+      let less : parts_in len step < parts + 1 = lt_of_mul-lt-mul_right step next in
+      omega arith
