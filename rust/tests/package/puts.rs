@@ -1,0 +1,227 @@
+//! The order and the number of puts, over holders of one's own.
+
+use std::ops::Range;
+
+use p3_util_proved::kernels::places::{SliceSource, Writes};
+use p3_util_proved::kernels::transpose::*;
+
+use crate::noted::{Noted, Side, halves};
+use crate::transposed;
+
+#[test]
+fn a_count_of_puts_goes_on_from_the_one_before() {
+    let mut cells = Noted::numbered(12);
+    let mut writes = Writes::new(&mut cells);
+    transpose_on(&[7; 12], &mut writes, 3, 4);
+    transpose_source_on(&SliceSource::new(&[8; 12]), &mut writes, 4, 3);
+    assert_eq!(writes.writes(), 24);
+    assert_eq!(cells.items, [8; 12]);
+}
+
+/// The region that is a whole matrix.
+fn whole(width: usize, height: usize) -> Region {
+    Region {
+        row_start: 0,
+        row_end: height,
+        col_start: 0,
+        col_end: width,
+    }
+}
+
+/// Asserts that calls on a region put a whole matrix as a transpose does: where it is large those that split it, else
+/// the others.
+fn check_whole_region(input: &[u64], noted: &Noted, width: usize, height: usize) {
+    let whole = whole(width, height);
+    let (mut first, mut second) = (Noted::numbered(input.len()), Noted::numbered(input.len()));
+    let mut out = Writes::new(&mut first);
+    if input.len() > 1 << 20 {
+        let source = SliceSource::new(input);
+        transpose_split_on(input, &mut out, whole, width, height, 64);
+        transpose_source_split_on(&source, &mut Writes::new(&mut second), whole, width, height, 64);
+    } else {
+        transpose_region_on(input, &mut out, whole, width, height);
+        transpose_region_counted(input, &mut second, whole, width, height);
+    }
+    assert!(first == *noted && second == *noted, "{width} by {height}");
+}
+
+/// The columns and the rows of the puts of a transpose, in order. Each form of the call makes the same, as many as
+/// items.
+fn puts(width: usize, height: usize) -> Vec<(usize, usize)> {
+    let input: Vec<u64> = (0..(width * height) as u64).collect();
+    let source = SliceSource::new(&input);
+    let count = input.len() as u128;
+    let mut noted = Noted::numbered(input.len());
+    assert_eq!(transpose_counted(&input, &mut noted, width, height), count);
+    assert_eq!(noted.puts.len(), input.len());
+    let mut by_source = Noted::numbered(input.len());
+    assert_eq!(transpose_source_counted(&source, &mut by_source, width, height), count);
+    assert!(by_source == noted);
+    let (mut first, mut second) = (Noted::numbered(input.len()), Noted::numbered(input.len()));
+    transpose_on(&input, &mut Writes::new(&mut first), width, height);
+    transpose_source_on(&source, &mut Writes::new(&mut second), width, height);
+    assert!(first == noted && second == noted);
+    check_whole_region(&input, &noted, width, height);
+    noted
+        .puts
+        .iter()
+        .map(|place| (place / height, place % height))
+        .collect()
+}
+
+/// How a matrix is put.
+enum Order {
+    /// By blocks of four by four items.
+    Blocks,
+    /// By strips of at most so many rows.
+    Strips(usize),
+    /// By the parts of its split, and each of these by strips of at most so many rows.
+    Parts(usize),
+}
+
+/// The columns and rows of a region, strip by strip from its top down: of a strip, which has at most `most` rows, column
+/// after column from left to right, and of a column each row from its top down.
+fn by_strips(rows: Range<usize>, cols: Range<usize>, most: usize) -> impl Iterator<Item = (usize, usize)> {
+    rows.clone().step_by(most).flat_map(move |top| {
+        let bottom = rows.end.min(top + most);
+        cols.clone().flat_map(move |x| (top..bottom).map(move |y| (x, y)))
+    })
+}
+
+/// The columns and rows of a matrix by strips of 16 rows, and in these four columns at a time: by blocks of four rows, or all
+/// rows of a lower strip at the bottom.
+fn by_blocks(width: usize, height: usize) -> impl Iterator<Item = (usize, usize)> {
+    let strips = (0..height).step_by(16).map(move |top| top..height.min(top + 16));
+    let groups = strips.flat_map(move |rows| (0..width).step_by(4).map(move |x| (rows.clone(), x..x + 4)));
+    groups.flat_map(|(rows, cols)| match rows.len() {
+        16 => by_strips(rows, cols, 4),
+        _ => by_strips(rows, cols, 16),
+    })
+}
+
+/// The columns and rows of a matrix by the parts of its split, and of each part by strips of at most `most` rows.
+fn by_parts(width: usize, height: usize, most: usize) -> impl Iterator<Item = (usize, usize)> {
+    let parts = halves(0..height, 0..width, |rows, cols| {
+        match (rows.min(cols) <= 2 || rows.max(cols) <= 128, rows >= cols) {
+            (true, _) => None,
+            (_, true) => Some(Side::Rows),
+            (_, false) => Some(Side::Cols),
+        }
+    });
+    parts
+        .into_iter()
+        .flat_map(move |(rows, cols)| by_strips(rows, cols, most))
+}
+
+/// Widths, heights and the order of the puts.
+const ORDERS: [(usize, usize, Order); 21] = [
+    // High strips where 16 does not divide the width.
+    (20, 51, Order::Strips(128)),
+    (5, 204, Order::Strips(128)),
+    (20, 272, Order::Strips(128)),
+    (5000, 20, Order::Strips(128)),
+    // Where it does, blocks up to 1024 items, and low strips beyond.
+    (16, 16, Order::Blocks),
+    (16, 64, Order::Blocks),
+    (32, 32, Order::Blocks),
+    (48, 20, Order::Blocks),
+    (16, 65, Order::Strips(16)),
+    (64, 64, Order::Strips(16)),
+    (48, 32, Order::Strips(16)),
+    (16, 256, Order::Strips(16)),
+    (16, 8192, Order::Strips(16)),
+    (4992, 20, Order::Strips(16)),
+    // The greatest matrix that is not split, and the least that is.
+    (1024, 1024, Order::Strips(16)),
+    (17, 61_681, Order::Parts(128)),
+    // Other matrices that are, the last one into parts of 32 columns.
+    (1025, 1024, Order::Parts(128)),
+    (1040, 1024, Order::Parts(16)),
+    (1056, 1024, Order::Parts(16)),
+    (50_000, 37, Order::Parts(16)),
+    (32, 40_000, Order::Parts(16)),
+];
+
+#[test]
+fn puts_in_order() {
+    for (width, height, order) in ORDERS {
+        let puts = puts(width, height).into_iter();
+        let is_in_order = match order {
+            Order::Blocks => puts.eq(by_blocks(width, height)),
+            Order::Strips(most) => puts.eq(by_strips(0..height, 0..width, most)),
+            Order::Parts(most) => puts.eq(by_parts(width, height, most)),
+        };
+        assert!(is_in_order, "{width} by {height}");
+    }
+}
+
+/// Rows, columns, the levels that their split needs, and how many splits nest.
+const SPLITS: [(usize, usize, u32, u32); 5] = [
+    (128, 128, 0, 0),
+    (129, 128, 1, 1),
+    (2, 1000, 3, 0),
+    (3, 1000, 3, 3),
+    (1024, 1025, 7, 7),
+];
+
+#[test]
+fn nested_splits() {
+    for (height, width, needed, nested) in SPLITS {
+        let input: Vec<u64> = (0..(width * height) as u64).collect();
+        let whole = whole(width, height);
+        for levels in [needed, 64] {
+            let (mut first, mut second) = (Noted::numbered(input.len()), Noted::numbered(input.len()));
+            let (mut of_slice, mut of_source) = (Writes::new(&mut first), Writes::new(&mut second));
+            let source = SliceSource::new(&input);
+            let nests = [
+                transpose_split_on(&input, &mut of_slice, whole, width, height, levels),
+                transpose_source_split_on(&source, &mut of_source, whole, width, height, levels),
+            ];
+            assert_eq!(nests, [nested; 2], "{height} rows of {width}, {levels} levels");
+            assert_eq!(of_slice.writes(), input.len() as u128);
+            assert!(first == second);
+            let turned = |(place, item): (usize, &u64)| *item == transposed(width, height, place) as u64;
+            assert!(first.items.iter().enumerate().all(turned));
+        }
+    }
+}
+
+#[test]
+fn regions_of_every_size() {
+    let shapes = (0..=40).flat_map(|rows| (0..=40).map(move |cols| (rows, cols)));
+    for ((rows, cols), width) in shapes.flat_map(|shape| [(shape, 48), (shape, 43)]) {
+        let height = 44;
+        let (row_start, col_start) = (3, 2);
+        let region = Region {
+            row_start,
+            row_end: row_start + rows,
+            col_start,
+            col_end: col_start + cols,
+        };
+        let input: Vec<u64> = (0..(width * height) as u64).collect();
+        let blank = || Noted {
+            items: vec![u64::MAX; input.len()],
+            ..Noted::numbered(0)
+        };
+        let (mut counted, mut over_counter) = (blank(), blank());
+        let writes = transpose_region_counted(&input, &mut counted, region, width, height);
+        assert_eq!(writes, (rows * cols) as u128, "{rows} by {cols}");
+        transpose_region_on(&input, &mut Writes::new(&mut over_counter), region, width, height);
+        assert!(over_counter == counted);
+        for (place, item) in counted.items.iter().enumerate() {
+            let (x, y) = (place / height, place % height);
+            let inside = (3..3 + rows).contains(&y) && (2..2 + cols).contains(&x);
+            assert_eq!(*item, if inside { (y * width + x) as u64 } else { u64::MAX });
+        }
+    }
+}
+
+#[test]
+fn stages_of_a_block() {
+    let block = [[0u8, 1, 2, 3], [4, 5, 6, 7], [8, 9, 10, 11], [12, 13, 14, 15]];
+    let first = [[0, 4, 2, 6], [1, 5, 3, 7], [8, 12, 10, 14], [9, 13, 11, 15]];
+    let turned = [[0, 4, 8, 12], [1, 5, 9, 13], [2, 6, 10, 14], [3, 7, 11, 15]];
+    assert_eq!(butterfly_stage1(block), first);
+    assert_eq!(butterfly_stage2(first), turned);
+    assert_eq!(butterfly_4x4(block), turned);
+}
