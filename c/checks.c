@@ -104,6 +104,8 @@ static int check_bits(void) {
     CHECK(!p3_util_reverse_bits_len(1, 65, &number) && number == 7);
     CHECK(p3_util_log2_strict(1024, &number) && number == 10);
     CHECK(p3_util_log3_strict(531441, &number) && number == 12);
+    CHECK(p3_util_log3_strict(1594323, &number) && number == 13);
+    CHECK(p3_util_log3_strict(12157665459056928801ULL, &number) && number == 40);
     CHECK(p3_util_reverse_bits_len(11, 5, &number) && number == 26);
     return 0;
 }

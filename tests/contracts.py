@@ -47,7 +47,7 @@ def line(indent, code):
 
 def declarations(text, indent):
     """Of each declaration at this indent: whether it is public, its kind, its head, its clauses and what its braces hold."""
-    kinds = rf"^ {{{indent}}}(pub )?(?:const )?(fn|struct|enum|trait|type|impl|ghost(?! use))\b"
+    kinds = rf"^ {{{indent}}}(pub )?(?:const |extern \"C\" )?(fn|struct|enum|trait|type|impl|ghost(?! use))\b"
     for start in re.finditer(kinds, text, re.M):
         end = HEAD_ENDS.search(text, start.end()).start()
         head, clauses = " ".join(text[start.start(2):end].split()), []
@@ -115,16 +115,21 @@ def names_of(text, module):
     return re.findall(r"\w+", found[1]) if found else []
 
 
-sections = []
-for module in MODULES:
-    path = (glob.glob(f"crates/p3_util_kernels/src/{module}.rt") + glob.glob(f"crates/p3_util/src/{module}.rt"))[0]
-    parent = read(path)
-    lines = list(items(parent, re.findall(r"\w+", parent)))
-    for child in sorted(glob.glob(path.replace(".rt", "/*.rt"))):
-        lines += items(read(child), names_of(parent, re.search(r"(\w+)\.rt", child)[1]))
-    sections += [f"\n## `{module}`\n\n```text", *lines, "```"]
-root = read("crates/p3_util/src/lib.rt")
-files = [path for path in sorted(glob.glob("crates/p3_util/src/*.rt")) if re.search(r"(\w+)\.rt", path)[1] not in (*MODULES, "lib")]
-lines = [said for path in files for said in items(read(path), names_of(root, re.search(r"(\w+)\.rt", path)[1]))]
-sections += ["\n## The root\n\n```text", *lines, "```"]
-print(HEAD, *sections, WORDS, *words_by_module("\n".join(sections)), "```", sep="\n")
+def sections():
+    """The page's sections: one for each module, and one for the root."""
+    for module in MODULES:
+        path = (glob.glob(f"crates/p3_util_kernels/src/{module}.rt") + glob.glob(f"crates/p3_util/src/{module}.rt"))[0]
+        parent = read(path)
+        lines = list(items(parent, re.findall(r"\w+", parent)))
+        for child in sorted(glob.glob(path.replace(".rt", "/*.rt"))):
+            lines += items(read(child), names_of(parent, re.search(r"(\w+)\.rt", child)[1]))
+        yield from [f"\n## `{module}`\n\n```text", *lines, "```"]
+    root = read("crates/p3_util/src/lib.rt")
+    files = [path for path in sorted(glob.glob("crates/p3_util/src/*.rt")) if re.search(r"(\w+)\.rt", path)[1] not in (*MODULES, "lib")]
+    lines = [said for path in files for said in items(read(path), names_of(root, re.search(r"(\w+)\.rt", path)[1]))]
+    yield from ["\n## The root\n\n```text", *lines, "```"]
+
+
+if __name__ == "__main__":
+    said = list(sections())
+    print(HEAD, *said, WORDS, *words_by_module("\n".join(said)), "```", sep="\n")

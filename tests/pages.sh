@@ -20,6 +20,7 @@ if [ "$contracts" != "$(cat docs/CONTRACTS.md)" ]; then
     wrong=1
 fi
 python3 tests/facts.py || wrong=1
+python3 tests/exports.py || wrong=1
 for file in LICENSE NOTICE; do
     cmp "$file" "rust/$file" || wrong=1
 done

@@ -1,0 +1,46 @@
+"""Compares the exports of crates/p3_util_c, with their arguments and clauses, to the list tests/exports.txt, which is written
+by hand. Prints what differs, and fails if anything does."""
+import difflib
+import glob
+import math
+import re
+
+from contracts import declarations, function, read
+
+LIST = "tests/exports.txt"
+
+
+def entry(head, clauses):
+    """The lines of an export as the list has them, and the size in its name. Where there is one, SIZE stands for it, and ITEM
+    for a type of items of so many bytes."""
+    size = (re.search(r"_(\d+)\(", head) or [None, ""])[1]
+
+    def items(found):
+        bytes_of_item = math.prod(map(int, re.findall(r"\d+(?=\])", found[1])))
+        return "[ITEM]" if str(bytes_of_item) == size else found[0]
+
+    head = re.sub(r"\[(\[*u8(?:; \d+\])*)\]", items, head).replace(f"_{size}(", "_SIZE(" if size else "_(")
+    return "\n".join(function(0, "", head, clauses)), size
+
+
+found = {}
+for path in sorted(glob.glob("crates/p3_util_c/src/*.rt")):
+    text = read(path)
+    for public, kind, head, clauses, _ in declarations(text, 0):
+        if public and kind == "fn":
+            lines, size = entry(head, clauses)
+            found.setdefault(lines, []).append(size)
+
+# The list without its comment: the sizes, and then an entry a paragraph.
+first, *wanted = re.sub(r"^#.*\n", "", read(LIST), flags=re.M).strip().split("\n\n")
+sizes = first.removeprefix("SIZE: ").split()
+wanted = {lines: sizes if "_SIZE(" in lines else [""] for lines in wanted}
+
+
+def listed(entries):
+    return [line for lines in sorted(entries) for line in f"{lines}\nSIZE: {' '.join(entries[lines])}".split("\n")]
+
+
+differences = list(difflib.unified_diff(listed(wanted), listed(found), LIST, "crates/p3_util_c/src", lineterm="", n=1))
+print("\n".join(differences), end="\n" if differences else "")
+raise SystemExit(1 if differences else 0)
