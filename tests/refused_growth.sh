@@ -23,7 +23,8 @@ tests=(
 
 # The tests of the library, and the greatest number of requests that one of them makes.
 growth=tests/unproved/src/growth.rt.in
-most=$(sed -nE 's/.* makes_requests\(&rt, ([0-9]+), .*/\1/p' "$growth" | sort -n | tail -n 1)
+most=$(sed -nE 's/.* makes_requests\w*\(&rt, ([0-9]+), .*/\1/p' "$growth" | sort -n | tail -n 1)
+[[ -n $most ]] || { echo "FAILED  $growth: no test says how many requests it makes" && exit 1; }
 [[ ${1-} != program ]] || most=0
 
 work=$(mktemp -d)
