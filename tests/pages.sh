@@ -1,7 +1,7 @@
 #!/usr/bin/env bash
-# Compares the pages with the code (tests/facts.py), docs/CONTRACTS.md with what tests/contracts.py makes of it, the package's
-# license and notice with those of the repository, and the sum of the kit's logic with README's, where the kit is. Prints what
-# is wrong, a line each, and fails if anything is.
+# Compares the pages with the code (tests/facts.py), docs/CONTRACTS.md with what tests/contracts.py makes of it, the exports with
+# their list (tests/exports.py), the package's license and notice with those of the repository, and the sum of the kit's logic
+# with README's, where the kit is. Prints what is wrong, a line each, and fails if anything is.
 set -euo pipefail
 cd "$(dirname "$0")/.."
 
