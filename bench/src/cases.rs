@@ -109,6 +109,14 @@ impl Work {
         }
     }
 
+    /// The shape, and of a transpose the number of its items in brackets.
+    pub fn sized_shape(self) -> String {
+        match self {
+            Work::Transpose { .. } => format!("{} ({} items)", self.shape(), self.units()),
+            _ => self.shape(),
+        }
+    }
+
     /// Whether this is a transpose of one of these shapes, as the command line gives them.
     fn is_among(self, shapes: &str) -> bool {
         self.is("transpose", ..) && shapes.split(',').any(|shape| shape == self.shape())

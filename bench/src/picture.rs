@@ -1,15 +1,19 @@
-//! The table as a picture: for each call a panel, in it a line for each size of an item.
+//! The table as a picture: for each call a panel, in it a row for each shape, and in the row a point for each size of an
+//! item.
 
 use std::fmt::Write;
 
-use crate::cases::distinct;
+use crate::cases::{Work, distinct};
 use crate::table::Row;
 
 const WIDTH: f64 = 900.0;
-const PANEL: f64 = 330.0;
-const LEFT: f64 = 60.0;
-const TOP: f64 = 40.0;
-const PLOT_HEIGHT: f64 = 200.0;
+/// Where the points begin and end, with the names of the shapes on the left.
+const LEFT: f64 = 160.0;
+const RIGHT: f64 = 880.0;
+/// The height of a panel's head, of a row, and of what is empty below the rows.
+const HEAD: f64 = 62.0;
+const ROW: f64 = 14.0;
+const FOOT: f64 = 30.0;
 const COLORS: [(usize, &str); 16] = [
     (1, "#1b6ca8"),
     (2, "#7a4fa3"),
@@ -33,116 +37,121 @@ const COLORS: [(usize, &str); 16] = [
 /// panels name the processor that the code was built for.
 pub fn svg(rows: &[Row], cpu: Option<&str>) -> String {
     let build = cpu.map_or(String::new(), |cpu| format!(", built for {cpu}"));
-    let calls = distinct(rows.iter().map(Row::call));
-    let height = PANEL * calls.len() as f64;
-    let mut out = format!(
+    let (mut panels, mut height) = (String::new(), 0.0);
+    for call in distinct(rows.iter().map(Row::call)) {
+        let panel = Panel::of(rows.iter().filter(|row| row.call() == call).collect());
+        let _ = writeln!(panels, "<g transform=\"translate(0 {height})\">");
+        panel.draw(&mut panels, &format!("{call}{build}"));
+        panels.push_str("</g>\n");
+        height += panel.height();
+    }
+    format!(
         "<svg xmlns=\"http://www.w3.org/2000/svg\" width=\"{WIDTH}\" height=\"{height}\" font-family=\"sans-serif\" \
          font-size=\"11\">\n\
-         <rect width=\"100%\" height=\"100%\" fill=\"white\"/>\n"
-    );
-    for (k, call) in calls.iter().enumerate() {
-        let group: Vec<&Row> = rows.iter().filter(|it| it.call() == *call).collect();
-        let _ = writeln!(out, "<g transform=\"translate(0 {})\">", PANEL * k as f64);
-        panel(&mut out, &format!("{call}{build}"), &group);
-        out.push_str("</g>\n");
-    }
-    out.push_str("</svg>\n");
-    out
+         <rect width=\"100%\" height=\"100%\" fill=\"white\"/>\n\
+         {panels}</svg>\n"
+    )
 }
 
-/// Places of a panel: shapes from left to right, and the logarithm of the relative time from below.
-struct Scale {
-    shapes: Vec<String>,
+/// What was measured of one call. Shapes go from above by their sizes, and the logarithm of the relative time from the left.
+struct Panel<'a> {
+    rows: Vec<&'a Row>,
+    works: Vec<Work>,
     low: f64,
     high: f64,
 }
 
-impl Scale {
-    fn of(rows: &[&Row]) -> Self {
-        let shapes = distinct(rows.iter().map(|row| row.case.work.shape()));
+impl<'a> Panel<'a> {
+    fn of(rows: Vec<&'a Row>) -> Self {
+        let mut works = distinct(rows.iter().map(|row| row.case.work));
+        works.sort_by_key(|work| work.units());
         let logs = || rows.iter().map(|row| row.relative().log2());
         let (low, high) = (logs().fold(-1.0, f64::min), logs().fold(1.0, f64::max));
-        Scale {
-            shapes,
+        Panel {
+            works,
             low: low.floor(),
             high: high.ceil(),
+            rows,
         }
     }
 
-    fn x(&self, k: usize) -> f64 {
-        LEFT + (k as f64 + 0.5) * (WIDTH - LEFT - 20.0) / self.shapes.len() as f64
+    fn height(&self) -> f64 {
+        HEAD + ROW * self.works.len() as f64 + FOOT
     }
 
-    fn y(&self, log: f64) -> f64 {
-        TOP + PLOT_HEIGHT * (self.high - log) / (self.high - self.low)
+    fn x(&self, log: f64) -> f64 {
+        LEFT + (RIGHT - LEFT) * (log - self.low) / (self.high - self.low)
     }
-}
 
-fn panel(out: &mut String, head: &str, rows: &[&Row]) {
-    let scale = Scale::of(rows);
-    let beside = rows[0].beside();
-    let _ = writeln!(
-        out,
-        "<text x=\"{LEFT}\" y=\"16\" font-size=\"14\">{head}: time for items of so many bytes, where {beside} takes \
-         1</text>"
-    );
-    grid(out, &scale);
-    let mut place = LEFT;
-    for (size, color) in COLORS {
-        let line: Vec<&&Row> = rows.iter().filter(|row| row.case.item_size == size).collect();
-        if line.is_empty() {
-            continue;
+    fn draw(&self, out: &mut String, head: &str) {
+        let beside = self.rows[0].beside();
+        let _ = writeln!(
+            out,
+            "<text x=\"8\" y=\"16\" font-size=\"14\">{head}: time where {beside} takes 1</text>"
+        );
+        self.colors(out);
+        self.scale(out);
+        for (k, work) in self.works.iter().enumerate() {
+            self.shape(out, *work, HEAD + ROW * (k as f64 + 0.5));
         }
-        let _ = writeln!(
-            out,
-            "<text x=\"{place}\" y=\"32\" fill=\"{color}\">items of {size}</text>"
-        );
-        place += 66.0;
-        curve(out, &scale, &line, color);
     }
-}
 
-fn grid(out: &mut String, scale: &Scale) {
-    let right = WIDTH - 20.0;
-    let mut log = scale.low;
-    while log <= scale.high {
-        let (y, weight) = (scale.y(log), if log == 0.0 { 1.5 } else { 0.3 });
+    /// Which color has which size of an item.
+    fn colors(&self, out: &mut String) {
+        let _ = writeln!(out, "<text x=\"8\" y=\"34\">bytes of an item:</text>");
+        let mut x = 110.0;
+        for (size, color) in self.measured() {
+            let _ = writeln!(
+                out,
+                "<circle cx=\"{x}\" cy=\"30\" r=\"4\" fill=\"{color}\"/><text x=\"{}\" y=\"34\">{size}</text>",
+                x + 8.0
+            );
+            x += 44.0;
+        }
+    }
+
+    /// The sizes of items that were measured, with their colors.
+    fn measured(&self) -> impl Iterator<Item = (usize, &'static str)> {
+        let is_here = |size| self.rows.iter().any(|row| row.case.item_size == size);
+        COLORS.into_iter().filter(move |&(size, _)| is_here(size))
+    }
+
+    /// Lines from above to below at the powers of two, and their numbers.
+    fn scale(&self, out: &mut String) {
+        let bottom = self.height() - FOOT;
+        let mut log = self.low;
+        while log <= self.high {
+            let (x, weight) = (self.x(log), if log == 0.0 { 1.5 } else { 0.3 });
+            let _ = writeln!(
+                out,
+                "<path d=\"M{x:.1} {HEAD}V{bottom}\" stroke=\"black\" stroke-width=\"{weight}\"/>\n\
+                 <text x=\"{x:.1}\" y=\"{}\" text-anchor=\"middle\">{}</text>",
+                HEAD - 6.0,
+                log.exp2()
+            );
+            log += 1.0;
+        }
+    }
+
+    /// The row of a shape: its name, a thin line, and the points.
+    fn shape(&self, out: &mut String, work: Work, y: f64) {
         let _ = writeln!(
             out,
-            "<path d=\"M{LEFT} {y:.1}H{right}\" stroke=\"black\" stroke-width=\"{weight}\"/>"
-        );
-        let _ = writeln!(
-            out,
-            "<text x=\"{:.1}\" y=\"{:.1}\" text-anchor=\"end\">{}</text>",
-            LEFT - 6.0,
+            "<text x=\"{}\" y=\"{}\" text-anchor=\"end\">{}</text>\n\
+             <path d=\"M{LEFT} {y}H{RIGHT}\" stroke=\"black\" stroke-width=\"0.1\"/>",
+            LEFT - 8.0,
             y + 4.0,
-            log.exp2()
+            work.sized_shape()
         );
-        log += 1.0;
+        for (size, color) in self.measured() {
+            let is_here = |row: &&&Row| row.case.work == work && row.case.item_size == size;
+            for row in self.rows.iter().filter(is_here) {
+                let x = self.x(row.relative().log2());
+                let _ = writeln!(
+                    out,
+                    "<circle cx=\"{x:.1}\" cy=\"{y}\" r=\"4\" fill=\"{color}\" fill-opacity=\"0.8\"/>"
+                );
+            }
+        }
     }
-    for (k, shape) in scale.shapes.iter().enumerate() {
-        let (x, y) = (scale.x(k), TOP + PLOT_HEIGHT + 14.0);
-        let _ = writeln!(
-            out,
-            "<text x=\"{x:.1}\" y=\"{y}\" text-anchor=\"end\" transform=\"rotate(-45 {x:.1} {y})\">{shape}</text>"
-        );
-    }
-}
-
-fn curve(out: &mut String, scale: &Scale, rows: &[&&Row], color: &str) {
-    let mut points = String::new();
-    for row in rows {
-        let shape = row.case.work.shape();
-        let Some(k) = scale.shapes.iter().position(|it| *it == shape) else {
-            continue;
-        };
-        let (x, y) = (scale.x(k), scale.y(row.relative().log2()));
-        let _ = write!(points, "{x:.1},{y:.1} ");
-        let _ = writeln!(out, "<circle cx=\"{x:.1}\" cy=\"{y:.1}\" r=\"2.5\" fill=\"{color}\"/>");
-    }
-    let _ = writeln!(
-        out,
-        "<polyline points=\"{}\" fill=\"none\" stroke=\"{color}\"/>",
-        points.trim_end()
-    );
 }
