@@ -1,37 +1,51 @@
--- How many pairs of rows the lines before one have: as many as each line's number has low digits' worth.
-use Rattle.std.proofs.Common.{◌≡◌, ℕ, zero, suc, ◌+◌, ◌-◌, ◌*◌, ◌/◌, ◌%◌, ◌^◌, ◌≤◌, refl, ap, ◌∙◌, arith}
-use Rattle.std.proofs.lemmas.Nat.{mod-mul-add, pow-add}
-use Rattle.p3_util_kernels.specs.Digits.{sum_below}
-use Rattle.p3_util_kernels.specs.SwapCounts.{short_swaps}
+-- How many pairs of rows the first lines have: line l has as many as the remainder of l by the number of lines of one middle digit.
+use Rattle.std.proofs.Common.{◌≡◌, ℕ, ◌+◌, ◌-◌, ◌*◌, ◌/◌, ◌%◌, ◌^◌, ◌<◌, ◌≤◌, inl, inr, refl, sym, ap, ◌∙◌, arith}
+use Rattle.std.proofs.lemmas.Bool.{cases_lt}
+use Rattle.std.proofs.lemmas.Nat.{div-add-mod', div-mul-add, mod-mul-add, mod_below, pow-add, pow_pos}
+use Rattle.p3_util_kernels.specs.Crossing.{line_pairs_of}
+use Rattle.p3_util_kernels.specs.SwapCounts.{line_swaps, short_swaps, square_swaps}
 use Rattle.p3_util_kernels.proofs.Pairs.{pairs-add, twice-pairs}
+use Rattle.p3_util_kernels.proofs.Powers.{power-even}
 
-pub sum_below-none : (f : ℕ → ℕ) → sum_below 0 f ≡ 0
-unfolding sum_below
-sum_below-none f = refl
+-- the number of a line's pairs where the line has an even number, and one more for the line after it
+pub line-even : (q line : ℕ) → 0 < q → line % 2 ≡ 0 → (line % 2 ^ q + 1 < 2 ^ q) × ((line + 1) % 2 ^ q ≡ line % 2 ^ q + 1)
+line-even q line some even =
+    let y = line % 2 ^ q in
+    let split : line / 2 ^ q * 2 ^ q + y ≡ line = div-add-mod' line (2 ^ q) in
+    let twice : line / 2 ^ q * 2 ^ q ≡ 2 * (line / 2 ^ q * 2 ^ (q - 1)) = ap (λ n. line / 2 ^ q * n) (power-even q some) ∙ omega arith in
+    let below : y + 1 < 2 ^ q = omega (arith, power-even q some, mod_below line (2 ^ q) (pow_pos q)) in
+    let next : line + 1 ≡ line / 2 ^ q * 2 ^ q + (y + 1) = omega arith in
+    (below, rw next (mod-mul-add (line / 2 ^ q) (2 ^ q) (y + 1) below))
 
-pub sum_below-more : (n : ℕ) (f : ℕ → ℕ) → sum_below (n + 1) f ≡ sum_below n f + f n
-unfolding sum_below
-sum_below-more n f = let e : n + 1 ≡ suc n = omega arith in rw e refl
+-- the pairs of some whole squares of lines, and of j lines more
+line_swaps-of : (digits line_pairs e j : ℕ) → line_pairs * 2 ≡ e * 2 ^ (digits / 2) + j → j < 2 ^ (digits / 2)
+    → line_swaps digits line_pairs ≡ e * square_swaps (2 ^ (digits / 2)) + square_swaps j
+line_swaps-of digits line_pairs e j is below =
+    rw (is, div-mul-add e (2 ^ (digits / 2)) j below, mod-mul-add e (2 ^ (digits / 2)) j below) refl
 
--- the lines of one middle digit
-sum-within : (n e j : ℕ) → j ≤ n → sum_below (e * n + j) (λ l. l % n) ≡ sum_below (e * n) (λ l. l % n) + j * (j - 1) / 2
-sum-within n e zero h = let end : e * n + 0 ≡ e * n = omega arith in rw end (omega arith)
-sum-within n e (suc j) h =
-    let before : sum_below (e * n + j) (λ l. l % n) ≡ sum_below (e * n) (λ l. l % n) + j * (j - 1) / 2 = sum-within n e j (omega arith) in
-    let here : (e * n + j) % n ≡ j = mod-mul-add e n j (omega arith) in
-    let end : e * n + suc j ≡ e * n + j + 1 = omega arith in
-    let next : suc j ≡ j + 1 = omega arith in
-    rw (end, sum_below-more, before, here, next) (omega (arith, pairs-add j 1))
+pub line_swaps-none : (digits : ℕ) → line_swaps digits 0 ≡ 0
+line_swaps-none digits = line_swaps-of digits 0 0 0 (omega arith) (pow_pos (digits / 2)) ∙ omega arith
 
-sum-lines : (n e : ℕ) → sum_below (e * n) (λ l. l % n) ≡ e * (n * (n - 1) / 2)
-sum-lines n zero = let none : 0 * n ≡ 0 = omega arith in rw none (sum_below-none (λ l. l % n) ∙ omega arith)
-sum-lines n (suc e) =
-    let before : sum_below (e * n) (λ l. l % n) ≡ e * (n * (n - 1) / 2) = sum-lines n e in
-    let end : suc e * n ≡ e * n + n = omega arith in
-    rw end (sum-within n e n (omega arith) ∙ omega (arith, before))
+-- one pair of lines more
+pub line_swaps-more : (digits line_pair : ℕ) → 2 ≤ digits
+    → line_swaps digits (line_pair + 1) ≡ line_swaps digits line_pair + (line_pair * 2 % 2 ^ (digits / 2) + (line_pair * 2 % 2 ^ (digits / 2) + 1))
+line_swaps-more digits line_pair some =
+    let side = 2 ^ (digits / 2) in
+    let e = line_pair * 2 / side in
+    let j = line_pair * 2 % side in
+    let split : e * side + j ≡ line_pair * 2 = div-add-mod' (line_pair * 2) side in
+    let fits = line-even (digits / 2) (line_pair * 2) (omega arith) (omega arith) in
+    let now = line_swaps-of digits line_pair e j (omega arith) (omega (arith, fits.0)) in
+    let two : square_swaps (j + 2) ≡ square_swaps j + (j + (j + 1)) = omega (arith, pairs-add j 2) in
+    elim (cases_lt (j + 2) side) [
+      | inl more ↦ line_swaps-of digits (line_pair + 1) e (j + 2) (omega arith) more ∙ omega (arith, now, two)
+      | inr last ↦
+          let end : j + 2 ≡ side = omega (arith, fits.0) in
+          line_swaps-of digits (line_pair + 1) (e + 1) 0 (omega arith) (pow_pos (digits / 2)) ∙ omega (arith, now, rw end at two)
+    ]
 
--- the lines of all middle digits
-pub lines-short : (q d : ℕ) → d ≤ 1 → sum_below (2 ^ (d + q)) (λ l. l % 2 ^ q) ≡ short_swaps (q + (d + q))
+-- the pairs of all lines
+pub lines-short : (q d : ℕ) → d ≤ 1 → 2 ^ d * square_swaps (2 ^ q) ≡ short_swaps (q + (d + q))
 lines-short q d few =
     let n = 2 ^ q in
     let e = 2 ^ d in
@@ -39,4 +53,51 @@ lines-short q d few =
     let half : (q + (d + q) + 1) / 2 ≡ d + q = omega arith in
     let whole : 2 ^ (q + (d + q)) ≡ n * (e * n) = pow-add 2 q (d + q) ∙ ap (λ x. n * x) (pow-add 2 d q) in
     let lines : 2 ^ (d + q) ≡ e * n = pow-add 2 d q in
-    rw lines (sum-lines n e ∙ rw (half, whole, lines) (omega arith))
+    rw (half, whole, lines) (omega arith)
+
+-- The pairs of lines are all lines where a middle digit has more than one line. Elsewhere there are none.
+line_pairs-all : (digits : ℕ) → 2 ≤ digits → line_pairs_of digits * 2 ≡ 2 ^ (digits % 2) * 2 ^ (digits / 2)
+line_pairs-all digits some =
+    let even = power-even (digits / 2) (omega arith) in
+    let halved : 2 * (2 ^ (digits / 2) / 2) ≡ 2 ^ (digits / 2) = omega arith in
+    let scaled = ap (λ n. 2 ^ (digits % 2) * n) halved in
+    omega (arith, scaled)
+
+line_pairs-few : (digits : ℕ) → digits < 2 → line_pairs_of digits ≡ 0
+line_pairs-few digits few =
+    let none : digits / 2 ≡ 0 = omega arith in
+    let one : 2 ^ (digits / 2) ≡ 1 = rw none refl in
+    rw one (omega arith)
+
+pub line_pairs-whole : (digits : ℕ) → 0 < digits / 2 → line_pairs_of digits * 2 ≡ 2 ^ (digits - digits / 2)
+line_pairs-whole digits some =
+    let parts : digits - digits / 2 ≡ digits % 2 + digits / 2 = omega arith in
+    rw (parts, pow-add) (line_pairs-all digits (omega arith))
+
+pub line_pairs-inside : (digits : ℕ) → line_pairs_of digits * 2 ≤ 2 ^ (digits - digits / 2)
+line_pairs-inside digits =
+    elim (cases_lt digits 2) [
+      | inl few ↦ omega (arith, line_pairs-few digits few)
+      | inr more ↦ omega (arith, line_pairs-whole digits (omega arith))
+    ]
+
+-- so the lines of a pair of lines lie below all lines
+pub line-below : (digits line : ℕ) → line % 2 ≡ 0 → line / 2 < line_pairs_of digits → (2 ≤ digits) × (line + 1 < 2 ^ (digits - digits / 2))
+line-below digits line even h =
+    elim (cases_lt digits 2) [
+      | inl few ↦ absurd (omega (arith, line_pairs-few digits few))
+      | inr more ↦ (more, omega (arith, line_pairs-inside digits))
+    ]
+
+pub line_swaps-all : (digits : ℕ) → line_swaps digits (line_pairs_of digits) ≡ short_swaps digits
+line_swaps-all digits =
+    let parts : digits / 2 + (digits % 2 + digits / 2) ≡ digits = omega arith in
+    let short = rw parts at (lines-short (digits / 2) (digits % 2) (omega arith)) in
+    elim (cases_lt digits 2) [
+      | inl few ↦
+          let none : digits / 2 ≡ 0 = omega arith in
+          let one : 2 ^ (digits / 2) ≡ 1 = rw none refl in
+          let nothing : 2 ^ (digits % 2) * square_swaps 1 ≡ 0 = omega arith in
+          rw (line_pairs-few digits few) (line_swaps-none digits ∙ sym nothing ∙ (rw one at short))
+      | inr more ↦ line_swaps-of digits (line_pairs_of digits) (2 ^ (digits % 2)) 0 (omega (arith, line_pairs-all digits more)) (pow_pos (digits / 2)) ∙ omega (arith, short)
+    ]

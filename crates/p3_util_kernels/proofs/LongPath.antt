@@ -5,9 +5,8 @@ use Rattle.p3_util_kernels.specs.Digits.{rev}
 use Rattle.p3_util_kernels.specs.Reversal.{IsReversal, IsRowReversal}
 use Rattle.p3_util_kernels.specs.SideBySide.{AreTransposed}
 use Rattle.p3_util_kernels.proofs.Digits.{rev-lt, rev-around}
-use Rattle.p3_util_kernels.proofs.Matrix.{each_place}
 use Rattle.p3_util_kernels.proofs.Reversal.{IsReversal-from_power}
-use Rattle.p3_util_kernels.proofs.SideBySide.{row_length, in_row}
+use Rattle.p3_util_kernels.proofs.SideBySide.{each_part, in_row}
 
 -- A list of 2 ^ size chunks of 2 ^ stride items, which are one square or two. Where its chunks are reversed, each square is
 -- transposed, and the chunks are reversed again, the list is reversed by index bits.
@@ -38,9 +37,4 @@ module _ {A : Type 0} (size stride : ℕ) (within : size ≤ stride) (few : stri
   IsReversal-composed =
       let k = size + stride in
       IsReversal-from_power k old new fits (again.same_length ∙ same)
-      (λ p h.
-      each_place (λ p. slice_get new p ≡ slice_get old (rev k p)) (2 ^ size) (2 ^ stride) p (rw (fits, pow-add 2 size stride) at h)
-      (λ a j ha hj.
-      each_place (λ j. slice_get new (a * 2 ^ stride + j) ≡ slice_get old (rev k (a * 2 ^ stride + j))) (2 ^ (stride - size)) (2 ^ size) j
-      (rw (← row_length stride size within) at hj)
-      (λ s y hs hy. at_place a s y ha hs hy)))
+      (λ p h. each_part stride size within (λ p. slice_get new p ≡ slice_get old (rev k p)) at_place p (rw fits at h))

@@ -27,6 +27,11 @@ exponent-lt a b h =
       | inr le ↦ le
     ]
 
+-- a power of two above 1 is even
+pub power-even : (k : ℕ) → 0 < k → 2 ^ k ≡ 2 * 2 ^ (k - 1)
+power-even zero some = absurd (omega arith)
+power-even (suc k) some = let before : suc k - 1 ≡ k = omega arith in rw (before, pow-suc) (omega arith)
+
 ones_of_zero : ones 0 ≡ 0
 unfolding ones ones_in
 ones_of_zero = refl

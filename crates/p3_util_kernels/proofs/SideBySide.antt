@@ -2,6 +2,7 @@
 use Rattle.std.proofs.Common.{◌≡◌, ℕ, ◌+◌, ◌-◌, ◌*◌, ◌^◌, ◌<◌, ◌≤◌, List, slice_get, inl, inr, sym, ap, ◌∙◌, arith}
 use Rattle.std.proofs.lemmas.Bool.{cases_lt}
 use Rattle.std.proofs.lemmas.Nat.{pow-add, pow_pos, mul-add-lt, same_from_place}
+use Rattle.p3_util_kernels.proofs.Matrix.{each_place}
 use Rattle.p3_util_kernels.specs.Square.{IsSquareTransposed}
 use Rattle.p3_util_kernels.specs.SideBySide.{AreTransposed}
 
@@ -13,6 +14,16 @@ module _ (log_stride log_size : ℕ) (within : log_size ≤ log_stride) where
   -- a square and a column of it are within the row
   pub in_row : (s b : ℕ) → s < 2 ^ (log_stride - log_size) → b < 2 ^ log_size → s * 2 ^ log_size + b < 2 ^ log_stride
   in_row s b hs hb = rw (← row_length) (omega (arith, mul-add-lt s (2 ^ log_size) b (2 ^ (log_stride - log_size)) hs hb))
+
+  -- what holds of each row, square and column holds of each place
+  pub each_part : (P : ℕ → Type 0)
+      → ((a s b : ℕ) → a < 2 ^ log_size → s < 2 ^ (log_stride - log_size) → b < 2 ^ log_size → P (a * 2 ^ log_stride + (s * 2 ^ log_size + b)))
+      → (p : ℕ) → p < 2 ^ (log_size + log_stride) → P p
+  each_part P all p h =
+      each_place P (2 ^ log_size) (2 ^ log_stride) p (rw (pow-add 2 log_size log_stride) at h)
+      (λ a q ha hq.
+      each_place (λ q. P (a * 2 ^ log_stride + q)) (2 ^ (log_stride - log_size)) (2 ^ log_size) q (rw (← row_length) at hq)
+      (λ s b hs hb. all a s b ha hs hb))
 
   -- the last place of a square is within the list
   pub square_room : (s n : ℕ) → n ≡ 2 ^ (log_size + log_stride) → s < 2 ^ (log_stride - log_size)

@@ -1,31 +1,36 @@
--- Rows on their way to being reversed by pairs, for the contracts of the private functions of `reverse/rows`.
+-- Pairs of rows exchanged, for the contracts of the kernels in `reverse/pairs`.
 --
--- There are 2 ^ (half + (d + half)) rows of `row_width` items. As `src/reverse/rows.rt` explains, the index of a row has three
--- parts: `half` digits, of which `x` is the reverse, d digits `middle`, and `half` digits `y`. The row is exchanged with the
--- row that has x and y in each other's place. A line is all pairs that share `middle` and the greater one of x and y. The
--- pairs of two neighbouring lines come up together, in the order of the smaller one of x and y.
-use Rattle.std.specs.Prelude.{ℕ, ◌≡◌, ◌+◌, ◌*◌, ◌/◌, ◌%◌, ◌^◌, ◌<◌, ◌≤◌, ◌⊎◌, min, max, List, length, slice_get}
+-- There are 2 ^ (half + c) rows of `row_width` items, where c is `half` or half + 1. As `src/reverse/pairs.rt` explains, the
+-- index of a row has three parts: `half` digits, of which `x` is the reverse, c - half digits `middle`, and `half` digits `y`.
+-- The row is exchanged with the row that has x and y in each other's place. A line is all pairs that share `middle` and the
+-- greater one of x and y. So a pair is named by its line and by the smaller one, and pairs are given as a region is: its
+-- columns are lines, and its rows the smaller numbers.
+use Rattle.std.specs.Prelude.{ℕ, ◌≡◌, ◌+◌, ◌-◌, ◌*◌, ◌/◌, ◌%◌, ◌^◌, ◌<◌, min, max, List, length}
+use Rattle.p3_util_kernels.specs.declared.transpose.regions.Region.{Region}
 use Rattle.p3_util_kernels.specs.Digits.{rev}
+use Rattle.p3_util_kernels.specs.Mirrored.{Mirrored}
+use Rattle.p3_util_kernels.specs.Region.{IsInRegion}
 
 -- the row of three parts
-abbrev pub row_of : (half d middle x y : ℕ) → ℕ
-row_of half d middle x y = rev half x * 2 ^ (d + half) + (middle * 2 ^ half + y)
+abbrev pub row_of : (half c middle x y : ℕ) → ℕ
+row_of half c middle x y = rev half x * 2 ^ c + (middle * 2 ^ half + y)
 
--- the line of a pair
-abbrev pub line_of : (half middle x y : ℕ) → ℕ
-line_of half middle x y = middle * 2 ^ half + max x y
+-- x, y and a middle part m of a row, and item t of it
+pub record IsRowItem (half c row_width m t x y : ℕ) : Type 0 where
+  pub middle : m < 2 ^ (c - half)
+  pub item : t < row_width
+  pub high : x < 2 ^ half
+  pub low : y < 2 ^ half
 
--- the turn at which a pair comes up
-abbrev pub turn_of : (half middle x y : ℕ) → ℕ
-turn_of half middle x y = (line_of half middle x y / 2 * 2 ^ half + min x y) * 2 + line_of half middle x y % 2
+-- The pairs of these lines are exchanged, each item with its counterpart, and all other rows stay.
+abbrev pub IsCrossed : {A : Type 0} (half c row_width : ℕ) (pairs : Region) (old new : List A) → Type 0
+IsCrossed half c row_width pairs old new =
+    Mirrored {M = ℕ × ℕ} (λ m x y. row_of half c m.0 x y * row_width + m.1)
+    (λ m x y. IsRowItem half c row_width m.0 m.1 x y × IsInRegion pairs (m.0 * 2 ^ half + max x y) (min x y)) old new
 
--- The pairs whose turn is at least `start` and below `end` are exchanged, and all other rows stay.
-pub record IsCrossed {A : Type 0} (half d row_width start end : ℕ) (old new : List A) : Type 0 where
-  pub same_length : length new ≡ length old
-  pub crossed : (middle x y j : ℕ) → middle < 2 ^ d → x < 2 ^ half → y < 2 ^ half → j < row_width → start ≤ turn_of half middle x y → turn_of half middle x y < end
-      → slice_get new (row_of half d middle x y * row_width + j) ≡ slice_get old (row_of half d middle y x * row_width + j)
-  pub kept : (middle x y j : ℕ) → middle < 2 ^ d → x < 2 ^ half → y < 2 ^ half → j < row_width → (turn_of half middle x y < start) ⊎ (end ≤ turn_of half middle x y)
-      → slice_get new (row_of half d middle x y * row_width + j) ≡ slice_get old (row_of half d middle x y * row_width + j)
+-- the number of pairs of neighbouring lines of 2 ^ digits rows
+abbrev pub line_pairs_of : (digits : ℕ) → ℕ
+line_pairs_of digits = 2 ^ (digits % 2) * (2 ^ (digits / 2) / 2)
 
 -- The list is 2 ^ digits rows of `row_width` items, and the machine can hold its places.
 pub record HoldsRows {A : Type 0} (row_width digits : ℕ) (items : List A) : Type 0 where

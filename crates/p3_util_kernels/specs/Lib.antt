@@ -6,6 +6,7 @@ pub mod Exchanged
 pub mod Halves
 pub mod Least
 pub mod Levels
+pub mod Mirrored
 pub mod Names
 pub mod Parts
 pub mod Powers

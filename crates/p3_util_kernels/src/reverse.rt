@@ -7,13 +7,15 @@ ghost use Rattle.p3_util_kernels.specs.Steps.{counted};
 ghost use Rattle.p3_util_kernels.specs.SwapCounts.{reversal_swaps, row_swaps};
 
 mod long;
+mod pairs;
 mod rows;
 
 use crate::places::{Places, SlicePlaces, Swaps};
 pub use long::reverse_index_bits_long;
 use long::reverse_long;
+pub(crate) use pairs::{RowDigits, exchange_pairs};
+pub(crate) use rows::reverse_rows;
 use rows::reverse_short;
-pub(crate) use rows::{RowDigits, reverse_rows};
 pub use rows::{reverse_chunks_on, reverse_index_bits_short, reverse_row_index_bits_on};
 
 /// The greatest number of items for which the short path is picked.

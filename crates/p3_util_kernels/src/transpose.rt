@@ -15,10 +15,10 @@ use crate::places::{Cells, SliceCells, SliceSource, Source, Writes};
 pub use butterfly::{butterfly_4x4, butterfly_stage1, butterfly_stage2};
 pub(crate) use regions::Matrix;
 pub use regions::Region;
-use split::put_split;
+pub(crate) use split::put_split;
 pub use split::{transpose_source_split_on, transpose_split_on};
-pub(crate) use square::transpose_square;
 pub use square::transpose_square_on;
+pub(crate) use square::{Square, exchange_region, transpose_diagonal, transpose_square};
 use strips::{Strips, put_strips};
 
 /// The number of items above which a matrix is split.

@@ -1,13 +1,15 @@
 //! Bit reversal of lists: each item goes to the place whose index has the same binary digits in reversed order.
 
 mod long;
+mod pairs;
 mod rows;
 
 use crate::kernels::places::{Places, SlicePlaces, Swaps};
 pub use long::reverse_index_bits_long;
 use long::reverse_long;
+pub(crate) use pairs::{RowDigits, exchange_pairs};
+pub(crate) use rows::reverse_rows;
 use rows::reverse_short;
-pub(crate) use rows::{RowDigits, reverse_rows};
 pub use rows::{reverse_chunks_on, reverse_index_bits_short, reverse_row_index_bits_on};
 
 /// The greatest number of items for which the short path is picked.

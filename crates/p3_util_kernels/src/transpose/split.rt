@@ -68,14 +68,14 @@ where
     ensures holder { C.same_holder (items_of region) out.old.holder out.new.holder }
 {
     let matrix = Matrix::new(input, width, height);
-    let (_, count, nested) = put_split_counted(&mut out.holder, out.count, matrix, region, levels);
+    let (_, count, nested) = put_split_resumed(&mut out.holder, out.count, matrix, region, levels);
     out.count = count;
     nested
 }
 
 /// Puts `region` by halves over a counter that goes on from `count`, and returns its holder, its count and how many splits are
 /// nested.
-fn put_split_counted<C: Cells, R: Source<Item = C::Item> + Copy>(
+fn put_split_resumed<C: Cells, R: Source<Item = C::Item> + Copy>(
     cells: C,
     count: u128,
     matrix: Matrix<R>,

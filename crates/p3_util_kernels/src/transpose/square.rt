@@ -20,9 +20,9 @@ const LEAF_COLS: usize = 8;
 
 /// Where a square lies in a list: its first place, and how far apart its rows begin.
 #[derive(Clone, Copy)]
-struct Square {
-    base: usize,
-    stride: usize,
+pub(crate) struct Square {
+    pub base: usize,
+    pub stride: usize,
 }
 
 /// Transposes in place the square of `s = 2^log_size` rows and columns whose first place is `base` and whose rows begin
@@ -63,11 +63,11 @@ pub(crate) fn transpose_square<M: Places>(
         base,
         stride: pow2(log_stride),
     };
-    transpose_part(m, square, 0, pow2(log_size))
+    transpose_diagonal(m, square, 0, pow2(log_size))
 }
 
 /// Transposes the `size` rows and columns from row and column `start` on, by quadrants.
-fn transpose_part<M: Places>(m: M, square: Square, start: usize, size: usize) -> M
+pub(crate) fn transpose_diagonal<M: Places>(m: M, square: Square, start: usize, size: usize) -> M
     requires within { start + size ≤ square.stride }
     requires ready { HoldsSquare square.base square.stride (start + size - 1) (M.items m) }
     ensures swapped { SwapsAcross square.base square.stride
@@ -84,14 +84,14 @@ fn transpose_part<M: Places>(m: M, square: Square, start: usize, size: usize) ->
         col_start: start + half,
         col_end: start + size,
     };
-    let m = transpose_part(m, square, start, half);
-    let m = swap_region(m, square, upper_right);
-    transpose_part(m, square, start + half, size - half)
+    let m = transpose_diagonal(m, square, start, half);
+    let m = exchange_region(m, square, upper_right);
+    transpose_diagonal(m, square, start + half, size - half)
 }
 
 /// Exchanges a region above the diagonal with its mirror image below. A large region is halved: its rows are where they are
 /// more than twice as many as its columns, and else its columns are.
-fn swap_region<M: Places>(m: M, square: Square, region: Region) -> M
+pub(crate) fn exchange_region<M: Places>(m: M, square: Square, region: Region) -> M
     requires rows_in_order { region.row_start ≤ region.row_end }
     requires cols_in_order { region.col_start ≤ region.col_end }
     requires above { region.row_end ≤ region.col_start }
@@ -103,23 +103,23 @@ fn swap_region<M: Places>(m: M, square: Square, region: Region) -> M
     let (rows, cols) = (region.rows(), region.cols());
     if rows <= LEAF_ROWS && cols == LEAF_COLS {
         // The compiler knows how many columns most leaves have.
-        swap_leaf(m, square, region.with_known_sides(rows, LEAF_COLS))
+        exchange_leaf(m, square, region.with_known_sides(rows, LEAF_COLS))
     } else if rows <= LEAF_ROWS && cols < LEAF_COLS {
-        swap_leaf(m, square, region)
+        exchange_leaf(m, square, region)
     } else if rows / 2 > cols {
         let middle = region.row_start + rows / 2;
-        let m = swap_region(m, square, region.with_rows(region.row_start, middle));
-        swap_region(m, square, region.with_rows(middle, region.row_end))
+        let m = exchange_region(m, square, region.with_rows(region.row_start, middle));
+        exchange_region(m, square, region.with_rows(middle, region.row_end))
     } else {
         let middle = region.col_start + cols / 2;
-        let m = swap_region(m, square, region.with_cols(region.col_start, middle));
-        swap_region(m, square, region.with_cols(middle, region.col_end))
+        let m = exchange_region(m, square, region.with_cols(region.col_start, middle));
+        exchange_region(m, square, region.with_cols(middle, region.col_end))
     }
 }
 
-/// As [`swap_region`], row after row.
+/// As [`exchange_region`], row after row.
 #[inline(always)]
-fn swap_leaf<M: Places>(m: M, square: Square, region: Region) -> M
+fn exchange_leaf<M: Places>(m: M, square: Square, region: Region) -> M
     requires rows_in_order { region.row_start ≤ region.row_end }
     requires cols_in_order { region.col_start ≤ region.col_end }
     requires above { region.row_end ≤ region.col_start }
@@ -130,14 +130,14 @@ fn swap_leaf<M: Places>(m: M, square: Square, region: Region) -> M
 {
     let mut m = m;
     for row in region.row_start..region.row_end {
-        m = swap_row(m, square, row, region);
+        m = exchange_row(m, square, row, region);
     }
     m
 }
 
 /// Exchanges row `row` of the columns of `region`, which are right of the diagonal, with its mirror image.
 #[inline(always)]
-fn swap_row<M: Places>(m: M, square: Square, row: usize, region: Region) -> M
+fn exchange_row<M: Places>(m: M, square: Square, row: usize, region: Region) -> M
     requires cols_in_order { region.col_start ≤ region.col_end }
     requires above { row < region.col_start }
     requires within { region.col_end ≤ square.stride }

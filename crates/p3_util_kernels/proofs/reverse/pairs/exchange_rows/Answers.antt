@@ -1,0 +1,12 @@
+use Rattle.std.proofs.Common.{◌≡◌, ◌*◌, arith}
+use Rattle.p3_util_kernels.proofs.ExchangedRuns.{RunsExchanged-one}
+use Rattle.p3_util_kernels.proofs.reverse.pairs.exchange_rows.Goals as goal
+
+pub returns-then-row_width-eq1-clause-exchanged : goal.returns-then-row_width-eq1-clause-exchanged
+returns-then-row_width-eq1-clause-exchanged g c =
+    let one = c.if-row_width-eq1.true in
+    let i : c.args.i * 1 ≡ c.args.i = omega arith in
+    let j : c.args.j * 1 ≡ c.args.j = omega arith in
+    let first = rw one at c.requires.first in
+    let second = rw one at c.requires.second in
+    rw (one, i, j) (RunsExchanged-one c.args.i c.args.j _ _ (omega arith) (omega arith) c.exchange.ensures.exchanged)

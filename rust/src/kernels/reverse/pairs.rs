@@ -1,0 +1,120 @@
+//! The pairs of rows that a bit reversal exchanges.
+//!
+//! With 2^k rows and `half = k / 2`, the index of a row has three parts: `half` high digits, whose reverse is `x`, one digit
+//! `middle` where k is odd, and `half` low digits `y`. Its reverse has the reverse of `y`, the same middle digit and `x`:
+//!
+//! ```text
+//!     index      rev(x)  middle  y         k = 5, x = 01, middle = 1, y = 11:   10 1 11
+//!     reversed   rev(y)  middle  x                                              11 1 01
+//! ```
+//!
+//! So for each middle digit and for all `x` below `y`, the row of `x` and `y` is exchanged with the row of `y` and `x`. A
+//! *line* is all pairs that share the middle digit and `y`. The pairs of two neighbouring lines are exchanged in one loop over
+//! `x`: the rows of both lines lie side by side, so that they are in the cache at once where rows are short.
+
+use crate::kernels::bits::{log2_strict_usize, pow2, reverse_bits_len};
+use crate::kernels::places::Places;
+
+/// Each number below 64 with its six binary digits in reversed order. One read of this table is faster than the reversal of so
+/// few digits by halves.
+static REVERSED_SIX: [u8; 64] = [
+    0, 32, 16, 48, 8, 40, 24, 56, 4, 36, 20, 52, 12, 44, 28, 60, 2, 34, 18, 50, 10, 42, 26, 58, 6,
+    38, 22, 54, 14, 46, 30, 62, 1, 33, 17, 49, 9, 41, 25, 57, 5, 37, 21, 53, 13, 45, 29, 61, 3, 35,
+    19, 51, 11, 43, 27, 59, 7, 39, 23, 55, 15, 47, 31, 63,
+];
+
+/// Rows of `width` items, whose indices have `digits` binary digits: there are `2^digits` of them, or none.
+#[derive(Clone, Copy)]
+pub(crate) struct RowDigits {
+    pub width: usize,
+    pub digits: usize,
+}
+
+impl RowDigits {
+    /// The rows of `width` items of a list of `len` items.
+    #[inline(always)]
+    pub(crate) fn of(len: usize, width: usize) -> Self {
+        if len == 0 {
+            return RowDigits { width, digits: 0 };
+        }
+        let digits = log2_strict_usize(len / width);
+        RowDigits { width, digits }
+    }
+
+    /// The rows of a list of `2^lb_num_chunks` chunks of `2^lb_chunk_size` items: each chunk is a row.
+    #[inline(always)]
+    pub(crate) fn chunks(lb_num_chunks: usize, lb_chunk_size: usize) -> Self {
+        RowDigits {
+            width: pow2(lb_chunk_size),
+            digits: lb_num_chunks,
+        }
+    }
+
+    /// The number of pairs of neighbouring lines: for each middle digit, half as many as there are numbers `y`. One row or
+    /// two have none.
+    #[inline(always)]
+    pub(crate) fn line_pairs(self) -> usize {
+        pow2(self.digits % 2) * (pow2(self.digits / 2) / 2)
+    }
+}
+
+/// Exchanges the pairs of rows of the pairs of lines from `from` to below `to`.
+#[inline(always)]
+pub(crate) fn exchange_pairs<M: Places>(m: M, rows: RowDigits, from: usize, to: usize) -> M {
+    let mut m = m;
+    for line_pair in from..to {
+        m = exchange_lines(m, rows, line_pair * 2);
+    }
+    m
+}
+
+/// Exchanges the pairs of rows of `line` and of the line after it.
+#[inline(always)]
+fn exchange_lines<M: Places>(m: M, rows: RowDigits, line: usize) -> M {
+    let y = line % pow2(rows.digits / 2);
+    let mut m = m;
+    for x in 0..y {
+        m = exchange_pair(m, rows, line, x);
+        m = exchange_pair(m, rows, line + 1, x);
+    }
+    exchange_pair(m, rows, line + 1, y)
+}
+
+/// Exchanges the row of `x` and the `y` of `line` with the row of that `y` and `x`.
+#[inline(always)]
+fn exchange_pair<M: Places>(m: M, rows: RowDigits, line: usize, x: usize) -> M {
+    let y = line % pow2(rows.digits / 2);
+    let i = row_at(rows.digits, x, line);
+    let j = row_at(rows.digits, y, line - y + x);
+    exchange_rows(m, rows.width, i, j)
+}
+
+/// Exchanges rows `i` and `j`. Where a row has several items, they are exchanged as two runs.
+#[inline(always)]
+fn exchange_rows<M: Places>(m: M, row_width: usize, i: usize, j: usize) -> M {
+    let mut m = m;
+    if row_width == 1 {
+        m.exchange(i, j);
+    } else {
+        m.exchange_runs(i * row_width, j * row_width, row_width);
+    }
+    m
+}
+
+/// The row whose high digits are those of `x` in reversed order, and whose other digits are `low`.
+#[inline(always)]
+fn row_at(digits: usize, x: usize, low: usize) -> usize {
+    let half = digits / 2;
+    reverse_digits(x, half) * pow2(digits - half) + low
+}
+
+/// `x`, which has at most `digits` binary digits, with so many digits in reversed order: up to six are read from the table,
+/// and more are reversed by halves.
+#[inline(always)]
+fn reverse_digits(x: usize, digits: usize) -> usize {
+    if digits <= 6 {
+        usize::from(REVERSED_SIX[x * (64 >> digits) % 64])
+    } else {
+        reverse_bits_len(x, digits)
+    }
+}
