@@ -1,5 +1,5 @@
 -- Neighbouring numbers cut into parts, for the contracts of `src/parts.rt`.
-use Rattle.std.specs.Prelude.{ℕ, ◌≡◌, ◌+◌, ◌*◌, ◌<◌, min}
+use Rattle.std.specs.Prelude.{ℕ, ◌≡◌, ◌+◌, ◌-◌, ◌*◌, ◌/◌, ◌<◌, min, nat_le, if◌then◌else◌}
 use Rattle.std.specs.Int.{div_ceil}
 
 -- Part k has the numbers from `start k` to below `start (k + 1)`. So each of the `count` parts begins where the one before it
@@ -15,3 +15,12 @@ parts_in len step = div_ceil len step
 
 abbrev pub start_of : (len step k : ℕ) → ℕ
 start_of len step k = min (k * step) len
+
+-- how many pairs n parts make, of each part with itself and with each later one
+abbrev pub pairs_of : ℕ → ℕ
+pairs_of n = n * (n + 1) / 2
+
+-- The number of the pair of parts i and j, where i ≤ j. The n parts stand in a circle, and the shorter way from one to the other
+-- counts: pairs are numbered by how long it is, and then by the part where it begins. So different pairs have different numbers.
+abbrev pub number_of_pair : (n i j : ℕ) → ℕ
+number_of_pair n i j = if nat_le (2 * (j - i)) n then (j - i) * n + i else (n - (j - i)) * n + j

@@ -1,7 +1,7 @@
 //! The cut of a length into parts, by which calls are given to several threads.
 
-ghost use Rattle.std.specs.Prelude.{◌≡◌, ℕ, ◌+◌, ◌*◌, ◌%◌, ◌<◌, ◌≤◌, max};
-ghost use Rattle.p3_util_kernels.specs.Parts.{FollowEachOther, parts_in, start_of};
+ghost use Rattle.std.specs.Prelude.{◌≡◌, ℕ, ◌+◌, ◌*◌, ◌%◌, ◌^◌, ◌<◌, ◌≤◌, max};
+ghost use Rattle.p3_util_kernels.specs.Parts.{FollowEachOther, number_of_pair, pairs_of, parts_in, start_of};
 
 /// The numbers below `len`, cut into parts of `step` neighbouring ones. The last part may have fewer.
 #[derive(Clone, Copy, Debug)]
@@ -42,5 +42,28 @@ impl Cut {
     {
         let from = k * self.step;
         (from, from + self.step.min(self.len - from))
+    }
+    /// The number of pairs of parts: of each part with itself, and with each later one.
+    pub(crate) fn pairs(self) -> usize
+        requires { parts_in self.len self.step < 2 ^ 32 }
+        ensures { result ≡ pairs_of (parts_in self.len self.step) }
+    {
+        let count = self.count();
+        count * (count + 1) / 2
+    }
+
+    /// The two parts of pair `number`, the earlier one first. The parts stand in a circle: first come the pairs of each part
+    /// with itself, then those with the next one, and so on.
+    pub(crate) fn pair(self, number: usize) -> (usize, usize)
+        requires few { parts_in self.len self.step < 2 ^ 32 }
+        requires below { number < pairs_of (parts_in self.len self.step) }
+        ensures in_order { result.0 ≤ result.1 }
+        ensures below { result.1 < parts_in self.len self.step }
+        ensures number { number_of_pair (parts_in self.len self.step) result.0 result.1 ≡ number }
+    {
+        let count = self.count();
+        let (distance, start) = (number / count, number % count);
+        let end = (start + distance) % count;
+        (start.min(end), start.max(end))
     }
 }

@@ -27,4 +27,18 @@ impl Cut {
         let from = k * self.step;
         (from, from + self.step.min(self.len - from))
     }
+    /// The number of pairs of parts: of each part with itself, and with each later one.
+    pub(crate) fn pairs(self) -> usize {
+        let count = self.count();
+        count * (count + 1) / 2
+    }
+
+    /// The two parts of pair `number`, the earlier one first. The parts stand in a circle: first come the pairs of each part
+    /// with itself, then those with the next one, and so on.
+    pub(crate) fn pair(self, number: usize) -> (usize, usize) {
+        let count = self.count();
+        let (distance, start) = (number / count, number % count);
+        let end = (start + distance) % count;
+        (start.min(end), start.max(end))
+    }
 }

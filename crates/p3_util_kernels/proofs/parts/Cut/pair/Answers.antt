@@ -1,0 +1,6 @@
+use Rattle.p3_util_kernels.proofs.CutParts.{pair-number}
+use Rattle.p3_util_kernels.proofs.parts.Cut.pair.Goals as goal
+
+pub returns-clause-number : goal.returns-clause-number
+returns-clause-number c =
+    pair-number _ c.args.number _ _ c.requires.below (rw c.count-count.ensures.count at c.min.ensures) (rw c.count-count.ensures.count at c.max.ensures)
