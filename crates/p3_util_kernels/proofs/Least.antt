@@ -1,142 +1,51 @@
 -- How many places a list of exchanges or of writes changes, how many numbers are their own reverse, and what follows for
 -- the least number of steps.
-use Rattle.std.proofs.Common.{◌≡◌, ◌≢◌, ◌↔◌, ℕ, zero, suc, Bool, true, false, cond, not, min, ◌==◌, ◌&&◌, ◌+◌, ◌-◌, ◌*◌, ◌/◌, ◌%◌, ◌^◌, ◌<◌, ◌≤◌, IsTrue, List, [], ◌∷◌, length, slice_get, slice_set, refl, sym, ◌∙◌, ap, arith, inl, inr}
-use Rattle.std.specs.List.{swap}
+use Rattle.std.proofs.Common.{◌≡◌, ◌≢◌, ◌↔◌, ℕ, zero, suc, Bool, true, not, ◌==◌, ◌+◌, ◌*◌, ◌/◌, ◌%◌, ◌^◌, ◌<◌, IsTrue, List, length, slice_get, refl, sym, ◌∙◌, ap, arith, inl, inr}
 use Rattle.std.proofs.Math.Nat.{pow-suc}
-use Rattle.std.proofs.lemmas.Bool.{cases_eq, eqb-true, eq-eqb, ne_eqb, eqb-false, and_parts, not-true, both_ways, false_from_ne_true}
+use Rattle.std.proofs.lemmas.Bool.{cases_eq, eqb-true, eq-eqb, ne_eqb, not-true, both_ways}
 use Rattle.std.proofs.lemmas.Nat.{same_from_place, div-add-mod', div-mul-add, mod-mul-add, mul-add-lt}
 use Rattle.p3_util_kernels.specs.Digits.{bit, rev, sum_below}
 use Rattle.p3_util_kernels.specs.Reversal.{IsReversal}
 use Rattle.p3_util_kernels.specs.SwapCounts.{short_swaps}
 use Rattle.p3_util_kernels.specs.Transpose.{IsTranspose}
 use Rattle.p3_util_kernels.proofs.Reversal.{IsReversal-places}
-use Rattle.p3_util_kernels.specs.Least.{after_swaps, after_puts, count_below, AllDiffer, AreApart, DifferWhere, SwapsChange, PutsChange, Palindromes, LeastReversal, LeastSquare, LeastPuts, ReversalDiffers, SquareDiffers}
-use Rattle.p3_util_kernels.proofs.Digits.{sum_below-same, rev-zero, rev-suc, rev-lt, rev-mod, rev-add}
-use Rattle.p3_util_kernels.proofs.Exchange.{slice_get-set_other, slice_get-swap_other}
+use Rattle.p3_util_kernels.specs.Least.{after_swaps, count_below, places_put, places_swapped, AllDiffer, AreOnceAmong, DifferWhere, SwapsChange, PutsChange, Palindromes, LeastReversal, LeastSquare, LeastPuts, PutsAtChanged, ReversalDiffers, SquareDiffers, SwapsAtChanged}
+use Rattle.p3_util_kernels.proofs.Counts.{count-add, count-all, count-double, count-none, count-not, count-off_diagonal, count-same}
+use Rattle.p3_util_kernels.proofs.Written.{AreOnceAmong-weaker, Written, puts-places, puts-written, swaps-places, swaps-written, written-at, written-change}
+use Rattle.p3_util_kernels.proofs.Digits.{rev-zero, rev-suc, rev-lt, rev-mod, rev-add}
 use Rattle.p3_util_kernels.proofs.Matrix.{each_place}
 use Rattle.p3_util_kernels.proofs.Pairs.{mul-pred, twice-pairs}
 
--- what a number that passes a test, or does not, adds to the count of those that do
-abbrev one : Bool → ℕ
-one b = cond b 1 0
-
-count-zero : (t : ℕ → Bool) → count_below zero t ≡ 0
-unfolding count_below sum_below
-count-zero t = refl
-
-count-suc : (n : ℕ) (t : ℕ → Bool) → count_below (suc n) t ≡ count_below n t + one (t n)
-unfolding count_below sum_below
-count-suc n t = refl
-
-count-same : (n : ℕ) (f g : ℕ → Bool) → ((i : ℕ) → i < n → f i ≡ g i) → count_below n f ≡ count_below n g
-unfolding count_below
-count-same n f g h = sum_below-same n (λ i. one (f i)) (λ i. one (g i)) (λ i less. ap one (h i less))
-
-count-none : (n : ℕ) (t : ℕ → Bool) → ((i : ℕ) → i < n → t i ≡ true → ⊥) → count_below n t ≡ 0
-count-none zero t h = count-zero t
-count-none (suc n) t h =
-    let last : t n ≡ false = false_from_ne_true (t n) (h n (omega arith)) in
-    count-suc n t ∙ rw last (omega (arith, count-none n t (λ i less. h i (omega arith))))
-
-count-all : (n : ℕ) → count_below n (λ i. true) ≡ n
-count-all zero = count-zero (λ i. true)
-count-all (suc n) = omega (arith, count-suc n (λ i. true), count-all n)
-
--- a number passes the test or its negation
-one-not : (b : Bool) → one (not b) + one b ≡ 1
-one-not true = refl
-one-not false = refl
-
-count-not : (n : ℕ) (t : ℕ → Bool) → count_below n (λ i. not (t i)) + count_below n t ≡ n
-count-not zero t = omega (arith, count-zero t, count-zero (λ i. not (t i)))
-count-not (suc n) t = omega (arith, count-not n t, count-suc n t, count-suc n (λ i. not (t i)), one-not (t n))
-
--- what passes a test passes another one too, or not
-one-but : (b c : Bool) → one b ≤ one (b && not c) + one c
-one-but true true = omega arith
-one-but true false = omega arith
-one-but false c = omega arith
-
-count-but : (n : ℕ) (t s : ℕ → Bool) → count_below n t ≤ count_below n (λ i. t i && not (s i)) + count_below n s
-count-but zero t s = omega (arith, count-zero t)
-count-but (suc n) t s =
-    omega (arith, count-but n t s, count-suc n t, count-suc n (λ i. t i && not (s i)), count-suc n s, one-but (t n) (s n))
-
--- at most one place of those that are apart is a
-count-place : (n a : ℕ) (place : ℕ → ℕ) → AreApart n place → count_below n (λ i. place i == a) ≤ 1
-count-place zero a place apart = omega (arith, count-zero (λ i. place i == a))
-count-place (suc n) a place apart =
-    let t : ℕ → Bool = λ i. place i == a in
-    let below : AreApart n place = λ i j hi hj. apart i j (omega arith) (omega arith) in
-    elim (cases_eq (place n) a) [
-      | inl e ↦
-          let none : count_below n t ≡ 0 =
-          count-none n t (λ i less y. absurd (omega (arith, apart i n (omega arith) (omega arith) (eqb-true (place i) a y ∙ sym e)))) in
-          omega (arith, count-suc n t, ap one (eq-eqb (place n) a e))
-      | inr ne ↦ omega (arith, count-suc n t, ap one (ne_eqb (place n) a ne), count-place n a place below)
-    ]
-
--- the numbers below a + b, in two parts
-count-add : (a b : ℕ) (t : ℕ → Bool) → count_below (a + b) t ≡ count_below a t + count_below b (λ i. t (a + i))
-count-add a zero t = let e : a + 0 ≡ a = omega arith in rw e (omega (arith, count-zero (λ i. t (a + i))))
-count-add a (suc b) t =
-    let e : a + suc b ≡ suc (a + b) = omega arith in
-    rw e (omega (arith, count-add a b t, count-suc (a + b) t, count-suc b (λ i. t (a + i))))
-
--- the even and the odd numbers
-count-double : (n : ℕ) (t : ℕ → Bool) → count_below (2 * n) t ≡ count_below n (λ i. t (2 * i)) + count_below n (λ i. t (2 * i + 1))
-count-double zero t = omega (arith, count-zero t, count-zero (λ i. t (2 * i)), count-zero (λ i. t (2 * i + 1)))
-count-double (suc n) t =
-    let e : 2 * suc n ≡ suc (suc (2 * n)) = omega arith in
-    let o : suc (2 * n) ≡ 2 * n + 1 = omega arith in
-    let last : one (t (suc (2 * n))) ≡ one (t (2 * n + 1)) = ap (λ i. one (t i)) o in
-    let even = count-suc n (λ i. t (2 * i)) in
-    let odd = count-suc n (λ i. t (2 * i + 1)) in
-    rw e (omega (arith, count-double n t, count-suc (suc (2 * n)) t, count-suc (2 * n) t))
-
 -- one exchange changes at most two places
 pub swaps-change : {A : Type 0} → SwapsChange A
-unfolding after_swaps
-swaps-change {A} xs [] n test differ = omega (arith, count-none n test (λ i less t. differ i less t refl))
-swaps-change {A} xs (pair ∷ steps) n test differ =
-    let a : ℕ = pair.0 in
-    let b : ℕ = pair.1 in
-    let but_a : ℕ → Bool = λ i. test i && not (i == a) in
-    let but_both : ℕ → Bool = λ i. but_a i && not (i == b) in
-    let rest : DifferWhere n but_both (swap xs a b) (after_swaps (swap xs a b) steps) =
-    λ i less t e.
-    let parts = and_parts (but_a i) (not (i == b)) t in
-    let parts' = and_parts (test i) (not (i == a)) parts.0 in
-    let apart : i ≢ a = eqb-false i a (not-true (i == a) parts'.1) in
-    let apart' : i ≢ b = eqb-false i b (not-true (i == b) parts.1) in
-    differ i less parts'.0 (sym (slice_get-swap_other xs a b i apart apart') ∙ e) in
-    let once : (p : ℕ) → count_below n (λ i. i == p) ≤ 1 = λ p. count-place n p (λ i. i) (λ i j hi hj e. e) in
-    omega (arith, swaps-change {A = A} (swap xs a b) steps n but_both rest, count-but n test (λ i. i == a), once a, count-but n but_a (λ i. i == b), once b)
+swaps-change xs steps n test differ =
+    omega (arith, written-change n (λ i. i) test (λ i j hi hj ti tj e. e) (places_swapped steps) xs _ (swaps-written steps xs) differ, swaps-places steps)
 
 -- one write changes at most one place
-puts-change-from : {A : Type 0} (steps : List (ℕ × A)) (xs : List A) (n : ℕ) (place : ℕ → ℕ) (test : ℕ → Bool) → AreApart n place
-    → ((i : ℕ) → i < n → IsTrue (test i) → slice_get xs (place i) ≢ slice_get (after_puts xs steps) (place i)) → count_below n test ≤ length steps
-unfolding after_puts
-puts-change-from [] xs n place test apart differ = omega (arith, count-none n test (λ i less t. differ i less t refl))
-puts-change-from (put ∷ steps) xs n place test apart differ =
-    let a : ℕ = put.0 in
-    let next : List _ = slice_set xs a put.1 in
-    let but : ℕ → Bool = λ i. test i && not (place i == a) in
-    let rest : (i : ℕ) → i < n → IsTrue (but i) → slice_get next (place i) ≢ slice_get (after_puts next steps) (place i) =
-    λ i less t e.
-    let parts = and_parts (test i) (not (place i == a)) t in
-    let away : place i ≢ a = eqb-false (place i) a (not-true (place i == a) parts.1) in
-    differ i less parts.0 (sym (slice_get-set_other xs a (place i) put.1 away) ∙ e) in
-    omega (arith, puts-change-from steps next n place but apart rest, count-but n test (λ i. place i == a), count-place n a place apart)
-
 pub puts-change : {A : Type 0} → PutsChange A
-puts-change {A} xs steps n test differ = puts-change-from steps xs n (λ i. i) test (λ i j hi hj e. e) differ
+puts-change xs steps n test differ =
+    omega (arith, written-change n (λ i. i) test (λ i j hi hj ti tj e. e) (places_put steps) xs _ (puts-written steps xs) differ, puts-places steps)
+
+-- where as many places differ as steps name, these are the places of the steps
+at-changed : {A : Type 0} (n : ℕ) (test : ℕ → Bool) (places : List ℕ) (old new : List A) → Written places old new → DifferWhere n test old new
+    → count_below n test ≡ length places → AreOnceAmong (λ p. (p < n) × IsTrue (test p)) places
+at-changed n test places old new written differ all =
+    let at = written-at n (λ i. i) test (λ i j hi hj ti tj e. e) places old new written differ all in
+    AreOnceAmong-weaker (λ p. (i : ℕ) × (i < n) × IsTrue (test i) × (p ≡ i)) (λ p. (p < n) × IsTrue (test p)) places
+    (λ p (i, less, t, e). rw e (less, t)) at
+
+pub swaps-at_changed : {A : Type 0} → SwapsAtChanged A
+swaps-at_changed xs steps n test differ all =
+    at-changed n test (places_swapped steps) xs _ (swaps-written steps xs) differ (omega (arith, all, swaps-places steps))
+
+pub puts-at_changed : {A : Type 0} → PutsAtChanged A
+puts-at_changed xs steps n test differ all =
+    at-changed n test (places_put steps) xs _ (puts-written steps xs) differ (omega (arith, all, puts-places steps))
 
 pub least-puts : {A : Type 0} → LeastPuts A
 least-puts {A} n place xs steps apart differ =
-    let changed : count_below n (λ i. true) ≤ length steps =
-    puts-change-from steps xs n place (λ i. true) apart (λ i less t. differ i less) in
-    omega (arith, count-all n)
+    let changed = written-change n place (λ i. true) (λ i j hi hj ti tj. apart i j hi hj) (places_put steps) xs _ (puts-written steps xs) (λ i less t. differ i less) in
+    omega (arith, count-all n, changed, puts-places steps)
 
 -- The reverse of a number between two ends: the ends change places, and what is between them is reversed.
 rev-ends : (k m u t : ℕ) → m < 2 ^ k → u < 2 → t < 2
@@ -253,26 +162,6 @@ least-reversal {A} k xs steps len apart reversed =
     λ i h. (reversal-differs-where k xs (after_swaps xs steps) len apart reversed i h).0 in
     omega (arith, swaps-change xs steps (2 ^ k) (λ i. not (rev k i == i)) differ, count-moved k)
 
--- one number is r
-count-one : (n r : ℕ) → count_below n (λ y. r == y) ≡ min 1 (n - r)
-count-one zero r = count-zero (λ y. r == y) ∙ omega arith
-count-one (suc n) r =
-    elim (cases_eq r n) [
-      | inl e ↦ omega (arith, count-suc n (λ y. r == y), ap one (eq-eqb r n e), count-one n r)
-      | inr ne ↦ omega (arith, count-suc n (λ y. r == y), ap one (ne_eqb r n ne), count-one n r)
-    ]
-
--- a row of a square has one place on the diagonal
-count-diagonal : (rows side : ℕ) → rows ≤ side → count_below (rows * side) (λ p. p / side == p % side) ≡ rows
-count-diagonal zero side h = let e : zero * side ≡ 0 = omega arith in rw e (count-zero (λ p. p / side == p % side))
-count-diagonal (suc r) side h =
-    let t : ℕ → Bool = λ p. p / side == p % side in
-    let e : suc r * side ≡ r * side + side = omega arith in
-    let before : count_below (r * side) t ≡ r = count-diagonal r side (omega arith) in
-    let row : count_below side (λ y. t (r * side + y)) ≡ count_below side (λ y. r == y) =
-    count-same side (λ y. t (r * side + y)) (λ y. r == y) (λ y h. rw (div-mul-add r side y h, mod-mul-add r side y h) refl) in
-    rw e (omega (arith, count-add (r * side) side t, count-one side r))
-
 -- a place off the diagonal is one where the lists differ
 square-differs-where : {A : Type 0} (side : ℕ) (old new : List A) → length old ≡ side * side → AllDiffer old → IsTranspose side side old new
     → (p : ℕ) → p < side * side → IsTrue (not (p / side == p % side)) ↔ (slice_get old p ≢ slice_get new p)
@@ -297,17 +186,13 @@ square-differs-where side old new len apart turned p h =
           rw (ne_eqb (q / side) (q % side) off) refl,
     ))
 
-count-off-diagonal : (side : ℕ) → count_below (side * side) (λ p. not (p / side == p % side)) ≡ side * (side - 1)
-count-off-diagonal side =
-    omega (arith, count-not (side * side) (λ p. p / side == p % side), count-diagonal side side (omega arith), mul-pred side)
-
 pub square-differs : {A : Type 0} → SquareDiffers A
 square-differs {A} side old new len apart turned =
-    (λ p. not (p / side == p % side), count-off-diagonal side, square-differs-where side old new len apart turned)
+    (λ p. not (p / side == p % side), count-off_diagonal side, square-differs-where side old new len apart turned)
 
 -- as many exchanges as pairs of places that mirror one another
 pub least-square : {A : Type 0} → LeastSquare A
 least-square {A} side xs steps len apart turned =
     let differ : DifferWhere (side * side) (λ p. not (p / side == p % side)) xs (after_swaps xs steps) =
     λ p h. (square-differs-where side xs (after_swaps xs steps) len apart turned p h).0 in
-    omega (arith, swaps-change xs steps (side * side) (λ p. not (p / side == p % side)) differ, count-off-diagonal side, twice-pairs side, mul-pred side)
+    omega (arith, swaps-change xs steps (side * side) (λ p. not (p / side == p % side)) differ, count-off_diagonal side, twice-pairs side, mul-pred side)

@@ -1,5 +1,5 @@
 -- Lists of exchanges and of writes, and the least number of steps in which a list can be rearranged.
-use Rattle.std.specs.Prelude.{ℕ, Bool, ◌==◌, ◌≡◌, ◌≢◌, ◌↔◌, ◌+◌, ◌-◌, ◌*◌, ◌/◌, ◌^◌, ◌<◌, ◌≤◌, IsTrue, if◌then◌else◌, List, [], ◌∷◌, length, slice_get, slice_set, swap}
+use Rattle.std.specs.Prelude.{ℕ, Bool, ◌==◌, ◌≡◌, ◌≢◌, ◌↔◌, ◌+◌, ◌-◌, ◌*◌, ◌/◌, ◌^◌, ◌<◌, ◌≤◌, IsTrue, if◌then◌else◌, List, [], ◌∷◌, All, AllPairs, length, slice_get, slice_set, swap}
 use Rattle.p3_util_kernels.specs.Digits.{rev, sum_below}
 use Rattle.p3_util_kernels.specs.Reversal.{IsReversal}
 use Rattle.p3_util_kernels.specs.SwapCounts.{short_swaps, square_swaps}
@@ -14,6 +14,15 @@ after_swaps xs (pair ∷ steps) = after_swaps (swap xs pair.0 pair.1) steps
 unfoldable pub after_puts : {A : Type 0} → List A → List (ℕ × A) → List A
 after_puts xs [] = xs
 after_puts xs (put ∷ steps) = after_puts (slice_set xs put.0 put.1) steps
+
+-- the places of a list of exchanges, two for each, and those of a list of writes, in turn
+unfoldable pub places_swapped : List (ℕ × ℕ) → List ℕ
+places_swapped [] = []
+places_swapped (pair ∷ steps) = pair.0 ∷ pair.1 ∷ places_swapped steps
+
+unfoldable pub places_put : {A : Type 0} → List (ℕ × A) → List ℕ
+places_put [] = []
+places_put (put ∷ steps) = put.0 ∷ places_put steps
 
 -- how many numbers below n pass the test
 unfoldable pub count_below : ℕ → (ℕ → Bool) → ℕ
@@ -45,6 +54,21 @@ SwapsChange A = (xs : List A) (steps : List (ℕ × ℕ)) (n : ℕ) (test : ℕ 
 abbrev pub PutsChange : Type 0 → Type 0
 PutsChange A = (xs : List A) (steps : List (ℕ × A)) (n : ℕ) (test : ℕ → Bool)
     → DifferWhere n test xs (after_puts xs steps) → count_below n test ≤ length steps
+
+-- each of these places is among those that have the property, and they differ from each other
+pub record AreOnceAmong (among : ℕ → Type 0) (places : List ℕ) : Type 0 where
+  pub inside : All among places
+  pub once : AllPairs (λ a b. a ≢ b) places
+
+-- where m exchanges change 2 * m places, these are the places of the exchanges, each in one of them
+abbrev pub SwapsAtChanged : Type 0 → Type 0
+SwapsAtChanged A = (xs : List A) (steps : List (ℕ × ℕ)) (n : ℕ) (test : ℕ → Bool) → DifferWhere n test xs (after_swaps xs steps)
+    → count_below n test ≡ 2 * length steps → AreOnceAmong (λ p. (p < n) × IsTrue (test p)) (places_swapped steps)
+
+-- where m writes change m places, these are the places of the writes
+abbrev pub PutsAtChanged : Type 0 → Type 0
+PutsAtChanged A = (xs : List A) (steps : List (ℕ × A)) (n : ℕ) (test : ℕ → Bool) → DifferWhere n test xs (after_puts xs steps)
+    → count_below n test ≡ length steps → AreOnceAmong (λ p. (p < n) × IsTrue (test p)) (places_put steps)
 
 -- Of the numbers of k bits, 2 ^ ceil(k / 2) are their own reverse.
 abbrev pub Palindromes : Type 0

@@ -1,0 +1,124 @@
+-- How many numbers below a bound pass a test.
+use Rattle.std.proofs.Common.{◌≡◌, ℕ, zero, suc, Bool, true, false, cond, not, min, ◌==◌, ◌&&◌, ◌+◌, ◌-◌, ◌*◌, ◌/◌, ◌%◌, ◌<◌, ◌≤◌, IsTrue, refl, ◌∙◌, ap, arith, inl, inr}
+use Rattle.std.proofs.lemmas.Bool.{cases_Bool, cases_eq, eq-eqb, false_from_ne_true, ne_eqb}
+use Rattle.std.proofs.lemmas.Nat.{div-mul-add, mod-mul-add}
+use Rattle.p3_util_kernels.specs.Digits.{sum_below}
+use Rattle.p3_util_kernels.specs.Least.{count_below}
+use Rattle.p3_util_kernels.proofs.Digits.{sum_below-same}
+use Rattle.p3_util_kernels.proofs.Pairs.{mul-pred}
+
+-- what a number that passes a test, or does not, adds to the count of those that do
+abbrev pub one : Bool → ℕ
+one b = cond b 1 0
+
+pub count-zero : (t : ℕ → Bool) → count_below zero t ≡ 0
+unfolding count_below sum_below
+count-zero t = refl
+
+pub count-suc : (n : ℕ) (t : ℕ → Bool) → count_below (suc n) t ≡ count_below n t + one (t n)
+unfolding count_below sum_below
+count-suc n t = refl
+
+pub count-same : (n : ℕ) (f g : ℕ → Bool) → ((i : ℕ) → i < n → f i ≡ g i) → count_below n f ≡ count_below n g
+unfolding count_below
+count-same n f g h = sum_below-same n (λ i. one (f i)) (λ i. one (g i)) (λ i less. ap one (h i less))
+
+pub count-none : (n : ℕ) (t : ℕ → Bool) → ((i : ℕ) → i < n → t i ≡ true → ⊥) → count_below n t ≡ 0
+count-none zero t h = count-zero t
+count-none (suc n) t h =
+    let last : t n ≡ false = false_from_ne_true (t n) (h n (omega arith)) in
+    count-suc n t ∙ rw last (omega (arith, count-none n t (λ i less. h i (omega arith))))
+
+pub count-all : (n : ℕ) → count_below n (λ i. true) ≡ n
+count-all zero = count-zero (λ i. true)
+count-all (suc n) = omega (arith, count-suc n (λ i. true), count-all n)
+
+-- a number passes the test or its negation
+one-not : (b : Bool) → one (not b) + one b ≡ 1
+one-not true = refl
+one-not false = refl
+
+pub count-not : (n : ℕ) (t : ℕ → Bool) → count_below n (λ i. not (t i)) + count_below n t ≡ n
+count-not zero t = omega (arith, count-zero t, count-zero (λ i. not (t i)))
+count-not (suc n) t = omega (arith, count-not n t, count-suc n t, count-suc n (λ i. not (t i)), one-not (t n))
+
+-- what passes a test passes another one too, or not
+one-split : (b c : Bool) → one b ≡ one (b && not c) + one (b && c)
+one-split true true = refl
+one-split true false = refl
+one-split false c = refl
+
+pub count-split : (n : ℕ) (t s : ℕ → Bool) → count_below n t ≡ count_below n (λ i. t i && not (s i)) + count_below n (λ i. t i && s i)
+count-split zero t s = omega (arith, count-zero t, count-zero (λ i. t i && not (s i)), count-zero (λ i. t i && s i))
+count-split (suc n) t s =
+    omega (
+      arith,
+      count-split n t s,
+      count-suc n t,
+      count-suc n (λ i. t i && not (s i)),
+      count-suc n (λ i. t i && s i),
+      one-split (t n) (s n),
+    )
+
+-- where the count is not 0, some number passes
+pub count-some : (n : ℕ) (t : ℕ → Bool) → 0 < count_below n t → (i : ℕ) × (i < n) × IsTrue (t i)
+count-some zero t some = absurd (omega (arith, count-zero t))
+count-some (suc n) t some =
+    elim (cases_Bool (t n)) [
+      | inl here ↦ (n, omega arith, here)
+      | inr none ↦ let (i, less, passes) = count-some n t (omega (arith, count-suc n t, ap one none)) in (i, omega arith, passes)
+    ]
+
+-- where all that passes is one number, the count is at most 1
+pub count-once : (n : ℕ) (t : ℕ → Bool) → ((i j : ℕ) → i < n → j < n → IsTrue (t i) → IsTrue (t j) → i ≡ j) → count_below n t ≤ 1
+count-once zero t same = omega (arith, count-zero t)
+count-once (suc n) t same =
+    elim (cases_Bool (t n)) [
+      | inl here ↦
+          let none : count_below n t ≡ 0 = count-none n t (λ i less passes. omega (arith, same i n (omega arith) (omega arith) passes here)) in
+          omega (arith, count-suc n t, ap one here)
+      | inr other ↦ omega (arith, count-suc n t, ap one other, count-once n t (λ i j hi hj. same i j (omega arith) (omega arith)))
+    ]
+
+-- the numbers below a + b, in two parts
+pub count-add : (a b : ℕ) (t : ℕ → Bool) → count_below (a + b) t ≡ count_below a t + count_below b (λ i. t (a + i))
+count-add a zero t = let e : a + 0 ≡ a = omega arith in rw e (omega (arith, count-zero (λ i. t (a + i))))
+count-add a (suc b) t =
+    let e : a + suc b ≡ suc (a + b) = omega arith in
+    rw e (omega (arith, count-add a b t, count-suc (a + b) t, count-suc b (λ i. t (a + i))))
+
+-- the even and the odd numbers
+pub count-double : (n : ℕ) (t : ℕ → Bool) → count_below (2 * n) t ≡ count_below n (λ i. t (2 * i)) + count_below n (λ i. t (2 * i + 1))
+count-double zero t = omega (arith, count-zero t, count-zero (λ i. t (2 * i)), count-zero (λ i. t (2 * i + 1)))
+count-double (suc n) t =
+    let e : 2 * suc n ≡ suc (suc (2 * n)) = omega arith in
+    let o : suc (2 * n) ≡ 2 * n + 1 = omega arith in
+    let last : one (t (suc (2 * n))) ≡ one (t (2 * n + 1)) = ap (λ i. one (t i)) o in
+    let even = count-suc n (λ i. t (2 * i)) in
+    let odd = count-suc n (λ i. t (2 * i + 1)) in
+    rw e (omega (arith, count-double n t, count-suc (suc (2 * n)) t, count-suc (2 * n) t))
+
+-- one number is r
+pub count-one : (n r : ℕ) → count_below n (λ y. r == y) ≡ min 1 (n - r)
+count-one zero r = count-zero (λ y. r == y) ∙ omega arith
+count-one (suc n) r =
+    elim (cases_eq r n) [
+      | inl e ↦ omega (arith, count-suc n (λ y. r == y), ap one (eq-eqb r n e), count-one n r)
+      | inr ne ↦ omega (arith, count-suc n (λ y. r == y), ap one (ne_eqb r n ne), count-one n r)
+    ]
+
+-- a row of a square has one place on the diagonal
+pub count-diagonal : (rows side : ℕ) → rows ≤ side → count_below (rows * side) (λ p. p / side == p % side) ≡ rows
+count-diagonal zero side h = let e : zero * side ≡ 0 = omega arith in rw e (count-zero (λ p. p / side == p % side))
+count-diagonal (suc r) side h =
+    let t : ℕ → Bool = λ p. p / side == p % side in
+    let e : suc r * side ≡ r * side + side = omega arith in
+    let before : count_below (r * side) t ≡ r = count-diagonal r side (omega arith) in
+    let row : count_below side (λ y. t (r * side + y)) ≡ count_below side (λ y. r == y) =
+    count-same side (λ y. t (r * side + y)) (λ y. r == y) (λ y h. rw (div-mul-add r side y h, mod-mul-add r side y h) refl) in
+    rw e (omega (arith, count-add (r * side) side t, count-one side r))
+
+-- the places of a square that are not on its diagonal
+pub count-off_diagonal : (side : ℕ) → count_below (side * side) (λ p. not (p / side == p % side)) ≡ side * (side - 1)
+count-off_diagonal side =
+    omega (arith, count-not (side * side) (λ p. p / side == p % side), count-diagonal side side (omega arith), mul-pred side)
