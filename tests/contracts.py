@@ -70,6 +70,12 @@ def members(body):
             yield line(2, f"{head} {said}")
 
 
+def is_private(head, text):
+    """Whether a trait is implemented for a type of this file that others do not see."""
+    name = re.search(r" for (?:&mut |&)?(\w+)", head)
+    return bool(name and re.search(rf"^(?:pub\(crate\) )?(?:struct|enum) {name[1]}\b", text, re.M))
+
+
 def items(text, names):
     """The contracts of a file, of which others see the functions and types in `names`."""
     for public, kind, head, clauses, body in declarations(text, 0):
@@ -78,7 +84,7 @@ def items(text, names):
             for inner_public, inner, inner_head, inner_clauses, _ in declarations(body, 4):
                 if inner_public and inner == "fn":
                     yield from function(0, f"{owner}::", inner_head, inner_clauses)
-        elif kind == "impl" and (said := list(members(body))):
+        elif kind == "impl" and not is_private(head, text) and (said := list(members(body))):
             yield from [line(0, head), *said]
         elif public and owner in names and kind == "fn":
             yield from function(0, "", head, clauses)

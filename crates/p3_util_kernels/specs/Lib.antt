@@ -8,6 +8,7 @@ pub mod Least
 pub mod Levels
 pub mod Mirrored
 pub mod Names
+pub mod PartSteps
 pub mod Parts
 pub mod Powers
 pub mod Region
