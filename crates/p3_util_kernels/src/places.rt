@@ -1,6 +1,7 @@
 //! Lists that kernels change by place alone, and counters that see each change.
 //!
-//! - A *holder* is what has the list: a slice, a view of rows, or a type of your own.
+//! - A *holder* is what has the list: a [`SlicePlaces`] or [`SliceCells`] of a slice, a view of rows, or a type of your own.
+//!   A slice itself is none.
 //! - A *place* is an index of a list whose items may be exchanged ([`Places`]), a *cell* one whose item may be written
 //!   ([`Cells`]), and a *source* is a list that is only read ([`Source`]).
 //! - A *swap* is one counted exchange of two places ([`Swaps`]), a *write* one counted put of an item ([`Writes`]).
@@ -8,8 +9,8 @@
 //! - A *kernel* is given a holder by value and gives it back with its list changed. Its contract gives the exact number of
 //!   steps that the holder made, so a kernel leaves no step out and makes none beside them.
 //! - A *counter* is a holder around another one, and counts its steps. A reference to a holder is a holder too.
-//! - A call on a slice runs its kernel over the slice. A counted call runs it over a new counter of the reference that it is
-//!   given, and an `_on` call runs it over a counter that goes on from the caller's count.
+//! - A call on a slice runs its kernel over a holder of the slice. A counted call runs it over a new counter of the reference
+//!   that it is given, and an `_on` call runs it over a counter that goes on from the caller's count.
 
 ghost use Rattle.std.specs.Prelude.{◌≡◌, ℕ, ◌+◌, ◌-◌, ◌*◌, ◌<◌, ◌≤◌, ◌⊎◌, List, Some, length, swap, slice_get, slice_set};
 ghost use Rattle.p3_util_kernels.specs.Exchanged.{RunsExchanged};
@@ -66,7 +67,7 @@ pub trait Places {
         ensures exchanged { RunsExchanged i j len (items self.old) (items self.new) }
         ensures holder { same_holder len self.old self.new }
     {
-        // Its contract says that the length is a usize.
+        // Called so that the proof knows that the length fits a usize.
         let _ = self.len();
         for t in 0..len {
             self.exchange(i + t, j + t);

@@ -6,15 +6,15 @@ ghost use Rattle.p3_util_kernels.specs.Exchanged.{RunsExchanged};
 
 use crate::places::{Cells, Places, Source};
 
-/// The items of a mutable slice. What it holds is in the slice when the borrow ends.
+/// The places of a mutable slice. What it holds is in the slice when the borrow ends.
 #[derive(Debug, Drop)]
 pub struct SlicePlaces<'a, F> {
-    /// The slice.
+    /// Where items are exchanged.
     pub items: &'a mut [F],
 }
 
 impl<'a, F> SlicePlaces<'a, F> {
-    /// The items of `items`, in order.
+    /// The places of `items`, in order.
     pub fn new(items: &'a mut [F]) -> Self
         ensures { result.items ≡ items.entry }
     {
@@ -77,15 +77,15 @@ fn swap_runs<F>(items: &mut [F], i: usize, j: usize, len: usize)
     front[low..low + len].swap_with_slice(&mut back[..len]);
 }
 
-/// The places of a mutable slice. What it holds is in the slice when the borrow ends.
+/// The cells of a mutable slice. What is put is in the slice when the borrow ends.
 #[derive(Debug, Drop)]
 pub struct SliceCells<'a, T> {
-    /// The slice.
+    /// Where items are put.
     pub values: &'a mut [T],
 }
 
 impl<'a, T: Copy> SliceCells<'a, T> {
-    /// The places of `values`, in order.
+    /// The cells of `values`, in order.
     pub fn new(values: &'a mut [T]) -> Self
         ensures { result.values ≡ values.entry }
     {
@@ -117,7 +117,7 @@ impl<'a, T: Copy> Cells for SliceCells<'a, T> {
 /// The items of a slice, to be read.
 #[derive(Clone, Copy, Debug)]
 pub struct SliceSource<'a, T> {
-    /// The slice.
+    /// Where items are read.
     pub slice: &'a [T],
 }
 

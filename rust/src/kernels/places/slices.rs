@@ -2,15 +2,15 @@
 
 use crate::kernels::places::{Cells, Places, Source};
 
-/// The items of a mutable slice. What it holds is in the slice when the borrow ends.
+/// The places of a mutable slice. What it holds is in the slice when the borrow ends.
 #[derive(Debug)]
 pub struct SlicePlaces<'a, F> {
-    /// The slice.
+    /// Where items are exchanged.
     pub items: &'a mut [F],
 }
 
 impl<'a, F> SlicePlaces<'a, F> {
-    /// The items of `items`, in order.
+    /// The places of `items`, in order.
     ///
     /// # Contract
     ///
@@ -62,15 +62,15 @@ fn swap_runs<F>(items: &mut [F], i: usize, j: usize, len: usize) {
     front[low..low + len].swap_with_slice(&mut back[..len]);
 }
 
-/// The places of a mutable slice. What it holds is in the slice when the borrow ends.
+/// The cells of a mutable slice. What is put is in the slice when the borrow ends.
 #[derive(Debug)]
 pub struct SliceCells<'a, T> {
-    /// The slice.
+    /// Where items are put.
     pub values: &'a mut [T],
 }
 
 impl<'a, T: Copy> SliceCells<'a, T> {
-    /// The places of `values`, in order.
+    /// The cells of `values`, in order.
     ///
     /// # Contract
     ///
@@ -100,7 +100,7 @@ impl<'a, T: Copy> Cells for SliceCells<'a, T> {
 /// The items of a slice, to be read.
 #[derive(Clone, Copy, Debug)]
 pub struct SliceSource<'a, T> {
-    /// The slice.
+    /// Where items are read.
     pub slice: &'a [T],
 }
 
