@@ -1,29 +1,13 @@
-//! Logarithms, powers and reversed digits of single words.
+//! The calls on single words that test a condition, and then call the proved one. Those without a condition are the proved
+//! ones themselves.
 
 use crate::kernels::bits as proved;
 
-/// The least `e` with `n <= 2^e`, which is 0 for 0 and 1.
-#[inline]
-#[must_use]
-pub const fn log2_ceil_usize(n: usize) -> usize {
-    proved::log2_ceil_usize(n)
-}
-
-/// The least `e` with `n <= 2^e`, which is 0 for 0 and 1.
-#[inline]
-#[must_use]
-pub const fn log2_ceil_u64(n: u64) -> u64 {
-    proved::log2_ceil_u64(n)
-}
-
-/// The greatest `e` with `2^e <= n`, and 0 for 0.
-#[inline]
-#[must_use]
-pub const fn log2_floor_usize(n: usize) -> usize {
-    proved::log2_floor_usize(n)
-}
-
-/// The logarithm to base 2 of a power of two.
+/// The logarithm to base 2 of a power of two, which is what [`kernels::bits::log2_strict_usize`](proved::log2_strict_usize)
+/// returns.
+///
+/// The compiler can tell that `1 << log2_strict_usize(n)` is `n`, so that `&v[..1 << log2_strict_usize(v.len())]` needs no test of
+/// its bound.
 ///
 /// # Panics
 ///
@@ -32,11 +16,14 @@ pub const fn log2_floor_usize(n: usize) -> usize {
 #[must_use]
 #[track_caller]
 pub const fn log2_strict_usize(n: usize) -> usize {
-    assert!(n.wrapping_shr(n.trailing_zeros()) == 1, "Not a power of two");
+    // The call below is proved for every power of two. This test for these is also a hint: by it the compiler knows what
+    // `1 << log2_strict_usize(n)` is. For 0 the shift by 64 is one by 0, and 1 is not 0.
+    assert!(1_usize.wrapping_shl(n.trailing_zeros()) == n, "Not a power of two");
     proved::log2_strict_usize(n)
 }
 
-/// The logarithm to base 3 of a power of three.
+/// The logarithm to base 3 of a power of three, which is what [`kernels::bits::log3_strict_usize`](proved::log3_strict_usize)
+/// returns.
 ///
 /// # Panics
 ///
@@ -53,29 +40,9 @@ pub const fn log3_strict_usize(n: usize) -> usize {
     proved::log3_strict_usize(n)
 }
 
-/// `2^log_degree`, or `None` where that does not fit a word.
-#[inline]
-#[must_use]
-pub const fn checked_pow2(log_degree: usize) -> Option<usize> {
-    proved::checked_pow2(log_degree)
-}
-
-/// `a + b` and `2^(a + b)`, or `None` where the power does not fit a word.
-#[inline]
-#[must_use]
-pub const fn checked_log_size_sum(a: usize, b: usize) -> Option<(usize, usize)> {
-    proved::checked_log_size_sum(a, b)
-}
-
-/// The array of its own indices: `[0, 1, .., N - 1]`.
-#[inline]
-#[must_use]
-pub const fn indices_arr<const N: usize>() -> [usize; N] {
-    proved::indices_arr()
-}
-
 /// Reverses as many low binary digits of `x` as `n`, a power of two, has below its set digit, and drops the others. For
-/// an `n` of 1 it reverses the whole word, as [`reverse_bits_len`] does for no digits.
+/// an `n` of 1 it reverses the whole word, as [`reverse_bits_len`] does for no digits. For a power of two it is
+/// [`kernels::bits::reverse_bits`](proved::reverse_bits).
 ///
 /// # Panics
 ///
@@ -87,7 +54,8 @@ pub const fn reverse_bits(x: usize, n: usize) -> usize {
     proved::reverse_bits(x, n)
 }
 
-/// Reverses the `bit_len` low binary digits of `x` and drops the others. For a `bit_len` of 0 it reverses the whole word.
+/// Reverses the `bit_len` low binary digits of `x` and drops the others. For a `bit_len` of 0 it reverses the whole word. Up to
+/// 64 digits it is [`kernels::bits::reverse_bits_len`](proved::reverse_bits_len).
 ///
 /// # Panics
 ///

@@ -1,7 +1,8 @@
 //! Bit reversal, transposes and the other small calls of `p3-util` 0.8.0, under its names, over sources that are proved.
 //!
-//! What [`kernels`] has is Rust that was proved with its contracts, and here has them as documentation. The calls beside
-//! it are the original's: each tests its condition, panics where it does not hold, and calls the proved one.
+//! What [`kernels`] has was proved as Rust with contracts, and here has the contracts as documentation. The calls beside it
+//! are the original's: each tests its condition, panics where it does not hold, and calls the proved one, to which its
+//! documentation leads. [`kernels::contracts`] says how a contract is read.
 //!
 //! ```
 //! use p3_util_proved::{reverse_slice_index_bits, transpose::transpose};
@@ -14,6 +15,34 @@
 //! transpose(&list, &mut columns, 4, 2);
 //! assert_eq!(columns, [0, 1, 4, 5, 2, 3, 6, 7]);
 //! ```
+//!
+//! Bytes in chunks, two iterators of one length, and a map that keeps the order of its keys:
+//!
+//! ```
+//! use p3_util_proved::linear_map::LinearMap;
+//! use p3_util_proved::zip_eq::zip_eq;
+//! use p3_util_proved::{apply_to_chunks, iter_array_chunks_padded};
+//!
+//! let mut sums = vec![];
+//! apply_to_chunks::<2, _, _>([1, 2, 3, 4, 5], |chunk| sums.push(chunk.iter().sum::<u8>()));
+//! assert_eq!(sums, [3, 7, 5]);
+//!
+//! let words = iter_array_chunks_padded([1, 2, 3], 0);
+//! assert!(words.eq([[1, 2], [3, 0]]));
+//!
+//! let pairs = zip_eq(["x", "y", "x"], sums, "lengths differ")?;
+//! let map: LinearMap<&str, u8> = pairs.collect();
+//! assert!(map.iter().eq(&[("x", 5), ("y", 7)]));
+//! # Ok::<(), &str>(())
+//! ```
+//!
+//! # Features
+//!
+//! - `checked`: slices whose kernels test each index, in place of those that test none, and no unsafe code in this crate.
+//!   Results are the same. Cargo turns a feature on for the whole program where one crate asks for it.
+//!
+//! No feature is on by default. The crate is `no_std` with `alloc`, has no dependency and no build script, and starts no
+//! thread.
 #![no_std]
 #![cfg_attr(feature = "checked", forbid(unsafe_code))]
 #![cfg_attr(not(feature = "checked"), deny(unsafe_code))]
@@ -59,6 +88,49 @@ mod bits;
 /// assert_eq!(reverse_counted(&mut Even(&mut list)), 2);
 /// assert_eq!(list[..8], [0, 1, 8, 3, 4, 5, 12, 7]);
 /// ```
+///
+/// A transpose reads from a [`Source`](kernels::places::Source) and puts into [`Cells`](kernels::places::Cells). Here the input
+/// is made as it is read, the output is a list of columns, and the puts are counted:
+///
+/// ```
+/// use p3_util_proved::kernels::places::{Cells, Source};
+/// use p3_util_proved::kernels::transpose::transpose_source_counted;
+///
+/// /// The squares of the numbers below a bound.
+/// struct Squares(usize);
+///
+/// impl Source for Squares {
+///     type Item = usize;
+///
+///     fn len(&self) -> usize {
+///         self.0
+///     }
+///
+///     fn at(&self, i: usize) -> usize {
+///         i * i
+///     }
+/// }
+///
+/// /// Columns of two items, one after the other.
+/// struct Columns([Vec<usize>; 3]);
+///
+/// impl Cells for Columns {
+///     type Item = usize;
+///
+///     fn len(&self) -> usize {
+///         6
+///     }
+///
+///     fn put(&mut self, i: usize, v: usize) {
+///         self.0[i / 2][i % 2] = v;
+///     }
+/// }
+///
+/// // The input has two rows of three items.
+/// let mut columns = Columns([vec![0; 2], vec![0; 2], vec![0; 2]]);
+/// assert_eq!(transpose_source_counted(&Squares(6), &mut columns, 3, 2), 6);
+/// assert_eq!(columns.0, [[0, 9], [1, 16], [4, 25]]);
+/// ```
 #[allow(clippy::len_without_is_empty, reason = "a kernel asks a holder for its length alone")]
 #[allow(clippy::manual_is_multiple_of, reason = "the proofs are of `%`")]
 #[allow(
@@ -74,12 +146,12 @@ pub mod transpose;
 mod unchecked;
 pub mod zip_eq;
 
-pub use bits::{
-    checked_log_size_sum, checked_pow2, indices_arr, log2_ceil_u64, log2_ceil_usize, log2_floor_usize,
-    log2_strict_usize, log3_strict_usize, reverse_bits, reverse_bits_len,
-};
+pub use bits::{log2_strict_usize, log3_strict_usize, reverse_bits, reverse_bits_len};
 #[doc(inline)]
-pub use kernels::bits::{assert_clone, branch_hint};
+pub use kernels::bits::{
+    assert_clone, branch_hint, checked_log_size_sum, checked_pow2, indices_arr, log2_ceil_u64, log2_ceil_usize,
+    log2_floor_usize,
+};
 #[doc(inline)]
 pub use kernels::chunks::apply_to_chunks;
 
@@ -100,7 +172,8 @@ pub const fn assert_send<T: Send>() {}
 pub const fn assert_sync<T: Sync>() {}
 
 /// Reverses the order of `vals` by index bits: with 2^k items, place `i` gets the item from the place whose index has
-/// the k bits of `i` in reversed order. No item is cloned or dropped.
+/// the k bits of `i` in reversed order. No item is cloned or dropped. Its kernel is that of
+/// [`kernels::reverse::reverse_slice_index_bits`], whose contract says this.
 ///
 /// # Panics
 ///
@@ -113,7 +186,8 @@ pub fn reverse_slice_index_bits<F: Send + Sync>(vals: &mut [F]) {
 }
 
 /// Reverses the order of the rows of `vals`, of `row_width` items each, by index bits: with 2^k rows, row `r` becomes the
-/// row whose index has the k bits of `r` in reversed order. No item is cloned or dropped.
+/// row whose index has the k bits of `r` in reversed order. No item is cloned or dropped. Its kernel is that of
+/// [`kernels::reverse::reverse_slice_row_index_bits`], whose contract says this.
 ///
 /// ```
 /// let mut rows = [0, 1, 10, 11, 20, 21, 30, 31];
@@ -127,16 +201,25 @@ pub fn reverse_slice_index_bits<F: Send + Sync>(vals: &mut [F]) {
 #[inline]
 #[track_caller]
 pub fn reverse_slice_row_index_bits<F>(vals: &mut [F], row_width: usize) {
-    let fits = unchecked::reverse_rows(vals, row_width);
-    assert!(
-        fits,
-        "length {} is not {row_width} times zero or a power of two",
-        vals.len()
-    );
+    if !unchecked::reverse_rows(vals, row_width) {
+        refuse_rows(vals.len(), row_width);
+    }
+}
+
+/// Panics with the length and the width that do not fit.
+#[cold]
+#[inline(never)]
+#[track_caller]
+fn refuse_rows(len: usize, row_width: usize) -> ! {
+    match row_width {
+        0 => panic!("length {len} is not zero, and a row has no items"),
+        1 => panic!("length {len} is neither zero nor a power of two"),
+        _ => panic!("length {len} is not {row_width} times zero or a power of two"),
+    }
 }
 
 /// Cuts what `iter` gives up to its first `None` into arrays of `N` items. The last one is filled with `default` where they
-/// do not divide. Where `N` is 0 there is no array.
+/// do not divide. Where `N` is 0 there is no array. This is the proved [`kernels::chunks::iter_array_chunks_padded`].
 #[inline]
 pub fn iter_array_chunks_padded<T: Copy, const N: usize>(
     iter: impl IntoIterator<Item = T>,
@@ -145,7 +228,8 @@ pub fn iter_array_chunks_padded<T: Copy, const N: usize>(
     kernels::chunks::iter_array_chunks_padded(iter, default)
 }
 
-/// The short name of `T`: `alloc::vec::Vec<core::option::Option<u32>>` becomes `Vec<Option<u32>>`.
+/// The short name of `T`: `alloc::vec::Vec<core::option::Option<u32>>` becomes `Vec<Option<u32>>`. It is what
+/// [`kernels::bits::pretty_name`] returns for the name that the compiler gives.
 ///
 /// # Panics
 ///

@@ -3,7 +3,8 @@
 use crate::unchecked;
 
 /// Writes to `output` the transpose of `input`, a matrix of `height` rows of `width` items: what is at
-/// `input[y * width + x]` is put at `output[x * height + y]`.
+/// `input[y * width + x]` is put at `output[x * height + y]`. Its kernel is that of
+/// [`kernels::transpose::transpose`](crate::kernels::transpose::transpose), whose contract says this.
 ///
 /// # Panics
 ///

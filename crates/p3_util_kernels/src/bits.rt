@@ -65,6 +65,7 @@ static EXPONENTS_OF_THREE: [u8; 64] = [
 
 /// The least `e` with `n <= 2^e`, which is 0 for 0 and 1.
 #[inline]
+#[must_use]
 pub const fn log2_ceil_usize(n: usize) -> usize
     ensures enough { n ≤ 2 ^ result }
     ensures least { (e : ℕ) → n ≤ 2 ^ e → result ≤ e }
@@ -76,6 +77,7 @@ pub const fn log2_ceil_usize(n: usize) -> usize
 
 /// The greatest `e` with `2^e <= n`, and 0 for 0.
 #[inline]
+#[must_use]
 pub const fn log2_floor_usize(n: usize) -> usize
     ensures zero { n ≡ 0 → result ≡ 0 }
     ensures within { 0 < n → 2 ^ result ≤ n }
@@ -86,6 +88,7 @@ pub const fn log2_floor_usize(n: usize) -> usize
 
 /// The least `e` with `n <= 2^e`, which is 0 for 0 and 1.
 #[inline]
+#[must_use]
 pub const fn log2_ceil_u64(n: u64) -> u64
     ensures enough { n ≤ 2 ^ result }
     ensures least { (e : ℕ) → n ≤ 2 ^ e → result ≤ e }
@@ -104,6 +107,7 @@ pub(crate) const fn pow2(exponent: usize) -> usize
 
 /// `2^log_degree`, or `None` where that does not fit a word.
 #[inline]
+#[must_use]
 pub const fn checked_pow2(log_degree: usize) -> Option<usize>
     ensures { SomeIff result (log_degree < 64) (2 ^ log_degree) }
 {
@@ -116,6 +120,7 @@ pub const fn checked_pow2(log_degree: usize) -> Option<usize>
 
 /// `a + b` and `2^(a + b)`, or `None` where the power does not fit a word.
 #[inline]
+#[must_use]
 pub const fn checked_log_size_sum(a: usize, b: usize) -> Option<(usize, usize)>
     ensures { SomeIff result (a + b < 64) (a + b, 2 ^ (a + b)) }
 {
@@ -180,6 +185,7 @@ const fn exponent_of_three(top: usize) -> usize
 
 /// The array of its own indices: `[0, 1, .., N - 1]`.
 #[inline]
+#[must_use]
 pub const fn indices_arr<const N: usize>() -> [usize; N]
     ensures len { length result ≡ N }
     ensures places { (i : ℕ) → i < N → slice_index result i ≡ i }

@@ -71,6 +71,7 @@ static EXPONENTS_OF_THREE: [u8; 64] = [
 /// ensures counted { result ≡ clog n }
 /// ```
 #[inline]
+#[must_use]
 pub const fn log2_ceil_usize(n: usize) -> usize {
     // This is how many binary digits n - 1 has.
     (usize::BITS - n.saturating_sub(1).leading_zeros()) as usize
@@ -88,6 +89,7 @@ pub const fn log2_ceil_usize(n: usize) -> usize {
 /// ensures greatest { (e : ℕ) → 2 ^ e ≤ n → e ≤ result }
 /// ```
 #[inline]
+#[must_use]
 pub const fn log2_floor_usize(n: usize) -> usize {
     if n == 0 { 0 } else { n.ilog2() as usize }
 }
@@ -103,6 +105,7 @@ pub const fn log2_floor_usize(n: usize) -> usize {
 /// ensures least { (e : ℕ) → n ≤ 2 ^ e → result ≤ e }
 /// ```
 #[inline]
+#[must_use]
 pub const fn log2_ceil_u64(n: u64) -> u64 {
     log2_ceil_usize(n as usize) as u64
 }
@@ -123,6 +126,7 @@ pub(crate) const fn pow2(exponent: usize) -> usize {
 /// ensures { SomeIff result (log_degree < 64) (2 ^ log_degree) }
 /// ```
 #[inline]
+#[must_use]
 pub const fn checked_pow2(log_degree: usize) -> Option<usize> {
     if log_degree < 64 {
         Some(1 << log_degree)
@@ -141,6 +145,7 @@ pub const fn checked_pow2(log_degree: usize) -> Option<usize> {
 /// ensures { SomeIff result (a + b < 64) (a + b, 2 ^ (a + b)) }
 /// ```
 #[inline]
+#[must_use]
 pub const fn checked_log_size_sum(a: usize, b: usize) -> Option<(usize, usize)> {
     let sum = a.saturating_add(b);
     if sum < 64 {
@@ -221,6 +226,7 @@ const fn exponent_of_three(top: usize) -> usize {
 /// ensures places { (i : ℕ) → i < N → slice_index result i ≡ i }
 /// ```
 #[inline]
+#[must_use]
 pub const fn indices_arr<const N: usize>() -> [usize; N] {
     let mut indices = [0; N];
     let mut i = 0;

@@ -67,6 +67,17 @@ static PLACES: [usize; ROWS] = {
     }
     places
 };
+
+/// As long a table as the original's calls make. Where reversing a number takes the compiler too many steps it is refused.
+static LONG_TABLE: [u16; 1 << 16] = {
+    let mut table = [0; 1 << 16];
+    let mut i = 0;
+    while i < table.len() {
+        table[i] = reverse_bits_len(i, 16) as u16;
+        i += 1;
+    }
+    table
+};
 const OTHERS: (usize, usize, u64, usize, usize) = (
     log2_ceil_usize(9),
     log2_floor_usize(9),
@@ -81,6 +92,7 @@ const CHECKED: (Option<usize>, Option<(usize, usize)>) = (checked_pow2(64), chec
 fn constants() {
     assert_eq!(LOG_ROWS, 5);
     assert_eq!(PLACES[..5], [0, 16, 8, 24, 4]);
+    assert!((0..=u16::MAX).all(|i| LONG_TABLE[usize::from(i)] == i.reverse_bits()));
     assert_eq!(OTHERS, (4, 3, 4, 12, 0b11010));
     assert_eq!(FITS, (true, false));
     assert_eq!(CHECKED, (None, Some((23, 8_388_608))));
