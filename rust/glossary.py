@@ -1,13 +1,16 @@
 """The text of src/kernels/contracts.rs: what the words of the contracts in the package's documentation mean.
 
-The rows of its tables are those of docs/CALLING.md and docs/MODEL.md, as they stand there, for each word that is used."""
+The rows of its tables are those of docs/CALLING.md and docs/MODEL.md, as they stand there, for each word that is used. The
+contract that it reads is the one that docs/CALLING.md reads."""
 import re
 from dataclasses import dataclass
 
-# The page begins and ends with these, and between them is the paragraph under the first table's heading.
+# These two are at the head of the page, and between them is the paragraph under the first table's heading.
 HEAD = "What the words of the contracts mean."
 END = """Nothing tests a `requires` here. The repository has each definition as the checker reads it, in the folders `specs` of
 its crates."""
+# The page and the heading under which a contract is read.
+READ_ALOUD = "docs/CALLING.md", "A contract, word by word"
 # Each table here: its title and the head of its first column, and the page and the heading under which its rows are.
 TABLES = [
     ("Marks, and words of Rust and its std", "In a clause", "docs/CALLING.md", "How a clause is read"),
@@ -95,6 +98,13 @@ def shown(written, tables):
     return [[row for row in table if row.words & words] for table in tables]
 
 
+def read_aloud(text):
+    """Of the section that reads a contract: its first sentence, the contract, and the list of what each clause says. A link to
+    another page is left out."""
+    parts = "\n\n".join(text.strip().split("\n\n")[:3]).replace("```rust\n", "```text\n")
+    return re.sub(r"\[([^]]*)\]\([^)]*\)", r"\1", parts).split("\n")
+
+
 def page(written, read):
     """The text of the page for the files that `erase` wrote, where `read` gives the text of a page of the repository. A word
     without a row ends it."""
@@ -103,6 +113,8 @@ def page(written, read):
     for line in undefined(written, tables):
         raise Undefined(line)
     lines = [HEAD, "", *sections[0].strip().split("\n\n")[0].split("\n"), "", *END.split("\n")]
+    aloud, heading = READ_ALOUD
+    lines += ["", f"# {heading}", "", *read_aloud(section(read(aloud), heading))]
     for (title, column, *_), table in zip(TABLES, shown(written, tables)):
         lines += ["", f"# {title}", "", f"| {column} | Meaning |", "|---|---|", *(f"| {row.name} | {row.meaning} |" for row in table)]
     return "".join(f"//! {line}".rstrip() + "\n" for line in lines)

@@ -9,6 +9,27 @@
 //! Nothing tests a `requires` here. The repository has each definition as the checker reads it, in the folders `specs` of
 //! its crates.
 //!
+//! # A contract, word by word
+//!
+//! This call reverses any list and counts the swaps:
+//!
+//! ```text
+//! pub fn reverse_counted<S: Places>(places: &mut S) -> u128
+//!     requires { IsReversible (length (S.items places.old)) }
+//!     ensures order { IsReversal (S.items places.old) (S.items places.new) }
+//!     ensures inverse { IsReversal (S.items places.new) (S.items places.old) }
+//!     ensures count { result ≡ reversal_swaps (length (S.items places.old)) }
+//!     ensures bound { result ≤ 3 * length (S.items places.old) / 2 }
+//!     ensures holder { S.same_holder result places.old places.new }
+//! ```
+//!
+//! - `S` is the type of a *holder*, which has the list, and `S.items` is that list. A slice's holder
+//!   is `SlicePlaces::new(values)`.
+//! - `requires`: the length is zero or a power of two. The call does not test that.
+//! - `order`: the new list is the old one by reversed index bits. `inverse`: the same call again restores the old list.
+//! - `count` and `bound`: the call returns this exact function of the length, which is at most 3n/2.
+//! - `holder`: it made just as many exchanges as it returns, in this holder. A borrowed slice is still the same slice.
+//!
 //! # Marks, and words of Rust and its std
 //!
 //! | In a clause | Meaning |
