@@ -102,6 +102,24 @@ fn iterators_from_both_ends() {
     assert!(pairs.rev().eq(&[(2, 'b')]) && keys.rev().eq(&[2]) && values.rev().eq(&['b']));
 }
 
+/// A clone of an iterator goes on from the same place, and clones neither keys nor values.
+#[test]
+fn iterators_over_owners_are_cloned() {
+    let drops = AtomicUsize::new(0);
+    let map = LinearMap::from_iter([1, 2, 3].map(|i| (Owner::new(i, &drops), Owner::new(10 * i, &drops))));
+    let (mut pairs, mut keys, mut values) = (map.iter(), map.keys(), map.values());
+    assert_eq!(
+        (pairs.next().map(|pair| pair.0.number), keys.len(), values.len()),
+        (Some(1), 3, 3)
+    );
+    keys.nth(1);
+    values.next_back();
+    assert!(pairs.clone().map(|pair| pair.1.number).eq([20, 30]) && pairs.len() == 2);
+    assert!(keys.clone().map(|key| key.number).eq([3]) && keys.len() == 1);
+    assert!(values.clone().map(|value| value.number).eq([10, 20]) && values.len() == 2);
+    assert_eq!(drops.load(Relaxed), 0);
+}
+
 #[test]
 fn empty_maps() {
     let maps = [LinearMap::new(), LinearMap::default(), LinearMap::with_capacity(0)];

@@ -1,17 +1,18 @@
 //! The iterators that lend the pairs, the keys or the values of a map, in its order. Each is seen as the list of what it
 //! has left.
-ghost use Rattle.std.specs.Prelude.{◌≡◌, Some, length, IfSome};
+ghost use Rattle.std.specs.Prelude.{◌≡◌, ⊤, Some, length, IfSome};
 ghost use Rattle.std.specs.Iterator.{item_count, at_most, UpTo};
 ghost use Rattle.std.specs.Iterator.SizeHint.{IsWithinCount};
 ghost use Rattle.std.specs.Map.{keys_of, values_of};
 ghost use Rattle.std.specs.Map.Iter.{TakesFirst, TakesLast, deref};
 
+use std::alloc::AllocError;
 use std::iter::FusedIterator;
 use std::marker::Model;
 use std::slice;
 
 /// The pairs of a map, in order.
-#[derive(Clone, Debug, Drop)]
+#[derive(Debug, Drop)]
 #[must_use = "iterators are lazy and do nothing unless consumed"]
 pub struct Iter<'a, K, V> {
     pairs: slice::Iter<'a, (K, V)>,
@@ -24,6 +25,19 @@ impl<'a, K, V> Model for Iter<'a, K, V> {
     ghost Value = { List (K × V) };
 
     ghost view = { λ s. iter_rest s.pairs };
+}
+
+/// The pairs that are left. A clone takes no memory.
+impl<'a, K, V> Clone for Iter<'a, K, V> {
+    ghost is_clone = { λ s r. r ≡ s };
+
+    ghost is_infallible = { λ _. ⊤ };
+
+    fn clone(&self) -> Result<Iter<'a, K, V>, AllocError> {
+        Ok(Iter {
+            pairs: self.pairs.clone()?,
+        })
+    }
 }
 
 impl<'a, K, V> Iter<'a, K, V> {
@@ -76,7 +90,7 @@ impl<'a, K, V> ExactSizeIterator for Iter<'a, K, V> {
 impl<'a, K, V> FusedIterator for Iter<'a, K, V> {}
 
 /// The keys of a map, in order.
-#[derive(Clone, Debug, Drop)]
+#[derive(Debug, Drop)]
 #[must_use = "iterators are lazy and do nothing unless consumed"]
 pub struct Keys<'a, K, V> {
     pairs: slice::Iter<'a, (K, V)>,
@@ -90,6 +104,19 @@ impl<'a, K, V> Model for Keys<'a, K, V> {
     ghost Value = { List K };
 
     ghost view = { λ s. keys_of (iter_rest s.pairs) };
+}
+
+/// The keys that are left. A clone takes no memory.
+impl<'a, K, V> Clone for Keys<'a, K, V> {
+    ghost is_clone = { λ s r. r ≡ s };
+
+    ghost is_infallible = { λ _. ⊤ };
+
+    fn clone(&self) -> Result<Keys<'a, K, V>, AllocError> {
+        Ok(Keys {
+            pairs: self.pairs.clone()?,
+        })
+    }
 }
 
 impl<'a, K, V> Keys<'a, K, V> {
@@ -144,7 +171,7 @@ impl<'a, K, V> ExactSizeIterator for Keys<'a, K, V> {
 impl<'a, K, V> FusedIterator for Keys<'a, K, V> {}
 
 /// The values of a map, in order.
-#[derive(Clone, Debug, Drop)]
+#[derive(Debug, Drop)]
 #[must_use = "iterators are lazy and do nothing unless consumed"]
 pub struct Values<'a, K, V> {
     pairs: slice::Iter<'a, (K, V)>,
@@ -158,6 +185,19 @@ impl<'a, K, V> Model for Values<'a, K, V> {
     ghost Value = { List V };
 
     ghost view = { λ s. values_of (iter_rest s.pairs) };
+}
+
+/// The values that are left. A clone takes no memory.
+impl<'a, K, V> Clone for Values<'a, K, V> {
+    ghost is_clone = { λ s r. r ≡ s };
+
+    ghost is_infallible = { λ _. ⊤ };
+
+    fn clone(&self) -> Result<Values<'a, K, V>, AllocError> {
+        Ok(Values {
+            pairs: self.pairs.clone()?,
+        })
+    }
 }
 
 impl<'a, K, V> Values<'a, K, V> {

@@ -5,10 +5,19 @@ use core::slice;
 use core::iter::FusedIterator;
 
 /// The pairs of a map, in order.
-#[derive(Clone, Debug)]
+#[derive(Debug)]
 #[must_use = "iterators are lazy and do nothing unless consumed"]
 pub struct Iter<'a, K, V> {
     pairs: slice::Iter<'a, (K, V)>,
+}
+
+/// The pairs that are left. A clone takes no memory.
+impl<'a, K, V> Clone for Iter<'a, K, V> {
+    fn clone(&self) -> Iter<'a, K, V> {
+        Iter {
+            pairs: self.pairs.clone(),
+        }
+    }
 }
 
 impl<'a, K, V> Iter<'a, K, V> {
@@ -59,10 +68,19 @@ impl<'a, K, V> ExactSizeIterator for Iter<'a, K, V> {
 impl<'a, K, V> FusedIterator for Iter<'a, K, V> {}
 
 /// The keys of a map, in order.
-#[derive(Clone, Debug)]
+#[derive(Debug)]
 #[must_use = "iterators are lazy and do nothing unless consumed"]
 pub struct Keys<'a, K, V> {
     pairs: slice::Iter<'a, (K, V)>,
+}
+
+/// The keys that are left. A clone takes no memory.
+impl<'a, K, V> Clone for Keys<'a, K, V> {
+    fn clone(&self) -> Keys<'a, K, V> {
+        Keys {
+            pairs: self.pairs.clone(),
+        }
+    }
 }
 
 impl<'a, K, V> Keys<'a, K, V> {
@@ -115,10 +133,19 @@ impl<'a, K, V> ExactSizeIterator for Keys<'a, K, V> {
 impl<'a, K, V> FusedIterator for Keys<'a, K, V> {}
 
 /// The values of a map, in order.
-#[derive(Clone, Debug)]
+#[derive(Debug)]
 #[must_use = "iterators are lazy and do nothing unless consumed"]
 pub struct Values<'a, K, V> {
     pairs: slice::Iter<'a, (K, V)>,
+}
+
+/// The values that are left. A clone takes no memory.
+impl<'a, K, V> Clone for Values<'a, K, V> {
+    fn clone(&self) -> Values<'a, K, V> {
+        Values {
+            pairs: self.pairs.clone(),
+        }
+    }
 }
 
 impl<'a, K, V> Values<'a, K, V> {
