@@ -1,5 +1,6 @@
 //! A map that keeps its pairs in the order of insertion and finds a key by comparing it with each.
 
+use core::alloc::Layout;
 use core::fmt::{self, Debug, Formatter};
 use core::ops::Index;
 
@@ -9,10 +10,20 @@ pub use crate::kernels::linear_map::{Iter, Keys, Values};
 use crate::memory::{Global, granted};
 
 /// A map in insertion order, for few keys. A look-up compares each stored key with the given one, as
-/// `stored == given`.
+/// `stored == given`, so it takes time in proportion to the number of pairs, and n insertions of new keys to n^2.
 ///
-/// Its calls panic where memory runs out. Those of [`kernels::linear_map::LinearMap`](proved::LinearMap), which it is made
-/// of, return the refusal.
+/// Each call is the proved one of the same name of [`kernels::linear_map::LinearMap`](proved::LinearMap), whose contract says
+/// what it does. That one returns a refusal where memory runs out, and this one panics.
+///
+/// ```
+/// use p3_util_proved::linear_map::LinearMap;
+///
+/// let mut degrees = LinearMap::from_iter([("trace", 10), ("quotient", 12)]);
+/// assert_eq!(degrees.insert("trace", 11), Some(10));
+/// *degrees.get_or_insert_with("random", || 9) += 1;
+/// assert!(degrees.keys().eq(&["trace", "quotient", "random"]));
+/// assert_eq!((degrees[&"random"], degrees.get(&"public")), (10, None));
+/// ```
 pub struct LinearMap<K: Eq, V>(proved::LinearMap<K, V>);
 
 impl<K: Eq, V> LinearMap<K, V> {
@@ -25,9 +36,11 @@ impl<K: Eq, V> LinearMap<K, V> {
     ///
     /// # Panics
     ///
-    /// Where memory runs out.
+    /// With `capacity overflow`, as the original, where so many pairs are more than `isize::MAX` bytes, and where memory runs
+    /// out.
     #[track_caller]
     pub fn with_capacity(capacity: usize) -> Self {
+        assert!(Layout::array::<(K, V)>(capacity).is_ok(), "capacity overflow");
         LinearMap(granted(proved::LinearMap::with_capacity(Global, capacity)))
     }
 

@@ -1,7 +1,11 @@
 //! The forms of `Vec` and `String` that the proved sources are written over, whose calls return a refusal where memory
-//! runs out.
+//! runs out, and what Rust asks of the types of such refusals.
 
+use core::error::Error;
+use core::fmt::{self, Debug, Display, Formatter};
 use core::ops::{Deref, DerefMut};
+
+use crate::kernels::NoRoom;
 
 /// The program's allocator, which a call that takes memory is given.
 #[derive(Clone, Copy, Debug)]
@@ -10,6 +14,22 @@ pub struct Global;
 /// A refusal where memory runs out.
 #[derive(Clone, Copy, Debug, PartialEq, Eq)]
 pub struct AllocError;
+
+impl Display for AllocError {
+    fn fmt(&self, f: &mut Formatter<'_>) -> fmt::Result {
+        f.write_str("memory allocation failed")
+    }
+}
+
+impl Error for AllocError {}
+
+impl<G> Display for NoRoom<G> {
+    fn fmt(&self, f: &mut Formatter<'_>) -> fmt::Result {
+        Display::fmt(&AllocError, f)
+    }
+}
+
+impl<G: Debug> Error for NoRoom<G> {}
 
 /// A refusal where memory runs out, with the item that was not added.
 #[derive(Debug)]
@@ -31,8 +51,8 @@ pub(crate) fn granted<T, E>(answer: Result<T, E>) -> T {
     }
 }
 
-/// A text that grows where there is memory.
-#[derive(Debug)]
+/// A text that grows where there is memory. It is read as a `str`, and turned into the `String` of `alloc` by `into`.
+#[derive(Clone, PartialEq, Eq)]
 pub struct String(alloc::string::String);
 
 impl String {
@@ -48,6 +68,32 @@ impl String {
         self.0.try_reserve(more.len()).map_err(|_| AllocError)?;
         self.0.push_str(more);
         Ok(())
+    }
+}
+
+impl Deref for String {
+    type Target = str;
+
+    fn deref(&self) -> &str {
+        &self.0
+    }
+}
+
+impl AsRef<str> for String {
+    fn as_ref(&self) -> &str {
+        self
+    }
+}
+
+impl Debug for String {
+    fn fmt(&self, f: &mut Formatter<'_>) -> fmt::Result {
+        Debug::fmt(&self.0, f)
+    }
+}
+
+impl Display for String {
+    fn fmt(&self, f: &mut Formatter<'_>) -> fmt::Result {
+        Display::fmt(&self.0, f)
     }
 }
 

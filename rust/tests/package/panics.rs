@@ -46,24 +46,26 @@ fn texts_of_the_original() {
             || _ = LinearMap::<u8, u8>::new()[&1],
             "called `Option::unwrap()` on a `None` value",
         ),
+        (
+            || _ = LinearMap::<u8, u16>::with_capacity(usize::MAX / 4),
+            "capacity overflow",
+        ),
     ];
     for (call, original) in cases {
         check_text(*call, original);
     }
 }
 
-/// The texts where the original has no such call, or another text.
+/// The texts of the call that the original has not.
 #[test]
-fn texts_of_the_package() {
-    let cases: &[(fn(), &str)] = &[
-        (
-            || reverse_slice_row_index_bits(&mut [0u8; 6], 2),
-            "length 6 is not 2 times zero or a power of two",
-        ),
-        (|| _ = LinearMap::<u8, u8>::with_capacity(usize::MAX), "out of memory"),
+fn texts_of_rows() {
+    let cases: &[(usize, &str)] = &[
+        (2, "length 6 is not 2 times zero or a power of two"),
+        (1, "length 6 is neither zero nor a power of two"),
+        (0, "length 6 is not zero, and a row has no items"),
     ];
-    for (call, wanted) in cases {
-        let refused = refusal(call).unwrap();
+    for (row_width, wanted) in cases {
+        let refused = refusal(|| reverse_slice_row_index_bits(&mut [0u8; 6], *row_width)).unwrap();
         assert_eq!((refused.text.as_str(), refused.file.as_str()), (*wanted, file!()));
     }
 }

@@ -1,10 +1,45 @@
-//! More than all memory is refused.
+//! That more than all memory is refused, and what the types of refusals and texts have of std.
+
+use core::error::Error;
+use std::boxed::Box;
+use std::format;
 
 use super::{AllocError, Global, String, Vec};
+use crate::kernels::NoRoom;
 
 #[test]
 fn more_than_all_memory() {
     assert_eq!(Vec::<u16>::with_capacity(Global, usize::MAX), Err(AllocError));
     assert_eq!(Vec::<u16>::new(Global).reserve(usize::MAX), Err(AllocError));
-    assert_eq!(String::with_capacity(Global, usize::MAX).err(), Some(AllocError));
+    assert_eq!(String::with_capacity(Global, usize::MAX), Err(AllocError));
+}
+
+#[test]
+fn refusals_are_errors() {
+    let refusals: [Box<dyn Error>; 2] = [AllocError.into(), NoRoom { given: (1, "a") }.into()];
+    for refusal in refusals {
+        assert_eq!(format!("{refusal}"), "memory allocation failed");
+    }
+}
+
+/// As what a text may be given, without a step by hand.
+fn bytes(text: impl AsRef<str>) -> usize {
+    text.as_ref().len()
+}
+
+#[test]
+fn texts_are_read_as_std_has_them() {
+    let text = text_of("a\"b");
+    assert_eq!((&*text, text.len(), text.find('b')), ("a\"b", 3, Some(2)));
+    assert_eq!(
+        (format!("{text:>5}"), format!("{text:?}")),
+        ("  a\"b".into(), r#""a\"b""#.into())
+    );
+    assert_eq!((text.clone(), bytes(text)), (text_of("a\"b"), 3));
+}
+
+fn text_of(given: &str) -> String {
+    let mut text = String::with_capacity(Global, 0).unwrap();
+    text.push_str(given).unwrap();
+    text
 }
