@@ -58,6 +58,8 @@ use alloc::string::String;
 use core::any::type_name;
 
 mod bits;
+#[cfg(feature = "checked")]
+mod checked;
 /// The proved sources themselves, with their contracts as documentation: every call over a holder of your own, and with the
 /// exact number of its steps. [`contracts`](kernels::contracts) says what the words of a contract mean.
 ///
@@ -141,6 +143,8 @@ mod bits;
 pub mod kernels;
 pub mod linear_map;
 mod memory;
+pub mod parts;
+mod phases;
 pub mod transpose;
 #[cfg_attr(not(feature = "checked"), allow(unsafe_code))]
 mod unchecked;
@@ -181,8 +185,17 @@ pub const fn assert_sync<T: Sync>() {}
 #[inline]
 #[track_caller]
 pub fn reverse_slice_index_bits<F: Send + Sync>(vals: &mut [F]) {
-    let fits = unchecked::reverse(vals);
-    assert!(fits, "Not a power of two: {} items", vals.len());
+    if !unchecked::reverse(vals) {
+        refuse_items(vals.len());
+    }
+}
+
+/// Panics with a length that is neither zero nor a power of two.
+#[cold]
+#[inline(never)]
+#[track_caller]
+fn refuse_items(len: usize) -> ! {
+    panic!("Not a power of two: {len} items")
 }
 
 /// Reverses the order of the rows of `vals`, of `row_width` items each, by index bits: with 2^k rows, row `r` becomes the

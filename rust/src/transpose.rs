@@ -21,7 +21,7 @@ pub fn transpose<T: Copy + Send + Sync>(input: &[T], output: &mut [T], width: us
 #[cold]
 #[inline(never)]
 #[track_caller]
-fn refuse(input: usize, output: usize, width: usize, height: usize) -> ! {
+pub(crate) fn refuse(input: usize, output: usize, width: usize, height: usize) -> ! {
     let product = width as u128 * height as u128;
     assert_eq!(
         input as u128, product,

@@ -4,14 +4,24 @@
 //! So the holders here test no index, as long as each function below tests its kernel's condition before it makes one.
 //! They are private to this file, so that nothing else can make one. The feature `checked` puts holders that test each index
 //! in their place.
+//!
+//! Parts of a call have one list at once. The holder of a part is a pointer and a length, and makes references to one place or
+//! one run at a time, never to the whole list. No place is stepped on by two parts of a phase. This follows from what is proved
+//! in `crates/p3_util_kernels/src/laws/parts.rt`, with one step that is said and not proved: a kernel is generic in items and
+//! holder, and asks nothing of an item, so where it steps depends on the shape alone.
+
+use core::ops::Range;
 
 use crate::kernels::reverse::{self, RowDigits, fits_rows, reverse_index_bits};
 use crate::kernels::transpose::{Matrix, fits_matrix, transpose_matrix};
+use crate::phases::{Phase, Phases, Regions};
 
+#[cfg(feature = "checked")]
+use crate::checked::PartItems;
 #[cfg(feature = "checked")]
 use crate::kernels::places::{SliceCells, SlicePlaces, SliceSource};
 #[cfg(not(feature = "checked"))]
-use slices::{SliceCells, SlicePlaces, SliceSource};
+use slices::{SliceItems as PartItems, SliceItems as SliceCells, SliceItems as SlicePlaces, SliceSource};
 
 /// Reverses `vals` by index bits, where their number is zero or a power of two. Returns whether it is.
 #[inline]
@@ -47,89 +57,165 @@ pub(crate) fn transpose<T: Copy>(input: &[T], output: &mut [T], width: usize, he
     fits
 }
 
+/// Those parts of a phase over a list that have these numbers. No others have one of them.
+pub(crate) struct Parts<'a, T, P> {
+    items: PartItems<'a, T>,
+    phase: P,
+    numbers: Range<usize>,
+}
+
+/// The parts of [`transpose`], where both lists have so many items.
+pub(crate) fn transpose_in_parts<'a, T>(
+    matrix: Matrix<&'a [T]>,
+    output: &'a mut [T],
+    parts: usize,
+) -> Option<Parts<'a, T, Regions<&'a [T]>>> {
+    let Matrix { source, width, height } = matrix;
+    if !fits_matrix(source.len(), output.len(), width, height) {
+        return None;
+    }
+    let phase = Regions::new(matrix, parts);
+    let count = if size_of::<T>() == 0 { 0 } else { phase.count() };
+    Some(Parts {
+        items: PartItems::in_shares(output, phase.cells()),
+        phase,
+        numbers: 0..count,
+    })
+}
+
+/// The parts of a phase of [`reverse_rows`], where the list has such rows. There are none after the last phase, and none of
+/// items without bytes.
+pub(crate) fn reverse_in_parts<F>(vals: &mut [F], phases: Phases, number: usize) -> Option<Parts<'_, F, Phase>> {
+    let len = vals.len();
+    if !fits_rows(len, phases.row_width) || size_of_val(vals) == 0 {
+        return None;
+    }
+    let phase = phases.of(len).nth(number)?;
+    Some(Parts {
+        items: PartItems::in_shares(vals, len),
+        phase,
+        numbers: 0..phase.count(),
+    })
+}
+
+impl<T, P: Copy> Parts<'_, T, P> {
+    pub(crate) fn split_first(&mut self) -> Option<Self> {
+        let number = self.numbers.next()?;
+        Some(Parts {
+            items: self.items.share(),
+            phase: self.phase,
+            numbers: number..number + 1,
+        })
+    }
+
+    pub(crate) fn numbers(&self) -> Range<usize> {
+        self.numbers.clone()
+    }
+}
+
+impl<T: Copy> Parts<'_, T, Regions<&[T]>> {
+    pub(crate) fn put(mut self) {
+        let regions = self.phase.map(SliceSource::new);
+        self.numbers.for_each(|number| regions.put(self.items.share(), number));
+    }
+}
+
+impl<F> Parts<'_, F, Phase> {
+    pub(crate) fn exchange(mut self) {
+        self.numbers
+            .for_each(|number| self.phase.exchange(self.items.share(), number));
+    }
+}
+
 /// Slices as holders that test no index, but where debug assertions are on.
 #[cfg(not(feature = "checked"))]
 mod slices {
+    use core::marker::PhantomData;
     use core::slice::from_raw_parts_mut;
     use core::sync::atomic::{Ordering, compiler_fence};
 
     use crate::kernels::places::{Cells, Places, Source};
 
-    /// The places of a slice.
-    pub(super) struct SlicePlaces<'a, F> {
-        items: &'a mut [F],
+    /// The items of a slice, as places or as cells, for one kernel or for one part.
+    pub(super) struct SliceItems<'a, T> {
+        first: *mut T,
+        len: usize,
+        slice: PhantomData<&'a mut [T]>,
     }
 
-    impl<'a, F> SlicePlaces<'a, F> {
-        pub(super) fn new(items: &'a mut [F]) -> Self {
-            SlicePlaces { items }
+    // SAFETY: what it may do to the items, the `&mut [T]` that it was made of may do too.
+    unsafe impl<T: Send> Send for SliceItems<'_, T> {}
+
+    impl<'a, T> SliceItems<'a, T> {
+        #[inline(always)]
+        pub(super) fn new(slice: &'a mut [T]) -> Self {
+            SliceItems {
+                len: slice.len(),
+                first: slice.as_mut_ptr(),
+                slice: PhantomData,
+            }
+        }
+
+        /// The items, for several parts. A share is the whole list.
+        pub(super) fn in_shares(slice: &'a mut [T], _: usize) -> Self {
+            SliceItems::new(slice)
+        }
+
+        /// The same items for a part. No place is stepped on by two parts of one phase.
+        pub(super) fn share(&mut self) -> Self {
+            SliceItems { ..*self }
         }
     }
 
-    impl<F> Places for SlicePlaces<'_, F> {
+    impl<F> Places for SliceItems<'_, F> {
         type Item = F;
 
         #[inline(always)]
         fn len(&self) -> usize {
-            self.items.len()
+            self.len
         }
 
         #[inline(always)]
         fn exchange(&mut self, i: usize, j: usize) {
-            debug_assert!(i < self.items.len() && j < self.items.len());
-            let first = self.items.as_mut_ptr();
+            debug_assert!(i < self.len && j < self.len);
             // SAFETY: both places are within the slice, by the clauses `first` and `second` of `Places::exchange`. They may be
             // one place, of which there may not be two references. A test for that would make the exchange of items of one
             // word take half as long again.
-            unsafe { core::ptr::swap(first.add(i), first.add(j)) }
+            unsafe { core::ptr::swap(self.first.add(i), self.first.add(j)) }
         }
 
         #[inline(always)]
         fn exchange_ordered(&mut self, i: usize, j: usize) {
-            debug_assert!(i < j && j < self.items.len());
-            let first = self.items.as_mut_ptr();
+            debug_assert!(i < j && j < self.len);
             // SAFETY: `i < j` by the clause `order` of `Places::exchange_ordered`, and `j` is within the slice by `second`.
-            let (x, y) = unsafe { (&mut *first.add(i), &mut *first.add(j)) };
+            let (x, y) = unsafe { (&mut *self.first.add(i), &mut *self.first.add(j)) };
             core::mem::swap(x, y);
         }
 
         #[inline(always)]
         fn exchange_runs(&mut self, i: usize, j: usize, len: usize) {
-            let n = self.items.len();
+            let n = self.len;
             debug_assert!(len <= n && i <= n - len && j <= n - len && i.abs_diff(j) >= len);
-            let first = self.items.as_mut_ptr();
             // SAFETY: both runs are within the slice, by the clauses `first` and `second` of `Places::exchange_runs`, and have
             // no place in common, by `apart`.
-            let run = |start| unsafe { from_raw_parts_mut(first.add(start), len) };
+            let run = |start| unsafe { from_raw_parts_mut(self.first.add(start), len) };
             run(i).swap_with_slice(run(j));
         }
     }
 
-    /// The cells of a slice.
-    pub(super) struct SliceCells<'a, T> {
-        values: &'a mut [T],
-    }
-
-    impl<'a, T> SliceCells<'a, T> {
-        pub(super) fn new(values: &'a mut [T]) -> Self {
-            SliceCells { values }
-        }
-    }
-
-    impl<T: Copy> Cells for SliceCells<'_, T> {
+    impl<T: Copy> Cells for SliceItems<'_, T> {
         type Item = T;
 
         #[inline(always)]
         fn len(&self) -> usize {
-            self.values.len()
+            self.len
         }
 
         #[inline(always)]
         fn put(&mut self, i: usize, v: T) {
-            debug_assert!(i < self.values.len());
+            debug_assert!(i < self.len);
             // SAFETY: the place is within the slice, by the `requires` of `Cells::put`.
-            let cell = unsafe { self.values.get_unchecked_mut(i) };
-            *cell = v;
+            unsafe { *self.first.add(i) = v }
             // An input and an output are known to be apart, so the compiler would read eight items at once before it writes
             // them. For processors with AVX-512 it makes one gather of these reads, which lie in eight rows, and that takes
             // two to three times as long as item by item. A fence of the compiler keeps each read behind the write before it.

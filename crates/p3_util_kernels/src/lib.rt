@@ -3,7 +3,6 @@
 
 pub mod bits;
 pub mod laws;
-#[allow(dead_code)]
 pub(crate) mod parts;
 pub mod places;
 pub mod reverse;

@@ -2,7 +2,6 @@
 //! Bit reversal and transposes of large slices, and the counted traits that their kernels are written over.
 
 pub mod bits;
-#[allow(dead_code)]
 pub(crate) mod parts;
 pub mod places;
 pub mod reverse;

@@ -9,6 +9,7 @@ mod map;
 mod noted;
 mod originals;
 mod panics;
+mod parts;
 mod puts;
 mod refusal;
 mod shapes;

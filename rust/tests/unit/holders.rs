@@ -82,3 +82,29 @@ mod refused {
         }
     }
 }
+
+/// With the feature `checked` a share of a list has its own places alone, by their numbers in the list.
+#[cfg(feature = "checked")]
+#[test]
+fn shares() {
+    use std::panic::{AssertUnwindSafe, catch_unwind};
+
+    let mut list = [0, 1, 2, 3, 4];
+    let mut items = super::PartItems::in_shares(&mut list, 3);
+    let (mut first, mut second) = (items.share(), items.share());
+    first.put(2, 7);
+    second.put(3, 8);
+    second.exchange(3, 4);
+    assert_eq!(Cells::len(&second), 5);
+    let refuses = |outside, share: &mut super::PartItems<i32>| {
+        assert!(
+            catch_unwind(AssertUnwindSafe(|| share.put(outside, 9))).is_err(),
+            "{outside}"
+        );
+    };
+    refuses(3, &mut first);
+    refuses(2, &mut second);
+    refuses(5, &mut second);
+    refuses(0, &mut items);
+    assert_eq!(list, [0, 1, 7, 4, 8]);
+}

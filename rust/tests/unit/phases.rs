@@ -1,0 +1,202 @@
+//! What each part does over a holder that notes each place: it moves what its region says, and no other part of its phase steps
+//! on one of its places.
+
+use std::collections::BTreeSet;
+use std::vec::Vec;
+
+use super::*;
+use crate::kernels::places::SliceSource;
+
+/// A list of numbers that notes each place that is stepped on.
+#[derive(Debug)]
+struct Noted {
+    items: Vec<usize>,
+    places: Vec<usize>,
+}
+
+impl Noted {
+    /// The numbers below `len`, in order.
+    fn numbered(len: usize) -> Self {
+        Noted {
+            items: (0..len).collect(),
+            places: Vec::new(),
+        }
+    }
+}
+
+impl Places for &mut Noted {
+    type Item = usize;
+
+    fn len(&self) -> usize {
+        self.items.len()
+    }
+
+    fn exchange(&mut self, i: usize, j: usize) {
+        self.items.swap(i, j);
+        self.places.extend([i, j]);
+    }
+}
+
+impl Cells for &mut Noted {
+    type Item = usize;
+
+    fn len(&self) -> usize {
+        self.items.len()
+    }
+
+    fn put(&mut self, i: usize, v: usize) {
+        self.items[i] = v;
+        self.places.push(i);
+    }
+}
+
+/// Runs each part over a list of `len` numbers of its own. Of the part `number` it leaves at each place what `wanted` says, and
+/// no place is stepped on twice. Returns how many are stepped on.
+fn check(len: usize, count: usize, run: impl Fn(&mut Noted, usize), wanted: impl Fn(usize, usize) -> usize) -> usize {
+    let mut places = BTreeSet::new();
+    for number in 0..count {
+        let mut noted = Noted::numbered(len);
+        run(&mut noted, number);
+        for (place, item) in noted.items.into_iter().enumerate() {
+            assert_eq!(item, wanted(number, place), "place {place} by part {number} of {count}");
+        }
+        for place in noted.places {
+            assert!(
+                places.insert(place),
+                "place {place} once more by part {number} of {count}"
+            );
+        }
+    }
+    places.len()
+}
+
+/// The parts of the transpose of a matrix of numbers from `len` on, so that each put changes its cell.
+fn check_matrix(width: usize, height: usize, parts: usize) {
+    let len = width * height;
+    let input: Vec<usize> = (len..2 * len).collect();
+    let regions = Regions::new(Matrix::new(SliceSource::new(&input), width, height), parts);
+    let wanted = |number, place| {
+        let (x, y) = (place / height, place % height);
+        let region = regions.region(number);
+        let is_inside =
+            (region.row_start..region.row_end).contains(&y) && (region.col_start..region.col_end).contains(&x);
+        if is_inside { input[y * width + x] } else { place }
+    };
+    let puts = check(len, regions.count(), |noted, number| regions.put(noted, number), wanted);
+    assert_eq!(puts, len, "{width} by {height} in {parts} parts");
+}
+
+#[test]
+fn regions_of_matrices() {
+    let small = (0..=40).flat_map(|width| (0..=40).map(move |height| (width, height)));
+    for (width, height) in small {
+        check_matrix(width, height, (width + height) % 5);
+    }
+    for parts in 0..=9 {
+        [(100, 3), (3, 100), (150, 40), (40, 150), (128, 64)]
+            .iter()
+            .for_each(|&(width, height)| check_matrix(width, height, parts));
+    }
+}
+
+/// `i` with its `digits` low binary digits, which are all that it has, in reversed order.
+fn reversed(digits: usize, i: usize) -> usize {
+    (0..digits).fold(0, |rev, place| rev << 1 | i >> place & 1)
+}
+
+/// The line of a row whose index has so many digits. Of its high half, reversed, and its low half the greater one is in the
+/// line's name, and the middle digit.
+fn line(digits: usize, row: usize) -> usize {
+    let half = digits / 2;
+    let (high, rest) = (row >> (digits - half), row % (1 << (digits - half)));
+    let (middle, low) = (rest >> half, rest % (1 << half));
+    (middle << half) + low.max(reversed(half, high))
+}
+
+#[test]
+fn ranges_of_line_pairs() {
+    let cases = (0..=9).flat_map(|digits| (0..=9).map(move |parts| (digits, parts)));
+    for ((digits, parts), width) in cases.flat_map(|case| [(case, 1), (case, 3)]) {
+        let phase = Phases {
+            row_width: width,
+            parts,
+        }
+        .line_pairs(RowDigits { width, digits });
+        let Phase::LinePairs(_, cut) = phase else {
+            unreachable!()
+        };
+        let wanted = |number, place: usize| {
+            let (row, (from, to)) = (place / width, cut.part(number));
+            let is_inside = (from..to).contains(&(line(digits, row) / 2));
+            let row = if is_inside { reversed(digits, row) } else { row };
+            row * width + place % width
+        };
+        let len = width << digits;
+        let moved = check(
+            len,
+            phase.count(),
+            |noted, number| phase.exchange(noted, number),
+            wanted,
+        );
+        let all = (0..len).filter(|place| reversed(digits, place / width) != place / width);
+        assert_eq!(moved, all.count(), "2^{digits} rows of {width} in {parts} parts");
+    }
+}
+
+#[test]
+fn blocks_of_squares() {
+    for (side, count, parts) in [16, 32, 64]
+        .iter()
+        .flat_map(|side| (0..=9).map(move |parts| (*side, parts % 2 + 1, parts)))
+    {
+        let stride = side * count;
+        let phase = Phases { row_width: 1, parts }.squares(side, stride);
+        let Phase::Squares(squares) = phase else { unreachable!() };
+        let wanted = |number: usize, place: usize| {
+            let (square, row, col) = (place % stride / side, place / stride, place % side);
+            let (first, second) = squares.cut.pair(number % squares.cut.pairs());
+            let is_in = |part, i| (squares.cut.part(part).0..squares.cut.part(part).1).contains(&i);
+            let is_inside =
+                is_in(first, row.min(col)) && is_in(second, row.max(col)) && number / squares.cut.pairs() == square;
+            if is_inside {
+                col * stride + square * side + row
+            } else {
+                place
+            }
+        };
+        let moved = check(
+            side * stride,
+            phase.count(),
+            |noted, number| phase.exchange(noted, number),
+            wanted,
+        );
+        assert_eq!(moved, side * (side - 1) * count, "side {side} in {parts} parts");
+    }
+}
+
+/// A long list by its three phases, and long rows by one, with the places noted.
+#[test]
+#[cfg(not(feature = "checked"))]
+fn long_lists() {
+    for (digits, row_width, count) in [(19, 1, 3), (20, 1, 3), (15, 20, 1)] {
+        let len = row_width << digits;
+        let mut noted = Noted::numbered(len);
+        let phases: Vec<Phase> = Phases { row_width, parts: 5 }.of(len).collect();
+        assert_eq!(phases.len(), count);
+        for phase in phases {
+            let mut owners = std::vec![usize::MAX; len];
+            for number in 0..phase.count() {
+                noted.places.clear();
+                phase.exchange(&mut noted, number);
+                for place in &noted.places {
+                    assert!([usize::MAX, number].contains(&owners[*place]));
+                    owners[*place] = number;
+                }
+            }
+        }
+        let is_reversed = |(place, item): (usize, &usize)| {
+            *item == reversed(digits, place / row_width) * row_width + place % row_width
+        };
+        assert!(noted.items.iter().enumerate().all(is_reversed));
+    }
+}
