@@ -9,7 +9,7 @@ use crate::fault::RunFault;
 use serde_json::Value;
 use std::alloc::{AllocError, Global};
 
-/// The numbers of a JSON array. Its bytes are let go of before the numbers are listed.
+/// The numbers of a JSON array. Its bytes are dropped before the numbers are listed.
 ///
 /// `RunFault::NotAnArray` where the bytes are no JSON array of numbers of 64 bits without a sign, and `RunFault::Memory` where
 /// memory runs out.
@@ -50,7 +50,7 @@ fn read_numbers(alloc: Global, items: &[Value]) -> Result<Vec<u64>, RunFault>
     Ok(numbers)
 }
 
-/// The text of a JSON array of the numbers, with no space, and a line feed. The list is let go of before the text is made.
+/// The text of a JSON array of the numbers, with no space, and a line feed. The list is dropped before the text is made.
 pub fn line(alloc: Global, numbers: Vec<u64>) -> Result<String, AllocError>
     ensures { IfOk result (λ text. string_bytes text ≡ line_of numbers.items) }
 {

@@ -51,7 +51,7 @@ pub fn run<R: Read, W: Write>(
     ensures refused { IfErr result (λ fault. IsOfInput fault → (input : List ℕ)
         × ReadsAll (R.remaining reader.old.inner) (R.remaining reader.new.inner) input
         × Fault (texts_of words.now) input fault) }
-    // The converse of both.
+    // The converse of `ok` and of `refused`.
     ensures answers { IfSome (R.remaining reader.old.inner) (λ input. IsSettled result
         → (IsOk result ↔ IsDefined (texts_of words.now) input)) }
     ensures refuses { IfSome (R.remaining reader.old.inner) (λ input. IsSettled result
@@ -84,7 +84,7 @@ pub fn run<R: Read, W: Write>(
     }
 }
 
-/// The text that answers an input. Each list on the way is let go of once the next one is made.
+/// The text that answers an input. Each list on the way is dropped once the next one is made.
 ///
 /// `RunFault::NotAnArray`, `RunFault::BadLength`, `RunFault::BadRows` or `RunFault::NotTheLength` where there is none, and
 /// `RunFault::Memory`.

@@ -36,7 +36,7 @@ impl<S: Places> Swaps<S> {
         ensures count { result.count ≡ count }
         ensures len_fits { length (S.items holder) < 2 ^ 64 }
     {
-        // Its contract says that the length is a usize, as kernels need to know.
+        // Called so that the proof knows that the length fits a usize.
         let _ = holder.len();
         Swaps { holder, count }
     }
@@ -77,7 +77,7 @@ impl<S: Places> Swaps<S> {
     }
 }
 
-/// A holder of places that counts its writes. The count stays at `u128::MAX` once it is there.
+/// A holder of cells that counts its writes. The count stays at `u128::MAX` once it is there.
 #[derive(Debug, Drop)]
 pub struct Writes<C> {
     pub(crate) holder: C,
@@ -102,7 +102,7 @@ impl<C: Cells> Writes<C> {
         ensures count { result.count ≡ count }
         ensures len_fits { length (C.items holder) < 2 ^ 64 }
     {
-        // Its contract says that the length is a usize, as kernels need to know.
+        // Called so that the proof knows that the length fits a usize.
         let _ = holder.len();
         Writes { holder, count }
     }

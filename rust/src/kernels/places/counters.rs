@@ -32,7 +32,7 @@ impl<S: Places> Swaps<S> {
     /// Counts the exchanges in `holder` from `count` on.
     #[inline(always)]
     pub(crate) fn resumed(holder: S, count: u128) -> Self {
-        // Its contract says that the length is a usize, as kernels need to know.
+        // Called so that the proof knows that the length fits a usize.
         let _ = holder.len();
         Swaps { holder, count }
     }
@@ -97,7 +97,7 @@ impl<S: Places> Swaps<S> {
     }
 }
 
-/// A holder of places that counts its writes. The count stays at `u128::MAX` once it is there.
+/// A holder of cells that counts its writes. The count stays at `u128::MAX` once it is there.
 #[derive(Debug)]
 pub struct Writes<C> {
     pub(crate) holder: C,
@@ -123,7 +123,7 @@ impl<C: Cells> Writes<C> {
     /// Counts the writes to `holder` from `count` on.
     #[inline(always)]
     pub(crate) fn resumed(holder: C, count: u128) -> Self {
-        // Its contract says that the length is a usize, as kernels need to know.
+        // Called so that the proof knows that the length fits a usize.
         let _ = holder.len();
         Writes { holder, count }
     }
