@@ -42,7 +42,7 @@
 //!   Results are the same. Cargo turns a feature on for the whole program where one crate asks for it.
 //!
 //! No feature is on by default. The crate is `no_std` with `alloc`, has no dependency and no build script, and starts no
-//! thread.
+//! thread. [`parts`] cuts a call into parts for threads of your own.
 #![no_std]
 #![cfg_attr(feature = "checked", forbid(unsafe_code))]
 #![cfg_attr(not(feature = "checked"), deny(unsafe_code))]

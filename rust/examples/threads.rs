@@ -1,0 +1,50 @@
+//! A transpose and a reversal in parts, on scoped threads of std.
+//!
+//! The package starts no thread. It cuts a call into parts, and here as many threads as there are processors take one part after
+//! the other from a queue.
+
+use std::num::NonZero;
+use std::sync::Mutex;
+use std::thread::{available_parallelism, scope};
+
+use p3_util_proved::parts::{self, ReversalPart, TransposePart};
+use p3_util_proved::{reverse_slice_index_bits, transpose::transpose};
+
+/// Runs all parts on so many threads, and returns when they are done.
+fn run_all<P>(threads: usize, parts: impl Iterator<Item = P> + Send, run: fn(P)) {
+    let queue = Mutex::new(parts);
+    // The lock is held while a part is taken, and not while it runs.
+    let next = || queue.lock().ok()?.next();
+    scope(|scope| {
+        for _ in 0..threads {
+            scope.spawn(|| std::iter::from_fn(next).for_each(run));
+        }
+    });
+}
+
+fn main() {
+    let threads = available_parallelism().map_or(1, NonZero::get);
+    // Parts differ in size, so there are more of them than threads.
+    let wish = 4 * threads;
+
+    let (width, height) = (2048, 1024);
+    let matrix: Vec<u32> = (0..1 << 21).collect();
+    let mut columns = vec![0; matrix.len()];
+    let parts = parts::transpose(&matrix, &mut columns, width, height, wish);
+    println!("a transpose in {} parts", parts.len());
+    run_all(threads, parts, TransposePart::run);
+    let mut expected = vec![0; matrix.len()];
+    transpose(&matrix, &mut expected, width, height);
+    assert!(columns == expected);
+
+    let mut list = matrix.clone();
+    let mut phases = parts::reversal(&mut list, wish);
+    // All parts of a phase are done before the next one begins. The compiler sees to that.
+    while let Some(parts) = phases.next_phase() {
+        println!("a phase of a reversal in {} parts", parts.len());
+        run_all(threads, parts, ReversalPart::run);
+    }
+    let mut expected = matrix;
+    reverse_slice_index_bits(&mut expected);
+    assert!(list == expected);
+}
