@@ -77,16 +77,24 @@ static int check_rows(size_t size, reverse_rows_call *reverse_rows) {
     return 0;
 }
 
+static int check_shape(size_t size, transpose_call *transpose, size_t width, size_t height) {
+    size_t items = width * height;
+    unsigned char *input = filled(before, items * size), *output = after + 1;
+    for (size_t i = 0; i < items; i++) {
+        memcpy(wanted + (i % width * height + i / width) * size, input + i * size, size);
+    }
+    CHECK(transpose(input, items, output, items, width, height));
+    CHECK(memcmp(output, wanted, items * size) == 0);
+    return 0;
+}
+
 static int check_transpose(size_t size, transpose_call *transpose) {
     static const size_t SHAPES[][2] = {{1, 1}, {2, 2}, {3, 5}, {8, 8}, {1, 40}, {40, 1}, {17, 19}, {64, 48}, {150, 130}};
     for (size_t s = 0; s < sizeof SHAPES / sizeof SHAPES[0]; s++) {
-        size_t width = SHAPES[s][0], height = SHAPES[s][1], items = width * height;
-        unsigned char *input = filled(before, items * size), *output = after + 1;
-        for (size_t i = 0; i < items; i++) {
-            memcpy(wanted + (i % width * height + i / width) * size, input + i * size, size);
+        int failed = check_shape(size, transpose, SHAPES[s][0], SHAPES[s][1]);
+        if (failed) {
+            return failed;
         }
-        CHECK(transpose(input, items, output, items, width, height));
-        CHECK(memcmp(output, wanted, items * size) == 0);
     }
     unsigned char *output = filled(after, 32 * size);
     memcpy(wanted, output, 32 * size);
@@ -108,6 +116,11 @@ static int check_bits(void) {
     CHECK(p3_util_log3_strict(12157665459056928801ULL, &number) && number == 40);
     CHECK(p3_util_reverse_bits_len(11, 5, &number) && number == 26);
     return 0;
+}
+
+/* A matrix of more than 1048576 items, which is split. */
+static int check_split(size_t size, transpose_call *transpose) {
+    return check_shape(size, transpose, 1025, 1024);
 }
 
 #define CHECK_CALL(check, size, call)   \
@@ -146,5 +159,7 @@ int main(void) {
     CHECK_SIZE(128);
     CHECK_SIZE(160);
     CHECK_SIZE(256);
+    CHECK_CALL(check_split, 1, p3_util_transpose_1);
+    CHECK_CALL(check_split, 4, p3_util_transpose_4);
     return 0;
 }
