@@ -5,7 +5,6 @@ mod cases;
 mod counts;
 mod items;
 #[cfg(library)]
-#[path = "../../c/slices.rs"]
 mod library;
 mod measure;
 mod options;

@@ -1,7 +1,7 @@
 //! The package and the static library in one program. Two compilers made them of one source: on random lists, lengths and
 //! words they have to leave equal lists and give equal answers, also where a condition does not hold.
 
-#[path = "../../c/slices.rs"]
+#[path = "../../bench/src/library.rs"]
 mod library;
 
 use std::panic::{AssertUnwindSafe, catch_unwind, set_hook, take_hook};

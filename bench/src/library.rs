@@ -1,6 +1,6 @@
 //! The calls of the static library on slices, for a program in Rust. Each returns whether its condition holds.
 //!
-//! This is for the repository's own programs: `bench/src/main.rs` and `release/users/both.rs` include it.
+//! `release/users/both.rs` includes it too.
 
 use std::ffi::c_void;
 
