@@ -40,6 +40,7 @@ fn check_pairs<K: Eq + Debug, V: PartialEq + Debug>(
         &(pairs.len(), pairs.is_empty()),
     );
     assert!(rt; map.iter().eq(pairs.iter()) && map.into_iter().eq(pairs.iter()));
+    assert!(rt; map.iter().rev().eq(pairs.iter().rev()));
     let (mut keys, mut values) = (map.keys(), map.values());
     for (place, (key, value)) in pairs.iter().enumerate() {
         same(
