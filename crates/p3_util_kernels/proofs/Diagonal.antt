@@ -32,9 +32,9 @@ module _ (base stride : ℕ) where
     SwapsAcross-none = Mirrored-none _ _ (λ m n. n) (λ m x y h. (h.1, h.0)) same_pair
 
     -- one part of a region, and then the other
-    pub SwapsAcross-cut : (whole first second : Region) (xs ys zs : List A) → IsCut whole first second
+    pub cut_exchanged : (whole first second : Region) (xs ys zs : List A) → IsCut whole first second
         → SwapsAcross base stride first xs ys → SwapsAcross base stride second ys zs → SwapsAcross base stride whole xs zs
-    SwapsAcross-cut = Mirrored-cut _ _ (λ m n. n) (λ m x y h. (h.1, h.0)) same_pair
+    cut_exchanged = Mirrored-cut _ _ (λ m n. n) (λ m x y h. (h.1, h.0)) same_pair
 
     -- one exchange
     SwapsAcross-swap : (a b : ℕ) (xs : List A) → a < b → b < stride
@@ -65,7 +65,7 @@ module _ (base stride : ℕ) where
     SwapsAcross-item row line col xs ys zs start end above from within room before step =
         let rows : (line + 1) * stride ≤ col * stride = mul-le-mul_right stride (omega arith) in
         rw step
-        (SwapsAcross-cut (record row { col_end = col + 1 }) _ _ _ _ _ (IsCut-cols (record row { col_end = col + 1 }) col from (omega arith)) before
+        (cut_exchanged (record row { col_end = col + 1 }) _ _ _ _ _ (IsCut-cols (record row { col_end = col + 1 }) col from (omega arith)) before
         (rw (start, end) (SwapsAcross-swap line col ys (omega arith) within (omega arith) room)))
 
     -- the upper left quadrant, the upper right one with its mirror image, and the lower right one make the square
@@ -78,8 +78,8 @@ module _ (base stride : ℕ) where
         let whole : Region = record { row_start = start; row_end = end; col_start = start; col_end = end } in
         let upper : Region = record whole { row_end = mid } in
         let lower : Region = record whole { row_start = mid } in
-        SwapsAcross-cut whole upper _ xs zs ws (IsCut-rows whole mid h1 h2) (SwapsAcross-cut upper _ _ xs ys zs (IsCut-cols upper mid h1 h2) s t)
-        (SwapsAcross-cut lower _ _ zs zs ws (IsCut-cols lower mid h1 h2) (SwapsAcross-none _ zs (λ m a b h k. absurd (omega (arith, k.row_from, k.col_to)))) u)
+        cut_exchanged whole upper _ xs zs ws (IsCut-rows whole mid h1 h2) (cut_exchanged upper _ _ xs ys zs (IsCut-cols upper mid h1 h2) s t)
+        (cut_exchanged lower _ _ zs zs ws (IsCut-cols lower mid h1 h2) (SwapsAcross-none _ zs (λ m a b h k. absurd (omega (arith, k.row_from, k.col_to)))) u)
 
 -- the whole square
 pub IsSquareTransposed-from_across : {A : Type 0} (base log_stride log_size : ℕ) (old new : List A) → log_size ≤ log_stride

@@ -7,7 +7,6 @@ use Rattle.p3_util_kernels.specs.Halves.{AreHalves}
 use Rattle.p3_util_kernels.specs.Levels.{lev, nest}
 use Rattle.p3_util_kernels.specs.Region.{LiesInMatrix, cols_of, rows_of}
 use Rattle.p3_util_kernels.proofs.Levels.{clog-le, lev-comm, lev-half, lev_le, nest-deep}
-use Rattle.p3_util_kernels.proofs.Pairs.{mul-parts_left, mul-parts_right}
 use Rattle.p3_util_kernels.proofs.Region.{IsCut-rows, IsCut-cols}
 
 -- at most 57 levels for a region of a matrix whose places fit a word
@@ -59,9 +58,6 @@ AreHalves-rows whole deep high order =
     let s = IsHalved-of rows (middle - whole.row_start) (whole.row_end - middle) (cols_of whole) high half rest in
     record {
       cut = IsCut-rows whole middle (omega arith) (omega arith);
-      items = mul-parts_left (middle - whole.row_start) (whole.row_end - middle) rows (cols_of whole) (omega arith);
-      first_inside = λ w h k. record { rows_in_order = omega arith; rows_inside = omega (arith, k.rows_inside); cols_in_order = k.cols_in_order; cols_inside = k.cols_inside };
-      second_inside = λ w h k. record { rows_in_order = omega arith; rows_inside = k.rows_inside; cols_in_order = k.cols_in_order; cols_inside = k.cols_inside };
       first_levels = s.half_levels;
       second_levels = omega (arith, s.rest_levels);
       nested = nested-rows rows (middle - whole.row_start) (whole.row_end - middle) (cols_of whole) deep high s;
@@ -77,9 +73,6 @@ AreHalves-cols whole deep wide order =
     let s = IsHalved-of cols (middle - whole.col_start) (whole.col_end - middle) (rows_of whole) wide half rest in
     record {
       cut = IsCut-cols whole middle (omega arith) (omega arith);
-      items = mul-parts_right (middle - whole.col_start) (whole.col_end - middle) cols (rows_of whole) (omega arith);
-      first_inside = λ w h k. record { rows_in_order = k.rows_in_order; rows_inside = k.rows_inside; cols_in_order = omega arith; cols_inside = omega (arith, k.cols_inside) };
-      second_inside = λ w h k. record { rows_in_order = k.rows_in_order; rows_inside = k.rows_inside; cols_in_order = omega arith; cols_inside = k.cols_inside };
       first_levels = omega (arith, s.half_levels, lev-comm (rows_of whole) (middle - whole.col_start), lev-comm (rows_of whole) cols);
       second_levels = omega (arith, s.rest_levels, lev-comm (rows_of whole) (whole.col_end - middle), lev-comm (rows_of whole) cols);
       nested = nested-cols cols (middle - whole.col_start) (whole.col_end - middle) (rows_of whole) deep wide s;

@@ -27,9 +27,9 @@ IsTranspose-twice width height old mid new fits first second =
     (λ i h. each_place (λ p. slice_get new p ≡ slice_get old p) height width i (rw second.same_length at h)
     (λ y x hy hx. second.places y x hy hx ∙ first.places x y hx hy))
 
-pub transposed_back : {A : Type 0} (width height : ℕ) (old new : List A) → length old ≡ width * height → IsTranspose width height old new
+pub transpose_turned : {A : Type 0} (width height : ℕ) (old new : List A) → length old ≡ width * height → IsTranspose width height old new
     → IsTranspose height width new old
-transposed_back width height old new fits there = record {
+transpose_turned width height old new fits there = record {
   same_length = fits ∙ mul_comm width height;
   places = λ y x hy hx. sym (there.places x y hx hy);
 }

@@ -4,6 +4,7 @@ use Rattle.p3_util_kernels.specs.declared.transpose.regions.Region.{Region}
 use Rattle.p3_util_kernels.specs.Halves.{IsCut}
 use Rattle.p3_util_kernels.specs.Mirrored.{Mirrored}
 use Rattle.p3_util_kernels.specs.Region.{IsInRegion}
+use Rattle.p3_util_kernels.proofs.Region.{inside}
 
 -- A pair lies on the line of its greater number, and the smaller one is its row there. Each place has one line and one row.
 module _ {A M : Type 0} (place : M → ℕ → ℕ → ℕ) (Within : M → ℕ → ℕ → Type 0) (line : M → ℕ → ℕ)
@@ -43,6 +44,6 @@ module _ {A M : Type 0} (place : M → ℕ → ℕ → ℕ) (Within : M → ℕ 
               cut.apart _ _ (rw (← one.0, ← one.1, greater, smaller) at k.1) in_second)
         ];
     others = λ k out.
-        t.others k (λ m x y h. out m x y (h.0, cut.second_inside _ _ h.1))
-        ∙ s.others k (λ m x y h. out m x y (h.0, cut.first_inside _ _ h.1));
+        t.others k (λ m x y h. out m x y (h.0, inside _ _ _ _ cut.second_inside h.1))
+        ∙ s.others k (λ m x y h. out m x y (h.0, inside _ _ _ _ cut.first_inside h.1));
   }

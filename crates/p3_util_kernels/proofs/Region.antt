@@ -1,10 +1,20 @@
 -- Regions of a matrix transposed one after another.
-use Rattle.std.proofs.Common.{◌≡◌, ℕ, ◌+◌, ◌*◌, ◌<◌, ◌≤◌, List, inl, inr, ◌∙◌, arith}
+use Rattle.std.proofs.Common.{◌≡◌, ℕ, ◌+◌, ◌-◌, ◌*◌, ◌<◌, ◌≤◌, List, inl, inr, ◌∙◌, arith}
 use Rattle.std.proofs.lemmas.Bool.{cases_lt}
 use Rattle.std.proofs.lemmas.Nat.{same_from_place}
 use Rattle.p3_util_kernels.specs.declared.transpose.regions.Region.{Region}
-use Rattle.p3_util_kernels.specs.Halves.{IsCut}
-use Rattle.p3_util_kernels.specs.Region.{IsRegionTransposed}
+use Rattle.p3_util_kernels.specs.Halves.{IsCut, IsPart}
+use Rattle.p3_util_kernels.specs.Region.{IsInRegion, IsRegionTransposed, cols_of, rows_of}
+use Rattle.p3_util_kernels.proofs.Pairs.{mul-parts_left, mul-parts_right}
+
+-- what is in a part is in the whole
+pub inside : (whole part : Region) (x y : ℕ) → IsPart whole part → IsInRegion part x y → IsInRegion whole x y
+inside whole part x y p h = record {
+  row_from = omega (arith, p.row_from, h.row_from);
+  row_to = omega (arith, p.row_to, h.row_to);
+  col_from = omega (arith, p.col_from, h.col_from);
+  col_to = omega (arith, p.col_to, h.col_to);
+}
 
 -- the rows before `mid`, and those from `mid` on
 pub IsCut-rows : (whole : Region) (mid : ℕ) → whole.row_start ≤ mid → mid ≤ whole.row_end
@@ -16,8 +26,9 @@ IsCut-rows whole mid from to = record {
         | inr below ↦ inr (record { row_from = below; row_to = h.row_to; col_from = h.col_from; col_to = h.col_to })
       ];
   apart = λ x y h k. omega (arith, h.row_to, k.row_from);
-  first_inside = λ x y h. record { row_from = h.row_from; row_to = omega (arith, h.row_to); col_from = h.col_from; col_to = h.col_to };
-  second_inside = λ x y h. record { row_from = omega (arith, h.row_from); row_to = h.row_to; col_from = h.col_from; col_to = h.col_to };
+  first_inside = record { row_from = omega arith; row_to = to; col_from = omega arith; col_to = omega arith; rows = λ h. from; cols = λ h. h };
+  second_inside = record { row_from = from; row_to = omega arith; col_from = omega arith; col_to = omega arith; rows = λ h. to; cols = λ h. h };
+  items = mul-parts_left (mid - whole.row_start) (whole.row_end - mid) (rows_of whole) (cols_of whole) (omega arith);
 }
 
 -- the columns before `mid`, and those from `mid` on
@@ -30,27 +41,28 @@ IsCut-cols whole mid from to = record {
         | inr right ↦ inr (record { row_from = h.row_from; row_to = h.row_to; col_from = right; col_to = h.col_to })
       ];
   apart = λ x y h k. omega (arith, h.col_to, k.col_from);
-  first_inside = λ x y h. record { row_from = h.row_from; row_to = h.row_to; col_from = h.col_from; col_to = omega (arith, h.col_to) };
-  second_inside = λ x y h. record { row_from = h.row_from; row_to = h.row_to; col_from = omega (arith, h.col_from); col_to = h.col_to };
+  first_inside = record { row_from = omega arith; row_to = omega arith; col_from = omega arith; col_to = to; rows = λ h. h; cols = λ h. from };
+  second_inside = record { row_from = omega arith; row_to = omega arith; col_from = from; col_to = omega arith; rows = λ h. h; cols = λ h. to };
+  items = mul-parts_right (mid - whole.col_start) (whole.col_end - mid) (cols_of whole) (rows_of whole) (omega arith);
 }
 
 -- two regions that cut one region give its transpose
 pub IsRegionTransposed-cut : {A : Type 0} (width height : ℕ) (input : List A) (whole first second : Region) (old mid new : List A) → whole.row_end ≤ height
     → IsCut whole first second → IsRegionTransposed first width height input old mid → IsRegionTransposed second width height input mid new
     → IsRegionTransposed whole width height input old new
-IsRegionTransposed-cut width height input whole first second old mid new inside cut s t = record {
+IsRegionTransposed-cut width height input whole first second old mid new low cut s t = record {
   same_length = t.same_length ∙ s.same_length;
   places = λ x y h.
       elim (cut.parts x y h) [
         | inl in_first ↦
             t.others (x * height + y) (λ a b k e.
-            let below : b < height = omega (arith, (cut.second_inside a b k).row_to) in
+            let below : b < height = omega (arith, k.row_to, cut.second_inside.row_to) in
             let same : (x ≡ a) × (y ≡ b) = same_from_place x y a b height (omega (arith, h.row_to)) below e in
             cut.apart x y in_first (rw (← same.0, ← same.1) at k))
             ∙ s.places x y in_first
         | inr in_second ↦ t.places x y in_second
       ];
   others = λ p out.
-      t.others p (λ x y k. out x y (cut.second_inside x y k))
-      ∙ s.others p (λ x y k. out x y (cut.first_inside x y k));
+      t.others p (λ x y k. out x y (inside whole second x y cut.second_inside k))
+      ∙ s.others p (λ x y k. out x y (inside whole first x y cut.first_inside k));
 }

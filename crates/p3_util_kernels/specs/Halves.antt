@@ -1,22 +1,29 @@
 -- Two parts of a region, for the private contracts of the split.
-use Rattle.std.specs.Prelude.{ℕ, ◌≡◌, ◌+◌, ◌<◌, ◌⊎◌, max}
+use Rattle.std.specs.Prelude.{ℕ, ◌≡◌, ◌+◌, ◌<◌, ◌≤◌, ◌⊎◌, max}
 use Rattle.p3_util_kernels.specs.declared.transpose.regions.Region.{Region}
 use Rattle.p3_util_kernels.specs.Levels.{lev, nest}
-use Rattle.p3_util_kernels.specs.Region.{IsInRegion, LiesInMatrix, cols_of, items_of, rows_of}
+use Rattle.p3_util_kernels.specs.Region.{IsInRegion, cols_of, items_of, rows_of}
 
--- One region is cut into two: each place of it lies in one of them, and in one alone, and neither part has a place outside it.
+-- The part lies in the whole, and its rows and columns are in order where those of the whole are.
+pub record IsPart (whole part : Region) : Type 0 where
+  pub row_from : whole.row_start ≤ part.row_start
+  pub row_to : part.row_end ≤ whole.row_end
+  pub col_from : whole.col_start ≤ part.col_start
+  pub col_to : part.col_end ≤ whole.col_end
+  pub rows : whole.row_start ≤ whole.row_end → part.row_start ≤ part.row_end
+  pub cols : whole.col_start ≤ whole.col_end → part.col_start ≤ part.col_end
+
+-- One region is cut into two: each place of it lies in one of them, and in one alone, and they have as many items as it has.
 pub record IsCut (whole first second : Region) : Type 0 where
   pub parts : (x y : ℕ) → IsInRegion whole x y → (IsInRegion first x y) ⊎ (IsInRegion second x y)
   pub apart : (x y : ℕ) → IsInRegion first x y → IsInRegion second x y → ⊥
-  pub first_inside : (x y : ℕ) → IsInRegion first x y → IsInRegion whole x y
-  pub second_inside : (x y : ℕ) → IsInRegion second x y → IsInRegion whole x y
+  pub first_inside : IsPart whole first
+  pub second_inside : IsPart whole second
+  pub items : items_of first + items_of second ≡ items_of whole
 
 -- One region is cut into two. The splits of each nest at least one level less, and those of one of them just one less.
 pub record AreHalves (whole first second : Region) : Type 0 where
   pub cut : IsCut whole first second
-  pub items : items_of first + items_of second ≡ items_of whole
-  pub first_inside : (width height : ℕ) → LiesInMatrix whole width height → LiesInMatrix first width height
-  pub second_inside : (width height : ℕ) → LiesInMatrix whole width height → LiesInMatrix second width height
   pub first_levels : lev (rows_of first) (cols_of first) < lev (rows_of whole) (cols_of whole)
   pub second_levels : lev (rows_of second) (cols_of second) < lev (rows_of whole) (cols_of whole)
   pub nested : 1 + max (nest (rows_of first) (cols_of first)) (nest (rows_of second) (cols_of second)) ≡ nest (rows_of whole) (cols_of whole)

@@ -44,7 +44,7 @@ pub const fn fits_matrix(input_len: usize, output_len: usize, width: usize, heig
 /// `y * width + x` is put at `x * height + y`. Both lengths are `width` times `height`, which [`fits_matrix`] tests. The
 /// transpose of `output` the other way round, with `height` for the width, is `input` again. Items are put in the order of
 /// [`transpose_on`].
-#[tactic(auto, using(crate::proofs::Matrix::transposed_back))]
+#[tactic(auto, using(crate::proofs::Matrix::transpose_turned))]
 pub fn transpose<T: Copy>(input: &[T], output: &mut [T], width: usize, height: usize)
     requires input_fits { length input.now ≡ width * height }
     requires output_fits { length output.old ≡ width * height }

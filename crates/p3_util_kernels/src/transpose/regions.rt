@@ -1,6 +1,7 @@
 //! A matrix that is read, its regions, and the parts that they are cut into.
 
 ghost use Rattle.std.specs.Prelude.{◌≡◌, ◌≤◌};
+ghost use Rattle.p3_util_kernels.specs.Halves.{IsCut};
 ghost use Rattle.p3_util_kernels.specs.Region.{cols_of, rows_of};
 
 /// A matrix of `height` rows of `width` items, row after row in `source`.
@@ -94,6 +95,32 @@ impl Region {
             col_end: end,
             ..self
         }
+    }
+
+    /// The rows of the region above row `middle` of the matrix, and those from it on.
+    #[inline(always)]
+    pub(crate) fn cut_rows(self, middle: usize) -> (Region, Region)
+        requires from { self.row_start ≤ middle }
+        requires to { middle ≤ self.row_end }
+        ensures upper { result.0 ≡ record self { row_end = middle } }
+        ensures lower { result.1 ≡ record self { row_start = middle } }
+        ensures cut { IsCut self result.0 result.1 }
+    {
+        let upper = self.with_rows(self.row_start, middle);
+        (upper, self.with_rows(middle, self.row_end))
+    }
+
+    /// The columns of the region left of column `middle` of the matrix, and those from it on.
+    #[inline(always)]
+    pub(crate) fn cut_cols(self, middle: usize) -> (Region, Region)
+        requires from { self.col_start ≤ middle }
+        requires to { middle ≤ self.col_end }
+        ensures left { result.0 ≡ record self { col_end = middle } }
+        ensures right { result.1 ≡ record self { col_start = middle } }
+        ensures cut { IsCut self result.0 result.1 }
+    {
+        let left = self.with_cols(self.col_start, middle);
+        (left, self.with_cols(middle, self.col_end))
     }
 
     /// The same region, of which the compiler learns the numbers of rows and columns where it knows `rows` and `cols`.

@@ -145,12 +145,8 @@ fn halves(region: Region) -> (Region, Region)
 {
     let (rows, cols) = (region.rows(), region.cols());
     if rows >= cols {
-        let middle = region.row_start + rows / 2;
-        let upper = region.with_rows(region.row_start, middle);
-        (upper, region.with_rows(middle, region.row_end))
+        region.cut_rows(region.row_start + rows / 2)
     } else {
-        let middle = region.col_start + cols / 2;
-        let left = region.with_cols(region.col_start, middle);
-        (left, region.with_cols(middle, region.col_end))
+        region.cut_cols(region.col_start + cols / 2)
     }
 }

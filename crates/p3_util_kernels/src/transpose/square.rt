@@ -107,13 +107,13 @@ pub(crate) fn exchange_region<M: Places>(m: M, square: Square, region: Region) -
     } else if rows <= LEAF_ROWS && cols < LEAF_COLS {
         exchange_leaf(m, square, region)
     } else if rows / 2 > cols {
-        let middle = region.row_start + rows / 2;
-        let m = exchange_region(m, square, region.with_rows(region.row_start, middle));
-        exchange_region(m, square, region.with_rows(middle, region.row_end))
+        let (upper, lower) = region.cut_rows(region.row_start + rows / 2);
+        let m = exchange_region(m, square, upper);
+        exchange_region(m, square, lower)
     } else {
-        let middle = region.col_start + cols / 2;
-        let m = exchange_region(m, square, region.with_cols(region.col_start, middle));
-        exchange_region(m, square, region.with_cols(middle, region.col_end))
+        let (left, right) = region.cut_cols(region.col_start + cols / 2);
+        let m = exchange_region(m, square, left);
+        exchange_region(m, square, right)
     }
 }
 

@@ -77,6 +77,20 @@ impl Region {
         }
     }
 
+    /// The rows of the region above row `middle` of the matrix, and those from it on.
+    #[inline(always)]
+    pub(crate) fn cut_rows(self, middle: usize) -> (Region, Region) {
+        let upper = self.with_rows(self.row_start, middle);
+        (upper, self.with_rows(middle, self.row_end))
+    }
+
+    /// The columns of the region left of column `middle` of the matrix, and those from it on.
+    #[inline(always)]
+    pub(crate) fn cut_cols(self, middle: usize) -> (Region, Region) {
+        let left = self.with_cols(self.col_start, middle);
+        (left, self.with_cols(middle, self.col_end))
+    }
+
     /// The same region, of which the compiler learns the numbers of rows and columns where it knows `rows` and `cols`.
     #[inline(always)]
     pub(crate) fn with_known_sides(self, rows: usize, cols: usize) -> Region {

@@ -12,7 +12,7 @@ overflow_sub-levels g t c =
 pub put_split-out-requires : goal.put_split-out-requires
 put_split-out-requires g t c =
     let some = c.halves.ensures.first_levels in
-    let inside = c.halves.ensures.first_inside _ _ c.requires.ready.inside in
+    let inside = c.halves.ensures.cut.first_inside in
     λ κs k. (omega (arith, c.decreases, c.requires.enough), grind (arith, rules, c.requires.ready, c.requires.enough, inside))
 
 pub overflow_sub-levels-2 : goal.overflow_sub-levels-2
@@ -22,7 +22,7 @@ overflow_sub-levels-2 g t c =
 pub put_split-out-requires-2 : goal.put_split-out-requires-2
 put_split-out-requires-2 g t c =
     let some = c.halves.ensures.second_levels in
-    let inside = c.halves.ensures.second_inside _ _ c.requires.ready.inside in
+    let inside = c.halves.ensures.cut.second_inside in
     λ κs k. (omega (arith, c.decreases, c.requires.enough), grind (arith, rules, c.requires.ready, c.requires.enough, inside))
 
 pub returns-clause-transposed : goal.returns-clause-transposed
@@ -32,7 +32,7 @@ returns-clause-transposed g t c =
 
 pub returns-clause-holder : goal.returns-clause-holder
 returns-clause-holder g t c =
-    g.met.M.Cells.same_holder_trans _ _ _ _ _ _ c.put_split-out.ensures.holder c.put_split-out-2.ensures.holder (omega (arith, c.halves.ensures.items))
+    g.met.M.Cells.same_holder_trans _ _ _ _ _ _ c.put_split-out.ensures.holder c.put_split-out-2.ensures.holder (omega (arith, c.halves.ensures.cut.items))
 
 pub returns-clause-nested : goal.returns-clause-nested
 returns-clause-nested g t c =
