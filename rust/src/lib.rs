@@ -145,6 +145,9 @@ pub mod linear_map;
 mod memory;
 pub mod parts;
 mod phases;
+#[cfg(doctest)]
+#[path = "../tests/unit/refused.rs"]
+mod refused;
 pub mod transpose;
 #[cfg_attr(not(feature = "checked"), allow(unsafe_code))]
 mod unchecked;

@@ -109,6 +109,20 @@ fn empty_maps_take_no_memory() {
     assert_eq!(noted(|| LinearMap::<u64, u64>::with_capacity(3)).1, (1, 3 * 16));
 }
 
+/// Asserts that room for pairs, each of which `call` adds, is asked for at most once each time that their number doubles.
+fn check_growth(call: impl Fn(&mut LinearMap<u64, u64>, u64)) {
+    const PAIRS: u64 = 1000;
+    let mut map = LinearMap::new();
+    let ((), (requests, _)) = noted(|| (0..PAIRS).for_each(|key| call(&mut map, key)));
+    assert!(requests <= 1 + PAIRS.ilog2() as usize, "{requests} requests");
+}
+
+#[test]
+fn many_pairs_take_few_requests() {
+    check_growth(|map, key| _ = map.insert(key, key));
+    check_growth(|map, key| _ = map.get_or_insert_with(key, || key));
+}
+
 /// Asserts that one request is made, for as many bytes as the whole name has.
 fn check_name<T>() {
     let name = type_name::<T>();

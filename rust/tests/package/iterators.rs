@@ -91,6 +91,18 @@ fn asks_no_more_after_the_first_none() {
     assert_eq!(padded::<2>(&broken, 0), (vec![[1, 2]], 3));
 }
 
+/// A piece's items are asked for when the piece is, and none before.
+#[test]
+fn asks_for_one_piece_at_a_time() {
+    let (answers, asks) = ([Some(1); 5], Cell::new(0));
+    let answers = answers.as_slice();
+    let mut padded = iter_array_chunks_padded::<_, 2>(Asked { answers, asks: &asks }, 9);
+    assert_eq!(asks.get(), 0);
+    for (piece, asked) in [(Some([1, 1]), 2), (Some([1, 1]), 4), (Some([1, 9]), 6), (None, 6)] {
+        assert_eq!((padded.next(), asks.get()), (piece, asked));
+    }
+}
+
 /// Cuts ten bytes, and returns how often the closure and the iterator were dropped at the last call, and at the end.
 fn dropped_by_pieces<const BUFLEN: usize>() -> [[usize; 2]; 2] {
     let (of_closure, of_iterator) = (AtomicUsize::new(0), AtomicUsize::new(0));

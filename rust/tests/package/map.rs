@@ -82,6 +82,12 @@ fn stored_keys_are_compared_with_the_given_one() {
         (*map.get_or_insert_with(given, || 3), compared.take().as_str()),
         (2, "aBbB")
     );
+    let [d, e] = ['d', 'e'].map(|name| Named { name, compared });
+    assert_eq!((map.insert(d, 4), compared.take().as_str()), (None, "adbdcd"));
+    assert_eq!(
+        (*map.get_or_insert_with(e, || 5), compared.take().as_str()),
+        (5, "aebecede")
+    );
 }
 
 #[test]

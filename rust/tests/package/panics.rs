@@ -136,8 +136,13 @@ fn matrices_of_other_lengths() {
 
 #[test]
 fn matrices_whose_product_wraps() {
-    for (width, height) in [(1 << 32, 1 << 32), (1 << 63, 2), (usize::MAX, usize::MAX)] {
-        assert!(panics(|| transpose::<u64>(&[], &mut [], width, height)));
+    for (width, height, product) in [
+        (1 << 32, 1 << 32, "= 18446744073709551616\n"),
+        (1 << 63, 2, "= 18446744073709551616\n"),
+        (usize::MAX, usize::MAX, "= 340282366920938463426481119284349108225\n"),
+    ] {
+        let refused = refusal(|| transpose::<u64>(&[], &mut [], width, height)).unwrap();
+        assert!(refused.text.contains(product), "{refused:?}");
         assert!(panics(|| transpose::<()>(&[], &mut [], width, height)));
         assert!(panics(|| transpose(&[1u64], &mut [0u64], width, height)));
     }
