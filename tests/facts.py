@@ -1,6 +1,6 @@
 """Compares the pages with the code: the functions that blocks of Rust quote, the clauses and definitions that MODEL
-names, the constants of ARCHITECTURE's table, and each link, file and name. Prints what is wrong, a line each, and fails
-if anything is."""
+names, the constants of ARCHITECTURE's table, and each link, file and name; and the modules with the files. Prints what is wrong,
+a line each, and fails if anything is."""
 import os
 import re
 import subprocess
@@ -141,10 +141,25 @@ def check_links_and_names():
                         report(page, token.start(), f"no name {name}")
 
 
+def check_modules():
+    """Each source is a module of the file above it, or of one that says its path. Else its tests would not run."""
+    paths = {name for path in tracked if re.fullmatch(r"rust/src/\w+\.rs", path)
+             for name in re.findall(r'#\[path = "\.\./([^"]+)"\]\nmod ', read(path))}
+    for path in tracked:
+        file = re.fullmatch(r"((?:crates/\w+|rust|tests/unproved)/(?:src|tests)\b.*)/(?!(?:lib|main|mod)\.)(\w+)(\.rt|\.rs|\.rt\.in)", path)
+        if not file or path.removeprefix("rust/") in paths:
+            continue
+        folder, name, end = file.groups()
+        above = {folder + end, *(f"{folder}/{root}{end}" for root in ("lib", "main", "mod"))}.intersection(tracked)
+        if not any(re.search(rf"^(pub(\(crate\))? )?mod {name};", read(parent), re.M) for parent in above):
+            wrong.append(f"{path}: no file above it has it as a module")
+
+
 check_quotations()
 check_clauses()
 check_definitions()
 check_constants()
 check_links_and_names()
+check_modules()
 print("\n".join(wrong), end="\n" if wrong else "")
 raise SystemExit(1 if wrong else 0)

@@ -30,6 +30,8 @@ for word in "$@"; do
     [[ $last != --fail-alloc ]] || refused=$word
     last=$word
 done
+written=$(cat tests/unproved/src/*.rt.in | grep -c '^#\[test\]$')
 cd "$copy/crates/p3_util_unproved"
 export RT_ALLOW_C=p3_util_unproved CFLAGS="-DREFUSED=$refused"
-rt try --test "$@"
+rt try --test "$@" | tee "$copy/printed"
+grep -qx "tests: $written" "$copy/printed" || { echo "FAILED  $written tests are written in tests/unproved" && exit 1; }

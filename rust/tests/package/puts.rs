@@ -114,7 +114,7 @@ fn by_parts(width: usize, height: usize, most: usize) -> impl Iterator<Item = (u
 }
 
 /// Widths, heights and the order of the puts.
-const ORDERS: [(usize, usize, Order); 21] = [
+const ORDERS: [(usize, usize, Order); 20] = [
     // High strips where 16 does not divide the width.
     (20, 51, Order::Strips(128)),
     (5, 204, Order::Strips(128)),
@@ -137,9 +137,8 @@ const ORDERS: [(usize, usize, Order); 21] = [
     // Other matrices that are, the last one into parts of 32 columns.
     (1025, 1024, Order::Parts(128)),
     (1040, 1024, Order::Parts(16)),
-    (1056, 1024, Order::Parts(16)),
-    (50_000, 37, Order::Parts(16)),
-    (32, 40_000, Order::Parts(16)),
+    (28_352, 37, Order::Parts(16)),
+    (32, 32_800, Order::Parts(16)),
 ];
 
 #[test]
