@@ -25,6 +25,8 @@ for block in blocks:
         with open(f"{folder}/{name}.rt", "w", encoding="utf-8") as module:
             module.write(f"//! An example of {page}.\n{block}")
         names.append(name)
+if not names:
+    raise SystemExit(f"FAILED  there is no example in {page}")
 with open(f"{folder}/lib.rt", "w", encoding="utf-8") as root:
     root.write(f"//! The examples of {page}.\n#![tactic(auto)]\n\n")
     root.writelines(f"pub mod {name};\n" for name in names)

@@ -75,12 +75,14 @@ def check_clauses():
     page = "docs/MODEL.md"
     for row in re.finditer(r"^\|([^|\n]*)\|([^|\n]*)\|$", pages[page], re.M):
         named = {label for brackets in re.findall(r"\((`[a-z_`, ]+`)\)", row.group()) for label in re.findall(r"\w+", brackets)}
-        calls = re.findall(r"(?<=`)(?:\w+::)?(\w+)(?=`)", re.sub(r"\([^)]*\)", "", row.group(2)))
-        heads = [head for call in calls for text in sources.values()
-                 for head in re.findall(rf"^ *(?:pub )?(?:const )?fn {call}\b(.*?)(?:\n *\{{|;$)", text, re.M | re.S)]
+        calls = re.findall(r"(?<=`)(?:\w+::)?([a-z_]\w*)(?=`)", re.sub(r"\([^)]*\)", "", row.group(2)))
+        heads = {call: [head for text in sources.values() for head in re.findall(
+            rf"^ *(?:pub )?(?:const )?fn {call}\b(.*?)(?:\n *\{{|;$)", text, re.M | re.S)] for call in calls if named}
+        for call in (call for call, found in heads.items() if not found):
+            report(page, row.start(), f"no source has a call {call}")
         for label in sorted(named):
-            if heads and not any(re.search(rf"(requires|ensures)\*? {label} \{{", head) for head in heads):
-                report(page, row.start(), f"no call of {', '.join(calls)} has a clause {label}")
+            if not any(re.search(rf"(requires|ensures)\*? {label} \{{", head) for found in heads.values() for head in found):
+                report(page, row.start(), f"no call of {', '.join(calls) or 'no name'} has a clause {label}")
 
 
 def check_definitions():
@@ -142,12 +144,12 @@ def check_links_and_names():
 
 
 def check_modules():
-    """Each source is a module of the file above it, or of one that says its path. Else its tests would not run."""
+    """Each file that has tests is a module of the file above it, or of one that says its path. Else they would not run."""
     paths = {name for path in tracked if re.fullmatch(r"rust/src/\w+\.rs", path)
              for name in re.findall(r'#\[path = "\.\./([^"]+)"\]\nmod ', read(path))}
     for path in tracked:
         file = re.fullmatch(r"((?:crates/\w+|rust|tests/unproved)/(?:src|tests)\b.*)/(?!(?:lib|main|mod)\.)(\w+)(\.rt|\.rs|\.rt\.in)", path)
-        if not file or path.removeprefix("rust/") in paths:
+        if not file or path.removeprefix("rust/") in paths or "#[test]" not in read(path):
             continue
         folder, name, end = file.groups()
         above = {folder + end, *(f"{folder}/{root}{end}" for root in ("lib", "main", "mod"))}.intersection(tracked)
