@@ -36,7 +36,7 @@ module _ (base stride : ℕ) where
         → SwapsAcross base stride first xs ys → SwapsAcross base stride second ys zs → SwapsAcross base stride whole xs zs
     cut_exchanged = Mirrored-cut _ _ (λ m n. n) (λ m x y h. (h.1, h.0)) same_pair
 
-    -- one exchange
+    -- the items of row a and column b and of row b and column a exchanged
     SwapsAcross-swap : (a b : ℕ) (xs : List A) → a < b → b < stride
         → base + a * stride + b < length xs → base + b * stride + a < length xs
         → SwapsAcross base stride (record { row_start = a; row_end = a + 1; col_start = b; col_end = b + 1 }) xs (swap xs (base + a * stride + b) (base + b * stride + a))

@@ -124,7 +124,7 @@ rev-parts j k a y h =
     let low : rev k (a * 2 ^ k + y) ≡ rev k y = rev-same k (a * 2 ^ k + y) y (λ i less. bit_at_cat_low a k y i less) in
     rev-add j k (a * 2 ^ k + y) ∙ rw (high, low) refl
 
--- at most one digit is its own reverse
+-- a number of at most one digit is its own reverse
 pub rev-one : (d m : ℕ) → d ≤ 1 → m < 2 ^ d → rev d m ≡ m
 rev-one zero m few h = rw (rev-zero m) (omega arith)
 rev-one (suc zero) m few h = rw (rev-suc zero m, rev-zero m, div-one m) (omega arith)

@@ -88,7 +88,7 @@ clog_power n k e = sym (clog_only n k (omega arith) (λ d h. exponent-le k d (om
 pub clog-zero : (n : ℕ) → n ≡ 0 → clog n ≡ 0
 clog-zero n e = sym (clog_only n 0 (omega arith) (λ d h. omega arith))
 
--- of a number that lies above 2 ^ e the logarithm does
+-- if n is above 2 ^ e, its logarithm is above e
 pub clog-above : (n e : ℕ) → 2 ^ e < n → e < clog n
 clog-above n e h =
     elim (cases_lt e (clog n)) [
@@ -96,7 +96,7 @@ clog-above n e h =
       | inr le ↦ let up : 2 ^ clog n ≤ 2 ^ e = pow-le-pow_right (omega arith) le in absurd (omega (arith, clog-enough n))
     ]
 
--- a number reaches the power below its logarithm
+-- if the logarithm of n is e + 1, n is at least 2 ^ e
 pub clog-high : (n : ℕ) → 0 < clog n → 2 ^ (clog n - 1) ≤ n
 clog-high n h =
     elim (cases_lt n (2 ^ (clog n - 1))) [

@@ -1,4 +1,4 @@
--- How many pairs of rows the first lines have: line l has as many as the remainder of l by the number of lines of one middle digit.
+-- How many pairs of rows the first lines have: line l has l mod 2^q pairs, where one middle digit has 2^q lines.
 use Rattle.std.proofs.Common.{◌≡◌, ℕ, ◌+◌, ◌-◌, ◌*◌, ◌/◌, ◌%◌, ◌^◌, ◌<◌, ◌≤◌, inl, inr, refl, sym, ap, ◌∙◌, arith}
 use Rattle.std.proofs.lemmas.Bool.{cases_lt}
 use Rattle.std.proofs.lemmas.Nat.{div-add-mod', div-mul-add, mod-mul-add, mod_below, pow-add, pow_pos}

@@ -13,7 +13,7 @@ pub(crate) struct Matrix<R> {
 }
 
 impl<R> Matrix<R> {
-    /// The matrix of these sides.
+    /// Reads `source` as `height` rows of `width` items.
     #[inline(always)]
     pub(crate) fn new(source: R, width: usize, height: usize) -> Self
         ensures source { result.source ≡ source }

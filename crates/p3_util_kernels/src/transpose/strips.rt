@@ -45,10 +45,9 @@ impl Strips {
     /// The choice of how a region of `matrix` is put, by its shape alone.
     ///
     /// A strip is read one column after the other, and so in all of its rows at once. Where 16 divides the width, the rows
-    /// may begin a multiple of a high power of two apart. The lines of a high strip then meet in few sets of the cache, and
-    /// put each other out before their next items are read. Those of 16 rows stay. Other rows are spread over the sets, and a
-    /// high strip writes longer runs of following cells. A small matrix stays in the cache in any order, and is put block by
-    /// block, an order that callers may rely on.
+    /// may begin a multiple of a high power of two apart. The cache lines of a high strip are then in few sets of the cache,
+    /// and are evicted before their next items are read. Those of 16 rows stay. Other rows are spread over the sets, and a high
+    /// strip writes longer runs of following cells. A small matrix stays in the cache in any order, and is put block by block.
     pub(crate) fn of<R: Source + Copy>(matrix: Matrix<R>) -> Self {
         if matrix.width % TILE_SIDE != 0 {
             Strips::High
@@ -123,7 +122,8 @@ fn put_strip<M: Cells, R: Source<Item = M::Item> + Copy>(
     }
 }
 
-/// Puts a strip of at most 16 rows by four columns at a time, which are the columns of a block. Four such steps put a tile.
+/// Puts a strip of at most 16 rows by four columns at a time, which are the columns of a block. No function puts a tile: four
+/// such steps do.
 #[inline(always)]
 fn put_tiles<M: Cells, R: Source<Item = M::Item> + Copy>(
     out: M,

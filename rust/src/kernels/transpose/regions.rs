@@ -9,7 +9,7 @@ pub(crate) struct Matrix<R> {
 }
 
 impl<R> Matrix<R> {
-    /// The matrix of these sides.
+    /// Reads `source` as `height` rows of `width` items.
     #[inline(always)]
     pub(crate) fn new(source: R, width: usize, height: usize) -> Self {
         Matrix {
