@@ -104,7 +104,7 @@ clog-high n h =
       | inr le ↦ le
     ]
 
--- the larger half has one digit less
+-- the logarithm of the larger half is one less
 pub clog-half : (n : ℕ) → 2 ≤ n → clog (n - n / 2) + 1 ≡ clog n
 clog-half n h =
     let whole = clog-enough n in
@@ -116,7 +116,7 @@ clog-half n h =
     let down : clog n ≤ suc (clog (n - n / 2)) = clog-least n (suc (clog (n - n / 2))) (omega (arith, pow-suc 2 (clog (n - n / 2)))) in
     omega arith
 
--- a smaller number has no more
+-- a smaller number has no greater logarithm
 pub clog-le : (m n : ℕ) → m ≤ n → clog m ≤ clog n
 clog-le m n h = clog-least m (clog n) (omega (arith, clog-enough n))
 
