@@ -73,7 +73,7 @@ pub fn reverse_items_and_rows<S: Places>(places: &mut S, row_width: usize) -> u1
         result ≡ reversal_swaps n + row_swaps n row_width }
     ensures holder { S.same_holder result places.old places.new }
 {
-    // Its contract says that the length is a usize, so that the sum fits.
+    // Called so that the proof knows that the length fits a usize, and so does the sum.
     let _ = places.len();
     let items = reverse_counted(places);
     let rows = reverse_rows_counted(places, row_width);
