@@ -85,7 +85,7 @@ pub fn transform_and_back(alloc: Global, matrix: &mut RowMajorMatrix<u32>) -> Re
     requires { FitsTransform matrix.old }
     ensures { OnOk result (matrix.new ≡ matrix.old) }
 {
-    // Its contract says that the rows are whole.
+    // Called so that the proof knows that the rows are whole.
     let _ = matrix.height();
     transform_columns(alloc, matrix)?;
     inverse_transform_columns(alloc, matrix)?;
