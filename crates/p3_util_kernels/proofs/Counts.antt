@@ -87,17 +87,6 @@ count-add a (suc b) t =
     let e : a + suc b ≡ suc (a + b) = omega arith in
     rw e (omega (arith, count-add a b t, count-suc (a + b) t, count-suc b (λ i. t (a + i))))
 
--- the even and the odd numbers
-pub count-double : (n : ℕ) (t : ℕ → Bool) → count_below (2 * n) t ≡ count_below n (λ i. t (2 * i)) + count_below n (λ i. t (2 * i + 1))
-count-double zero t = omega (arith, count-zero t, count-zero (λ i. t (2 * i)), count-zero (λ i. t (2 * i + 1)))
-count-double (suc n) t =
-    let e : 2 * suc n ≡ suc (suc (2 * n)) = omega arith in
-    let o : suc (2 * n) ≡ 2 * n + 1 = omega arith in
-    let last : one (t (suc (2 * n))) ≡ one (t (2 * n + 1)) = ap (λ i. one (t i)) o in
-    let even = count-suc n (λ i. t (2 * i)) in
-    let odd = count-suc n (λ i. t (2 * i + 1)) in
-    rw e (omega (arith, count-double n t, count-suc (suc (2 * n)) t, count-suc (2 * n) t))
-
 -- one number is r
 pub count-one : (n r : ℕ) → count_below n (λ y. r == y) ≡ min 1 (n - r)
 count-one zero r = count-zero (λ y. r == y) ∙ omega arith
@@ -107,18 +96,17 @@ count-one (suc n) r =
       | inr ne ↦ omega (arith, count-suc n (λ y. r == y), ap one (ne_eqb r n ne), count-one n r)
     ]
 
--- a row of a square has one place on the diagonal
-pub count-diagonal : (rows side : ℕ) → rows ≤ side → count_below (rows * side) (λ p. p / side == p % side) ≡ rows
-count-diagonal zero side h = let e : zero * side ≡ 0 = omega arith in rw e (count-zero (λ p. p / side == p % side))
-count-diagonal (suc r) side h =
-    let t : ℕ → Bool = λ p. p / side == p % side in
+-- a matrix each row of which passes once, at column `f row`
+pub count-rows : (rows side : ℕ) (f : ℕ → ℕ) (t : ℕ → Bool) → ((r : ℕ) → r < rows → f r < side)
+    → ((r y : ℕ) → r < rows → y < side → t (r * side + y) ≡ (f r == y)) → count_below (rows * side) t ≡ rows
+count-rows zero side f t inside at = let e : zero * side ≡ 0 = omega arith in rw e (count-zero t)
+count-rows (suc r) side f t inside at =
     let e : suc r * side ≡ r * side + side = omega arith in
-    let before : count_below (r * side) t ≡ r = count-diagonal r side (omega arith) in
-    let row : count_below side (λ y. t (r * side + y)) ≡ count_below side (λ y. r == y) =
-    count-same side (λ y. t (r * side + y)) (λ y. r == y) (λ y h. rw (div-mul-add r side y h, mod-mul-add r side y h) refl) in
-    rw e (omega (arith, count-add (r * side) side t, count-one side r))
+    let before : count_below (r * side) t ≡ r = count-rows r side f t (λ q h. inside q (omega arith)) (λ q y h. at q y (omega arith)) in
+    let row : count_below side (λ y. t (r * side + y)) ≡ count_below side (λ y. f r == y) = count-same side _ _ (λ y h. at r y (omega arith) h) in
+    rw e (omega (arith, count-add (r * side) side t, count-one side (f r), inside r (omega arith)))
 
--- the places of a square that are not on its diagonal
 pub count-off_diagonal : (side : ℕ) → count_below (side * side) (λ p. not (p / side == p % side)) ≡ side * (side - 1)
 count-off_diagonal side =
-    omega (arith, count-not (side * side) (λ p. p / side == p % side), count-diagonal side side (omega arith), mul-pred side)
+    let diagonal = count-rows side side (λ r. r) (λ p. p / side == p % side) (λ r h. h) (λ r y h k. rw (div-mul-add r side y k, mod-mul-add r side y k) refl) in
+    omega (arith, count-not (side * side) (λ p. p / side == p % side), diagonal, mul-pred side)

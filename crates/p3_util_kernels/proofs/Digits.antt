@@ -130,13 +130,16 @@ rev-one zero m few h = rw (rev-zero m) (omega arith)
 rev-one (suc zero) m few h = rw (rev-suc zero m, rev-zero m, div-one m) (omega arith)
 rev-one (suc (suc d)) m few h = absurd (omega arith)
 
+-- a middle part and low digits
+pub middle-below : (q d m y : ℕ) → m < 2 ^ d → y < 2 ^ q → m * 2 ^ q + y < 2 ^ (d + q)
+middle-below q d m y middle h = rw (pow-add 2 d q) (omega (arith, mul-add-lt m (2 ^ q) y (2 ^ d) middle h))
+
 -- The same of a number in three parts, of q digits, of at most one and of q, which stays in the middle.
 pub rev-around : (q d a m y : ℕ) → d ≤ 1 → m < 2 ^ d → y < 2 ^ q
     → rev (q + (d + q)) (a * 2 ^ (d + q) + (m * 2 ^ q + y)) ≡ rev q y * 2 ^ (d + q) + (m * 2 ^ q + rev q a)
 rev-around q d a m y few middle h =
     let split : 2 ^ (d + q) ≡ 2 ^ d * 2 ^ q = pow-add 2 d q in
-    let inside : m * 2 ^ q + y < 2 ^ (d + q) = rw split (omega (arith, mul-add-lt m (2 ^ q) y (2 ^ d) middle h)) in
-    rw (rev-parts q (d + q) a (m * 2 ^ q + y) inside, rev-parts d q m y h, rev-one d m few middle, split) (grind arith)
+    rw (rev-parts q (d + q) a (m * 2 ^ q + y) (middle-below q d m y middle h), rev-parts d q m y h, rev-one d m few middle, split) (grind arith)
 
 -- the reversal of the k low digits is the high end of that of more digits
 pub rev-shr : (j k x : ℕ) → rev (j + k) x / 2 ^ j ≡ rev k x

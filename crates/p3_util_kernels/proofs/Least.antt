@@ -1,18 +1,18 @@
 -- How many places a list of exchanges or of writes changes, how many numbers are their own reverse, and what follows for
 -- the least number of steps.
-use Rattle.std.proofs.Common.{◌≡◌, ◌≢◌, ◌↔◌, ℕ, zero, suc, Bool, true, not, ◌==◌, ◌+◌, ◌*◌, ◌/◌, ◌%◌, ◌^◌, ◌<◌, IsTrue, List, length, slice_get, refl, sym, ◌∙◌, ap, arith, inl, inr}
+use Rattle.std.proofs.Common.{◌≡◌, ◌≢◌, ◌↔◌, ℕ, zero, suc, Bool, true, not, ◌==◌, ◌+◌, ◌*◌, ◌/◌, ◌%◌, ◌^◌, ◌<◌, ◌≤◌, IsTrue, List, length, slice_get, refl, sym, ◌∙◌, ap, arith, inl, inr}
 use Rattle.std.proofs.Math.Nat.{pow-suc}
 use Rattle.std.proofs.lemmas.Bool.{cases_eq, eqb-true, eq-eqb, ne_eqb, not-true, both_ways}
-use Rattle.std.proofs.lemmas.Nat.{same_from_place, div-add-mod', div-mul-add, mod-mul-add, mul-add-lt}
+use Rattle.std.proofs.lemmas.Nat.{same_from_place, div_below, div-add-mod', div-mul-add, mod_below, mod-mul-add, mul-add-lt, pow-add, pow_pos}
 use Rattle.p3_util_kernels.specs.Digits.{bit, rev, sum_below}
 use Rattle.p3_util_kernels.specs.Reversal.{IsReversal}
 use Rattle.p3_util_kernels.specs.SwapCounts.{short_swaps}
 use Rattle.p3_util_kernels.specs.Transpose.{IsTranspose}
 use Rattle.p3_util_kernels.proofs.Reversal.{IsReversal-places}
 use Rattle.p3_util_kernels.specs.Least.{after_swaps, count_below, places_put, places_swapped, AllDiffer, AreOnceAmong, DifferWhere, SwapsChange, PutsChange, Palindromes, LeastReversal, LeastSquare, LeastPuts, PutsAtChanged, ReversalDiffers, SquareDiffers, SwapsAtChanged}
-use Rattle.p3_util_kernels.proofs.Counts.{count-add, count-all, count-double, count-none, count-not, count-off_diagonal, count-same}
+use Rattle.p3_util_kernels.proofs.Counts.{count-all, count-not, count-off_diagonal, count-rows}
 use Rattle.p3_util_kernels.proofs.Written.{AreOnceAmong-weaker, Written, puts-places, puts-written, swaps-places, swaps-written, written-at, written-change}
-use Rattle.p3_util_kernels.proofs.Digits.{rev-zero, rev-suc, rev-lt, rev-mod, rev-add}
+use Rattle.p3_util_kernels.proofs.Digits.{middle-below, rev-around, rev-lt, rev-rev-below}
 use Rattle.p3_util_kernels.proofs.Matrix.{each_place}
 use Rattle.p3_util_kernels.proofs.Pairs.{mul-pred, twice-pairs}
 
@@ -47,90 +47,37 @@ least-puts {A} n place xs steps apart differ =
     let changed = written-change n place (λ i. true) (λ i j hi hj ti tj. apart i j hi hj) (places_put steps) xs _ (puts-written steps xs) (λ i less t. differ i less) in
     omega (arith, count-all n, changed, puts-places steps)
 
--- The reverse of a number between two ends: the ends change places, and what is between them is reversed.
-rev-ends : (k m u t : ℕ) → m < 2 ^ k → u < 2 → t < 2
-    → rev (suc (suc k)) (t * 2 ^ suc k + (2 * m + u)) ≡ u * 2 ^ suc k + (2 * rev k m + t)
-rev-ends k m u t hm hu ht =
-    let p : 2 ^ suc k ≡ 2 ^ k * 2 = pow-suc 2 k in
-    let low : ℕ = 2 * m + u in
-    let x : ℕ = t * 2 ^ suc k + low in
-    let small : low < 2 ^ suc k = omega arith in
-    let top : x / 2 ^ suc k ≡ t = div-mul-add t (2 ^ suc k) low small in
-    let rest : x % 2 ^ suc k ≡ low = omega (arith, div-add-mod' x (2 ^ suc k), ap (λ q. q * 2 ^ suc k) top) in
-    let digit : bit x (suc k) ≡ t = ap (λ n. n % 2) top ∙ omega arith in
-    let e : k + 1 ≡ suc k = omega arith in
-    let half : low / 2 ≡ m = omega arith in
-    let last : rev 1 low ≡ u = rev-suc 0 low ∙ omega (arith, rev-zero low) in
-    let inner : rev (suc k) x ≡ u * 2 ^ k + rev k m =
-    sym (rev-mod (suc k) x) ∙ ap (rev (suc k)) rest ∙ ap (λ w. rev w low) (sym e) ∙ rev-add k 1 low ∙ rw (last, half) refl in
-    rev-suc (suc k) x ∙ rw (inner, digit) (omega (arith, ap (λ q. u * q) p))
-
--- Two numbers of two ends and k digits between them are equal where the ends and what is between them are.
-ends-same : (k a b u t : ℕ) → a < 2 ^ k → b < 2 ^ k → u < 2 → t < 2 → u * 2 ^ suc k + (2 * a + t) ≡ t * 2 ^ suc k + (2 * b + u) → (u ≡ t) × (a ≡ b)
-ends-same k a b zero zero ha hb hu ht e = (refl, omega arith)
-ends-same k a b zero (suc zero) ha hb hu ht e = absurd (omega (arith, pow-suc 2 k))
-ends-same k a b (suc zero) zero ha hb hu ht e = absurd (omega (arith, pow-suc 2 k))
-ends-same k a b (suc zero) (suc zero) ha hb hu ht e = (refl, omega arith)
-ends-same k a b (suc (suc u)) t ha hb hu ht e = absurd (omega arith)
-ends-same k a b u (suc (suc t)) ha hb hu ht e = absurd (omega arith)
-
--- the test for numbers of k digits that are their own reverse
-is_palindrome : ℕ → ℕ → Bool
-is_palindrome k i = rev k i == i
-
-module _ (k : ℕ) where
-  -- with equal ends, what is between them decides
-  palindrome-inside : (m u : ℕ) → m < 2 ^ k → u < 2 → is_palindrome (suc (suc k)) (u * 2 ^ suc k + (2 * m + u)) ≡ is_palindrome k m
-  unfolding is_palindrome
-  palindrome-inside m u hm hu =
-      let x : ℕ = u * 2 ^ suc k + (2 * m + u) in
-      let turned : rev (suc (suc k)) x ≡ u * 2 ^ suc k + (2 * rev k m + u) = rev-ends k m u u hm hu hu in
-      elim (cases_eq (rev k m) m) [
-        | inl e ↦ eq-eqb (rev (suc (suc k)) x) x (turned ∙ rw e refl) ∙ sym (eq-eqb (rev k m) m e)
+-- Of the numbers of k bits whose high digits are a and whose middle digit is m, one is its own reverse: the low digits are a
+-- in reversed order.
+module _ (q d : ℕ) (few : d ≤ 1) where
+  palindrome-of_row : (r y : ℕ) → r < 2 ^ (q + d) → y < 2 ^ q → (rev (q + (d + q)) (r * 2 ^ q + y) == r * 2 ^ q + y) ≡ (rev q (r / 2 ^ d) == y)
+  palindrome-of_row r y hr hy =
+      let a = r / 2 ^ d in
+      let m = r % 2 ^ d in
+      let ha : a < 2 ^ q = div_below r (2 ^ d) (2 ^ q) (pow_pos d) (rw (pow-add 2 q d) at hr) in
+      let hm : m < 2 ^ d = mod_below r (2 ^ d) (pow_pos d) in
+      let row : r * 2 ^ q + y ≡ a * 2 ^ (d + q) + (m * 2 ^ q + y) = rw (pow-add 2 d q) (omega (arith, ap (λ n. n * 2 ^ q) (div-add-mod' r (2 ^ d)))) in
+      let turned = rev-around q d a m y few hm hy in
+      rw row
+      (elim (cases_eq (rev q a) y) [
+        | inl e ↦ eq-eqb _ _ (turned ∙ rw (← e, rev-rev-below q a ha) refl) ∙ sym (eq-eqb (rev q a) y e)
         | inr ne ↦
-            ne_eqb (rev (suc (suc k)) x) x (λ e. ne (ends-same k (rev k m) m u u (rev-lt k m) hm hu hu (sym turned ∙ e)).1)
-            ∙ sym (ne_eqb (rev k m) m ne)
-      ]
-
-  -- with other ends it is none
-  palindrome-apart : (m u t : ℕ) → m < 2 ^ k → u < 2 → t < 2 → u ≢ t → is_palindrome (suc (suc k)) (t * 2 ^ suc k + (2 * m + u)) ≡ true → ⊥
-  unfolding is_palindrome
-  palindrome-apart m u t hm hu ht ne y =
-      let x : ℕ = t * 2 ^ suc k + (2 * m + u) in
-      let turned : rev (suc (suc k)) x ≡ u * 2 ^ suc k + (2 * rev k m + t) = rev-ends k m u t hm hu ht in
-      ne (ends-same k (rev k m) m u t (rev-lt k m) hm hu ht (sym turned ∙ eqb-true (rev (suc (suc k)) x) x y)).0
-
-  -- two digits more, twice as many
-  palindromes-step : count_below (2 ^ suc (suc k)) (is_palindrome (suc (suc k))) ≡ 2 * count_below (2 ^ k) (is_palindrome k)
-  palindromes-step =
-      let P : ℕ → Bool = is_palindrome (suc (suc k)) in
-      let inner : ℕ = count_below (2 ^ k) (is_palindrome k) in
-      let p : 2 ^ suc k ≡ 2 * 2 ^ k = pow-suc 2 k ∙ omega arith in
-      let q : 2 ^ suc (suc k) ≡ 2 ^ suc k + 2 ^ suc k = pow-suc 2 (suc k) ∙ omega arith in
-      let high : ℕ → Bool = λ i. P (2 ^ suc k + i) in
-      let a : count_below (2 ^ k) (λ m. P (2 * m)) ≡ inner =
-      count-same (2 ^ k) (λ m. P (2 * m)) (is_palindrome k) (λ m h. ap P (omega arith) ∙ palindrome-inside m 0 h (omega arith)) in
-      let b : count_below (2 ^ k) (λ m. P (2 * m + 1)) ≡ 0 =
-      count-none (2 ^ k) (λ m. P (2 * m + 1)) (λ m h y. palindrome-apart m 1 0 h (omega arith) (omega arith) (omega arith) (ap P (omega arith) ∙ y)) in
-      let c : count_below (2 ^ k) (λ m. high (2 * m)) ≡ 0 =
-      count-none (2 ^ k) (λ m. high (2 * m)) (λ m h y. palindrome-apart m 0 1 h (omega arith) (omega arith) (omega arith) (ap P (omega arith) ∙ y)) in
-      let d : count_below (2 ^ k) (λ m. high (2 * m + 1)) ≡ inner =
-      count-same (2 ^ k) (λ m. high (2 * m + 1)) (is_palindrome k) (λ m h. ap P (omega arith) ∙ palindrome-inside m 1 h (omega arith)) in
-      let low_half : count_below (2 ^ suc k) P ≡ inner = ap (λ n. count_below n P) p ∙ count-double (2 ^ k) P ∙ omega arith in
-      let high_half : count_below (2 ^ suc k) high ≡ inner = ap (λ n. count_below n high) p ∙ count-double (2 ^ k) high ∙ omega arith in
-      ap (λ n. count_below n P) q ∙ count-add (2 ^ suc k) (2 ^ suc k) P ∙ omega arith
-
-palindromes-of : (k : ℕ) → count_below (2 ^ k) (is_palindrome k) ≡ 2 ^ ((k + 1) / 2)
-unfolding is_palindrome count_below sum_below
-palindromes-of zero = rw (rev-zero 0) refl
-palindromes-of (suc zero) = rw (rev-suc 0 0, rev-suc 0 1, rev-zero 0, rev-zero 1) refl
-palindromes-of (suc (suc k)) =
-    let e : (suc (suc k) + 1) / 2 ≡ suc ((k + 1) / 2) = omega arith in
-    palindromes-step k ∙ rw (palindromes-of k, e) (sym (pow-suc 2 ((k + 1) / 2) ∙ omega arith))
+            ne_eqb _ _
+            (λ e.
+            let low = same_from_place (rev q y) (m * 2 ^ q + rev q a) a (m * 2 ^ q + y) (2 ^ (d + q)) (middle-below q d m (rev q a) hm (rev-lt q a)) (middle-below q d m y hm hy) (sym turned ∙ e) in
+            ne (omega (arith, low.1)))
+            ∙ sym (ne_eqb (rev q a) y ne)
+      ])
 
 pub palindromes : Palindromes
-unfolding is_palindrome
-palindromes k = palindromes-of k
+palindromes k =
+    let q = k / 2 in
+    let d = k % 2 in
+    let parts : q + (d + q) ≡ k = omega arith in
+    let rows : q + d ≡ (k + 1) / 2 = omega arith in
+    let all : 2 ^ k ≡ 2 ^ (q + d) * 2 ^ q = ap (λ n. 2 ^ n) (omega arith) ∙ pow-add 2 (q + d) q in
+    let each = rw parts at (palindrome-of_row q d (omega arith)) in
+    rw (all, ← rows) (count-rows (2 ^ (q + d)) (2 ^ q) (λ r. rev q (r / 2 ^ d)) (λ i. rev k i == i) (λ r h. rev-lt q (r / 2 ^ d)) each)
 
 -- a number and its reverse differ where the lists do
 reversal-differs-where : {A : Type 0} (k : ℕ) (old new : List A) → length old ≡ 2 ^ k → AllDiffer old → IsReversal old new

@@ -7,121 +7,72 @@ use Rattle.std.proofs.lemmas.Str.{IsCharBoundary-after_ascii}
 use Rattle.std.specs.List.{position, position_or_len}
 use Rattle.std.specs.Str.{IsUtf8, IsCharBoundary}
 use Rattle.std.specs.Str.Pattern.{HasTextAt}
-use Rattle.p3_util_kernels.specs.Names.{is_mark, in_front, name_pieces, after_colons, last_within, last_part, short_name}
+use Rattle.p3_util_kernels.specs.Names.{is_mark, in_front, name_pieces, after_colons, last_part, short_name}
 
-abbrev starts : ℕ → List ℕ → Bool
-starts b t = b == 58 && slice_index t 0 == 58
-
--- whether a text begins with `::`
-abbrev StartsTells : ℕ → List ℕ → Type 0
-StartsTells b t = ((starts b t ≡ true) × (b ∷ t ≡ 58 ∷ 58 ∷ drop 1 t)) ⊎ ((starts b t ≡ false) × ((rest : List ℕ) → b ∷ t ≢ 58 ∷ 58 ∷ rest))
-
-starts_tells : (b : ℕ) (t : List ℕ) → StartsTells b t
-starts_tells b [] =
+-- two bytes are `::`, or not
+colons_tell : (b c : ℕ) → (((b == 58 && c == 58) ≡ true) × ((b ≡ 58) × (c ≡ 58))) ⊎ (((b == 58 && c == 58) ≡ false) × ((b ≡ 58) → (c ≡ 58) → ⊥))
+colons_tell b c =
     elim (eqb_tells b 58) [
-      | inl (test, is) ↦ inr (rw test refl, λ rest e. cc)
-      | inr (test, not) ↦ inr (rw test refl, λ rest e. cc)
-    ]
-starts_tells b (d ∷ t) =
-    elim (eqb_tells b 58) [
-      | inl (test, is) ↦
-          elim (eqb_tells d 58) [
-            | inl (next, then) ↦ inl (rw (test, next) refl, cc)
-            | inr (next, not) ↦ inr (rw (test, next) refl, λ rest e. not cc)
+      | inl (first, is) ↦
+          elim (eqb_tells c 58) [
+            | inl (second, is') ↦ inl (rw (first, second) refl, (is, is'))
+            | inr (second, not) ↦ inr (rw (first, second) refl, λ e f. not f)
           ]
-      | inr (test, not) ↦ inr (rw test refl, λ rest e. not cc)
+      | inr (first, not) ↦ inr (rw first refl, λ e f. not e)
     ]
 
-pub after_colons-none : (t : List ℕ) → ((i : ℕ) → i ≤ length t → (rest : List ℕ) → drop i t ≢ 58 ∷ 58 ∷ rest) → after_colons t ≡ None
+-- a text without `::`
+after_colons-none : (whole t : List ℕ) → ((i : ℕ) → i ≤ length t → (rest : List ℕ) → drop i t ≢ 58 ∷ 58 ∷ rest) → after_colons whole t ≡ whole
 unfolding after_colons
-after_colons-none [] h = refl
-after_colons-none (b ∷ t) h =
-    elim (starts_tells b t) [
-      | inl (test, is) ↦ absurd (h 0 (omega arith) (drop 1 t) is)
-      | inr (test, not) ↦ rw test (after_colons-none t (λ i le rest. h (suc i) (omega arith) rest))
+after_colons-none whole [] h = refl
+after_colons-none whole (b ∷ []) h = refl
+after_colons-none whole (b ∷ c ∷ t) h =
+    elim (colons_tell b c) [
+      | inl (test, is) ↦ absurd (h 0 (omega arith) t (rw (is.0, is.1) refl))
+      | inr (test, not) ↦ rw test (after_colons-none whole (c ∷ t) (λ i le rest. h (suc i) (omega arith) rest))
     ]
 
-pub after_colons-some : (t : List ℕ) (i : ℕ) (rest : List ℕ)
-    → ((k : ℕ) → k < i → (r : List ℕ) → drop k t ≢ 58 ∷ 58 ∷ r)
-    → drop i t ≡ 58 ∷ 58 ∷ rest → after_colons t ≡ Some rest
+-- one whose first `::` is at i
+after_colons-first : (whole t : List ℕ) (i : ℕ) (rest : List ℕ) → ((k : ℕ) → k < i → (r : List ℕ) → drop k t ≢ 58 ∷ 58 ∷ r)
+    → drop i t ≡ 58 ∷ 58 ∷ rest → after_colons whole t ≡ after_colons rest rest
 unfolding after_colons
-after_colons-some [] zero rest before here = cc
-after_colons-some [] (suc i) rest before here = cc
-after_colons-some (b ∷ t) zero rest before here =
-    elim (starts_tells b t) [
-      | inl (test, is) ↦ rw test cc
-      | inr (test, not) ↦ absurd (not rest here)
-    ]
-after_colons-some (b ∷ t) (suc i) rest before here =
-    elim (starts_tells b t) [
-      | inl (test, is) ↦ absurd (before 0 (omega arith) (drop 1 t) is)
-      | inr (test, not) ↦ rw test (after_colons-some t i rest (λ k less r. before (suc k) (omega arith) r) here)
-    ]
-
--- what follows the first `::` is shorter
-shorter : (t rest : List ℕ) → after_colons t ≡ Some rest → length rest < length t
-unfolding after_colons
-shorter [] rest e = cc
-shorter (b ∷ t) rest e =
-    elim (starts_tells b t) [
-      | inl (test, is) ↦
-          let found : Some (drop 1 t) ≡ Some rest = rw test at e in
-          let same : drop 1 t ≡ rest = cc in
-          omega (arith, length-drop 1 t, ap length same)
-      | inr (test, not) ↦ let deeper : after_colons t ≡ Some rest = rw test at e in let less = shorter t rest deeper in omega arith
+after_colons-first whole [] zero rest before here = cc
+after_colons-first whole [] (suc i) rest before here = cc
+after_colons-first whole (b ∷ []) zero rest before here = cc
+after_colons-first whole (b ∷ []) (suc zero) rest before here = cc
+after_colons-first whole (b ∷ []) (suc (suc i)) rest before here = cc
+after_colons-first whole (b ∷ c ∷ t) zero rest before here =
+    let first : b ≡ 58 = cc in
+    let second : c ≡ 58 = cc in
+    let same : t ≡ rest = cc in
+    rw (first, second, same) refl
+after_colons-first whole (b ∷ c ∷ t) (suc i) rest before here =
+    elim (colons_tell b c) [
+      | inl (test, is) ↦ absurd (before 0 (omega arith) t (rw (is.0, is.1) refl))
+      | inr (test, not) ↦ rw test (after_colons-first whole (c ∷ t) i rest (λ k less r. before (suc k) (omega arith) r) here)
     ]
 
-abbrev next : ℕ → List ℕ → Option (List ℕ) → List ℕ
-next n t None = t
-next n t (Some rest) = last_within n rest
-
-within_next : (n : ℕ) (t : List ℕ) (o : Option (List ℕ)) → after_colons t ≡ o → last_within (suc n) t ≡ next n t o
-unfolding last_within
-within_next n t None e = rw (e, last_within) refl
-within_next n t (Some rest) e = rw (e, last_within) refl
-
-within_nil : (n : ℕ) → last_within n [] ≡ []
-unfolding last_within after_colons
-within_nil zero = refl
-within_nil (suc n) = refl
-
-within_same_by : (n m : ℕ) (t : List ℕ) (o : Option (List ℕ)) → after_colons t ≡ o
-    → ((rest : List ℕ) → after_colons t ≡ Some rest → last_within n rest ≡ last_within m rest)
-    → last_within (suc n) t ≡ last_within (suc m) t
-within_same_by n m t None e rests = within_next n t None e ∙ sym (within_next m t None e)
-within_same_by n m t (Some rest) e rests =
-    within_next n t (Some rest) e ∙ rests rest e ∙ sym (within_next m t (Some rest) e)
-
--- any bound that the length does not pass gives the same
-within_same : (n m : ℕ) (t : List ℕ) → length t ≤ n → length t ≤ m → last_within n t ≡ last_within m t
-within_same n m [] a b = within_nil n ∙ sym (within_nil m)
-within_same zero m (x ∷ t) a b = absurd (omega arith)
-within_same (suc n) zero (x ∷ t) a b = absurd (omega arith)
-within_same (suc n) (suc m) (x ∷ t) a b =
-    within_same_by n m (x ∷ t) (after_colons (x ∷ t)) refl
-    (λ rest e. let less = shorter (x ∷ t) rest e in within_same n m rest (omega arith) (omega arith))
-
--- the two rules of the last part
-pub last_part-none : (t : List ℕ) → after_colons t ≡ None → last_part t ≡ t
-unfolding last_part
-last_part-none [] e = within_nil 0
-last_part-none (b ∷ t) e = within_next (length t) (b ∷ t) None e
-
-pub last_part-some : (t rest : List ℕ) → after_colons t ≡ Some rest → last_part t ≡ last_part rest
-unfolding last_part after_colons
-last_part-some [] rest e = cc
-last_part-some (b ∷ t) rest e =
-    let less = shorter (b ∷ t) rest e in
-    within_next (length t) (b ∷ t) (Some rest) e ∙ within_same (length t) (length rest) rest (omega arith) (omega arith)
-
--- the same from where the first `::` is found
 pub last_part-whole : (t : List ℕ) → ((i : ℕ) → i ≤ length t → (rest : List ℕ) → drop i t ≢ 58 ∷ 58 ∷ rest) → last_part t ≡ t
-last_part-whole t h = last_part-none t (after_colons-none t h)
+last_part-whole t h = after_colons-none t t h
 
 pub last_part-after : (t : List ℕ) (i j : ℕ)
     → ((k : ℕ) → k < i → (r : List ℕ) → drop k t ≢ 58 ∷ 58 ∷ r)
     → HasTextAt (58 ∷ 58 ∷ []) t i j → last_part t ≡ last_part (drop j t)
-last_part-after t i j before here = last_part-some t (drop j t) (after_colons-some t i (drop j t) before here.split)
+last_part-after t i j before here = after_colons-first t t i (drop j t) before here.split
+
+-- the last part is no longer than the text
+after_colons-length : (whole t : List ℕ) (n : ℕ) → length whole ≤ n → length t ≤ n → length (after_colons whole t) ≤ n
+unfolding after_colons
+after_colons-length whole [] n h k = h
+after_colons-length whole (b ∷ []) n h k = h
+after_colons-length whole (b ∷ c ∷ t) n h k =
+    elim (colons_tell b c) [
+      | inl (test, is) ↦ rw test (after_colons-length t t n (omega arith) (omega arith))
+      | inr (test, not) ↦ rw test (after_colons-length whole (c ∷ t) n h (omega arith))
+    ]
+
+pub length-last_part : (t : List ℕ) → length (last_part t) ≤ length t
+length-last_part t = after_colons-length t t (length t) (omega arith) (omega arith)
 
 -- a name without marks is one piece
 name_pieces-none : (t : List ℕ) → ((i : ℕ) → i < length t → is_mark (get_or t i 0) ≡ false) → name_pieces t ≡ t ∷ []
@@ -192,20 +143,3 @@ pub cut_after_mark : (t : List ℕ) (i : ℕ) → IsUtf8 t → Some i ≡ positi
 cut_after_mark t i text e =
     let (less, here, before) = position-Some is_mark t i 0 (sym e) in
     (less, IsCharBoundary-after_ascii t i text less (mark_ascii (get_or t i 0) here))
-
--- the last part is no longer than the text
-within_le_by : (n : ℕ) (t : List ℕ) (o : Option (List ℕ)) → after_colons t ≡ o
-    → ((rest : List ℕ) → length (last_within n rest) ≤ length rest)
-    → length (last_within (suc n) t) ≤ length t
-within_le_by n t None e rests = rw (within_next n t None e) (omega arith)
-within_le_by n t (Some rest) e rests =
-    rw (within_next n t (Some rest) e) (let less = shorter t rest e in omega (arith, rests rest))
-
-within_le : (n : ℕ) (t : List ℕ) → length (last_within n t) ≤ length t
-unfolding last_within
-within_le zero t = omega arith
-within_le (suc n) t = within_le_by n t (after_colons t) refl (within_le n)
-
-pub length-last_part : (t : List ℕ) → length (last_part t) ≤ length t
-unfolding last_part
-length-last_part t = within_le (length t) t

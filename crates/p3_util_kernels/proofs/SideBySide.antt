@@ -2,6 +2,7 @@
 use Rattle.std.proofs.Common.{◌≡◌, ℕ, ◌+◌, ◌-◌, ◌*◌, ◌^◌, ◌<◌, ◌≤◌, List, slice_get, inl, inr, sym, ap, ◌∙◌, arith}
 use Rattle.std.proofs.lemmas.Bool.{cases_lt}
 use Rattle.std.proofs.lemmas.Nat.{pow-add, pow_pos, mul-add-lt, same_from_place}
+use Rattle.p3_util_kernels.proofs.Digits.{middle-below}
 use Rattle.p3_util_kernels.proofs.Matrix.{each_place}
 use Rattle.p3_util_kernels.specs.Square.{IsSquareTransposed}
 use Rattle.p3_util_kernels.specs.SideBySide.{AreTransposed}
@@ -13,7 +14,7 @@ module _ (log_stride log_size : ℕ) (within : log_size ≤ log_stride) where
 
   -- a square and a column of it are within the row
   pub in_row : (s b : ℕ) → s < 2 ^ (log_stride - log_size) → b < 2 ^ log_size → s * 2 ^ log_size + b < 2 ^ log_stride
-  in_row s b hs hb = rw (← row_length) (omega (arith, mul-add-lt s (2 ^ log_size) b (2 ^ (log_stride - log_size)) hs hb))
+  in_row s b hs hb = let whole : log_stride - log_size + log_size ≡ log_stride = omega arith in rw whole at (middle-below log_size (log_stride - log_size) s b hs hb)
 
   -- what holds of each row, square and column holds of each place
   pub each_part : (P : ℕ → Type 0)

@@ -16,19 +16,15 @@ unfoldable pub name_pieces : List ℕ → List (List ℕ)
 name_pieces [] = [] ∷ []
 name_pieces (b ∷ t) = if is_mark b then (b ∷ []) ∷ name_pieces t else in_front b (name_pieces t)
 
--- what follows the first `::`, where there is one
-unfoldable pub after_colons : List ℕ → Option (List ℕ)
-after_colons [] = None
-after_colons (b ∷ t) = if b == 58 && slice_index t 0 == 58 then Some (drop 1 t) else after_colons t
+-- what follows the last `::` of the text, where `::` is looked for from left to right, and `whole` where there is none
+unfoldable pub after_colons : (whole text : List ℕ) → List ℕ
+after_colons whole [] = whole
+after_colons whole (b ∷ []) = whole
+after_colons whole (b ∷ c ∷ t) = if b == 58 && c == 58 then after_colons t t else after_colons whole (c ∷ t)
 
--- `last_part t` is t where t holds no `::`, and else the `last_part` of what follows the first `::` in t. Each cut makes the
--- text shorter, so a text of n bytes is cut at most n times.
-unfoldable pub last_within : ℕ → List ℕ → List ℕ
-last_within zero t = t
-last_within (suc n) t = elim (after_colons t) [ None ↦ t | Some rest ↦ last_within n rest ]
-
-unfoldable pub last_part : List ℕ → List ℕ
-last_part t = last_within (length t) t
+-- what follows the last `::` of the text, and all of it where there is none
+abbrev pub last_part : List ℕ → List ℕ
+last_part t = after_colons t t
 
 -- the last parts of the pieces, joined in order
 unfoldable pub short_name : List ℕ → List ℕ
