@@ -23,7 +23,8 @@ use Rattle.p3_util.specs.ItemsAt.{AreOthersSame, IsSameOutside, column_of, items
 use Rattle.p3_util.specs.LinearMap.{put, value_at}
 use Rattle.p3_util.proofs.ItemsAt.{from_end-set, from_end-swap, items_at-set, items_at-swap, length-items_at, slice_get-items_at, slice_get-reverse}
 use Rattle.p3_util.proofs.MapLemmas.{lookup_put}
-use Rattle.p3_util.proofs.TwoLists.{across, in-back, in-front, put-back, put-front, swap-sym}
+use Rattle.p3_util_kernels.proofs.Seam.{across}
+use Rattle.p3_util.proofs.TwoLists.{in-back, in-front, put-back, put-front, swap-sym}
 use Rattle.p3_util_kernels.specs.Digits.{rev, sum_below}
 use Rattle.p3_util_kernels.specs.declared.transpose.regions.Region.{Region}
 use Rattle.p3_util_kernels.specs.Levels.{clog}

@@ -2,9 +2,9 @@
 -- the least number of steps.
 use Rattle.std.proofs.Common.{◌≡◌, ◌≢◌, ◌↔◌, ℕ, zero, suc, Bool, true, not, ◌==◌, ◌+◌, ◌*◌, ◌/◌, ◌%◌, ◌^◌, ◌<◌, ◌≤◌, IsTrue, List, length, slice_get, refl, sym, ◌∙◌, ap, arith, inl, inr}
 use Rattle.std.proofs.Math.Nat.{pow-suc}
-use Rattle.std.proofs.lemmas.Bool.{cases_eq, eqb-true, eq-eqb, ne_eqb, not-true, both_ways}
+use Rattle.std.proofs.lemmas.Bool.{cases_eq, eq-eqb, ne_eqb, not-true, both_ways}
 use Rattle.std.proofs.lemmas.Nat.{same_from_place, div_below, div-add-mod', div-mul-add, mod_below, mod-mul-add, mul-add-lt, pow-add, pow_pos}
-use Rattle.p3_util_kernels.specs.Digits.{bit, rev, sum_below}
+use Rattle.p3_util_kernels.specs.Digits.{rev}
 use Rattle.p3_util_kernels.specs.Reversal.{IsReversal}
 use Rattle.p3_util_kernels.specs.SwapCounts.{short_swaps}
 use Rattle.p3_util_kernels.specs.Transpose.{IsTranspose}

@@ -1,25 +1,22 @@
-use Rattle.std.proofs.Common.{◌≡◌, ℕ, ◌<◌, List, [], ◌∷◌, length, swap, ◌++◌, arith, rules}
-use Rattle.std.proofs.Math.ListN.{set, get_or}
-use Rattle.std.proofs.Math.Seq.{set-append_seam, get_or-append_seam}
-use Rattle.std.proofs.lemmas.List.{set-append_left, get_or_append_left, length-set}
+-- A list that is joined of two, with an item exchanged across the seam.
+use Rattle.std.proofs.Common.{ℕ, ◌≡◌, ◌+◌, ◌-◌, ◌<◌, List, ◌++◌, length, get_or, set, sym, ap, ◌∙◌, arith, length-append}
+use Rattle.std.proofs.lemmas.List.{get_or_append_left, get_or-append-add, get_or_read, length-set, set-append_left, set-append_right}
 use Rattle.std.proofs.lemmas.List.Edits.{swap_is}
+use Rattle.std.specs.List.{swap}
 
-pub ordered-swap : {X : Type 0} (front : List X) (b : X) (bs : List X) (i : ℕ) (x : X) → i < length front → length front < length (front ++ b ∷ bs) → length (set front i b) ≡ length front → x ≡ get_or front i x → set front i b ++ x ∷ bs ≡ swap (front ++ b ∷ bs) i (length front)
-ordered-swap front b bs i x below fits len is =
-    let at_low = get_or_append_left front (b ∷ bs) x i below in
-    let at_high = get_or-append_seam front b bs x in
-    let low_set = set-append_left front (b ∷ bs) i b below in
-    let high_set = set-append_seam (set front i b) b bs x in
-    let exchanged = swap_is (front ++ b ∷ bs) i (length front) x (omega (arith, below, fits)) fits in
-    cc (at_low, at_high, low_set, high_set, exchanged, len, is)
+module _ {A : Type 0} where
+  -- behind the first list's end
+  pub set-behind : (xs ys : List A) (n k : ℕ) (w : A) → length xs ≡ n → set (xs ++ ys) (n + k) w ≡ xs ++ set ys k w
+  set-behind xs ys n k w is = let same : n + k - n ≡ k = omega arith in set-append_right xs ys n (n + k) w is (omega arith) ∙ ap (λ p. xs ++ set ys p w) same
 
--- two parts of a list, whose items at i and at the seam are exchanged
-pub seam-swap : {X : Type 0} (front back whole : List X) (i j : ℕ) (x y low high : X) → i < j → j < length whole → length front ≡ j → whole ≡ front ++ back → x ≡ get_or front i x → low ≡ get_or back 0 y → high ≡ get_or front i x → set front i low ++ set back 0 high ≡ swap whole i j
-seam-swap front [] whole i j x y low high order fits len is at_i e f =
-    let short : length whole ≡ length front = search (rules, is) in
-    absurd (omega (arith, fits, len, short))
-seam-swap front (b ∷ bs) whole i j x y low high order fits len is at_i e f =
-    let below : i < length front = omega (arith, order, len) in
-    let wide : length front < length (front ++ b ∷ bs) = (rw (← is) (omega (arith, fits, len))) in
-    let exchanged = ordered-swap front b bs i x below wide (length-set front i b) at_i in
-    cc (exchanged, len, is, at_i, e, f)
+  -- one place in each list, which hold x and y
+  pub across : (xs ys : List A) (i j : ℕ) (x y : A) → i < length xs → j < length ys → x ≡ get_or xs i x → y ≡ get_or ys j y
+      → set xs i y ++ set ys j x ≡ swap (xs ++ ys) i (length xs + j)
+  across xs ys i j x y li lj at-i at-j =
+      let n = length xs in
+      let all = length-append xs ys in
+      let first : get_or (xs ++ ys) i x ≡ x = get_or_append_left xs ys x i li ∙ sym at-i in
+      let second : get_or (xs ++ ys) (n + j) x ≡ y = get_or-append-add xs ys j x ∙ sym (get_or_read ys j y lj at-j x) in
+      let whole : set xs i y ++ set ys j x ≡ set (set (xs ++ ys) i y) (n + j) x = rw (set-append_left xs ys i y li) (sym (set-behind (set xs i y) ys n j x (length-set xs i y))) in
+      whole ∙ ap (λ z. set (set (xs ++ ys) i z) (n + j) x) (sym second) ∙ ap (λ z. set (set (xs ++ ys) i (get_or (xs ++ ys) (n + j) x)) (n + j) z) (sym first) ∙
+      swap_is (xs ++ ys) i (n + j) x (omega (arith, all)) (omega (arith, all))

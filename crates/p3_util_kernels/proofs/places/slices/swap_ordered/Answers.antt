@@ -1,8 +1,13 @@
-use Rattle.p3_util_kernels.proofs.Seam.{seam-swap}
+use Rattle.std.proofs.Common.{◌≡◌, ◌+◌, ◌∙◌, length, sym, arith}
+use Rattle.p3_util_kernels.proofs.Seam.{across}
 use Rattle.p3_util_kernels.proofs.places.slices.swap_ordered.Goals as goal
 
 pub returns : goal.returns
 returns g c =
     let parts = c.split_at_mut-front in
-    seam-swap parts.result.0.now parts.result.1.now c.args.items.now c.args.i c.args.j c.index-front-i.result c.index-back-0.result c.swap.new.x c.swap.new.y
-    c.requires.order c.requires.fits parts.ensures.front_len parts.ensures.value c.index-front-i.is c.swap.ensures.x_after c.swap.ensures.y_after
+    let front = parts.result.0.now in
+    let first : c.swap.new.x ≡ c.index-back-0.result = c.swap.ensures.x_after ∙ sym c.index-back-0.is in
+    let second : c.swap.new.y ≡ c.index-front-i.result = c.swap.ensures.y_after ∙ sym c.index-front-i.is in
+    let seam : length front + 0 ≡ c.args.j = omega (arith, parts.ensures.front_len) in
+    rw (first, second, parts.ensures.value)
+    (rw seam at (across front parts.result.1.now c.args.i 0 _ _ (omega (arith, seam, c.requires.order)) (omega (arith, parts.ensures.back_len, c.requires.fits)) c.index-front-i.is c.index-back-0.is))

@@ -1,6 +1,4 @@
 use Rattle.std.proofs.Common.{◌≡◌, ◌+◌, ◌-◌, arith}
-use Rattle.p3_util_kernels.specs.Region.{rows_of}
-use Rattle.p3_util_kernels.proofs.Pairs.{mul-parts_right}
 use Rattle.p3_util_kernels.proofs.Columns.{HoldsColumn-region, IsRegionTransposed-column}
 use Rattle.p3_util_kernels.proofs.Region.{IsCut-cols, IsRegionTransposed-cut}
 use Rattle.p3_util_kernels.proofs.transpose.strips.put_columns.Goals as goal
@@ -11,13 +9,15 @@ put_column-out-requires g c = record {
 }
 
 pub loop-col-preserved : goal.loop-col-preserved
-loop-col-preserved g c = let done = record c.args.region { col_end = c.loop-col.col + 1 } in record {
-  transposed = IsRegionTransposed-cut c.args.matrix.width c.args.matrix.height _ done _ _ _ _ _ (omega arith) (IsCut-cols done c.loop-col.col (omega arith) (omega arith))
-      c.loop-col.invariant.transposed
-      (IsRegionTransposed-column c.args.region _ _ c.loop-col.col _ _ _ (omega arith) (rw c.rows.ensures at c.put_column-out.ensures.put));
-  holder = g.met.M.Cells.same_holder_trans _ _ _ _ _ _ c.loop-col.invariant.holder c.put_column-out.ensures.holder
-      (omega (arith, c.rows.ensures, mul-parts_right (c.loop-col.col - c.args.region.col_start) 1 (c.loop-col.col + 1 - c.args.region.col_start) (rows_of c.args.region) (omega arith)));
-}
+loop-col-preserved g c =
+    let done = record c.args.region { col_end = c.loop-col.col + 1 } in
+    let cut = IsCut-cols done c.loop-col.col (omega arith) (omega arith) in
+    let one : c.loop-col.col + 1 - c.loop-col.col ≡ 1 = omega arith in
+    record {
+      transposed = IsRegionTransposed-cut c.args.matrix.width c.args.matrix.height (g.R.Source.items c.args.matrix.source) done _ _ _ _ _ (omega arith) cut
+          c.loop-col.invariant.transposed (IsRegionTransposed-column c.args.region _ _ c.loop-col.col _ _ _ (omega arith) (rw c.rows.ensures at c.put_column-out.ensures.put));
+      holder = g.met.M.Cells.same_holder_trans _ _ _ _ _ _ c.loop-col.invariant.holder c.put_column-out.ensures.holder (omega (arith, c.rows.ensures, rw one at cut.items));
+    }
 
 pub returns-clause-transposed : goal.returns-clause-transposed
 returns-clause-transposed g c = let end : c.loop-col.col ≡ c.args.region.col_end = omega arith in rw end at c.loop-col.invariant.transposed
