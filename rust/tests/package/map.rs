@@ -6,25 +6,6 @@ use std::sync::atomic::{AtomicUsize, Ordering::Relaxed};
 use p3_util_proved::linear_map::{Iter, Keys, LinearMap, Values};
 
 use crate::Owner;
-use crate::answers::{Call, PAIRS, SCRIPT};
-
-#[test]
-fn originals_answers() {
-    let mut map = LinearMap::with_capacity(1);
-    for (place, (call, wanted)) in SCRIPT.iter().enumerate() {
-        let answer = match *call {
-            Call::Get(k) => map.get(&k).copied(),
-            Call::Insert(k, v) => map.insert(k, v),
-            Call::GetOrInsert(k, v) => Some(*map.get_or_insert_with(k, || v)),
-        };
-        assert_eq!(answer, *wanted, "call {place}, {call:?}");
-    }
-    assert!(map.iter().eq(PAIRS));
-    assert!(map.keys().eq(PAIRS.iter().map(|pair| &pair.0)));
-    assert!(map.values().eq(PAIRS.iter().map(|pair| &pair.1)));
-    assert!((&map).into_iter().eq(PAIRS));
-    assert!(map.into_iter().eq(PAIRS.iter().copied()));
-}
 
 /// A word that equals one in capital letters.
 #[derive(Debug)]

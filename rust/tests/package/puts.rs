@@ -6,7 +6,6 @@ use p3_util_proved::kernels::places::{SliceSource, Writes};
 use p3_util_proved::kernels::transpose::*;
 
 use crate::noted::{Noted, Side, halves};
-use crate::transposed;
 
 #[test]
 fn a_count_of_puts_goes_on_from_the_one_before() {
@@ -154,37 +153,6 @@ fn puts_in_order() {
     }
 }
 
-/// Rows, columns, the levels that their split needs, and how many splits nest.
-const SPLITS: [(usize, usize, u32, u32); 5] = [
-    (128, 128, 0, 0),
-    (129, 128, 1, 1),
-    (2, 1000, 3, 0),
-    (3, 1000, 3, 3),
-    (1024, 1025, 7, 7),
-];
-
-#[test]
-fn nested_splits() {
-    for (height, width, needed, nested) in SPLITS {
-        let input: Vec<u64> = (0..(width * height) as u64).collect();
-        let whole = whole(width, height);
-        for levels in [needed, 64] {
-            let (mut first, mut second) = (Noted::numbered(input.len()), Noted::numbered(input.len()));
-            let (mut of_slice, mut of_source) = (Writes::new(&mut first), Writes::new(&mut second));
-            let source = SliceSource::new(&input);
-            let nests = [
-                transpose_split_on(&input, &mut of_slice, whole, width, height, levels),
-                transpose_source_split_on(&source, &mut of_source, whole, width, height, levels),
-            ];
-            assert_eq!(nests, [nested; 2], "{height} rows of {width}, {levels} levels");
-            assert_eq!(of_slice.writes(), input.len() as u128);
-            assert!(first == second);
-            let turned = |(place, item): (usize, &u64)| *item == transposed(width, height, place) as u64;
-            assert!(first.items.iter().enumerate().all(turned));
-        }
-    }
-}
-
 #[test]
 fn regions_of_every_size() {
     let shapes = (0..=40).flat_map(|rows| (0..=40).map(move |cols| (rows, cols)));
@@ -213,14 +181,4 @@ fn regions_of_every_size() {
             assert_eq!(*item, if inside { (y * width + x) as u64 } else { u64::MAX });
         }
     }
-}
-
-#[test]
-fn stages_of_a_block() {
-    let block = [[0u8, 1, 2, 3], [4, 5, 6, 7], [8, 9, 10, 11], [12, 13, 14, 15]];
-    let first = [[0, 4, 2, 6], [1, 5, 3, 7], [8, 12, 10, 14], [9, 13, 11, 15]];
-    let turned = [[0, 4, 8, 12], [1, 5, 9, 13], [2, 6, 10, 14], [3, 7, 11, 15]];
-    assert_eq!(butterfly_stage1(block), first);
-    assert_eq!(butterfly_stage2(first), turned);
-    assert_eq!(butterfly_4x4(block), turned);
 }

@@ -20,7 +20,7 @@ fn check_length(len: usize) {
 #[test]
 fn lists_of_each_length() {
     (0..=1 << 12).for_each(check_length);
-    (13..=16).for_each(|bits| check_length(1 << bits));
+    (13..=20).for_each(|bits| check_length(1 << bits));
 }
 
 /// Transposes the items that `item` makes, and compares each column.
