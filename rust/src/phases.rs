@@ -3,10 +3,10 @@
 //! No place is stepped on by two parts of one phase. The parts of a transpose are regions of its matrix, which are one phase. Those
 //! of a reversal's phase are ranges of line pairs, or blocks of squares.
 
-use crate::kernels::parts::Cut;
+use crate::kernels::parts::{Cut, Squares};
 use crate::kernels::places::{Cells, Places, Source};
 use crate::kernels::reverse::{RowDigits, exchange_pairs, reverse_index_bits, reverse_rows};
-use crate::kernels::transpose::{Matrix, Region, Square, exchange_region, put_split, transpose_diagonal};
+use crate::kernels::transpose::{Matrix, Region, put_split};
 
 /// What the sides of regions and blocks begin at multiples of.
 const UNIT: usize = 16;
@@ -112,11 +112,7 @@ impl Phases {
     }
 
     fn squares(self, side: usize, stride: usize) -> Phase {
-        Phase::Squares(Squares {
-            side,
-            stride,
-            cut: Cut::new(side, self.parts, UNIT),
-        })
+        Phase::Squares(Squares::new(stride, Cut::new(side, self.parts, UNIT)))
     }
 }
 
@@ -137,7 +133,7 @@ impl Phase {
         match self {
             Phase::Whole(_) => 1,
             Phase::LinePairs(_, cut) => cut.count(),
-            Phase::Squares(squares) => squares.stride / squares.side * squares.cut.pairs(),
+            Phase::Squares(squares) => squares.count(),
         }
     }
 
@@ -150,40 +146,8 @@ impl Phase {
                 let (from, to) = cut.part(number);
                 let _ = exchange_pairs(places, rows, from, to);
             }
-            Phase::Squares(squares) => squares.exchange(places, number),
+            Phase::Squares(squares) => _ = squares.exchange(places, number),
         }
-    }
-}
-
-/// Squares of `side` rows and columns that lie side by side in rows of `stride` items. Rows and columns are cut alike.
-#[derive(Clone, Copy)]
-pub(crate) struct Squares {
-    side: usize,
-    stride: usize,
-    cut: Cut,
-}
-
-impl Squares {
-    /// Exchanges the block of this number with its mirror image.
-    fn exchange<M: Places>(self, places: M, number: usize) {
-        let square = Square {
-            base: number / self.cut.pairs() * self.side,
-            stride: self.stride,
-        };
-        let (first, second) = self.cut.pair(number % self.cut.pairs());
-        let (row_start, row_end) = self.cut.part(first);
-        if first == second {
-            let _ = transpose_diagonal(places, square, row_start, row_end - row_start);
-            return;
-        }
-        let (col_start, col_end) = self.cut.part(second);
-        let region = Region {
-            row_start,
-            row_end,
-            col_start,
-            col_end,
-        };
-        let _ = exchange_region(places, square, region);
     }
 }
 

@@ -1,6 +1,6 @@
 -- How many numbers below a bound pass a test.
-use Rattle.std.proofs.Common.{◌≡◌, ℕ, zero, suc, Bool, true, false, cond, not, min, ◌==◌, ◌&&◌, ◌+◌, ◌-◌, ◌*◌, ◌/◌, ◌%◌, ◌<◌, ◌≤◌, IsTrue, refl, ◌∙◌, ap, arith, inl, inr}
-use Rattle.std.proofs.lemmas.Bool.{cases_Bool, cases_eq, eq-eqb, false_from_ne_true, ne_eqb}
+use Rattle.std.proofs.Common.{◌≡◌, ℕ, zero, suc, Bool, true, false, cond, nat_lt, ltb-true, not, min, ◌==◌, ◌&&◌, ◌+◌, ◌-◌, ◌*◌, ◌/◌, ◌%◌, ◌<◌, ◌≤◌, IsTrue, refl, ◌∙◌, ap, arith, inl, inr}
+use Rattle.std.proofs.lemmas.Bool.{both_ways, cases_Bool, cases_eq, cases_lt, eq-eqb, false_from_ne_true, lt-ltb, ne_eqb}
 use Rattle.std.proofs.lemmas.Nat.{div-mul-add, mod-mul-add}
 use Rattle.p3_util_kernels.specs.Digits.{sum_below}
 use Rattle.p3_util_kernels.specs.Least.{count_below}
@@ -110,3 +110,63 @@ pub count-off_diagonal : (side : ℕ) → count_below (side * side) (λ p. not (
 count-off_diagonal side =
     let diagonal = count-rows side side (λ r. r) (λ p. p / side == p % side) (λ r h. h) (λ r y h k. rw (div-mul-add r side y k, mod-mul-add r side y k) refl) in
     omega (arith, count-not (side * side) (λ p. p / side == p % side), diagonal, mul-pred side)
+
+-- the numbers below k
+count-below : (n k : ℕ) → k ≤ n → count_below n (λ x. nat_lt x k) ≡ k
+count-below zero k h = count-zero (λ x. nat_lt x k) ∙ omega arith
+count-below (suc n) k h =
+    elim (cases_lt n k) [
+      | inl all ↦
+          let every : count_below n (λ x. nat_lt x k) ≡ count_below n (λ x. true) = count-same n (λ x. nat_lt x k) (λ x. true) (λ x less. lt-ltb x k (omega arith)) in
+          omega (arith, count-suc n (λ x. nat_lt x k), ap one (lt-ltb n k all), every, count-all n)
+      | inr few ↦
+          let last : nat_lt n k ≡ false = false_from_ne_true (nat_lt n k) (λ e. omega (arith, few, ltb-true n k e)) in
+          omega (arith, count-suc n (λ x. nat_lt x k), ap one last, count-below n k few)
+    ]
+
+-- A matrix of which row r passes at its first `first r` columns. `all r` tells how many places before row r pass, but for a
+-- number that stands for none.
+pub count-first : (side rows : ℕ) (first all : ℕ → ℕ) → ((r : ℕ) → r < rows → (first r ≤ side) × (all (suc r) ≡ all r + first r))
+    → count_below (rows * side) (λ i. nat_lt (i % side) (first (i / side))) + all 0 ≡ all rows
+count-first side zero first all next = let e : zero * side ≡ 0 = omega arith in rw e (omega (arith, count-zero (λ i. nat_lt (i % side) (first (i / side)))))
+count-first side (suc r) first all next =
+    let t : ℕ → Bool = λ i. nat_lt (i % side) (first (i / side)) in
+    let e : suc r * side ≡ r * side + side = omega arith in
+    let last = next r (omega arith) in
+    let row : count_below side (λ x. t (r * side + x)) ≡ count_below side (λ x. nat_lt x (first r)) =
+    count-same side (λ x. t (r * side + x)) (λ x. nat_lt x (first r)) (λ x h. rw (div-mul-add r side x h, mod-mul-add r side x h) refl) in
+    rw e
+    (omega (
+      arith,
+      count-add (r * side) side t,
+      count-first side r first all (λ q less. next q (omega arith)),
+      row,
+      count-below side (first r) last.0,
+      last.1,
+    ))
+
+-- one test for all
+count-constant : (n : ℕ) (b : Bool) → count_below n (λ i. b) ≡ n * one b
+count-constant n true = omega (arith, count-all n)
+count-constant n false = omega (arith, count-none n (λ i. false) (λ i less e. both_ways false refl e))
+
+-- each number so often
+pub count-times : (n often : ℕ) (t : ℕ → Bool) → count_below (n * often) (λ i. t (i / often)) ≡ often * count_below n t
+count-times zero often t = let e : zero * often ≡ 0 = omega arith in rw e (count-zero (λ i. t (i / often)) ∙ omega (arith, ap (λ c. often * c) (count-zero t)))
+count-times (suc n) often t =
+    let e : suc n * often ≡ n * often + often = omega arith in
+    let same : count_below often (λ i. t ((n * often + i) / often)) ≡ count_below often (λ i. t n) =
+    count-same often (λ i. t ((n * often + i) / often)) (λ i. t n) (λ i h. rw (div-mul-add n often i h) refl) in
+    rw e
+    (omega (
+      arith,
+      count-add (n * often) often (λ i. t (i / often)),
+      count-times n often t,
+      same,
+      count-constant often (t n),
+      ap (λ c. often * c) (count-suc n t),
+    ))
+
+-- an even number and the next one for each number
+pub count-twice : (n : ℕ) (t : ℕ → Bool) → count_below (2 * n) (λ k. t (k / 2)) ≡ 2 * count_below n t
+count-twice n t = ap (λ m. count_below m (λ k. t (k / 2))) (omega arith) ∙ count-times n 2 t

@@ -38,7 +38,7 @@ module _ (half c : ℕ) (within : half ≤ c) where
   middle-lt line h = div_below line (2 ^ half) (2 ^ (c - half)) (pow_pos half) (rw (row_length c half within) h)
 
   -- two rows that are one have the same parts
-  row-same : (middle x y middle' x' y' : ℕ) → middle < 2 ^ (c - half) → x < 2 ^ half → y < 2 ^ half → middle' < 2 ^ (c - half) → x' < 2 ^ half → y' < 2 ^ half
+  pub row-same : (middle x y middle' x' y' : ℕ) → middle < 2 ^ (c - half) → x < 2 ^ half → y < 2 ^ half → middle' < 2 ^ (c - half) → x' < 2 ^ half → y' < 2 ^ half
       → row_of half c middle x y ≡ row_of half c middle' x' y' → (middle ≡ middle') × (x ≡ x') × (y ≡ y')
   row-same middle x y middle' x' y' hm hx hy hm' hx' hy' e =
       let outer = same_from_place (rev half x) (middle * 2 ^ half + y) (rev half x') (middle' * 2 ^ half + y') (2 ^ c) (in_row c half within middle y hm hy) (in_row c half within middle' y' hm' hy') e in

@@ -1,26 +1,32 @@
 -- The cut of a length into parts.
-use Rattle.std.proofs.Common.{◌≡◌, ℕ, ◌+◌, ◌-◌, ◌*◌, ◌/◌, ◌%◌, ◌^◌, ◌<◌, ◌≤◌, false, min, max, nat_le, refl, ap, ◌∙◌, inl, inr, arith}
+use Rattle.std.proofs.Common.{◌≡◌, ℕ, suc, ◌+◌, ◌-◌, ◌*◌, ◌/◌, ◌%◌, ◌^◌, ◌<◌, ◌≤◌, false, min, max, nat_le, refl, ap, ◌∙◌, inl, inr, arith}
 use Rattle.std.specs.Int.{div_ceil}
 use Rattle.std.proofs.lemmas.Bool.{cases_lt, false_from_ne_true, le-leb, leb-true}
 use Rattle.std.proofs.lemmas.Grind.{div_ceil_times}
 use Rattle.std.proofs.lemmas.Nat.{div-add-mod', mod_below}
-use Rattle.std.proofs.Math.Nat.{lt_of_mul-lt-mul_right, mod-eq_of_lt, mod-eq-sub-mod, mul-le-mul, mul-le-mul_right, mul-mod_left, pos_of_ne-zero}
+use Rattle.std.proofs.Math.Nat.{lt_of_mul-lt-mul_right, mod-eq_of_lt, mod-eq-sub-mod, mul-le-mul, mul-le-mul_left, mul-le-mul_right, mul-mod_left, pos_of_ne-zero}
 use Rattle.p3_util_kernels.specs.Parts.{number_of_pair, pairs_of, parts_in, start_of}
+
+-- a part begins below the length, and there are no more parts than numbers
+pub start-below : (len step : ℕ) → 0 < step → (k : ℕ) → k < parts_in len step → k * step < len
+start-below len step some k below =
+    let next : suc k * step ≤ parts_in len step * step = mul-le-mul_right step below in
+    omega (arith, (div_ceil_times len step some).1, next)
+
+pub parts-within : (len step : ℕ) → 0 < step → parts_in len step ≤ len
+parts-within len step some =
+    let whole : len / step * step + len % step ≡ len = div-add-mod' len step in
+    let each : len / step * 1 ≤ len / step * step = mul-le-mul_left (len / step) some in
+    omega arith
 
 module _ (len unit units step : ℕ) (some : 0 < unit) (most : 0 < units) (fits : len < 2 ^ 64) (step_is : step ≡ min (units * unit) (2 ^ 64 - 1)) where
   step-some : 0 < step
   step-some = let positive : 1 * 1 ≤ units * unit = mul-le-mul most some in omega (arith, positive)
 
-  -- a part begins below the length
-  start-below : (k : ℕ) → k < parts_in len step → k * step < len
-  start-below k below =
-      let next : (k + 1) * step ≤ parts_in len step * step = mul-le-mul_right step (omega arith) in
-      omega (arith, (div_ceil_times len step step-some).1, next)
-
   -- parts of a length whose step is a multiple of `unit`, or no less than the length, begin at multiples of `unit`
   pub start-aligned : (k : ℕ) → k < parts_in len step → start_of len step k % unit ≡ 0
   start-aligned k below =
-      let inside : k * step < len = start-below k below in
+      let inside : k * step < len = start-below len step step-some k below in
       elim (cases_lt (units * unit) (2 ^ 64)) [
         | inl small ↦
             let whole : step ≡ units * unit = omega arith in

@@ -4,7 +4,7 @@ use Rattle.std.proofs.lemmas.Nat.{div_below, div-add-mod', mod_below, mul-add-lt
 use Rattle.std.proofs.Math.Nat.{pos_of_ne-zero}
 use Rattle.p3_util_kernels.specs.declared.transpose.regions.Region.{Region}
 use Rattle.p3_util_kernels.specs.Least.{places_put}
-use Rattle.p3_util_kernels.specs.PartSteps.{IsPlaceOfRegion, NoItemInCommon, NoPlaceInCommon, PutsStayAmong}
+use Rattle.p3_util_kernels.specs.PartSteps.{IsPlaceOfRegion, NoItemInCommon, NoPlaceInCommon, PutsStay}
 use Rattle.p3_util_kernels.specs.Region.{IsInRegion, IsRegionTransposed, LiesInMatrix, cols_of, items_of, rows_of}
 use Rattle.p3_util_kernels.proofs.Counts.{count-all}
 use Rattle.p3_util_kernels.proofs.Written.{AreOnceAmong-weaker, puts-places, puts-written, written-at}
@@ -38,7 +38,7 @@ module _ (region : Region) (width height : ℕ) (inside : LiesInMatrix region wi
       sym (div-add-mod' i rows) ∙ rw (high, low) (div-add-mod' j rows)
 
   pub region-stays : {A : Type 0} (input old new : List A) → length input ≡ width * height → length old ≡ width * height
-      → IsRegionTransposed region width height input old new → NoItemInCommon input old → PutsStayAmong (IsPlaceOfRegion region height) (items_of region) old new
+      → IsRegionTransposed region width height input old new → NoItemInCommon input old → PutsStay (IsPlaceOfRegion region height) (items_of region) old new
   region-stays input old new input_fits old_fits put strange steps many leads =
       let changed : (i : ℕ) → i < items_of region → true ≡ true → slice_get old (place i) ≢ slice_get new (place i) =
       λ i less t e.

@@ -1,17 +1,34 @@
 -- Steps that lead from one list to another, and the places that they are at, for the contracts of `src/laws/parts.rt`. The
 -- lemmas are those by which a holder says that such steps exist.
-use Rattle.std.proofs.Common.{◌≡◌, ◌≢◌, ℕ, ◌+◌, ◌*◌, ◌<◌, List, [], ◌∷◌, ◌++◌, length, slice_get, slice_set, length-append, refl, sym, ◌∙◌, ap, arith}
+use Rattle.std.proofs.Common.{◌≡◌, ◌≢◌, ℕ, ◌+◌, ◌*◌, ◌^◌, ◌<◌, min, max, List, [], ◌∷◌, ◌++◌, length, slice_get, slice_set, length-append, refl, sym, ◌∙◌, ap, arith}
+use Rattle.std.specs.Prelude.{swap}
 use Rattle.p3_util_kernels.specs.declared.transpose.regions.Region.{Region}
-use Rattle.p3_util_kernels.specs.Least.{AreOnceAmong, after_puts, places_put}
+use Rattle.p3_util_kernels.specs.Blocks.{IsBlock}
+use Rattle.p3_util_kernels.specs.Crossing.{IsRowItem, row_of}
+use Rattle.p3_util_kernels.specs.Least.{AreOnceAmong, after_puts, after_swaps, places_put, places_swapped}
 use Rattle.p3_util_kernels.specs.Region.{IsInRegion}
 
--- n writes lead from the one list to the other
-abbrev pub PutsLead : {A : Type 0} → ℕ → List A → List A → Type 0
-PutsLead {A} n old new = (steps : List (ℕ × A)) × (length steps ≡ n) × (after_puts old steps ≡ new)
+-- n steps lead from the one list to the other, where `after xs steps` is the list xs after the steps
+abbrev pub StepsLead : {A S : Type 0} → (List A → List S → List A) → ℕ → List A → List A → Type 0
+StepsLead {A} {S} after n old new = (steps : List S) × (length steps ≡ n) × (after old steps ≡ new)
 
--- wherever n writes lead from the one list to the other, they are at n different places that have the property
-abbrev pub PutsStayAmong : {A : Type 0} → (ℕ → Type 0) → ℕ → List A → List A → Type 0
-PutsStayAmong {A} among n old new = (steps : List (ℕ × A)) → length steps ≡ n → after_puts old steps ≡ new → AreOnceAmong among (places_put steps)
+-- wherever n steps lead from the one list to the other, the places of the steps have the property, and they all differ
+abbrev pub StepsStay : {A S : Type 0} → (List A → List S → List A) → (List S → List ℕ) → (ℕ → Type 0) → ℕ → List A → List A → Type 0
+StepsStay {A} {S} after places among n old new = (steps : List S) → length steps ≡ n → after old steps ≡ new → AreOnceAmong among (places steps)
+
+-- writes
+abbrev pub PutsLead : {A : Type 0} → ℕ → List A → List A → Type 0
+PutsLead = StepsLead after_puts
+
+abbrev pub PutsStay : {A : Type 0} → (ℕ → Type 0) → ℕ → List A → List A → Type 0
+PutsStay = StepsStay after_puts places_put
+
+-- exchanges
+abbrev pub SwapsLead : {A : Type 0} → ℕ → List A → List A → Type 0
+SwapsLead = StepsLead after_swaps
+
+abbrev pub SwapsStay : {A : Type 0} → (ℕ → Type 0) → ℕ → List A → List A → Type 0
+SwapsStay = StepsStay after_swaps places_swapped
 
 -- no place has both properties
 abbrev pub NoPlaceInCommon : (ℕ → Type 0) → (ℕ → Type 0) → Type 0
@@ -24,6 +41,26 @@ NoItemInCommon xs ys = (i j : ℕ) → i < length xs → j < length ys → slice
 -- where the items of a region are in the transpose of a matrix of `height` rows
 abbrev pub IsPlaceOfRegion : (region : Region) (height p : ℕ) → Type 0
 IsPlaceOfRegion region height p = (x y : ℕ) × IsInRegion region x y × (p ≡ x * height + y)
+
+-- the places of a region above the diagonal of a square, or on it, and their mirror images, as in `SwapsAcross`
+abbrev pub IsPlaceAcross : (base stride : ℕ) (region : Region) (p : ℕ) → Type 0
+IsPlaceAcross base stride region p =
+    (a b : ℕ) × ((a < stride) × (b < stride)) × IsInRegion region (max a b) (min a b) × (p ≡ base + a * stride + b)
+
+-- those of a block of squares side by side
+abbrev pub IsPlaceOfBlock : (side stride step number p : ℕ) → Type 0
+IsPlaceOfBlock side stride step number p =
+    (base : ℕ) × (region : Region) × IsBlock side stride step number base region × IsPlaceAcross base stride region p
+
+-- the places of pairs of rows, as in `IsCrossed`
+abbrev pub IsPlaceOfRows : (half c row_width : ℕ) (pairs : Region) (p : ℕ) → Type 0
+IsPlaceOfRows half c row_width pairs p =
+    (m t x y : ℕ) × IsRowItem half c row_width m t x y × IsInRegion pairs (m * 2 ^ half + max x y) (min x y) × (p ≡ row_of half c m x y * row_width + t)
+
+more_steps : {A S : Type 0} (after : List A → List S → List A) → ((xs : List A) (s t : List S) → after xs (s ++ t) ≡ after (after xs s) t)
+    → (m n all : ℕ) (a b c : List A) → StepsLead after m a b → StepsLead after n b c → m + n ≡ all → StepsLead after all a c
+more_steps after append m n all a b c (s, sn, sb) (t, tn, tc) sum =
+    (s ++ t, length-append s t ∙ omega (arith, sn, tn, sum), append a s t ∙ ap (λ xs. after xs t) sb ∙ tc)
 
 pub no_puts : {A : Type 0} (xs : List A) → PutsLead 0 xs xs
 unfolding after_puts
@@ -39,5 +76,20 @@ puts-append xs [] t = refl
 puts-append xs (put ∷ s) t = puts-append (slice_set xs put.0 put.1) s t
 
 pub more_puts : {A : Type 0} (m n all : ℕ) (a b c : List A) → PutsLead m a b → PutsLead n b c → m + n ≡ all → PutsLead all a c
-more_puts m n all a b c (s, sn, sb) (t, tn, tc) sum =
-    (s ++ t, length-append s t ∙ omega (arith, sn, tn, sum), puts-append a s t ∙ ap (λ xs. after_puts xs t) sb ∙ tc)
+more_puts = more_steps after_puts puts-append
+
+pub no_swaps : {A : Type 0} (xs : List A) → SwapsLead 0 xs xs
+unfolding after_swaps
+no_swaps xs = ([], refl, refl)
+
+pub one_swap : {A : Type 0} (xs ys : List A) (i j : ℕ) → ys ≡ swap xs i j → SwapsLead 1 xs ys
+unfolding after_swaps
+one_swap xs ys i j swapped = ((i, j) ∷ [], refl, sym swapped)
+
+swaps-append : {A : Type 0} (xs : List A) (s t : List (ℕ × ℕ)) → after_swaps xs (s ++ t) ≡ after_swaps (after_swaps xs s) t
+unfolding after_swaps
+swaps-append xs [] t = refl
+swaps-append xs (pair ∷ s) t = swaps-append (swap xs pair.0 pair.1) s t
+
+pub more_swaps : {A : Type 0} (m n all : ℕ) (a b c : List A) → SwapsLead m a b → SwapsLead n b c → m + n ≡ all → SwapsLead all a c
+more_swaps = more_steps after_swaps swaps-append

@@ -1,7 +1,12 @@
 //! The cut of a length into parts, by which calls are given to several threads.
 
-ghost use Rattle.std.specs.Prelude.{◌≡◌, ℕ, ◌+◌, ◌*◌, ◌%◌, ◌^◌, ◌<◌, ◌≤◌, max};
+ghost use Rattle.std.specs.Prelude.{length, ◌≡◌, ℕ, ◌+◌, ◌*◌, ◌%◌, ◌^◌, ◌<◌, ◌≤◌, max};
+ghost use Rattle.p3_util_kernels.specs.Blocks.{IsBlock, blocks_of, swaps_of_block};
+ghost use Rattle.p3_util_kernels.specs.Diagonal.{SwapsAcross};
 ghost use Rattle.p3_util_kernels.specs.Parts.{FollowEachOther, number_of_pair, pairs_of, parts_in, start_of};
+
+use crate::places::Places;
+use crate::transpose::{Region, Square, exchange_region, transpose_diagonal};
 
 /// The numbers below `len`, cut into parts of `step` neighbouring ones. The last part may have fewer.
 #[derive(Clone, Copy, Debug)]
@@ -65,5 +70,74 @@ impl Cut {
         let (distance, start) = (number / count, number % count);
         let end = (start + distance) % count;
         (start.min(end), start.max(end))
+    }
+}
+
+/// Squares that lie side by side in rows of `stride` items. The rows and the columns of each are cut alike, into blocks.
+#[derive(Clone, Copy, Debug)]
+pub(crate) struct Squares {
+    pub stride: usize,
+    pub cut: Cut,
+    pub ghost some: { 0 < cut.len },
+    pub ghost few: { cut.len < 2 ^ 32 },
+    pub ghost fits: { cut.len * stride < 2 ^ 64 },
+}
+
+impl Squares {
+    /// The squares whose sides are cut by `cut`.
+    pub(crate) fn new(stride: usize, cut: Cut) -> Squares
+        requires some { 0 < cut.len }
+        requires few { cut.len < 2 ^ 32 }
+        requires fits { cut.len * stride < 2 ^ 64 }
+        ensures stride { result.stride ≡ stride }
+        ensures cut { result.cut ≡ cut }
+    {
+        Squares { stride, cut }
+    }
+
+    /// The number of blocks on the diagonals and above them.
+    pub(crate) fn count(self) -> usize
+        ensures { result ≡ blocks_of self.cut.len self.stride self.cut.step }
+    {
+        self.stride / self.cut.len * self.cut.pairs()
+    }
+
+    /// Block `number`: its square, and its rows and columns in there.
+    pub(crate) fn block(self, number: usize) -> (Square, Region)
+        requires { number < blocks_of self.cut.len self.stride self.cut.step }
+        ensures stride { result.0.stride ≡ self.stride }
+        ensures block { IsBlock self.cut.len self.stride self.cut.step number result.0.base result.1 }
+    {
+        let pairs = self.cut.pairs();
+        let (first, second) = self.cut.pair(number % pairs);
+        let (row_start, row_end) = self.cut.part(first);
+        let (col_start, col_end) = self.cut.part(second);
+        let square = Square {
+            base: number / pairs * self.cut.len,
+            stride: self.stride,
+        };
+        let region = Region {
+            row_start,
+            row_end,
+            col_start,
+            col_end,
+        };
+        (square, region)
+    }
+
+    /// Exchanges block `number` with its mirror image: a block on the diagonal is transposed.
+    pub(crate) fn exchange<M: Places>(self, m: M, number: usize) -> M
+        requires below { number < blocks_of self.cut.len self.stride self.cut.step }
+        requires whole { length (M.items m) ≡ self.cut.len * self.stride }
+        ensures block { (base : ℕ) × (region : Region) × IsBlock self.cut.len self.stride self.cut.step number base region
+            × SwapsAcross base self.stride region (M.items m) (M.items result)
+            × M.same_holder (swaps_of_block region) m result }
+    {
+        let (square, region) = self.block(number);
+        if region.row_start == region.col_start {
+            transpose_diagonal(m, square, region.row_start, region.rows())
+        } else {
+            exchange_region(m, square, region)
+        }
     }
 }

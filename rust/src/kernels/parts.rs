@@ -1,5 +1,8 @@
 //! The cut of a length into parts, by which calls are given to several threads.
 
+use crate::kernels::places::Places;
+use crate::kernels::transpose::{Region, Square, exchange_region, transpose_diagonal};
+
 /// The numbers below `len`, cut into parts of `step` neighbouring ones. The last part may have fewer.
 #[derive(Clone, Copy, Debug)]
 pub(crate) struct Cut {
@@ -40,5 +43,53 @@ impl Cut {
         let (distance, start) = (number / count, number % count);
         let end = (start + distance) % count;
         (start.min(end), start.max(end))
+    }
+}
+
+/// Squares that lie side by side in rows of `stride` items. The rows and the columns of each are cut alike, into blocks.
+#[derive(Clone, Copy, Debug)]
+pub(crate) struct Squares {
+    pub stride: usize,
+    pub cut: Cut,
+}
+
+impl Squares {
+    /// The squares whose sides are cut by `cut`.
+    pub(crate) fn new(stride: usize, cut: Cut) -> Squares {
+        Squares { stride, cut }
+    }
+
+    /// The number of blocks on the diagonals and above them.
+    pub(crate) fn count(self) -> usize {
+        self.stride / self.cut.len * self.cut.pairs()
+    }
+
+    /// Block `number`: its square, and its rows and columns in there.
+    pub(crate) fn block(self, number: usize) -> (Square, Region) {
+        let pairs = self.cut.pairs();
+        let (first, second) = self.cut.pair(number % pairs);
+        let (row_start, row_end) = self.cut.part(first);
+        let (col_start, col_end) = self.cut.part(second);
+        let square = Square {
+            base: number / pairs * self.cut.len,
+            stride: self.stride,
+        };
+        let region = Region {
+            row_start,
+            row_end,
+            col_start,
+            col_end,
+        };
+        (square, region)
+    }
+
+    /// Exchanges block `number` with its mirror image: a block on the diagonal is transposed.
+    pub(crate) fn exchange<M: Places>(self, m: M, number: usize) -> M {
+        let (square, region) = self.block(number);
+        if region.row_start == region.col_start {
+            transpose_diagonal(m, square, region.row_start, region.rows())
+        } else {
+            exchange_region(m, square, region)
+        }
     }
 }

@@ -1,14 +1,20 @@
 //! What makes it safe to give the parts of a call to several threads: each function runs the kernel of a part over a holder by
 //! which its steps exist, and says at which places they are.
 
-ghost use Rattle.std.specs.Prelude.{◌≡◌, ◌⊎◌, ◌<◌, ◌≤◌, if◌then◌else◌};
-ghost use Rattle.p3_util_kernels.specs.PartSteps.{IsPlaceOfRegion, NoItemInCommon, NoPlaceInCommon, PutsLead, PutsStayAmong, more_puts, no_puts, one_put};
-ghost use Rattle.p3_util_kernels.specs.Least.{PutsAtChanged, SwapsAtChanged};
+ghost use Rattle.std.specs.Prelude.{◌≡◌, ◌≢◌, ℕ, ◌⊎◌, ◌+◌, ◌-◌, ◌*◌, ◌/◌, ◌^◌, ◌<◌, ◌≤◌, if◌then◌else◌, length};
+ghost use Rattle.p3_util_kernels.specs.Blocks.{IsBlock, blocks_of, swaps_of_block};
+ghost use Rattle.p3_util_kernels.specs.Crossing.{HoldsRows, line_pairs_of};
+ghost use Rattle.p3_util_kernels.specs.Least.{AllDiffer, PutsAtChanged, SwapsAtChanged};
+ghost use Rattle.p3_util_kernels.specs.PartSteps.{IsPlaceOfBlock, IsPlaceOfRegion, IsPlaceOfRows, NoItemInCommon, NoPlaceInCommon};
+ghost use Rattle.p3_util_kernels.specs.PartSteps.{PutsLead, PutsStay, more_puts, no_puts, one_put};
+ghost use Rattle.p3_util_kernels.specs.PartSteps.{SwapsLead, SwapsStay, more_swaps, no_swaps, one_swap};
 ghost use Rattle.p3_util_kernels.specs.Parts.{parts_in};
 ghost use Rattle.p3_util_kernels.specs.Region.{IsReady, LiesInMatrix, items_of};
+ghost use Rattle.p3_util_kernels.specs.SwapCounts.{line_swaps};
 
-use crate::parts::Cut;
-use crate::places::{Cells, Source};
+use crate::parts::{Cut, Squares};
+use crate::places::{Cells, Places, Source};
+use crate::reverse::{RowDigits, exchange_pairs};
 use crate::transpose::{Matrix, Region, put_split};
 
 /// A holder by which steps exist: `same_holder n a b` says that n puts lead from the items of `a` to those of `b`.
@@ -37,6 +43,32 @@ impl<C: Cells> Cells for PutSteps<C> {
     ghost same_holder_trans = { λ m n all a b c. more_puts m n all (C.items a.cells) (C.items b.cells) (C.items c.cells) };
 }
 
+/// A holder by which steps exist: `same_holder n a b` says that n exchanges lead from the items of `a` to those of `b`.
+#[derive(Drop)]
+struct SwapSteps<S> {
+    places: S,
+}
+
+impl<S: Places> Places for SwapSteps<S> {
+    type Item = S::Item;
+
+    ghost items = { λ h. S.items h.places };
+
+    ghost same_holder = { λ n a b. SwapsLead n (S.items a.places) (S.items b.places) };
+
+    fn len(&self) -> usize {
+        self.places.len()
+    }
+
+    fn exchange(&mut self, i: usize, j: usize) {
+        self.places.exchange(i, j);
+    }
+
+    ghost same_holder_refl = { λ a. no_swaps (S.items a.places) };
+
+    ghost same_holder_trans = { λ m n all a b c. more_swaps m n all (S.items a.places) (S.items b.places) (S.items c.places) };
+}
+
 /// Where as many places changed as there were writes, each of these places was written once, and no other was.
 pub(crate) fn changed_places<T>()
     ensures swaps { SwapsAtChanged T }
@@ -53,7 +85,7 @@ pub(crate) fn put_region<C: Cells, R: Source<Item = C::Item> + Copy>(
     requires ready { IsReady region matrix.width matrix.height (R.items matrix.source) (C.items out) }
     ensures steps { PutsLead (items_of region) (C.items out) (C.items result) }
     ensures stay { NoItemInCommon (R.items matrix.source) (C.items out)
-        → PutsStayAmong (IsPlaceOfRegion region matrix.height) (items_of region) (C.items out) (C.items result) }
+        → PutsStay (IsPlaceOfRegion region matrix.height) (items_of region) (C.items out) (C.items result) }
 {
     let (done, _) = put_split(PutSteps { cells: out }, matrix, region, 64);
     done.cells
@@ -98,4 +130,55 @@ pub(crate) fn parts_of_matrix(
     };
     regions_apart(first, second, width, height);
     (first, second)
+}
+
+/// A block of squares side by side is exchanged with its mirror image by so many exchanges, and where all items of the list
+/// differ, each exchange is of two other places of the block and its mirror image.
+pub(crate) fn exchange_block<S: Places>(places: S, squares: Squares, number: usize) -> S
+    requires below { number < blocks_of squares.cut.len squares.stride squares.cut.step }
+    requires whole { length (S.items places) ≡ squares.cut.len * squares.stride }
+    ensures block { (base : ℕ) × (region : Region) × IsBlock squares.cut.len squares.stride squares.cut.step number base region
+        × SwapsLead (swaps_of_block region) (S.items places) (S.items result)
+        × (AllDiffer (S.items places) → SwapsStay (IsPlaceOfBlock squares.cut.len squares.stride squares.cut.step number)
+        (swaps_of_block region) (S.items places) (S.items result)) }
+{
+    squares.exchange(SwapSteps { places }, number).places
+}
+
+/// Two blocks of squares side by side have no place in common.
+pub(crate) fn blocks_apart(squares: Squares, first: usize, second: usize)
+    requires { first ≢ second }
+    ensures { NoPlaceInCommon (IsPlaceOfBlock squares.cut.len squares.stride squares.cut.step first)
+        (IsPlaceOfBlock squares.cut.len squares.stride squares.cut.step second) }
+{}
+
+/// The pairs of rows of a range of line pairs are exchanged by as many exchanges as they have items in one of their rows, and
+/// where all items of the list differ, each exchange is of two other places of these rows.
+pub(crate) fn exchange_range<S: Places>(places: S, rows: RowDigits, from: usize, to: usize) -> S
+    requires in_order { from ≤ to }
+    requires within { to ≤ line_pairs_of rows.digits }
+    requires ready { from < to → HoldsRows rows.width rows.digits (S.items places) }
+    ensures steps { SwapsLead (rows.width * (line_swaps rows.digits to - line_swaps rows.digits from)) (S.items places) (S.items result) }
+    ensures stay { AllDiffer (S.items places) → let half = rows.digits / 2 in SwapsStay (IsPlaceOfRows half (rows.digits - half) rows.width
+        (record { row_start = 0; row_end = 2 ^ half; col_start = from * 2; col_end = to * 2 }))
+        (rows.width * (line_swaps rows.digits to - line_swaps rows.digits from)) (S.items places) (S.items result) }
+{
+    exchange_pairs(SwapSteps { places }, rows, from, to).places
+}
+
+/// Two ranges of line pairs that are parts of one cut have no place in common.
+pub(crate) fn ranges_apart(
+    rows: RowDigits,
+    cut: Cut,
+    parts: (usize, usize),
+) -> ((usize, usize), (usize, usize))
+    requires in_order { parts.0 < parts.1 }
+    requires below { parts.1 < parts_in cut.len cut.step }
+    ensures apart { let half = rows.digits / 2 in NoPlaceInCommon
+        (IsPlaceOfRows half (rows.digits - half) rows.width
+        (record { row_start = 0; row_end = 2 ^ half; col_start = result.0.0 * 2; col_end = result.0.1 * 2 }))
+        (IsPlaceOfRows half (rows.digits - half) rows.width
+        (record { row_start = 0; row_end = 2 ^ half; col_start = result.1.0 * 2; col_end = result.1.1 * 2 })) }
+{
+    (cut.part(parts.0), cut.part(parts.1))
 }

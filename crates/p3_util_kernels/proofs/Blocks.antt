@@ -1,0 +1,115 @@
+-- Blocks of squares side by side: what the kernels of blocks ask of them, and that two of them have no place in common.
+use Rattle.std.proofs.Common.{◌≡◌, ◌≢◌, ℕ, zero, suc, ◌+◌, ◌*◌, ◌/◌, ◌%◌, ◌^◌, ◌<◌, ◌≤◌, List, length, max, min, refl, sym, ◌∙◌, ap, inl, inr, arith}
+use Rattle.std.proofs.lemmas.Bool.{cases_lt}
+use Rattle.std.proofs.lemmas.Nat.{div_below, div-add-mod', same_from_place}
+use Rattle.std.proofs.Math.Nat.{div-mul-le_self, mul-le-mul, mul-le-mul_left, mul-le-mul_right, pos_of_ne-zero}
+use Rattle.p3_util_kernels.specs.declared.transpose.regions.Region.{Region}
+use Rattle.p3_util_kernels.specs.Blocks.{IsBlock, blocks_of}
+use Rattle.p3_util_kernels.specs.Diagonal.{HoldsSquare}
+use Rattle.p3_util_kernels.specs.PartSteps.{IsPlaceOfBlock, NoPlaceInCommon}
+use Rattle.p3_util_kernels.specs.Parts.{number_of_pair, pairs_of, parts_in, start_of}
+use Rattle.p3_util_kernels.proofs.CutParts.{parts-within, start-below}
+
+-- a square lies in the rows
+pub square-inside : (number pairs side stride : ℕ) → number < stride / side * pairs → number / pairs * side + side ≤ stride
+square-inside number pairs side stride below =
+    let some : 0 < pairs = pos_of_ne-zero (λ none. omega (arith, below, ap (λ n. stride / side * n) none)) in
+    let less : number / pairs < stride / side = div_below number pairs (stride / side) some below in
+    let rows : suc (number / pairs) * side ≤ stride / side * side = mul-le-mul_right side less in
+    omega (arith, rows, div-mul-le_self stride side)
+
+square-large : (n : ℕ) → n ≤ n * n
+square-large zero = omega arith
+square-large (suc n) = omega arith
+
+-- there are no more blocks than items
+pub blocks-few : (side stride step : ℕ) → 0 < step → blocks_of side stride step ≤ side * stride
+blocks-few side stride step some =
+    let n : ℕ = parts_in side step in
+    let parts : n ≤ side = parts-within side step some in
+    let pairs : n * n ≤ side * side = mul-le-mul parts parts in
+    let triangle : pairs_of n ≤ side * side = omega (arith, pairs, square-large n) in
+    let blocks : stride / side * pairs_of n ≤ stride / side * (side * side) = mul-le-mul_left (stride / side) triangle in
+    let rows : stride / side * side * side ≤ stride * side = mul-le-mul_right side (div-mul-le_self stride side) in
+    omega (arith, blocks, rows)
+
+pub block-is : (side stride step number pairs first last : ℕ) (region : Region) → pairs ≡ pairs_of (parts_in side step) → number < stride / side * pairs → first ≤ last
+    → last < parts_in side step → number_of_pair (parts_in side step) first last ≡ number % pairs
+    → region ≡ record { row_start = start_of side step first; row_end = start_of side step (first + 1); col_start = start_of side step last; col_end = start_of side step (last + 1) }
+    → IsBlock side stride step number (number / pairs * side) region
+block-is side stride step number pairs first last region pairs_are below in_order last_below pair region_is = record {
+  square = number / pairs;
+  row = first;
+  col = last;
+  in_order = in_order;
+  below = last_below;
+  number_is = rw (pair, ← pairs_are) (sym (div-add-mod' number pairs));
+  base_is = refl;
+  inside = square-inside number pairs side stride below;
+  region_is = region_is;
+}
+
+-- where a part begins, it is before the one that follows begins
+pub start-rising : (len step k l : ℕ) → k < l → start_of len step (k + 1) ≤ start_of len step l
+start-rising len step k l less = let rows : suc k * step ≤ l * step = mul-le-mul_right step less in omega (arith, rows)
+
+-- what the kernels of a block ask of it
+module _ (side stride step number base : ℕ) (region : Region) (some : 0 < step) (block : IsBlock side stride step number base region) where
+  pub block-rows : (region.row_start < region.row_end) × (region.row_end ≤ side)
+  block-rows =
+      let start = start-below side step some block.row (omega (arith, block.in_order, block.below)) in
+      rw block.region_is (omega (arith, start), omega arith)
+
+  pub block-cols : (region.col_start < region.col_end) × (region.col_end ≤ side)
+  block-cols =
+      let start = start-below side step some block.col block.below in
+      rw block.region_is (omega (arith, start), omega arith)
+
+  pub block-diagonal : region.row_start ≡ region.col_start → region.row_end ≡ region.col_end
+  block-diagonal same =
+      elim (cases_lt block.row block.col) [
+        | inl above ↦
+            let before : region.row_end ≤ region.col_start = rw block.region_is (start-rising side step block.row block.col above) in
+            absurd (omega (arith, block-rows, same, before))
+        | inr here ↦ let one : block.row ≡ block.col = omega (arith, block.in_order, here) in rw (block.region_is, one) refl
+      ]
+
+  pub block-above : region.row_start ≢ region.col_start → region.row_end ≤ region.col_start
+  block-above other =
+      elim (cases_lt block.row block.col) [
+        | inl above ↦ rw block.region_is (start-rising side step block.row block.col above)
+        | inr here ↦ let one : block.row ≡ block.col = omega (arith, block.in_order, here) in absurd (other (rw (block.region_is, one) refl))
+      ]
+
+  pub block-ready : {A : Type 0} (items : List A) (last : ℕ) → length items ≡ side * stride → side * stride < 2 ^ 64 → last < side → HoldsSquare base stride last items
+  block-ready items last whole fits below =
+      let rows : suc last * stride ≤ side * stride = mul-le-mul_right stride below in
+      record { room = omega (arith, rows, block.inside, whole); length_fits = omega (arith, whole, fits) }
+
+-- one number is in one part alone
+pub part-same : (len step k l v : ℕ) → start_of len step k ≤ v → v < start_of len step (k + 1) → start_of len step l ≤ v → v < start_of len step (l + 1) → k ≡ l
+part-same len step k l v k_from k_to l_from l_to =
+    elim (cases_lt k l) [
+      | inl before ↦ absurd (omega (arith, start-rising len step k l before, k_to, l_from))
+      | inr from ↦ elim (cases_lt l k) [
+        | inl after ↦ absurd (omega (arith, start-rising len step l k after, l_to, k_from))
+        | inr to ↦ omega (arith, from, to)
+      ]
+    ]
+
+-- a place is in one block alone
+pub blocks-apart : (side stride step first second : ℕ) → 0 < step → first ≢ second
+    → NoPlaceInCommon (IsPlaceOfBlock side stride step first) (IsPlaceOfBlock side stride step second)
+blocks-apart side stride step first second some other p (base, region, block, (a, b, within, at, e)) (base', region', block', (a', b', within', at', e')) =
+    let cols = block-cols side stride step first base region some block in
+    let cols' = block-cols side stride step second base' region' some block' in
+    let same = same_from_place a (base + b) a' (base' + b') stride (omega (arith, at.col_to, cols, block.inside)) (omega (arith, at'.col_to, cols', block'.inside)) (omega (arith, e, e')) in
+    let squares = same_from_place block.square b block'.square b' side (omega (arith, at.col_to, cols)) (omega (arith, at'.col_to, cols'))
+    (omega (arith, same.1, block.base_is, block'.base_is)) in
+    let here = rw block.region_is at at in
+    let there = rw block'.region_is at at' in
+    let greater : max a' b' ≡ max a b = omega (arith, same.0, squares.1) in
+    let smaller : min a' b' ≡ min a b = omega (arith, same.0, squares.1) in
+    let row : block.row ≡ block'.row = part-same side step block.row block'.row (min a b) here.row_from here.row_to (omega (arith, there.row_from, smaller)) (omega (arith, there.row_to, smaller)) in
+    let col : block.col ≡ block'.col = part-same side step block.col block'.col (max a b) here.col_from here.col_to (omega (arith, there.col_from, greater)) (omega (arith, there.col_to, greater)) in
+    other (block.number_is ∙ rw (squares.0, row, col) (sym block'.number_is))
