@@ -77,7 +77,7 @@ def check_clauses():
         named = {label for brackets in re.findall(r"\((`[a-z_`, ]+`)\)", row.group()) for label in re.findall(r"\w+", brackets)}
         calls = re.findall(r"(?<=`)(?:\w+::)?([a-z_]\w*)(?=`)", re.sub(r"\([^)]*\)", "", row.group(2)))
         heads = {call: [head for text in sources.values() for head in re.findall(
-            rf"^ *(?:pub )?(?:const )?fn {call}\b(.*?)(?:\n *\{{|;$)", text, re.M | re.S)] for call in calls if named}
+            rf"^ *(?:pub(?:\(crate\))? )?(?:const )?fn {call}\b(.*?)(?:\n *\{{|;$)", text, re.M | re.S)] for call in calls if named}
         for call in (call for call, found in heads.items() if not found):
             report(page, row.start(), f"no source has a call {call}")
         for label in sorted(named):

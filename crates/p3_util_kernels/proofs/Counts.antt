@@ -124,8 +124,7 @@ count-below (suc n) k h =
           omega (arith, count-suc n (λ x. nat_lt x k), ap one last, count-below n k few)
     ]
 
--- A matrix of which row r passes at its first `first r` columns. `all r` tells how many places before row r pass, but for a
--- number that stands for none.
+-- a matrix of which row r passes at its first `first r` columns, where `all` grows by so many at r
 pub count-first : (side rows : ℕ) (first all : ℕ → ℕ) → ((r : ℕ) → r < rows → (first r ≤ side) × (all (suc r) ≡ all r + first r))
     → count_below (rows * side) (λ i. nat_lt (i % side) (first (i / side))) + all 0 ≡ all rows
 count-first side zero first all next = let e : zero * side ≡ 0 = omega arith in rw e (omega (arith, count-zero (λ i. nat_lt (i % side) (first (i / side)))))
