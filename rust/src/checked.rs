@@ -1,8 +1,10 @@
-//! What stands in the place of a list that parts have in common where the feature `checked` is on: each part has a run of its own.
+//! The holders of slices where the feature `checked` is on. They test each index, and in the place of a list that parts have in
+//! common, each part has a run of its own.
 
 use core::mem::take;
 
 use crate::kernels::places::{Cells, Places};
+pub(crate) use crate::kernels::places::{SliceCells, SlicePlaces, SliceSource};
 
 /// A run of places of a list, which begins at place `before` of it. The places have the list's numbers.
 pub(crate) struct PartItems<'a, T> {

@@ -6,9 +6,11 @@
 //! in their place.
 //!
 //! Parts of a call have one list at once. The holder of a part is a pointer and a length, and makes references to one place or
-//! one run at a time, never to the whole list. No place is stepped on by two parts of a phase. This follows from what is proved
-//! in `crates/p3_util_kernels/src/laws/parts.rt`, with one step that is said and not proved: a kernel is generic in items and
-//! holder, and asks nothing of an item, so where it steps depends on the shape alone.
+//! one run at a time, never to the whole list. A part's kernel makes an exact number of steps, and it is proved
+//! (`crates/p3_util_kernels/src/laws/parts.rt`) that over items that all differ each of them is at another place of the part,
+//! and that two parts of a phase have no place in common. A kernel is generic in its items and in its holder, and calls no
+//! `clone`, `size_of`, `type_name` or `needs_drop`, so where it steps depends on the shape alone, and what holds of one list and
+//! one holder holds of all. This last step is said and not proved. A script looks for these words in the kernels' sources.
 
 use core::ops::Range;
 
@@ -17,9 +19,7 @@ use crate::kernels::transpose::{Matrix, fits_matrix, transpose_matrix};
 use crate::phases::{Phase, Phases, Regions};
 
 #[cfg(feature = "checked")]
-use crate::checked::PartItems;
-#[cfg(feature = "checked")]
-use crate::kernels::places::{SliceCells, SlicePlaces, SliceSource};
+use crate::checked::{PartItems, SliceCells, SlicePlaces, SliceSource};
 #[cfg(not(feature = "checked"))]
 use slices::{SliceItems as PartItems, SliceItems as SliceCells, SliceItems as SlicePlaces, SliceSource};
 

@@ -151,13 +151,12 @@ fn blocks_of_squares() {
     {
         let stride = side * count;
         let phase = Phases { row_width: 1, parts }.squares(side, stride);
-        let Phase::Squares(squares) = phase else { unreachable!() };
+        let cut = Cut::new(side, parts, UNIT);
         let wanted = |number: usize, place: usize| {
             let (square, row, col) = (place % stride / side, place / stride, place % side);
-            let (first, second) = squares.cut.pair(number % squares.cut.pairs());
-            let is_in = |part, i| (squares.cut.part(part).0..squares.cut.part(part).1).contains(&i);
-            let is_inside =
-                is_in(first, row.min(col)) && is_in(second, row.max(col)) && number / squares.cut.pairs() == square;
+            let (first, second) = cut.pair(number % cut.pairs());
+            let is_in = |part, i| (cut.part(part).0..cut.part(part).1).contains(&i);
+            let is_inside = is_in(first, row.min(col)) && is_in(second, row.max(col)) && number / cut.pairs() == square;
             if is_inside {
                 col * stride + square * side + row
             } else {
