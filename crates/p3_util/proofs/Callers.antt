@@ -48,15 +48,12 @@ use Rattle.p3_util_kernels.proofs.Reversal.{IsReversal-places, IsReversal-unique
 use Rattle.p3_util_kernels.proofs.SideBySide.{AreTransposed-more, square_room}
 
 -- The k low digits, reversed, are a number of k digits, of which the reverse is that number again.
-pub rev_below : (k x : ℕ) → rev k x < 2 ^ k
-rev_below = rev-lt
+pub ruleset rev_below = (rev-lt)
 
-pub rev_twice : (k x : ℕ) → x < 2 ^ k → rev k (rev k x) ≡ x
-rev_twice = rev-rev-below
+pub ruleset rev_twice = (rev-rev-below)
 
--- a number in two parts, of j high digits and of k low ones
-pub rev_in_parts : (j k a y : ℕ) → y < 2 ^ k → rev (j + k) (a * 2 ^ k + y) ≡ rev k y * 2 ^ j + rev j a
-rev_in_parts = rev-parts
+-- a number in two parts, of high digits and of low ones
+pub ruleset rev_in_parts = (rev-parts)
 
 -- an even number, and an odd one
 pub rev_even : (k b : ℕ) → rev (k + 1) (2 * b) ≡ rev k b
@@ -194,12 +191,12 @@ module _ {A : Type 0} where
   -- the same as an index reads it, and an item that is read before and one that is read after
   pub reversed_index : (k i : ℕ) (d : A) (old new : List A) → IsReversal old new → length old ≡ 2 ^ k → i < 2 ^ k → get_or new i d ≡ get_or old (rev k i) d
   reversed_index k i d old new reversal e h =
-      grind (arith, reversed_place k i old new reversal e h, rev_below k i, reversal.same_length, slice_get-get_or)
+      grind (arith, reversed_place k i old new reversal e h, rev-lt k i, reversal.same_length, slice_get-get_or)
 
   pub reversed_item : (k i : ℕ) (before after : A) (old new : List A) → IsReversal old new → length old ≡ 2 ^ k → i < 2 ^ k
       → before ≡ get_or old (rev k i) before → after ≡ get_or new i after → before ≡ after
   reversed_item k i before after old new reversal e h at-old at-new =
-      at-old ∙ get_or_default old (rev k i) before after (rw e (rev_below k i)) ∙ sym (at-new ∙ reversed_index k i after old new reversal e h)
+      at-old ∙ get_or_default old (rev k i) before after (rw e (rev-lt k i)) ∙ sym (at-new ∙ reversed_index k i after old new reversal e h)
 
   -- the places 2i and 2i + 1, which are those of one half and of the other
   pub reversed_even : (k i : ℕ) (old new : List A) → IsReversal old new → length old ≡ 2 ^ (k + 1) → i < 2 ^ k → slice_get new (2 * i) ≡ slice_get old (rev k i)
@@ -214,19 +211,12 @@ module _ {A : Type 0} where
       let halves : rev (k + 1) (2 * i + 1) ≡ rev k i + 2 ^ k = rev_odd k i ∙ omega arith in
       reversed_place (k + 1) (2 * i + 1) old new reversal e (omega arith) ∙ ap (slice_get old) halves
 
-  -- the other way round
-  pub reversed_back : (old new : List A) → IsReversal old new → IsReversal new old
-  reversed_back = row_reversed_back 1
-
-  pub rows_reversed_back : (row_width : ℕ) (old new : List A) → IsRowReversal row_width old new → IsRowReversal row_width new old
-  rows_reversed_back = row_reversed_back
-
   -- One reversal, and twice is the same. The condition comes last: a search has it once the lists are found.
   pub reversed_once : (old a b : List A) → IsReversal old a → IsReversal old b → IsReversible (length old) → a ≡ b
   reversed_once old a b one other fits = IsReversal-unique old a b (zero_or_power (length old) fits) one other
 
   pub reversed_twice : (old mid new : List A) → IsReversal old mid → IsReversal mid new → IsReversible (length old) → new ≡ old
-  reversed_twice old mid new first second fits = reversed_once mid new old second (reversed_back old mid first) (rw first.same_length fits)
+  reversed_twice old mid new first second fits = reversed_once mid new old second (row_reversed_back 1 old mid first) (rw first.same_length fits)
 
   pub rows_reversed_once : (row_width rows : ℕ) (old a b : List A) → IsRowReversal row_width old a → IsRowReversal row_width old b
       → length old ≡ row_width * rows → IsZeroOrPowerOfTwo rows → a ≡ b
@@ -235,7 +225,7 @@ module _ {A : Type 0} where
   pub rows_reversed_twice : (row_width rows : ℕ) (old mid new : List A) → IsRowReversal row_width old mid → IsRowReversal row_width mid new
       → length old ≡ row_width * rows → IsZeroOrPowerOfTwo rows → new ≡ old
   rows_reversed_twice row_width rows old mid new first second len fits =
-      rows_reversed_once row_width rows mid new old second (rows_reversed_back row_width old mid first) (first.same_length ∙ len) fits
+      rows_reversed_once row_width rows mid new old second (row_reversed_back row_width old mid first) (first.same_length ∙ len) fits
 
   -- One transpose, and there and back is the same. The second one comes first, so that a search finds its lists.
   pub transposed_once : (width height : ℕ) (old a b : List A) → IsTranspose width height old a → IsTranspose width height old b
@@ -247,6 +237,11 @@ module _ {A : Type 0} where
   transposed_back width height old mid new second first fits = IsTranspose-twice height width old mid new fits first second
 
 pub ruleset reversed_read = (reversed_index, reversed_item)
+
+-- the other way round
+pub ruleset reversed_back = (row_reversed_back)
+
+pub ruleset rows_reversed_back = (row_reversed_back)
 
 -- a reversal, the same done to each item, and a reversal back
 module _ {A B : Type 0} (f : A → B) where
@@ -260,7 +255,7 @@ module _ {A B : Type 0} (f : A → B) where
   pub reversed_worked : (old mid : List A) (worked new : List B) → IsReversal old mid → worked ≡ map f mid → IsReversal worked new
       → IsReversible (length old) → new ≡ map f old
   reversed_worked old mid worked new first same second fits =
-      let back : IsReversal worked (map f old) = rw same (reversal_of_worked mid old (reversed_back old mid first)) in
+      let back : IsReversal worked (map f old) = rw same (reversal_of_worked mid old (row_reversed_back 1 old mid first)) in
       reversed_once worked new (map f old) second back (rw (same, length-map mid f, first.same_length) fits)
 
 -- Where each step over a piece adds its bytes to what `total` reads, the steps over all pieces add the bytes of all.
@@ -303,20 +298,14 @@ module _ {A : Type 0} (a k : ℕ) (xs part : List A) (fits : a + k ≤ length xs
 pub part_read : {A : Type 0} (a k j : ℕ) (xs : List A) → j < k → slice_get (mid_of a k xs) j ≡ slice_get xs (a + j)
 part_read a k j xs h = slice_get-take k (drop a xs) j h ∙ slice_get-drop a xs j (a + j) (omega arith)
 
--- The n items at places that a function gives, each a place of the list, and no two of them one place.
-module _ {A : Type 0} (place : ℕ → ℕ) (n : ℕ) (xs : List A) (inside : (k : ℕ) → k < n → place k < length xs) where
-  pub items_at_length : length (items_at place n xs) ≡ n
-  items_at_length = length-items_at place n xs inside
+-- The items at places that a function gives, each a place of the list, and no two of them one place.
+pub ruleset items_at_length = (length-items_at)
 
-  pub items_at_place : (k : ℕ) → k < n → slice_get (items_at place n xs) k ≡ slice_get xs (place k)
-  items_at_place = slice_get-items_at place n xs inside
+pub ruleset items_at_place = (slice_get-items_at)
 
-  module _ (apart : (a b : ℕ) → a < n → b < n → place a ≡ place b → a ≡ b) where
-    pub items_at_swapped : (i j : ℕ) → i < n → j < n → items_at place n (swap xs (place i) (place j)) ≡ swap (items_at place n xs) i j
-    items_at_swapped = items_at-swap place n xs inside apart
+pub ruleset items_at_swapped = (items_at-swap)
 
-    pub items_at_written : (i : ℕ) (v : A) → i < n → items_at place n (set xs (place i) v) ≡ set (items_at place n xs) i v
-    items_at_written = items_at-set place n xs inside apart
+pub ruleset items_at_written = (items_at-set)
 
 -- all others stay
 module _ {A : Type 0} (place : ℕ → ℕ) (n : ℕ) where
@@ -362,38 +351,27 @@ module _ {A : Type 0} (width height column : ℕ) (xs : List A) (fits : length x
 
 pub ruleset column_others = (others_of_swap, others_of_write)
 
+-- the items from the end on
+pub ruleset from_end_place = (slice_get-reverse)
+
+pub ruleset from_end_swapped = (from_end-swap)
+
+pub ruleset from_end_written = (from_end-set)
+
+-- two lists, one behind the other, as one: an exchange in the first, in the second, and across both, and an item put into it
+pub ruleset joined_front = (in-front)
+
+pub ruleset joined_back = (in-back)
+
+pub ruleset joined_across = (across)
+
+pub ruleset swap_turned = (swap-sym)
+
+pub ruleset joined_put_front = (put-front)
+
+pub ruleset joined_put_back = (put-back)
+
 module _ {A : Type 0} where
-  -- the items from the end on
-  pub from_end_place : (xs : List A) (k : ℕ) → k < length xs → slice_get (reverse xs) k ≡ slice_get xs (length xs - 1 - k)
-  from_end_place = slice_get-reverse
-
-  pub from_end_swapped : (n : ℕ) (xs : List A) → length xs ≡ n → (i j : ℕ) → i < n → j < n → reverse (swap xs (n - 1 - i) (n - 1 - j)) ≡ swap (reverse xs) i j
-  from_end_swapped = from_end-swap
-
-  pub from_end_written : (n : ℕ) (xs : List A) → length xs ≡ n → (i : ℕ) (v : A) → i < n → reverse (set xs (n - 1 - i) v) ≡ set (reverse xs) i v
-  from_end_written = from_end-set
-
-  -- two lists, one behind the other, as one: an exchange in the first, in the second, and across both, and an item put into it
-  pub joined_front : (xs ys : List A) (i j : ℕ) → i < length xs → j < length xs → swap xs i j ++ ys ≡ swap (xs ++ ys) i j
-  joined_front = in-front
-
-  pub joined_back : (xs ys : List A) (n i j : ℕ) → n ≡ length xs → n ≤ i → n ≤ j → i < length (xs ++ ys) → j < length (xs ++ ys)
-      → xs ++ swap ys (i - n) (j - n) ≡ swap (xs ++ ys) i j
-  joined_back = in-back
-
-  pub joined_across : (xs ys : List A) (i j : ℕ) (x y : A) → i < length xs → j < length ys → x ≡ get_or xs i x → y ≡ get_or ys j y
-      → set xs i y ++ set ys j x ≡ swap (xs ++ ys) i (length xs + j)
-  joined_across = across
-
-  pub swap_turned : (xs : List A) (i j : ℕ) → swap xs i j ≡ swap xs j i
-  swap_turned = swap-sym
-
-  pub joined_put_front : (xs ys : List A) (i : ℕ) (v : A) → i < length xs → set xs i v ++ ys ≡ set (xs ++ ys) i v
-  joined_put_front = put-front
-
-  pub joined_put_back : (xs ys : List A) (n i : ℕ) (v : A) → n ≡ length xs → n ≤ i → xs ++ set ys (i - n) v ≡ set (xs ++ ys) i v
-  joined_put_back = put-back
-
   -- A region put in two parts: the rows before `middle` and then those from there on, or the columns.
   pub region_of_rows : (region : Region) (middle width height : ℕ) (input old mid new : List A)
       → region.row_start ≤ middle → middle ≤ region.row_end → region.row_end ≤ height
@@ -443,8 +421,6 @@ pub swaps_around : (c0 c1 c2 c3 a b : ℕ) → c1 ≡ counted c0 a → c2 ≡ co
 swaps_around c0 c1 c2 c3 a b e f g = omega arith
 
 -- the logarithm of a power of two, by which numbers of swaps go
-pub log_of_power : (n k : ℕ) → n ≡ 2 ^ k → clog n ≡ k
-log_of_power = clog_power
+pub ruleset log_of_power = (clog_power)
 
-pub log_of_zero : (n : ℕ) → n ≡ 0 → clog n ≡ 0
-log_of_zero = clog-zero
+pub ruleset log_of_zero = (clog-zero)

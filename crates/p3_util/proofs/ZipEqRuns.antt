@@ -100,15 +100,14 @@ module _ {S T A B : Type 0} (steps : S → Option A → S → Type 0) (others : 
   abbrev Asked : Run (zip_eq_steps steps others) → Type 0
   Asked p = SomeRun steps (zip_eq_first p.from) (λ u. SomeRun others (zip_eq_second p.from) (λ v. IsAskedRun p u v))
 
-  asked-open : (p : Run (zip_eq_steps steps others)) → p.whole ≡ false → Asked p
-  asked-open p more =
-      let t = took p in
-      let a = first-came p.items p.from t.0 t.1 in
-      let b = second-came p.items p.from t.0 t.1 in (
-        run steps (zip_eq_first p.from) (map (λ x. x.0) p.items) false (zip_eq_first t.0, a, λ e. absurd (true≢false (sym e))),
+  asked-open : (p : Run (zip_eq_steps steps others)) (t : ZipEq S T) → Yields (zip_eq_steps steps others) p.from p.items t → p.whole ≡ false → Asked p
+  asked-open p t came more =
+      let a = first-came p.items p.from t came in
+      let b = second-came p.items p.from t came in (
+        run steps (zip_eq_first p.from) (map (λ x. x.0) p.items) false (zip_eq_first t, a, λ e. absurd (true≢false (sym e))),
         refl,
         (
-          run others (zip_eq_second p.from) (map (λ x. x.1) p.items) false (zip_eq_second t.0, b, λ e. absurd (true≢false (sym e))),
+          run others (zip_eq_second p.from) (map (λ x. x.1) p.items) false (zip_eq_second t, b, λ e. absurd (true≢false (sym e))),
           refl,
           record { items = zip-maps p.items; ends = λ whole. absurd (true≢false (sym whole ∙ more)) },
         ),
@@ -159,7 +158,9 @@ module _ {S T A B : Type 0} (steps : S → Option A → S → Type 0) (others : 
   asked-whole p t u (Some w) (Some z) came x y (inr e) = absurd cc
 
   asked-at : (p : Run (zip_eq_steps steps others)) (b : Bool) → p.whole ≡ b → Asked p
-  asked-at p false more = asked-open p more
+  asked-at p false more =
+      let t = took p in
+      asked-open p t.0 t.1 more
   asked-at p true whole =
       let t = took p in
       let last = t.2 whole in

@@ -6,7 +6,8 @@ use Rattle.std.proofs.lemmas.Nat.{mul-add-lt}
 use borrow.Rule.Slice.PartMut.{mid_of, put_mid}
 use Rattle.p3_util.specs.Digits.{rev}
 use Rattle.p3_util.specs.Reversal.{IsReversal}
-use Rattle.p3_util.proofs.Callers.{part_after, part_before, part_inside, part_length, part_read, rev_below, reversed_place}
+use Rattle.p3_util.proofs.Callers.{part_after, part_before, part_inside, part_length, part_read, reversed_place}
+use Rattle.p3_util_kernels.proofs.Digits.{rev-lt}
 use Rattle.p3_util_callers.specs.EachRow.{AreRowsReversed}
 
 module _ {A : Type 0} where
@@ -23,7 +24,7 @@ module _ {A : Type 0} where
               | inl above ↦ before (q * w + j) (omega (arith, mul-add-lt q w j r above hj)) ∙ at.places k q j e above hj
               | inr last ↦
                   let here : q ≡ r = omega arith in
-                  let back : rev k j < w = rw e (rev_below k j) in
+                  let back : rev k j < w = rw e (rev-lt k j) in
                   rw here (part_inside (r * w) w now part inside same j hj
                   ∙ reversed_place k j (mid_of (r * w) w now) part row (read ∙ e) (rw e at hj)
                   ∙ part_read (r * w) w (rev k j) now back ∙ at.others (r * w + rev k j) (omega arith))
