@@ -9,9 +9,10 @@ use p3_util::places::{Cells, Places, SliceSource, Source, Swaps, Writes};
 use p3_util::reverse::{
     fits_rows, reverse_chunks_on, reverse_counted, reverse_index_bits_long, reverse_index_bits_on,
     reverse_index_bits_short, reverse_row_index_bits_on, reverse_rows_counted,
+    reverse_slice_index_bits, reverse_slice_row_index_bits,
 };
 use p3_util::transpose::{
-    Region, fits_matrix, transpose_counted, transpose_on, transpose_region_counted,
+    Region, fits_matrix, transpose, transpose_counted, transpose_on, transpose_region_counted,
     transpose_region_on, transpose_source_counted, transpose_source_on, transpose_source_split_on,
     transpose_split_on, transpose_square_on,
 };
@@ -84,6 +85,16 @@ fn reverse_on<S: Places + Drop>(rt: &impl Abort, mut m: Swaps<S>, call: Call) ->
     m.swaps()
 }
 
+/// Reverses `list`, or its rows, as a slice.
+pub(crate) fn reverse_slice<F>(rt: &impl Abort, list: &mut [F], row_width: usize) {
+    assert!(rt; fits_rows(list.len(), row_width));
+    if row_width == 1 {
+        reverse_slice_index_bits(list);
+    } else {
+        reverse_slice_row_index_bits(list, row_width);
+    }
+}
+
 fn transpose_square<S: Places + Drop>(
     rt: &impl Abort,
     mut m: Swaps<S>,
@@ -103,6 +114,18 @@ fn transpose_square<S: Places + Drop>(
     assert!(rt; last < m.len());
     transpose_square_on(&mut m, base, log_stride, log_size);
     m.swaps()
+}
+
+/// Puts the transpose of `input` into `output`, by the call on slices.
+pub(crate) fn transpose_slice<T: Copy>(
+    rt: &impl Abort,
+    input: &[T],
+    output: &mut [T],
+    shape: Shape,
+) {
+    let Shape { width, height } = shape;
+    assert!(rt; fits_matrix(input.len(), output.len(), width, height));
+    transpose(input, output, width, height);
 }
 
 /// A call that puts the transpose of a matrix or of a region.

@@ -1,6 +1,7 @@
 //! Functions that the tests share. They have no clauses, so the proof of a test knows nothing of what they return or leave,
 //! and stays short.
 
+use crate::tests::items::Item;
 use std::alloc::{AllocError, Global};
 use std::fmt::Debug;
 use std::process::Abort;
@@ -33,6 +34,29 @@ impl Shape {
     /// The number of items of the matrix.
     pub(crate) fn len(self) -> usize {
         self.width.saturating_mul(self.height)
+    }
+}
+
+/// Whether the items of a list are those with the numbers `first`, `first + step` and so on.
+fn are_numbered<T: Item>(list: &[T], first: usize, step: usize) -> bool {
+    let mut number = first;
+    for item in list {
+        if !item.is(number) {
+            return false;
+        }
+        number = number.wrapping_add(step);
+    }
+    true
+}
+
+/// Asserts that a list is the transpose of the items with the numbers from 0 on.
+pub(crate) fn check_transposed<T: Item>(rt: &impl Abort, list: &[T], shape: Shape) {
+    let Shape { width, height } = shape;
+    for (x, column) in list.chunks_exact(height.max(1)).enumerate() {
+        assert!(rt;
+            are_numbered(column, x, width),
+            "column {x} of {width} by {height}"
+        );
     }
 }
 

@@ -1,13 +1,11 @@
 //! Transposes against worked examples and the original crate.
 
-use crate::tests::calls::{Put, count_writes, split_on, whole};
-use crate::tests::checks::{Shape, check_places, equal, found, numbers, same};
+use crate::tests::calls::{Put, count_writes, split_on, transpose_slice, whole};
+use crate::tests::checks::{Shape, check_places, check_transposed, equal, found, numbers, same};
 use crate::tests::oracle::transposes::TRANSPOSES;
 use crate::tests::oracle::{hash, items};
 use p3_util::places::{SliceCells, Writes};
-use p3_util::transpose::{
-    Region, butterfly_4x4, butterfly_stage1, butterfly_stage2, fits_matrix, transpose,
-};
+use p3_util::transpose::{Region, butterfly_4x4, butterfly_stage1, butterfly_stage2, fits_matrix};
 use p3_util_callers::transpose::levels_of;
 use std::alloc::Global;
 use std::process::Abort;
@@ -28,8 +26,7 @@ fn transposed(
 /// The same by the call on slices, which counts no writes.
 fn transposed_slice(rt: &impl Abort, alloc: Global, input: &[u64], shape: Shape) -> Vec<u64> {
     let mut output = found(rt, vec![in alloc; 99; input.len()]);
-    assert!(rt; fits_matrix(input.len(), output.len(), shape.width, shape.height));
-    transpose(input, &mut output, shape.width, shape.height);
+    transpose_slice(rt, input, &mut output, shape);
     output
 }
 
@@ -74,7 +71,7 @@ fn worked_examples(rt: HostRuntime) {
     }
 }
 
-/// Matrices of the numbers from 0 on: widths, heights, numbers of writes, and which items come to some places.
+/// Matrices of the numbers from 0 on: widths, heights, numbers of writes, and some places with their items.
 const NUMBERED: [(usize, usize, u128, &[(usize, u64)]); 7] = [
     (15, 17, 255, &[(1, 15), (17, 1)]),
     (16, 16, 256, &[(1, 16), (16, 1)]),
@@ -93,13 +90,15 @@ fn numbered_items(rt: HostRuntime) {
         let (output, writes) = transposed(&rt, rt.alloc(), Put::On, &input, shape);
         same(&rt, width, &writes, &wanted);
         check_places(&rt, &output, places);
+        check_transposed(&rt, &output, shape);
     }
 }
 
 /// Rows, columns, the levels that their split needs, and how many splits nest.
-const SPLITS: [(usize, usize, u32, u32); 5] = [
+const SPLITS: [(usize, usize, u32, u32); 6] = [
     (128, 128, 0, 0),
     (129, 128, 1, 1),
+    (1000, 129, 4, 4),
     (2, 1000, 3, 0),
     (3, 1000, 3, 3),
     (1024, 1025, 7, 7),
@@ -117,7 +116,7 @@ fn nested_splits(rt: HostRuntime) {
             let out = Writes::new(SliceCells::new(&mut output));
             let counts = split_on(&rt, call, &input, out, shape);
             same(&rt, height, &counts, &(shape.len() as u128, nested));
-            check_places(&rt, &output, &[(1, width as u64), (height, 1)]);
+            check_transposed(&rt, &output, shape);
         }
     }
 }

@@ -1,0 +1,93 @@
+//! Transposes of many shapes, of items of several sizes, place by place.
+
+use crate::tests::calls::transpose_slice;
+use crate::tests::checks::{Shape, check_transposed, found};
+use crate::tests::items::Item;
+use crate::tests::oracle::transposes::TRANSPOSES;
+use std::alloc::{AllocError, Global};
+use std::process::Abort;
+
+/// The items with the numbers from 0 to below `count`.
+fn items<T: Item>(alloc: Global, count: usize) -> Result<Vec<T>, AllocError> {
+    let mut list = Vec::with_capacity(alloc, count)?;
+    for number in 0..count {
+        list.push(T::of(number))?;
+    }
+    Ok(list)
+}
+
+/// Transposes a matrix of the first items of `input`, and asserts each place.
+fn check_shape<T: Item>(
+    rt: &impl Abort,
+    input: &[T],
+    output: &mut [T],
+    width: usize,
+    height: usize,
+) {
+    let shape = Shape { width, height };
+    let len = shape.len();
+    assert!(rt; len <= input.len() && len <= output.len());
+    transpose_slice(rt, &input[..len], &mut output[..len], shape);
+    check_transposed(rt, &output[..len], shape);
+}
+
+/// Every pair of sides up to 17.
+fn check_sides<T: Item>(rt: &impl Abort, input: &[T], output: &mut [T]) {
+    for k in 0..17 * 17usize {
+        check_shape(rt, input, output, k / 17 + 1, k % 17 + 1);
+    }
+}
+
+/// One row and one column of up to 200 items.
+fn check_lines<T: Item>(rt: &impl Abort, input: &[T], output: &mut [T]) {
+    for len in 1..=200 {
+        check_shape(rt, input, output, len, 1);
+        check_shape(rt, input, output, 1, len);
+    }
+}
+
+/// The same, and the shapes of the original's tests.
+fn check_shapes<T: Item>(rt: &impl Abort, alloc: Global) {
+    let input = found(rt, items::<T>(alloc, 2003 * 757));
+    let mut output = found(rt, input.to_vec(alloc));
+    check_sides(rt, &input, &mut output);
+    check_lines(rt, &input, &mut output);
+    for (width, height, _) in TRANSPOSES {
+        check_shape(rt, &input, &mut output, width, height);
+    }
+}
+
+#[test]
+fn of_bytes(rt: HostRuntime) {
+    check_shapes::<u8>(&rt, rt.alloc());
+}
+
+#[test]
+fn of_half_words(rt: HostRuntime) {
+    check_shapes::<u32>(&rt, rt.alloc());
+}
+
+#[test]
+fn of_words(rt: HostRuntime) {
+    check_shapes::<u64>(&rt, rt.alloc());
+}
+
+#[test]
+fn of_double_words(rt: HostRuntime) {
+    check_shapes::<u128>(&rt, rt.alloc());
+}
+
+#[test]
+fn of_three_bytes(rt: HostRuntime) {
+    check_shapes::<[u8; 3]>(&rt, rt.alloc());
+}
+
+#[test]
+fn of_eight_bytes(rt: HostRuntime) {
+    check_shapes::<[u8; 8]>(&rt, rt.alloc());
+}
+
+#[test]
+fn of_four_words(rt: HostRuntime) {
+    check_shapes::<[u64; 4]>(&rt, rt.alloc());
+}
