@@ -146,10 +146,10 @@ pub rev-shr : (j k x : ℕ) → rev (j + k) x / 2 ^ j ≡ rev k x
 rev-shr j k x = rw (rev-add j k x) (div-mul-add (rev k x) (2 ^ j) (rev j (x / 2 ^ k)) (rev-lt j (x / 2 ^ k)))
 
 -- The digits of two halves, reversed: the reversed halves in the other order, put together as code of words of w digits does.
-abbrev halves : (w k x : ℕ) → ℕ
-halves w k x = bit_or (rev k (bit_and x (2 ^ k - 1)) * 2 ^ k % 2 ^ w) (rev k (x / 2 ^ k))
+abbrev joined_halves : (w k x : ℕ) → ℕ
+joined_halves w k x = bit_or (rev k (bit_and x (2 ^ k - 1)) * 2 ^ k % 2 ^ w) (rev k (x / 2 ^ k))
 
-pub rev-halves : (w k x : ℕ) → k + k ≤ w → rev (k + k) x ≡ halves w k x
+pub rev-halves : (w k x : ℕ) → k + k ≤ w → rev (k + k) x ≡ joined_halves w k x
 rev-halves w k x fits =
     let low : rev k (x % 2 ^ k) ≡ rev k x = rev-mod k x in
     rw (
@@ -161,13 +161,13 @@ rev-halves w k x fits =
     (rev-add k k x)
 
 -- the same of the numbers of digits of the words that are reversed so
-pub rev_16 : (x : ℕ) → rev 16 x ≡ halves 16 8 x
+pub rev_16 : (x : ℕ) → rev 16 x ≡ joined_halves 16 8 x
 rev_16 x = rev-halves 16 8 x (omega arith)
 
-pub rev_32 : (x : ℕ) → rev 32 x ≡ halves 32 16 x
+pub rev_32 : (x : ℕ) → rev 32 x ≡ joined_halves 32 16 x
 rev_32 x = rev-halves 32 16 x (omega arith)
 
-pub rev_64 : (x : ℕ) → rev 64 x ≡ halves 64 32 x
+pub rev_64 : (x : ℕ) → rev 64 x ≡ joined_halves 64 32 x
 rev_64 x = rev-halves 64 32 x (omega arith)
 
 -- what the whole word and a part of it are, reversed

@@ -7,75 +7,47 @@ use Rattle.p3_util_kernels.specs.Digits.{sum_below}
 use Rattle.p3_util_kernels.specs.Levels.{clog, lev, nest}
 use Rattle.p3_util_kernels.proofs.Powers.{exponent-le}
 
--- the powers of two below n, among the first m of them, are the first `many`
-record IsCount (n m many : ℕ) : Type 0 where
-  within : many ≤ m
-  below : (e : ℕ) → e < many → 2 ^ e < n
-  above : (e : ℕ) → many ≤ e → e < m → n ≤ 2 ^ e
-
-IsCount-more : (n m many : ℕ) → IsCount n m many → IsCount n (suc m) (many + cond (ltb (2 ^ m) n) 1 0)
-IsCount-more n m many s =
-    elim (cases_lt (2 ^ m) n) [
-      | inl less ↦
-          let all : m ≤ many = elim (cases_lt many m) [
-            | inl short ↦
-                let over : n ≤ 2 ^ many = s.above many (omega arith) short in
-                let up : 2 ^ many ≤ 2 ^ m = pow-le-pow_right (omega arith) (omega arith) in
-                absurd (omega arith)
-            | inr le ↦ le
-          ] in
-          let one : cond {A = ℕ} (ltb (2 ^ m) n) 1 0 ≡ 1 = cond-true _ 1 0 (lt-ltb _ _ less) in
-          let within = s.within in
-          record {
-            within = omega arith;
-            below = λ e h. elim (cases_lt e many) [
-              | inl before ↦ s.below e before
-              | inr here ↦ let same : m ≡ e = omega arith in rw same at less
-            ];
-            above = λ e h k. absurd (omega arith);
-          }
-      | inr le ↦
-          let none : cond {A = ℕ} (ltb (2 ^ m) n) 1 0 ≡ 0 = cond-false _ 1 0 (le-ltb _ _ le) in
-          let within = s.within in
-          record {
-            within = omega arith;
-            below = λ e h. s.below e (omega arith);
-            above = λ e h k. elim (cases_lt e m) [
-              | inl before ↦ s.above e (omega arith) before
-              | inr here ↦ let same : m ≡ e = omega arith in rw same at le
-            ];
-          }
-    ]
-
-counts : (n m : ℕ) → IsCount n m (sum_below m (λ e. cond (ltb (2 ^ e) n) 1 0))
-unfolding sum_below
-counts n zero = record { within = omega arith; below = λ e h. absurd (omega arith); above = λ e h k. absurd (omega arith) }
-counts n (suc m) = IsCount-more n m _ (counts n m)
-
 below_power : (n : ℕ) → n < 2 ^ n
 below_power zero = omega arith
 below_power (suc n) = omega (arith, below_power n, pow-suc 2 n)
 
--- what `log2_ceil_usize` promises holds of `clog`
-pub clog-enough : (n : ℕ) → n ≤ 2 ^ clog n
-unfolding clog
-clog-enough n =
-    let s = counts n n in
-    elim (cases_lt (clog n) n) [
-      | inl less ↦ s.above (clog n) (omega arith) less
-      | inr all ↦
-          let same : clog n ≡ n = omega (arith, s.within) in
-          rw same (omega (arith, below_power n))
+-- the least exponent of a power that n does not pass
+least_power : (n bound : ℕ) → n ≤ 2 ^ bound → (k : ℕ) × (n ≤ 2 ^ k) × ((e : ℕ) → e < k → 2 ^ e < n)
+least_power n zero h = (0, h, λ e less. absurd (omega arith))
+least_power n (suc b) h =
+    elim (cases_lt (2 ^ b) n) [
+      | inl less ↦ (suc b, h, λ e k. let up : 2 ^ e ≤ 2 ^ b = pow-le-pow_right (omega arith) (omega arith) in omega arith)
+      | inr le ↦ least_power n b le
     ]
 
-pub clog-least : (n e : ℕ) → n ≤ 2 ^ e → clog n ≤ e
-unfolding clog
-clog-least n e h =
-    let s = counts n n in
-    elim (cases_lt e (clog n)) [
-      | inl less ↦ absurd (omega (arith, s.below e less))
-      | inr le ↦ le
+-- as many powers are below n
+counted_to : (n k m : ℕ) → n ≤ 2 ^ k → ((e : ℕ) → e < k → 2 ^ e < n) → sum_below m (λ e. cond (ltb (2 ^ e) n) 1 0) ≡ min m k
+unfolding sum_below
+counted_to n k zero h below = omega arith
+counted_to n k (suc m) h below =
+    let before : sum_below m (λ e. cond (ltb (2 ^ e) n) 1 0) ≡ min m k = counted_to n k m h below in
+    elim (cases_lt m k) [
+      | inl less ↦ let one : cond {A = ℕ} (ltb (2 ^ m) n) 1 0 ≡ 1 = cond-true _ 1 0 (lt-ltb _ _ (below m less)) in omega arith
+      | inr le ↦
+          let up : 2 ^ k ≤ 2 ^ m = pow-le-pow_right (omega arith) le in
+          let none : cond {A = ℕ} (ltb (2 ^ m) n) 1 0 ≡ 0 = cond-false _ 1 0 (le-ltb _ _ (omega arith)) in
+          omega arith
     ]
+
+clog_is : (n : ℕ) → (n ≤ 2 ^ clog n) × ((e : ℕ) → e < clog n → 2 ^ e < n)
+unfolding clog
+clog_is n =
+    let least = least_power n n (omega (arith, below_power n)) in
+    let within : least.0 ≤ n = elim (cases_lt n least.0) [ inl over ↦ absurd (omega (arith, least.2 n over, below_power n)) | inr le ↦ le ] in
+    let same : clog n ≡ least.0 = counted_to n least.0 n least.1 least.2 ∙ omega arith in
+    rw same (least.1, least.2)
+
+-- what `log2_ceil_usize` promises holds of `clog`
+pub clog-enough : (n : ℕ) → n ≤ 2 ^ clog n
+clog-enough n = (clog_is n).0
+
+pub clog-least : (n e : ℕ) → n ≤ 2 ^ e → clog n ≤ e
+clog-least n e h = elim (cases_lt e (clog n)) [ inl less ↦ absurd (omega (arith, (clog_is n).1 e less)) | inr le ↦ le ]
 
 -- no other number is the least one
 pub clog_only : (n e : ℕ) → n ≤ 2 ^ e → ((d : ℕ) → n ≤ 2 ^ d → e ≤ d) → e ≡ clog n
@@ -144,10 +116,6 @@ nest_small r c h = omega (arith, nest_le r c, clog-least r 7 (omega arith), clog
 -- halving a side above 128: the larger half nests one level less
 pub lev-half : (n k : ℕ) → 128 < n → lev (n - n / 2) k + 1 ≡ lev n k
 lev-half n k h = omega (arith, clog-half n (omega arith), clog-above n 7 h)
-
--- a region and one with its sides exchanged nest alike
-pub lev-comm : (r c : ℕ) → lev r c ≡ lev c r
-lev-comm r c = omega arith
 
 -- at most 57 levels for a region whose sides and whose product fit a word
 pub lev_le : (r c : ℕ) → r < 2 ^ 64 → c < 2 ^ 64 → r * c < 2 ^ 64 → lev r c ≤ 57

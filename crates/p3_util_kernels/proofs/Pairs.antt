@@ -6,12 +6,12 @@ mul-pred zero = omega arith
 mul-pred (suc n) = let e : suc n - 1 ≡ n = omega arith in rw e (omega arith)
 
 -- a square without its diagonal has two places for each pair
-halves : (n : ℕ) → (m : ℕ) × (n * n ≡ 2 * m + n)
-halves zero = (0, omega arith)
-halves (suc n) = let before : (m : ℕ) × (n * n ≡ 2 * m + n) = halves n in (before.0 + n, omega arith)
+half-square : (n : ℕ) → (m : ℕ) × (n * n ≡ 2 * m + n)
+half-square zero = (0, omega arith)
+half-square (suc n) = let before : (m : ℕ) × (n * n ≡ 2 * m + n) = half-square n in (before.0 + n, omega arith)
 
 pub twice-pairs : (n : ℕ) → 2 * (n * (n - 1) / 2) + n ≡ n * n
-twice-pairs n = let half : (m : ℕ) × (n * n ≡ 2 * m + n) = halves n in omega (arith, mul-pred n)
+twice-pairs n = let half : (m : ℕ) × (n * n ≡ 2 * m + n) = half-square n in omega (arith, mul-pred n)
 
 -- the pairs within two parts of a square, and those between them
 pub pairs-add : (h r : ℕ) → (h + r) * (h + r - 1) / 2 ≡ h * (h - 1) / 2 + h * r + r * (r - 1) / 2

@@ -26,8 +26,8 @@ powers_pass : all_below (λ e. get_or POWERS_OF_THREE e 0 == 3 ^ e) 41 ≡ true
 unfolding all_below
 powers_pass = refl
 
-pub power_of_three : (e : ℕ) → e < 41 → get_or POWERS_OF_THREE e 0 ≡ 3 ^ e
-power_of_three e h = eqb-true _ _ (all_below-at (λ e. get_or POWERS_OF_THREE e 0 == 3 ^ e) 41 e powers_pass h)
+pub powers_of_three-at : (e : ℕ) → e < 41 → get_or POWERS_OF_THREE e 0 ≡ 3 ^ e
+powers_of_three-at e h = eqb-true _ _ (all_below-at (λ e. get_or POWERS_OF_THREE e 0 == 3 ^ e) 41 e powers_pass h)
 
 -- the exponent at place `top` is that of the greatest power of three below 2 ^ (top + 1)
 is_greatest : ℕ → Bool

@@ -1,9 +1,9 @@
 use Rattle.p3_util_kernels.proofs.Powers.{three-fits, three-apart}
-use Rattle.p3_util_kernels.proofs.Tables.{power_of_three}
+use Rattle.p3_util_kernels.proofs.Tables.{powers_of_three-at}
 use Rattle.p3_util_kernels.proofs.bits.powers_of_three.Goals as goal
 
 pub returns-clause-powers : goal.returns-clause-powers
-returns-clause-powers c = power_of_three
+returns-clause-powers c = powers_of_three-at
 
 pub returns-clause-all : goal.returns-clause-all
 returns-clause-all c = three-fits
