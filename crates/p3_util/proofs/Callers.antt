@@ -36,16 +36,16 @@ use Rattle.p3_util_kernels.specs.SideBySide.{AreTransposed}
 use Rattle.p3_util_kernels.specs.Steps.{counted}
 use Rattle.p3_util_kernels.specs.Transpose.{IsTranspose}
 use Rattle.p3_util_kernels.proofs.Cuts.{slice_get-append_left, slice_get-append_right, slice_get-drop, slice_get-take}
-use Rattle.p3_util_kernels.proofs.Digits.{rev-lt, rev-parts, rev-rev-below, rev-shl, rev-suc, rev-zero}
+use Rattle.p3_util_kernels.proofs.DigitsLemmas.{rev-lt, rev-parts, rev-rev-below, rev-shl, rev-suc, rev-zero}
 use Rattle.p3_util_kernels.proofs.Exchange.{slice_get-set_other, slice_get-swap_other}
 use Rattle.p3_util_kernels.proofs.Lengths.{zero_or_power}
-use Rattle.p3_util_kernels.proofs.Levels.{clog-zero, clog_power}
+use Rattle.p3_util_kernels.proofs.LevelsLemmas.{clog-zero, clog_power}
 use Rattle.p3_util_kernels.proofs.LongPath.{IsReversal-composed}
 use Rattle.p3_util_kernels.proofs.Matrix.{IsTranspose-twice, IsTranspose-unique}
-use Rattle.p3_util_kernels.proofs.Powers.{power_of_two_test as power_test}
-use Rattle.p3_util_kernels.proofs.Region.{IsCut-cols, IsCut-rows, IsRegionTransposed-cut}
-use Rattle.p3_util_kernels.proofs.Reversal.{IsReversal-places, IsReversal-unique, row_reversed_back, IsRowReversal-unique}
-use Rattle.p3_util_kernels.proofs.SideBySide.{AreTransposed-more, square_room}
+use Rattle.p3_util_kernels.proofs.PowersLemmas.{power_of_two_test as power_test}
+use Rattle.p3_util_kernels.proofs.RegionLemmas.{IsCut-cols, IsCut-rows, IsRegionTransposed-cut}
+use Rattle.p3_util_kernels.proofs.ReversalLemmas.{IsReversal-places, IsReversal-unique, row_reversed_back, IsRowReversal-unique}
+use Rattle.p3_util_kernels.proofs.SideBySideLemmas.{AreTransposed-more, square_room}
 
 -- The k low digits, reversed, are a number of k digits, of which the reverse is that number again.
 pub ruleset rev_below = (rev-lt)

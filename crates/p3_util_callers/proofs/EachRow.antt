@@ -7,7 +7,7 @@ use borrow.Rule.Slice.PartMut.{mid_of, put_mid}
 use Rattle.p3_util.specs.Digits.{rev}
 use Rattle.p3_util.specs.Reversal.{IsReversal}
 use Rattle.p3_util.proofs.Callers.{part_after, part_before, part_inside, part_length, part_read, reversed_place}
-use Rattle.p3_util_kernels.proofs.Digits.{rev-lt}
+use Rattle.p3_util_kernels.proofs.DigitsLemmas.{rev-lt}
 use Rattle.p3_util_callers.specs.EachRow.{AreRowsReversed}
 
 module _ {A : Type 0} where

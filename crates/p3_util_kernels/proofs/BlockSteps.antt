@@ -12,7 +12,7 @@ use Rattle.p3_util_kernels.specs.Region.{IsInRegion, cols_of, items_of, rows_of}
 use Rattle.p3_util_kernels.specs.SwapCounts.{square_swaps}
 use Rattle.p3_util_kernels.proofs.Blocks.{block-above, block-cols, block-diagonal, block-ready, block-rows}
 use Rattle.p3_util_kernels.proofs.Counts.{count-all, count-first}
-use Rattle.p3_util_kernels.proofs.Diagonal.{square_place}
+use Rattle.p3_util_kernels.proofs.DiagonalLemmas.{square_place}
 use Rattle.p3_util_kernels.proofs.MirrorSteps.{mirror-stays}
 use Rattle.p3_util_kernels.proofs.Pairs.{pairs-add}
 use Rattle.p3_util_kernels.proofs.Written.{AreOnceAmong-weaker}

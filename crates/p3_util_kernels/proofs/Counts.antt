@@ -4,7 +4,7 @@ use Rattle.std.proofs.lemmas.Bool.{both_ways, cases_Bool, cases_eq, cases_lt, eq
 use Rattle.std.proofs.lemmas.Nat.{div-mul-add, mod-mul-add}
 use Rattle.p3_util_kernels.specs.Digits.{sum_below}
 use Rattle.p3_util_kernels.specs.Least.{count_below}
-use Rattle.p3_util_kernels.proofs.Digits.{sum_below-same}
+use Rattle.p3_util_kernels.proofs.DigitsLemmas.{sum_below-same}
 use Rattle.p3_util_kernels.proofs.Pairs.{mul-pred}
 
 -- what a number that passes a test, or does not, adds to the count of those that do

@@ -7,8 +7,8 @@ use Rattle.std.proofs.lemmas.Bool.{cases_eq, or_cases}
 use Rattle.std.proofs.lemmas.Nat.{and_block, div-add-mod', div-mul-add, mod-mul-add, pow-add, pow_pos}
 use Rattle.p3_util_kernels.specs.Levels.{clog}
 use Rattle.p3_util_kernels.specs.Reversal.{IsZeroOrPowerOfTwo, IsReversible, FitsRows}
-use Rattle.p3_util_kernels.proofs.Levels.{clog_power, clog-zero}
-use Rattle.p3_util_kernels.proofs.Powers.{exponent-lt, exponent-same, power_of_two_test}
+use Rattle.p3_util_kernels.proofs.LevelsLemmas.{clog_power, clog-zero}
+use Rattle.p3_util_kernels.proofs.PowersLemmas.{exponent-lt, exponent-same, power_of_two_test}
 
 -- twice a number that is zero or a power of two is one too
 doubled : (m n : ℕ) → n ≡ m * 2 → IsZeroOrPowerOfTwo m → IsZeroOrPowerOfTwo n

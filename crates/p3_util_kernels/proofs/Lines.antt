@@ -5,7 +5,7 @@ use Rattle.std.proofs.lemmas.Nat.{div-add-mod', div-mul-add, mod-mul-add, mod_be
 use Rattle.p3_util_kernels.specs.Crossing.{line_pairs_of}
 use Rattle.p3_util_kernels.specs.SwapCounts.{line_swaps, short_swaps, square_swaps}
 use Rattle.p3_util_kernels.proofs.Pairs.{pairs-add, twice-pairs}
-use Rattle.p3_util_kernels.proofs.Powers.{power-even}
+use Rattle.p3_util_kernels.proofs.PowersLemmas.{power-even}
 
 -- the number of a line's pairs where the line has an even number, and one more for the line after it
 pub line-even : (q line : ℕ) → 0 < q → line % 2 ≡ 0 → (line % 2 ^ q + 1 < 2 ^ q) × ((line + 1) % 2 ^ q ≡ line % 2 ^ q + 1)

@@ -4,9 +4,9 @@ use Rattle.std.proofs.lemmas.Nat.{pow-add}
 use Rattle.p3_util_kernels.specs.Digits.{rev}
 use Rattle.p3_util_kernels.specs.Reversal.{IsReversal, IsRowReversal}
 use Rattle.p3_util_kernels.specs.SideBySide.{AreTransposed}
-use Rattle.p3_util_kernels.proofs.Digits.{rev-lt, rev-around}
-use Rattle.p3_util_kernels.proofs.Reversal.{IsReversal-from_power}
-use Rattle.p3_util_kernels.proofs.SideBySide.{each_part, in_row}
+use Rattle.p3_util_kernels.proofs.DigitsLemmas.{rev-lt, rev-around}
+use Rattle.p3_util_kernels.proofs.ReversalLemmas.{IsReversal-from_power}
+use Rattle.p3_util_kernels.proofs.SideBySideLemmas.{each_part, in_row}
 
 -- A list of 2 ^ size chunks of 2 ^ stride items, which are one square or two. Where its chunks are reversed, each square is
 -- transposed, and the chunks are reversed again, the list is reversed by index bits.

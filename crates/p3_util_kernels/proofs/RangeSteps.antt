@@ -12,10 +12,10 @@ use Rattle.p3_util_kernels.specs.Region.{IsInRegion}
 use Rattle.p3_util_kernels.specs.SwapCounts.{square_swaps}
 use Rattle.p3_util_kernels.proofs.BlockSteps.{square_swaps-next}
 use Rattle.p3_util_kernels.proofs.Counts.{count-first, count-times}
-use Rattle.p3_util_kernels.proofs.Crossing.{middle-lt, row-same}
-use Rattle.p3_util_kernels.proofs.Digits.{rev-lt}
+use Rattle.p3_util_kernels.proofs.CrossingLemmas.{middle-lt, row-same}
+use Rattle.p3_util_kernels.proofs.DigitsLemmas.{rev-lt}
 use Rattle.p3_util_kernels.proofs.MirrorSteps.{mirror-stays}
-use Rattle.p3_util_kernels.proofs.SideBySide.{in_row}
+use Rattle.p3_util_kernels.proofs.SideBySideLemmas.{in_row}
 
 -- the pairs of the first lines, where line l has l % side of them
 abbrev pub pairs_before : (side line : ℕ) → ℕ

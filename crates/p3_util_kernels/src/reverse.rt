@@ -48,7 +48,7 @@ pub fn reverse_slice_index_bits<F>(vals: &mut [F])
 
 /// Reverses `places` by index bits, as [`reverse_index_bits_on`] does over a fresh counter, and returns the number of
 /// exchanges.
-#[tactic(auto, using(crate::proofs::SwapCounts::reversal_bound))]
+#[tactic(auto, using(crate::proofs::SwapCountsLemmas::reversal_bound))]
 #[inline(always)]
 pub fn reverse_counted<S: Places>(places: &mut S) -> u128
     requires { IsReversible (length (S.items places.old)) }
@@ -74,7 +74,7 @@ pub fn reverse_slice_row_index_bits<F>(vals: &mut [F], row_width: usize)
 
 /// Reverses the rows of `places` by index bits, as [`reverse_row_index_bits_on`] does over a fresh counter, and returns the
 /// number of exchanges.
-#[tactic(auto, using(crate::proofs::SwapCounts::rows_bound))]
+#[tactic(auto, using(crate::proofs::SwapCountsLemmas::rows_bound))]
 #[inline(always)]
 pub fn reverse_rows_counted<S: Places>(places: &mut S, row_width: usize) -> u128
     requires { FitsRows (length (S.items places.old)) row_width }
@@ -90,7 +90,7 @@ pub fn reverse_rows_counted<S: Places>(places: &mut S, row_width: usize) -> u128
 
 /// Reverses `m` by index bits, as [`reverse_slice_index_bits`] does, in at most 3n/2 swaps at length n: by the short path
 /// up to 8192 items, and by the long one beyond. The length is zero or a power of two.
-#[tactic(auto, using(crate::proofs::SwapCounts::reversal_bound))]
+#[tactic(auto, using(crate::proofs::SwapCountsLemmas::reversal_bound))]
 pub fn reverse_index_bits_on<S: Places>(m: &mut Swaps<S>)
     requires { IsReversible (length (S.items m.old.holder)) }
     ensures order { IsReversal (S.items m.old.holder) (S.items m.new.holder) }

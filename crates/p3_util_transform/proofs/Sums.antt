@@ -1,6 +1,6 @@
 -- Sums over places, and the reversal of digits with one digit more, beside the laws of `p3_util_kernels`.
 use Rattle.std.proofs.Common.{◌≡◌, ℕ, zero, suc, ◌+◌, ◌*◌, ◌%◌, ◌^◌, ◌<◌, refl, arith}
-use Rattle.p3_util_kernels.proofs.Digits.{rev-one, rev-parts}
+use Rattle.p3_util_kernels.proofs.DigitsLemmas.{rev-one, rev-parts}
 use Rattle.p3_util.specs.Digits.{rev, sum_below}
 use Rattle.p3_util_transform.proofs.Remainders.{mod-add}
 

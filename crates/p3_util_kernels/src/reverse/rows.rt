@@ -13,7 +13,7 @@ use crate::reverse::pairs::{RowDigits, exchange_pairs};
 /// has the k bits of `r` in reversed order. The number of rows is zero or a power of two, which [`fits_rows`] tests.
 ///
 /// [`fits_rows`]: crate::reverse::fits_rows
-#[tactic(auto, using(crate::proofs::SwapCounts::rows_bound))]
+#[tactic(auto, using(crate::proofs::SwapCountsLemmas::rows_bound))]
 pub fn reverse_row_index_bits_on<S: Places>(m: &mut Swaps<S>, row_width: usize)
     requires { FitsRows (length (S.items m.old.holder)) row_width }
     ensures order { IsRowReversal row_width (S.items m.old.holder) (S.items m.new.holder) }
@@ -29,7 +29,7 @@ pub fn reverse_row_index_bits_on<S: Places>(m: &mut Swaps<S>, row_width: usize)
 /// each other. The length is zero or a power of two.
 ///
 /// [`reverse_slice_index_bits`]: crate::reverse::reverse_slice_index_bits
-#[tactic(auto, using(crate::proofs::SwapCounts::short_bound))]
+#[tactic(auto, using(crate::proofs::SwapCountsLemmas::short_bound))]
 pub fn reverse_index_bits_short<S: Places>(m: &mut Swaps<S>)
     requires { IsReversible (length (S.items m.old.holder)) }
     ensures order { IsReversal (S.items m.old.holder) (S.items m.new.holder) }
@@ -42,7 +42,7 @@ pub fn reverse_index_bits_short<S: Places>(m: &mut Swaps<S>)
 
 /// Reverses the order of the `2^lb_num_chunks` chunks of `2^lb_chunk_size` items: with both lengths written as h and c,
 /// place `i` gets the item from `rev(h, i / 2^c) * 2^c + i mod 2^c`. The length is `2^(h + c)`. It makes at most n/2 swaps.
-#[tactic(auto, using(crate::proofs::SwapCounts::chunks_bound))]
+#[tactic(auto, using(crate::proofs::SwapCountsLemmas::chunks_bound))]
 pub fn reverse_chunks_on<S: Places>(m: &mut Swaps<S>, lb_num_chunks: usize, lb_chunk_size: usize)
     requires { length (S.items m.old.holder) ≡ 2 ^ (lb_num_chunks + lb_chunk_size) }
     ensures order { IsRowReversal (2 ^ lb_chunk_size) (S.items m.old.holder) (S.items m.new.holder) }

@@ -1,7 +1,7 @@
 use Rattle.std.proofs.Common.{arith}
 use Rattle.std.proofs.lemmas.Nat.{pow_pos}
-use Rattle.p3_util_kernels.proofs.Levels.{clog_only}
-use Rattle.p3_util_kernels.proofs.Powers.{digits_above, digits_least}
+use Rattle.p3_util_kernels.proofs.LevelsLemmas.{clog_only}
+use Rattle.p3_util_kernels.proofs.PowersLemmas.{digits_above, digits_least}
 use Rattle.p3_util_kernels.proofs.bits.log2_ceil_usize.Goals as goal
 
 pub returns-clause-enough : goal.returns-clause-enough

@@ -1,5 +1,5 @@
 use Rattle.std.proofs.Common.{arith}
-use Rattle.p3_util_kernels.proofs.Powers.{exponent-lt}
+use Rattle.p3_util_kernels.proofs.PowersLemmas.{exponent-lt}
 use Rattle.p3_util_kernels.proofs.bits.log2_floor_usize.Goals as goal
 
 pub returns-else-n-eq0-clause-greatest : goal.returns-else-n-eq0-clause-greatest

@@ -1,7 +1,7 @@
 use Rattle.std.proofs.Common.{◌^◌, ◌≤◌, ◌∙◌, ap, sym, arith}
-use Rattle.p3_util_kernels.proofs.Levels.{clog_power}
+use Rattle.p3_util_kernels.proofs.LevelsLemmas.{clog_power}
 use Rattle.p3_util_kernels.proofs.Logs.{power_of_two}
-use Rattle.p3_util_kernels.proofs.Powers.{exponent-lt, lowest-power}
+use Rattle.p3_util_kernels.proofs.PowersLemmas.{exponent-lt, lowest-power}
 use Rattle.p3_util_kernels.proofs.bits.log2_strict_usize.Goals as goal
 
 pub returns-clause-power : goal.returns-clause-power

@@ -1,6 +1,6 @@
 use Rattle.std.proofs.Common.{arith}
 use Rattle.p3_util_kernels.proofs.Logs.{power_of_three}
-use Rattle.p3_util_kernels.proofs.Powers.{three-pos, three-strict}
+use Rattle.p3_util_kernels.proofs.PowersLemmas.{three-pos, three-strict}
 use Rattle.p3_util_kernels.proofs.bits.log3_strict_usize.Goals as goal
 
 pub ilog2-top-requires : goal.ilog2-top-requires

@@ -1,4 +1,4 @@
-use Rattle.p3_util_kernels.proofs.Powers.{three-fits, three-apart}
+use Rattle.p3_util_kernels.proofs.PowersLemmas.{three-fits, three-apart}
 use Rattle.p3_util_kernels.proofs.Tables.{powers_of_three-at}
 use Rattle.p3_util_kernels.proofs.bits.powers_of_three.Goals as goal
 

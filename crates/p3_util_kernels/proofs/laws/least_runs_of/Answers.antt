@@ -1,4 +1,4 @@
-use Rattle.p3_util_kernels.proofs.Least.{swaps-change, puts-change, palindromes, least-reversal, least-square, least-puts, reversal-differs, square-differs}
+use Rattle.p3_util_kernels.proofs.LeastLemmas.{swaps-change, puts-change, palindromes, least-reversal, least-square, least-puts, reversal-differs, square-differs}
 use Rattle.p3_util_kernels.proofs.laws.least_runs_of.Goals as goal
 
 pub returns : goal.returns

@@ -2,7 +2,7 @@ use Rattle.std.proofs.Common.{◌≡◌, ℕ, ◌-◌, ◌*◌, arith}
 use Rattle.std.proofs.Math.Nat.{mul_comm}
 use Rattle.p3_util_kernels.specs.declared.transpose.regions.Region.{Region}
 use Rattle.p3_util_kernels.specs.Region.{items_of}
-use Rattle.p3_util_kernels.proofs.Halves.{lev-of_whole}
+use Rattle.p3_util_kernels.proofs.HalvesLemmas.{lev-of_whole}
 use Rattle.p3_util_kernels.proofs.transpose.transpose_matrix.Goals as goal
 
 pub put_split-out-requires-clause-enough : goal.put_split-out-requires-clause-enough

@@ -1,5 +1,5 @@
 use Rattle.std.proofs.Common.{◌≡◌, sym, ap, ◌∙◌, arith}
-use Rattle.p3_util_kernels.proofs.Powers.{exponent-same}
+use Rattle.p3_util_kernels.proofs.PowersLemmas.{exponent-same}
 use Rattle.p3_util_transform.proofs.transform.levels_of.Goals as goal
 
 pub returns-clause-bound : goal.returns-clause-bound

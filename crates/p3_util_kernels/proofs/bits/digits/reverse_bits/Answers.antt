@@ -1,6 +1,6 @@
 use Rattle.std.proofs.Common.{◌∙◌, ap}
 use Rattle.p3_util_kernels.specs.Digits.{rev_word}
-use Rattle.p3_util_kernels.proofs.Powers.{lowest-power}
+use Rattle.p3_util_kernels.proofs.PowersLemmas.{lowest-power}
 use Rattle.p3_util_kernels.proofs.bits.digits.reverse_bits.Goals as goal
 
 pub returns : goal.returns

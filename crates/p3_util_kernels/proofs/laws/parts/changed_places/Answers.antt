@@ -1,4 +1,4 @@
-use Rattle.p3_util_kernels.proofs.Least.{puts-at_changed, swaps-at_changed}
+use Rattle.p3_util_kernels.proofs.LeastLemmas.{puts-at_changed, swaps-at_changed}
 use Rattle.p3_util_kernels.proofs.laws.parts.changed_places.Goals as goal
 
 pub returns-clause-swaps : goal.returns-clause-swaps

@@ -1,5 +1,5 @@
 use Rattle.std.proofs.Common.{arith}
-use Rattle.p3_util_kernels.proofs.Halves.{lev-of_region}
+use Rattle.p3_util_kernels.proofs.HalvesLemmas.{lev-of_region}
 use Rattle.p3_util_kernels.proofs.RegionSteps.{region-stays}
 use Rattle.p3_util_kernels.proofs.laws.parts.put_region.Goals as goal
 

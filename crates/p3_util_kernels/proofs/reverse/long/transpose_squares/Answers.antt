@@ -1,6 +1,6 @@
 use Rattle.std.proofs.Common.{◌≡◌, ℕ, ◌+◌, ◌-◌, ◌^◌, ◌<◌, ◌≤◌, ◌∙◌, arith}
-use Rattle.p3_util_kernels.proofs.Powers.{exponent-lt}
-use Rattle.p3_util_kernels.proofs.SideBySide.{AreTransposed-more, square_room}
+use Rattle.p3_util_kernels.proofs.PowersLemmas.{exponent-lt}
+use Rattle.p3_util_kernels.proofs.SideBySideLemmas.{AreTransposed-more, square_room}
 use Rattle.p3_util_kernels.proofs.reverse.long.transpose_squares.Goals as goal
 
 -- the exponents of a list whose length fits a word

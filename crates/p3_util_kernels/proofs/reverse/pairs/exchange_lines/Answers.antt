@@ -1,6 +1,6 @@
 use Rattle.std.proofs.Common.{◌≡◌, ℕ, ◌+◌, ◌-◌, ◌*◌, ◌/◌, ◌%◌, ◌^◌, ◌<◌, refl, arith}
 use Rattle.p3_util_kernels.specs.Crossing.{line_pairs_of}
-use Rattle.p3_util_kernels.proofs.Crossing.{IsCrossed-last, IsCrossed-more}
+use Rattle.p3_util_kernels.proofs.CrossingLemmas.{IsCrossed-last, IsCrossed-more}
 use Rattle.p3_util_kernels.proofs.Lines.{line-below, line-even}
 use Rattle.p3_util_kernels.proofs.reverse.pairs.exchange_lines.Goals as goal
 

@@ -1,5 +1,5 @@
 use Rattle.std.proofs.Common.{◌≢◌, ◌-◌, ◌/◌, arith}
-use Rattle.p3_util_kernels.proofs.Crossing.{IsCrossed-pair, pair-apart, runs-apart}
+use Rattle.p3_util_kernels.proofs.CrossingLemmas.{IsCrossed-pair, pair-apart, runs-apart}
 use Rattle.p3_util_kernels.proofs.reverse.pairs.exchange_pair.Goals as goal
 
 pub exchange_rows-requires-clause-apart : goal.exchange_rows-requires-clause-apart

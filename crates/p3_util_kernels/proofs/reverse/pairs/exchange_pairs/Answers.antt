@@ -2,9 +2,9 @@ use Rattle.std.proofs.Common.{◌≡◌, ◌+◌, ◌-◌, ◌*◌, ◌/◌, ◌
 use Rattle.std.proofs.Math.Pow.{pow_mono}
 use Rattle.p3_util_kernels.specs.declared.transpose.regions.Region.{Region}
 use Rattle.p3_util_kernels.specs.SwapCounts.{line_swaps}
-use Rattle.p3_util_kernels.proofs.Crossing.{IsCrossed-cut}
+use Rattle.p3_util_kernels.proofs.CrossingLemmas.{IsCrossed-cut}
 use Rattle.p3_util_kernels.proofs.Lines.{line-below, line_pairs-inside, line_swaps-more}
-use Rattle.p3_util_kernels.proofs.Region.{IsCut-cols}
+use Rattle.p3_util_kernels.proofs.RegionLemmas.{IsCut-cols}
 use Rattle.p3_util_kernels.proofs.reverse.pairs.exchange_pairs.Goals as goal
 
 pub loop-line_pair-preserved : goal.loop-line_pair-preserved

@@ -2,7 +2,7 @@ use Rattle.std.proofs.Common.{◌≡◌, ◌+◌, ◌-◌, ◌*◌, ◌/◌, ◌
 use Rattle.std.proofs.lemmas.Nat.{pow-add, pow_pos, shl-shr}
 use Rattle.std.proofs.Math.Nat.{mod-eq_of_lt, mul-le-mul_right}
 use Rattle.p3_util_kernels.specs.Digits.{rev}
-use Rattle.p3_util_kernels.proofs.Digits.{rev-shl, rev_word-above}
+use Rattle.p3_util_kernels.proofs.DigitsLemmas.{rev-shl, rev_word-above}
 use Rattle.p3_util_kernels.proofs.Tables.{reversed_six}
 use Rattle.p3_util_kernels.specs.declared.reverse.pairs.TheConstants.{REVERSED_SIX}
 use Rattle.p3_util_kernels.proofs.reverse.pairs.reverse_digits.Goals as goal

@@ -2,7 +2,7 @@ use Rattle.std.proofs.Common.{◌≡◌, ℕ, ◌+◌, ◌-◌, ◌*◌, ◌/◌
 use Rattle.std.proofs.Math.Pow.{pow_mono}
 use Rattle.std.proofs.lemmas.Nat.{mul-add-lt, pow-add}
 use Rattle.p3_util_kernels.specs.Digits.{rev}
-use Rattle.p3_util_kernels.proofs.Digits.{rev-lt}
+use Rattle.p3_util_kernels.proofs.DigitsLemmas.{rev-lt}
 use Rattle.p3_util_kernels.proofs.reverse.pairs.row_at.Goals as goal
 
 -- the row as the code has it

@@ -6,7 +6,7 @@ use Rattle.p3_util_kernels.specs.Crossing.{HoldsRows, line_pairs_of}
 use Rattle.p3_util_kernels.specs.Levels.{clog}
 use Rattle.p3_util_kernels.specs.Reversal.{FitsRows}
 use Rattle.p3_util_kernels.specs.SwapCounts.{line_swaps, short_swaps}
-use Rattle.p3_util_kernels.proofs.Crossing.{IsRowReversal-crossed}
+use Rattle.p3_util_kernels.proofs.CrossingLemmas.{IsRowReversal-crossed}
 use Rattle.p3_util_kernels.proofs.Lengths.{IsDigitsOfRows-from, no_digits}
 use Rattle.p3_util_kernels.proofs.Lines.{line-below, line_pairs-inside, line_pairs-whole, line_swaps-all, line_swaps-none}
 use Rattle.p3_util_kernels.proofs.reverse.rows.exchange_all.Goals as goal

@@ -1,7 +1,7 @@
 use Rattle.std.proofs.Common.{◌≡◌, ◌+◌, ◌*◌, ◌^◌, sym, arith}
 use Rattle.p3_util_kernels.specs.SwapCounts.{short_swaps}
 use Rattle.p3_util_kernels.proofs.Lengths.{chunks_counted, chunks_fit}
-use Rattle.p3_util_kernels.proofs.Powers.{exponent-lt}
+use Rattle.p3_util_kernels.proofs.PowersLemmas.{exponent-lt}
 use Rattle.p3_util_kernels.proofs.reverse.rows.reverse_chunks.Goals as goal
 
 pub chunks-requires : goal.chunks-requires

@@ -1,4 +1,4 @@
-use Rattle.p3_util_kernels.proofs.Stages.{IsBlockTransposed-from_stages}
+use Rattle.p3_util_kernels.proofs.StagesLemmas.{IsBlockTransposed-from_stages}
 use Rattle.p3_util_kernels.proofs.transpose.butterfly.butterfly_4x4.Goals as goal
 
 pub returns : goal.returns

@@ -1,8 +1,8 @@
 use Rattle.std.proofs.Common.{arith, rules}
 use Rattle.p3_util_kernels.specs.Region.{cols_of, rows_of}
-use Rattle.p3_util_kernels.proofs.Halves.{lev-of_region}
-use Rattle.p3_util_kernels.proofs.Levels.{nest_le}
-use Rattle.p3_util_kernels.proofs.Region.{IsRegionTransposed-cut}
+use Rattle.p3_util_kernels.proofs.HalvesLemmas.{lev-of_region}
+use Rattle.p3_util_kernels.proofs.LevelsLemmas.{nest_le}
+use Rattle.p3_util_kernels.proofs.RegionLemmas.{IsRegionTransposed-cut}
 use Rattle.p3_util_kernels.proofs.transpose.split.+put_split.Goals as goal
 
 pub overflow_sub-levels : goal.overflow_sub-levels

@@ -1,5 +1,5 @@
 use Rattle.std.proofs.Common.{arith}
-use Rattle.p3_util_kernels.proofs.Halves.{AreHalves-cols, AreHalves-rows}
+use Rattle.p3_util_kernels.proofs.HalvesLemmas.{AreHalves-cols, AreHalves-rows}
 use Rattle.p3_util_kernels.proofs.transpose.split.halves.Goals as goal
 
 pub returns-then-rows-cols : goal.returns-then-rows-cols

@@ -1,4 +1,4 @@
-use Rattle.p3_util_kernels.proofs.Diagonal.{cut_exchanged}
+use Rattle.p3_util_kernels.proofs.DiagonalLemmas.{cut_exchanged}
 use Rattle.p3_util_kernels.proofs.transpose.square.+exchange_region.Goals as goal
 
 pub returns-then-rows-cols-clause-swapped : goal.returns-then-rows-cols-clause-swapped

@@ -1,5 +1,5 @@
 use Rattle.std.proofs.Common.{◌≡◌, ◌+◌, ◌-◌, ◌/◌, refl, arith}
-use Rattle.p3_util_kernels.proofs.Diagonal.{SwapsAcross-quadrants}
+use Rattle.p3_util_kernels.proofs.DiagonalLemmas.{SwapsAcross-quadrants}
 use Rattle.p3_util_kernels.proofs.Pairs.{pairs-add}
 use Rattle.p3_util_kernels.proofs.transpose.square.+transpose_diagonal.Goals as goal
 

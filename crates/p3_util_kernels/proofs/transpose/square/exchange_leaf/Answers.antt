@@ -1,6 +1,6 @@
 use Rattle.std.proofs.Common.{◌≡◌, ◌+◌, ◌-◌, arith}
-use Rattle.p3_util_kernels.proofs.Diagonal.{cut_exchanged}
-use Rattle.p3_util_kernels.proofs.Region.{IsCut-rows}
+use Rattle.p3_util_kernels.proofs.DiagonalLemmas.{cut_exchanged}
+use Rattle.p3_util_kernels.proofs.RegionLemmas.{IsCut-rows}
 use Rattle.p3_util_kernels.proofs.transpose.square.exchange_leaf.Goals as goal
 
 pub loop-row-preserved : goal.loop-row-preserved

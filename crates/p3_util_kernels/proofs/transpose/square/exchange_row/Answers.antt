@@ -1,6 +1,6 @@
 use Rattle.std.proofs.Common.{◌≡◌, ◌*◌, ◌≤◌, ◌+◌, ◌-◌, length, refl, arith}
 use Rattle.std.proofs.Math.Nat.{mul-le-mul_right}
-use Rattle.p3_util_kernels.proofs.Diagonal.{SwapsAcross-item, square_place}
+use Rattle.p3_util_kernels.proofs.DiagonalLemmas.{SwapsAcross-item, square_place}
 use Rattle.p3_util_kernels.proofs.transpose.square.exchange_row.Goals as goal
 
 pub loop-col-preserved : goal.loop-col-preserved

@@ -1,6 +1,6 @@
 use Rattle.std.proofs.Common.{◌^◌, ◌≤◌, zero-add, arith}
 use Rattle.std.proofs.Math.Pow.{pow_mono}
-use Rattle.p3_util_kernels.proofs.Diagonal.{IsSquareTransposed-from_across}
+use Rattle.p3_util_kernels.proofs.DiagonalLemmas.{IsSquareTransposed-from_across}
 use Rattle.p3_util_kernels.proofs.transpose.square.transpose_square.Goals as goal
 
 pub transpose_diagonal-requires-clause-within : goal.transpose_diagonal-requires-clause-within

@@ -1,5 +1,5 @@
 use Rattle.std.proofs.Common.{◌≡◌, ◌+◌, ◌-◌, ◌*◌, arith}
-use Rattle.p3_util_kernels.proofs.Region.{IsCut-rows, IsRegionTransposed-cut}
+use Rattle.p3_util_kernels.proofs.RegionLemmas.{IsCut-rows, IsRegionTransposed-cut}
 use Rattle.p3_util_kernels.specs.declared.transpose.strips.TheConstants.{BLOCK_SIDE}
 use Rattle.p3_util_kernels.proofs.transpose.strips.put_blocks.Goals as goal
 

@@ -1,5 +1,5 @@
 use Rattle.std.proofs.Common.{◌≡◌, ◌+◌, ◌-◌, ◌*◌, ◌/◌, arith}
-use Rattle.p3_util_kernels.proofs.Columns.{HoldsColumn-some, IsColumnPut-more}
+use Rattle.p3_util_kernels.proofs.ColumnsLemmas.{HoldsColumn-some, IsColumnPut-more}
 use Rattle.p3_util_kernels.specs.declared.transpose.strips.TheConstants.{COLUMN_ITEMS}
 use Rattle.p3_util_kernels.proofs.transpose.strips.put_column.Goals as goal
 

@@ -1,6 +1,6 @@
 use Rattle.std.proofs.Common.{◌≡◌, ◌+◌, ◌-◌, arith}
-use Rattle.p3_util_kernels.proofs.Columns.{HoldsColumn-region, IsRegionTransposed-column}
-use Rattle.p3_util_kernels.proofs.Region.{IsCut-cols, IsRegionTransposed-cut}
+use Rattle.p3_util_kernels.proofs.ColumnsLemmas.{HoldsColumn-region, IsRegionTransposed-column}
+use Rattle.p3_util_kernels.proofs.RegionLemmas.{IsCut-cols, IsRegionTransposed-cut}
 use Rattle.p3_util_kernels.proofs.transpose.strips.put_columns.Goals as goal
 
 pub put_column-out-requires : goal.put_column-out-requires

@@ -1,6 +1,6 @@
 use Rattle.std.proofs.Common.{◌≡◌, arith}
 use Rattle.p3_util_kernels.specs.Region.{items_of}
-use Rattle.p3_util_kernels.proofs.Region.{IsCut-rows, IsRegionTransposed-cut}
+use Rattle.p3_util_kernels.proofs.RegionLemmas.{IsCut-rows, IsRegionTransposed-cut}
 use Rattle.p3_util_kernels.proofs.transpose.strips.put_strips.Goals as goal
 
 pub loop-row-preserved : goal.loop-row-preserved

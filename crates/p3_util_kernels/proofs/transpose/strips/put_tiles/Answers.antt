@@ -1,6 +1,6 @@
 use Rattle.std.proofs.Common.{◌≡◌, arith}
 use Rattle.p3_util_kernels.specs.Region.{items_of}
-use Rattle.p3_util_kernels.proofs.Region.{IsCut-cols, IsRegionTransposed-cut}
+use Rattle.p3_util_kernels.proofs.RegionLemmas.{IsCut-cols, IsRegionTransposed-cut}
 use Rattle.p3_util_kernels.proofs.transpose.strips.put_tiles.Goals as goal
 
 pub loop-col-preserved : goal.loop-col-preserved

@@ -1,4 +1,4 @@
-use Rattle.p3_util_kernels.proofs.Region.{IsCut-cols}
+use Rattle.p3_util_kernels.proofs.RegionLemmas.{IsCut-cols}
 use Rattle.p3_util_kernels.proofs.transpose.regions.Region.cut_cols.Goals as goal
 
 pub returns-clause-cut : goal.returns-clause-cut

@@ -1,4 +1,4 @@
-use Rattle.p3_util_kernels.proofs.Region.{IsCut-rows}
+use Rattle.p3_util_kernels.proofs.RegionLemmas.{IsCut-rows}
 use Rattle.p3_util_kernels.proofs.transpose.regions.Region.cut_rows.Goals as goal
 
 pub returns-clause-cut : goal.returns-clause-cut

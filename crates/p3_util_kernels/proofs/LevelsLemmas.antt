@@ -5,7 +5,7 @@ use Rattle.std.proofs.lemmas.Bool.{cases_lt, lt-ltb, le-ltb, and_from, and_left,
 use Rattle.std.proofs.lemmas.Nat.{pow-add, mul-le}
 use Rattle.p3_util_kernels.specs.Digits.{sum_below}
 use Rattle.p3_util_kernels.specs.Levels.{clog, lev, nest}
-use Rattle.p3_util_kernels.proofs.Powers.{exponent-le}
+use Rattle.p3_util_kernels.proofs.PowersLemmas.{exponent-le}
 
 below_power : (n : ℕ) → n < 2 ^ n
 below_power zero = omega arith

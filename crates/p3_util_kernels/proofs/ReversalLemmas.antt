@@ -2,10 +2,10 @@
 use Rattle.std.proofs.Common.{◌≡◌, ℕ, ◌+◌, ◌*◌, ◌^◌, ◌<◌, List, length, slice_get, inl, inr, refl, sym, ap, ◌∙◌, arith}
 use Rattle.p3_util_kernels.specs.Digits.{rev}
 use Rattle.p3_util_kernels.specs.Reversal.{FitsRows, IsReversal, IsRowReversal, IsZeroOrPowerOfTwo}
-use Rattle.p3_util_kernels.proofs.Digits.{rev-lt, rev-rev-below}
+use Rattle.p3_util_kernels.proofs.DigitsLemmas.{rev-lt, rev-rev-below}
 use Rattle.p3_util_kernels.proofs.Lengths.{FitsRows-one}
 use Rattle.p3_util_kernels.proofs.Matrix.{each_place}
-use Rattle.p3_util_kernels.proofs.Powers.{exponent-same}
+use Rattle.p3_util_kernels.proofs.PowersLemmas.{exponent-same}
 use Rattle.p3_util_kernels.proofs.SameList.{same_places}
 
 -- reversal of items, place by place

@@ -12,8 +12,8 @@ use Rattle.p3_util_kernels.specs.Halves.{IsCut}
 use Rattle.p3_util_kernels.specs.Region.{IsInRegion}
 use Rattle.p3_util_kernels.specs.Square.{IsSquareTransposed}
 use Rattle.p3_util_kernels.proofs.Exchange.{slice_get-swap_first, slice_get-swap_second, slice_get-swap_other}
-use Rattle.p3_util_kernels.proofs.Mirrored.{Mirrored-cut, Mirrored-none}
-use Rattle.p3_util_kernels.proofs.Region.{IsCut-cols, IsCut-rows}
+use Rattle.p3_util_kernels.proofs.MirroredLemmas.{Mirrored-cut, Mirrored-none}
+use Rattle.p3_util_kernels.proofs.RegionLemmas.{IsCut-cols, IsCut-rows}
 
 -- a place of the square is before its last one
 pub square_place : (base stride a b last n : ℕ) → a ≤ last → b ≤ last → base + last * stride + last < n → base + a * stride + b < n

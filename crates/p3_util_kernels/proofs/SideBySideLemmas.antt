@@ -2,7 +2,7 @@
 use Rattle.std.proofs.Common.{◌≡◌, ℕ, ◌+◌, ◌-◌, ◌*◌, ◌^◌, ◌<◌, ◌≤◌, List, slice_get, inl, inr, sym, ap, ◌∙◌, arith}
 use Rattle.std.proofs.lemmas.Bool.{cases_lt}
 use Rattle.std.proofs.lemmas.Nat.{pow-add, pow_pos, mul-add-lt, same_from_place}
-use Rattle.p3_util_kernels.proofs.Digits.{middle-below}
+use Rattle.p3_util_kernels.proofs.DigitsLemmas.{middle-below}
 use Rattle.p3_util_kernels.proofs.Matrix.{each_place}
 use Rattle.p3_util_kernels.specs.Square.{IsSquareTransposed}
 use Rattle.p3_util_kernels.specs.SideBySide.{AreTransposed}

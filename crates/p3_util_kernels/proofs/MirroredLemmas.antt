@@ -4,7 +4,7 @@ use Rattle.p3_util_kernels.specs.declared.transpose.regions.Region.{Region}
 use Rattle.p3_util_kernels.specs.Halves.{IsCut}
 use Rattle.p3_util_kernels.specs.Mirrored.{Mirrored}
 use Rattle.p3_util_kernels.specs.Region.{IsInRegion}
-use Rattle.p3_util_kernels.proofs.Region.{inside}
+use Rattle.p3_util_kernels.proofs.RegionLemmas.{inside}
 
 -- A pair lies on the line of its greater number, and the smaller one is its row there. Each place has one line and one row.
 module _ {A M : Type 0} (place : M → ℕ → ℕ → ℕ) (Within : M → ℕ → ℕ → Type 0) (line : M → ℕ → ℕ)

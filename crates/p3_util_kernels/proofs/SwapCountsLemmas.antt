@@ -8,7 +8,7 @@ use Rattle.p3_util_kernels.specs.Levels.{clog}
 use Rattle.p3_util_kernels.specs.Reversal.{FitsRows, IsReversible, IsZeroOrPowerOfTwo}
 use Rattle.p3_util_kernels.specs.SwapCounts.{short_swaps, long_swaps, square_swaps, reversal_swaps, row_swaps}
 use Rattle.p3_util_kernels.proofs.Lengths.{zero_or_power}
-use Rattle.p3_util_kernels.proofs.Levels.{clog_power, clog-zero}
+use Rattle.p3_util_kernels.proofs.LevelsLemmas.{clog_power, clog-zero}
 use Rattle.p3_util_kernels.proofs.Pairs.{twice-pairs}
 
 -- two swaps for each pair of places, and no more places than items

@@ -10,11 +10,11 @@ use Rattle.p3_util_kernels.specs.Exchanged.{RunsExchanged}
 use Rattle.p3_util_kernels.specs.Halves.{IsCut}
 use Rattle.p3_util_kernels.specs.Region.{IsInRegion}
 use Rattle.p3_util_kernels.specs.Reversal.{IsRowReversal}
-use Rattle.p3_util_kernels.proofs.Digits.{rev-lt, rev-rev-below, rev-around}
+use Rattle.p3_util_kernels.proofs.DigitsLemmas.{rev-lt, rev-rev-below, rev-around}
 use Rattle.p3_util_kernels.proofs.Lengths.{rows-same}
-use Rattle.p3_util_kernels.proofs.Mirrored.{Mirrored-cut, Mirrored-none}
-use Rattle.p3_util_kernels.proofs.Region.{IsCut-cols, IsCut-rows}
-use Rattle.p3_util_kernels.proofs.SideBySide.{each_part, in_row, row_length}
+use Rattle.p3_util_kernels.proofs.MirroredLemmas.{Mirrored-cut, Mirrored-none}
+use Rattle.p3_util_kernels.proofs.RegionLemmas.{IsCut-cols, IsCut-rows}
+use Rattle.p3_util_kernels.proofs.SideBySideLemmas.{each_part, in_row, row_length}
 
 -- two runs of rows that differ are apart
 pub runs-apart : (row_width i j : ℕ) → i ≢ j → (i * row_width + row_width ≤ j * row_width) ⊎ (j * row_width + row_width ≤ i * row_width)

@@ -6,8 +6,8 @@ use Rattle.p3_util_kernels.specs.declared.transpose.regions.Region.{Region}
 use Rattle.p3_util_kernels.specs.Halves.{AreHalves}
 use Rattle.p3_util_kernels.specs.Levels.{lev, nest}
 use Rattle.p3_util_kernels.specs.Region.{LiesInMatrix, cols_of, rows_of}
-use Rattle.p3_util_kernels.proofs.Levels.{clog-le, lev-half, lev_le, nest-deep}
-use Rattle.p3_util_kernels.proofs.Region.{IsCut-rows, IsCut-cols}
+use Rattle.p3_util_kernels.proofs.LevelsLemmas.{clog-le, lev-half, lev_le, nest-deep}
+use Rattle.p3_util_kernels.proofs.RegionLemmas.{IsCut-rows, IsCut-cols}
 
 -- at most 57 levels for a region of a matrix whose places fit a word
 pub lev-of_region : (region : Region) (width height : ℕ) → LiesInMatrix region width height → width < 2 ^ 64 → height < 2 ^ 64 → width * height < 2 ^ 64
