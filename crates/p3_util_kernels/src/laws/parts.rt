@@ -69,14 +69,15 @@ impl<S: Places> Places for SwapSteps<S> {
     ghost same_holder_trans = { λ m n all a b c. more_swaps m n all (S.items a.places) (S.items b.places) (S.items c.places) };
 }
 
-/// Where as many places changed as there were writes, each of these places was written once, and no other was.
+/// Where as many places changed as there were writes, or twice as many as there were exchanges, the steps are at these places,
+/// and no place is in two of them.
 pub(crate) fn changed_places<T>()
     ensures swaps { SwapsAtChanged T }
     ensures puts { PutsAtChanged T }
 {}
 
-/// A region of a transpose is put by as many writes as it has items, and where no item of the input is in the output, each
-/// write is at another place of the region's transpose.
+/// A region of a transpose is put by as many writes as it has items. Where no item of the input is in the output, all of them
+/// are at places of the region's transpose, and at one place each.
 pub(crate) fn put_region<C: Cells, R: Source<Item = C::Item> + Copy>(
     out: C,
     matrix: Matrix<R>,
@@ -132,8 +133,8 @@ pub(crate) fn parts_of_matrix(
     (first, second)
 }
 
-/// A block of squares side by side is exchanged with its mirror image by so many exchanges, and where all items of the list
-/// differ, each exchange is of two other places of the block and its mirror image.
+/// A block of squares side by side is exchanged with its mirror image by an exact number of exchanges. Where all items of the
+/// list differ, all of them are of places of the block and of its mirror image, and no place is in two of them.
 pub(crate) fn exchange_block<S: Places>(places: S, squares: Squares, number: usize) -> S
     requires below { number < blocks_of squares.cut.len squares.stride squares.cut.step }
     requires whole { length (S.items places) ≡ squares.cut.len * squares.stride }
@@ -152,8 +153,8 @@ pub(crate) fn blocks_apart(squares: Squares, first: usize, second: usize)
         (IsPlaceOfBlock squares.cut.len squares.stride squares.cut.step second) }
 {}
 
-/// The pairs of rows of a range of line pairs are exchanged by as many exchanges as they have items in one of their rows, and
-/// where all items of the list differ, each exchange is of two other places of these rows.
+/// The pairs of rows of a range of line pairs are exchanged by an exact number of exchanges. Where all items of the list differ,
+/// all of them are of places of these rows, and no place is in two of them.
 pub(crate) fn exchange_range<S: Places>(places: S, rows: RowDigits, from: usize, to: usize) -> S
     requires in_order { from ≤ to }
     requires within { to ≤ line_pairs_of rows.digits }
