@@ -29,18 +29,18 @@ fn transforms(rt: HostRuntime) {
     assert_eq!(rt; matrix.values(), wanted.as_slice());
 }
 
-/// The same. It makes 2 requests for memory.
+/// The same of the inverse transform. It makes 2 requests for memory.
 #[test]
 fn inverses(rt: HostRuntime) {
     let Ok(Some(mut matrix)) = small(rt.alloc()) else {
         return;
     };
     assert!(rt; fits_transform(&matrix));
-    let given = match inverse_transform_columns(rt.alloc(), &mut matrix) {
-        Ok(()) => false,
-        Err(AllocError) => matrix.values() != [1, 2, 3, 4].as_slice(),
+    let wanted = match inverse_transform_columns(rt.alloc(), &mut matrix) {
+        Ok(()) => [1_006_632_963, 864_202_256, 1_006_632_960, 1_149_063_664],
+        Err(AllocError) => [1, 2, 3, 4],
     };
-    assert!(rt; !given);
+    assert_eq!(rt; matrix.values(), wanted.as_slice());
 }
 
 /// The values and the powers of both ways. It makes 3 requests for memory.
