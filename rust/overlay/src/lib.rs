@@ -1,12 +1,21 @@
 //! Everything of `p3-util` 0.8.0, with the proved calls in place of its own, for every type of items that these take, where
 //! words have 64 bits. `linear_map` stays the original's, since the proved map asks `K: Eq` of its type. So does
 //! `branch_hint`, by which the compiler keeps a branch, and what the proved package has not. On other systems all goes to the
-//! original.
+//! original. With the feature `parallel` long reversals and transposes run on all threads.
 #![no_std]
+
+#[cfg(all(feature = "parallel", target_pointer_width = "64"))]
+extern crate alloc;
+
+#[cfg(all(not(feature = "parallel"), target_pointer_width = "64"))]
+use p3_util_proved as proved;
+#[cfg(all(feature = "parallel", target_pointer_width = "64"))]
+#[path = "parallel.rs"]
+mod proved;
 
 pub use original::*;
 #[cfg(target_pointer_width = "64")]
-pub use p3_util_proved::{
+pub use proved::{
     apply_to_chunks, assert_clone, assert_send, assert_sync, checked_log_size_sum, checked_pow2, indices_arr,
     iter_array_chunks_padded, log2_ceil_u64, log2_ceil_usize, log2_floor_usize, log2_strict_usize, log3_strict_usize,
     pretty_name, reverse_bits, reverse_bits_len, reverse_slice_index_bits, transpose, zip_eq,

@@ -23,6 +23,15 @@ fn moves<T: Copy + Debug + PartialEq + Send + Sync>(item: impl Fn(u8) -> T) {
     assert_eq!(tree::transposed(&items([1, 2, 3, 4, 5, 6]), 3), items([1, 4, 2, 5, 3, 6]));
 }
 
+/// Reverses and transposes lists that are long enough for several threads.
+fn moves_long_lists() {
+    let list: Vec<u32> = (0..1 << 20).collect();
+    let transposed = tree::transposed(&list, 1 << 11);
+    assert!((0..1 << 20).all(|place| transposed[place] == list[place % 512 * 2048 + place / 512]));
+    let reversed = tree::reversed(list);
+    assert!(reversed.iter().zip(0u32..).all(|(item, i)| *item == i.reverse_bits() >> 12));
+}
+
 /// What the calls of the stand-in for the original never answer.
 fn right_answers() -> [bool; 15] {
     let chunks: Vec<[u8; 2]> = iter_array_chunks_padded([1, 2, 3], 0).collect();
@@ -60,9 +69,10 @@ fn main() {
     moves(|i| [i; 7]);
     moves(|i| [u32::from(i); 9]);
     reverses(|i| vec![i; 5]);
+    moves_long_lists();
     calls();
     // The call of branch_hint alone, or all of them.
-    let originals = if IS_PROVED { 1 } else { 2 * 4 + 1 + 5 };
+    let originals = if IS_PROVED { 1 } else { 2 * 4 + 1 + 2 + 5 };
     assert_eq!(CALLS.load(Relaxed), originals);
     assert_eq!(right_answers(), [IS_PROVED; 15]);
     // What stays the original's everywhere.

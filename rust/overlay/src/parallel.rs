@@ -1,0 +1,64 @@
+//! The calls on slices, of which the long ones run in parts on the threads of `p3-maybe-rayon`.
+
+use alloc::vec::Vec;
+
+use p3_maybe_rayon::prelude::*;
+pub use p3_util_proved::*;
+
+/// How many parts there are for each thread, about. They are of unequal size.
+const PARTS_A_THREAD: usize = 4;
+
+/// The least number of items that are reversed in parts. Fewer are one part.
+const LEAST_REVERSAL: usize = (1 << 18) + 1;
+
+/// How many parts a call on so many items is cut into, where its parts take less time on the threads than the call itself.
+fn parts_of(items: usize, least: usize) -> Option<usize> {
+    if items < least {
+        return None;
+    }
+    let threads = current_num_threads();
+    (threads > 1).then(|| threads * PARTS_A_THREAD)
+}
+
+/// As [`p3_util_proved::reverse_slice_index_bits`], on all threads.
+///
+/// # Panics
+///
+/// Where the length is neither zero nor a power of two.
+#[inline]
+#[track_caller]
+pub fn reverse_slice_index_bits<F: Send + Sync>(vals: &mut [F]) {
+    let Some(parts) = parts_of(vals.len(), LEAST_REVERSAL) else {
+        return p3_util_proved::reverse_slice_index_bits(vals);
+    };
+    let mut phases = p3_util_proved::parts::reversal(vals, parts);
+    while let Some(parts) = phases.next_phase() {
+        let parts: Vec<_> = parts.collect();
+        parts.into_par_iter().for_each(|part| part.run());
+    }
+}
+
+#[allow(dead_code, reason = "the original's transposes may be kept in their place")]
+pub mod transpose {
+    //! Transposes of matrices that are held as flat slices, row after row.
+
+    use super::*;
+
+    /// The least number of items that are transposed in parts.
+    const LEAST_ITEMS: usize = 1 << 18;
+
+    /// As [`p3_util_proved::transpose::transpose`], on all threads.
+    ///
+    /// # Panics
+    ///
+    /// Where the length of `input` or of `output` is not `width` times `height`, as a product that does not wrap.
+    #[inline]
+    #[track_caller]
+    pub fn transpose<T: Copy + Send + Sync>(input: &[T], output: &mut [T], width: usize, height: usize) {
+        let Some(parts) = parts_of(input.len(), LEAST_ITEMS) else {
+            return p3_util_proved::transpose::transpose(input, output, width, height);
+        };
+        let parts: Vec<_> = p3_util_proved::parts::transpose(input, output, width, height, parts).collect();
+        parts.into_par_iter().for_each(|part| part.run());
+    }
+}
