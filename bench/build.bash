@@ -5,6 +5,7 @@ cpu=
 library=
 checked=
 instructions=
+parallel=
 while [ $# -gt 0 ]; do
     case $1 in
     --help)
@@ -18,6 +19,11 @@ while [ $# -gt 0 ]; do
     --cpu)
         cpu=${2:?--cpu CPU}
         options+=(--cpu "$cpu")
+        shift
+        ;;
+    --parallel)
+        parallel=${2:?--parallel FOLDER}
+        original=$parallel/libp3_util.rlib
         shift
         ;;
     --library) library=yes ;;
@@ -45,4 +51,12 @@ fi
 if [ -n "$original" ]; then
     link+=(--extern "p3_util=$original" --cfg original)
 fi
-"${rust[@]}" --check-cfg 'cfg(original, library)' --crate-name bench "${link[@]}" -o "$out/bench" "$here/src/main.rs"
+if [ -n "$parallel" ]; then
+    # The overlay over the package and the original, as cargo builds it with the feature.
+    "${rust[@]}" --crate-type lib --crate-name p3_util_overlay --cfg 'feature="parallel"' "${link[@]}" --extern "original=$original" \
+        --extern "p3_maybe_rayon=$(echo "$parallel"/libp3_maybe_rayon-*.rlib)" -L "dependency=$parallel" \
+        -o "$out/libp3_util_overlay.rlib" "$here/../rust/overlay/src/lib.rs"
+    link+=(--extern "overlay=$out/libp3_util_overlay.rlib" --extern "rayon=$(echo "$parallel"/librayon-*.rlib)" \
+        -L "dependency=$parallel" -L "dependency=$out" --cfg parallel)
+fi
+"${rust[@]}" --check-cfg 'cfg(original, library, parallel)' --crate-name bench "${link[@]}" -o "$out/bench" "$here/src/main.rs"

@@ -8,10 +8,10 @@ use crate::options::{Options, SHAPES, WIDE_SHAPES};
 pub const CALLS: [&str; 3] = ["reverse", "rows", "transpose"];
 
 /// The name of a group that cases are summed up in, and whether a case is in it.
-type Group = (&'static str, fn(Work) -> bool);
+pub type Group = (&'static str, fn(Work) -> bool);
 
 /// A case may be in several groups.
-pub const GROUPS: [Group; 8] = [
+const GROUPS: &[Group] = &[
     ("reversals of up to 2^13 items", |it| it.is("reverse", ..=1 << 13)),
     ("reversals of more items", |it| it.is("reverse", 1 << 14..)),
     ("rows, beside a copy", |it| it.is("rows", ..)),
@@ -23,6 +23,24 @@ pub const GROUPS: [Group; 8] = [
     }),
     ("transposes of wide matrices", |it| it.is_among(WIDE_SHAPES)),
 ];
+
+/// What is summed up of calls on several threads.
+const GROUPS_ON_THREADS: &[Group] = &[
+    ("reversals of up to 2^18 items", |it| it.is("reverse", ..=1 << 18)),
+    ("reversals of 2^19 items", |it| it.is("reverse", 1 << 19..1 << 20)),
+    ("reversals of 2^20 to 2^24 items", |it| it.is("reverse", 1 << 20..)),
+    ("transposes of fewer than 2^18 items", |it| {
+        it.is("transpose", ..1 << 18)
+    }),
+    ("transposes of fewer than 2^22 items", |it| {
+        it.is("transpose", 1 << 18..1 << 22)
+    }),
+    ("transposes of 2^22 items and more", |it| it.is("transpose", 1 << 22..)),
+];
+
+pub fn groups() -> &'static [Group] {
+    if cfg!(parallel) { GROUPS_ON_THREADS } else { GROUPS }
+}
 
 #[derive(Clone, Copy, PartialEq, Eq)]
 pub enum Work {

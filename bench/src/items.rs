@@ -6,10 +6,12 @@ use crate::cases::{Case, Work};
 use crate::measure::{Runner, Task};
 #[cfg(library)]
 use over_library::{reverse, reverse_rows, transpose};
+#[cfg(parallel)]
+use overlay::{reverse_slice_index_bits as reverse, transpose::transpose};
 #[cfg(not(library))]
-use p3_util_proved::{
-    reverse_slice_index_bits as reverse, reverse_slice_row_index_bits as reverse_rows, transpose::transpose,
-};
+use p3_util_proved::reverse_slice_row_index_bits as reverse_rows;
+#[cfg(not(any(library, parallel)))]
+use p3_util_proved::{reverse_slice_index_bits as reverse, transpose::transpose};
 
 /// The calls of the static library, whose conditions hold for each case.
 #[cfg(library)]
@@ -104,6 +106,9 @@ enum Contender {
     Proved,
     #[cfg(original)]
     Original,
+    /// The package's call on one thread.
+    #[cfg(parallel)]
+    Call,
     Copy,
 }
 
@@ -115,6 +120,8 @@ fn contenders(work: Work) -> &'static [Contender] {
             Contender::Proved,
             #[cfg(original)]
             Contender::Original,
+            #[cfg(parallel)]
+            Contender::Call,
             Contender::Copy,
         ],
     }
@@ -153,7 +160,19 @@ impl<T: Item> Lists<T> {
                     p3_util::transpose::transpose(from, to, width, height)
                 })
             }
-            (Contender::Copy, _) => repeat(times, to, from, |to, from| to.copy_from_slice(from)),
+            #[cfg(parallel)]
+            (Contender::Call, Work::Reverse { .. }) => {
+                repeat(times, to, (), |to, ()| p3_util_proved::reverse_slice_index_bits(to))
+            }
+            #[cfg(parallel)]
+            (Contender::Call, Work::Rows { .. }) => unreachable!("rows are not measured on threads"),
+            #[cfg(parallel)]
+            (Contender::Call, Work::Transpose { width, height }) => {
+                repeat(times, to, (from, width, height), |to, (from, width, height)| {
+                    p3_util_proved::transpose::transpose(from, to, width, height)
+                })
+            }
+            (Contender::Copy, _) => repeat(times, to, from, copy),
         }
     }
 
@@ -172,6 +191,21 @@ impl<T: Item> Lists<T> {
             );
         }
     }
+}
+
+#[cfg(not(parallel))]
+fn copy<T: Item>(to: &mut [T], from: &[T]) {
+    to.copy_from_slice(from);
+}
+
+/// A copy on all threads.
+#[cfg(parallel)]
+fn copy<T: Item>(to: &mut [T], from: &[T]) {
+    use rayon::prelude::*;
+
+    let len = to.len().div_ceil(rayon::current_num_threads());
+    let chunks = to.par_chunks_mut(len).zip(from.par_chunks(len));
+    chunks.for_each(|(to, from)| to.copy_from_slice(from));
 }
 
 /// Makes the call so many times. Each call has a loop of its own, so that little time goes to anything else, and the

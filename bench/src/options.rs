@@ -44,7 +44,22 @@ pub const SHAPES: &str = "2x2,3x3,4x4,5x5,6x6,7x7,8x8,15x17,16x16,17x19,64x64,63
 pub const WIDE_SHAPES: &str = "1024x2048,2048x1024,2048x2048,4096x512,4096x4096,8192x256,8192x1024,16384x128,16384x256,\
     16384x100,32768x64,32768x100,65536x20,65536x40,65536x100,131072x24,262144x12,6144x700,12288x300,20000x100,50000x37";
 
+/// Columns and rows of matrices that are measured on several threads.
+const SHAPES_ON_THREADS: &str = "256x256,512x512,64x4096,4096x64,1000x300,1024x1024,1023x1001,64x16384,16384x64,\
+    2048x1024,1024x2048,300x4096,2048x2048,4096x1024,64x65536,65536x64,4096x4096,256x65536,16x1048576,1048576x16,\
+    3000x2000,100x65536";
+
 impl Options {
+    /// What is measured on several threads, where the command line says nothing else.
+    fn on_threads() -> Result<Self, String> {
+        Ok(Options {
+            calls: vec!["reverse".into(), "transpose".into()],
+            sizes: (14..=24).collect(),
+            shapes: list(SHAPES_ON_THREADS, shape)?,
+            ..Options::new()?
+        })
+    }
+
     fn new() -> Result<Self, String> {
         let shapes: Vec<_> = list(SHAPES, shape)?;
         Ok(Options {
@@ -63,7 +78,11 @@ impl Options {
     }
 
     pub fn from_words(mut words: impl Iterator<Item = String>) -> Result<Self, String> {
-        let mut options = Options::new()?;
+        let mut options = if cfg!(parallel) {
+            Options::on_threads()?
+        } else {
+            Options::new()?
+        };
         while let Some(word) = words.next() {
             let mut value = || words.next().ok_or_else(|| format!("{word} wants a value"));
             match word.as_str() {

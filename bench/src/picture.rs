@@ -36,12 +36,13 @@ const COLORS: [(usize, &str); 16] = [
 /// The time of each row beside the original's, or beside a copy's where the original was not measured. The heads of the
 /// panels name the processor that the code was built for.
 pub fn svg(rows: &[Row], cpu: Option<&str>) -> String {
+    let threads = if cfg!(parallel) { " on all threads" } else { "" };
     let build = cpu.map_or(String::new(), |cpu| format!(", built for {cpu}"));
     let (mut panels, mut height) = (String::new(), 0.0);
     for call in distinct(rows.iter().map(Row::call)) {
         let panel = Panel::of(rows.iter().filter(|row| row.call() == call).collect());
         let _ = writeln!(panels, "<g transform=\"translate(0 {height})\">");
-        panel.draw(&mut panels, &format!("{call}{build}"));
+        panel.draw(&mut panels, &format!("{call}{threads}{build}"));
         panels.push_str("</g>\n");
         height += panel.height();
     }

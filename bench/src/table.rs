@@ -2,7 +2,7 @@
 
 use std::fmt::Write;
 
-use crate::cases::{CALLS, Case, GROUPS, distinct};
+use crate::cases::{CALLS, Case, distinct, groups};
 
 #[derive(Clone, Copy)]
 pub enum Unit {
@@ -15,6 +15,8 @@ pub struct Row {
     pub case: Case,
     proved: f64,
     original: Option<f64>,
+    /// The package's call on one thread, where `proved` is of several.
+    one_thread: Option<f64>,
     copy: f64,
 }
 
@@ -22,13 +24,23 @@ impl Row {
     /// A row of what each contender took.
     pub fn new(case: &Case, took: &[f64]) -> Self {
         let (first, last) = (took[0], took[took.len() - 1]);
-        let original = (took.len() == 3).then(|| took[1]);
         Row {
             case: *case,
             proved: first,
-            original,
+            original: (took.len() >= 3).then(|| took[1]),
+            one_thread: (took.len() == 4).then(|| took[2]),
             copy: last,
         }
+    }
+
+    /// The row of the call on one thread.
+    fn on_one_thread(&self) -> Option<Self> {
+        let proved = self.one_thread?;
+        Some(Row {
+            proved,
+            one_thread: None,
+            ..*self
+        })
     }
 
     /// What an item took, or a row where rows move.
@@ -75,16 +87,20 @@ impl Unit {
 /// One line for each case.
 pub fn long(rows: &[Row], unit: Unit) -> String {
     let unit = unit.name();
-    let mut out =
-        format!("| call | item | shape | {unit} an item | copies | to the original |\n|---|---|---|---|---|---|\n");
+    let mut out = format!(
+        "| call | item | shape | {unit} an item | copies | to the original | on one thread |\n\
+         |---|---|---|---|---|---|---|\n"
+    );
     for row in rows {
         let Case { work, item_size } = row.case;
-        let ratio = row.ratio().map_or(String::new(), |it| format!("{it:.2}"));
+        let shown = |ratio: Option<f64>| ratio.map_or(String::new(), |it| format!("{it:.2}"));
+        let one_thread = shown(row.on_one_thread().and_then(|row| row.ratio()));
+        let ratio = shown(row.ratio());
         let (call, shape) = (row.call(), work.shape());
         let (an_item, copies) = (row.an_item(), row.copies());
         let _ = writeln!(
             out,
-            "| {call} | {item_size} | {shape} | {an_item:.2} | {copies:.1} | {ratio} |"
+            "| {call} | {item_size} | {shape} | {an_item:.2} | {copies:.1} | {ratio} | {one_thread} |"
         );
     }
     out.push('\n');
@@ -132,22 +148,27 @@ fn cell(rows: &[&Row], shape: &str, size: usize, unit: Unit) -> String {
     }
 }
 
-/// For each set of sizes a table of what each group of rows comes to, in all and for each size.
+/// For each set of sizes a table of what each group of rows comes to, in all and for each size. Where calls ran on several
+/// threads, another one is of those on one thread.
 pub fn summaries(rows: &[Row], sets: &[Vec<usize>]) -> String {
-    sets.iter().map(|sizes| summary(rows, sizes)).collect()
+    let one_thread: Vec<Row> = rows.iter().filter_map(Row::on_one_thread).collect();
+    let name = if one_thread.is_empty() { "" } else { "on all threads, " };
+    sets.iter()
+        .map(|sizes| summary(name, rows, sizes) + &summary("on one thread, ", &one_thread, sizes))
+        .collect()
 }
 
-fn summary(rows: &[Row], sizes: &[usize]) -> String {
+fn summary(name: &str, rows: &[Row], sizes: &[usize]) -> String {
     let rows: Vec<&Row> = rows.iter().filter(|row| sizes.contains(&row.case.item_size)).collect();
     let Some(first) = rows.first() else {
         return String::new();
     };
-    let mut out = format!("| beside {} | mean | worst | where |", first.beside());
+    let mut out = format!("| {name}beside {} | mean | worst | where |", first.beside());
     for size in sizes {
         let _ = write!(out, " items of {size} |");
     }
     let _ = writeln!(out, "\n|---|---|---|---|{}", "---|".repeat(sizes.len()));
-    for (name, has) in GROUPS {
+    for (name, has) in groups() {
         let group: Vec<&Row> = rows.iter().copied().filter(|row| has(row.case.work)).collect();
         line(&mut out, name, &group, sizes);
     }

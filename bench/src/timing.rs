@@ -60,15 +60,16 @@ unsafe extern "C" {
     fn clock_gettime(clock: i32, time: *mut TimeSpec) -> i32;
 }
 
-/// The time that the processor worked for this thread, so that other programs do not count.
+/// The time that the processor worked for this thread, so that other programs do not count. Where there are several threads
+/// it is the time of a clock.
 fn processor_time() -> Duration {
-    const THREAD_CLOCK: i32 = 3;
+    const CLOCK: i32 = if cfg!(parallel) { 1 } else { 3 };
     let mut time = TimeSpec {
         seconds: 0,
         nanoseconds: 0,
     };
     // SAFETY: the C library fills the struct, whose layout is that of a `timespec` on 64-bit Linux.
-    let status = unsafe { clock_gettime(THREAD_CLOCK, &mut time) };
-    assert_eq!(status, 0, "there is no clock for the time of a thread");
+    let status = unsafe { clock_gettime(CLOCK, &mut time) };
+    assert_eq!(status, 0, "there is no such clock");
     Duration::new(time.seconds as u64, time.nanoseconds as u32)
 }
