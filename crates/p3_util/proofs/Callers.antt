@@ -21,7 +21,7 @@ use Rattle.std.specs.Option.{UnwrapsOrElse, option_map, unwrap_or}
 use Rattle.p3_util.specs.Flat.{flat}
 use Rattle.p3_util.specs.ItemsAt.{AreOthersSame, IsSameOutside, column_of, items_at}
 use Rattle.p3_util.specs.LinearMap.{put, value_at}
-use Rattle.p3_util.proofs.ItemsAt.{from_end-set, from_end-swap, items_at-set, items_at-swap, length-items_at, slice_get-items_at, slice_get-reverse}
+use Rattle.p3_util.proofs.ItemsAtLemmas.{from_end-set, from_end-swap, items_at-set, items_at-swap, length-items_at, slice_get-items_at, slice_get-reverse}
 use Rattle.p3_util.proofs.MapLemmas.{lookup_put}
 use Rattle.p3_util_kernels.proofs.Seam.{across}
 use Rattle.p3_util.proofs.TwoLists.{in-back, in-front, put-back, put-front, swap-sym}

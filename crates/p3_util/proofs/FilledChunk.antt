@@ -9,7 +9,7 @@ use Rattle.std.specs.Iterator.{Yields, Count, IsFinite, size, MakesProgress, cou
 use Rattle.p3_util.specs.declared.chunks.ArrayChunksPadded.{ArrayChunksPadded}
 use Rattle.p3_util.specs.Pieces.{padded, piece_count}
 use Rattle.p3_util.specs.PaddedPieces.{TakesPiece, padded_source, padded_done, padded_can, padded_left}
-use Rattle.p3_util.proofs.Pieces.{piece_count-falls, piece_count-none, piece_count-some}
+use Rattle.p3_util.proofs.PiecesLemmas.{piece_count-falls, piece_count-none, piece_count-some}
 
 -- calls from s gave the first `len` items of a chunk of n, which led to t; the rest of the chunk is `fill`, and a finite count has fallen by `len` at least
 pub record Fills {S A : Type 0} (can : S → Type 0) (steps : S → Option A → S → Type 0) (left : S → Count) (n : ℕ) (fill : A) (s : S) (chunk : List A) (len : ℕ) (t : S) : Type 0 where

@@ -1,14 +1,14 @@
 pub mod Callers
 pub mod FilledChunk
-pub mod Flat
-pub mod ItemsAt
+pub mod FlatLemmas
+pub mod ItemsAtLemmas
 pub mod JsonLists
 pub mod Loans
 pub mod MapLemmas
 pub mod Moved
 pub mod OneAnswer
 pub mod PaddedRuns
-pub mod Pieces
+pub mod PiecesLemmas
 pub mod TwoLists
 pub mod WholePieces
 pub mod ZipEqRuns

@@ -3,7 +3,7 @@ use Rattle.std.proofs.Common.{ℕ, ◌≡◌, ◌+◌, ◌*◌, ◌<◌, List, [
 use Rattle.std.proofs.lemmas.List.{drop-drop, drop-set-lt, flat_map_more, get_or-drop, take_more}
 use Rattle.p3_util.specs.Flat.{flat}
 use Rattle.p3_util.specs.Pieces.{pieces}
-use Rattle.p3_util.proofs.Pieces.{pieces-more}
+use Rattle.p3_util.proofs.PiecesLemmas.{pieces-more}
 
 module _ {A : Type 0} where
   -- the item at place k is the first one's

@@ -12,7 +12,7 @@ use Rattle.std.proofs.lemmas.Nat.{div-add-mod'}
 use Rattle.p3_util.specs.Pieces.{piece_count, padded, pieces, padded_pieces}
 use Rattle.p3_util.specs.PaddedPieces.{TakesPiece, padded_source, padded_done, padded_fill, padded_steps, IsPaddedRun, EndsForGood}
 use Rattle.p3_util.specs.declared.chunks.ArrayChunksPadded.{ArrayChunksPadded}
-use Rattle.p3_util.proofs.Pieces.{piece_count-more, piece_count-whole, piece_count-none, pieces-nil, pieces-zero, pieces-more, length-pieces}
+use Rattle.p3_util.proofs.PiecesLemmas.{piece_count-more, piece_count-whole, piece_count-none, pieces-nil, pieces-zero, pieces-more, length-pieces}
 
 module _ {A : Type 0} where
   abbrev join : List (List A) → List A

@@ -9,7 +9,7 @@ use Rattle.std.specs.Iterator.{Yields}
 use Rattle.std.specs.Iterator.Runs.{WholeRun}
 use Rattle.std.specs.List.{FoldsTo}
 use Rattle.p3_util.specs.Pieces.{pieces, CallsOnPieces}
-use Rattle.p3_util.proofs.Pieces.{pieces-nil, pieces-more, take-all}
+use Rattle.p3_util.proofs.PiecesLemmas.{pieces-nil, pieces-more, take-all}
 
 -- `items` are `count` whole pieces and the first `len` items of `buf`, and R took p to q over those pieces
 pub record FoldsWhole {P A : Type 0} (R : P → List A → P → Type 0) (n : ℕ) (p : P) (items buf : List A) (len : ℕ) (q : P) : Type 0 where

@@ -1,2 +1,2 @@
-pub mod EachRow
+pub mod EachRowLemmas
 pub mod NoPlace

@@ -5,5 +5,5 @@ pub mod Parts
 pub mod Remainders
 pub mod Roots
 pub mod Rows
-pub mod Stages
+pub mod StagesLemmas
 pub mod Sums

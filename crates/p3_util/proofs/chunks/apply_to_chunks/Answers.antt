@@ -1,7 +1,7 @@
 use denote.Param.Always.{mut_next}
 use Rattle.std.proofs.Common.{rules, ap, take, refl, arith}
 use Rattle.std.proofs.lemmas.List.{length-replicate}
-use Rattle.p3_util.proofs.Pieces.{joined-pieces}
+use Rattle.p3_util.proofs.PiecesLemmas.{joined-pieces}
 use Rattle.p3_util.proofs.WholePieces.{FoldsWhole-start, FoldsWhole-flush, FoldsWhole-short, FoldsWhole-end, calls-whole}
 use Rattle.p3_util.proofs.chunks.apply_to_chunks.Goals as goal
 

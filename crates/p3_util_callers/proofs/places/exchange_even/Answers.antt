@@ -1,5 +1,5 @@
 use Rattle.std.proofs.Common.{◌*◌, arith}
-use Rattle.p3_util.proofs.ItemsAt.{items_at-swap}
+use Rattle.p3_util.proofs.ItemsAtLemmas.{items_at-swap}
 use Rattle.p3_util_callers.proofs.places.exchange_even.Goals as goal
 
 pub returns : goal.returns

@@ -1,7 +1,7 @@
 -- The row lies in the list by a product, and the lemma that adds it to the rows above speaks of it as a part of the list.
 use Rattle.std.proofs.Common.{◌+◌, ◌*◌, ◌≤◌, arith}
 use Rattle.std.proofs.Math.Nat.{mul-le-mul_right}
-use Rattle.p3_util_callers.proofs.EachRow.{rows_more}
+use Rattle.p3_util_callers.proofs.EachRowLemmas.{rows_more}
 use Rattle.p3_util_callers.proofs.rows.reverse_each_row.Goals as goal
 
 pub loop-r-preserved : goal.loop-r-preserved

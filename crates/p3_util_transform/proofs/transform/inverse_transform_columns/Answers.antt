@@ -1,7 +1,7 @@
 use Rattle.std.proofs.Common.{◌≡◌, length, sym, ap, ◌∙◌, rules}
 use Rattle.p3_util_transform.proofs.Inverse.{IsInverseTransformed-same}
 use Rattle.p3_util_kernels.proofs.PowersLemmas.{exponent-same}
-use Rattle.p3_util_transform.proofs.Stages.{written_back}
+use Rattle.p3_util_transform.proofs.StagesLemmas.{written_back}
 use Rattle.p3_util_transform.proofs.transform.inverse_transform_columns.Goals as goal
 
 pub returns-clause-transformed : goal.returns-clause-transformed

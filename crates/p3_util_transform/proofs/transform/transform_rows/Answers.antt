@@ -2,7 +2,7 @@ use Rattle.std.proofs.Common.{◌≡◌, ◌-◌, ◌*◌, ◌%◌, ◌^◌, ◌
 use Rattle.std.proofs.Math.Nat.{mul_comm, mul-lt-mul_of_pos_right}
 use Rattle.std.proofs.lemmas.Nat.{one_shl, pow_below, pow_pos, pow-add}
 use Rattle.p3_util_transform.specs.Stages.{AreBlocksJoined, IsStage}
-use Rattle.p3_util_transform.proofs.Stages.{AreBelowPrime-reversed, IsStage-first, IsStage-last, IsStage-step, stage_half, stage_rows}
+use Rattle.p3_util_transform.proofs.StagesLemmas.{AreBelowPrime-reversed, IsStage-first, IsStage-last, IsStage-step, stage_half, stage_rows}
 use Rattle.p3_util_transform.proofs.transform.transform_rows.Goals as goal
 
 pub loop-s-init : goal.loop-s-init

@@ -1,5 +1,5 @@
 use Rattle.std.proofs.Common.{refl, sym}
-use Rattle.p3_util.proofs.Flat.{get-at, put-at}
+use Rattle.p3_util.proofs.FlatLemmas.{get-at, put-at}
 use Rattle.p3_util.proofs.views.loans.item_of_rows.Goals as goal
 
 pub returns-then-i-countable : goal.returns-then-i-countable

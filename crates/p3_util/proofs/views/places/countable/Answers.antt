@@ -1,5 +1,5 @@
 use Rattle.std.proofs.Common.{arith, sym, ◌∙◌}
-use Rattle.p3_util.proofs.Flat.{countable-past}
+use Rattle.p3_util.proofs.FlatLemmas.{countable-past}
 use Rattle.p3_util.proofs.views.places.countable.Goals as goal
 
 pub returns-clause-items : goal.returns-clause-items

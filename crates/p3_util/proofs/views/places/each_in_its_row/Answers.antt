@@ -1,5 +1,5 @@
 use Rattle.std.proofs.Common.{arith}
-use Rattle.p3_util.proofs.Flat.{IsFlat-width}
+use Rattle.p3_util.proofs.FlatLemmas.{IsFlat-width}
 use Rattle.p3_util.proofs.views.places.each_in_its_row.Goals as goal
 
 pub returns-clause-places : goal.returns-clause-places

@@ -1,6 +1,6 @@
 use Rattle.std.proofs.Common.{◌<◌, [], ap, arith, get_or, length, set, ◌∙◌}
 use Rattle.std.proofs.lemmas.List.{get_or_default}
-use Rattle.p3_util.proofs.Flat.{flat-exchange}
+use Rattle.p3_util.proofs.FlatLemmas.{flat-exchange}
 use Rattle.p3_util.proofs.views.rows.exchange_in_two_rows.Goals as goal
 
 pub returns : goal.returns

@@ -1,5 +1,5 @@
 use Rattle.std.proofs.Common.{arith}
-use Rattle.p3_util.proofs.Flat.{swap-at, later-first}
+use Rattle.p3_util.proofs.FlatLemmas.{swap-at, later-first}
 use Rattle.p3_util.proofs.views.rows.exchange_items.Goals as goal
 
 pub returns-then-s-r : goal.returns-then-s-r

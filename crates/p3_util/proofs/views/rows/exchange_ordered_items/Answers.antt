@@ -1,5 +1,5 @@
 use Rattle.std.proofs.Common.{arith}
-use Rattle.p3_util.proofs.Flat.{swap-at, one_row}
+use Rattle.p3_util.proofs.FlatLemmas.{swap-at, one_row}
 use Rattle.p3_util.proofs.views.rows.exchange_ordered_items.Goals as goal
 
 pub returns-else-r-s : goal.returns-else-r-s

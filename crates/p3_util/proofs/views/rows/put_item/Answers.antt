@@ -1,5 +1,5 @@
 use Rattle.std.proofs.Common.{refl}
-use Rattle.p3_util.proofs.Flat.{put-at}
+use Rattle.p3_util.proofs.FlatLemmas.{put-at}
 use Rattle.p3_util.proofs.views.rows.put_item.Goals as goal
 
 pub returns : goal.returns

@@ -2,7 +2,7 @@ use Rattle.std.proofs.Common.{◌≡◌, ◌*◌, ap, arith, length, rules, ◌�
 use Rattle.std.proofs.Math.Nat.{mul-mod_left}
 use Rattle.std.proofs.lemmas.List.{take_all}
 use Rattle.p3_util.proofs.Moved.{cut-more, left-more, moved-more-rows}
-use Rattle.p3_util.proofs.Pieces.{IsFlat-pieces, pieces-nil}
+use Rattle.p3_util.proofs.PiecesLemmas.{IsFlat-pieces, pieces-nil}
 use Rattle.p3_util.proofs.views.vectors.flatten_to_base.Goals as goal
 
 pub loop-row-init : goal.loop-row-init

@@ -5,7 +5,7 @@ use Rattle.std.specs.Vec.Iter.{into_iter_items}
 use Rattle.p3_util.specs.Flat.{flat}
 use Rattle.p3_util.specs.Pieces.{pieces}
 use Rattle.p3_util.proofs.Moved.{cut-push}
-use Rattle.p3_util.proofs.Pieces.{IsFlat-pieces, pieces-nil}
+use Rattle.p3_util.proofs.PiecesLemmas.{IsFlat-pieces, pieces-nil}
 use Rattle.p3_util.proofs.views.vectors.reconstitute_from_base.Goals as goal
 
 pub loop-init : goal.loop-init

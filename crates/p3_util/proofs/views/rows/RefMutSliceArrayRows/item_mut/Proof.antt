@@ -43,7 +43,7 @@ use Rattle.std.specs.contracts.option.Option as option
 use Rattle.std.proofs.option.Option.TheLaws.{the_row_laws as option-laws}
 use Rattle.std.specs.Option.{option_copied_mut, ghost_name_of, OnSome}
 use Rattle.p3_util.specs.Flat.{countable_items, flat}
-use Rattle.p3_util.proofs.Flat.{countable-set, flat-set-len}
+use Rattle.p3_util.proofs.FlatLemmas.{countable-set, flat-set-len}
 use Rattle.p3_util.specs.RowLends.{lends_item_of_rows}
 use Rattle.p3_util.specs.ViewLends.{HasWritten, HasKept, lends_item}
 use Rattle.p3_util.proofs.Loans.{inst, Row, ItemArg, item_laws, known, on_some, so_then}
