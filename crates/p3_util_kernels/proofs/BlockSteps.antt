@@ -10,7 +10,7 @@ use Rattle.p3_util_kernels.specs.Least.{AllDiffer, count_below, places_swapped}
 use Rattle.p3_util_kernels.specs.PartSteps.{IsPlaceAcross, IsPlaceOfBlock, SwapsStay}
 use Rattle.p3_util_kernels.specs.Region.{IsInRegion, cols_of, items_of, rows_of}
 use Rattle.p3_util_kernels.specs.SwapCounts.{square_swaps}
-use Rattle.p3_util_kernels.proofs.Blocks.{block-above, block-cols, block-diagonal, block-ready, block-rows}
+use Rattle.p3_util_kernels.proofs.BlocksLemmas.{block-above, block-cols, block-diagonal, block-ready, block-rows}
 use Rattle.p3_util_kernels.proofs.Counts.{count-all, count-first}
 use Rattle.p3_util_kernels.proofs.DiagonalLemmas.{square_place}
 use Rattle.p3_util_kernels.proofs.MirrorSteps.{mirror-stays}

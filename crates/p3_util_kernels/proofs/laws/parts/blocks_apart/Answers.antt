@@ -1,4 +1,4 @@
-use Rattle.p3_util_kernels.proofs.Blocks.{blocks-apart}
+use Rattle.p3_util_kernels.proofs.BlocksLemmas.{blocks-apart}
 use Rattle.p3_util_kernels.proofs.laws.parts.blocks_apart.Goals as goal
 
 pub returns : goal.returns

@@ -1,5 +1,5 @@
 use Rattle.std.proofs.Common.{◌≤◌, ◌*◌, ◌/◌, ◌-◌, arith}
-use Rattle.p3_util_kernels.proofs.Blocks.{start-rising}
+use Rattle.p3_util_kernels.proofs.BlocksLemmas.{start-rising}
 use Rattle.p3_util_kernels.proofs.RangeSteps.{ranges-apart}
 use Rattle.p3_util_kernels.proofs.laws.parts.ranges_apart.Goals as goal
 

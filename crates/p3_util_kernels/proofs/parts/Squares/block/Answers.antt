@@ -1,5 +1,5 @@
 use Rattle.std.proofs.Common.{refl, sym, arith}
-use Rattle.p3_util_kernels.proofs.Blocks.{block-is, square-inside}
+use Rattle.p3_util_kernels.proofs.BlocksLemmas.{block-is, square-inside}
 use Rattle.p3_util_kernels.proofs.parts.Squares.block.Goals as goal
 
 pub overflow_mul-square : goal.overflow_mul-square

@@ -1,5 +1,5 @@
 use Rattle.std.proofs.Common.{arith}
-use Rattle.p3_util_kernels.proofs.Blocks.{blocks-few}
+use Rattle.p3_util_kernels.proofs.BlocksLemmas.{blocks-few}
 use Rattle.p3_util_kernels.proofs.parts.Squares.count.Goals as goal
 
 pub overflow_mul-result : goal.overflow_mul-result

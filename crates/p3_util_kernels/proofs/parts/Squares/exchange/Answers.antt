@@ -1,5 +1,5 @@
 use Rattle.std.proofs.Common.{arith}
-use Rattle.p3_util_kernels.proofs.Blocks.{block-above, block-cols, block-ready, block-rows}
+use Rattle.p3_util_kernels.proofs.BlocksLemmas.{block-above, block-cols, block-ready, block-rows}
 use Rattle.p3_util_kernels.proofs.parts.Squares.exchange.Goals as goal
 
 pub transpose_diagonal-requires-clause-within : goal.transpose_diagonal-requires-clause-within
