@@ -9,6 +9,7 @@ pub mod compose;
 pub mod flat;
 pub mod from_end;
 pub mod holders;
+pub mod laws;
 pub mod linear_map;
 pub mod places;
 pub mod reverse;
