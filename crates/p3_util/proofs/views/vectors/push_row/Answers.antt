@@ -9,7 +9,7 @@ loop-item-preserved g c =
     let old = c.args.row.now in
     let k = c.loop-item.item-index in record {
       moved = rw c.push_reserved.ensures.items (moved-more _ _ row old k _ _ before.left (omega arith) before.moved c.take.ensures.value);
-      left = left-more row old k _ before.left;
+      left = left-more row old k c.take.new.dest before.left;
       full = omega arith;
       room = omega arith;
     }
