@@ -1,8 +1,8 @@
--- What is at each place of a list after one exchange or one write.
+-- What is at each place of a list after one exchange or one write: what is written or comes from the other place, and else
+-- what was there.
 use Rattle.std.proofs.Common.{ℕ, zero, suc, ◌≡◌, ◌≢◌, ◌<◌, List, [], ◌∷◌, length, set, get_or, Some, slice_get, refl, sym, ap, arith, inl, inr, length-set, ◌∙◌}
 use Rattle.std.specs.List.{swap}
 use Rattle.std.proofs.lemmas.Bool.{cases_eq}
-use Rattle.std.proofs.lemmas.List.{set-set}
 use Rattle.std.proofs.lemmas.Option.{slice_get-get_or}
 
 pub slice_get-set_same : {A : Type 0} (xs : List A) (i : ℕ) (v : A) → i < length xs → slice_get (set xs i v) i ≡ Some v
@@ -10,6 +10,8 @@ slice_get-set_same [] i v h = absurd (omega arith)
 slice_get-set_same (x ∷ xs) zero v h = refl
 slice_get-set_same (x ∷ xs) (suc i) v h = slice_get-set_same xs i v (omega arith)
 
+-- A place that is not written holds what it held. So does each place of a list that is too short to have the one that is
+-- written.
 pub slice_get-set_other : {A : Type 0} (xs : List A) (i p : ℕ) (v : A) → p ≢ i → slice_get (set xs i v) p ≡ slice_get xs p
 slice_get-set_other [] i p v h = refl
 slice_get-set_other (x ∷ xs) zero zero v h = absurd (h refl)
@@ -34,11 +36,9 @@ slice_get-swap_first (d ∷ ys) i j hi hj =
           ∙ sym (slice_get-get_or (d ∷ ys) j d hj)
     ]
 
+-- An exchange is two writes, of the item at place j to place i, and of the item at place i to place j. So any other place
+-- holds what it held.
 pub slice_get-swap_other : {A : Type 0} (xs : List A) (i j p : ℕ) → p ≢ i → p ≢ j → slice_get (swap xs i j) p ≡ slice_get xs p
 slice_get-swap_other [] i j p hi hj = refl
 slice_get-swap_other (d ∷ ys) i j p hi hj =
     slice_get-set_other (set (d ∷ ys) i (get_or (d ∷ ys) j d)) j p (get_or (d ∷ ys) i d) hj ∙ slice_get-set_other (d ∷ ys) i p (get_or (d ∷ ys) j d) hi
-
--- an item put twice at one place is put once, which must-fail/put_makes_two.edit names
-pub set_again : {A : Type 0} (xs : List A) (i : ℕ) (v : A) → set (set xs i v) i v ≡ set xs i v
-set_again xs i v = set-set xs i v v

@@ -27,7 +27,8 @@ RunsExchanged-ordered i j low high len old new is_low is_high h =
           RunsExchanged-turned j i len old new (rw (less, more) at h)
     ]
 
--- one pair of places
+-- One pair of places is two runs of one item each. The place where such a run begins is the only one in it, so what is said
+-- of a place of the run is said of that one.
 pub RunsExchanged-one : {A : Type 0} (i j : ℕ) (old new : List A) → i < length old → j < length old → new ≡ swap old i j → RunsExchanged i j 1 old new
 RunsExchanged-one i j old new first_in second_in swapped = record {
   same_length = ap length swapped ∙ length-swap old i j;
@@ -36,6 +37,8 @@ RunsExchanged-one i j old new first_in second_in swapped = record {
   others = λ p h k. rw swapped (slice_get-swap_other old i j p (elim h [ inl l ↦ omega arith | inr r ↦ omega arith ]) (elim k [ inl l ↦ omega arith | inr r ↦ omega arith ]));
 }
 
+-- Two runs, and the two that follow them at once, are two longer runs. Where the first two lie below the place that is looked
+-- at, the others have it, and else the first two.
 joined : {A : Type 0} (i j n m : ℕ) (old now next : List A) → i + (n + m) ≤ j → RunsExchanged i j n old now
     → RunsExchanged (i + n) (j + n) m now next → RunsExchanged i j (n + m) old next
 joined i j n m old now next apart before after = record {

@@ -1,3 +1,4 @@
+-- The loop over the squares, of which each turn transposes one more.
 use Rattle.std.proofs.Common.{◌≡◌, ℕ, ◌+◌, ◌-◌, ◌^◌, ◌<◌, ◌≤◌, ◌∙◌, arith}
 use Rattle.p3_util_kernels.proofs.PowersLemmas.{exponent-lt}
 use Rattle.p3_util_kernels.proofs.SideBySideLemmas.{AreTransposed-more, square_room}
@@ -7,12 +8,16 @@ use Rattle.p3_util_kernels.proofs.reverse.long.transpose_squares.Goals as goal
 few : (log_stride log_size n : ℕ) → n ≡ 2 ^ (log_size + log_stride) → n < 2 ^ 64 → log_size + log_stride ≤ 63
 few log_stride log_size n whole fits = exponent-lt (log_size + log_stride) 63 (omega arith)
 
+-- The exponents of the side and of the number of squares are below 64, since the length of the list is a power of two that
+-- fits a word.
 pub pow2-side-requires : goal.pow2-side-requires
 pow2-side-requires g c = omega (arith, few c.args.log_stride c.args.log_size _ c.requires.whole (omega arith))
 
 pub pow2-squares-requires : goal.pow2-squares-requires
 pow2-squares-requires g c = omega (arith, few c.args.log_stride c.args.log_size _ c.requires.whole (omega arith))
 
+-- The last place of each square is within the list, so that the place where the square begins fits a word, and so does its
+-- stride.
 pub overflow_mul-square : goal.overflow_mul-square
 overflow_mul-square g c =
     rw c.pow2-side.ensures (omega (arith, square_room c.args.log_stride c.args.log_size c.requires.within c.loop-square.square _ c.requires.whole (omega arith)))
@@ -25,6 +30,8 @@ transpose_square-m-requires-clause-room g c =
     let now = c.loop-square.invariant.transposed.same_length ∙ c.requires.whole in
     rw c.pow2-side.ensures (square_room c.args.log_stride c.args.log_size c.requires.within c.loop-square.square _ now (omega arith))
 
+-- One square more is transposed, and the others stay as they are. Each square takes as many swaps as it has pairs across the
+-- diagonal.
 pub loop-square-preserved : goal.loop-square-preserved
 loop-square-preserved g c = record {
   transposed =
@@ -35,8 +42,8 @@ loop-square-preserved g c = record {
 
 pub returns-clause-transposed : goal.returns-clause-transposed
 returns-clause-transposed g c =
-    let all : c.loop-square.square ≡ 2 ^ (c.args.log_stride - c.args.log_size) = omega arith in
-    rw (← all) c.loop-square.invariant.transposed
+    let done : c.loop-square.square ≡ 2 ^ (c.args.log_stride - c.args.log_size) = omega arith in
+    rw (← done) c.loop-square.invariant.transposed
 
 pub returns-clause-holder : goal.returns-clause-holder
 returns-clause-holder g c =
