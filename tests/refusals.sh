@@ -1,9 +1,20 @@
 #!/usr/bin/env bash
-# Lists what refuses each edit, `crate/edit  function  goal`, from what `rt ci` or `rt must-fail CRATE` prints:
+# Compares what refuses each edit with the line `# refused by FUNCTION GOAL` of its head, in what `rt ci` or `rt must-fail`
+# prints, and lists them as `crate/edit  function  goal`:
 #   rt must-fail p3_util | tests/refusals.sh
-# Of several open goals it is the first that `rt` names. `rt check --only FUNCTION` over the edited source names all.
+#   rt ci | tests/refusals.sh CRATE..
+# Of several open goals it is the first that `rt` names. `rt check --only FUNCTION` over the edited source names all. An edit
+# fails that has no such line, or that something else refuses, or of which nothing is said. Each edit is looked for of the
+# crates that are named, and with no name of those of which anything is said.
 set -euo pipefail
 cd "$(dirname "$0")/.."
+bad=0
+
+# fail EDIT TEXT..: says why an edit fails.
+fail() {
+    echo "$1: ${*:2}" >&2
+    bad=1
+}
 
 # The last function that begins at or above a line of a source file. An attribute belongs to the function below it.
 function_at() {
@@ -13,18 +24,43 @@ function_at() {
 }
 
 edit_line='must-fail ([a-z0-9_]+)/([A-Za-z0-9_.-]+)\.edit: (.*)'
-in_proof='proofs/(.+)/[A-Z][a-z]+\.antt:[0-9:]+ error: `([^`]+)'
-in_source='src/(.+)\.rt:([0-9]+):[0-9]+: .*\(`([^`]+)'
+in_proof='proofs/(.+)/[A-Z][a-z]+\.antt:[0-9:]+ error: `([^`]+)(`?)'
+in_source='src/(.+)\.rt:([0-9]+):[0-9]+: .*\(`([^`]+)(`?)'
+declare -A refusals=() crates=()
+for crate in "$@"; do
+    crates[$crate]=named
+done
 while IFS= read -r line; do
     [[ $line =~ $edit_line ]] || continue
     crate=${BASH_REMATCH[1]} edit=${BASH_REMATCH[2]} said=${BASH_REMATCH[3]}
     if [[ $said =~ $in_proof ]]; then
-        function=${BASH_REMATCH[1]} goal=${BASH_REMATCH[2]}
+        function=${BASH_REMATCH[1]} goal=${BASH_REMATCH[2]} end=${BASH_REMATCH[3]}
     elif [[ $said =~ $in_source ]]; then
-        file=${BASH_REMATCH[1]} number=${BASH_REMATCH[2]} goal=${BASH_REMATCH[3]}
+        file=${BASH_REMATCH[1]} number=${BASH_REMATCH[2]} goal=${BASH_REMATCH[3]} end=${BASH_REMATCH[4]}
         function=$file/$(function_at "crates/$crate/src/$file.rt" "$number")
     else
-        function='' goal=$said
+        function='' goal=$said end='`'
     fi
     printf '%-68s %-52s %s\n' "$crate/$edit" "$function" "$goal"
+    # `rt` cuts its line, and so may cut the name of a goal.
+    [ -n "$end" ] || goal+='*'
+    refusals[$crate/$edit]="$function $goal"
+    crates[$crate]=${crates[$crate]-said}
 done
+[ ${#crates[@]} -gt 0 ] || fail "No edit" "nothing is said of any."
+
+for crate in "${!crates[@]}"; do
+    for file in "crates/$crate/must-fail/"*.edit; do
+        [ -f "$file" ] || continue
+        edit=$crate/$(basename "$file" .edit)
+        head=$(sed -n 's/^# refused by //p' "$file")
+        if [ -z "${refusals[$edit]-}" ]; then
+            fail "$edit" "nothing is said of it."
+        elif [ -z "$head" ]; then
+            fail "$edit" "its head has no line '# refused by FUNCTION GOAL'."
+        elif [[ $head != ${refusals[$edit]} ]]; then
+            fail "$edit" "refused by ${refusals[$edit]}, and not by $head."
+        fi
+    done
+done
+exit "$bad"
