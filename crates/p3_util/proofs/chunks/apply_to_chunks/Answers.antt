@@ -14,23 +14,23 @@ loop-byte-preserved-then-len g c = (
   mut_next g.H.FnMut _ _ _ _ _ c.func.ensures refl c.loop-byte.invariant.1,
 )
 
-pub returns-then-len-gt0 : goal.returns-then-len-gt0
-returns-then-len-gt0 g c = record {
-  runs = λ some. (
-    c.into_iter-iter.result,
-    c.into_iter-iter.ensures.into_iter_gives,
-    calls-whole g.H.FnMut g.I.IntoIter.Iterator.next_gives _ c.loop-byte.yielded _ _ (search rules) c.loop-byte.yielded_by c.in-None.ensures.steps
-        (FoldsWhole-short c.loop-byte.invariant.0 c.if-len-gt0.true (record { shown = _; shows = ap (take c.loop-byte.len) c.as_slice-then-len-gt0.ensures; called = c.func-then-len-gt0.ensures })),
-  );
-  joined = λ some items. joined-pieces g.row.BUFLEN items some;
-}
+pub returns-then-len-gt0-clause-runs : goal.returns-then-len-gt0-clause-runs
+returns-then-len-gt0-clause-runs g c some = (
+  c.into_iter-iter.result,
+  c.into_iter-iter.ensures.into_iter_gives,
+  calls-whole g.H.FnMut g.I.IntoIter.Iterator.next_gives _ c.loop-byte.yielded _ _ (search rules) c.loop-byte.yielded_by c.in-None.ensures.steps
+      (FoldsWhole-short c.loop-byte.invariant.0 c.if-len-gt0.true (record { shown = _; shows = ap (take c.loop-byte.len) c.as_slice-then-len-gt0.ensures; called = c.func-then-len-gt0.ensures })),
+)
 
-pub returns : goal.returns
-returns g c = record {
-  runs = λ some. (
-    c.into_iter-iter.result,
-    c.into_iter-iter.ensures.into_iter_gives,
-    calls-whole g.H.FnMut g.I.IntoIter.Iterator.next_gives _ c.loop-byte.yielded _ _ (search rules) c.loop-byte.yielded_by c.in-None.ensures.steps (FoldsWhole-end c.loop-byte.invariant.0 (omega (arith, c.if-len-gt0.false))),
-  );
-  joined = λ some items. joined-pieces g.row.BUFLEN items some;
-}
+pub returns-then-len-gt0-clause-joined : goal.returns-then-len-gt0-clause-joined
+returns-then-len-gt0-clause-joined g c some items = joined-pieces g.row.BUFLEN items some
+
+pub returns-clause-runs : goal.returns-clause-runs
+returns-clause-runs g c some = (
+  c.into_iter-iter.result,
+  c.into_iter-iter.ensures.into_iter_gives,
+  calls-whole g.H.FnMut g.I.IntoIter.Iterator.next_gives _ c.loop-byte.yielded _ _ (search rules) c.loop-byte.yielded_by c.in-None.ensures.steps (FoldsWhole-end c.loop-byte.invariant.0 (omega (arith, c.if-len-gt0.false))),
+)
+
+pub returns-clause-joined : goal.returns-clause-joined
+returns-clause-joined g c some items = joined-pieces g.row.BUFLEN items some

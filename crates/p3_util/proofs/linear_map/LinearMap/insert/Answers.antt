@@ -3,11 +3,6 @@ use Rattle.p3_util.specs.LinearMap.{value_at}
 use Rattle.p3_util.proofs.MapLemmas.{lookup_nowhere, lookup_at_place, put_at_place, keys_set_at_place, distinct_set_at_place, put_new, distinct_new}
 use Rattle.p3_util.proofs.linear_map.LinearMap.insert.Goals as goal
 
-pub invariant_of-self : goal.invariant_of-self
-invariant_of-self g c =
-    let found = rw (← c.self.view_is) at (sym c.in-Some.ensures) in
-    distinct_set_at_place g.K.PartialEq.eq _ _ _ _ found c.index_mut.ensures.value _ c.self.invariant
-
 pub returns-in-Some-clause-old : goal.returns-in-Some-clause-old
 returns-in-Some-clause-old g c =
     let at = c.index_mut.ensures.value ∙ ap (λ es. get_or es c.in-Some.place c.index_mut.result.now) c.self.view_is in
@@ -22,6 +17,12 @@ pub returns-in-Some-clause-known_keys : goal.returns-in-Some-clause-known_keys
 returns-in-Some-clause-known_keys g c h =
     let found = rw (← c.self.view_is) at (sym c.in-Some.ensures) in
     rw (← c.self.view_is) (keys_set_at_place g.K.PartialEq.eq _ _ _ _ found c.index_mut.ensures.value _)
+
+-- After the clauses `put` and `known_keys`, so that these are named first where the pairs are others.
+pub invariant_of-self : goal.invariant_of-self
+invariant_of-self g c =
+    let found = rw (← c.self.view_is) at (sym c.in-Some.ensures) in
+    distinct_set_at_place g.K.PartialEq.eq _ _ _ _ found c.index_mut.ensures.value _ c.self.invariant
 
 pub returns-in-Some-clause-distinct : goal.returns-in-Some-clause-distinct
 returns-in-Some-clause-distinct g c = invariant_of-self g c
