@@ -130,7 +130,7 @@ impl Work {
     /// The shape, and of a transpose the number of its items in brackets.
     pub fn sized_shape(self) -> String {
         match self {
-            Work::Transpose { .. } => format!("{} ({} items)", self.shape(), self.units()),
+            Work::Transpose { .. } => format!("{} ({})", self.shape(), self.units()),
             _ => self.shape(),
         }
     }
