@@ -64,7 +64,18 @@ mod checked;
 /// exact number of its steps. [`contracts`](kernels::contracts) says what the words of a contract mean.
 ///
 /// Nothing here tests a condition. Where one does not hold, a call leaves another order, panics or does not end; it never
-/// touches memory outside the lists. `fits_rows` and `fits_matrix` test the conditions.
+/// touches memory outside the lists. What a caller tests beforehand, where `len` is the length of the holder:
+///
+/// | Call of [`reverse`](kernels::reverse) or [`transpose`](kernels::transpose) | Test |
+/// |---|---|
+/// | `reverse_slice_index_bits`, `reverse_counted`, `reverse_index_bits_on`, `reverse_index_bits_short` | `fits_rows(len, 1)` |
+/// | `reverse_index_bits_long` | `len.is_power_of_two() && len >= 4` |
+/// | `reverse_slice_row_index_bits`, `reverse_rows_counted`, `reverse_row_index_bits_on` | `fits_rows(len, row_width)` |
+/// | `reverse_chunks_on` | none has a name: `len` is `1 << (lb_num_chunks + lb_chunk_size)`, a shift by less than 64 |
+/// | `transpose`, `transpose_counted`, `transpose_source_counted`, `transpose_on`, `transpose_source_on` | `fits_matrix(input_len, len, width, height)` |
+/// | `transpose_region_counted`, `transpose_region_on` | the same; for the region none has a name: `row_start <= row_end`, `row_end <= height`, and so for its columns and `width` |
+/// | `transpose_split_on`, `transpose_source_split_on` | the same as for a region; `levels` of 64 are always enough |
+/// | `transpose_square_on` | none has a name: `log_size <= log_stride`, `log_stride < 64`, and the square's last place is below `len` |
 ///
 /// A container of one's own is reversed by an impl of [`Places`](kernels::places::Places), and the swaps are counted:
 ///
@@ -178,9 +189,10 @@ pub const fn assert_send<T: Send>() {}
 #[inline]
 pub const fn assert_sync<T: Sync>() {}
 
-/// Reverses the order of `vals` by index bits: with 2^k items, place `i` gets the item from the place whose index has
-/// the k bits of `i` in reversed order. No item is cloned or dropped. Its kernel is that of
-/// [`kernels::reverse::reverse_slice_index_bits`], whose contract says this.
+/// Reverses the order of `vals` by index bits, and panics where the length is neither zero nor a power of two.
+///
+/// With 2^k items, place `i` gets the item from the place whose index has the k bits of `i` in reversed order. No item is
+/// cloned or dropped. Its kernel is that of [`kernels::reverse::reverse_slice_index_bits`], whose contract says this.
 ///
 /// # Panics
 ///
@@ -201,9 +213,11 @@ fn refuse_items(len: usize) -> ! {
     panic!("Not a power of two: {len} items")
 }
 
-/// Reverses the order of the rows of `vals`, of `row_width` items each, by index bits: with 2^k rows, row `r` becomes the
-/// row whose index has the k bits of `r` in reversed order. No item is cloned or dropped. Its kernel is that of
-/// [`kernels::reverse::reverse_slice_row_index_bits`], whose contract says this.
+/// Reverses the order of the rows of `vals`, of `row_width` items each, by index bits, and panics where their number is neither
+/// zero nor a power of two.
+///
+/// With 2^k rows, row `r` becomes the row whose index has the k bits of `r` in reversed order. No item is cloned or dropped.
+/// Its kernel is that of [`kernels::reverse::reverse_slice_row_index_bits`], whose contract says this.
 ///
 /// ```
 /// let mut rows = [0, 1, 10, 11, 20, 21, 30, 31];

@@ -2,8 +2,10 @@
 
 use crate::unchecked;
 
-/// Writes to `output` the transpose of `input`, a matrix of `height` rows of `width` items: what is at
-/// `input[y * width + x]` is put at `output[x * height + y]`. Its kernel is that of
+/// Writes to `output` the transpose of `input`, a matrix of `height` rows of `width` items, and panics where a length is another
+/// one.
+///
+/// What is at `input[y * width + x]` is put at `output[x * height + y]`. Its kernel is that of
 /// [`kernels::transpose::transpose`](crate::kernels::transpose::transpose), whose contract says this.
 ///
 /// # Panics

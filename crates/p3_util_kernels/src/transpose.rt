@@ -40,10 +40,11 @@ pub const fn fits_matrix(input_len: usize, output_len: usize, width: usize, heig
     }
 }
 
-/// Writes to `output` the transpose of `input`, a matrix of `height` rows of `width` items: what stood at
-/// `y * width + x` is put at `x * height + y`. Both lengths are `width` times `height`, which [`fits_matrix`] tests. The
-/// transpose of `output` the other way round, with `height` for the width, is `input` again. Items are put in the order of
-/// [`transpose_on`].
+/// Writes to `output` the transpose of `input`, a matrix of `height` rows of `width` items. Both lengths are `width` times
+/// `height`, and this call does not test that.
+///
+/// What stood at `y * width + x` is put at `x * height + y`. The transpose of `output` the other way round, with `height` for
+/// the width, is `input` again. Items are put in the order of [`transpose_on`]. [`fits_matrix`] tests both lengths.
 #[tactic(auto, using(crate::proofs::Matrix::transpose_turned))]
 pub fn transpose<T: Copy>(input: &[T], output: &mut [T], width: usize, height: usize)
     requires input_fits { length input.now ≡ width * height }
@@ -55,7 +56,7 @@ pub fn transpose<T: Copy>(input: &[T], output: &mut [T], width: usize, height: u
 }
 
 /// Puts the transpose of `input` into `cells`, as [`transpose_on`] does over a fresh counter, and returns the number of
-/// writes.
+/// writes. Both lengths are `width` times `height`, which [`fits_matrix`] tests.
 pub fn transpose_counted<C: Cells>(
     input: &[C::Item],
     cells: &mut C,
@@ -71,7 +72,8 @@ pub fn transpose_counted<C: Cells>(
     transpose_source_counted(&SliceSource::new(input), cells, width, height)
 }
 
-/// Puts the transpose of any source into `cells`, as [`transpose_counted`] does that of a slice.
+/// Puts the transpose of any source into `cells`, as [`transpose_counted`] does that of a slice. Both lengths are `width` times
+/// `height`, which [`fits_matrix`] tests.
 pub fn transpose_source_counted<R, C>(input: &R, cells: &mut C, width: usize, height: usize) -> u128
 where
     C: Cells,
@@ -99,7 +101,8 @@ pub fn transpose_on<C: Cells>(input: &[C::Item], out: &mut Writes<C>, width: usi
     transpose_source_on(&SliceSource::new(input), out, width, height);
 }
 
-/// Puts the transpose of any source into `out`, as [`transpose_on`] does that of a slice.
+/// Puts the transpose of any source into `out`, as [`transpose_on`] does that of a slice. Both lengths are `width` times
+/// `height`, which [`fits_matrix`] tests.
 pub fn transpose_source_on<R, C>(input: &R, out: &mut Writes<C>, width: usize, height: usize)
 where
     C: Cells,
@@ -117,7 +120,8 @@ where
 
 /// Puts the transpose of `region`, a part of the matrix `input`, into `out`, in one write an item: what stood at
 /// `y * width + x` is put at `x * height + y`, for each row y and column x of the region. Every other place stays. Both
-/// lengths are `width` times `height`, which [`fits_matrix`] tests.
+/// lengths are `width` times `height`, which [`fits_matrix`] tests. The region lies in the matrix, for which there is no test:
+/// `row_start <= row_end <= height` and `col_start <= col_end <= width`.
 pub fn transpose_region_on<C: Cells>(
     input: &[C::Item],
     out: &mut Writes<C>,
@@ -138,7 +142,8 @@ pub fn transpose_region_on<C: Cells>(
     out.count = put_strips(counter, matrix, region, Strips::of(matrix)).writes();
 }
 
-/// Puts the transpose of `region`, as [`transpose_region_on`] does over a fresh counter, and returns the number of writes.
+/// Puts the transpose of `region`, as [`transpose_region_on`] does over a fresh counter and under its conditions, and returns
+/// the number of writes.
 pub fn transpose_region_counted<C: Cells>(
     input: &[C::Item],
     cells: &mut C,

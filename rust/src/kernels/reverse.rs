@@ -35,9 +35,11 @@ pub const fn fits_rows(len: usize, row_width: usize) -> bool {
     len == 0 || (len % row_width == 0 && (len / row_width).is_power_of_two())
 }
 
-/// Reverses the order of `vals` by index bits: with 2^k items, place `i` gets the item from the place whose index has
-/// the k bits of `i` in reversed order. The length is zero or a power of two, which `fits_rows(vals.len(), 1)` tests, and
-/// std's `is_power_of_two`. The same call restores the order. No item is cloned or dropped.
+/// Reverses the order of `vals` by index bits. The length is zero or a power of two, and this call does not test that.
+///
+/// With 2^k items, place `i` gets the item from the place whose index has the k bits of `i` in reversed order. The same call
+/// restores the order. No item is cloned or dropped. `fits_rows(vals.len(), 1)` tests the length, and so does std's
+/// `is_power_of_two`.
 ///
 /// # Contract
 ///
@@ -53,7 +55,7 @@ pub fn reverse_slice_index_bits<F>(vals: &mut [F]) {
 }
 
 /// Reverses `places` by index bits, as [`reverse_index_bits_on`] does over a fresh counter, and returns the number of
-/// exchanges.
+/// exchanges. The length is zero or a power of two, which `fits_rows(places.len(), 1)` tests.
 ///
 /// # Contract
 ///
@@ -72,9 +74,11 @@ pub fn reverse_counted<S: Places>(places: &mut S) -> u128 {
     reverse_index_bits(Swaps::new(places)).swaps()
 }
 
-/// Reverses the order of the rows of `vals`, of `row_width` items each, by index bits: with 2^k rows, row `r` becomes the
-/// row whose index has the k bits of `r` in reversed order. The number of rows is zero or a power of two, which
-/// [`fits_rows`] tests. The same call restores the order. No item is cloned or dropped.
+/// Reverses the order of the rows of `vals`, of `row_width` items each, by index bits. The number of rows is zero or a power of
+/// two, and this call does not test that.
+///
+/// With 2^k rows, row `r` becomes the row whose index has the k bits of `r` in reversed order. The same call restores the
+/// order. No item is cloned or dropped. [`fits_rows`] tests the length.
 ///
 /// # Contract
 ///
@@ -90,7 +94,7 @@ pub fn reverse_slice_row_index_bits<F>(vals: &mut [F], row_width: usize) {
 }
 
 /// Reverses the rows of `places` by index bits, as [`reverse_row_index_bits_on`] does over a fresh counter, and returns the
-/// number of exchanges.
+/// number of exchanges. The number of rows is zero or a power of two, which [`fits_rows`] tests.
 ///
 /// # Contract
 ///
@@ -111,7 +115,7 @@ pub fn reverse_rows_counted<S: Places>(places: &mut S, row_width: usize) -> u128
 }
 
 /// Reverses `m` by index bits, as [`reverse_slice_index_bits`] does, in at most 3n/2 swaps at length n: by the short path
-/// up to 8192 items, and by the long one beyond. The length is zero or a power of two.
+/// up to 8192 items, and by the long one beyond. The length is zero or a power of two, which `fits_rows(m.len(), 1)` tests.
 ///
 /// # Contract
 ///

@@ -18,8 +18,9 @@ use crate::reverse::rows::reverse_chunks;
 use crate::transpose::transpose_square;
 
 /// Reverses `m` by index bits, as [`reverse_slice_index_bits`](crate::reverse::reverse_slice_index_bits) does, by chunks
-/// and squares. The length is a power of two, and at least 4. It makes at most 3n/2 swaps at length n: more than
+/// and squares. It makes at most 3n/2 swaps at length n: more than
 /// [`reverse_index_bits_short`](crate::reverse::reverse_index_bits_short), and in an order that suits lists beyond the caches.
+/// The length is a power of two, which std's `is_power_of_two` tests, and at least 4.
 #[tactic(auto, using(crate::proofs::SwapCountsLemmas::long_bound))]
 pub fn reverse_index_bits_long<S: Places>(m: &mut Swaps<S>)
     requires fits { IsReversible (length (S.items m.old.holder)) }

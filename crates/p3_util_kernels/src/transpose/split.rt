@@ -21,7 +21,7 @@ const NARROW_SIDE: usize = 2;
 /// halves, and returns how many splits are nested on the longest path, which is at most 57. Where both sides of the
 /// region are at most 128 or one of them is at most 2, there is no split. Elsewhere the longer side is halved, or the rows
 /// where both sides are equal, and each half is put in the same way with one level less. 64 levels are enough for every
-/// region of a matrix.
+/// region of a matrix. The other conditions are those of [`transpose_region_on`](crate::transpose::transpose_region_on).
 pub fn transpose_split_on<C: Cells>(
     input: &[C::Item],
     out: &mut Writes<C>,
@@ -44,7 +44,8 @@ pub fn transpose_split_on<C: Cells>(
     transpose_source_split_on(&SliceSource::new(input), out, region, width, height, levels)
 }
 
-/// Puts the transpose of a region of any source into `out`, as [`transpose_split_on`] does that of a slice.
+/// Puts the transpose of a region of any source into `out`, as [`transpose_split_on`] does that of a slice, and under its
+/// conditions.
 pub fn transpose_source_split_on<R, C>(
     input: &R,
     out: &mut Writes<C>,

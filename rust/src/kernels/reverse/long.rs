@@ -11,8 +11,9 @@ use crate::kernels::reverse::rows::reverse_chunks;
 use crate::kernels::transpose::transpose_square;
 
 /// Reverses `m` by index bits, as [`reverse_slice_index_bits`](crate::kernels::reverse::reverse_slice_index_bits) does, by chunks
-/// and squares. The length is a power of two, and at least 4. It makes at most 3n/2 swaps at length n: more than
+/// and squares. It makes at most 3n/2 swaps at length n: more than
 /// [`reverse_index_bits_short`](crate::kernels::reverse::reverse_index_bits_short), and in an order that suits lists beyond the caches.
+/// The length is a power of two, which std's `is_power_of_two` tests, and at least 4.
 ///
 /// # Contract
 ///

@@ -25,7 +25,7 @@ pub fn reverse_row_index_bits_on<S: Places>(m: &mut Swaps<S>, row_width: usize) 
 }
 
 /// Reverses `m` by index bits, as [`reverse_slice_index_bits`] does, by one exchange of each two places that belong to
-/// each other. The length is zero or a power of two.
+/// each other. The length is zero or a power of two, which `fits_rows(m.len(), 1)` tests.
 ///
 /// [`reverse_slice_index_bits`]: crate::kernels::reverse::reverse_slice_index_bits
 ///
@@ -45,7 +45,8 @@ pub fn reverse_index_bits_short<S: Places>(m: &mut Swaps<S>) {
 }
 
 /// Reverses the order of the `2^lb_num_chunks` chunks of `2^lb_chunk_size` items: with both lengths written as h and c,
-/// place `i` gets the item from `rev(h, i / 2^c) * 2^c + i mod 2^c`. The length is `2^(h + c)`. It makes at most n/2 swaps.
+/// place `i` gets the item from `rev(h, i / 2^c) * 2^c + i mod 2^c`. It makes at most n/2 swaps. The length is `2^(h + c)`, for
+/// which there is no test: [`checked_log_size_sum`](crate::kernels::bits::checked_log_size_sum) of both lengths has that number.
 ///
 /// # Contract
 ///

@@ -20,7 +20,9 @@ pub(crate) struct Square {
 }
 
 /// Transposes in place the square of `s = 2^log_size` rows and columns whose first place is `base` and whose rows begin
-/// `2^log_stride` places apart, by `s * (s - 1) / 2` exchanges. All other places stay.
+/// `2^log_stride` places apart, by `s * (s - 1) / 2` exchanges. All other places stay. There is no test for the conditions:
+/// `log_size` is at most `log_stride` and that is below 64, so that no row reaches into the next one, and the last place of the
+/// square, `base + (s - 1) * 2^log_stride + s - 1`, lies in the list.
 ///
 /// # Contract
 ///
