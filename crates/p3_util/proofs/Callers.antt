@@ -67,7 +67,7 @@ rev_odd k b =
     let one : rev 1 1 ≡ 1 = rw (rev-suc 0 1, rev-zero 1) refl in
     rw (double, rev-parts k 1 b 1 (omega arith), one) (omega arith)
 
--- A number that passes std's test has a logarithm.
+-- A number that passes std's test has a logarithm. The search knows it; a proof by hand names the lemma.
 pub power_of_two_test : (n : ℕ) → is_power_of_two n ≡ true → HasLog2 n
 power_of_two_test n tested = inl ((power_test n).0 tested)
 

@@ -34,7 +34,6 @@ pub fn log2_or_zero(n: usize) -> usize
 }
 
 /// The logarithm of the length of `items`, where that is a power of two.
-#[tactic(auto, using(p3_util::proofs::Callers::power_of_two_test))]
 pub fn log2_of_len<T>(items: &[T]) -> Option<usize>
     ensures { MatchOption result (IsFalse (is_power_of_two (length items.now))) (λ k. length items.now ≡ 2 ^ k) }
 {
