@@ -66,13 +66,7 @@ impl<R> Regions<R> {
 
     /// The region of this number. No two have an item in common, since the parts of a cut follow each other.
     fn region(&self, number: usize) -> Region {
-        let (from, to) = self.cut.part(number);
-        let whole = self.matrix.whole();
-        if self.by_rows {
-            whole.with_rows(from, to)
-        } else {
-            whole.with_cols(from, to)
-        }
+        self.cut.region(&self.matrix, self.by_rows, number)
     }
 }
 

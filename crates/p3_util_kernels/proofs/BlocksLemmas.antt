@@ -8,7 +8,7 @@ use Rattle.p3_util_kernels.specs.Blocks.{IsBlock, blocks_of}
 use Rattle.p3_util_kernels.specs.Diagonal.{HoldsSquare}
 use Rattle.p3_util_kernels.specs.PartSteps.{IsPlaceOfBlock, NoPlaceInCommon}
 use Rattle.p3_util_kernels.specs.Parts.{number_of_pair, pairs_of, parts_in, start_of}
-use Rattle.p3_util_kernels.proofs.CutParts.{parts-within, start-below}
+use Rattle.p3_util_kernels.proofs.CutParts.{pair-alone, pair-below, parts-within, start-below, start-rising}
 
 -- a square lies in the rows
 pub square-inside : (number pairs side stride : ℕ) → number < stride / side * pairs → number / pairs * side + side ≤ stride
@@ -49,9 +49,15 @@ block-is side stride step number pairs first last region pairs_are below in_orde
   region_is = region_is;
 }
 
--- where a part begins, it is before the one that follows begins
-pub start-rising : (len step k l : ℕ) → k < l → start_of len step (k + 1) ≤ start_of len step l
-start-rising len step k l less = let rows : suc k * step ≤ l * step = mul-le-mul_right step less in omega (arith, rows)
+-- a block is given by its number
+pub block-alone : (side stride step number base other_base : ℕ) (region other_region : Region) → IsBlock side stride step number base region
+    → IsBlock side stride step number other_base other_region → (base ≡ other_base) × (region ≡ other_region)
+block-alone side stride step number base other_base region other_region a b =
+    let n : ℕ = parts_in side step in
+    let numbers = same_from_place a.square (number_of_pair n a.row a.col) b.square (number_of_pair n b.row b.col) (pairs_of n)
+    (pair-below n a.row a.col a.in_order a.below) (pair-below n b.row b.col b.in_order b.below) (sym a.number_is ∙ b.number_is) in
+    let parts = pair-alone n a.row a.col b.row b.col a.in_order a.below b.in_order b.below numbers.1 in
+    (a.base_is ∙ rw numbers.0 (sym b.base_is), a.region_is ∙ rw (parts.0, parts.1) (sym b.region_is))
 
 -- what the kernels of a block ask of it
 module _ (side stride step number base : ℕ) (region : Region) (some : 0 < step) (block : IsBlock side stride step number base region) where

@@ -1,11 +1,12 @@
 -- The cut of a length into parts.
-use Rattle.std.proofs.Common.{◌≡◌, ℕ, suc, ◌+◌, ◌-◌, ◌*◌, ◌/◌, ◌%◌, ◌^◌, ◌<◌, ◌≤◌, false, min, max, nat_le, refl, ap, ◌∙◌, inl, inr, arith}
+use Rattle.std.proofs.Common.{◌≡◌, ℕ, suc, ◌+◌, ◌-◌, ◌*◌, ◌/◌, ◌%◌, ◌^◌, ◌<◌, ◌≤◌, ◌⊎◌, Bool, true, false, if◌then◌else◌, min, max, nat_le, refl, ap, ◌∙◌, inl, inr, arith}
 use Rattle.std.specs.Int.{div_ceil}
 use Rattle.std.proofs.lemmas.Bool.{cases_lt, false_from_ne_true, le-leb, leb-true}
 use Rattle.std.proofs.lemmas.Grind.{div_ceil_times}
-use Rattle.std.proofs.lemmas.Nat.{div-add-mod', mod_below}
+use Rattle.std.proofs.lemmas.Nat.{div-add-mod', mod_below, same_from_place}
 use Rattle.std.proofs.Math.Nat.{lt_of_mul-lt-mul_right, mod-eq_of_lt, mod-eq-sub-mod, mul-le-mul, mul-le-mul_left, mul-le-mul_right, mul-mod_left, pos_of_ne-zero}
-use Rattle.p3_util_kernels.specs.Parts.{number_of_pair, pairs_of, parts_in, start_of}
+use Rattle.p3_util_kernels.specs.Parts.{number_of_pair, pairs_of, part_of_matrix, parts_in, start_of}
+use Rattle.p3_util_kernels.specs.Region.{LiesInMatrix}
 
 -- a part begins below the length, and there are no more parts than numbers
 pub start-below : (len step : ℕ) → 0 < step → (k : ℕ) → k < parts_in len step → k * step < len
@@ -17,6 +18,13 @@ pub parts-within : (len step : ℕ) → 0 < step → parts_in len step ≤ len
 parts-within len step some =
     let whole : len / step * step + len % step ≡ len = div-add-mod' len step in
     let each : len / step * 1 ≤ len / step * step = mul-le-mul_left (len / step) some in
+    omega arith
+
+-- a quotient that is rounded up is no more than is enough
+div_ceil-least : (a b n : ℕ) → 0 < b → a ≤ n * b → div_ceil a b ≤ n
+div_ceil-least a b n some enough =
+    let next : div_ceil a b * b < (n + 1) * b = omega (arith, (div_ceil_times a b some).1, enough) in
+    let less : div_ceil a b < n + 1 = lt_of_mul-lt-mul_right b next in
     omega arith
 
 module _ (len unit units step : ℕ) (some : 0 < unit) (most : 0 < units) (fits : len < 2 ^ 64) (step_is : step ≡ min (units * unit) (2 ^ 64 - 1)) where
@@ -52,9 +60,38 @@ module _ (len unit units step : ℕ) (some : 0 < unit) (most : 0 < units) (fits 
         | inl small ↦ let whole : step ≡ units * unit = omega arith in rw whole (omega arith)
         | inr large ↦ let one : 1 * step ≤ parts * step = mul-le-mul_right step asked in omega arith
       ] in
-      let next : parts_in len step * step < (parts + 1) * step = omega (arith, (div_ceil_times len step step-some).1, enough) in
-      let less : parts_in len step < parts + 1 = lt_of_mul-lt-mul_right step next in
-      omega arith
+      div_ceil-least len step parts step-some enough
+
+  -- no shorter parts of whole units are few enough
+  pub parts-least : (parts : ℕ) → 0 < parts → units ≡ max (div_ceil (div_ceil len unit) parts) 1
+      → (n : ℕ) → 0 < n → parts_in len (n * unit) ≤ parts → step ≤ n * unit
+  parts-least parts asked units_are n whole few =
+      let positive : 1 * 1 ≤ n * unit = mul-le-mul whole some in
+      let a : len ≤ parts_in len (n * unit) * (n * unit) = (div_ceil_times len (n * unit) (omega arith)).0 in
+      let b : parts_in len (n * unit) * (n * unit) ≤ parts * (n * unit) = mul-le-mul_right (n * unit) few in
+      let c : div_ceil len unit ≤ n * parts = div_ceil-least len unit (n * parts) some (omega (arith, a, b)) in
+      let d : div_ceil (div_ceil len unit) parts ≤ n = div_ceil-least (div_ceil len unit) parts n asked c in
+      let e : units * unit ≤ n * unit = mul-le-mul_right unit (omega (arith, d, units_are)) in
+      omega (arith, e)
+
+-- a part ends before a later one begins
+pub start-rising : (len step k l : ℕ) → k < l → start_of len step (k + 1) ≤ start_of len step l
+start-rising len step k l less = let rows : suc k * step ≤ l * step = mul-le-mul_right step less in omega (arith, rows)
+
+-- a part of a matrix lies in it
+pub part-inside : (width height : ℕ) (by_rows : Bool) (len step k : ℕ) → len ≡ (if by_rows then height else width)
+    → LiesInMatrix (part_of_matrix width height by_rows len step k) width height
+part-inside width height true len step k side =
+    record { rows_in_order = omega arith; rows_inside = omega arith; cols_in_order = omega arith; cols_inside = omega arith }
+part-inside width height false len step k side =
+    record { rows_in_order = omega arith; rows_inside = omega arith; cols_in_order = omega arith; cols_inside = omega arith }
+
+-- two parts of a matrix have no row, or no column, in common
+pub parts-apart : (width height : ℕ) (by_rows : Bool) (len step k l : ℕ) → k < l
+    → let first = part_of_matrix width height by_rows len step k in
+    let second = part_of_matrix width height by_rows len step l in (first.row_end ≤ second.row_start) ⊎ (first.col_end ≤ second.col_start)
+parts-apart width height true len step k l less = inl (start-rising len step k l less)
+parts-apart width height false len step k l less = inr (start-rising len step k l less)
 
 -- which way around the circle is the shorter one
 pair-near : (n i j : ℕ) → 2 * (j - i) ≤ n → number_of_pair n i j ≡ (j - i) * n + i
@@ -64,6 +101,43 @@ pair-far : (n i j : ℕ) → n < 2 * (j - i) → number_of_pair n i j ≡ (n - (
 pair-far n i j far =
     let not_near : nat_le (2 * (j - i)) n ≡ false = false_from_ne_true (nat_le (2 * (j - i)) n) (λ near. omega (arith, far, leb-true (2 * (j - i)) n near)) in
     rw not_near refl
+
+-- A pair has a number below that of the pairs: the length of the shorter way, and the part where it begins.
+module _ (n i j : ℕ) (in_order : i ≤ j) (below : j < n) where
+  pub pair-below : number_of_pair n i j < pairs_of n
+  pair-below =
+      let way : ℕ = j - i in
+      elim (cases_lt n (2 * way)) [
+        | inl far ↦
+            let less : suc (2 * (n - way)) * n ≤ n * n = mul-le-mul_right n (omega arith) in
+            rw (pair-far n i j far) (omega (arith, less))
+        | inr near ↦ rw (pair-near n i j near) (elim (cases_lt (2 * way) n) [
+          | inl shorter ↦ let less : suc (2 * way) * n ≤ n * n = mul-le-mul_right n shorter in omega (arith, less)
+          | inr half ↦ let whole : 2 * way * n ≡ n * n = ap (λ m. m * n) (omega arith) in omega (arith, whole)
+        ])
+      ]
+
+-- no other pair has its number
+pub pair-alone : (n i j k l : ℕ) → i ≤ j → j < n → k ≤ l → l < n → number_of_pair n i j ≡ number_of_pair n k l → (i ≡ k) × (j ≡ l)
+pair-alone n i j k l ij jn kl ln same =
+    elim (cases_lt n (2 * (j - i))) [
+      | inl far ↦ elim (cases_lt n (2 * (l - k))) [
+        | inl far' ↦
+            let parts = same_from_place (n - (j - i)) j (n - (l - k)) l n jn ln (rw (pair-far n i j far, pair-far n k l far') at same) in
+            (omega (arith, parts), parts.1)
+        | inr near' ↦
+            let parts = same_from_place (n - (j - i)) j (l - k) k n jn (omega arith) (rw (pair-far n i j far, pair-near n k l near') at same) in
+            absurd (omega (arith, parts))
+      ]
+      | inr near ↦ elim (cases_lt n (2 * (l - k))) [
+        | inl far' ↦
+            let parts = same_from_place (j - i) i (n - (l - k)) l n (omega arith) ln (rw (pair-near n i j near, pair-far n k l far') at same) in
+            absurd (omega (arith, parts))
+        | inr near' ↦
+            let parts = same_from_place (j - i) i (l - k) k n (omega arith) (omega arith) (rw (pair-near n i j near, pair-near n k l near') at same) in
+            (parts.1, omega (arith, parts))
+      ]
+    ]
 
 -- a pair that is made of its number has that number
 pub pair-number : (n number first last : ℕ) → number < pairs_of n → first ≡ min (number % n) ((number % n + number / n) % n)

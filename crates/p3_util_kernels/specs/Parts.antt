@@ -1,6 +1,7 @@
 -- Neighbouring numbers cut into parts, for the contracts of `src/parts.rt`.
-use Rattle.std.specs.Prelude.{ℕ, ◌≡◌, ◌+◌, ◌-◌, ◌*◌, ◌/◌, ◌<◌, min, nat_le, if◌then◌else◌}
+use Rattle.std.specs.Prelude.{ℕ, Bool, ◌≡◌, ◌+◌, ◌-◌, ◌*◌, ◌/◌, ◌<◌, min, nat_le, if◌then◌else◌}
 use Rattle.std.specs.Int.{div_ceil}
+use Rattle.p3_util_kernels.specs.declared.transpose.regions.Region.{Region}
 
 -- Part k has the numbers from `start k` to below `start (k + 1)`. So each of the `count` parts begins where the one before it
 -- ends, the first one at 0, none is empty, and the last one ends at `len`.
@@ -15,6 +16,12 @@ parts_in len step = div_ceil len step
 
 abbrev pub start_of : (len step k : ℕ) → ℕ
 start_of len step k = min (k * step) len
+
+-- The region of part k of a matrix of `height` rows of `width` items. Its rows are cut, or its columns, and the other side is whole.
+abbrev pub part_of_matrix : (width height : ℕ) (by_rows : Bool) (len step k : ℕ) → Region
+part_of_matrix width height by_rows len step k =
+    if by_rows then record { row_start = start_of len step k; row_end = start_of len step (k + 1); col_start = 0; col_end = width }
+    else record { row_start = 0; row_end = height; col_start = start_of len step k; col_end = start_of len step (k + 1) }
 
 -- how many pairs n parts make, of each part with itself and with each later one
 abbrev pub pairs_of : ℕ → ℕ

@@ -1,12 +1,13 @@
 //! The cut of a length into parts, by which calls are given to several threads.
 
-ghost use Rattle.std.specs.Prelude.{length, ◌≡◌, ℕ, ◌+◌, ◌*◌, ◌%◌, ◌^◌, ◌<◌, ◌≤◌, max};
+ghost use Rattle.std.specs.Prelude.{length, ◌≡◌, ℕ, ◌+◌, ◌*◌, ◌%◌, ◌^◌, ◌<◌, ◌≤◌, if◌then◌else◌, max};
 ghost use Rattle.p3_util_kernels.specs.Blocks.{IsBlock, blocks_of, swaps_of_block};
 ghost use Rattle.p3_util_kernels.specs.Diagonal.{SwapsAcross};
-ghost use Rattle.p3_util_kernels.specs.Parts.{FollowEachOther, number_of_pair, pairs_of, parts_in, start_of};
+ghost use Rattle.p3_util_kernels.specs.Parts.{FollowEachOther, number_of_pair, pairs_of, part_of_matrix, parts_in, start_of};
+ghost use Rattle.p3_util_kernels.specs.Region.{LiesInMatrix};
 
 use crate::places::Places;
-use crate::transpose::{Region, Square, exchange_region, transpose_diagonal};
+use crate::transpose::{Matrix, Region, Square, exchange_region, transpose_diagonal};
 
 /// The numbers below `len`, cut into parts of `step` neighbouring ones. The last part may have fewer.
 #[derive(Clone, Copy, Debug)]
@@ -17,12 +18,14 @@ pub(crate) struct Cut {
 }
 
 impl Cut {
-    /// Cuts the numbers below `len` into at most `parts` parts, each of which begins at a multiple of `unit`. 0 parts are 1.
+    /// Cuts the numbers below `len` into at most `parts` parts, each of which begins at a multiple of `unit`. 0 parts are 1. The
+    /// parts are no longer than they have to be for that.
     pub(crate) fn new(len: usize, parts: usize, unit: usize) -> Cut
         requires { 0 < unit }
         ensures len { result.len ≡ len }
         ensures few { parts_in result.len result.step ≤ max parts 1 }
         ensures units { (k : ℕ) → k < parts_in result.len result.step → start_of result.len result.step k % unit ≡ 0 }
+        ensures least { (units : ℕ) → 0 < units → parts_in len (units * unit) ≤ max parts 1 → result.step ≤ units * unit }
     {
         let units = len.div_ceil(unit).div_ceil(parts.max(1));
         Cut {
@@ -48,6 +51,23 @@ impl Cut {
         let from = k * self.step;
         (from, from + self.step.min(self.len - from))
     }
+
+    /// Part `k` of a matrix, of which this is the cut of the rows or of the columns.
+    pub(crate) fn region<R>(self, matrix: &Matrix<R>, by_rows: bool, k: usize) -> Region
+        requires side { self.len ≡ if by_rows then matrix.now.height else matrix.now.width }
+        requires below { k < parts_in self.len self.step }
+        ensures region { result ≡ part_of_matrix matrix.now.width matrix.now.height by_rows self.len self.step k }
+        ensures inside { LiesInMatrix result matrix.now.width matrix.now.height }
+    {
+        let whole = matrix.whole();
+        let (from, to) = self.part(k);
+        if by_rows {
+            whole.with_rows(from, to)
+        } else {
+            whole.with_cols(from, to)
+        }
+    }
+
     /// The number of pairs of parts: of each part with itself, and with each later one.
     pub(crate) fn pairs(self) -> usize
         requires { parts_in self.len self.step < 2 ^ 32 }

@@ -1,7 +1,7 @@
 //! The cut of a length into parts, by which calls are given to several threads.
 
 use crate::kernels::places::Places;
-use crate::kernels::transpose::{Region, Square, exchange_region, transpose_diagonal};
+use crate::kernels::transpose::{Matrix, Region, Square, exchange_region, transpose_diagonal};
 
 /// The numbers below `len`, cut into parts of `step` neighbouring ones. The last part may have fewer.
 #[derive(Clone, Copy, Debug)]
@@ -11,7 +11,8 @@ pub(crate) struct Cut {
 }
 
 impl Cut {
-    /// Cuts the numbers below `len` into at most `parts` parts, each of which begins at a multiple of `unit`. 0 parts are 1.
+    /// Cuts the numbers below `len` into at most `parts` parts, each of which begins at a multiple of `unit`. 0 parts are 1. The
+    /// parts are no longer than they have to be for that.
     pub(crate) fn new(len: usize, parts: usize, unit: usize) -> Cut {
         let units = len.div_ceil(unit).div_ceil(parts.max(1));
         Cut {
@@ -30,6 +31,18 @@ impl Cut {
         let from = k * self.step;
         (from, from + self.step.min(self.len - from))
     }
+
+    /// Part `k` of a matrix, of which this is the cut of the rows or of the columns.
+    pub(crate) fn region<R>(self, matrix: &Matrix<R>, by_rows: bool, k: usize) -> Region {
+        let whole = matrix.whole();
+        let (from, to) = self.part(k);
+        if by_rows {
+            whole.with_rows(from, to)
+        } else {
+            whole.with_cols(from, to)
+        }
+    }
+
     /// The number of pairs of parts: of each part with itself, and with each later one.
     pub(crate) fn pairs(self) -> usize {
         let count = self.count();

@@ -3,13 +3,14 @@
 
 ghost use Rattle.std.specs.Prelude.{◌≡◌, ◌≢◌, ℕ, ◌⊎◌, ◌+◌, ◌-◌, ◌*◌, ◌/◌, ◌^◌, ◌<◌, ◌≤◌, if◌then◌else◌, length};
 ghost use Rattle.p3_util_kernels.specs.Blocks.{IsBlock, blocks_of, swaps_of_block};
-ghost use Rattle.p3_util_kernels.specs.Crossing.{HoldsRows, line_pairs_of};
+ghost use Rattle.p3_util_kernels.specs.Crossing.{HoldsRows, IsCrossed, line_pairs_of};
+ghost use Rattle.p3_util_kernels.specs.Diagonal.{SwapsAcross};
 ghost use Rattle.p3_util_kernels.specs.Least.{AllDiffer, PutsAtChanged, SwapsAtChanged};
 ghost use Rattle.p3_util_kernels.specs.PartSteps.{IsPlaceOfBlock, IsPlaceOfRegion, IsPlaceOfRows, NoItemInCommon, NoPlaceInCommon};
 ghost use Rattle.p3_util_kernels.specs.PartSteps.{PutsLead, PutsStay, more_puts, no_puts, one_put};
 ghost use Rattle.p3_util_kernels.specs.PartSteps.{SwapsLead, SwapsStay, more_swaps, no_swaps, one_swap};
-ghost use Rattle.p3_util_kernels.specs.Parts.{parts_in};
-ghost use Rattle.p3_util_kernels.specs.Region.{IsReady, LiesInMatrix, items_of};
+ghost use Rattle.p3_util_kernels.specs.Parts.{number_of_pair, pairs_of, part_of_matrix, parts_in, start_of};
+ghost use Rattle.p3_util_kernels.specs.Region.{IsReady, IsRegionTransposed, LiesInMatrix, items_of};
 ghost use Rattle.p3_util_kernels.specs.SwapCounts.{line_swaps};
 
 use crate::parts::{Cut, Squares};
@@ -84,6 +85,7 @@ pub(crate) fn put_region<C: Cells, R: Source<Item = C::Item> + Copy>(
     region: Region,
 ) -> C
     requires ready { IsReady region matrix.width matrix.height (R.items matrix.source) (C.items out) }
+    ensures transposed { IsRegionTransposed region matrix.width matrix.height (R.items matrix.source) (C.items out) (C.items result) }
     ensures steps { PutsLead (items_of region) (C.items out) (C.items result) }
     ensures stay { NoItemInCommon (R.items matrix.source) (C.items out)
         → PutsStay (IsPlaceOfRegion region matrix.height) (items_of region) (C.items out) (C.items result) }
@@ -111,24 +113,15 @@ pub(crate) fn parts_of_matrix(
     requires side { cut.len ≡ if by_rows then height else width }
     requires in_order { parts.0 < parts.1 }
     requires below { parts.1 < parts_in cut.len cut.step }
+    ensures first_is { result.0 ≡ part_of_matrix width height by_rows cut.len cut.step parts.0 }
+    ensures second_is { result.1 ≡ part_of_matrix width height by_rows cut.len cut.step parts.1 }
     ensures first { LiesInMatrix result.0 width height }
     ensures second { LiesInMatrix result.1 width height }
     ensures apart { NoPlaceInCommon (IsPlaceOfRegion result.0 height) (IsPlaceOfRegion result.1 height) }
 {
-    let whole = Matrix::new((), width, height).whole();
-    let (from, to) = cut.part(parts.0);
-    let (next_from, next_to) = cut.part(parts.1);
-    let (first, second) = if by_rows {
-        (
-            whole.with_rows(from, to),
-            whole.with_rows(next_from, next_to),
-        )
-    } else {
-        (
-            whole.with_cols(from, to),
-            whole.with_cols(next_from, next_to),
-        )
-    };
+    let matrix = Matrix::new((), width, height);
+    let first = cut.region(&matrix, by_rows, parts.0);
+    let second = cut.region(&matrix, by_rows, parts.1);
     regions_apart(first, second, width, height);
     (first, second)
 }
@@ -142,9 +135,25 @@ pub(crate) fn exchange_block<S: Places>(places: S, squares: Squares, number: usi
         × SwapsLead (swaps_of_block region) (S.items places) (S.items result)
         × (AllDiffer (S.items places) → SwapsStay (IsPlaceOfBlock squares.cut.len squares.stride squares.cut.step number)
         (swaps_of_block region) (S.items places) (S.items result)) }
+    ensures across { (base : ℕ) → (region : Region) → IsBlock squares.cut.len squares.stride squares.cut.step number base region
+        → SwapsAcross base squares.stride region (S.items places) (S.items result) }
 {
     squares.exchange(SwapSteps { places }, number).places
 }
+
+/// Each pair of the parts of a cut has a number below the number of pairs, and no other pair has it.
+pub(crate) fn pairs_have_numbers()
+    ensures below { (n i j : ℕ) → i ≤ j → j < n → number_of_pair n i j < pairs_of n }
+    ensures apart { (n i j k l : ℕ) → i ≤ j → j < n → k ≤ l → l < n → number_of_pair n i j ≡ number_of_pair n k l → (i ≡ k) × (j ≡ l) }
+{}
+
+/// A block of squares side by side is given by its number.
+pub(crate) fn block_of_number(squares: Squares, number: usize)
+    ensures { (base other_base : ℕ) → (region other_region : Region)
+        → IsBlock squares.cut.len squares.stride squares.cut.step number base region
+        → IsBlock squares.cut.len squares.stride squares.cut.step number other_base other_region
+        → (base ≡ other_base) × (region ≡ other_region) }
+{}
 
 /// Two blocks of squares side by side have no place in common.
 pub(crate) fn blocks_apart(squares: Squares, first: usize, second: usize)
@@ -159,6 +168,8 @@ pub(crate) fn exchange_range<S: Places>(places: S, rows: RowDigits, from: usize,
     requires in_order { from ≤ to }
     requires within { to ≤ line_pairs_of rows.digits }
     requires ready { from < to → HoldsRows rows.width rows.digits (S.items places) }
+    ensures crossed { let half = rows.digits / 2 in IsCrossed half (rows.digits - half) rows.width
+        (record { row_start = 0; row_end = 2 ^ half; col_start = from * 2; col_end = to * 2 }) (S.items places) (S.items result) }
     ensures steps { SwapsLead (rows.width * (line_swaps rows.digits to - line_swaps rows.digits from)) (S.items places) (S.items result) }
     ensures stay { AllDiffer (S.items places) → let half = rows.digits / 2 in SwapsStay (IsPlaceOfRows half (rows.digits - half) rows.width
         (record { row_start = 0; row_end = 2 ^ half; col_start = from * 2; col_end = to * 2 }))
@@ -175,6 +186,8 @@ pub(crate) fn ranges_apart(
 ) -> ((usize, usize), (usize, usize))
     requires in_order { parts.0 < parts.1 }
     requires below { parts.1 < parts_in cut.len cut.step }
+    ensures first_is { result.0 ≡ (start_of cut.len cut.step parts.0, start_of cut.len cut.step (parts.0 + 1)) }
+    ensures second_is { result.1 ≡ (start_of cut.len cut.step parts.1, start_of cut.len cut.step (parts.1 + 1)) }
     ensures apart { let half = rows.digits / 2 in NoPlaceInCommon
         (IsPlaceOfRows half (rows.digits - half) rows.width
         (record { row_start = 0; row_end = 2 ^ half; col_start = result.0.0 * 2; col_end = result.0.1 * 2 }))

@@ -1,4 +1,5 @@
 use Rattle.p3_util_kernels.proofs.BlockSteps.{block-steps}
+use Rattle.p3_util_kernels.proofs.BlocksLemmas.{block-alone}
 use Rattle.p3_util_kernels.proofs.laws.parts.exchange_block.Goals as goal
 
 pub returns : goal.returns
@@ -15,4 +16,7 @@ returns g c =
             block-steps squares.cut.len squares.stride squares.cut.step c.args.number base region _ _ squares.cut.some_step block c.requires.whole
             squares.fits differ across,
       );
+      across = λ base' region' block'.
+          let same = block-alone squares.cut.len squares.stride squares.cut.step c.args.number base' base region' region block' block in
+          rw (same.0, same.1) across;
     }
