@@ -1,6 +1,6 @@
 -- Steps that lead from one list to another, and the places that they are at, for the contracts of `src/laws/parts.rt`. The
 -- lemmas are those by which a holder says that such steps exist.
-use Rattle.std.proofs.Common.{◌≡◌, ◌≢◌, ℕ, ◌+◌, ◌*◌, ◌^◌, ◌<◌, min, max, List, [], ◌∷◌, ◌++◌, length, slice_get, slice_set, length-append, refl, sym, ◌∙◌, ap, arith}
+use Rattle.std.proofs.Common.{◌≡◌, ◌≢◌, ℕ, ◌+◌, ◌*◌, ◌/◌, ◌^◌, ◌<◌, min, max, List, [], ◌∷◌, ◌++◌, length, slice_get, slice_set, length-append, refl, sym, ◌∙◌, ap, arith}
 use Rattle.std.specs.Prelude.{swap}
 use Rattle.p3_util_kernels.specs.declared.transpose.regions.Region.{Region}
 use Rattle.p3_util_kernels.specs.Blocks.{IsBlock}
@@ -34,6 +34,10 @@ SwapsStay = StepsStay after_swaps places_swapped
 abbrev pub NoPlaceInCommon : (ℕ → Type 0) → (ℕ → Type 0) → Type 0
 NoPlaceInCommon first second = (p : ℕ) → first p → second p → ⊥
 
+-- each place of the whole is a place of one of the parts, which are numbered from 0
+abbrev pub PartsCover : (whole : ℕ → Type 0) (count : ℕ) (part : ℕ → ℕ → Type 0) → Type 0
+PartsCover whole count part = (p : ℕ) → whole p → (k : ℕ) × (k < count) × part k p
+
 -- no item of the one list is an item of the other
 abbrev pub NoItemInCommon : {A : Type 0} → List A → List A → Type 0
 NoItemInCommon xs ys = (i j : ℕ) → i < length xs → j < length ys → slice_get xs i ≢ slice_get ys j
@@ -51,6 +55,11 @@ IsPlaceAcross base stride region p =
 abbrev pub IsPlaceOfBlock : (side stride step number p : ℕ) → Type 0
 IsPlaceOfBlock side stride step number p =
     (base : ℕ) × (region : Region) × IsBlock side stride step number base region × IsPlaceAcross base stride region p
+
+-- those of all squares that fit side by side into rows of `stride` items
+abbrev pub IsPlaceOfSquares : (side stride p : ℕ) → Type 0
+IsPlaceOfSquares side stride p =
+    (square a b : ℕ) × (square < stride / side) × (a < side) × (b < side) × (p ≡ square * side + a * stride + b)
 
 -- the places of pairs of rows, as in `IsCrossed`
 abbrev pub IsPlaceOfRows : (half c row_width : ℕ) (pairs : Region) (p : ℕ) → Type 0

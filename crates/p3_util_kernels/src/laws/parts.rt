@@ -1,12 +1,14 @@
-//! What makes it safe to give the parts of a call to several threads: each function runs the kernel of a part over a holder by
-//! which its steps exist, and says at which places they are.
+//! What makes it safe to give the parts of a call to several threads. Some functions run the kernel of a part over a holder by
+//! which its steps exist, and say at which places they are. The others say that two parts have no place in common, and that
+//! each place is one of some part.
 
 ghost use Rattle.std.specs.Prelude.{◌≡◌, ◌≢◌, ℕ, ◌⊎◌, ◌+◌, ◌-◌, ◌*◌, ◌/◌, ◌^◌, ◌<◌, ◌≤◌, if◌then◌else◌, length};
 ghost use Rattle.p3_util_kernels.specs.Blocks.{IsBlock, blocks_of, swaps_of_block};
 ghost use Rattle.p3_util_kernels.specs.Crossing.{HoldsRows, IsCrossed, line_pairs_of};
 ghost use Rattle.p3_util_kernels.specs.Diagonal.{SwapsAcross};
 ghost use Rattle.p3_util_kernels.specs.Least.{AllDiffer, PutsAtChanged, SwapsAtChanged};
-ghost use Rattle.p3_util_kernels.specs.PartSteps.{IsPlaceOfBlock, IsPlaceOfRegion, IsPlaceOfRows, NoItemInCommon, NoPlaceInCommon};
+ghost use Rattle.p3_util_kernels.specs.PartSteps.{IsPlaceOfBlock, IsPlaceOfRegion, IsPlaceOfRows, IsPlaceOfSquares, NoItemInCommon, NoPlaceInCommon};
+ghost use Rattle.p3_util_kernels.specs.PartSteps.{PartsCover};
 ghost use Rattle.p3_util_kernels.specs.PartSteps.{PutsLead, PutsStay, more_puts, no_puts, one_put};
 ghost use Rattle.p3_util_kernels.specs.PartSteps.{SwapsLead, SwapsStay, more_swaps, no_swaps, one_swap};
 ghost use Rattle.p3_util_kernels.specs.Parts.{number_of_pair, pairs_of, part_of_matrix, parts_in, start_of};
@@ -196,3 +198,24 @@ pub(crate) fn ranges_apart(
 {
     (cut.part(parts.0), cut.part(parts.1))
 }
+
+/// Each place of the transpose of a matrix is a place of one of the parts that its rows or its columns are cut into.
+pub(crate) fn parts_cover_matrix(width: usize, height: usize, by_rows: bool, cut: Cut)
+    requires side { cut.len ≡ if by_rows then height else width }
+    ensures { PartsCover (λ p. p < width * height) (parts_in cut.len cut.step)
+        (λ k. IsPlaceOfRegion (part_of_matrix width height by_rows cut.len cut.step k) height) }
+{}
+
+/// Each place of squares side by side is a place of one of their blocks.
+pub(crate) fn blocks_cover_squares(squares: Squares)
+    ensures { PartsCover (IsPlaceOfSquares squares.cut.len squares.stride) (blocks_of squares.cut.len squares.stride squares.cut.step)
+        (IsPlaceOfBlock squares.cut.len squares.stride squares.cut.step) }
+{}
+
+/// Each place of the rows of all line pairs is a place of one of the ranges that these are cut into.
+pub(crate) fn ranges_cover_rows(rows: RowDigits, cut: Cut)
+    ensures { let half = rows.digits / 2 in PartsCover
+        (IsPlaceOfRows half (rows.digits - half) rows.width (record { row_start = 0; row_end = 2 ^ half; col_start = 0; col_end = cut.len * 2 }))
+        (parts_in cut.len cut.step) (λ k. IsPlaceOfRows half (rows.digits - half) rows.width
+        (record { row_start = 0; row_end = 2 ^ half; col_start = start_of cut.len cut.step k * 2; col_end = start_of cut.len cut.step (k + 1) * 2 })) }
+{}

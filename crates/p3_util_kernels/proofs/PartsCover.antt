@@ -1,0 +1,72 @@
+-- The parts of a phase have all of its places.
+use Rattle.std.proofs.Common.{◌≡◌, ℕ, suc, Bool, true, false, if◌then◌else◌, ◌+◌, ◌*◌, ◌/◌, ◌%◌, ◌^◌, ◌<◌, ◌≤◌, max, min, refl, sym, ap, arith}
+use Rattle.std.proofs.lemmas.Grind.{div_ceil_times}
+use Rattle.std.proofs.lemmas.Nat.{div_below, div-add-mod', le-div, mod_below}
+use Rattle.std.proofs.Math.Nat.{div-mul-le_self, lt_of_mul-lt-mul_right, mul-le-mul_right, pos_of_ne-zero}
+use Rattle.p3_util_kernels.specs.declared.transpose.regions.Region.{Region}
+use Rattle.p3_util_kernels.specs.Blocks.{blocks_of}
+use Rattle.p3_util_kernels.specs.Parts.{number_of_pair, pairs_of, part_of_matrix, parts_in, start_of}
+use Rattle.p3_util_kernels.specs.PartSteps.{IsPlaceOfBlock, IsPlaceOfRegion, IsPlaceOfRows, IsPlaceOfSquares, PartsCover}
+use Rattle.p3_util_kernels.specs.Region.{IsInRegion}
+use Rattle.p3_util_kernels.proofs.CutParts.{pair-below}
+
+-- each number below the length is in a part
+number-covered : (len step v : ℕ) → 0 < step → v < len
+    → (v / step < parts_in len step) × (start_of len step (v / step) ≤ v) × (v < start_of len step (v / step + 1))
+number-covered len step v some below =
+    let whole : v / step * step + v % step ≡ v = div-add-mod' v step in
+    let low : v % step < step = mod_below v step some in
+    let inside : v / step * step < parts_in len step * step = omega (arith, (div_ceil_times len step some).0, whole) in
+    (lt_of_mul-lt-mul_right step inside, omega arith, omega arith)
+
+pub matrix-covered : (width height : ℕ) (by_rows : Bool) (len step : ℕ) → 0 < step → len ≡ (if by_rows then height else width)
+    → PartsCover (λ p. p < width * height) (parts_in len step) (λ k. IsPlaceOfRegion (part_of_matrix width height by_rows len step k) height)
+matrix-covered width height true len step some side p below =
+    let tall : 0 < height = pos_of_ne-zero (λ none. omega (arith, below, ap (λ n. width * n) none)) in
+    let x_below : p / height < width = div_below p height width tall below in
+    let y_below : p % height < height = mod_below p height tall in
+    let at = number-covered len step (p % height) some (omega arith) in
+    let inside : IsInRegion (part_of_matrix width height true len step (p % height / step)) (p / height) (p % height) = record { row_from = at.1; row_to = at.2; col_from = omega arith; col_to = x_below } in
+    (p % height / step, at.0, (p / height, p % height, inside, sym (div-add-mod' p height)))
+matrix-covered width height false len step some side p below =
+    let tall : 0 < height = pos_of_ne-zero (λ none. omega (arith, below, ap (λ n. width * n) none)) in
+    let x_below : p / height < width = div_below p height width tall below in
+    let y_below : p % height < height = mod_below p height tall in
+    let at = number-covered len step (p / height) some (omega arith) in
+    let inside : IsInRegion (part_of_matrix width height false len step (p / height / step)) (p / height) (p % height) = record { row_from = omega arith; row_to = y_below; col_from = at.1; col_to = at.2 } in
+    (p / height / step, at.0, (p / height, p % height, inside, sym (div-add-mod' p height)))
+
+pub squares-covered : (side stride step : ℕ) → 0 < step
+    → PartsCover (IsPlaceOfSquares side stride) (blocks_of side stride step) (IsPlaceOfBlock side stride step)
+squares-covered side stride step some p (square, a, b, square_below, a_below, b_below, e) =
+    let n : ℕ = parts_in side step in
+    let row : ℕ = min a b / step in
+    let col : ℕ = max a b / step in
+    let rows = number-covered side step (min a b) some (omega arith) in
+    let cols = number-covered side step (max a b) some (omega arith) in
+    let region : Region =
+    record { row_start = start_of side step row; row_end = start_of side step (row + 1); col_start = start_of side step col; col_end = start_of side step (col + 1) } in
+    let in_order : row ≤ col = le-div row (max a b) step some (omega (arith, div-mul-le_self (min a b) step)) in
+    let more : suc square * pairs_of n ≤ stride / side * pairs_of n = mul-le-mul_right (pairs_of n) square_below in
+    let wide : suc square * side ≤ stride / side * side = mul-le-mul_right side square_below in
+    let inside : square * side + side ≤ stride = omega (arith, wide, div-mul-le_self stride side) in (
+      square * pairs_of n + number_of_pair n row col,
+      omega (arith, more, pair-below n row col in_order cols.0),
+      (
+        square * side,
+        region,
+        record { square = square; row = row; col = col; in_order = in_order; below = cols.0; number_is = refl; base_is = refl; inside = inside; region_is = refl },
+        (a, b, (omega arith, omega arith), record { row_from = rows.1; row_to = rows.2; col_from = cols.1; col_to = cols.2 }, e),
+      ),
+    )
+
+pub rows-covered : (half c width len step : ℕ) → 0 < step
+    → PartsCover (IsPlaceOfRows half c width (record { row_start = 0; row_end = 2 ^ half; col_start = 0; col_end = len * 2 })) (parts_in len step)
+    (λ k. IsPlaceOfRows half c width (record { row_start = 0; row_end = 2 ^ half; col_start = start_of len step k * 2; col_end = start_of len step (k + 1) * 2 }))
+rows-covered half c width len step some p (m, t, x, y, item, at, e) =
+    let line : ℕ = m * 2 ^ half + max x y in
+    let here = number-covered len step (line / 2) some (omega (arith, at.col_to)) in
+    let pairs : Region = record { row_start = 0; row_end = 2 ^ half; col_start = start_of len step (line / 2 / step) * 2; col_end = start_of len step (line / 2 / step + 1) * 2 } in
+    let inside : IsInRegion pairs (m * 2 ^ half + max x y) (min x y) =
+    record { row_from = at.row_from; row_to = at.row_to; col_from = omega (arith, here.1); col_to = omega (arith, here.2) } in
+    (line / 2 / step, here.0, (m, t, x, y, item, inside, e))
