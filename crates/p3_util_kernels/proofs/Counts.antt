@@ -39,8 +39,8 @@ one-not true = refl
 one-not false = refl
 
 pub count-not : (n : ℕ) (t : ℕ → Bool) → count_below n (λ i. not (t i)) + count_below n t ≡ n
-count-not zero t = omega (arith, count-zero t, count-zero (λ i. not (t i)))
-count-not (suc n) t = omega (arith, count-not n t, count-suc n t, count-suc n (λ i. not (t i)), one-not (t n))
+count-not zero t = omega (arith, count-zero)
+count-not (suc n) t = omega (arith, count-not n t, count-suc n, one-not (t n))
 
 -- what passes a test passes another one too, or not
 one-split : (b c : Bool) → one b ≡ one (b && not c) + one (b && c)
@@ -49,16 +49,9 @@ one-split true false = refl
 one-split false c = refl
 
 pub count-split : (n : ℕ) (t s : ℕ → Bool) → count_below n t ≡ count_below n (λ i. t i && not (s i)) + count_below n (λ i. t i && s i)
-count-split zero t s = omega (arith, count-zero t, count-zero (λ i. t i && not (s i)), count-zero (λ i. t i && s i))
+count-split zero t s = omega (arith, count-zero)
 count-split (suc n) t s =
-    omega (
-      arith,
-      count-split n t s,
-      count-suc n t,
-      count-suc n (λ i. t i && not (s i)),
-      count-suc n (λ i. t i && s i),
-      one-split (t n) (s n),
-    )
+    omega (arith, count-split n t s, count-suc n, one-split (t n) (s n))
 
 -- where the count is not 0, some number passes
 pub count-some : (n : ℕ) (t : ℕ → Bool) → 0 < count_below n t → (i : ℕ) × (i < n) × IsTrue (t i)

@@ -1,23 +1,15 @@
 -- Laws of binary digits, of sums over places, and of the reversal of digits.
 use Rattle.std.proofs.Common.{◌≡◌, ℕ, zero, suc, ◌+◌, ◌-◌, ◌*◌, ◌/◌, ◌%◌, ◌^◌, ◌<◌, ◌≤◌, refl, sym, ◌∙◌, ap, arith, bit_and, bit_or}
 use Rattle.std.proofs.Math.Nat.{pow-suc, div-one, mod-eq_of_lt, mul-mod_left}
-use Rattle.std.proofs.lemmas.Nat.{pow_pos, pow-add, shr_split, shr-shr, mod_below, div-mul-add, mul-add-lt, and_mask, shl_whole, or_shifted, shl-shr}
-use Rattle.std.proofs.lemmas.Nat.Bits.{bit_at-suc, bit_at-zero, bit_at_cat_low, same_from_bits_below}
+use Rattle.std.proofs.lemmas.Nat.{pow_pos, pow-add, shr_split, shr-shr, mod_below, div-mul-add, mod-mul-add, mul-add-lt, and_mask, shl_whole, or_shifted, shl-shr}
+use Rattle.std.proofs.lemmas.Nat.Bits.{bit_at-lt, bit_at-suc, bit_at-zero, bit_at_cat_low, same_from_bits_below}
 use Rattle.p3_util_kernels.specs.Digits.{bit, sum_below, rev, rev_word}
-
--- a digit is 0 or 1
-pub bit-lt : (x i : ℕ) → bit x i < 2
-bit-lt x i = mod_below (x / 2 ^ i) 2 (omega arith)
 
 -- the digits below place k are those of the remainder by 2 ^ k
 pub bit-mod : (x k i : ℕ) → i < k → bit (x % 2 ^ k) i ≡ bit x i
 bit-mod x k i h =
     let e : bit (x / 2 ^ k * 2 ^ k + x % 2 ^ k) i ≡ bit (x % 2 ^ k) i = bit_at_cat_low (x / 2 ^ k) k (x % 2 ^ k) i h in
     sym e ∙ ap (λ n. bit n i) (shr_split x k)
-
--- digit i of the quotient by 2 ^ k is digit k + i
-pub bit-shr : (x k i : ℕ) → bit (x / 2 ^ k) i ≡ bit x (k + i)
-bit-shr x k i = ap (λ n. n % 2) (shr-shr x k i)
 
 -- sums of equal terms are equal
 pub sum_below-same : (n : ℕ) (f g : ℕ → ℕ) → ((i : ℕ) → i < n → f i ≡ g i) → sum_below n f ≡ sum_below n g
@@ -41,12 +33,6 @@ pub rev-zero : (x : ℕ) → rev zero x ≡ 0
 unfolding rev sum_below
 rev-zero x = refl
 
--- The places of a sum from below, for k places of which the last is place k - 1
-pub place_above : (k i : ℕ) → i < k → 2 ^ (suc k - 1 - i) ≡ 2 * 2 ^ (k - 1 - i)
-place_above k i h =
-    let e : suc k - 1 - i ≡ suc (k - 1 - i) = omega arith in
-    rw e (rw pow-suc (omega arith))
-
 -- one digit more is put below the others
 pub rev-suc : (k x : ℕ) → rev (suc k) x ≡ 2 * rev k x + bit x k
 unfolding rev sum_below
@@ -54,7 +40,7 @@ rev-suc k x =
     let shorter : ℕ → ℕ = λ i. bit x i * 2 ^ (k - 1 - i) in
     let longer : ℕ → ℕ = λ i. bit x i * 2 ^ (suc k - 1 - i) in
     let same : (i : ℕ) → i < k → longer i ≡ 2 * shorter i =
-    λ i h. rw (place_above k i h) (grind arith) in
+    λ i h. let above : suc k - 1 - i ≡ suc (k - 1 - i) = omega arith in rw (above, pow-suc) (grind arith) in
     let below : sum_below k longer ≡ 2 * sum_below k shorter =
     sum_below-same k longer (λ i. 2 * shorter i) same ∙ sum_below-scale 2 k shorter in
     let e : suc k - 1 - k ≡ 0 = omega arith in
@@ -65,17 +51,12 @@ rev-suc k x =
 pub rev-lt : (k x : ℕ) → rev k x < 2 ^ k
 rev-lt zero x = rw (rev-zero x) (omega arith)
 rev-lt (suc k) x =
-    rw (rev-suc k x) (rw pow-suc (omega (arith, rev-lt k x, bit-lt x k)))
+    rw (rev-suc k x) (rw pow-suc (omega (arith, rev-lt k x, bit_at-lt x k)))
 
 -- only the k low digits are read
-pub rev-same : (k x y : ℕ) → ((i : ℕ) → i < k → bit x i ≡ bit y i) → rev k x ≡ rev k y
-unfolding rev
-rev-same k x y h =
-    sum_below-same k (λ i. bit x i * 2 ^ (k - 1 - i)) (λ i. bit y i * 2 ^ (k - 1 - i))
-    (λ i less. ap (λ b. b * 2 ^ (k - 1 - i)) (h i less))
-
 pub rev-mod : (k x : ℕ) → rev k (x % 2 ^ k) ≡ rev k x
-rev-mod k x = rev-same k (x % 2 ^ k) x (bit-mod x k)
+unfolding rev
+rev-mod k x = sum_below-same k _ _ (λ i less. ap (λ b. b * 2 ^ (k - 1 - i)) (bit-mod x k i less))
 
 -- the lowest digit below the others, and the others above it
 double_bit : (r b : ℕ) → b < 2 → bit (2 * r + b) 0 ≡ b
@@ -89,9 +70,9 @@ double_bits r b i h =
 -- digit i of the reversed number is digit k - 1 - i of the number
 pub bit-rev : (k x i : ℕ) → i < k → bit (rev k x) i ≡ bit x (k - 1 - i)
 bit-rev zero x i h = absurd (omega arith)
-bit-rev (suc k) x zero h = rw (rev-suc k x) (double_bit (rev k x) (bit x k) (bit-lt x k) ∙ ap (λ j. bit x j) (omega arith))
+bit-rev (suc k) x zero h = rw (rev-suc k x) (double_bit (rev k x) (bit x k) (bit_at-lt x k) ∙ ap (λ j. bit x j) (omega arith))
 bit-rev (suc k) x (suc i) h =
-    rw (rev-suc k x) (double_bits (rev k x) (bit x k) i (bit-lt x k) ∙ bit-rev k x i (omega arith) ∙ ap (λ j. bit x j) (omega arith))
+    rw (rev-suc k x) (double_bits (rev k x) (bit x k) i (bit_at-lt x k) ∙ bit-rev k x i (omega arith) ∙ ap (λ j. bit x j) (omega arith))
 
 -- reversed twice, the k low digits are as they were
 pub rev-rev : (k x : ℕ) → rev k (rev k x) ≡ x % 2 ^ k
@@ -112,7 +93,7 @@ rev-add zero k x =
     rw (e, rev-zero (x / 2 ^ k)) (omega arith)
 rev-add (suc j) k x =
     let e : suc j + k ≡ suc (j + k) = omega arith in
-    let d : bit x (j + k) ≡ bit (x / 2 ^ k) j = ap (λ i. bit x i) (omega arith) ∙ sym (bit-shr x k j) in
+    let d : bit x (j + k) ≡ bit (x / 2 ^ k) j = ap (λ i. bit x i) (omega arith) ∙ sym (ap (λ n. n % 2) (shr-shr x k j)) in
     let low : rev (j + k) x ≡ rev k x * 2 ^ j + rev j (x / 2 ^ k) = rev-add j k x in
     let p : 2 ^ suc j ≡ 2 ^ j * 2 = pow-suc 2 j in
     rw (e, rev-suc (j + k) x, rev-suc j (x / 2 ^ k), p, d, low) (grind arith)
@@ -121,7 +102,7 @@ rev-add (suc j) k x =
 pub rev-parts : (j k a y : ℕ) → y < 2 ^ k → rev (j + k) (a * 2 ^ k + y) ≡ rev k y * 2 ^ j + rev j a
 rev-parts j k a y h =
     let high : (a * 2 ^ k + y) / 2 ^ k ≡ a = div-mul-add a (2 ^ k) y h in
-    let low : rev k (a * 2 ^ k + y) ≡ rev k y = rev-same k (a * 2 ^ k + y) y (λ i less. bit_at_cat_low a k y i less) in
+    let low : rev k (a * 2 ^ k + y) ≡ rev k y = sym (rev-mod k (a * 2 ^ k + y)) ∙ ap (rev k) (mod-mul-add a (2 ^ k) y h) in
     rev-add j k (a * 2 ^ k + y) ∙ rw (high, low) refl
 
 -- a number of at most one digit is its own reverse
@@ -140,10 +121,6 @@ pub rev-around : (q d a m y : ℕ) → d ≤ 1 → m < 2 ^ d → y < 2 ^ q
 rev-around q d a m y few middle h =
     let split : 2 ^ (d + q) ≡ 2 ^ d * 2 ^ q = pow-add 2 d q in
     rw (rev-parts q (d + q) a (m * 2 ^ q + y) (middle-below q d m y middle h), rev-parts d q m y h, rev-one d m few middle, split) (grind arith)
-
--- the reversal of the k low digits is the high end of that of more digits
-pub rev-shr : (j k x : ℕ) → rev (j + k) x / 2 ^ j ≡ rev k x
-rev-shr j k x = rw (rev-add j k x) (div-mul-add (rev k x) (2 ^ j) (rev j (x / 2 ^ k)) (rev-lt j (x / 2 ^ k)))
 
 -- The digits of two halves, reversed: the reversed halves in the other order, put together as code of words of w digits does.
 abbrev joined_halves : (w k x : ℕ) → ℕ
@@ -185,15 +162,13 @@ pub rev_word-shr : (r k s x : ℕ) → r ≡ rev 64 x → (k ≡ 0 → s ≡ 0) 
 rev_word-shr r zero s x is whole part = rw (whole refl, div-one r) (is ∙ sym (rev_word-zero x))
 rev_word-shr r (suc k) s x is whole part =
     let e : s + suc k ≡ 64 = part (omega arith) in
-    rw is (sym (ap (λ w. rev w x / 2 ^ s) e) ∙ rev-shr s (suc k) x ∙ sym (rev_word-above (suc k) x (omega arith)))
+    let high = div-mul-add (rev (suc k) x) (2 ^ s) (rev s (x / 2 ^ suc k)) (rev-lt s (x / 2 ^ suc k)) in
+    rw (is, ← e, rev-add s (suc k) x, rev_word-above (suc k) x (omega arith)) high
 
 -- the number 0 is its own reverse
 pub rev-of-zero : (k : ℕ) → rev k 0 ≡ 0
 rev-of-zero zero = rev-zero 0
-rev-of-zero (suc k) =
-    let shorter : rev k 0 ≡ 0 = rev-of-zero k in
-    let digit : bit 0 k ≡ 0 = bit_at-zero k in
-    rw (rev-suc k 0, shorter, digit) refl
+rev-of-zero (suc k) = rw (rev-suc k 0, rev-of-zero k, bit_at-zero k) refl
 
 -- a number of k digits, reversed twice
 pub rev_word-twice : (k x r : ℕ) → r ≡ rev_word k x → x < 2 ^ k → rev_word k r ≡ x

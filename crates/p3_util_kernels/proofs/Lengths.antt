@@ -1,43 +1,30 @@
 -- Lengths that are zero or a power of two, and lengths of rows.
 use Rattle.std.proofs.Common.{◌≤◌, ◌≡◌, ℕ, zero, suc, ◌+◌, ◌-◌, ◌*◌, ◌/◌, ◌%◌, ◌^◌, ◌<◌, ◌↔◌, IsTrue, ◌==◌, bit_and, inl, inr, refl, sym, ap, ◌∙◌, arith, eqb-true}
-use Rattle.std.specs.Int.{is_power_of_two}
-use Rattle.std.specs.Int.Bits.{and_self}
+use Rattle.std.specs.Int.{bit_at, is_power_of_two}
 use Rattle.std.proofs.Math.Nat.{le-mul_of_pos_right, mul-div_cancel_left, pow-suc, zero-div}
-use Rattle.std.proofs.lemmas.Bool.{cases_eq, or_cases}
-use Rattle.std.proofs.lemmas.Nat.{and_block, div-add-mod', div-mul-add, mod-mul-add, pow-add, pow_pos}
+use Rattle.std.proofs.lemmas.Bool.{cases_eq, cases_lt, or_cases}
+use Rattle.std.proofs.lemmas.Nat.Bits.{bit_at_and, bit_at-zero}
+use Rattle.std.proofs.lemmas.Nat.{div-add-mod', div-mul-add, mod-mul-add, pow-add, pow_pos}
 use Rattle.p3_util_kernels.specs.Levels.{clog}
 use Rattle.p3_util_kernels.specs.Reversal.{IsZeroOrPowerOfTwo, IsReversible, FitsRows}
 use Rattle.p3_util_kernels.proofs.LevelsLemmas.{clog_power, clog-zero}
-use Rattle.p3_util_kernels.proofs.PowersLemmas.{exponent-lt, exponent-same, power_of_two_test}
+use Rattle.p3_util_kernels.proofs.PowersLemmas.{exponent-lt, exponent-same, highest, power_of_two_test}
 
--- twice a number that is zero or a power of two is one too
-doubled : (m n : ℕ) → n ≡ m * 2 → IsZeroOrPowerOfTwo m → IsZeroOrPowerOfTwo n
-doubled m n e (inl none) = inl (omega arith)
-doubled m n e (inr (k, is)) = let twice : 2 ^ suc k ≡ 2 ^ k * 2 = pow-suc 2 k in inr (suc k, omega arith)
+-- the highest digit that is set is 1
+highest_bit : (n j : ℕ) → 2 ^ j ≤ n → n < 2 ^ suc j → bit_at n j ≡ 1
+highest_bit n j low high = grind (arith, div-mul-add 1 (2 ^ j) (n - 2 ^ j), pow-suc 2 j)
 
 -- a number that shares no digit with the one before it has at most one digit set
-pub unshared : (size n : ℕ) → n < size → bit_and n (n - 1) ≡ 0 → IsZeroOrPowerOfTwo n
-unshared zero n small none = absurd (omega arith)
-unshared (suc size) n small none =
-    let m = n / 2 in
-    elim (cases_eq n 0) [
-      | inl z ↦ inl z
-      | inr nonzero ↦
-          elim (cases_eq (n % 2) 0) [
-            | inl even ↦
-                let whole : m * 2 ^ 1 + 0 ≡ n = omega arith in
-                let before : (m - 1) * 2 ^ 1 + 1 ≡ n - 1 = omega arith in
-                let split : bit_and (m * 2 ^ 1 + 0) ((m - 1) * 2 ^ 1 + 1) ≡ bit_and m (m - 1) * 2 ^ 1 + bit_and 0 1 = and_block 1 m (m - 1) 0 1 (omega arith) (omega arith) in
-                let halved : bit_and n (n - 1) ≡ bit_and m (m - 1) * 2 ^ 1 + bit_and 0 1 = rw (whole, before) at split in
-                doubled m n (omega arith) (unshared size m (omega arith) (omega arith))
-            | inr odd ↦
-                let whole : m * 2 ^ 1 + 1 ≡ n = omega arith in
-                let before : m * 2 ^ 1 + 0 ≡ n - 1 = omega arith in
-                let split : bit_and (m * 2 ^ 1 + 1) (m * 2 ^ 1 + 0) ≡ bit_and m m * 2 ^ 1 + bit_and 1 0 = and_block 1 m m 1 0 (omega arith) (omega arith) in
-                let halved : bit_and n (n - 1) ≡ bit_and m m * 2 ^ 1 + bit_and 1 0 = rw (whole, before) at split in
-                let same : bit_and m m ≡ m = and_self m in
-                inr (0, omega arith)
-          ]
+pub unshared : (n : ℕ) → bit_and n (n - 1) ≡ 0 → IsZeroOrPowerOfTwo n
+unshared zero none = inl refl
+unshared (suc m) none =
+    let (j, low, high) = highest (suc m) (omega arith) in
+    elim (cases_lt (2 ^ j) (suc m)) [
+      | inl above ↦
+          let both = bit_at_and (suc m) (suc m - 1) j in
+          let lower = highest_bit (suc m - 1) j (omega arith) (omega arith) in
+          absurd (omega (arith, both, lower, highest_bit (suc m) j low high, ap (λ n. bit_at n j) none, bit_at-zero j))
+      | inr last ↦ inr (j, omega arith)
     ]
 
 -- what a call asks of a length says that it is zero or a power of two
@@ -45,7 +32,7 @@ pub zero_or_power : (n : ℕ) → IsReversible n → IsZeroOrPowerOfTwo n
 zero_or_power n (inl fits) = fits
 zero_or_power n (inr test) =
     elim (or_cases (bit_and n (n - 1) == 0) (is_power_of_two n) test) [
-      | inl none ↦ unshared (suc n) n (omega arith) (eqb-true _ _ none)
+      | inl none ↦ unshared n (eqb-true _ _ none)
       | inr one ↦ inr ((power_of_two_test n).0 one)
     ]
 

@@ -1,15 +1,13 @@
 -- How deep the split of a transpose nests.
 use Rattle.std.proofs.Common.{◌≡◌, ℕ, zero, suc, ◌+◌, ◌-◌, ◌*◌, ◌/◌, ◌^◌, ◌<◌, ◌≤◌, cond, ltb, inl, inr, ◌∙◌, sym, ap, min, max, arith}
 use Rattle.std.proofs.Math.Nat.{pow-suc, pow-le-pow_right}
-use Rattle.std.proofs.lemmas.Bool.{cases_lt, lt-ltb, le-ltb, and_from, and_left, and_right, cond-true, cond-false}
+use Rattle.std.proofs.lemmas.Bool.{cases_lt, lt-ltb, le-ltb, cond-true, cond-false}
+use Rattle.std.proofs.lemmas.Bool.Decides.{nat_tests}
 use Rattle.std.proofs.lemmas.Nat.{pow-add, mul-le}
+use Rattle.std.proofs.Math.Pow.{pow_mono}
 use Rattle.p3_util_kernels.specs.Digits.{sum_below}
 use Rattle.p3_util_kernels.specs.Levels.{clog, lev, nest}
-use Rattle.p3_util_kernels.proofs.PowersLemmas.{exponent-le}
-
-below_power : (n : ℕ) → n < 2 ^ n
-below_power zero = omega arith
-below_power (suc n) = omega (arith, below_power n, pow-suc 2 n)
+use Rattle.p3_util_kernels.proofs.PowersLemmas.{below_power, exponent-le}
 
 -- the least exponent of a power that n does not pass
 least_power : (n bound : ℕ) → n ≤ 2 ^ bound → (k : ℕ) × (n ≤ 2 ^ k) × ((e : ℕ) → e < k → 2 ^ e < n)
@@ -38,7 +36,7 @@ clog_is : (n : ℕ) → (n ≤ 2 ^ clog n) × ((e : ℕ) → e < clog n → 2 ^ 
 unfolding clog
 clog_is n =
     let least = least_power n n (omega (arith, below_power n)) in
-    let within : least.0 ≤ n = elim (cases_lt n least.0) [ inl over ↦ absurd (omega (arith, least.2 n over, below_power n)) | inr le ↦ le ] in
+    let within : least.0 ≤ n = grind (arith, least.2 n, below_power n) in
     let same : clog n ≡ least.0 = counted_to n least.0 n least.1 least.2 ∙ omega arith in
     rw same (least.1, least.2)
 
@@ -47,7 +45,7 @@ pub clog-enough : (n : ℕ) → n ≤ 2 ^ clog n
 clog-enough n = (clog_is n).0
 
 pub clog-least : (n e : ℕ) → n ≤ 2 ^ e → clog n ≤ e
-clog-least n e h = elim (cases_lt e (clog n)) [ inl less ↦ absurd (omega (arith, (clog_is n).1 e less)) | inr le ↦ le ]
+clog-least n e h = grind (arith, (clog_is n).1 e)
 
 -- no other number is the least one
 pub clog_only : (n e : ℕ) → n ≤ 2 ^ e → ((d : ℕ) → n ≤ 2 ^ d → e ≤ d) → e ≡ clog n
@@ -62,19 +60,11 @@ clog-zero n e = sym (clog_only n 0 (omega arith) (λ d h. omega arith))
 
 -- if n is above 2 ^ e, its logarithm is above e
 pub clog-above : (n e : ℕ) → 2 ^ e < n → e < clog n
-clog-above n e h =
-    elim (cases_lt e (clog n)) [
-      | inl less ↦ less
-      | inr le ↦ let up : 2 ^ clog n ≤ 2 ^ e = pow-le-pow_right (omega arith) le in absurd (omega (arith, clog-enough n))
-    ]
+clog-above n e h = grind (arith, clog-enough n, pow_mono {i = clog n} {j = e})
 
 -- if the logarithm of n is e + 1, n is at least 2 ^ e
 pub clog-high : (n : ℕ) → 0 < clog n → 2 ^ (clog n - 1) ≤ n
-clog-high n h =
-    elim (cases_lt n (2 ^ (clog n - 1))) [
-      | inl less ↦ absurd (omega (arith, clog-least n (clog n - 1) (omega arith)))
-      | inr le ↦ le
-    ]
+clog-high n h = grind (arith, clog-least n (clog n - 1))
 
 -- the logarithm of the larger half is one less
 pub clog-half : (n : ℕ) → 2 ≤ n → clog (n - n / 2) + 1 ≡ clog n
@@ -93,21 +83,15 @@ pub clog-le : (m n : ℕ) → m ≤ n → clog m ≤ clog n
 clog-le m n h = clog-least m (clog n) (omega (arith, clog-enough n))
 
 pub nest-deep : (r c : ℕ) → 2 < r → 2 < c → nest r c ≡ lev r c
-nest-deep r c h k = cond-true _ (lev r c) 0 (and_from _ _ (lt-ltb _ _ h) (lt-ltb _ _ k))
+nest-deep r c h k = grind (arith, nat_tests)
 
 pub nest_narrow : (r c : ℕ) → min r c ≤ 2 → nest r c ≡ 0
 nest_narrow r c h =
-    elim (cases_lt 2 r) [
-      | inl deep ↦ cond-false _ (lev r c) 0 (and_right (ltb 2 r) _ (le-ltb _ _ (omega arith)))
-      | inr narrow ↦ cond-false _ (lev r c) 0 (and_left _ (ltb 2 c) (le-ltb _ _ narrow))
-    ]
+    grind (arith, nat_tests)
 
 pub nest_le : (r c : ℕ) → nest r c ≤ lev r c
 nest_le r c =
-    elim (cases_lt 2 (min r c)) [
-      | inl deep ↦ omega (arith, nest-deep r c (omega arith) (omega arith))
-      | inr narrow ↦ omega (arith, nest_narrow r c narrow)
-    ]
+    grind (arith, nat_tests)
 
 -- a region with both sides at most 128 is not split
 pub nest_small : (r c : ℕ) → max r c ≤ 128 → nest r c ≡ 0

@@ -1,5 +1,5 @@
 -- What the strict logarithms ask of a number says that it is a power.
-use Rattle.std.proofs.Common.{◌≡◌, ℕ, zero, suc, true, ◌==◌, ◌-◌, ◌&&◌, not, ◌^◌, ◌≢◌, bit_and, inl, inr, arith}
+use Rattle.std.proofs.Common.{◌≡◌, ℕ, zero, suc, true, ◌==◌, ◌-◌, ◌&&◌, not, ◌^◌, ◌≢◌, bit_and, inl, inr}
 use Rattle.std.proofs.lemmas.Bool.{and_parts, or_cases, eqb-true, eqb-false, not-true, false≢true}
 use Rattle.std.specs.Int.{IsPowerOfTwo, is_power_of_two}
 use Rattle.p3_util_kernels.specs.Powers.{HasLog2, HasLog3, IsPowerOfThree, any_below}
@@ -7,7 +7,7 @@ use Rattle.p3_util_kernels.proofs.Lengths.{unshared}
 use Rattle.p3_util_kernels.proofs.PowersLemmas.{power_of_two_test}
 
 some-power : (n : ℕ) → n ≢ 0 → bit_and n (n - 1) ≡ 0 → IsPowerOfTwo n
-some-power n nonzero none = elim (unshared (suc n) n (omega arith) none) [ inl z ↦ absurd (nonzero z) | inr power ↦ power ]
+some-power n nonzero none = elim (unshared n none) [ inl z ↦ absurd (nonzero z) | inr power ↦ power ]
 
 pub power_of_two : (n : ℕ) → HasLog2 n → IsPowerOfTwo n
 power_of_two n (inl power) = power

@@ -20,16 +20,14 @@ IsTranspose-unique width height old a b at bt =
     (λ i h. each_place (λ p. slice_get a p ≡ slice_get b p) width height i (rw at.same_length at h)
     (λ x y hx hy. at.places x y hx hy ∙ sym (bt.places x y hx hy)))
 
-pub IsTranspose-twice : {A : Type 0} (width height : ℕ) (old mid new : List A) → length old ≡ width * height → IsTranspose width height old mid
-    → IsTranspose height width mid new → new ≡ old
-IsTranspose-twice width height old mid new fits first second =
-    same_places new old (second.same_length ∙ mul_comm height width ∙ sym fits)
-    (λ i h. each_place (λ p. slice_get new p ≡ slice_get old p) height width i (rw second.same_length at h)
-    (λ y x hy hx. second.places y x hy hx ∙ first.places x y hx hy))
-
 pub transpose_turned : {A : Type 0} (width height : ℕ) (old new : List A) → length old ≡ width * height → IsTranspose width height old new
     → IsTranspose height width new old
 transpose_turned width height old new fits there = record {
   same_length = fits ∙ mul_comm width height;
   places = λ y x hy hx. sym (there.places x y hx hy);
 }
+
+pub IsTranspose-twice : {A : Type 0} (width height : ℕ) (old mid new : List A) → length old ≡ width * height → IsTranspose width height old mid
+    → IsTranspose height width mid new → new ≡ old
+IsTranspose-twice width height old mid new fits first second =
+    IsTranspose-unique height width mid new old second (transpose_turned width height old mid fits first)

@@ -1,6 +1,6 @@
 -- Short names, as code finds them: by the first mark, and by the first `::`.
 use Rattle.std.proofs.Common.{◌≡◌, ℕ, zero, suc, ◌+◌, ◌<◌, ◌≤◌, ◌≢◌, ◌⊎◌, Bool, true, false, cond, nat_lt, ltb-false, ◌==◌, ◌&&◌, List, [], ◌∷◌, ◌++◌, length, get_or, take, drop, Some, None, refl, sym, add-one, append-nil, arith, inl, inr}
-use Rattle.std.proofs.lemmas.Bool.Decides.{eqb_tells}
+use Rattle.std.proofs.lemmas.Bool.Decides.{nat_tests}
 use Rattle.std.proofs.lemmas.List.Quantifiers.{position-Some}
 use Rattle.std.proofs.lemmas.List.Sums.{fails_before_first}
 use Rattle.std.proofs.lemmas.Str.{IsCharBoundary-after_ascii}
@@ -12,14 +12,7 @@ use Rattle.p3_util_kernels.specs.Names.{is_mark, in_front, name_pieces, after_co
 -- two bytes are `::`, or not
 colons_tell : (b c : ℕ) → (((b == 58 && c == 58) ≡ true) × ((b ≡ 58) × (c ≡ 58))) ⊎ (((b == 58 && c == 58) ≡ false) × ((b ≡ 58) → (c ≡ 58) → ⊥))
 colons_tell b c =
-    elim (eqb_tells b 58) [
-      | inl (first, is) ↦
-          elim (eqb_tells c 58) [
-            | inl (second, is') ↦ inl (rw (first, second) refl, (is, is'))
-            | inr (second, not) ↦ inr (rw (first, second) refl, λ e f. not f)
-          ]
-      | inr (first, not) ↦ inr (rw first refl, λ e f. not e)
-    ]
+    grind (arith, nat_tests)
 
 -- a text without `::`
 after_colons-none : (whole t : List ℕ) → ((i : ℕ) → i ≤ length t → (rest : List ℕ) → drop i t ≢ 58 ∷ 58 ∷ rest) → after_colons whole t ≡ whole
@@ -125,18 +118,7 @@ short_name-marked t i e = let (less, here, before) = position-Some is_mark t i 0
 
 mark_ascii : (b : ℕ) → is_mark b ≡ true → b < 128
 mark_ascii b e =
-    elim (eqb_tells b 60) [
-      | inl (test, is) ↦ omega arith
-      | inr (first, not) ↦
-          elim (eqb_tells b 62) [
-            | inl (test, is) ↦ omega arith
-            | inr (second, not) ↦
-                elim (eqb_tells b 44) [
-                  | inl (test, is) ↦ omega arith
-                  | inr (third, not) ↦ let no : false ≡ true = rw (first, second, third) at e in cc
-                ]
-          ]
-    ]
+    grind (arith, nat_tests, e)
 
 -- a text may be cut after a mark
 pub cut_after_mark : (t : List ℕ) (i : ℕ) → IsUtf8 t → Some i ≡ position is_mark t → (i < length t) × IsCharBoundary t (i + 1)

@@ -15,24 +15,17 @@ IsReversal-places old new reversal k i e h =
     let to : rev k i * 1 + 0 ≡ rev k i = omega arith in
     rw (from, to) at (reversal.places k i 0 (omega arith) h (omega arith))
 
-pub IsReversal-from_places : {A : Type 0} (old new : List A) → length new ≡ length old
-    → ((k i : ℕ) → length old ≡ 2 ^ k → i < 2 ^ k → slice_get new i ≡ slice_get old (rev k i)) → IsReversal old new
-IsReversal-from_places old new same at = record {
-  same_length = same;
-  places = λ k r j e h first.
-      let from : r * 1 + j ≡ r = omega arith in
-      let to : rev k r * 1 + j ≡ rev k r = omega arith in
-      rw (from, to) (at k r (omega arith) h);
-}
-
 -- for a list of 2 ^ k items
 pub IsReversal-from_power : {A : Type 0} (k : ℕ) (old new : List A) → length old ≡ 2 ^ k → length new ≡ length old
     → ((i : ℕ) → i < length old → slice_get new i ≡ slice_get old (rev k i)) → IsReversal old new
-IsReversal-from_power k old new e same at =
-    IsReversal-from_places old new same
-    (λ j i ej h.
-    let power : j ≡ k = exponent-same j k (sym ej ∙ e) in
-    at i (omega arith) ∙ ap (λ b. slice_get old (rev b i)) (sym power))
+IsReversal-from_power k old new e same at = record {
+  same_length = same;
+  places = λ n r j en h first.
+      let power : n ≡ k = exponent-same n k (omega arith) in
+      let from : r * 1 + j ≡ r = omega arith in
+      let to : rev k r * 1 + j ≡ rev k r = omega arith in
+      rw (power, from, to) (at r (omega arith));
+}
 
 -- the reversal of the reversal is the list
 pub row_reversed_back : {A : Type 0} (row_width : ℕ) (old new : List A) → IsRowReversal row_width old new → IsRowReversal row_width new old

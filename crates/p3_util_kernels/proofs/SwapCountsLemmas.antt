@@ -1,5 +1,5 @@
 -- Bounds of the numbers of swaps, from their closed forms.
-use Rattle.std.proofs.Common.{◌≡◌, ℕ, ◌+◌, ◌-◌, ◌*◌, ◌/◌, ◌^◌, ◌≤◌, ◌∙◌, inl, inr, ap, arith}
+use Rattle.std.proofs.Common.{◌≡◌, ℕ, ◌+◌, ◌-◌, ◌*◌, ◌/◌, ◌^◌, ◌≤◌, ◌∙◌, inl, inr, sym, ap, arith}
 use Rattle.std.proofs.Math.Nat.{mul-le-mul_left}
 use Rattle.std.proofs.lemmas.Nat.{pow-add}
 use Rattle.std.proofs.Math.Nat.{mul-div_cancel_left}
@@ -21,9 +21,9 @@ row_swaps-le row_width k =
     let scaled : row_width * (2 * short_swaps k) ≤ row_width * 2 ^ k = mul-le-mul_left row_width (short_swaps-le k) in
     omega arith
 
--- the 2 ^ count chunks of 2 ^ size items are rows
-pub chunk_swaps-le : (count size : ℕ) → short_swaps count * 2 ^ size ≤ 2 ^ (count + size) / 2
-chunk_swaps-le count size = omega (arith, row_swaps-le (2 ^ size) count, pow-add 2 count size)
+-- the 2 ^ h chunks of 2 ^ c items are rows
+pub chunks_bound : (h c n : ℕ) → n ≡ 2 ^ (h + c) → short_swaps h * 2 ^ c ≤ n / 2
+chunks_bound h c n whole = omega (arith, row_swaps-le (2 ^ c) h, pow-add 2 h c)
 
 -- the squares side by side in 2 ^ size rows of 2 ^ stride items
 pub squares_swaps-le : (stride size : ℕ) → size ≤ stride → 2 ^ (stride - size) * square_swaps (2 ^ size) ≤ 2 ^ (size + stride) / 2
@@ -44,7 +44,7 @@ long_swaps-le k =
     let stride = k - size in
     let whole : size + stride ≡ k = omega arith in
     three_halves (short_swaps size * 2 ^ stride) (2 ^ (stride - size) * square_swaps (2 ^ size)) (2 ^ k)
-    (rw whole at (chunk_swaps-le size stride)) (rw whole at (squares_swaps-le stride size (omega arith)))
+    (chunks_bound size stride (2 ^ k) (ap (λ e. 2 ^ e) (sym whole))) (rw whole at (squares_swaps-le stride size (omega arith)))
 
 -- the same of a length that is zero or a power of two
 pairs_of_rows : (row_width rows : ℕ) → IsZeroOrPowerOfTwo rows → row_width * short_swaps (clog rows) ≤ row_width * rows / 2
@@ -72,6 +72,3 @@ long_bound n fits some =
 
 pub reversal_bound : (n : ℕ) → IsReversible n → reversal_swaps n ≤ 3 * n / 2
 reversal_bound n fits = grind (arith, short_bound n fits, long_bound n fits)
-
-pub chunks_bound : (h c n : ℕ) → n ≡ 2 ^ (h + c) → short_swaps h * 2 ^ c ≤ n / 2
-chunks_bound h c n whole = rw whole (chunk_swaps-le h c)

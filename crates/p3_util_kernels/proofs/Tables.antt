@@ -22,12 +22,9 @@ all_below-at p (suc n) j h lt =
       | inr last ↦ let at : n ≡ j = omega arith in subst (λ k. p k ≡ true) at parts.0
     ]
 
-powers_pass : all_below (λ e. get_or POWERS_OF_THREE e 0 == 3 ^ e) 41 ≡ true
-unfolding all_below
-powers_pass = refl
-
 pub powers_of_three-at : (e : ℕ) → e < 41 → get_or POWERS_OF_THREE e 0 ≡ 3 ^ e
-powers_of_three-at e h = eqb-true _ _ (all_below-at (λ e. get_or POWERS_OF_THREE e 0 == 3 ^ e) 41 e powers_pass h)
+unfolding all_below
+powers_of_three-at e h = eqb-true _ _ (all_below-at (λ e. get_or POWERS_OF_THREE e 0 == 3 ^ e) 41 e refl h)
 
 -- the exponent at place `top` is that of the greatest power of three below 2 ^ (top + 1)
 is_greatest : ℕ → Bool
@@ -35,16 +32,12 @@ is_greatest top =
     let x = get_or EXPONENTS_OF_THREE top 0 in
     nat_lt (3 ^ x) (2 ^ (top + 1)) && nat_le (2 ^ (top + 1)) (3 ^ (x + 1))
 
-exponents_pass : all_below is_greatest 64 ≡ true
-unfolding all_below is_greatest
-exponents_pass = refl
-
 pub exponent_of_three : (top : ℕ) → top < 64
     → (3 ^ get_or EXPONENTS_OF_THREE top 0 < 2 ^ (top + 1)) × (2 ^ (top + 1) ≤ 3 ^ (get_or EXPONENTS_OF_THREE top 0 + 1))
-unfolding is_greatest
+unfolding all_below is_greatest
 exponent_of_three top h =
     let x = get_or EXPONENTS_OF_THREE top 0 in
-    let parts = and_parts (nat_lt (3 ^ x) (2 ^ (top + 1))) (nat_le (2 ^ (top + 1)) (3 ^ (x + 1))) (all_below-at is_greatest 64 top exponents_pass h) in
+    let parts = and_parts (nat_lt (3 ^ x) (2 ^ (top + 1))) (nat_le (2 ^ (top + 1)) (3 ^ (x + 1))) (all_below-at is_greatest 64 top refl h) in
     (ltb-true _ _ parts.0, leb-true _ _ parts.1)
 
 pub exponent_found : (top e : ℕ) → top < 64 → 2 ^ top ≤ 3 ^ e → 3 ^ e < 2 ^ (top + 1) → get_or EXPONENTS_OF_THREE top 0 ≡ e
@@ -59,13 +52,10 @@ exponent_bound top h =
     let word : 2 ^ (top + 1) ≤ 2 ^ 64 = pow-le-pow_right (omega arith) within in
     (three-fits (get_or EXPONENTS_OF_THREE top 0)).0 (omega arith)
 
-six_pass : all_below (λ x. get_or REVERSED_SIX x 0 == rev 6 x) 64 ≡ true
-unfolding all_below rev sum_below
-six_pass = refl
-
 -- each entry is the number with its 6 digits reversed
 pub reversed_six : (x : ℕ) → x < 64 → get_or REVERSED_SIX x 0 ≡ rev 6 x
-reversed_six x h = eqb-true _ _ (all_below-at (λ x. get_or REVERSED_SIX x 0 == rev 6 x) 64 x six_pass h)
+unfolding all_below rev sum_below
+reversed_six x h = eqb-true _ _ (all_below-at (λ x. get_or REVERSED_SIX x 0 == rev 6 x) 64 x refl h)
 
 -- a byte by its eight digits, each moved to its place in the reversed byte
 abbrev digits_moved : ℕ → ℕ
@@ -73,9 +63,6 @@ digits_moved x =
     bit_or (bit_or (bit_or (bit_or (bit_or (bit_or (bit_or (bit_and x 1 * 128 % 256) (bit_and x 2 * 32 % 256)) (bit_and x 4 * 8 % 256))
     (bit_and x 8 * 2 % 256)) (bit_and x 16 / 2)) (bit_and x 32 / 8)) (bit_and x 64 / 32)) (x / 128)
 
-bytes_pass : all_below (λ x. digits_moved x == rev 8 x) 256 ≡ true
-unfolding all_below rev sum_below
-bytes_pass = refl
-
 pub reversed_byte : (x : ℕ) → x < 256 → rev 8 x ≡ digits_moved x
-reversed_byte x h = sym (eqb-true _ _ (all_below-at (λ x. digits_moved x == rev 8 x) 256 x bytes_pass h))
+unfolding all_below rev sum_below
+reversed_byte x h = sym (eqb-true _ _ (all_below-at (λ x. digits_moved x == rev 8 x) 256 x refl h))
