@@ -66,14 +66,5 @@ module _ {A : Type 0} (region : Region) (width height col : ℕ) (input : List A
         let there : col * height + region.row_start + (y - region.row_start) ≡ col * height + y = omega (arith, row) in
         let here : region.row_start * width + col + (y - region.row_start) * width ≡ y * width + col = omega (arith, ap (λ n. n * width) row) in
         rw ex (rw (there, here) at (s.places (y - region.row_start) (omega (arith, h.row_from, h.row_to))));
-    others = λ p out.
-        elim (cases_lt p (col * height + region.row_start)) [
-          | inl before ↦ s.others p (inl before)
-          | inr after ↦
-              elim (cases_lt p (col * height + region.row_end)) [
-                | inl within ↦
-                    absurd (out col (p - col * height) (record { row_from = omega arith; row_to = omega arith; col_from = omega arith; col_to = omega arith }) (omega arith))
-                | inr beyond ↦ s.others p (inr (omega arith))
-              ]
-        ];
+    others = λ p out. s.others p (grind (arith, out col (p - col * height)));
   }

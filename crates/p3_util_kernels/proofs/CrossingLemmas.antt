@@ -18,19 +18,11 @@ use Rattle.p3_util_kernels.proofs.SideBySideLemmas.{each_part, in_row, row_lengt
 
 -- two runs of rows that differ are apart
 pub runs-apart : (row_width i j : ℕ) → i ≢ j → (i * row_width + row_width ≤ j * row_width) ⊎ (j * row_width + row_width ≤ i * row_width)
-runs-apart row_width i j apart =
-    elim (cases_lt i j) [
-      | inl up ↦ let rows : (i + 1) * row_width ≤ j * row_width = mul-le-mul_right row_width (omega arith) in inl (omega arith)
-      | inr down ↦ let rows : (j + 1) * row_width ≤ i * row_width = mul-le-mul_right row_width (omega arith) in inr (omega arith)
-    ]
+runs-apart row_width i j apart = grind (arith, mul-le-mul_right {m = i + 1} {n = j} row_width, mul-le-mul_right {m = j + 1} {n = i} row_width)
 
 -- a place that is none of a run lies before or after it
 outside : (p i len : ℕ) → ((t : ℕ) → t < len → p ≢ i + t) → (p < i) ⊎ (i + len ≤ p)
-outside p i len out =
-    elim (cases_lt p i) [
-      | inl before ↦ inl before
-      | inr from ↦ elim (cases_lt p (i + len)) [ inl within ↦ absurd (out (p - i) (omega arith) (omega arith)) | inr after ↦ inr after ]
-    ]
+outside p i len out = grind (arith, out (p - i))
 
 module _ (half c : ℕ) (within : half ≤ c) where
   -- a line has a middle digit and a number y

@@ -42,20 +42,8 @@ module _ (base stride : ℕ) where
         → SwapsAcross base stride (record { row_start = a; row_end = a + 1; col_start = b; col_end = b + 1 }) xs (swap xs (base + a * stride + b) (base + b * stride + a))
     SwapsAcross-swap a b xs h hb upper lower = record {
       same_length = length-swap xs (base + a * stride + b) (base + b * stride + a);
-      crossed = λ m c d h.
-          elim (cases_eq c a) [
-            | inl e ↦
-                let f : d ≡ b = omega arith in
-                rw (e, f) (slice_get-swap_first xs (base + a * stride + b) (base + b * stride + a) upper lower)
-            | inr ne ↦
-                let e : c ≡ b = omega arith in
-                let f : d ≡ a = omega arith in
-                rw (e, f) (slice_get-swap_second xs (base + a * stride + b) (base + b * stride + a) upper lower)
-          ];
-      others = λ k out.
-          slice_get-swap_other xs (base + a * stride + b) (base + b * stride + a) k
-          (out 0 a b ((omega arith, hb), record { row_from = omega arith; row_to = omega arith; col_from = omega arith; col_to = omega arith }))
-          (out 0 b a ((hb, omega arith), record { row_from = omega arith; row_to = omega arith; col_from = omega arith; col_to = omega arith }));
+      crossed = λ m c d h. grind (arith, h, slice_get-swap_first _ _ _ upper lower, slice_get-swap_second _ _ _ upper lower);
+      others = λ k out. grind (arith, slice_get-swap_other xs (base + a * stride + b) (base + b * stride + a) k, out 0 a b, out 0 b a);
     }
 
     -- one more item of a row of a block

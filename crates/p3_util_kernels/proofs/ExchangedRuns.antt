@@ -16,16 +16,7 @@ RunsExchanged-turned i j len old new h = record { same_length = h.same_length; f
 pub RunsExchanged-ordered : {A : Type 0} (i j low high len : ℕ) (old new : List A) → low ≡ min i j → high ≡ max i j
     → RunsExchanged low high len old new → RunsExchanged i j len old new
 RunsExchanged-ordered i j low high len old new is_low is_high h =
-    elim (cases_lt i j) [
-      | inl up ↦
-          let less : low ≡ i = omega arith in
-          let more : high ≡ j = omega arith in
-          rw (less, more) at h
-      | inr down ↦
-          let less : low ≡ j = omega arith in
-          let more : high ≡ i = omega arith in
-          RunsExchanged-turned j i len old new (rw (less, more) at h)
-    ]
+    grind (arith, h, RunsExchanged-turned j i len old new)
 
 -- One pair of places is two runs of one item each. The place where such a run begins is the only one in it, so what is said
 -- of a place of the run is said of that one.
@@ -43,29 +34,9 @@ joined : {A : Type 0} (i j n m : ℕ) (old now next : List A) → i + (n + m) �
     → RunsExchanged (i + n) (j + n) m now next → RunsExchanged i j (n + m) old next
 joined i j n m old now next apart before after = record {
   same_length = after.same_length ∙ before.same_length;
-  first = λ t h.
-      elim (cases_lt t n) [
-        | inl early ↦ after.others (i + t) (inl (omega arith)) (inl (omega arith)) ∙ before.first t early
-        | inr late ↦
-            let here : i + t ≡ i + n + (t - n) = omega arith in
-            let there : j + n + (t - n) ≡ j + t = omega arith in
-            ap (slice_get next) here ∙ after.first (t - n) (omega arith)
-            ∙ before.others (j + n + (t - n)) (inr (omega arith)) (inr (omega arith))
-            ∙ ap (slice_get old) there
-      ];
-  second = λ t h.
-      elim (cases_lt t n) [
-        | inl early ↦ after.others (j + t) (inr (omega arith)) (inl (omega arith)) ∙ before.second t early
-        | inr late ↦
-            let here : j + t ≡ j + n + (t - n) = omega arith in
-            let there : i + n + (t - n) ≡ i + t = omega arith in
-            ap (slice_get next) here ∙ after.second (t - n) (omega arith)
-            ∙ before.others (i + n + (t - n)) (inr (omega arith)) (inl (omega arith))
-            ∙ ap (slice_get old) there
-      ];
-  others = λ p h k.
-      after.others p (elim h [ inl l ↦ inl (omega arith) | inr r ↦ inr (omega arith) ]) (elim k [ inl l ↦ inl (omega arith) | inr r ↦ inr (omega arith) ])
-      ∙ before.others p (elim h [ inl l ↦ inl l | inr r ↦ inr (omega arith) ]) (elim k [ inl l ↦ inl l | inr r ↦ inr (omega arith) ]);
+  first = λ t h. grind (arith, before.first t, after.others (i + t), after.first (t - n), before.others (j + n + (t - n)));
+  second = λ t h. grind (arith, before.second t, after.others (j + t), after.second (t - n), before.others (i + n + (t - n)));
+  others = λ p h k. grind (arith, before.others p, after.others p);
 }
 
 -- two runs exchanged, and then those that follow them

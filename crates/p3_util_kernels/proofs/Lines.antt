@@ -76,18 +76,12 @@ line_pairs-whole digits some =
 
 pub line_pairs-inside : (digits : ℕ) → line_pairs_of digits * 2 ≤ 2 ^ (digits - digits / 2)
 line_pairs-inside digits =
-    elim (cases_lt digits 2) [
-      | inl few ↦ omega (arith, line_pairs-few digits few)
-      | inr more ↦ omega (arith, line_pairs-whole digits (omega arith))
-    ]
+    grind (arith, line_pairs-few digits, line_pairs-whole digits)
 
 -- so the lines of a pair of lines lie below all lines
 pub line-below : (digits line : ℕ) → line % 2 ≡ 0 → line / 2 < line_pairs_of digits → (2 ≤ digits) × (line + 1 < 2 ^ (digits - digits / 2))
 line-below digits line even h =
-    elim (cases_lt digits 2) [
-      | inl few ↦ absurd (omega (arith, line_pairs-few digits few))
-      | inr more ↦ (more, omega (arith, line_pairs-inside digits))
-    ]
+    grind (arith, line_pairs-few digits, line_pairs-inside digits)
 
 pub line_swaps-all : (digits : ℕ) → line_swaps digits (line_pairs_of digits) ≡ short_swaps digits
 line_swaps-all digits =

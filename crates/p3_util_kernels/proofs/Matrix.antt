@@ -9,10 +9,8 @@ use Rattle.p3_util_kernels.proofs.SameList.{same_places}
 pub each_place : (P : ℕ → Type 0) (rows cols p : ℕ) → p < rows * cols → ((r c : ℕ) → r < rows → c < cols → P (r * cols + c)) → P p
 each_place P rows zero p h all = absurd (omega arith)
 each_place P rows (suc n) p h all =
-    let cols = suc n in
-    let here : p / cols * cols + p % cols ≡ p = div-add-mod' p cols in
-    let row : p / cols < rows = (row_below_turned p cols rows cols h (omega arith)).1 in
-    rw here at (all (p / cols) (p % cols) row (mod_below p cols (omega arith)))
+    let row : p / suc n < rows = (row_below_turned p (suc n) rows (suc n) h (omega arith)).1 in
+    rw div-add-mod' at (all (p / suc n) (p % suc n) row (omega arith))
 
 pub IsTranspose-unique : {A : Type 0} (width height : ℕ) (old a b : List A) → IsTranspose width height old a → IsTranspose width height old b → a ≡ b
 IsTranspose-unique width height old a b at bt =

@@ -9,25 +9,17 @@ use Rattle.p3_util_kernels.proofs.Pairs.{mul-parts_left, mul-parts_right}
 
 -- what is in a part is in the whole
 pub inside : (whole part : Region) (x y : ℕ) → IsPart whole part → IsInRegion part x y → IsInRegion whole x y
-inside whole part x y p h = record {
-  row_from = omega (arith, p.row_from, h.row_from);
-  row_to = omega (arith, p.row_to, h.row_to);
-  col_from = omega (arith, p.col_from, h.col_from);
-  col_to = omega (arith, p.col_to, h.col_to);
-}
+inside whole part x y p h = grind (arith, p, h)
 
 -- the rows before `mid`, and those from `mid` on
 pub IsCut-rows : (whole : Region) (mid : ℕ) → whole.row_start ≤ mid → mid ≤ whole.row_end
     → IsCut whole (record whole { row_end = mid }) (record whole { row_start = mid })
 IsCut-rows whole mid from to = record {
   parts = λ x y h.
-      elim (cases_lt y mid) [
-        | inl above ↦ inl (record { row_from = h.row_from; row_to = above; col_from = h.col_from; col_to = h.col_to })
-        | inr below ↦ inr (record { row_from = below; row_to = h.row_to; col_from = h.col_from; col_to = h.col_to })
-      ];
+      grind (arith, h);
   apart = λ x y h k. omega (arith, h.row_to, k.row_from);
-  first_inside = record { row_from = omega arith; row_to = to; col_from = omega arith; col_to = omega arith; rows = λ h. from; cols = λ h. h };
-  second_inside = record { row_from = from; row_to = omega arith; col_from = omega arith; col_to = omega arith; rows = λ h. to; cols = λ h. h };
+  first_inside = grind arith;
+  second_inside = grind arith;
   items = mul-parts_left (mid - whole.row_start) (whole.row_end - mid) (rows_of whole) (cols_of whole) (omega arith);
 }
 
@@ -36,13 +28,10 @@ pub IsCut-cols : (whole : Region) (mid : ℕ) → whole.col_start ≤ mid → mi
     → IsCut whole (record whole { col_end = mid }) (record whole { col_start = mid })
 IsCut-cols whole mid from to = record {
   parts = λ x y h.
-      elim (cases_lt x mid) [
-        | inl left ↦ inl (record { row_from = h.row_from; row_to = h.row_to; col_from = h.col_from; col_to = left })
-        | inr right ↦ inr (record { row_from = h.row_from; row_to = h.row_to; col_from = right; col_to = h.col_to })
-      ];
+      grind (arith, h);
   apart = λ x y h k. omega (arith, h.col_to, k.col_from);
-  first_inside = record { row_from = omega arith; row_to = omega arith; col_from = omega arith; col_to = to; rows = λ h. h; cols = λ h. from };
-  second_inside = record { row_from = omega arith; row_to = omega arith; col_from = from; col_to = omega arith; rows = λ h. h; cols = λ h. to };
+  first_inside = grind arith;
+  second_inside = grind arith;
   items = mul-parts_right (mid - whole.col_start) (whole.col_end - mid) (cols_of whole) (rows_of whole) (omega arith);
 }
 

@@ -42,10 +42,8 @@ module _ (log_stride log_size : ℕ) (within : log_size ≤ log_stride) where
     elsewhere i s a b now next hi hs apart hb square =
         square.others (a * 2 ^ log_stride + (s * 2 ^ log_size + b))
         (λ c d hc hd e.
-        let same : a * 2 ^ log_stride + (s * 2 ^ log_size + b) ≡ c * 2 ^ log_stride + (i * 2 ^ log_size + d) = omega arith in
-        let row = same_from_place a (s * 2 ^ log_size + b) c (i * 2 ^ log_size + d) (2 ^ log_stride) (in_row s b hs hb) (in_row i d hi hd) same in
-        let column = same_from_place s b i d (2 ^ log_size) hb hd row.1 in
-        apart column.0)
+        let row = same_from_place a (s * 2 ^ log_size + b) c (i * 2 ^ log_size + d) (2 ^ log_stride) (in_row s b hs hb) (in_row i d hi hd) (omega arith) in
+        apart (same_from_place s b i d (2 ^ log_size) hb hd row.1).0)
 
     -- one square more
     pub AreTransposed-more : (i : ℕ) (old now next : List A) → i < 2 ^ (log_stride - log_size)
@@ -54,13 +52,6 @@ module _ (log_stride log_size : ℕ) (within : log_size ≤ log_stride) where
     AreTransposed-more i old now next hi at square = record {
       same_length = square.same_length ∙ at.same_length;
       crossed = λ s a b hs ha hb.
-          elim (cases_lt s i) [
-            | inl before ↦ elsewhere i s a b now next hi (omega arith) (λ e. omega arith) hb square ∙ at.crossed s a b before ha hb
-            | inr here ↦
-                let e : s ≡ i = omega arith in
-                let to : a * 2 ^ log_stride + (i * 2 ^ log_size + b) ≡ i * 2 ^ log_size + a * 2 ^ log_stride + b = omega arith in
-                let from : i * 2 ^ log_size + b * 2 ^ log_stride + a ≡ b * 2 ^ log_stride + (i * 2 ^ log_size + a) = omega arith in
-                rw e (ap (slice_get next) to ∙ square.places a b ha hb ∙ ap (slice_get now) from ∙ at.kept i b a (omega arith) hi hb ha)
-          ];
+          grind (arith, elsewhere i s a b now next hi, at.crossed s a b, at.kept i b a, square, square.places a b);
       kept = λ s a b from hs ha hb. elsewhere i s a b now next hi hs (λ e. omega arith) hb square ∙ at.kept s a b (omega arith) hs ha hb;
     }
