@@ -1,6 +1,7 @@
 -- How many numbers below a bound pass a test.
 use Rattle.std.proofs.Common.{◌≡◌, ℕ, zero, suc, Bool, true, false, cond, nat_lt, ltb-true, not, min, ◌==◌, ◌&&◌, ◌+◌, ◌-◌, ◌*◌, ◌/◌, ◌%◌, ◌<◌, ◌≤◌, IsTrue, refl, ◌∙◌, ap, arith, inl, inr}
 use Rattle.std.proofs.lemmas.Bool.{both_ways, cases_Bool, cases_eq, cases_lt, eq-eqb, false_from_ne_true, lt-ltb, ne_eqb}
+use Rattle.std.proofs.lemmas.Bool.Decides.{nat_tests}
 use Rattle.std.proofs.lemmas.Nat.{div-mul-add, mod-mul-add}
 use Rattle.p3_util_kernels.specs.Digits.{sum_below}
 use Rattle.p3_util_kernels.specs.Least.{count_below}
@@ -26,8 +27,7 @@ count-same n f g h = sum_below-same n (λ i. one (f i)) (λ i. one (g i)) (λ i 
 pub count-none : (n : ℕ) (t : ℕ → Bool) → ((i : ℕ) → i < n → t i ≡ true → ⊥) → count_below n t ≡ 0
 count-none zero t h = count-zero t
 count-none (suc n) t h =
-    let last : t n ≡ false = false_from_ne_true (t n) (h n (omega arith)) in
-    count-suc n t ∙ rw last (omega (arith, count-none n t (λ i less. h i (omega arith))))
+    omega (arith, count-suc n t, ap one (false_from_ne_true (t n) (h n (omega arith))), count-none n t (λ i less. h i (omega arith)))
 
 pub count-all : (n : ℕ) → count_below n (λ i. true) ≡ n
 count-all zero = count-zero (λ i. true)
@@ -67,9 +67,7 @@ pub count-once : (n : ℕ) (t : ℕ → Bool) → ((i j : ℕ) → i < n → j <
 count-once zero t same = omega (arith, count-zero t)
 count-once (suc n) t same =
     elim (cases_Bool (t n)) [
-      | inl here ↦
-          let none : count_below n t ≡ 0 = count-none n t (λ i less passes. omega (arith, same i n (omega arith) (omega arith) passes here)) in
-          omega (arith, count-suc n t, ap one here)
+      | inl here ↦ omega (arith, count-suc n t, ap one here, count-none n t (λ i less at. omega (arith, same i n (omega arith) (omega arith) at here)))
       | inr other ↦ omega (arith, count-suc n t, ap one other, count-once n t (λ i j hi hj. same i j (omega arith) (omega arith)))
     ]
 
@@ -83,11 +81,7 @@ count-add a (suc b) t =
 -- one number is r
 pub count-one : (n r : ℕ) → count_below n (λ y. r == y) ≡ min 1 (n - r)
 count-one zero r = count-zero (λ y. r == y) ∙ omega arith
-count-one (suc n) r =
-    elim (cases_eq r n) [
-      | inl e ↦ omega (arith, count-suc n (λ y. r == y), ap one (eq-eqb r n e), count-one n r)
-      | inr ne ↦ omega (arith, count-suc n (λ y. r == y), ap one (ne_eqb r n ne), count-one n r)
-    ]
+count-one (suc n) r = count-suc n (λ y. r == y) ∙ grind (arith, nat_tests, count-one n r)
 
 -- a matrix each row of which passes once, at column `f row`
 pub count-rows : (rows side : ℕ) (f : ℕ → ℕ) (t : ℕ → Bool) → ((r : ℕ) → r < rows → f r < side)
@@ -105,17 +99,9 @@ count-off_diagonal side =
     omega (arith, count-not (side * side) (λ p. p / side == p % side), diagonal, mul-pred side)
 
 -- the numbers below k
-count-below : (n k : ℕ) → k ≤ n → count_below n (λ x. nat_lt x k) ≡ k
-count-below zero k h = count-zero (λ x. nat_lt x k) ∙ omega arith
-count-below (suc n) k h =
-    elim (cases_lt n k) [
-      | inl all ↦
-          let every : count_below n (λ x. nat_lt x k) ≡ count_below n (λ x. true) = count-same n (λ x. nat_lt x k) (λ x. true) (λ x less. lt-ltb x k (omega arith)) in
-          omega (arith, count-suc n (λ x. nat_lt x k), ap one (lt-ltb n k all), every, count-all n)
-      | inr few ↦
-          let last : nat_lt n k ≡ false = false_from_ne_true (nat_lt n k) (λ e. omega (arith, few, ltb-true n k e)) in
-          omega (arith, count-suc n (λ x. nat_lt x k), ap one last, count-below n k few)
-    ]
+count-below : (n k : ℕ) → count_below n (λ x. nat_lt x k) ≡ min k n
+count-below zero k = count-zero (λ x. nat_lt x k) ∙ omega arith
+count-below (suc n) k = count-suc n (λ x. nat_lt x k) ∙ grind (arith, nat_tests, count-below n k)
 
 -- a matrix of which row r passes at its first `first r` columns, where `all` grows by so many at r
 pub count-first : (side rows : ℕ) (first all : ℕ → ℕ) → ((r : ℕ) → r < rows → (first r ≤ side) × (all (suc r) ≡ all r + first r))
@@ -133,8 +119,8 @@ count-first side (suc r) first all next =
       count-add (r * side) side t,
       count-first side r first all (λ q less. next q (omega arith)),
       row,
-      count-below side (first r) last.0,
-      last.1,
+      count-below side (first r),
+      last,
     ))
 
 -- one test for all

@@ -3,6 +3,7 @@
 use Rattle.std.proofs.Common.{◌≡◌, ◌≢◌, ◌↔◌, ℕ, zero, suc, Bool, true, not, ◌==◌, ◌+◌, ◌*◌, ◌/◌, ◌%◌, ◌^◌, ◌<◌, ◌≤◌, IsTrue, List, length, slice_get, refl, sym, ◌∙◌, ap, arith, inl, inr}
 use Rattle.std.proofs.Math.Nat.{pow-suc}
 use Rattle.std.proofs.lemmas.Bool.{cases_eq, eq-eqb, ne_eqb, not-true, both_ways}
+use Rattle.std.proofs.lemmas.Bool.Decides.{nat_tests}
 use Rattle.std.proofs.lemmas.Nat.{same_from_place, div_below, div-add-mod', div-mul-add, mod_below, mod-mul-add, mul-add-lt, pow-add, pow_pos}
 use Rattle.p3_util_kernels.specs.Digits.{rev}
 use Rattle.p3_util_kernels.specs.Reversal.{IsReversal}
@@ -59,15 +60,8 @@ module _ (q d : ℕ) (few : d ≤ 1) where
       let row : r * 2 ^ q + y ≡ a * 2 ^ (d + q) + (m * 2 ^ q + y) = rw (pow-add 2 d q) (omega (arith, ap (λ n. n * 2 ^ q) (div-add-mod' r (2 ^ d)))) in
       let turned = rev-around q d a m y few hm hy in
       rw row
-      (elim (cases_eq (rev q a) y) [
-        | inl e ↦ eq-eqb _ _ (turned ∙ rw (← e, rev-rev-below q a ha) refl) ∙ sym (eq-eqb (rev q a) y e)
-        | inr ne ↦
-            ne_eqb _ _
-            (λ e.
-            let low = same_from_place (rev q y) (m * 2 ^ q + rev q a) a (m * 2 ^ q + y) (2 ^ (d + q)) (middle-below q d m (rev q a) hm (rev-lt q a)) (middle-below q d m y hm hy) (sym turned ∙ e) in
-            ne (omega (arith, low.1)))
-            ∙ sym (ne_eqb (rev q a) y ne)
-      ])
+      (let low = same_from_place (rev q y) (m * 2 ^ q + rev q a) a (m * 2 ^ q + y) (2 ^ (d + q)) (middle-below q d m (rev q a) hm (rev-lt q a)) (middle-below q d m y hm hy) in
+      grind (arith, nat_tests, turned, low, rev-rev-below q a ha))
 
 pub palindromes : Palindromes
 palindromes k =
@@ -85,10 +79,8 @@ reversal-differs-where : {A : Type 0} (k : ℕ) (old new : List A) → length ol
 reversal-differs-where k old new len apart reversed i h =
     let moved : slice_get new i ≡ slice_get old (rev k i) = IsReversal-places old new reversed k i len h in
     let below : rev k i < length old = omega (arith, rev-lt k i) in (
-      λ t e.
-          let same : i ≡ rev k i = apart i (rev k i) (omega arith) below (e ∙ moved) in
-          both_ways (rev k i == i) (not-true (rev k i == i) t) (eq-eqb (rev k i) i (sym same)),
-      λ ne. rw (ne_eqb (rev k i) i (λ e. ne (ap (slice_get old) (sym e) ∙ sym moved))) refl,
+      λ t e. grind (arith, nat_tests, t, apart i (rev k i) (omega arith) below (e ∙ moved)),
+      λ ne. grind (arith, nat_tests, ne, moved),
     )
 
 -- the numbers of k bits that are not their own reverse come in pairs
@@ -121,16 +113,8 @@ square-differs-where side old new len apart turned p h =
     let moved : slice_get new q ≡ slice_get old (y * side + x) = turned.places x y hx hy in
     let here : q < length old = rw len (mul-add-lt x side y side hx hy) in
     let there : y * side + x < length old = rw len (mul-add-lt y side x side hy hx) in (
-      λ t e.
-          let same : q ≡ y * side + x = apart q (y * side + x) here there (e ∙ moved) in
-          let diagonal : x ≡ y = (same_from_place x y y x side hy hx same).0 in
-          both_ways (q / side == q % side) (not-true (q / side == q % side) t) (eq-eqb (q / side) (q % side) (row ∙ diagonal ∙ sym col)),
-      λ ne.
-          let off : q / side ≢ q % side =
-          λ e. let diagonal : x ≡ y = sym row ∙ e ∙ col in
-          let mirrored : q ≡ y * side + x = rw diagonal refl in
-          ne (ap (slice_get old) mirrored ∙ sym moved) in
-          rw (ne_eqb (q / side) (q % side) off) refl,
+      λ t e. grind (arith, nat_tests, t, same_from_place x y y x side hy hx (apart q (y * side + x) here there (e ∙ moved))),
+      λ ne. grind (arith, nat_tests, ne, moved),
     ))
 
 pub square-differs : {A : Type 0} → SquareDiffers A

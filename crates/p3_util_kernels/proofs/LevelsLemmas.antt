@@ -7,7 +7,7 @@ use Rattle.std.proofs.lemmas.Nat.{pow-add, mul-le}
 use Rattle.std.proofs.Math.Pow.{pow_mono}
 use Rattle.p3_util_kernels.specs.Digits.{sum_below}
 use Rattle.p3_util_kernels.specs.Levels.{clog, lev, nest}
-use Rattle.p3_util_kernels.proofs.PowersLemmas.{below_power, exponent-le}
+use Rattle.p3_util_kernels.proofs.PowersLemmas.{below_power, exponent-le, power-even}
 
 -- the least exponent of a power that n does not pass
 least_power : (n bound : ℕ) → n ≤ 2 ^ bound → (k : ℕ) × (n ≤ 2 ^ k) × ((e : ℕ) → e < k → 2 ^ e < n)
@@ -24,13 +24,8 @@ unfolding sum_below
 counted_to n k zero h below = omega arith
 counted_to n k (suc m) h below =
     let before : sum_below m (λ e. cond (ltb (2 ^ e) n) 1 0) ≡ min m k = counted_to n k m h below in
-    elim (cases_lt m k) [
-      | inl less ↦ let one : cond {A = ℕ} (ltb (2 ^ m) n) 1 0 ≡ 1 = cond-true _ 1 0 (lt-ltb _ _ (below m less)) in omega arith
-      | inr le ↦
-          let up : 2 ^ k ≤ 2 ^ m = pow-le-pow_right (omega arith) le in
-          let none : cond {A = ℕ} (ltb (2 ^ m) n) 1 0 ≡ 0 = cond-false _ 1 0 (le-ltb _ _ (omega arith)) in
-          omega arith
-    ]
+    let last = below m in
+    grind (arith, nat_tests, last, before, pow_mono {i = k} {j = m})
 
 clog_is : (n : ℕ) → (n ≤ 2 ^ clog n) × ((e : ℕ) → e < clog n → 2 ^ e < n)
 unfolding clog
@@ -69,14 +64,10 @@ clog-high n h = grind (arith, clog-least n (clog n - 1))
 -- the logarithm of the larger half is one less
 pub clog-half : (n : ℕ) → 2 ≤ n → clog (n - n / 2) + 1 ≡ clog n
 clog-half n h =
-    let whole = clog-enough n in
-    let half = clog-enough (n - n / 2) in
-    let some : 0 < clog n = clog-above n 0 (omega arith) in
-    let less : clog n ≡ suc (clog n - 1) = omega arith in
-    let two : 2 ^ clog n ≡ 2 ^ (clog n - 1) * 2 = ap (λ e. 2 ^ e) less ∙ pow-suc 2 (clog n - 1) in
-    let up : clog (n - n / 2) ≤ clog n - 1 = clog-least (n - n / 2) (clog n - 1) (omega arith) in
-    let down : clog n ≤ suc (clog (n - n / 2)) = clog-least n (suc (clog (n - n / 2))) (omega (arith, pow-suc 2 (clog (n - n / 2)))) in
-    omega arith
+    let two = power-even (clog n) (clog-above n 0 (omega arith)) in
+    let up = clog-least (n - n / 2) (clog n - 1) (omega (arith, clog-enough n)) in
+    let down = clog-least n (suc (clog (n - n / 2))) (omega (arith, clog-enough (n - n / 2), pow-suc 2 (clog (n - n / 2)))) in
+    omega (arith, clog-above n 0 (omega arith), up, down)
 
 -- a smaller number has no greater logarithm
 pub clog-le : (m n : ℕ) → m ≤ n → clog m ≤ clog n

@@ -37,8 +37,7 @@ after_colons-first whole (b ∷ []) (suc (suc i)) rest before here = cc
 after_colons-first whole (b ∷ c ∷ t) zero rest before here =
     let first : b ≡ 58 = cc in
     let second : c ≡ 58 = cc in
-    let same : t ≡ rest = cc in
-    rw (first, second, same) refl
+    rw (first, second) cc
 after_colons-first whole (b ∷ c ∷ t) (suc i) rest before here =
     elim (colons_tell b c) [
       | inl (test, is) ↦ absurd (before 0 (omega arith) t (rw (is.0, is.1) refl))
@@ -72,9 +71,7 @@ name_pieces-none : (t : List ℕ) → ((i : ℕ) → i < length t → is_mark (g
 unfolding name_pieces in_front
 name_pieces-none [] h = refl
 name_pieces-none (b ∷ t) h =
-    let here : is_mark b ≡ false = h 0 (omega arith) in
-    let rest : name_pieces t ≡ t ∷ [] = name_pieces-none t (λ i less. h (suc i) (omega arith)) in
-    rw (here, rest) refl
+    rw (h 0 (omega arith), name_pieces-none t (λ i less. h (suc i) (omega arith))) refl
 
 -- the first piece ends at the first mark
 name_pieces-first : (t : List ℕ) (i : ℕ) → i < length t
@@ -84,37 +81,22 @@ unfolding name_pieces in_front
 name_pieces-first [] i less before here = absurd (omega arith)
 name_pieces-first (b ∷ t) zero less before here = rw here refl
 name_pieces-first (b ∷ t) (suc i) less before here =
-    let other : is_mark b ≡ false = before 0 (omega arith) in
-    let rest : name_pieces t ≡ take (suc i) t ∷ name_pieces (drop (suc i) t) =
-    name_pieces-first t i (omega arith) (λ k below. before (suc k) (omega arith)) here in
-    rw (other, rest) refl
+    let rest = name_pieces-first t i (omega arith) (λ k below. before (suc k) (omega arith)) here in
+    rw (before 0 (omega arith), rest) refl
 
--- the two rules of the short name
-pub short_name-none : (t : List ℕ) → ((i : ℕ) → i < length t → is_mark (get_or t i 0) ≡ false) → short_name t ≡ last_part t
-unfolding short_name
-short_name-none t h = rw (name_pieces-none t h) (append-nil (last_part t))
-
-pub short_name-first : (t : List ℕ) (i : ℕ) → i < length t
-    → ((k : ℕ) → k < i → is_mark (get_or t k 0) ≡ false) → is_mark (get_or t i 0) ≡ true
-    → short_name t ≡ last_part (take (i + 1) t) ++ short_name (drop (i + 1) t)
-unfolding short_name
-short_name-first t i less before here = rw (add-one, name_pieces-first t i less before here) refl
-
--- ---- the same from what `position` answers
-
-none_if : (b : Bool) (x : ℕ) → cond b (Some x) None ≡ None → b ≡ false
-none_if true x e = cc
-none_if false x e = refl
-
+-- the two rules of the short name, from what `position` answers
 pub short_name-unmarked : (t : List ℕ) → None ≡ position is_mark t → short_name t ≡ last_part t
+unfolding short_name
 short_name-unmarked t e =
-    let all : nat_lt (position_or_len is_mark t) (length t) ≡ false = none_if _ (position_or_len is_mark t) (sym e) in
-    let long : length t ≤ position_or_len is_mark t = ltb-false _ _ all in
-    short_name-none t (λ i less. fails_before_first is_mark t i 0 (omega arith))
+    let long : length t ≤ position_or_len is_mark t = grind (arith, nat_tests, e) in
+    rw (name_pieces-none t (λ i less. fails_before_first is_mark t i 0 (omega arith))) (append-nil (last_part t))
 
 pub short_name-marked : (t : List ℕ) (i : ℕ) → Some i ≡ position is_mark t
     → short_name t ≡ last_part (take (i + 1) t) ++ short_name (drop (i + 1) t)
-short_name-marked t i e = let (less, here, before) = position-Some is_mark t i 0 (sym e) in short_name-first t i less before here
+unfolding short_name
+short_name-marked t i e =
+    let (less, here, before) = position-Some is_mark t i 0 (sym e) in
+    rw (add-one, name_pieces-first t i less before here) refl
 
 mark_ascii : (b : ℕ) → is_mark b ≡ true → b < 128
 mark_ascii b e =

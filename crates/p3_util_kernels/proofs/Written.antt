@@ -1,6 +1,7 @@
 -- Places of a list that were written in turn, how many of them changed, and where the writes are if all of them did.
 use Rattle.std.proofs.Common.{◌≡◌, ◌≢◌, ℕ, Bool, not, ◌==◌, ◌&&◌, ◌*◌, ◌<◌, ◌≤◌, IsTrue, List, [], ◌∷◌, length, get_or, set, slice_get, slice_set, refl, sym, ◌∙◌, ap, arith}
 use Rattle.std.proofs.lemmas.Bool.{and_parts, eqb-false, eqb-true, not-true}
+use Rattle.std.proofs.lemmas.Bool.Decides.{nat_tests}
 use Rattle.std.proofs.lemmas.List.Elements.{All-cons, All-nil, All-weaker}
 use Rattle.std.proofs.lemmas.List.Kept.{AllPairs-cons}
 use Rattle.p3_util_kernels.specs.Least.{AreOnceAmong, after_puts, after_swaps, count_below, places_put, places_swapped}
@@ -75,10 +76,7 @@ module _ (n : ℕ) (place : ℕ → ℕ) where
   here-once : (test : ℕ → Bool) (p : ℕ) → Apart test → count_below n (λ i. test i && place i == p) ≤ 1
   here-once test p apart =
       count-once n (λ i. test i && place i == p)
-      (λ i j hi hj ti tj.
-      let a = and_parts (test i) (place i == p) ti in
-      let b = and_parts (test j) (place j == p) tj in
-      apart i j hi hj a.0 b.0 (eqb-true (place i) p a.1 ∙ sym (eqb-true (place j) p b.1)))
+      (λ i j hi hj ti tj. grind (arith, nat_tests, apart i j hi hj, ti, tj))
 
   -- no more places changed than were written
   pub written-change : {A : Type 0} (test : ℕ → Bool) → Apart test → (places : List ℕ) (old new : List A) → Written places old new
