@@ -86,22 +86,11 @@ module _ (half c : ℕ) (within : half ≤ c) where
           record {
             same_length = pair.same_length;
             crossed = λ m v w s.
-                let of_line : m.0 * 2 ^ half + max v w ≡ middle * 2 ^ half + y = omega (arith, split, s.1.col_from, s.1.col_to) in
-                let same = same_from_place m.0 (max v w) middle y (2 ^ half) (omega (arith, s.0.high, s.0.low)) below of_line in
-                elim (cases_lt v w) [
-                  | inl upper ↦
-                      let ev : v ≡ x = omega (arith, s.1.row_from, s.1.row_to) in
-                      let ew : w ≡ y = omega (arith, same.1) in
-                      rw (same.0, ev, ew) (pair.first m.1 s.0.item)
-                  | inr lower ↦
-                      let ev : v ≡ y = omega (arith, same.1) in
-                      let ew : w ≡ x = omega (arith, s.1.row_from, s.1.row_to) in
-                      rw (same.0, ev, ew) (pair.second m.1 s.0.item)
-                ];
+                let same = same_from_place m.0 (max v w) middle y (2 ^ half) (omega (arith, s)) below (omega (arith, split, s)) in
+                grind (arith, s, same, pair.first m.1, pair.second m.1);
             others = λ k out.
                 let of_pair : (v w : ℕ) → v < 2 ^ half → w < 2 ^ half → max v w ≡ y → min v w ≡ x → (t : ℕ) → t < row_width → k ≢ row_of half c middle v w * row_width + t =
-                λ v w hv hw greater smaller t ht. out (middle, t) v w
-                (record { middle = middle-lt line h; item = ht; high = hv; low = hw }, record { row_from = omega arith; row_to = omega arith; col_from = omega arith; col_to = omega arith }) in
+                λ v w hv hw greater smaller t ht. out (middle, t) v w (grind (arith, middle-lt line h)) in
                 pair.others k (outside k _ row_width (of_pair x y (omega arith) below (omega arith) (omega arith)))
                 (outside k _ row_width (of_pair y x below (omega arith) (omega arith) (omega arith)));
           }
@@ -165,7 +154,7 @@ module _ (half c : ℕ) (within : half ≤ c) where
                 let turned = rw parts at (rev-around half (c - half) a middle y (omega arith) hm hy) in
                 let line : middle * 2 ^ half + max x y < 2 ^ c = in_row c half within middle (max x y) hm (omega arith) in
                 rw back at (every.crossed (middle, j) x y
-                (record { middle = hm; item = hj; high = hx; low = hy }, record { row_from = omega arith; row_to = omega arith; col_from = omega arith; col_to = line }))
+                (grind (arith, line)))
                 ∙ ap (λ n. slice_get old (n * row_width + j)) (sym turned)) in
                 at r (rw same at h) ∙ ap (λ n. slice_get old (rev n r * row_width + j)) (sym same);
           }

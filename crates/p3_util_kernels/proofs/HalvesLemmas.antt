@@ -14,16 +14,14 @@ use Rattle.p3_util_kernels.proofs.RegionLemmas.{IsCut-rows, IsCut-cols}
 pub lev-of_region : (region : Region) (width height : ℕ) → LiesInMatrix region width height → width < 2 ^ 64 → height < 2 ^ 64 → width * height < 2 ^ 64
     → lev (rows_of region) (cols_of region) ≤ 57
 lev-of_region region width height lies wide tall fits =
-    let rows = rows_of region in
-    let cols = cols_of region in
-    let items : rows * cols ≤ height * width = mul-le rows cols height width (omega (arith, lies.rows_inside)) (omega (arith, lies.cols_inside)) in
-    lev_le rows cols (omega (arith, lies.rows_inside)) (omega (arith, lies.cols_inside)) (omega (arith, mul_comm width height))
+    let items = mul-le (rows_of region) (cols_of region) height width (omega (arith, lies)) (omega (arith, lies)) in
+    lev_le (rows_of region) (cols_of region) (omega (arith, lies)) (omega (arith, lies)) (omega (arith, items, mul_comm width height))
 
 -- 64 levels are enough for a whole matrix
 pub lev-of_whole : (whole : Region) (width height : ℕ) → whole ≡ record { row_start = 0; row_end = height; col_start = 0; col_end = width }
     → width < 2 ^ 64 → height < 2 ^ 64 → width * height < 2 ^ 64 → lev (rows_of whole) (cols_of whole) ≤ 64
 lev-of_whole whole width height is wide tall fits =
-    let lies : LiesInMatrix whole width height = rw is (record { rows_in_order = omega arith; rows_inside = omega arith; cols_in_order = omega arith; cols_inside = omega arith }) in
+    let lies : LiesInMatrix whole width height = rw is (grind arith) in
     omega (arith, lev-of_region whole width height lies wide tall fits)
 
 -- A side above 128 in two parts, its half rounded down and the rest.
@@ -36,21 +34,11 @@ pub AreHalves-rows : (whole : Region) → 2 < cols_of whole → 128 < rows_of wh
 AreHalves-rows whole deep high order =
     let middle = whole.row_start + rows_of whole / 2 in
     let sides = halves (rows_of whole) (middle - whole.row_start) (whole.row_end - middle) high (omega arith) (omega arith) in
-    record {
-      cut = IsCut-rows whole middle (omega arith) (omega arith);
-      first_levels = omega (arith, sides);
-      second_levels = omega (arith, sides);
-      nested = grind (arith, nat_tests, sides);
-    }
+    grind (arith, nat_tests, sides, IsCut-rows whole middle (omega arith) (omega arith))
 
 pub AreHalves-cols : (whole : Region) → 2 < rows_of whole → 128 < cols_of whole → whole.col_start ≤ whole.col_end
     → let middle = whole.col_start + cols_of whole / 2 in AreHalves whole (record whole { col_end = middle }) (record whole { col_start = middle })
 AreHalves-cols whole deep wide order =
     let middle = whole.col_start + cols_of whole / 2 in
     let sides = halves (cols_of whole) (middle - whole.col_start) (whole.col_end - middle) wide (omega arith) (omega arith) in
-    record {
-      cut = IsCut-cols whole middle (omega arith) (omega arith);
-      first_levels = omega (arith, sides);
-      second_levels = omega (arith, sides);
-      nested = grind (arith, nat_tests, sides);
-    }
+    grind (arith, nat_tests, sides, IsCut-cols whole middle (omega arith) (omega arith))

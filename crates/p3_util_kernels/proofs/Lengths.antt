@@ -19,13 +19,9 @@ pub unshared : (n : ℕ) → bit_and n (n - 1) ≡ 0 → IsZeroOrPowerOfTwo n
 unshared zero none = inl refl
 unshared (suc m) none =
     let (j, low, high) = highest (suc m) (omega arith) in
-    elim (cases_lt (2 ^ j) (suc m)) [
-      | inl above ↦
-          let both = bit_at_and (suc m) (suc m - 1) j in
-          let lower = highest_bit (suc m - 1) j (omega arith) (omega arith) in
-          absurd (omega (arith, both, lower, highest_bit (suc m) j low high, ap (λ n. bit_at n j) none, bit_at-zero j))
-      | inr last ↦ inr (j, omega arith)
-    ]
+    let shared = bit_at_and (suc m) (suc m - 1) j in
+    let same : 2 ^ j ≡ suc m = grind (arith, shared, highest_bit (suc m) j, highest_bit (suc m - 1) j, ap (λ n. bit_at n j) none, bit_at-zero j) in
+    inr (j, sym same)
 
 -- what a call asks of a length says that it is zero or a power of two
 pub zero_or_power : (n : ℕ) → IsReversible n → IsZeroOrPowerOfTwo n
@@ -60,12 +56,8 @@ FitsRows-quotient len row_width some wide whole =
     let split : len / row_width * row_width + len % row_width ≡ len = div-add-mod' len row_width in (
       λ yes. (len / row_width, inr ((power_of_two_test (len / row_width)).0 yes), omega arith),
       λ (rows, fits, e).
-          let place : rows * row_width + 0 ≡ len = omega arith in
-          let same : len / row_width ≡ rows = rw place at (div-mul-add rows row_width 0 (omega arith)) in
-          elim fits [
-            | inl none ↦ let empty : row_width * rows ≡ 0 = rw none (omega arith) in absurd (some (omega arith))
-            | inr power ↦ rw same ((power_of_two_test rows).1 power)
-          ],
+          let same : len / row_width ≡ rows = ap (λ n. n / row_width) e ∙ mul-div_cancel_left rows (omega arith) in
+          elim fits [ inl none ↦ absurd (some (e ∙ rw none (omega arith))) | inr power ↦ rw same ((power_of_two_test rows).1 power) ],
     )
 
 -- as many rows, as a power of two
@@ -102,9 +94,7 @@ IsDigitsOfRows-from len row_width digits some (rows, inr (k, is), e) counted =
       wide = wide;
       rows = rw same at counts;
       whole = rw same at all;
-      few = λ small.
-          let scaled : 2 ^ k ≤ 2 ^ k * row_width = le-mul_of_pos_right (2 ^ k) wide in
-          omega (arith, exponent-lt k 63 (omega arith));
+      few = λ small. omega (arith, exponent-lt k 63 (omega (arith, le-mul_of_pos_right (2 ^ k) wide)));
     }
 
 -- no rows have no digits

@@ -95,16 +95,8 @@ lev-half n k h = omega (arith, clog-half n (omega arith), clog-above n 7 h)
 -- at most 57 levels for a region whose sides and whose product fit a word
 pub lev_le : (r c : ℕ) → r < 2 ^ 64 → c < 2 ^ 64 → r * c < 2 ^ 64 → lev r c ≤ 57
 lev_le r c h k fits =
-    let tall : clog r ≤ 64 = clog-least r 64 (omega arith) in
-    let wide : clog c ≤ 64 = clog-least c 64 (omega arith) in
-    elim (cases_lt 65 (clog r + clog c)) [
-      | inl many ↦
-          let high : 2 ^ (clog r - 1) ≤ r = clog-high r (omega arith) in
-          let broad : 2 ^ (clog c - 1) ≤ c = clog-high c (omega arith) in
-          let both : 2 ^ (clog r - 1) * 2 ^ (clog c - 1) ≤ r * c = mul-le (2 ^ (clog r - 1)) (2 ^ (clog c - 1)) r c high broad in
-          let sum : 2 ^ (clog r - 1 + (clog c - 1)) ≡ 2 ^ (clog r - 1) * 2 ^ (clog c - 1) = pow-add 2 (clog r - 1) (clog c - 1) in
-          let far : 64 ≤ clog r - 1 + (clog c - 1) = omega arith in
-          let up : 2 ^ 64 ≤ 2 ^ (clog r - 1 + (clog c - 1)) = pow-le-pow_right (omega arith) far in
-          absurd (omega arith)
-      | inr few ↦ omega arith
-    ]
+    let tall = clog-least r 64 (omega arith) in
+    let wide = clog-least c 64 (omega arith) in
+    let a = clog r - 1 in
+    let b = clog c - 1 in
+    grind (arith, tall, wide, clog-high r, clog-high c, mul-le (2 ^ a) (2 ^ b) r c, pow-add 2 a b, pow_mono {i = 64} {j = a + b})

@@ -1,5 +1,5 @@
 -- How many pairs of rows the first lines have: line l has l mod 2^q pairs, where one middle digit has 2^q lines.
-use Rattle.std.proofs.Common.{◌≡◌, ℕ, ◌+◌, ◌-◌, ◌*◌, ◌/◌, ◌%◌, ◌^◌, ◌<◌, ◌≤◌, inl, inr, refl, sym, ap, ◌∙◌, arith}
+use Rattle.std.proofs.Common.{◌≡◌, ℕ, zero, suc, ◌+◌, ◌-◌, ◌*◌, ◌/◌, ◌%◌, ◌^◌, ◌<◌, ◌≤◌, inl, inr, refl, sym, ap, ◌∙◌, arith}
 use Rattle.std.proofs.lemmas.Bool.{cases_lt}
 use Rattle.std.proofs.lemmas.Nat.{div-add-mod', div-mul-add, mod-mul-add, mod_below, pow-add, pow_pos}
 use Rattle.p3_util_kernels.specs.Crossing.{line_pairs_of}
@@ -58,16 +58,11 @@ lines-short q d few =
 -- The pairs of lines are all lines where a middle digit has more than one line. Elsewhere there are none.
 line_pairs-all : (digits : ℕ) → 2 ≤ digits → line_pairs_of digits * 2 ≡ 2 ^ (digits % 2) * 2 ^ (digits / 2)
 line_pairs-all digits some =
-    let even = power-even (digits / 2) (omega arith) in
-    let halved : 2 * (2 ^ (digits / 2) / 2) ≡ 2 ^ (digits / 2) = omega arith in
-    let scaled = ap (λ n. 2 ^ (digits % 2) * n) halved in
-    omega (arith, scaled)
+    rw (power-even (digits / 2) (omega arith)) (grind arith)
 
 line_pairs-few : (digits : ℕ) → digits < 2 → line_pairs_of digits ≡ 0
 line_pairs-few digits few =
-    let none : digits / 2 ≡ 0 = omega arith in
-    let one : 2 ^ (digits / 2) ≡ 1 = rw none refl in
-    rw one (omega arith)
+    let none : digits / 2 ≡ 0 = omega arith in rw none (omega arith)
 
 pub line_pairs-whole : (digits : ℕ) → 0 < digits / 2 → line_pairs_of digits * 2 ≡ 2 ^ (digits - digits / 2)
 line_pairs-whole digits some =
@@ -84,14 +79,10 @@ line-below digits line even h =
     grind (arith, line_pairs-few digits, line_pairs-inside digits)
 
 pub line_swaps-all : (digits : ℕ) → line_swaps digits (line_pairs_of digits) ≡ short_swaps digits
-line_swaps-all digits =
+line_swaps-all zero = refl
+line_swaps-all (suc zero) = refl
+line_swaps-all (suc (suc d)) =
+    let digits = suc (suc d) in
     let parts : digits / 2 + (digits % 2 + digits / 2) ≡ digits = omega arith in
     let short = rw parts at (lines-short (digits / 2) (digits % 2) (omega arith)) in
-    elim (cases_lt digits 2) [
-      | inl few ↦
-          let none : digits / 2 ≡ 0 = omega arith in
-          let one : 2 ^ (digits / 2) ≡ 1 = rw none refl in
-          let nothing : 2 ^ (digits % 2) * square_swaps 1 ≡ 0 = omega arith in
-          rw (line_pairs-few digits few) (line_swaps-none digits ∙ sym nothing ∙ (rw one at short))
-      | inr more ↦ line_swaps-of digits (line_pairs_of digits) (2 ^ (digits % 2)) 0 (omega (arith, line_pairs-all digits more)) (pow_pos (digits / 2)) ∙ omega (arith, short)
-    ]
+    line_swaps-of digits (line_pairs_of digits) (2 ^ (digits % 2)) 0 (omega (arith, line_pairs-all digits (omega arith))) (pow_pos (digits / 2)) ∙ omega (arith, short)

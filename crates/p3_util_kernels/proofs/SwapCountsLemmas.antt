@@ -34,17 +34,13 @@ squares_swaps-le stride size within =
     let scaled : squares * (2 * square_swaps (2 ^ size)) ≤ squares * (2 ^ size * 2 ^ size) = mul-le-mul_left squares pairs in
     rw (pow-add 2 size stride, row) (omega arith)
 
-three_halves : (a b n : ℕ) → a ≤ n / 2 → b ≤ n / 2 → 2 * a + b ≤ 3 * n / 2
-three_halves a b n ha hb = omega arith
-
 -- two passes of chunks and one of squares
 pub long_swaps-le : (k : ℕ) → long_swaps k ≤ 3 * 2 ^ k / 2
 long_swaps-le k =
     let size = k / 2 in
     let stride = k - size in
     let whole : size + stride ≡ k = omega arith in
-    three_halves (short_swaps size * 2 ^ stride) (2 ^ (stride - size) * square_swaps (2 ^ size)) (2 ^ k)
-    (chunks_bound size stride (2 ^ k) (ap (λ e. 2 ^ e) (sym whole))) (rw whole at (squares_swaps-le stride size (omega arith)))
+    omega (arith, chunks_bound size stride (2 ^ k) (ap (λ e. 2 ^ e) (sym whole)), rw whole at (squares_swaps-le stride size (omega arith)))
 
 -- the same of a length that is zero or a power of two
 pairs_of_rows : (row_width rows : ℕ) → IsZeroOrPowerOfTwo rows → row_width * short_swaps (clog rows) ≤ row_width * rows / 2
@@ -65,10 +61,7 @@ rows_bound n row_width (rows, fits, e) =
 
 pub long_bound : (n : ℕ) → IsReversible n → 4 ≤ n → long_swaps (clog n) ≤ 3 * n / 2
 long_bound n fits some =
-    elim (zero_or_power n fits) [
-      | inl none ↦ absurd (omega arith)
-      | inr (k, is) ↦ rw (clog_power n k is, is) (long_swaps-le k)
-    ]
+    elim (zero_or_power n fits) [ inl none ↦ absurd (omega arith) | inr (k, is) ↦ rw (clog_power n k is, is) (long_swaps-le k) ]
 
 pub reversal_bound : (n : ℕ) → IsReversible n → reversal_swaps n ≤ 3 * n / 2
 reversal_bound n fits = grind (arith, short_bound n fits, long_bound n fits)
