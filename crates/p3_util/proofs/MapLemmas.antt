@@ -45,12 +45,12 @@ set_last [] x y = refl
 set_last (z ∷ xs) x y = ap (λ t. z ∷ t) (set_last xs x y)
 
 -- es' is es, after which (k, v) was pushed to make `added`, and the pair at n, its last place, is lent
-module _ {K V : Type 0} (es es' added : List (K × V)) (k : K) (v : V) (n : ℕ) (pair : K × V) (kept : es' ≡ es) (pushed : added ≡ es' ++ (k, v) ∷ []) (place : n ≡ length es') (at : pair ≡ get_or added n pair) where
+module _ {K V : Type 0} (es es' added : List (K × V)) (k : K) (v : V) (n : ℕ) (pair : K × V) (kept : es' ≡ es) (pushed : added ≡ es' ++ (k, v) ∷ []) (place : n ≡ length es) (at : pair ≡ get_or added n pair) where
   pub pair_pushed : pair ≡ (k, v)
-  pair_pushed = at ∙ rw pushed (get_or_push es' (k, v) pair n (sym place))
+  pair_pushed = at ∙ rw (pushed, kept) (get_or_push es (k, v) pair n (sym place))
 
   pub write_pushed : (w : V) → slice_set added n (pair.0, w) ≡ es ++ (k, w) ∷ []
-  write_pushed w = rw (pushed, place, pair_pushed) (set_last es' (k, v) (k, w) ∙ ap (λ xs. xs ++ (k, w) ∷ []) kept)
+  write_pushed w = rw (pushed, kept, place, pair_pushed) (set_last es (k, v) (k, w))
 
 pub distinct_none : {K : Type 0} (V : Type 0) (eq : K → K → Bool) → HasDistinctKeys {V = V} eq []
 unfolding IsDistinct
@@ -61,20 +61,20 @@ none_passes : {X : Type 0} (p : X → Bool) (xs : List X) → position p xs ≡ 
 none_passes p xs h = elim (nat_lt (position_or_len p xs) (length xs)) as (λ b. nat_lt (position_or_len p xs) (length xs) ≡ b → cond b (Some (position_or_len p xs)) None ≡ None → length xs ≤ position_or_len p xs) [ true ↦ λ e n. cc | false ↦ λ e n. ltb-false _ _ e ] refl h
 
 module _ {K V : Type 0} (eq : K → K → Bool) (es : List (K × V)) (k : K) where
-  pub lookup_nowhere : position (λ e. eq k e.0) es ≡ None → value_at eq es k ≡ None
-  lookup_nowhere none = lookup_past_all (eq k) es (none_passes (λ e. eq k e.0) es none)
+  pub lookup_nowhere : None ≡ position (λ e. eq k e.0) es → None ≡ value_at eq es k
+  lookup_nowhere none = sym (lookup_past_all (eq k) es (none_passes (λ e. eq k e.0) es (sym none)))
 
-  module _ (i : ℕ) (e : K × V) (found : position (λ x. eq k x.0) es ≡ Some i) (at : e ≡ get_or es i e) where
-    pub lookup_at_place : value_at eq es k ≡ Some e.1
+  module _ (i : ℕ) (e : K × V) (found : Some i ≡ position (λ x. eq k x.0) es) (at : e ≡ get_or es i e) where
+    pub lookup_at_place : Some e.1 ≡ value_at eq es k
     lookup_at_place =
-        let p = position-Some (λ (x : K × V). eq k x.0) es i e found in lookup_first (eq k) es i e p.0 at (rw at p.1) p.2
+        let p = position-Some (λ (x : K × V). eq k x.0) es i e (sym found) in sym (lookup_first (eq k) es i e p.0 at (rw at p.1) p.2)
 
     pub set_at_place : (w : V) → slice_set es i (e.0, w) ≡ with_value eq es k w
     set_at_place w =
-        let p = position-Some (λ (x : K × V). eq k x.0) es i e found in set_first (eq k) es i e w p.0 at (rw at p.1) p.2
+        let p = position-Some (λ (x : K × V). eq k x.0) es i e (sym found) in set_first (eq k) es i e w p.0 at (rw at p.1) p.2
 
     pub put_at_place : (w : V) → slice_set es i (e.0, w) ≡ put eq es k w
-    put_at_place w = rw lookup_at_place (set_at_place w)
+    put_at_place w = rw (← lookup_at_place) (set_at_place w)
 
     pub keys_set_at_place : (w : V) → keys_of (slice_set es i (e.0, w)) ≡ keys_of es
     keys_set_at_place w = rw (set_at_place w) (keys-set_value (eq k) es w)
@@ -83,14 +83,14 @@ module _ {K V : Type 0} (eq : K → K → Bool) (es : List (K × V)) (k : K) whe
     pub distinct_set_at_place : (w : V) → HasDistinctKeys eq es → HasDistinctKeys eq (slice_set es i (e.0, w))
     distinct_set_at_place w distinct = rw (keys_set_at_place w) distinct
 
-  module _ (absent : value_at eq es k ≡ None) (v : V) where
+  module _ (absent : None ≡ value_at eq es k) (v : V) where
     pub put_new : put eq es k v ≡ es ++ (k, v) ∷ []
-    put_new = rw absent refl
+    put_new = rw (← absent) refl
 
     -- a new key is apart from all
     pub distinct_new : IsEquivalence eq → HasDistinctKeys eq es → HasDistinctKeys eq (es ++ (k, v) ∷ [])
     distinct_new laws distinct =
-        rw (map-append (λ (x : K × V). x.0) es ((k, v) ∷ [])) (IsDistinct-push laws (keys_of es) k distinct (sym (is_some-lookup (eq k) es) ∙ ap is_some absent))
+        rw (map-append (λ (x : K × V). x.0) es ((k, v) ∷ [])) (IsDistinct-push laws (keys_of es) k distinct (sym (is_some-lookup (eq k) es) ∙ ap is_some (sym absent)))
 
 -- a pair that was added last is found where its key passes and no other does, and else changes no look-up
 lookup_push : {K V : Type 0} (test : K → Bool) (es : List (K × V)) (k : K) (v : V) → (test k ≡ true → lookup test es ≡ None)

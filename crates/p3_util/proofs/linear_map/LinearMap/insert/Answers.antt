@@ -6,50 +6,50 @@ use Rattle.p3_util.proofs.linear_map.LinearMap.insert.Goals as goal
 pub returns-in-Some-clause-old : goal.returns-in-Some-clause-old
 returns-in-Some-clause-old g c =
     let at = c.index_mut.ensures.value ∙ ap (λ es. get_or es c.in-Some.place c.index_mut.result.now) c.self.view_is in
-    rw c.replace.ensures.value (sym (lookup_at_place g.K.PartialEq.eq c.args.self.now c.args.k c.in-Some.place c.index_mut.result.now (sym c.in-Some.ensures) at))
+    rw c.replace.ensures.value (lookup_at_place g.K.PartialEq.eq c.args.self.now c.args.k c.in-Some.place c.index_mut.result.now c.in-Some.ensures at)
 
 pub returns-in-Some-clause-put : goal.returns-in-Some-clause-put
 returns-in-Some-clause-put g c =
     let at = c.index_mut.ensures.value ∙ ap (λ es. get_or es c.in-Some.place c.index_mut.result.now) c.self.view_is in
-    rw (c.replace.ensures.after, c.self.view_is) (put_at_place g.K.PartialEq.eq _ _ _ _ (sym c.in-Some.ensures) at _)
+    rw (c.replace.ensures.after, c.self.view_is) (put_at_place g.K.PartialEq.eq _ _ _ _ c.in-Some.ensures at _)
 
 pub returns-in-Some-clause-known_keys : goal.returns-in-Some-clause-known_keys
 returns-in-Some-clause-known_keys g c h =
-    let found = rw (← c.self.view_is) at (sym c.in-Some.ensures) in
+    let found = rw (← c.self.view_is) at c.in-Some.ensures in
     rw (← c.self.view_is) (keys_set_at_place g.K.PartialEq.eq _ _ _ _ found c.index_mut.ensures.value _)
 
 -- After the clauses `put` and `known_keys`, so that these are named first where the pairs are others.
 pub invariant_of-self : goal.invariant_of-self
 invariant_of-self g c =
-    let found = rw (← c.self.view_is) at (sym c.in-Some.ensures) in
+    let found = rw (← c.self.view_is) at c.in-Some.ensures in
     distinct_set_at_place g.K.PartialEq.eq _ _ _ _ found c.index_mut.ensures.value _ c.self.invariant
 
 pub returns-in-Some-clause-distinct : goal.returns-in-Some-clause-distinct
 returns-in-Some-clause-distinct g c = invariant_of-self g c
 
 pub returns-in-Err-clause-refuses_new : goal.returns-in-Err-clause-refuses_new
-returns-in-Err-clause-refuses_new g c = lookup_nowhere g.K.PartialEq.eq _ _ (sym c.in_default.ensures)
+returns-in-Err-clause-refuses_new g c = sym (lookup_nowhere g.K.PartialEq.eq _ _ c.in_default.ensures)
 
 pub returns-in-Err-clause-known : goal.returns-in-Err-clause-known
 returns-in-Err-clause-known g c =
-    let absent : value_at g.K.PartialEq.eq c.args.self.now c.args.k ≡ None = lookup_nowhere g.K.PartialEq.eq _ _ (sym c.in_default.ensures) in
-    rw absent (λ h. h)
+    let absent : None ≡ value_at g.K.PartialEq.eq c.args.self.now c.args.k = lookup_nowhere g.K.PartialEq.eq _ _ c.in_default.ensures in
+    rw (← absent) (λ h. h)
 
 pub invariant_of-self-2 : goal.invariant_of-self-2
 invariant_of-self-2 g c =
-    let absent = lookup_nowhere g.K.PartialEq.eq _ _ (sym c.in_default.ensures) in
+    let absent = lookup_nowhere g.K.PartialEq.eq _ _ c.in_default.ensures in
     rw (c.in_default-push.ensures.items, c.self.view_is) (distinct_new g.K.PartialEq.eq _ _ absent _ g.met.K.Eq.laws (rw c.self.view_is at c.self.invariant))
 
 pub returns-clause-old : goal.returns-clause-old
-returns-clause-old g c = sym (lookup_nowhere g.K.PartialEq.eq _ _ (sym c.in_default.ensures))
+returns-clause-old g c = lookup_nowhere g.K.PartialEq.eq _ _ c.in_default.ensures
 
 pub returns-clause-put : goal.returns-clause-put
 returns-clause-put g c =
-    rw (c.in_default-push.ensures.items, c.self.view_is) (sym (put_new g.K.PartialEq.eq _ _ (lookup_nowhere g.K.PartialEq.eq _ _ (sym c.in_default.ensures)) _))
+    rw (c.in_default-push.ensures.items, c.self.view_is) (sym (put_new g.K.PartialEq.eq _ _ (lookup_nowhere g.K.PartialEq.eq _ _ c.in_default.ensures) _))
 
 pub returns-clause-known_keys : goal.returns-clause-known_keys
 returns-clause-known_keys g c =
-    rw (lookup_nowhere g.K.PartialEq.eq _ _ (sym c.in_default.ensures)) (λ h. cc)
+    rw (← lookup_nowhere g.K.PartialEq.eq _ _ c.in_default.ensures) (λ h. cc)
 
 pub returns-clause-distinct : goal.returns-clause-distinct
 returns-clause-distinct g c = invariant_of-self-2 g c

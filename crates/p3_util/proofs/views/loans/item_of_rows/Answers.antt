@@ -7,4 +7,4 @@ returns-then-i-countable g c =
     let place = c.place_of-r.ensures in
     let item = c.item_at.ensures in
     let read = get-at _ _ _ _ _ _ place.row place.place item.len place.before place.item item.item (rw c.countable.ensures.items at c.if-i-countable.true) in
-    ((refl, (λ w. put-at _ _ _ _ _ _ w place.row place.place item.len place.before place.item refl), refl), record { writes_back = tt; item = sym read })
+    ((cc, (λ w. put-at _ _ _ _ _ _ w place.row place.place item.len place.before place.item refl), cc), record { writes_back = tt; item = sym read })

@@ -1,4 +1,5 @@
-use Rattle.std.proofs.Common.{◌≡◌, ℕ, ◌+◌, ◌*◌, ◌/◌, ◌%◌, ◌≤◌, arith, ap, length, length-append, rules, sym, vec_len, ◌∙◌}
+use Rattle.std.proofs.Common.{◌≡◌, ℕ, ◌+◌, ◌*◌, ◌/◌, ◌%◌, ◌≤◌, List, [], ◌∷◌, ◌++◌, append-nil, arith, ap, length, length-append, rules, sym, vec_len, ◌∙◌}
+use Rattle.std.proofs.Math.Nat.{mul-le-mul_right}
 use Rattle.std.proofs.lemmas.Grind.{common_steps}
 use Rattle.std.proofs.lemmas.Nat.{div-add-mod'}
 use Rattle.std.specs.Vec.Iter.{into_iter_items}
@@ -40,12 +41,27 @@ whole_rows total rows counter n made over under divides =
     let times : total / n * n ≡ rows * n = ap (λ k. k * n) count in
     omega (arith, place, divides, times)
 
+-- no item is left behind as many rows as that
+none_left : {A : Type 0} (all items left : List A) (total counter n : ℕ) → all ≡ items ++ left → length left + counter * n ≡ total → total / n ≤ counter → total % n ≡ 0 → items ≡ all
+none_left all items [] total counter n is len over divides = sym (is ∙ append-nil items)
+none_left all items (x ∷ xs) total counter n is len over divides =
+    let times : total / n * n ≤ counter * n = mul-le-mul_right n over in
+    absurd (omega (arith, div-add-mod' total n, times))
+
 pub returns-clause-places : goal.returns-clause-places
 returns-clause-places g c =
-    let all : flat c.loop.rows.items ≡ c.args.vec.items = grind (arith, common_steps) in
-    let whole : length c.args.vec.items ≡ vec_len c.args.vec = search rules in
-    let made : length c.loop.rows.items ≡ c.loop.counter = search (rules, c.loop.invariant.made) in
-    let over : vec_len c.args.vec / g.row.N ≤ c.loop.counter = rw c.len-count.ensures at c.loop-test.false in
-    let under : c.loop.counter ≤ vec_len c.args.vec / g.row.N = rw c.len-count.ensures at c.loop.auto.counter-end in
-    let len = whole_rows (vec_len c.args.vec) (length c.loop.rows.items) c.loop.counter g.row.N made over under c.requires.divides in
-    IsFlat-pieces g.row.N c.loop.rows.items c.args.vec.items (whole ∙ len) (λ _. ap (λ l. pieces g.row.N l) (sym all) ∙ c.loop.invariant.cut)
+    let total = vec_len c.args.vec in
+    let rows = c.loop.rows.items in
+    let over : total / g.row.N ≤ c.loop.counter = rw c.len-count.ensures at c.loop-test.false in
+    let under : c.loop.counter ≤ total / g.row.N = rw c.len-count.ensures at c.loop.auto.counter-end in
+    let all = none_left c.args.vec.items (flat rows) (into_iter_items c.loop.items) total c.loop.counter g.row.N c.loop.invariant.moved c.loop.invariant.left over c.requires.divides in
+    let whole : length c.args.vec.items ≡ total = search rules in
+    let made : length rows ≡ c.loop.counter = search (rules, c.loop.invariant.made) in
+    IsFlat-pieces g.row.N rows c.args.vec.items (whole ∙ whole_rows total (length rows) c.loop.counter g.row.N made over under c.requires.divides) (λ _. ap (λ l. pieces g.row.N l) (sym all) ∙ c.loop.invariant.cut)
+
+pub returns-clause-items : goal.returns-clause-items
+returns-clause-items g c =
+    none_left c.args.vec.items (flat c.loop.rows.items) (into_iter_items c.loop.items) (vec_len c.args.vec) c.loop.counter g.row.N c.loop.invariant.moved c.loop.invariant.left (rw c.len-count.ensures at c.loop-test.false) c.requires.divides
+
+pub returns-clause-rows : goal.returns-clause-rows
+returns-clause-rows g c = sym c.loop.invariant.cut ∙ ap (λ l. pieces g.row.N l) (returns-clause-items g c)
