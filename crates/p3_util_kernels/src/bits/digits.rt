@@ -13,7 +13,9 @@ ghost use Rattle.p3_util_kernels.specs.Powers.{HasLog2};
 #[inline]
 pub const fn reverse_bits(x: usize, n: usize) -> usize
     requires { HasLog2 n }
-    ensures { (k : ℕ) → n ≡ 2 ^ k → result ≡ rev_word k x }
+    ensures reversed { (k : ℕ) → n ≡ 2 ^ k → result ≡ rev_word k x }
+    ensures digits { (k : ℕ) → 1 ≤ k → n ≡ 2 ^ k → result ≡ rev k x }
+    ensures below { x < n → result < n }
 {
     reverse_bits_len(x, n.trailing_zeros() as usize)
 }

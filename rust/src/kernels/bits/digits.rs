@@ -13,7 +13,9 @@
 ///
 /// ```text
 /// requires { HasLog2 n }
-/// ensures { (k : ℕ) → n ≡ 2 ^ k → result ≡ rev_word k x }
+/// ensures reversed { (k : ℕ) → n ≡ 2 ^ k → result ≡ rev_word k x }
+/// ensures digits { (k : ℕ) → 1 ≤ k → n ≡ 2 ^ k → result ≡ rev k x }
+/// ensures below { x < n → result < n }
 /// ```
 #[inline]
 pub const fn reverse_bits(x: usize, n: usize) -> usize {
