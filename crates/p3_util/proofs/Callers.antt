@@ -1,28 +1,36 @@
 -- Lemmas for callers, under names that `#[tactic(auto, using(..))]` takes: what a reversal and a transpose say of a place, that
 -- a list has one of each, and that two of them are the list again, also with work on each item in between; reversed digits in
 -- parts; powers of two; a look-up after an insert; sums by even and odd places; a closure that adds up; a part of a list that is
--- written; some items of a list, seen as a list; a region in two parts; a reversal by chunks and squares.
-use Rattle.std.proofs.Common.{◌≡◌, ◌≢◌, ℕ, zero, suc, ◌+◌, ◌*◌, ◌^◌, ◌-◌, ◌/◌, ◌<◌, ◌≤◌, Bool, true, false, not, cond, nat_eq, inl, Some, None, List, [], ◌∷◌, ◌++◌, Bor, length, get_or, map, slice_get, take, drop, set, reverse, sum, refl, sym, ap, ◌∙◌, arith, length-append, length-drop}
+-- written; some items of a list, seen as a list; a region in two parts; a reversal by chunks and squares; an item of rows, a
+-- pair, and a sum that is taken by remainders or by lanes.
+use Rattle.std.proofs.Common.{◌≡◌, ◌≢◌, ℕ, zero, suc, ◌+◌, ◌*◌, ◌^◌, ◌-◌, ◌/◌, ◌%◌, ◌<◌, ◌≤◌, Bool, true, false, not, cond, nat_eq, inl, Some, None, List, [], ◌∷◌, ◌++◌, Bor, length, get_or, map, slice_get, take, drop, set, reverse, sum, refl, sym, ap, ◌∙◌, arith, length-append, length-drop}
 use borrow.Rule.Slice.PartMut.{mid_of, put_mid}
 use Rattle.std.proofs.lemmas.Bool.{ne_eqb}
 use Rattle.std.proofs.lemmas.List.{get_or_default, length-map, length-take-le, map-append}
 use Rattle.std.proofs.lemmas.Map.Entries.{sum_by-set_value}
 use Rattle.std.proofs.lemmas.Map.Steps.{lookup-le-sum}
 use Rattle.std.proofs.lemmas.Option.{slice_get-get_or, slice_get-map}
-use Rattle.std.proofs.lemmas.Nat.{mul-add-lt, pow-add, pow_pos, same_from_place}
-use Rattle.std.proofs.lemmas.List.Sums.{sum_by-append}
+use Rattle.std.proofs.lemmas.Grind.{get_or_default_zero}
+use Rattle.std.proofs.lemmas.Slice.Zip.{get_or-zip, length-zip}
+use Rattle.std.proofs.lemmas.Nat.{div-mul-add, mod-mul-add, mul-add-lt, pow-add, pow_pos, same_from_place}
+use Rattle.std.proofs.lemmas.List.Folds.{sum_by-replicate}
+use Rattle.std.proofs.lemmas.List.Sums.{sum-map, sum_by-append, sum_by-cons}
+use Rattle.std.proofs.Math.Nat.{add-mul-mod_self_right, mod-add-div'}
 use Rattle.std.proofs.Math.Pow.{pow_mono}
 use Rattle.std.specs.Cmp.{IsEquivalence, nat_eq_equiv}
 use Rattle.std.specs.Cmp.Lexicographic.{on_texts_equal, pointwise}
 use Rattle.std.specs.Int.{is_power_of_two}
-use Rattle.std.specs.List.{FoldsTo, position_or_len, swap}
+use Rattle.std.specs.List.{FoldsTo, fold, position_or_len, sum_by, swap, zip}
 use Rattle.std.specs.Map.{keys_of, lookup, set_value, values_of}
+use Rattle.std.specs.Prelude.{replicate}
 use Rattle.std.specs.Option.{UnwrapsOrElse, option_map, unwrap_or}
-use Rattle.p3_util.specs.Flat.{flat}
+use Rattle.p3_util.specs.Flat.{IsFlat, flat}
 use Rattle.p3_util.specs.ItemsAt.{AreOthersSame, IsSameOutside, column_of, items_at}
 use Rattle.p3_util.specs.LinearMap.{put, value_at}
+use Rattle.p3_util.specs.Pieces.{padded, padded_pieces, pieces}
 use Rattle.p3_util.proofs.ItemsAtLemmas.{from_end-set, from_end-swap, items_at-set, items_at-swap, length-items_at, slice_get-items_at, slice_get-reverse}
 use Rattle.p3_util.proofs.MapLemmas.{lookup_put}
+use Rattle.p3_util.proofs.PiecesLemmas.{joined-pieces}
 use Rattle.p3_util_kernels.proofs.Seam.{across}
 use Rattle.p3_util.proofs.TwoLists.{in-back, in-front, put-back, put-front, swap-sym}
 use Rattle.p3_util_kernels.specs.Digits.{rev, sum_below}
@@ -42,6 +50,7 @@ use Rattle.p3_util_kernels.proofs.Lengths.{zero_or_power}
 use Rattle.p3_util_kernels.proofs.LevelsLemmas.{clog-zero, clog_power}
 use Rattle.p3_util_kernels.proofs.LongPath.{IsReversal-composed}
 use Rattle.p3_util_kernels.proofs.Matrix.{IsTranspose-twice, IsTranspose-unique}
+use Rattle.p3_util_kernels.proofs.Pairs.{mul-parts_left, mul-parts_right}
 use Rattle.p3_util_kernels.proofs.PowersLemmas.{power_of_two_test as power_test}
 use Rattle.p3_util_kernels.proofs.RegionLemmas.{IsCut-cols, IsCut-rows, IsRegionTransposed-cut}
 use Rattle.p3_util_kernels.proofs.ReversalLemmas.{IsReversal-places, IsReversal-unique, row_reversed_back, IsRowReversal-unique}
@@ -298,16 +307,7 @@ module _ {A : Type 0} (a k : ℕ) (xs part : List A) (fits : a + k ≤ length xs
 pub part_read : {A : Type 0} (a k j : ℕ) (xs : List A) → j < k → slice_get (mid_of a k xs) j ≡ slice_get xs (a + j)
 part_read a k j xs h = slice_get-take k (drop a xs) j h ∙ slice_get-drop a xs j (a + j) (omega arith)
 
--- The items at places that a function gives, each a place of the list, and no two of them one place.
-pub ruleset items_at_length = (length-items_at)
-
-pub ruleset items_at_place = (slice_get-items_at)
-
-pub ruleset items_at_swapped = (items_at-swap)
-
-pub ruleset items_at_written = (items_at-set)
-
--- all others stay
+-- A list of some items is written or reordered at places that a function gives: all others stay.
 module _ {A : Type 0} (place : ℕ → ℕ) (n : ℕ) where
   pub others_swapped : (xs : List A) (i j : ℕ) → i < n → j < n → AreOthersSame place n xs (swap xs (place i) (place j))
   others_swapped xs i j hi hj p out = slice_get-swap_other xs (place i) (place j) p (out i hi) (out j hj)
@@ -424,3 +424,110 @@ swaps_around c0 c1 c2 c3 a b e f g = omega arith
 pub ruleset log_of_power = (clog_power)
 
 pub ruleset log_of_zero = (clog-zero)
+
+-- the numbers of items of a region's two parts, added up, and over one counter
+pub rows_in_two : (start middle end cols : ℕ) → start ≤ middle → middle ≤ end → (middle - start) * cols + (end - middle) * cols ≡ (end - start) * cols
+rows_in_two start middle end cols from to = mul-parts_left (middle - start) (end - middle) (end - start) cols (omega arith)
+
+pub cols_in_two : (start middle end rows : ℕ) → start ≤ middle → middle ≤ end → rows * (middle - start) + rows * (end - middle) ≡ rows * (end - start)
+cols_in_two start middle end rows from to = mul-parts_right (middle - start) (end - middle) (end - start) rows (omega arith)
+
+pub rows_counted : (start middle end cols c0 c1 c2 : ℕ) → c1 ≡ counted c0 ((middle - start) * cols) → c2 ≡ counted c1 ((end - middle) * cols)
+    → start ≤ middle → middle ≤ end → c2 ≡ counted c0 ((end - start) * cols)
+rows_counted start middle end cols c0 c1 c2 e f from to = let all = rows_in_two start middle end cols from to in omega arith
+
+pub cols_counted : (start middle end rows c0 c1 c2 : ℕ) → c1 ≡ counted c0 (rows * (middle - start)) → c2 ≡ counted c1 (rows * (end - middle))
+    → start ≤ middle → middle ≤ end → c2 ≡ counted c0 (rows * (end - start))
+cols_counted start middle end rows c0 c1 c2 e f from to = let all = cols_in_two start middle end rows from to in omega arith
+
+pub ruleset items_of_rows = (rows_in_two, rows_counted)
+
+pub ruleset items_of_cols = (cols_in_two, cols_counted)
+
+-- item c of row r of rows of n items, in the list of all items
+pub flat_place : {A : Type 0} (n : ℕ) (rows : List (List A)) (items : List A) (r c : ℕ) → IsFlat n rows items → r < length rows → c < n
+    → slice_get items (r * n + c) ≡ slice_get (get_or rows r []) c
+flat_place zero rows items r c at hr hc = absurd (omega arith)
+flat_place (suc m) rows items r c at hr hc =
+    let n = suc m in
+    let inside : r * n + c < length items = omega (arith, mul-add-lt r n c (length rows) hr hc, at.len) in
+    let row : (r * n + c) / n ≡ r = div-mul-add r n c hc in
+    let column : (r * n + c) % n ≡ c = mod-mul-add r n c hc in
+    at.places (r * n + c) inside ∙ rw (row, column) refl
+
+-- place i of the pairs of two lists of numbers
+pub pair_of_places : (xs ys : List ℕ) (i : ℕ) (d : ℕ × ℕ) → i < length xs → i < length ys → get_or (zip xs ys) i d ≡ (get_or xs i 0, get_or ys i 0)
+pair_of_places xs ys i d hx hy =
+    let first : get_or xs i d.0 ≡ get_or xs i 0 = get_or_default_zero xs i d.0 hx in
+    let second : get_or ys i d.1 ≡ get_or ys i 0 = get_or_default_zero ys i d.1 hy in
+    get_or-zip xs ys i d hx hy ∙ cc
+
+pub ruleset zip_place = (pair_of_places, length-zip)
+
+-- A fold that takes a remainder at each step is the remainder of the sum.
+module _ {A : Type 0} (f : A → ℕ) (m : ℕ) where
+  one_remainder : (a b y : ℕ) → b % m ≡ a % m → (b % m + y) % m ≡ (a + y) % m
+  one_remainder a b y e =
+      let whole : a % m + a / m * m ≡ a = mod-add-div' a m in
+      let same : (a % m + y) + a / m * m ≡ a + y = omega arith in
+      let rest : ((a % m + y) + a / m * m) % m ≡ (a % m + y) % m = add-mul-mod_self_right (a % m + y) (a / m) m in
+      rw e (sym rest ∙ ap (λ k. k % m) same)
+
+  remainders : (xs : List A) (a b : ℕ) → b % m ≡ a % m → fold (λ s x. (s + f x) % m) (b % m) xs ≡ fold (λ s x. s + f x) a xs % m
+  remainders [] a b e = e
+  remainders (x ∷ xs) a b e = remainders xs (a + f x) (b % m + f x) (one_remainder a b (f x) e)
+
+  -- the same where the state is reduced first
+  reduced : (xs : List A) (a b : ℕ) → b % m ≡ a % m → fold (λ s x. (s % m + f x) % m) (b % m) xs ≡ fold (λ s x. s + f x) a xs % m
+  reduced [] a b e = e
+  reduced (x ∷ xs) a b e =
+      let left : b % m + 0 ≡ b % m = omega arith in
+      let right : a + 0 ≡ a = omega arith in
+      let again : b % m % m ≡ a % m = rw (left, right) at (one_remainder a b 0 e) in
+      reduced xs (a + f x) (b % m % m + f x) (one_remainder a (b % m) (f x) again)
+
+  pub fold_of_remainders : (xs : List A) → 0 < m → fold (λ s x. (s + f x) % m) 0 xs ≡ sum (map f xs) % m
+  fold_of_remainders xs some =
+      let none : 0 % m ≡ 0 = omega arith in
+      rw sum-map (rw none at (remainders xs 0 0 refl))
+
+  pub fold_of_reduced : (xs : List A) → 0 < m → fold (λ s x. (s % m + f x) % m) 0 xs ≡ sum (map f xs) % m
+  fold_of_reduced xs some =
+      let none : 0 % m ≡ 0 = omega arith in
+      rw sum-map (rw none at (reduced xs 0 0 refl))
+
+-- the same of an inner product, with any number or 2 ^ 64 for the remainder, in a form that a search finds
+module _ (m : ℕ) (pairs : List (ℕ × ℕ)) (some : 0 < m) where
+  pub products_by_remainders : fold (λ s p. (s + p.0 * p.1) % m) 0 pairs ≡ sum (map (λ p. p.0 * p.1) pairs) % m
+  products_by_remainders = fold_of_remainders (λ p. p.0 * p.1) m pairs some
+
+  pub products_by_reduced : fold (λ s p. (s % m + p.0 * p.1) % m) 0 pairs ≡ sum (map (λ p. p.0 * p.1) pairs) % m
+  products_by_reduced = fold_of_reduced (λ p. p.0 * p.1) m pairs some
+
+pub products_in_word : (pairs : List (ℕ × ℕ)) → fold (λ s p. (s + p.0 * p.1) % 2 ^ 64) 0 pairs ≡ sum (map (λ p. p.0 * p.1) pairs) % 2 ^ 64
+products_in_word pairs = products_by_remainders (2 ^ 64) pairs (omega arith)
+
+pub ruleset remainders_summed = (products_by_remainders, products_by_reduced, products_in_word)
+
+-- Lanes that are filled with 0 add up to what the list does.
+lane_sum : (n : ℕ) (xs : List ℕ) → sum (padded n 0 xs) ≡ sum xs
+lane_sum n xs = rw (sum_by-append (λ x. x) xs (replicate (n - length xs) 0), sum_by-replicate (λ x. x) (n - length xs) 0) (omega arith)
+
+lanes_sum : (n : ℕ) (rows : List (List ℕ)) → sum_by sum (map (padded n 0) rows) ≡ sum (flat rows)
+lanes_sum n [] = refl
+lanes_sum n (row ∷ rows) =
+    let here : sum (padded n 0 row) ≡ sum row = lane_sum n row in
+    let rest : sum_by sum (map (padded n 0) rows) ≡ sum (flat rows) = lanes_sum n rows in
+    let cut : sum_by sum (map (padded n 0) (row ∷ rows)) ≡ sum (padded n 0 row) + sum_by sum (map (padded n 0) rows) =
+    sum_by-cons sum (padded n 0 row) (map (padded n 0) rows) in
+    let all : sum (row ++ flat rows) ≡ sum row + sum (flat rows) = sum_by-append (λ x. x) row (flat rows) in
+    omega arith
+
+pub sum_of_lanes : (n : ℕ) (xs : List ℕ) → 0 < n → sum (map sum (padded_pieces n 0 xs)) ≡ sum xs
+sum_of_lanes n xs some = sum-map sum (padded_pieces n 0 xs) ∙ rw (lanes_sum n (pieces n xs), joined-pieces n xs some) refl
+
+pub sum_of_lanes_in_word : (n : ℕ) (xs : List ℕ) → 0 < n → fold (λ s lane. (s + sum lane) % 2 ^ 64) 0 (padded_pieces n 0 xs) ≡ sum xs % 2 ^ 64
+sum_of_lanes_in_word n xs some =
+    fold_of_remainders sum (2 ^ 64) (padded_pieces n 0 xs) (omega arith) ∙ ap (λ k. k % 2 ^ 64) (sum_of_lanes n xs some)
+
+pub ruleset padded_sum = (sum_of_lanes, sum_of_lanes_in_word)
