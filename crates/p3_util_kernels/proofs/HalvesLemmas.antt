@@ -1,11 +1,11 @@
 -- The halves of a region, and how deep their splits nest.
-use Rattle.std.proofs.Common.{◌≡◌, ℕ, ◌+◌, ◌-◌, ◌*◌, ◌/◌, ◌^◌, ◌<◌, ◌≤◌, max, arith}
+use Rattle.std.proofs.Common.{◌≡◌, ℕ, ◌+◌, ◌-◌, ◌*◌, ◌/◌, ◌^◌, ◌<◌, ◌≤◌, arith}
 use Rattle.std.proofs.Math.Nat.{mul_comm}
 use Rattle.std.proofs.lemmas.Bool.Decides.{nat_tests}
 use Rattle.std.proofs.lemmas.Nat.{mul-le}
 use Rattle.p3_util_kernels.specs.declared.transpose.regions.Region.{Region}
 use Rattle.p3_util_kernels.specs.Halves.{AreHalves}
-use Rattle.p3_util_kernels.specs.Levels.{clog, lev, nest}
+use Rattle.p3_util_kernels.specs.Levels.{clog, lev}
 use Rattle.p3_util_kernels.specs.Region.{LiesInMatrix, cols_of, rows_of}
 use Rattle.p3_util_kernels.proofs.LevelsLemmas.{clog-above, clog-half, clog-le, lev_le}
 use Rattle.p3_util_kernels.proofs.RegionLemmas.{IsCut-rows, IsCut-cols}

@@ -1,6 +1,6 @@
 -- The transpose of a list is one list, and the transpose of it is the list again.
 use Rattle.std.proofs.Common.{◌≡◌, ℕ, zero, suc, ◌+◌, ◌*◌, ◌/◌, ◌%◌, ◌<◌, List, length, slice_get, sym, ◌∙◌, arith}
-use Rattle.std.proofs.lemmas.Nat.{div-add-mod', mod_below, row_below_turned}
+use Rattle.std.proofs.lemmas.Nat.{div-add-mod', row_below_turned}
 use Rattle.std.proofs.Math.Nat.{mul_comm}
 use Rattle.p3_util_kernels.specs.Transpose.{IsTranspose}
 use Rattle.p3_util_kernels.proofs.SameList.{same_places}
