@@ -42,3 +42,6 @@ AreHalves-cols whole deep wide order =
     let middle = whole.col_start + cols_of whole / 2 in
     let sides = halves (cols_of whole) (middle - whole.col_start) (whole.col_end - middle) wide (omega arith) (omega arith) in
     grind (arith, nat_tests, sides, IsCut-cols whole middle (omega arith) (omega arith))
+
+-- the two sides that are halved
+pub ruleset halved = (AreHalves-rows, AreHalves-cols)

@@ -118,3 +118,6 @@ three-strict n top x low high found (e, is) =
     let twice : 2 ^ (top + 1) ≡ 2 ^ top * 2 = rw add-one (pow-suc 2 top) in
     let same : x ≡ e = found e (omega arith) (omega arith) in
     is ∙ ap (λ k. 3 ^ k) (sym same)
+
+-- what is greater of two powers has the greater exponent
+pub ruleset exponents = (exponent-lt)

@@ -54,3 +54,6 @@ IsRegionTransposed-cut width height input whole first second old mid new low cut
       t.others p (λ x y k. out x y (inside whole second x y cut.second_inside k))
       ∙ s.others p (λ x y k. out x y (inside whole first x y cut.first_inside k));
 }
+
+-- the two ways to cut a region
+pub ruleset cuts = (IsCut-rows, IsCut-cols)

@@ -5,7 +5,7 @@ use Rattle.std.proofs.Math.Nat.{pow-le-pow_right}
 use Rattle.p3_util_kernels.specs.Digits.{rev, sum_below}
 use Rattle.p3_util_kernels.specs.declared.reverse.pairs.TheConstants.{REVERSED_SIX}
 use Rattle.p3_util_kernels.specs.declared.bits.TheConstants.{POWERS_OF_THREE, EXPONENTS_OF_THREE}
-use Rattle.p3_util_kernels.proofs.PowersLemmas.{three-fits, three-greatest}
+use Rattle.p3_util_kernels.proofs.PowersLemmas.{three-apart, three-fits, three-greatest}
 
 -- each number below n passes the test
 unfoldable pub all_below : (ℕ → Bool) → ℕ → Bool
@@ -66,3 +66,5 @@ digits_moved x =
 pub reversed_byte : (x : ℕ) → x < 256 → rev 8 x ≡ digits_moved x
 unfolding all_below rev sum_below
 reversed_byte x h = sym (eqb-true _ _ (all_below-at (λ x. digits_moved x == rev 8 x) 256 x refl h))
+
+pub ruleset powers = (powers_of_three-at, three-fits, three-apart)

@@ -76,6 +76,7 @@ pub const fn log2_ceil_usize(n: usize) -> usize
 }
 
 /// The greatest `e` with `2^e <= n`, and 0 for 0.
+#[tactic(auto, using(crate::proofs::PowersLemmas::exponents))]
 #[inline]
 #[must_use]
 pub const fn log2_floor_usize(n: usize) -> usize
@@ -163,6 +164,7 @@ pub const fn is_power_of_three(n: usize) -> bool
 }
 
 /// The table of the powers of three: they are all that fit a word, and no two share their highest binary digit.
+#[tactic(auto, using(crate::proofs::Tables::powers))]
 #[inline]
 const fn powers_of_three() -> &'static [usize; 41]
     ensures powers { (e : ℕ) → e < 41 → slice_index result.now e ≡ 3 ^ e }

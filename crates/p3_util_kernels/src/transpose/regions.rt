@@ -98,6 +98,7 @@ impl Region {
     }
 
     /// The rows of the region above row `middle` of the matrix, and those from it on.
+    #[tactic(auto, using(crate::proofs::RegionLemmas::cuts))]
     #[inline(always)]
     pub(crate) fn cut_rows(self, middle: usize) -> (Region, Region)
         requires from { self.row_start ≤ middle }
@@ -111,6 +112,7 @@ impl Region {
     }
 
     /// The columns of the region left of column `middle` of the matrix, and those from it on.
+    #[tactic(auto, using(crate::proofs::RegionLemmas::cuts))]
     #[inline(always)]
     pub(crate) fn cut_cols(self, middle: usize) -> (Region, Region)
         requires from { self.col_start ≤ middle }

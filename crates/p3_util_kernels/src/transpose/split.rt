@@ -137,6 +137,7 @@ fn is_leaf(region: Region) -> bool
 }
 
 /// The halves of `region` at its longer side, or at its rows where both are equal.
+#[tactic(auto, using(crate::proofs::HalvesLemmas::halved))]
 fn halves(region: Region) -> (Region, Region)
     requires rows_in_order { region.row_start ≤ region.row_end }
     requires cols_in_order { region.col_start ≤ region.col_end }

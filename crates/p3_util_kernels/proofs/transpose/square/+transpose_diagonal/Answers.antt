@@ -4,11 +4,7 @@ use Rattle.p3_util_kernels.proofs.Pairs.{pairs-add}
 use Rattle.p3_util_kernels.proofs.transpose.square.+transpose_diagonal.Goals as goal
 
 pub returns-then-size-le1-clause-swapped : goal.returns-then-size-le1-clause-swapped
-returns-then-size-le1-clause-swapped g t c = record {
-  same_length = refl;
-  crossed = λ m a b h. let same : a ≡ b = omega arith in rw same refl;
-  others = λ k out. refl;
-}
+returns-then-size-le1-clause-swapped g t c = grind arith
 
 pub returns-clause-swapped : goal.returns-clause-swapped
 returns-clause-swapped g t c =
