@@ -1,6 +1,5 @@
 -- The loop that fills one chunk: the items that came are in front, and the others are still the filler.
-use Rattle.std.proofs.Common.{◌≡◌, ℕ, ◌+◌, ◌-◌, ◌<◌, ◌≤◌, Bool, true, false, true≢false, List, ◌++◌, Option, Some, None, length, take, drop, set, refl, sym, ap, ◌∙◌, arith, rules}
-use borrow.Author.Tests.{tests}
+use Rattle.std.proofs.Common.{◌≡◌, ℕ, ◌+◌, ◌-◌, ◌<◌, ◌≤◌, Bool, true, false, true≢false, List, ◌++◌, Option, Some, None, length, take, drop, set, refl, sym, ap, ◌∙◌, arith}
 use Rattle.std.proofs.lemmas.Grind.{take-set_at}
 use Rattle.std.proofs.lemmas.List.{length-take-le, length-set, drop-set-lt, drop-drop, drop-replicate, take-append-drop}
 use Rattle.std.proofs.iter.Next.{Yields-more}
@@ -9,7 +8,7 @@ use Rattle.std.specs.Iterator.{Yields, Count, IsFinite, size, MakesProgress, cou
 use Rattle.p3_util.specs.declared.chunks.ArrayChunksPadded.{ArrayChunksPadded}
 use Rattle.p3_util.specs.Pieces.{padded, piece_count}
 use Rattle.p3_util.specs.PaddedPieces.{TakesPiece, padded_source, padded_done, padded_can, padded_left}
-use Rattle.p3_util.proofs.PiecesLemmas.{piece_count-falls, piece_count-none, piece_count-some}
+use Rattle.p3_util.proofs.PiecesLemmas.{eq_zero-false, piece_count-falls, piece_count-none, piece_count-some}
 
 -- calls from s gave the first `len` items of a chunk of n, which led to t; the rest of the chunk is `fill`, and a finite count has fallen by `len` at least
 pub record Fills {S A : Type 0} (can : S → Type 0) (steps : S → Option A → S → Type 0) (left : S → Count) (n : ℕ) (fill : A) (s : S) (chunk : List A) (len : ℕ) (t : S) : Type 0 where
@@ -47,9 +46,6 @@ module _ {S A : Type 0} {can : S → Type 0} {steps : S → Option A → S → T
     pub Fills-short : {u : S} → 0 < len → len < n → steps t None u → (xs : List A) × TakesPiece steps n s xs true u × (chunk ≡ padded n fill xs)
     Fills-short some short step = (take len chunk, (omega (arith, long-front), (omega (arith, long-front), (t, h.came, step))), is-padded)
 
-is_some : (n : ℕ) → 0 < n → (n == 0) ≡ false
-is_some n some = search (rules, tests)
-
 -- a count of items that falls by n at least is a count of pieces that falls, and so is one of which nothing is left
 full-falls : (none a b : Bool) (n : ℕ) (c d : Count) → none ≡ false → a ≡ false → b ≡ false → 0 < n → (IsFinite c → IsFinite d × (size d + n ≤ size c))
     → IsFinite (count_unless none (count_map (piece_count n) (count_unless a c)))
@@ -73,14 +69,14 @@ module _ {S A : Type 0} (can : S → Type 0) (left : S → Count) {n : ℕ} {ste
   pub Fills-full_progress : Fills can steps left n fill (padded_source s) chunk len (padded_source t) → padded_done s ≡ false → padded_done t ≡ false → 0 < n → n ≤ len
       → MakesProgress (padded_can can) (padded_left left) s (Some chunk) t
   Fills-full_progress h before after some full =
-      let fall = full-falls (n == 0) (padded_done s) (padded_done t) n (left (padded_source s)) (left (padded_source t)) (is_some n some) before after some
+      let fall = full-falls (n == 0) (padded_done s) (padded_done t) n (left (padded_source s)) (left (padded_source t)) (eq_zero-false n some) before after some
       (λ finite. let f = h.fewer finite in (f.0, omega (arith, f.1, full))) in
       record { on = λ finite. let f = fall finite in ((λ more _. h.may more), f.0, f.1); keeps = λ more _. h.may more; rests = λ _. tt }
 
   pub Fills-last_progress : {u : S} → Fills can steps left n fill (padded_source s) chunk len u → padded_done s ≡ false → padded_done t ≡ true → 0 < n → 0 < len
       → MakesProgress (padded_can can) (padded_left left) s (Some chunk) t
   Fills-last_progress h before after some items =
-      let fall = last-falls (n == 0) (padded_done s) (padded_done t) n (left (padded_source s)) (left (padded_source t)) (is_some n some) before after some
+      let fall = last-falls (n == 0) (padded_done s) (padded_done t) n (left (padded_source s)) (left (padded_source t)) (eq_zero-false n some) before after some
       (λ finite. let f = h.fewer finite in omega (arith, f.1, items)) in
       let over : 0 < n → padded_done t ≡ false → can (padded_source t) = λ _ e. absurd (true≢false (sym after ∙ e)) in
       record { on = λ finite. let f = fall finite in (over, f.0, f.1); keeps = over; rests = λ _. tt }

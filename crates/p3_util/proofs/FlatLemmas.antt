@@ -3,12 +3,14 @@ use Rattle.std.proofs.Common.{ℕ, zero, suc, ◌≡◌, ◌+◌, ◌-◌, ◌*�
 use Rattle.std.proofs.Math.Nat.{div-lt_iff_lt-mul, mul-le-mul_right}
 use Rattle.std.specs.List.{swap}
 use Rattle.std.proofs.Math.Seq.{take-set-lt}
-use Rattle.std.proofs.lemmas.List.{length-set, set-append_left, set-append_right, set-set, set_comm, take-set, drop-set-add, drop-set-lt, take-append-drop, get_or-take, get_or_default, take_all, get_or-drop, length-take-le}
-use Rattle.std.proofs.lemmas.Option.{get_or_from_slice_get, slice_get-get_or, slice_get_read}
+use Rattle.std.proofs.lemmas.List.{length-set, set-append_left, set-set, take-set, drop-set-add, drop-set-lt, take-append-drop, get_or-take, get_or_default, take_all, get_or-drop, length-take-le}
+use Rattle.std.proofs.lemmas.Option.{slice_get-get_or, slice_get_read}
 use Rattle.std.proofs.lemmas.List.Edits.{swap_is}
 use Rattle.std.proofs.lemmas.List.Concat.{get_or-flat_map}
 use Rattle.std.proofs.lemmas.Bool.{cases_lt, le-ltb}
 use Rattle.p3_util.specs.Flat.{IsFlat, countable_items, flat}
+use Rattle.p3_util.proofs.TwoLists.{swap-sym}
+use Rattle.p3_util_kernels.proofs.Seam.{set-behind}
 
 -- two places in order, whose rows are not, lie in one row
 pub one_row : (r c s d n i j : ℕ) → d < n → i ≡ r * n + c → j ≡ s * n + d → i < j → s ≤ r → r ≡ s
@@ -31,11 +33,6 @@ module _ {A : Type 0} where
   pub starts_at : (rows : List (List A)) (r n : ℕ) (all : List A) → r < length rows → all ≡ flat (take r rows) → length all ≡ length (take r rows) * n → start rows r ≡ r * n
   starts_at rows r n all within is len = ap length (sym is) ∙ len ∙ ap (λ k. k * n) (length-take-le r rows (omega arith))
 
-  set-append-add : (xs ys : List A) (i : ℕ) (w : A) → set (xs ++ ys) (length xs + i) w ≡ xs ++ set ys i w
-  set-append-add xs ys i w =
-      let same : length xs + i - length xs ≡ i = omega arith in
-      set-append_right xs ys (length xs) (length xs + i) w refl (omega arith) ∙ ap (λ k. xs ++ set ys k w) same
-
   -- an item of row r is written
   pub flat-set : (rows : List (List A)) (r c : ℕ) (w : A) → r < length rows → c < length (get_or rows r [])
       → flat (set rows r (set (get_or rows r []) c w)) ≡ set (flat rows) (start rows r + c) w
@@ -43,7 +40,7 @@ module _ {A : Type 0} where
   flat-set (x ∷ xs) zero c w lt inside = rw (zero-add c) (sym (set-append_left x (flat xs) c w inside))
   flat-set (x ∷ xs) (suc r) c w lt inside =
       let at : start (x ∷ xs) (suc r) + c ≡ length x + (start xs r + c) = rw (length-append x (flat (take r xs))) (add_assoc _ _ _) in
-      rw at (ap (λ l. x ++ l) (flat-set xs r c w (omega arith) inside) ∙ sym (set-append-add x (flat xs) (start xs r + c) w))
+      rw at (ap (λ l. x ++ l) (flat-set xs r c w (omega arith) inside) ∙ sym (set-behind x (flat xs) (length x) (start xs r + c) w refl))
 
   -- a row gives way to one of the same length: no row begins elsewhere
   start-set : (rows : List (List A)) (r k : ℕ) (y : List A) → length y ≡ length (get_or rows r []) → start (set rows r y) k ≡ start rows k
@@ -145,19 +142,13 @@ module _ {A : Type 0} where
       ap flat (parts rows front back r s a b is-front is-back lt) ∙ ap (λ l. flat (set (set rows r l) s b)) a-is ∙ ap (λ l. flat (set rows' s l)) b-is ∙
       flat-two rows r c s d v w any lr ic' ls id' (ap (λ l. get_or l d any) y-is) (ap (λ l. get_or l c any) x-is)
 
-  swap-sym : (xs : List A) (i j : ℕ) → i ≢ j → swap xs i j ≡ swap xs j i
-  swap-sym [] i j apart = refl
-  swap-sym (x ∷ xs) i j apart = set_comm (x ∷ xs) i j _ _ apart
-
   -- the same exchange, where the first place is the later one
-  pub later-first : (rows : List (List A)) (new : List A) (r c s d n i j : ℕ) → d < n → s ≤ r → r ≢ s → start rows r ≡ r * n → start rows s ≡ s * n
+  pub later-first : (rows : List (List A)) (new : List A) (r c s d n i j : ℕ) → start rows r ≡ r * n → start rows s ≡ s * n
       → i ≡ r * n + c → j ≡ s * n + d → new ≡ swap (flat rows) (start rows s + d) (start rows r + c) → new ≡ swap (flat rows) i j
-  later-first rows new r c s d n i j within le apart begins-r begins-s at-i at-j is =
-      let later : (s + 1) * n ≤ r * n = mul-le-mul_right n (omega arith) in
-      let apart' : j ≢ i = omega (arith, later) in
+  later-first rows new r c s d n i j begins-r begins-s at-i at-j is =
       let i-is : start rows r + c ≡ i = omega arith in
       let j-is : start rows s + d ≡ j = omega arith in
-      is ∙ ap (λ k. swap (flat rows) k (start rows r + c)) j-is ∙ ap (λ k. swap (flat rows) j k) i-is ∙ swap-sym (flat rows) j i apart'
+      is ∙ ap (λ k. swap (flat rows) k (start rows r + c)) j-is ∙ ap (λ k. swap (flat rows) j k) i-is ∙ swap-sym (flat rows) j i
 
   -- a write to a row and an exchange within it, where row r begins at place r * n
   pub put-at : (rows : List (List A)) (r c n i : ℕ) (y : List A) (v : A) → r < length rows → c < n → length (get_or rows r []) ≡ n → start rows r ≡ r * n
@@ -176,28 +167,6 @@ module _ {A : Type 0} where
       let times : r * n ≡ s * n = ap (λ k. k * n) same in
       let place' : start rows r + d ≡ j = omega arith in
       ap (λ l. flat (set rows r l)) is ∙ flat-swap rows r c d lr ic id ∙ ap (λ k. swap (flat rows) k (start rows r + d)) place ∙ ap (λ k. swap (flat rows) i k) place'
-
-  -- an item, where row r begins at place r * n
-  pub item-at : (rows : List (List A)) (r c n i : ℕ) (y : List A) (d : A) → r < length rows → c < n → length y ≡ n → y ≡ get_or rows r y → start rows r ≡ r * n
-      → i ≡ r * n + c → get_or (flat rows) i d ≡ get_or y c d
-  item-at rows r c n i y d lr lc len row begins at =
-      let same : get_or rows r [] ≡ y = sym (get_or_default rows r y [] lr) ∙ sym row in
-      let inside : c < length (get_or rows r []) = rw same (omega arith) in
-      let place : i ≡ start rows r + c = omega arith in
-      ap (λ k. get_or (flat rows) k d) place ∙ get_or-flat rows r c d lr inside ∙ ap (λ l. get_or l c d) same
-
-  -- item c of row r is item i of all rows, where row r begins at place r * n
-  module _ (rows : List (List A)) (r c n i : ℕ) (y : List A) (x : A) (lr : r < length rows) (lc : c < n) (len : length y ≡ n) (row : y ≡ get_or rows r y)
-      (begins : start rows r ≡ r * n) (at : i ≡ r * n + c) (read : slice_get y c ≡ Some x) where
-    there : get_or rows r [] ≡ y
-    there = sym (get_or_default rows r y [] lr) ∙ sym row
-
-    pub slice_get-flat : slice_get (flat rows) i ≡ Some x
-    slice_get-flat =
-        let inside : c < length (get_or rows r []) = rw there (omega (arith, len)) in
-        let place : start rows r + c ≡ i = omega (arith, begins, at) in
-        let below : i < length (flat rows) = subst (λ (k : ℕ). k < length (flat rows)) place (start-below rows r c lr inside) in
-        slice_get-get_or (flat rows) i x below ∙ ap Some (item-at rows r c n i y x lr lc len row begins at ∙ get_or_from_slice_get y c x x read)
 
   -- a usize cannot count the items
   pub countable-none : (rows : List (List A)) → 2 ^ 64 ≤ length (flat rows) → countable_items rows ≡ []
@@ -231,11 +200,20 @@ module _ {A : Type 0} where
   countable-some rows i lt =
       elim (nat_lt (length (flat rows)) (2 ^ 64)) as (λ b. i < length (cond b (flat rows) []) → cond b (flat rows) [] ≡ flat rows) [ true ↦ λ h. refl | false ↦ λ h. absurd (omega arith) ] lt
 
+  -- item c of row r, where it is item i of all
+  item-of-row : (rows : List (List A)) (r c i : ℕ) → r < length rows → c < length (get_or rows r []) → start rows r + c ≡ i → slice_get (flat rows) i ≡ slice_get (get_or rows r []) c
+  item-of-row rows r c i lr inside place =
+      let row = get_or rows r [] in
+      let any : A = item row c inside in
+      let same : get_or (flat rows) i any ≡ get_or row c any = ap (λ k. get_or (flat rows) k any) (sym place) ∙ get_or-flat rows r c any lr inside in
+      let below : i < length (flat rows) = subst (λ (k : ℕ). k < length (flat rows)) place (start-below rows r c lr inside) in
+      rw (slice_get-get_or (flat rows) i any below) (rw same (sym (slice_get-get_or row c any inside)))
+
   -- an item is read, where row r begins at place r * n
   pub get-at : (rows : List (List A)) (r c n i : ℕ) (x : A) → r < length rows → c < n → length (get_or rows r []) ≡ n → start rows r ≡ r * n → i ≡ r * n + c
       → x ≡ get_or (get_or rows r []) c x → i < length (countable_items rows) → slice_get (countable_items rows) i ≡ Some x
   get-at rows r c n i x lr lc len begins at read inside =
-      rw (countable-some rows i inside) (slice_get-flat rows r c n i (get_or rows r []) x lr lc len (get_or_default rows r [] (get_or rows r []) lr) begins at (slice_get_read (get_or rows r []) n c x (sym len) lc read))
+      rw (countable-some rows i inside) (item-of-row rows r c i lr (omega arith) (omega arith) ∙ slice_get_read (get_or rows r []) n c x (sym len) lc read)
 
   -- rows of n items, place by place
   starts : (n : ℕ) (rows : List (List A)) → ((k : ℕ) → k < length rows → length (get_or rows k []) ≡ n) → (r : ℕ) → r ≤ length rows → start rows r ≡ r * n
@@ -245,13 +223,6 @@ module _ {A : Type 0} where
       let first : length x ≡ n = width 0 (omega arith) in
       let rest : start xs r ≡ r * n = starts n xs (λ k lt. width (suc k) (omega arith)) r (omega arith) in
       rw (length-append x (flat (take r xs))) (omega (arith, first, rest))
-
-  -- item c of row r, where it is item i of all
-  item-of-row : (rows : List (List A)) (r c i : ℕ) (any : A) → r < length rows → c < length (get_or rows r []) → start rows r + c ≡ i → i < length (flat rows)
-      → slice_get (flat rows) i ≡ slice_get (get_or rows r []) c
-  item-of-row rows r c i any lr inside place below =
-      let item : get_or (flat rows) i any ≡ get_or (get_or rows r []) c any = ap (λ k. get_or (flat rows) k any) (sym place) ∙ get_or-flat rows r c any lr inside in
-      rw (slice_get-get_or (flat rows) i any below) (rw item (sym (slice_get-get_or (get_or rows r []) c any inside)))
 
   place-of : (n : ℕ) (rows : List (List A)) → ((k : ℕ) → k < length rows → length (get_or rows k []) ≡ n) → (i : ℕ) → i < length rows * n
       → slice_get (flat rows) i ≡ slice_get (get_or rows (i / n) []) (i % n)
@@ -263,9 +234,7 @@ module _ {A : Type 0} where
       let at : n * r + c ≡ i = omega arith in
       let lr : r < length rows = (div-lt_iff_lt-mul {k = n} {x = i} {y = length rows} (omega arith)).1 lt in
       let inside : c < length (get_or rows r []) = rw (width r lr) (omega arith) in
-      let place : start rows r + c ≡ i = omega (arith, starts n rows width r (omega arith)) in
-      let below : i < length (flat rows) = subst (λ (k : ℕ). k < length (flat rows)) place (start-below rows r c lr inside) in
-      item-of-row rows r c i (item (flat rows) i below) lr inside place below
+      item-of-row rows r c i lr inside (omega (arith, starts n rows width r (omega arith)))
 
   pub IsFlat-width : (n : ℕ) (rows : List (List A)) → ((k : ℕ) → k < length rows → length (get_or rows k []) ≡ n) → IsFlat n rows (flat rows)
   IsFlat-width n rows width =

@@ -1,18 +1,16 @@
 -- What the runs of an iterator over padded pieces give, from what each of its steps gives.
-use Rattle.std.proofs.Common.{◌≡◌, ℕ, zero, suc, ◌+◌, ◌-◌, ◌*◌, ◌/◌, ◌%◌, ◌<◌, ◌≤◌, ◌⊎◌, inl, inr, Bool, true, false, true≢false, List, [], ◌∷◌, ◌++◌, map, Option, Some, None, length, take, drop, refl, sym, ap, subst, ◌∙◌, arith, rules, length-append, length-drop, append_assoc, append-nil}
-use borrow.Author.Tests.{tests}
+use Rattle.std.proofs.Common.{◌≡◌, ℕ, zero, suc, ◌+◌, ◌-◌, ◌*◌, ◌<◌, ◌≤◌, ◌⊎◌, inl, inr, Bool, true, false, true≢false, List, [], ◌∷◌, ◌++◌, map, Option, Some, None, length, refl, sym, ap, subst, ◌∙◌, arith, length-append, append_assoc, append-nil}
 use Rattle.std.specs.Prelude.{replicate, MatchBool, ◌==◌, if◌then◌else◌}
 use Rattle.std.specs.Iterator.{Yields, YieldsThen, DrainsIf}
 use Rattle.std.specs.Iterator.Runs.{Run, SomeRun, EachRunFrom}
 use Rattle.std.specs.List.{flat_map}
 use Rattle.std.proofs.iter.runs.Made.{run, took}
-use Rattle.std.proofs.lemmas.Grind.{flat_map-append}
-use Rattle.std.proofs.lemmas.List.{map-append, length-map, length-take-le, take-append-drop}
-use Rattle.std.proofs.lemmas.Nat.{div-add-mod'}
+use Rattle.std.proofs.lemmas.List.{map-append, length-map}
+use Rattle.std.proofs.lemmas.List.Folds.{flat_map-map}
 use Rattle.p3_util.specs.Pieces.{piece_count, padded, pieces, padded_pieces}
 use Rattle.p3_util.specs.PaddedPieces.{TakesPiece, padded_source, padded_done, padded_fill, padded_steps, IsPaddedRun, EndsForGood}
 use Rattle.p3_util.specs.declared.chunks.ArrayChunksPadded.{ArrayChunksPadded}
-use Rattle.p3_util.proofs.PiecesLemmas.{piece_count-more, piece_count-whole, piece_count-none, pieces-nil, pieces-zero, pieces-more, length-pieces}
+use Rattle.p3_util.proofs.PiecesLemmas.{eq_zero-false, in-pieces, joined-more, joined-whole, piece_count-more, piece_count-whole, piece_count-none, pieces-nil, pieces-zero, pieces-more, length-pieces}
 
 module _ {A : Type 0} where
   abbrev join : List (List A) → List A
@@ -34,44 +32,25 @@ module _ {A : Type 0} where
   padded_pieces-none zero fill xs none = rw (pieces-zero xs) refl
   padded_pieces-none (suc n) fill xs none = absurd (omega arith)
 
-  -- whole pieces joined give the list back
-  joined-whole : (n k : ℕ) (fill : A) (xs : List A) → 0 < n → length xs ≡ k * n → join (padded_pieces n fill xs) ≡ xs
-  joined-whole n zero fill [] some whole = rw (pieces-nil {A = A} n) refl
-  joined-whole n zero fill (x ∷ xs) some whole = absurd (omega arith)
-  joined-whole n (suc k) fill xs some whole =
-      let h : k * n + n ≡ length xs = omega arith in
-      let f : length (take (k * n) xs) ≡ k * n = length-take-le (k * n) xs (omega arith) in
-      let b : length (drop (k * n) xs) ≡ n = omega (arith, length-drop (k * n) xs) in
-      let e : take (k * n) xs ++ drop (k * n) xs ≡ xs = take-append-drop (k * n) xs in
-      let more : padded_pieces n fill xs ≡ padded_pieces n fill (take (k * n) xs) ++ padded n fill (drop (k * n) xs) ∷ [] =
-      subst (λ l. padded_pieces n fill l ≡ padded_pieces n fill (take (k * n) xs) ++ padded n fill (drop (k * n) xs) ∷ []) e
-      (padded_pieces-more n k fill (take (k * n) xs) (drop (k * n) xs) f (omega arith) (omega arith)) in
-      ap join more ∙ flat_map-append (λ piece. piece) (padded_pieces n fill (take (k * n) xs)) (padded n fill (drop (k * n) xs) ∷ [])
-      ∙ rw (joined-whole n k fill (take (k * n) xs) some f, append-nil (padded n fill (drop (k * n) xs)), padded-full n fill (drop (k * n) xs) b) e
-
-  -- and the last piece adds what it is filled with
+  -- the last piece adds what it is filled with
   joined-by : (n k : ℕ) (fill : A) (front back : List A) → 0 < n → length front ≡ k * n → length back < n
-      → join (padded_pieces n fill (front ++ back)) ≡ (front ++ back) ++ replicate (piece_count n (length (front ++ back)) * n - length (front ++ back)) fill
+      → flat_map (padded n fill) (pieces n (front ++ back)) ≡ (front ++ back) ++ replicate (piece_count n (length (front ++ back)) * n - length (front ++ back)) fill
   joined-by n k fill front [] some whole short =
       let none : piece_count n (length front) * n - length front ≡ 0 = rw (whole, piece_count-whole k n some) (omega arith) in
-      rw (append-nil front, none, append-nil front) (joined-whole n k fill front some whole)
+      rw (append-nil front, none, append-nil front) (joined-whole (padded n fill) n (padded-full n fill) k front some whole)
   joined-by n k fill front (y ∷ ys) some whole short =
       let count : piece_count n (length (front ++ y ∷ ys)) ≡ k + 1 = rw (length-append front (y ∷ ys), whole) (piece_count-more k n (length (y ∷ ys)) (omega arith) (omega arith)) in
       let rest : (k + 1) * n - length (front ++ y ∷ ys) ≡ n - length (y ∷ ys) = omega (arith, length-append front (y ∷ ys)) in
       rw (count, rest) (
-      ap join (padded_pieces-more n k fill front (y ∷ ys) whole (omega arith) (omega arith))
-      ∙ flat_map-append (λ piece. piece) (padded_pieces n fill front) (padded n fill (y ∷ ys) ∷ [])
-      ∙ rw (joined-whole n k fill front some whole, append-nil (padded n fill (y ∷ ys))) (sym (append_assoc front (y ∷ ys) (replicate (n - length (y ∷ ys)) fill)))
+      joined-more (padded n fill) n (padded-full n fill) k front (y ∷ ys) whole (omega arith) (omega arith)
+      ∙ sym (append_assoc front (y ∷ ys) (replicate (n - length (y ∷ ys)) fill))
       )
 
   pub joined-padded_pieces : (n : ℕ) (fill : A) (xs : List A) → 0 < n → join (padded_pieces n fill xs) ≡ xs ++ replicate (piece_count n (length xs) * n - length xs) fill
   joined-padded_pieces n fill xs some =
-      let k = length xs / n in
-      let e : k * n + length xs % n ≡ length xs = div-add-mod' (length xs) n in
-      let h : length (take (k * n) xs) ≡ k * n = length-take-le (k * n) xs (omega arith) in
-      let b : length (drop (k * n) xs) < n = omega (arith, length-drop (k * n) xs) in
-      subst (λ l. join (padded_pieces n fill l) ≡ l ++ replicate (piece_count n (length l) * n - length l) fill) (take-append-drop (k * n) xs)
-      (joined-by n k fill (take (k * n) xs) (drop (k * n) xs) some h b)
+      flat_map-map (λ piece. piece) (padded n fill) (pieces n xs)
+      ∙ in-pieces (λ l. flat_map (padded n fill) (pieces n l) ≡ l ++ replicate (piece_count n (length l) * n - length l) fill) n some
+      (λ k front back whole short. joined-by n k fill front back some whole short) xs
 
 zero_or_some : (n : ℕ) → (n ≡ 0) ⊎ (0 < n)
 zero_or_some zero = inl refl
@@ -110,9 +89,6 @@ no-piece-asks true d e X Y some begun h = absurd (true≢false some)
 no-piece-asks false true e X Y some begun h = absurd (true≢false begun)
 no-piece-asks false false e X Y some begun h = h.0
 
-some-is : (n : ℕ) → 0 < n → (n == 0) ≡ false
-some-is n some = search (rules, tests)
-
 true_or_false : (b : Bool) → (b ≡ true) ⊎ (b ≡ false)
 true_or_false true = inl refl
 true_or_false false = inr refl
@@ -124,7 +100,7 @@ module _ {S A : Type 0} {n : ℕ} (steps : S → Option A → S → Type 0) wher
       omega (arith, h.1.1.1.0, l, none)
 
   ended-by : (s t : ArrayChunksPadded S A n) → 0 < n → padded_steps steps s None t → padded_done t ≡ true
-  ended-by s t some h = no-piece-ends (n == 0) (padded_done s) (padded_done t) (t ≡ s) (steps (padded_source s) None (padded_source t)) (some-is n some) (λ e. ap padded_done e) h.1
+  ended-by s t some h = no-piece-ends (n == 0) (padded_done s) (padded_done t) (t ≡ s) (steps (padded_source s) None (padded_source t)) (eq_zero-false n some) (λ e. ap padded_done e) h.1
 
   pub padded-ends : EndsForGood (padded_steps {n = n} steps)
   padded-ends s t u None a b = refl
@@ -215,7 +191,7 @@ module _ {S A : Type 0} {n : ℕ} (steps : S → Option A → S → Type 0) wher
         | inl none ↦ made-none p b.0 none e
         | inr some ↦ made p b.0 some e (drains-behind steps (padded_done t.0) (p.whole ≡ true) (padded_source p.from) (padded_source t.0) b.0 b.2
             (λ on w. let last = t.2 w in
-            (padded_source last.0, no-piece-asks (n == 0) (padded_done t.0) (padded_done last.0) (last.0 ≡ t.0) (steps (padded_source t.0) None (padded_source last.0)) (some-is n some) on last.1.1)))
+            (padded_source last.0, no-piece-asks (n == 0) (padded_done t.0) (padded_done last.0) (last.0 ≡ t.0) (steps (padded_source t.0) None (padded_source last.0)) (eq_zero-false n some) on last.1.1)))
       ]
 
   pub padded-runs : (s : ArrayChunksPadded S A n) → padded_done s ≡ false → EachRunFrom (padded_steps steps) s (λ p. SomeRun steps (padded_source s) (λ q. IsPaddedRun n (padded_fill s) p q))

@@ -1,16 +1,21 @@
 -- What follows from `specs/Pieces.antt`: how many pieces there are, which one is where, and one piece more.
-use Rattle.std.proofs.Common.{◌≡◌, ℕ, zero, suc, get_or, slice_get, ◌+◌, ◌*◌, ◌/◌, ◌%◌, ◌<◌, ◌≤◌, ◌⊎◌, min, List, [], ◌∷◌, ◌++◌, map, length, take, drop, inl, inr, refl, sym, ap, ap₂, ◌∙◌, subst, arith, length-append, length-drop, append-nil}
+use Rattle.std.proofs.Common.{◌≡◌, ℕ, zero, suc, get_or, slice_get, ◌+◌, ◌*◌, ◌/◌, ◌%◌, ◌<◌, ◌≤◌, ◌⊎◌, min, List, [], ◌∷◌, ◌++◌, map, length, take, drop, inl, inr, refl, sym, ap, ap₂, ◌∙◌, subst, arith, rules, false, length-append, length-drop, append-nil}
+use borrow.Author.Tests.{tests}
 use Rattle.std.proofs.Math.Nat.{div-add-mod, le_of_mul-le-mul_left, lt_of_mul-lt-mul_left, mul-le-mul_right}
 use Rattle.std.proofs.Math.Seq.{drop-append_seam}
 use Rattle.std.proofs.lemmas.Grind.{flat_map-append}
-use Rattle.std.proofs.lemmas.List.{take-append-le, drop-append-le, length-take-le, take-append-drop}
+use Rattle.std.proofs.lemmas.List.{take-append-le, drop-append-le, length-take-le, take-append-drop, take_all}
 use Rattle.std.proofs.lemmas.List.FromFn.{get_or-map-range_with_len, map-range_with_len_more, length-map-range_with_len}
 use Rattle.std.proofs.lemmas.Nat.{div-add-mod', div-mul-add, mod-mul-add, mod_below}
 use Rattle.std.specs.Int.{div_ceil}
-use Rattle.std.specs.List.{range_with_len}
+use Rattle.std.specs.Prelude.{◌==◌}
+use Rattle.std.specs.List.{flat_map, range_with_len}
 use Rattle.p3_util.specs.Flat.{IsFlat, flat}
 use Rattle.p3_util.specs.Pieces.{piece_count, piece, pieces}
 use Rattle.p3_util_kernels.proofs.Cuts.{slice_get-drop, slice_get-take}
+
+pub eq_zero-false : (n : ℕ) → 0 < n → (n == 0) ≡ false
+eq_zero-false n some = search (rules, tests)
 
 div_ceil-whole : (k n : ℕ) → 0 < n → div_ceil (k * n) n ≡ k
 div_ceil-whole k n some =
@@ -94,15 +99,9 @@ module _ {A : Type 0} where
       let b : n ≤ length (drop (p * n) xs) = omega (arith, length-drop (p * n) xs) in
       rw (drop-append-le (p * n) xs ys a) (take-append-le n (drop (p * n) xs) ys b)
 
-  pub take-all : (n : ℕ) (xs : List A) → length xs ≤ n → take n xs ≡ xs
-  take-all zero [] h = refl
-  take-all zero (x ∷ xs) h = absurd (omega arith)
-  take-all (suc n) [] h = refl
-  take-all (suc n) (x ∷ xs) h = ap (λ l. x ∷ l) (take-all n xs (omega arith))
-
   -- the piece behind the whole ones
   piece-last : (n k : ℕ) (xs ys : List A) → length xs ≡ k * n → length ys ≤ n → piece n (xs ++ ys) k ≡ ys
-  piece-last n k xs ys whole fits = rw (sym whole, drop-append_seam xs ys) (take-all n ys fits)
+  piece-last n k xs ys whole fits = rw (sym whole, drop-append_seam xs ys) (take_all n ys fits)
 
   -- one piece more, behind k whole ones
   pub pieces-more : (n k : ℕ) (xs ys : List A) → length xs ≡ k * n → 0 < length ys → length ys ≤ n → pieces n (xs ++ ys) ≡ pieces n xs ++ ys ∷ []
@@ -124,33 +123,44 @@ module _ {A : Type 0} where
   unfolding pieces
   length-pieces n xs = length-map-range_with_len (piece n xs) 0 (piece_count n (length xs))
 
-  -- whole pieces joined are the list
-  joined-whole : (n k : ℕ) (xs : List A) → 0 < n → length xs ≡ k * n → flat (pieces n xs) ≡ xs
-  joined-whole n zero [] some whole = rw (pieces-nil n) refl
-  joined-whole n zero (x ∷ xs) some whole = absurd (omega arith)
-  joined-whole n (suc k) xs some whole =
-      let front = take (k * n) xs in
-      let back = drop (k * n) xs in
-      let f : length front ≡ k * n = length-take-le (k * n) xs (omega arith) in
-      let b : length back ≡ n = omega (arith, length-drop (k * n) xs) in
-      let e : front ++ back ≡ xs = take-append-drop (k * n) xs in
-      let more : pieces n xs ≡ pieces n front ++ back ∷ [] = subst (λ l. pieces n l ≡ pieces n front ++ back ∷ []) e (pieces-more n k front back f (omega arith) (omega arith)) in
-      ap flat more ∙ flat_map-append (λ piece. piece) (pieces n front) (back ∷ []) ∙ rw (joined-whole n k front some f, append-nil back) e
+  -- Pieces are joined after f has changed each of them but the whole ones.
+  module _ (f : List A → List A) (n : ℕ) (same : (ys : List A) → length ys ≡ n → f ys ≡ ys) where
+    -- whole pieces are the list
+    pub joined-whole : (k : ℕ) (xs : List A) → 0 < n → length xs ≡ k * n → flat_map f (pieces n xs) ≡ xs
+    joined-whole zero [] some whole = rw (pieces-nil n) refl
+    joined-whole zero (x ∷ xs) some whole = absurd (omega arith)
+    joined-whole (suc k) xs some whole =
+        let front = take (k * n) xs in
+        let back = drop (k * n) xs in
+        let h : k * n + n ≡ length xs = omega arith in
+        let l : length front ≡ k * n = length-take-le (k * n) xs (omega arith) in
+        let b : length back ≡ n = omega (arith, length-drop (k * n) xs) in
+        let e : front ++ back ≡ xs = take-append-drop (k * n) xs in
+        let more : pieces n xs ≡ pieces n front ++ back ∷ [] = subst (λ l. pieces n l ≡ pieces n front ++ back ∷ []) e (pieces-more n k front back l (omega arith) (omega arith)) in
+        ap (λ l. flat_map f l) more ∙ flat_map-append f (pieces n front) (back ∷ []) ∙ rw (joined-whole k front some l, append-nil (f back), same back b) e
 
-  joined-by : (n k : ℕ) (front back : List A) → 0 < n → length front ≡ k * n → length back < n → flat (pieces n (front ++ back)) ≡ front ++ back
-  joined-by n k front [] some whole short = rw (append-nil front) (joined-whole n k front some whole)
-  joined-by n k front (y ∷ ys) some whole short =
-      ap flat (pieces-more n k front (y ∷ ys) whole (omega arith) (omega arith))
-      ∙ flat_map-append (λ piece. piece) (pieces n front) ((y ∷ ys) ∷ []) ∙ rw (joined-whole n k front some whole, append-nil (y ∷ ys)) refl
+    -- and one more is behind them
+    pub joined-more : (k : ℕ) (front back : List A) → length front ≡ k * n → 0 < length back → length back ≤ n → flat_map f (pieces n (front ++ back)) ≡ front ++ f back
+    joined-more k front back whole some fits =
+        ap (λ l. flat_map f l) (pieces-more n k front back whole some fits)
+        ∙ flat_map-append f (pieces n front) (back ∷ []) ∙ rw (joined-whole k front (omega arith) whole, append-nil (f back)) refl
 
-  -- so are all pieces
-  pub joined-pieces : (n : ℕ) (xs : List A) → 0 < n → flat (pieces n xs) ≡ xs
-  joined-pieces n xs some =
+  -- what holds of whole pieces and a shorter rest holds of each list
+  pub in-pieces : (P : List A → Type 0) (n : ℕ) → 0 < n → ((k : ℕ) (front back : List A) → length front ≡ k * n → length back < n → P (front ++ back)) → (xs : List A) → P xs
+  in-pieces P n some each xs =
       let k = length xs / n in
       let e : k * n + length xs % n ≡ length xs = div-add-mod' (length xs) n in
       let h : length (take (k * n) xs) ≡ k * n = length-take-le (k * n) xs (omega arith) in
       let b : length (drop (k * n) xs) < n = omega (arith, length-drop (k * n) xs) in
-      subst (λ l. flat (pieces n l) ≡ l) (take-append-drop (k * n) xs) (joined-by n k (take (k * n) xs) (drop (k * n) xs) some h b)
+      subst P (take-append-drop (k * n) xs) (each k (take (k * n) xs) (drop (k * n) xs) h b)
+
+  joined-by : (n k : ℕ) (front back : List A) → 0 < n → length front ≡ k * n → length back < n → flat (pieces n (front ++ back)) ≡ front ++ back
+  joined-by n k front [] some whole short = rw (append-nil front) (joined-whole (λ l. l) n (λ _ _. refl) k front some whole)
+  joined-by n k front (y ∷ ys) some whole short = joined-more (λ l. l) n (λ _ _. refl) k front (y ∷ ys) whole (omega arith) (omega arith)
+
+  -- all pieces joined are the list
+  pub joined-pieces : (n : ℕ) (xs : List A) → 0 < n → flat (pieces n xs) ≡ xs
+  joined-pieces n xs some = in-pieces (λ l. flat (pieces n l) ≡ l) n some (λ k front back whole short. joined-by n k front back some whole short) xs
 
   -- item i is in piece i / n, at place i mod n
   pub slice_get-pieces : (n i : ℕ) (xs : List A) → 0 < n → i < length xs → slice_get xs i ≡ slice_get (get_or (pieces n xs) (i / n) []) (i % n)

@@ -2,14 +2,14 @@
 use Rattle.std.proofs.Common.{Bor, Option, None, subst, ◌≡◌, ℕ, ◌+◌, ◌*◌, ◌<◌, ◌≤◌, List, [], ◌∷◌, ◌++◌, length, take, set, refl, ◌∙◌, arith, length-append, append_assoc, append-nil}
 use Rattle.std.proofs.lemmas.Fn.{FoldsTo-push}
 use Rattle.std.proofs.lemmas.Grind.{take-set_at}
-use Rattle.std.proofs.lemmas.List.{length-take-le, length-set}
+use Rattle.std.proofs.lemmas.List.{length-take-le, length-set, take_all}
 use Rattle.std.proofs.iter.runs.Made.{run_of_exit}
 use Rattle.std.specs.Fn.{Mut, CalledAt}
 use Rattle.std.specs.Iterator.{Yields}
 use Rattle.std.specs.Iterator.Runs.{WholeRun}
 use Rattle.std.specs.List.{FoldsTo}
 use Rattle.p3_util.specs.Pieces.{pieces, CallsOnPieces}
-use Rattle.p3_util.proofs.PiecesLemmas.{pieces-nil, pieces-more, take-all}
+use Rattle.p3_util.proofs.PiecesLemmas.{pieces-nil, pieces-more}
 
 -- `items` are `count` whole pieces and the first `len` items of `buf`, and R took p to q over those pieces
 pub record FoldsWhole {P A : Type 0} (R : P → List A → P → Type 0) (n : ℕ) (p : P) (items buf : List A) (len : ℕ) (q : P) : Type 0 where
@@ -35,7 +35,7 @@ module _ {P A : Type 0} {R : P → List A → P → Type 0} {n : ℕ} {p : P} wh
   pub FoldsWhole-flush : {items buf : List A} {len : ℕ} {q r : P} → FoldsWhole R n p items buf len q → (x : A) → len + 1 ≡ n → R q (set buf len x) r → FoldsWhole R n p (items ++ x ∷ []) (set buf len x) 0 r
   FoldsWhole-flush {items} {buf} {len} {q} {r} h x full took =
       let room : length (set buf len x) ≡ n = length-set buf len x ∙ h.room in
-      let all : take (len + 1) (set buf len x) ≡ set buf len x = take-all (len + 1) (set buf len x) (omega arith) in
+      let all : take (len + 1) (set buf len x) ≡ set buf len x = take_all (len + 1) (set buf len x) (omega arith) in
       record {
         count = h.count + 1;
         front = h.front ++ set buf len x;

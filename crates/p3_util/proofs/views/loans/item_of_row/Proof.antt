@@ -17,7 +17,7 @@ use base.Fml.{Fml, fsep, feq, Lft, GName, Share, ftrue, flft, fobs, fbor}
 use prog.Capped.{capped_is}
 use prog.Memory.{Memory, capped, size}
 use prog.Routine.{Routine}
-use prog.Wp.{Calls, Loops, WpFn, Tables}
+use prog.Wp.{Calls, Loops, WpFn}
 use types.Logic.{Logic, sem}
 use types.Mut.{open_ref}
 use types.Follow.{takes_part}
@@ -28,8 +28,7 @@ use types.ByLocal.{alloc_all, pass_all, free_all, look_at, get, through, sets, i
 use contract.BorrowLft.{◌⊑◌}
 use contract.Lifetimes.{AllOutlive}
 use contract.Monad.{Fun, fact}
-use contract.Running.{tables, tables_of}
-use sound.WpLaws.{WpFn-mono}
+use contract.Running.{tables}
 use borrow.Table.Elements.{at, at_mul, cut_app, join_app, length-take-le}
 use denote.Builtin.{RefMutOf, usize}
 use denote.Exit.{yes, no}
@@ -44,12 +43,11 @@ use denote.RattleType.{RattleType, owns}
 use denote.Ref.{MutBor, MutRef, mut_vals, mut_Tells}
 use denote.Signature.{plain}
 use denote.Steps.{nothing}
-use denote.Triple.Clauses.{Clauses, Ended, closing}
+use denote.Triple.Clauses.{Clauses, Ended}
 use denote.Triple.Entry.{on_entry}
-use denote.Triple.Spec.{Meets, triple_of}
-use denote.Triple.Table.{entered}
-use denote.Triple.Walked.{Stays, stay_dropped, walk_of, ends_at, walked, Goes-dropped, Goes-spent_ref, walk_Meets}
+use denote.Triple.Walked.{Stays, stay_dropped, walk_of, ends_at, Goes-dropped, Goes-spent_ref}
 use Rattle.std.proofs.lemmas.List.{get_or_default}
+use Rattle.std.proofs.raw_atomic.Walks.{proved}
 use Rattle.p3_util.proofs.Loans.{inst, Item, Row, known}
 use Rattle.p3_util.specs.contracts.views.loans.item_of_row as F
 use Rattle.p3_util.specs.contracts.views.loans.item_of_row.Key.{name as #self}
@@ -183,18 +181,13 @@ module _ (X : RattleType) (n : ℕ) {M : Type 1} {𝓤 : Ura M} (𝓛 : Logic �
           use0 𝓛 (raw (fact 𝓤 (length xs ≡ n))) (known 𝓤 read.1) $
           use0 𝓛 (raw (fact 𝓤 (y.1 ≡ get_or xs i y.1))) (known 𝓤 read.0) $ join ! $ move ! (1 ∷ 0 ∷ []) $ done !)))
 
-    meets : (𝓣 : Tables 𝓤 H) → Meets 𝓛 (ended X n).signature (WpFn 𝓤 H 𝓣.C 𝓣.Λ (function X n)) (closing 𝓛 (ended X n) clauses)
-    meets 𝓣 =
-        walk_Meets 𝓛 (ended X n) (stayed X n) (Goes-spent_ref 𝓛 3 (0 ∷ []) tt (plain (λ _. Row X n)), (Goes-dropped 𝓛 3 (plain (λ _. usize)) yes (λ κs x f. refl), tt)) clauses (WpFn 𝓤 H 𝓣.C 𝓣.Λ (function X n)) (WpFn-mono 𝓤 H 𝓛.laws 𝓣 (function X n))
-        (walked 𝓛 (ended X n) (stayed X n) clauses (WpFn 𝓤 H 𝓣.C 𝓣.Λ (function X n)) (λ κs. (mut_vals, (uint_vals w64, tt))) (λ κs. (mut_Tells (named 0) κs.0 (Row X n), (uint_Tells w64, tt)))
-        (λ κs qs bounds a g are.
-        qed 𝓛 (raw (on_entry 𝓛 (ended X n).signature κs qs a (mut_vals a.0, (vint w64 a.1.0 ∷ [], tt))) ∷ (given (κs.1.0 ⊑ X.lives) (‵ ftrue) ⊛ given (κs.1.1.0 ⊑ []) (‵ ftrue) ⊛ given (size (layout (Row X n)) < 2 ^ 63) (‵ ftrue) ⊛ given (a.1.0 < n) (‵ ftrue)) ∷ []) ∵
-        move ! (1 ∷ []) $ split3 ! $ drop ! $ drop ! $ split ! $ learn ! (λ fits. drop ! $ learn ! (λ within. drop ! $
-        by ! (walk 𝓣.C 𝓣.Λ κs.0 κs.1.0 κs.1.1.0 qs.0 qs.1.0 qs.1.1.0 bounds a.0.ref_ptr.0 a.0.ref_ptr.1 a.0.ghost_name a.0.now a.1.0 within are.1.0.1 fits)))))
-
 pub item_of_row_spec : {M : Type 1} → stated.statement M
-unfolding tables_of
-item_of_row_spec 𝓤 𝓛 𝓜 𝓡 wired X n L fits =
-    let 𝓣 : Tables 𝓤 𝓛.H = tables_of 𝓤 𝓛.H 𝓜 (tables 𝓤 𝓛.H 𝓜 𝓡 𝓡.env) in
-    entered 𝓤 𝓛.H (triple_of 𝓛 (ended X n).signature (F.spec X (number n) 𝓛 𝓜.mem 𝓡.returns)) 𝓣.C 𝓣.Λ (#self (inst X n)) (function X n) (code.unfolded 𝓤 𝓛.H 𝓜 𝓡 wired (X, (number n, tt)))
-    (meets X n 𝓛 𝓜.mem 𝓡.returns 𝓣)
+item_of_row_spec 𝓤 𝓛 𝓜 𝓡 wired X n L small =
+    let 𝓣 = tables 𝓤 𝓛.H 𝓜 𝓡 𝓡.env in let signature = (ended X n).signature in
+    proved 𝓛 (ended X n) (stayed X n) (F.clauses X (number n) 𝓛 𝓜.mem 𝓡.returns) 𝓜 𝓡 (Goes-spent_ref 𝓛 3 (0 ∷ []) tt (plain (λ _. Row X n)), (Goes-dropped 𝓛 3 (plain (λ _. usize)) yes (λ κs x f. refl), tt))
+    (#self (inst X n)) (function X n) (code.unfolded 𝓤 𝓛.H 𝓜 𝓡 wired (X, (number n, tt)))
+    (λ κs. (mut_vals, (uint_vals w64, tt))) (λ κs. (mut_Tells (named 0) κs.0 (Row X n), (uint_Tells w64, tt)))
+    (λ κs qs bounds a g are.
+    qed 𝓛 (raw (on_entry 𝓛 signature κs qs a (mut_vals a.0, (vint w64 a.1.0 ∷ [], tt))) ∷ (given (κs.1.0 ⊑ X.lives) (‵ ftrue) ⊛ given (κs.1.1.0 ⊑ []) (‵ ftrue) ⊛ given (size (layout (Row X n)) < 2 ^ 63) (‵ ftrue) ⊛ given (a.1.0 < n) (‵ ftrue)) ∷ []) ∵
+    move ! (1 ∷ []) $ split3 ! $ drop ! $ drop ! $ split ! $ learn ! (λ fits. drop ! $ learn ! (λ within. drop ! $
+    by ! (walk X n 𝓛 𝓜.mem 𝓡.returns 𝓣.C 𝓣.Λ κs.0 κs.1.0 κs.1.1.0 qs.0 qs.1.0 qs.1.1.0 bounds a.0.ref_ptr.0 a.0.ref_ptr.1 a.0.ghost_name a.0.now a.1.0 within are.1.0.1 fits))))

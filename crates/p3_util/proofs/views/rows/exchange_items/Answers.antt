@@ -6,7 +6,7 @@ pub returns-then-s-r : goal.returns-then-s-r
 returns-then-s-r g c =
     let r = c.place_of-r.ensures in
     let s = c.place_of-s.ensures in
-    later-first _ _ _ _ _ _ _ _ _ s.place (omega arith) (omega arith) r.before s.before r.item s.item c.exchange_in_two_rows-then-s-r.ensures
+    later-first _ _ _ _ _ _ _ _ _ r.before s.before r.item s.item c.exchange_in_two_rows-then-s-r.ensures
 
 pub returns-else-s-r : goal.returns-else-s-r
 returns-else-s-r g c =
