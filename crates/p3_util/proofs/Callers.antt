@@ -3,7 +3,7 @@
 -- parts; powers of two; a look-up after an insert; sums by even and odd places; a closure that adds up; a part of a list that is
 -- written; some items of a list, seen as a list; a region in two parts; a reversal by chunks and squares; an item of rows, a
 -- pair, and a sum that is taken by remainders or by lanes.
-use Rattle.std.proofs.Common.{◌≡◌, ◌≢◌, ℕ, zero, suc, ◌+◌, ◌*◌, ◌^◌, ◌-◌, ◌/◌, ◌%◌, ◌<◌, ◌≤◌, Bool, true, false, not, cond, nat_eq, inl, Some, None, List, [], ◌∷◌, ◌++◌, Bor, length, get_or, map, slice_get, take, drop, set, reverse, sum, refl, sym, ap, ◌∙◌, arith, length-append, length-drop}
+use Rattle.std.proofs.Common.{◌≡◌, ◌≢◌, ℕ, zero, suc, ◌+◌, ◌*◌, ◌^◌, ◌-◌, ◌/◌, ◌%◌, ◌<◌, ◌≤◌, Bool, true, false, not, cond, nat_eq, inl, inr, Some, None, List, [], ◌∷◌, ◌++◌, Bor, length, get_or, map, slice_get, take, drop, set, reverse, sum, refl, sym, ap, ◌∙◌, arith, length-append, length-drop}
 use borrow.Rule.Slice.PartMut.{mid_of, put_mid}
 use Rattle.std.proofs.lemmas.Bool.{ne_eqb}
 use Rattle.std.proofs.lemmas.List.{get_or_default, length-map, length-take-le, map-append}
@@ -44,7 +44,7 @@ use Rattle.p3_util_kernels.specs.SideBySide.{AreTransposed}
 use Rattle.p3_util_kernels.specs.Steps.{counted}
 use Rattle.p3_util_kernels.specs.Transpose.{IsTranspose}
 use Rattle.p3_util_kernels.proofs.Cuts.{slice_get-append_left, slice_get-append_right, slice_get-drop, slice_get-take}
-use Rattle.p3_util_kernels.proofs.DigitsLemmas.{rev-lt, rev-parts, rev-rev-below, rev-shl, rev-suc, rev-zero}
+use Rattle.p3_util_kernels.proofs.DigitsLemmas.{rev-lt, rev-parts, rev-rev-below, rev-shl, rev-suc, rev-zero, sum_below-same}
 use Rattle.p3_util_kernels.proofs.Exchange.{slice_get-set_other, slice_get-swap_other}
 use Rattle.p3_util_kernels.proofs.Lengths.{zero_or_power}
 use Rattle.p3_util_kernels.proofs.LevelsLemmas.{clog-zero, clog_power}
@@ -75,6 +75,12 @@ rev_odd k b =
     let double : 2 * b + 1 ≡ b * 2 ^ 1 + 1 = omega arith in
     let one : rev 1 1 ≡ 1 = rw (rev-suc 0 1, rev-zero 1) refl in
     rw (double, rev-parts k 1 b 1 (omega arith), one) (omega arith)
+
+-- a pair of neighbours lies in the list of twice as many
+pub pair_below : (k i : ℕ) → i < 2 ^ k → 2 * i + 1 < 2 ^ (k + 1)
+pair_below k i h =
+    let double : 2 ^ (k + 1) ≡ 2 ^ k * 2 ^ 1 = pow-add 2 k 1 in
+    omega arith
 
 -- A number that passes std's test has a logarithm. The search knows it; a proof by hand names the lemma.
 pub power_of_two_test : (n : ℕ) → is_power_of_two n ≡ true → HasLog2 n
@@ -192,6 +198,44 @@ sum_below_halves (suc n) f =
     let below = sum_below_halves n f in
     rw even (rw (below, odd) (omega arith))
 
+-- a sum in two parts, by reversed indices, and of a list by its places
+sum_below-add : (m n : ℕ) (f : ℕ → ℕ) → sum_below (m + n) f ≡ sum_below m f + sum_below n (λ j. f (m + j))
+unfolding sum_below
+sum_below-add m zero f =
+    let none : m + 0 ≡ m = omega arith in
+    rw none (omega arith)
+sum_below-add m (suc n) f =
+    let more : m + suc n ≡ suc (m + n) = omega arith in
+    let below = sum_below-add m n f in
+    rw more (omega arith)
+
+sum_below_reversed : (k : ℕ) (f : ℕ → ℕ) → sum_below (2 ^ k) (λ i. f (rev k i)) ≡ sum_below (2 ^ k) f
+sum_below_reversed zero f = sum_below-same (2 ^ 0) (λ i. f (rev 0 i)) f (λ i h. ap f (rev-zero i ∙ omega arith))
+sum_below_reversed (suc k) f =
+    let step : suc k ≡ k + 1 = omega arith in
+    let double : 2 ^ suc k ≡ 2 * 2 ^ k = rw (step, pow-add 2 k 1) (omega arith) in
+    let twice : 2 * 2 ^ k ≡ 2 ^ k + 2 ^ k = omega arith in
+    let even : sum_below (2 ^ k) (λ j. f (rev (suc k) (2 * j))) ≡ sum_below (2 ^ k) f =
+    sum_below-same (2 ^ k) (λ j. f (rev (suc k) (2 * j))) (λ j. f (rev k j)) (λ j h. ap f (rw step (rev_even k j))) ∙ sum_below_reversed k f in
+    let odd : sum_below (2 ^ k) (λ j. f (rev (suc k) (2 * j + 1))) ≡ sum_below (2 ^ k) (λ j. f (2 ^ k + j)) =
+    sum_below-same (2 ^ k) (λ j. f (rev (suc k) (2 * j + 1))) (λ j. f (2 ^ k + rev k j)) (λ j h. ap f (rw step (rev_odd k j)))
+    ∙ sum_below_reversed k (λ r. f (2 ^ k + r)) in
+    ap (λ n. sum_below n (λ i. f (rev (suc k) i))) double ∙ sum_below_halves (2 ^ k) (λ i. f (rev (suc k) i))
+    ∙ omega (arith, even, odd, sum_below-add (2 ^ k) (2 ^ k) f)
+    ∙ ap (λ n. sum_below n f) (sym twice) ∙ ap (λ n. sum_below n f) (sym double)
+
+sum_by_places : (xs : List ℕ) → sum xs ≡ sum_below (length xs) (λ i. get_or xs i 0)
+unfolding sum_below
+sum_by_places [] = refl
+sum_by_places (x ∷ xs) =
+    let next : 1 + length xs ≡ suc (length xs) = omega arith in
+    let rest : sum_below (length xs) (λ j. get_or (x ∷ xs) (1 + j) 0) ≡ sum_below (length xs) (λ i. get_or xs i 0) =
+    sum_below-same (length xs) (λ j. get_or (x ∷ xs) (1 + j) 0) (λ i. get_or xs i 0) (λ j h. let e : 1 + j ≡ suc j = omega arith in rw e refl) in
+    let whole : sum (x ∷ xs) ≡ x + sum xs = sum_by-cons (λ y. y) x xs in
+    let first : sum_below 1 (λ i. get_or (x ∷ xs) i 0) ≡ x = omega arith in
+    omega (arith, sum_below-add 1 (length xs) (λ i. get_or (x ∷ xs) i 0), rest, sum_by_places xs)
+    ∙ ap (λ n. sum_below n (λ i. get_or (x ∷ xs) i 0)) next
+
 module _ {A : Type 0} where
   -- place i of a reversal of 2 ^ k items
   pub reversed_place : (k i : ℕ) (old new : List A) → IsReversal old new → length old ≡ 2 ^ k → i < 2 ^ k → slice_get new i ≡ slice_get old (rev k i)
@@ -207,18 +251,47 @@ module _ {A : Type 0} where
   reversed_item k i before after old new reversal e h at-old at-new =
       at-old ∙ get_or_default old (rev k i) before after (rw e (rev-lt k i)) ∙ sym (at-new ∙ reversed_index k i after old new reversal e h)
 
+  -- an item that is read after the reversal, at a place and at the reverse of one
+  pub reversed_item_at : (k i : ℕ) (item : A) (old new : List A) → IsReversal old new → length old ≡ 2 ^ k → i < 2 ^ k
+      → item ≡ get_or new i item → slice_get old (rev k i) ≡ Some item
+  reversed_item_at k i item old new reversal e h read =
+      sym (reversed_place k i old new reversal e h) ∙ slice_get-get_or new i item (omega (arith, reversal.same_length)) ∙ ap Some (sym read)
+
+  pub reversed_item_from : (k i : ℕ) (item : A) (old new : List A) → IsReversal old new → length old ≡ 2 ^ k → i < 2 ^ k
+      → item ≡ get_or new (rev k i) item → slice_get old i ≡ Some item
+  reversed_item_from k i item old new reversal e h read =
+      ap (slice_get old) (sym (rev-rev-below k i h)) ∙ reversed_item_at k (rev k i) item old new reversal e (rev-lt k i) read
+
   -- the places 2i and 2i + 1, which are those of one half and of the other
   pub reversed_even : (k i : ℕ) (old new : List A) → IsReversal old new → length old ≡ 2 ^ (k + 1) → i < 2 ^ k → slice_get new (2 * i) ≡ slice_get old (rev k i)
   reversed_even k i old new reversal e h =
-      let double : 2 ^ (k + 1) ≡ 2 ^ k * 2 ^ 1 = pow-add 2 k 1 in
-      reversed_place (k + 1) (2 * i) old new reversal e (omega arith) ∙ ap (slice_get old) (rev_even k i)
+      reversed_place (k + 1) (2 * i) old new reversal e (omega (arith, pair_below k i h)) ∙ ap (slice_get old) (rev_even k i)
 
   pub reversed_odd : (k i : ℕ) (old new : List A) → IsReversal old new → length old ≡ 2 ^ (k + 1) → i < 2 ^ k
       → slice_get new (2 * i + 1) ≡ slice_get old (rev k i + 2 ^ k)
   reversed_odd k i old new reversal e h =
-      let double : 2 ^ (k + 1) ≡ 2 ^ k * 2 ^ 1 = pow-add 2 k 1 in
       let halves : rev (k + 1) (2 * i + 1) ≡ rev k i + 2 ^ k = rev_odd k i ∙ omega arith in
-      reversed_place (k + 1) (2 * i + 1) old new reversal e (omega arith) ∙ ap (slice_get old) halves
+      reversed_place (k + 1) (2 * i + 1) old new reversal e (pair_below k i h) ∙ ap (slice_get old) halves
+
+  -- the same as an index reads them
+  pub even_index : (k i : ℕ) (d : A) (old new : List A) → IsReversal old new → length old ≡ 2 ^ (k + 1) → i < 2 ^ k
+      → get_or new (2 * i) d ≡ get_or old (rev k i) d
+  even_index k i d old new reversal e h =
+      reversed_index (k + 1) (2 * i) d old new reversal e (omega (arith, pair_below k i h)) ∙ ap (λ p. get_or old p d) (rev_even k i)
+
+  pub odd_index : (k i : ℕ) (d : A) (old new : List A) → IsReversal old new → length old ≡ 2 ^ (k + 1) → i < 2 ^ k
+      → get_or new (2 * i + 1) d ≡ get_or old (rev k i + 2 ^ k) d
+  odd_index k i d old new reversal e h =
+      let halves : rev (k + 1) (2 * i + 1) ≡ rev k i + 2 ^ k = rev_odd k i ∙ omega arith in
+      reversed_index (k + 1) (2 * i + 1) d old new reversal e (pair_below k i h) ∙ ap (λ p. get_or old p d) halves
+
+  -- the other way round: the old list by the places of the new one
+  pub row_back : (row_width k r j : ℕ) (old new : List A) → IsRowReversal row_width old new → length new ≡ row_width * 2 ^ k → r < 2 ^ k
+      → j < row_width → slice_get old (r * row_width + j) ≡ slice_get new (rev k r * row_width + j)
+  row_back row_width k r j old new reversal = (row_reversed_back row_width old new reversal).places k r j
+
+  pub item_back : (k i : ℕ) (old new : List A) → IsReversal old new → length old ≡ 2 ^ k → i < 2 ^ k → slice_get old i ≡ slice_get new (rev k i)
+  item_back k i old new reversal e = reversed_place k i new old (row_reversed_back 1 old new reversal) (reversal.same_length ∙ e)
 
   -- One reversal, and twice is the same. The condition comes last: a search has it once the lists are found.
   pub reversed_once : (old a b : List A) → IsReversal old a → IsReversal old b → IsReversible (length old) → a ≡ b
@@ -245,12 +318,30 @@ module _ {A : Type 0} where
       → length old ≡ height * width → new ≡ old
   transposed_back width height old mid new second first fits = IsTranspose-twice height width old mid new fits first second
 
-pub ruleset reversed_read = (reversed_index, reversed_item)
+-- the sum of all items, which a reversal leaves as it is
+pub reversed_sum : (old new : List ℕ) → IsReversal old new → IsReversible (length old) → sum new ≡ sum old
+unfolding sum_below
+reversed_sum old new reversal fits =
+    elim (zero_or_power (length old) fits) [
+      | inl none ↦
+          let at-old = ap (λ n. sum_below n (λ i. get_or old i 0)) none in
+          let at-new = ap (λ n. sum_below n (λ i. get_or new i 0)) (reversal.same_length ∙ none) in
+          sum_by_places new ∙ at-new ∙ sym (sum_by_places old ∙ at-old)
+      | inr (k, e) ↦
+          let at-old = ap (λ n. sum_below n (λ i. get_or old i 0)) e in
+          let at-new = ap (λ n. sum_below n (λ i. get_or new i 0)) (reversal.same_length ∙ e) in
+          sum_by_places new ∙ at-new
+          ∙ sum_below-same (2 ^ k) (λ i. get_or new i 0) (λ i. get_or old (rev k i) 0) (λ i h. reversed_index k i 0 old new reversal e h)
+          ∙ sum_below_reversed k (λ i. get_or old i 0) ∙ sym (sum_by_places old ∙ at-old)
+    ]
 
--- the other way round
-pub ruleset reversed_back = (row_reversed_back)
+pub ruleset reversed_read = (reversed_index, reversed_item, reversed_item_at, reversed_item_from)
 
-pub ruleset rows_reversed_back = (row_reversed_back)
+pub ruleset reversed_back = (row_back, item_back)
+
+pub ruleset even_read = (even_index, pair_below)
+
+pub ruleset odd_read = (odd_index, pair_below)
 
 -- a reversal, the same done to each item, and a reversal back
 module _ {A B : Type 0} (f : A → B) where

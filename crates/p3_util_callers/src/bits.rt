@@ -1,13 +1,13 @@
 //! Callers of the logarithms and powers. A test in front of a strict logarithm is enough.
 
-ghost use Rattle.std.specs.Prelude.{◌≡◌, ℕ, ◌^◌, ◌<◌, ◌≤◌, IsTrue, IsFalse, IfSome, MatchOption, None, Some, length, slice_get};
+ghost use Rattle.std.specs.Prelude.{◌≡◌, ℕ, ◌+◌, ◌*◌, ◌^◌, ◌<◌, ◌≤◌, IsTrue, IsFalse, IfSome, MatchOption, None, Some, length, slice_get};
 ghost use Rattle.std.specs.Int.{IsPowerOfTwo, is_power_of_two};
 ghost use Rattle.p3_util.specs.Digits.{rev};
 ghost use Rattle.p3_util.specs.Powers.{IsPowerOfThree};
 
 use p3_util::bits::{
     checked_pow2, is_power_of_three, log2_ceil_usize, log2_strict_usize, log3_strict_usize,
-    reverse_bits_len,
+    reverse_bits, reverse_bits_len,
 };
 
 /// The least power of two that is `len` or more, to which a transform pads. `None` where that is 2^64.
@@ -59,4 +59,47 @@ pub fn item_to_come<T: Copy>(items: &[T], k: usize, i: usize) -> T
     ensures { slice_get items.now (rev k i) ≡ Some result }
 {
     items[reverse_bits_len(i, k)]
+}
+
+/// The place of a list of `2^(k + 1)` items from which a reversal by index bits brings an item to `2i`. The item for `2i + 1`
+/// is `2^k` places further.
+#[tactic(auto, using(p3_util::proofs::Callers::rev_even, p3_util::proofs::Callers::rev_odd))]
+pub fn place_of_pair(i: usize, k: usize) -> usize
+    requires some { 1 ≤ k }
+    requires few { k < 64 }
+    ensures even { result ≡ rev (k + 1) (2 * i) }
+    ensures odd { result + 2 ^ k ≡ rev (k + 1) (2 * i + 1) }
+{
+    reverse_bits_len(i, k)
+}
+
+/// Where a reversal of all items of a matrix of `2^log_height` rows of `2^log_width` items puts item (row, column): the row and
+/// the column in a matrix of `2^log_width` rows, of which each is one of both reversed.
+#[tactic(auto, using(p3_util::proofs::Callers::rev_in_parts))]
+pub fn reversed_row_and_column(
+    row: usize,
+    column: usize,
+    log_height: usize,
+    log_width: usize,
+) -> (usize, usize)
+    requires rows { 1 ≤ log_height }
+    requires columns { 1 ≤ log_width }
+    requires few { log_height + log_width < 64 }
+    requires inside { column < 2 ^ log_width }
+    ensures { rev (log_height + log_width) (row * 2 ^ log_width + column) ≡ result.0 * 2 ^ log_height + result.1 }
+{
+    (
+        reverse_bits_len(column, log_width),
+        reverse_bits_len(row, log_height),
+    )
+}
+
+/// An index into a list of `n` items, two or more, is reversed there and back.
+#[tactic(auto, using(p3_util::proofs::Callers::rev_twice))]
+pub fn index_there_and_back(i: usize, n: usize) -> usize
+    requires power { IsPowerOfTwo n }
+    requires inside { i < n }
+    ensures { (k : ℕ) → 1 ≤ k → n ≡ 2 ^ k → result ≡ i }
+{
+    reverse_bits(reverse_bits(i, n), n)
 }

@@ -14,6 +14,7 @@ pub mod linear_map;
 pub mod places;
 pub mod reverse;
 pub mod rows;
+pub mod tables;
 pub mod transpose;
 pub mod two_lists;
 pub mod views;

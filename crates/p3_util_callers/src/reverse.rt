@@ -8,8 +8,9 @@ ghost use Rattle.p3_util.specs.Reversal.{FitsRows, IsReversal, IsReversible, IsR
 use p3_util::bits::{checked_log_size_sum, reverse_bits_len};
 use p3_util::places::{Places, Swaps};
 use p3_util::reverse::{
-    fits_rows, reverse_chunks_on, reverse_counted, reverse_slice_index_bits,
-    reverse_slice_row_index_bits,
+    fits_rows, reverse_chunks_on, reverse_counted, reverse_index_bits_long, reverse_index_bits_on,
+    reverse_index_bits_short, reverse_row_index_bits_on, reverse_rows_counted,
+    reverse_slice_index_bits, reverse_slice_row_index_bits,
 };
 use std::alloc::{AllocError, Global};
 
@@ -161,4 +162,45 @@ pub fn halves_side_by_side<F>(vals: &mut [F])
         → slice_get vals.new (2 * i + 1) ≡ slice_get vals.old (rev k i + 2 ^ k) }
 {
     reverse_slice_index_bits(vals);
+}
+
+/// Reverses `m` by index bits: what was there is the reversal of what is there, too.
+#[tactic(auto, using(p3_util::proofs::Callers::reversed_back))]
+pub fn reverse_from<S: Places>(m: &mut Swaps<S>)
+    requires { IsReversible (length (S.items m.old.holder)) }
+    ensures { IsReversal (S.items m.new.holder) (S.items m.old.holder) }
+{
+    reverse_index_bits_on(m);
+}
+
+/// The same of rows.
+#[tactic(auto, using(p3_util::proofs::Callers::reversed_back))]
+pub fn reverse_rows_from<S: Places>(m: &mut Swaps<S>, row_width: usize)
+    requires { FitsRows (length (S.items m.old.holder)) row_width }
+    ensures { IsRowReversal row_width (S.items m.new.holder) (S.items m.old.holder) }
+{
+    reverse_row_index_bits_on(m, row_width);
+}
+
+/// Reverses two holders of the same items, one by the short path and one by the long one. They have the same items then.
+#[tactic(auto, using(p3_util::proofs::Callers::reversed_once))]
+pub fn reverse_by_both_paths<S: Places>(one: &mut Swaps<S>, other: &mut Swaps<S>)
+    requires fits { IsReversible (length (S.items one.old.holder)) }
+    requires not_short { 4 ≤ length (S.items other.old.holder) }
+    requires same { S.items one.old.holder ≡ S.items other.old.holder }
+    ensures { S.items one.new.holder ≡ S.items other.new.holder }
+{
+    reverse_index_bits_short(one);
+    reverse_index_bits_long(other);
+}
+
+/// Reverses the rows of a slice and of a holder of the same items. They have the same items then.
+#[tactic(auto, using(p3_util::proofs::Callers::rows_reversed_once))]
+pub fn reverse_rows_of_both<S: Places>(one: &mut [S::Item], other: &mut S, row_width: usize)
+    requires fits { FitsRows (length one.old) row_width }
+    requires same { S.items other.old ≡ one.old }
+    ensures { S.items other.new ≡ one.new }
+{
+    reverse_slice_row_index_bits(one, row_width);
+    reverse_rows_counted(other, row_width);
 }

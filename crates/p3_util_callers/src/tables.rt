@@ -1,0 +1,128 @@
+//! Callers that read a table in the order of reversed index bits, or put one into it. None of them has a proof by hand.
+
+ghost use Rattle.std.specs.Prelude.{◌≡◌, ℕ, ◌+◌, ◌*◌, ◌^◌, ◌<◌, ◌≤◌, IfOk, List, Some, length, map, slice_get, slice_index, sum};
+ghost use Rattle.std.specs.Int.{IsPowerOfTwo};
+ghost use Rattle.std.specs.List.{range_with_len};
+ghost use Rattle.p3_util.specs.Digits.{rev};
+ghost use Rattle.p3_util.specs.Reversal.{IsReversal, IsReversible, IsZeroOrPowerOfTwo};
+
+use p3_util::bits::{reverse_bits, reverse_bits_len};
+use p3_util::reverse::{reverse_slice_index_bits, reverse_slice_row_index_bits};
+use p3_util::transpose::transpose;
+use std::alloc::{AllocError, Global};
+
+/// Puts a table of evaluations into the order of reversed index bits: place `i` has the item of the reversed index then.
+#[tactic(auto, using(p3_util::proofs::Callers::reversed_place))]
+pub fn reorder_evaluations<T>(evals: &mut [T])
+    requires { IsReversible (length evals.old) }
+    ensures { (k i : ℕ) → length evals.old ≡ 2 ^ k → i < 2 ^ k → slice_get evals.new i ≡ slice_get evals.old (rev k i) }
+{
+    reverse_slice_index_bits(evals);
+}
+
+/// Reorders the table, and returns item `i` of it then, which was at the reversed index.
+#[tactic(auto, using(p3_util::proofs::Callers::reversed_read))]
+pub fn evaluation_after<T: Copy>(evals: &mut [T], k: usize, i: usize) -> T
+    requires len { length evals.old ≡ 2 ^ k }
+    requires inside { i < 2 ^ k }
+    ensures { slice_get evals.old (rev k i) ≡ Some result }
+{
+    reverse_slice_index_bits(evals);
+    evals[i]
+}
+
+/// Reorders the table, and returns the item that was at `i`, which is at the reversed index then.
+#[tactic(auto, using(p3_util::proofs::Callers::reversed_read))]
+pub fn evaluation_kept<T: Copy>(evals: &mut [T], k: usize, i: usize) -> T
+    requires some { 1 ≤ k }
+    requires few { k < 64 }
+    requires len { length evals.old ≡ 2 ^ k }
+    requires inside { i < 2 ^ k }
+    ensures { slice_get evals.old i ≡ Some result }
+{
+    reverse_slice_index_bits(evals);
+    evals[reverse_bits_len(i, k)]
+}
+
+/// Item `i` of a table that somebody has reordered: it was at the reversed index.
+#[tactic(auto, using(p3_util::proofs::Callers::reversed_read))]
+pub fn item_of_reordered<T: Copy>(table: &[T], k: usize, i: usize) -> T
+    requires len { length table.now ≡ 2 ^ k }
+    requires inside { i < 2 ^ k }
+    ensures { (evals : List T) → IsReversal evals table.now → slice_get evals (rev k i) ≡ Some result }
+{
+    table[i]
+}
+
+/// The item that was at `i` in a table of two items or more that somebody has reordered, by the length alone.
+#[tactic(auto, using(p3_util::proofs::Callers::reversed_read))]
+pub fn item_before_reorder<T: Copy>(table: &[T], i: usize) -> T
+    requires power { IsPowerOfTwo (length table.now) }
+    requires inside { i < length table.now }
+    ensures { (k : ℕ) (evals : List T) → 1 ≤ k → length table.now ≡ 2 ^ k → IsReversal evals table.now
+        → slice_get evals i ≡ Some result }
+{
+    table[reverse_bits(i, table.len())]
+}
+
+/// The item that a reversal by index bits brings to place `i`, read where it lies, by the length alone.
+pub fn item_by_length<T: Copy>(table: &[T], k: usize, i: usize) -> T
+    requires some { 1 ≤ k }
+    requires len { length table.now ≡ 2 ^ k }
+    requires inside { i < 2 ^ k }
+    ensures { slice_get table.now (rev k i) ≡ Some result }
+{
+    table[reverse_bits(i, table.len())]
+}
+
+/// A reordered copy of a table, which stays as it is.
+pub fn reordered_copy(alloc: Global, evals: &[u32], k: usize) -> Result<Vec<u32>, AllocError>
+    requires some { 1 ≤ k }
+    requires few { k < 64 }
+    requires len { length evals.now ≡ 2 ^ k }
+    ensures { IfOk result (λ copy. copy.items ≡ map (λ i. slice_index evals.now (rev k i)) (range_with_len 0 (2 ^ k))) }
+{
+    (0..evals.len())
+        .map(|i| evals[reverse_bits_len(i, k)])
+        .collect(alloc)
+}
+
+/// The sum of each item of a table times a weight, where the weights go in reversed order.
+pub fn weighted_sum(evals: &[u32], weights: &[u16], k: usize) -> u64
+    requires some { 1 ≤ k }
+    requires few { k < 64 }
+    requires len { length evals.now ≡ 2 ^ k }
+    requires weights { length weights.now ≡ 2 ^ k }
+    requires fits { sum (map (λ i. slice_index evals.now i * slice_index weights.now (rev k i)) (range_with_len 0 (2 ^ k))) < 2 ^ 64 }
+    ensures { result ≡ sum (map (λ i. slice_index evals.now i * slice_index weights.now (rev k i)) (range_with_len 0 (2 ^ k))) }
+{
+    (0..evals.len())
+        .map(|i| u64::from(evals[i]) * u64::from(weights[reverse_bits_len(i, k)]))
+        .sum()
+}
+
+/// Reverses `values` by index bits, and adds up the items at `2i` and `2i + 1` then, as the first pass of a transform does.
+#[tactic(auto, using(p3_util::proofs::Callers::even_read, p3_util::proofs::Callers::odd_read))]
+pub fn sum_of_pair(values: &mut [u32], k: usize, i: usize) -> u64
+    requires len { length values.old ≡ 2 ^ (k + 1) }
+    requires inside { i < 2 ^ k }
+    ensures { result ≡ slice_index values.old (rev k i) + slice_index values.old (rev k i + 2 ^ k) }
+{
+    reverse_slice_index_bits(values);
+    u64::from(values[2 * i]) + u64::from(values[2 * i + 1])
+}
+
+/// Puts the columns of a matrix of `height` rows of `width` items into the order of their reversed index: `scratch` has its
+/// transpose, whose rows are reversed, and then it is transposed back.
+#[tactic(auto, using(p3_util::proofs::Callers::rev_below))]
+pub fn reverse_columns<T: Copy>(matrix: &mut [T], scratch: &mut [T], width: usize, height: usize)
+    requires matrix_fits { length matrix.old ≡ width * height }
+    requires scratch_fits { length scratch.old ≡ width * height }
+    requires power { IsZeroOrPowerOfTwo width }
+    ensures { (k row column : ℕ) → width ≡ 2 ^ k → row < height → column < width
+        → slice_get matrix.new (row * width + column) ≡ slice_get matrix.old (row * width + rev k column) }
+{
+    transpose(matrix, scratch, width, height);
+    reverse_slice_row_index_bits(scratch, height);
+    transpose(scratch, matrix, height, width);
+}
