@@ -101,6 +101,25 @@ pub fn weighted_sum(evals: &[u32], weights: &[u16], k: usize) -> u64
         .sum()
 }
 
+/// The sum of all items.
+pub fn sum_of(items: &[u64]) -> u64
+    requires { sum items.now < 2 ^ 64 }
+    ensures { result ≡ sum items.now }
+{
+    items.iter().sum()
+}
+
+/// Reorders the table, and returns the sum of all its items, which is as it was.
+#[tactic(auto, using(p3_util::proofs::Callers::reversed_sum))]
+pub fn sum_after(evals: &mut [u64]) -> u64
+    requires power { IsReversible (length evals.old) }
+    requires fits { sum evals.old < 2 ^ 64 }
+    ensures { result ≡ sum evals.old }
+{
+    reverse_slice_index_bits(evals);
+    sum_of(evals)
+}
+
 /// Reverses `values` by index bits, and adds up the items at `2i` and `2i + 1` then, as the first pass of a transform does.
 #[tactic(auto, using(p3_util::proofs::Callers::even_read, p3_util::proofs::Callers::odd_read))]
 pub fn sum_of_pair(values: &mut [u32], k: usize, i: usize) -> u64
