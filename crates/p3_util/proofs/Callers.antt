@@ -25,7 +25,7 @@ use Rattle.std.specs.Map.{keys_of, lookup, set_value, values_of}
 use Rattle.std.specs.Prelude.{replicate}
 use Rattle.std.specs.Option.{UnwrapsOrElse, option_map, unwrap_or}
 use Rattle.p3_util.specs.Flat.{IsFlat, flat}
-use Rattle.p3_util.specs.ItemsAt.{AreOthersSame, IsSameOutside, column_of, items_at}
+use Rattle.p3_util.specs.ItemsAt.{AreOthersSame, IsSameOutside, column_of}
 use Rattle.p3_util.specs.LinearMap.{put, value_at}
 use Rattle.p3_util.specs.Pieces.{padded, padded_pieces, pieces}
 use Rattle.p3_util.proofs.ItemsAtLemmas.{from_end-set, from_end-swap, items_at-set, items_at-swap, length-items_at, slice_get-items_at, slice_get-reverse}
@@ -35,7 +35,6 @@ use Rattle.p3_util_kernels.proofs.Seam.{across}
 use Rattle.p3_util.proofs.TwoLists.{in-back, in-front, put-back, put-front, swap-sym}
 use Rattle.p3_util_kernels.specs.Digits.{rev, sum_below}
 use Rattle.p3_util_kernels.specs.declared.transpose.regions.Region.{Region}
-use Rattle.p3_util_kernels.specs.Levels.{clog}
 use Rattle.p3_util_kernels.specs.Powers.{HasLog2}
 use Rattle.p3_util_kernels.specs.Region.{IsRegionTransposed}
 use Rattle.p3_util_kernels.specs.Reversal.{IsReversal, IsReversible, IsRowReversal, IsZeroOrPowerOfTwo}
