@@ -73,24 +73,15 @@ clog-half n h =
 pub clog-le : (m n : ℕ) → m ≤ n → clog m ≤ clog n
 clog-le m n h = clog-least m (clog n) (omega (arith, clog-enough n))
 
-pub nest-deep : (r c : ℕ) → 2 < r → 2 < c → nest r c ≡ lev r c
-nest-deep r c h k = grind (arith, nat_tests)
-
 pub nest_narrow : (r c : ℕ) → min r c ≤ 2 → nest r c ≡ 0
-nest_narrow r c h =
-    grind (arith, nat_tests)
+nest_narrow r c h = grind (arith, nat_tests)
 
 pub nest_le : (r c : ℕ) → nest r c ≤ lev r c
-nest_le r c =
-    grind (arith, nat_tests)
+nest_le r c = grind (arith, nat_tests)
 
 -- a region with both sides at most 128 is not split
 pub nest_small : (r c : ℕ) → max r c ≤ 128 → nest r c ≡ 0
 nest_small r c h = omega (arith, nest_le r c, clog-least r 7 (omega arith), clog-least c 7 (omega arith))
-
--- halving a side above 128: the larger half nests one level less
-pub lev-half : (n k : ℕ) → 128 < n → lev (n - n / 2) k + 1 ≡ lev n k
-lev-half n k h = omega (arith, clog-half n (omega arith), clog-above n 7 h)
 
 -- at most 57 levels for a region whose sides and whose product fit a word
 pub lev_le : (r c : ℕ) → r < 2 ^ 64 → c < 2 ^ 64 → r * c < 2 ^ 64 → lev r c ≤ 57

@@ -70,13 +70,11 @@ line_pairs-whole digits some =
     rw (parts, pow-add) (line_pairs-all digits (omega arith))
 
 pub line_pairs-inside : (digits : ℕ) → line_pairs_of digits * 2 ≤ 2 ^ (digits - digits / 2)
-line_pairs-inside digits =
-    grind (arith, line_pairs-few digits, line_pairs-whole digits)
+line_pairs-inside digits = grind (arith, line_pairs-few digits, line_pairs-whole digits)
 
 -- so the lines of a pair of lines lie below all lines
 pub line-below : (digits line : ℕ) → line % 2 ≡ 0 → line / 2 < line_pairs_of digits → (2 ≤ digits) × (line + 1 < 2 ^ (digits - digits / 2))
-line-below digits line even h =
-    grind (arith, line_pairs-few digits, line_pairs-inside digits)
+line-below digits line even h = grind (arith, line_pairs-few digits, line_pairs-inside digits)
 
 pub line_swaps-all : (digits : ℕ) → line_swaps digits (line_pairs_of digits) ≡ short_swaps digits
 line_swaps-all zero = refl

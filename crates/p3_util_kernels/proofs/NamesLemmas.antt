@@ -11,8 +11,7 @@ use Rattle.p3_util_kernels.specs.Names.{is_mark, in_front, name_pieces, after_co
 
 -- two bytes are `::`, or not
 colons_tell : (b c : ℕ) → (((b == 58 && c == 58) ≡ true) × ((b ≡ 58) × (c ≡ 58))) ⊎ (((b == 58 && c == 58) ≡ false) × ((b ≡ 58) → (c ≡ 58) → ⊥))
-colons_tell b c =
-    grind (arith, nat_tests)
+colons_tell b c = grind (arith, nat_tests)
 
 -- a text without `::`
 after_colons-none : (whole t : List ℕ) → ((i : ℕ) → i ≤ length t → (rest : List ℕ) → drop i t ≢ 58 ∷ 58 ∷ rest) → after_colons whole t ≡ whole
@@ -99,8 +98,7 @@ short_name-marked t i e =
     rw (add-one, name_pieces-first t i less before here) refl
 
 mark_ascii : (b : ℕ) → is_mark b ≡ true → b < 128
-mark_ascii b e =
-    grind (arith, nat_tests, e)
+mark_ascii b e = grind (arith, nat_tests, e)
 
 -- a text may be cut after a mark
 pub cut_after_mark : (t : List ℕ) (i : ℕ) → IsUtf8 t → Some i ≡ position is_mark t → (i < length t) × IsCharBoundary t (i + 1)
