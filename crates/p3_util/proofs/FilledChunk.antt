@@ -51,19 +51,13 @@ full-falls : (none a b : Bool) (n : ℕ) (c d : Count) → none ≡ false → a 
     → IsFinite (count_unless none (count_map (piece_count n) (count_unless a c)))
     → IsFinite (count_unless none (count_map (piece_count n) (count_unless b d)))
     × (size (count_unless none (count_map (piece_count n) (count_unless b d))) < size (count_unless none (count_map (piece_count n) (count_unless a c))))
-full-falls true a b n c d e f g some fall finite = absurd (true≢false e)
-full-falls false true b n c d e f g some fall finite = absurd (true≢false f)
-full-falls false false true n c d e f g some fall finite = absurd (true≢false g)
-full-falls false false false n c d e f g some fall finite = let h = fall finite in (h.0, piece_count-falls n (size d) (size c) some h.1)
+full-falls none a b n c d e f g some fall = rw (e, f, g) (λ finite. let h = fall finite in (h.0, piece_count-falls n (size d) (size c) some h.1))
 
 last-falls : (none a b : Bool) (n : ℕ) (c d : Count) → none ≡ false → a ≡ false → b ≡ true → 0 < n → (IsFinite c → 0 < size c)
     → IsFinite (count_unless none (count_map (piece_count n) (count_unless a c)))
     → IsFinite (count_unless none (count_map (piece_count n) (count_unless b d)))
     × (size (count_unless none (count_map (piece_count n) (count_unless b d))) < size (count_unless none (count_map (piece_count n) (count_unless a c))))
-last-falls true a b n c d e f g some left finite = absurd (true≢false e)
-last-falls false true b n c d e f g some left finite = absurd (true≢false f)
-last-falls false false false n c d e f g some left finite = absurd (true≢false (sym g))
-last-falls false false true n c d e f g some left finite = (tt, rw (piece_count-none n) (piece_count-some n (size c) some (left finite)))
+last-falls none a b n c d e f g some left = rw (e, f, g) (λ finite. (tt, rw (piece_count-none n) (piece_count-some n (size c) some (left finite))))
 
 module _ {S A : Type 0} (can : S → Type 0) (left : S → Count) {n : ℕ} {steps : S → Option A → S → Type 0} {s t : ArrayChunksPadded S A n} {chunk : List A} {len : ℕ} {fill : A} where
   pub Fills-full_progress : Fills can steps left n fill (padded_source s) chunk len (padded_source t) → padded_done s ≡ false → padded_done t ≡ false → 0 < n → n ≤ len

@@ -3,7 +3,7 @@ use Rattle.std.proofs.Common.{◌≡◌, ℕ, zero, suc, get_or, slice_get, ◌+
 use borrow.Author.Tests.{tests}
 use Rattle.std.proofs.Math.Nat.{div-add-mod, le_of_mul-le-mul_left, lt_of_mul-lt-mul_left, mul-le-mul_right}
 use Rattle.std.proofs.Math.Seq.{drop-append_seam}
-use Rattle.std.proofs.lemmas.Grind.{flat_map-append}
+use Rattle.std.proofs.lemmas.Grind.{div_ceil_times, flat_map-append}
 use Rattle.std.proofs.lemmas.List.{take-append-le, drop-append-le, length-take-le, take-append-drop, take_all}
 use Rattle.std.proofs.lemmas.List.FromFn.{get_or-map-range_with_len, map-range_with_len_more, length-map-range_with_len}
 use Rattle.std.proofs.lemmas.Nat.{div-add-mod', div-mul-add, mod-mul-add, mod_below}
@@ -17,60 +17,34 @@ use Rattle.p3_util_kernels.proofs.Cuts.{slice_get-drop, slice_get-take}
 pub eq_zero-false : (n : ℕ) → 0 < n → (n == 0) ≡ false
 eq_zero-false n some = search (rules, tests)
 
-div_ceil-whole : (k n : ℕ) → 0 < n → div_ceil (k * n) n ≡ k
-div_ceil-whole k n some =
-    let q : (k * n + 0) / n ≡ k = div-mul-add k n 0 some in
-    let r : (k * n + 0) % n ≡ 0 = mod-mul-add k n 0 some in
-    let e : k * n + 0 ≡ k * n = omega arith in
-    omega (arith, rw e at q, rw e at r)
+-- only one number of pieces has room for the items and is filled but for its last piece
+one_number : (a k n q : ℕ) → q * n < a + n → a ≤ q * n → k * n < a + n → a ≤ k * n → q ≡ k
+one_number a k n q over room over' room' =
+    let below : q < k + 1 = lt_of_mul-lt-mul_left n (let m : n * q < n * (k + 1) = omega arith in m) in
+    let above : k < q + 1 = lt_of_mul-lt-mul_left n (let m : n * k < n * (q + 1) = omega arith in m) in
+    omega arith
 
-div_ceil-part : (k n m : ℕ) → 0 < m → m < n → div_ceil (k * n + m) n ≡ k + 1
-div_ceil-part k n m some short =
-    let q : (k * n + m) / n ≡ k = div-mul-add k n m short in
-    let r : (k * n + m) % n ≡ m = mod-mul-add k n m short in
-    omega (arith, q, r)
-
--- k pieces and a further one that is not empty
-div_ceil-more : (k n m : ℕ) → 0 < m → (m < n) ⊎ (m ≡ n) → div_ceil (k * n + m) n ≡ k + 1
-div_ceil-more k n m some (inl short) = div_ceil-part k n m some short
-div_ceil-more k n m some (inr full) =
-    let e : k * n + m ≡ (k + 1) * n = omega arith in
-    rw e (div_ceil-whole (k + 1) n (omega arith))
-
-short_or_full : (m n : ℕ) → m ≤ n → (m < n) ⊎ (m ≡ n)
-short_or_full m n fits = grind arith
+div_ceil-is : (a k n : ℕ) → 0 < n → k * n < a + n → a ≤ k * n → div_ceil a n ≡ k
+div_ceil-is a k n some over room = let q = div_ceil_times a n some in one_number a k n (div_ceil a n) q.1 q.0 over room
 
 pub piece_count-more : (k n m : ℕ) → 0 < m → m ≤ n → piece_count n (k * n + m) ≡ k + 1
 piece_count-more k zero m some fits = absurd (omega arith)
-piece_count-more k (suc n) m some fits = div_ceil-more k (suc n) m some (short_or_full m (suc n) fits)
+piece_count-more k (suc n) m some fits = div_ceil-is (k * suc n + m) (k + 1) (suc n) (omega arith) (omega arith) (omega arith)
 
 pub piece_count-whole : (k n : ℕ) → 0 < n → piece_count n (k * n) ≡ k
 piece_count-whole k zero some = absurd (omega arith)
-piece_count-whole k (suc n) some = div_ceil-whole k (suc n) some
-
--- that number of pieces has room for the items, and no smaller one does
-upper_by : (a n q r : ℕ) → n * q + r ≡ a → r < n → a ≤ (q + min 1 r) * n
-upper_by a n q zero e short = let z : q + min 1 0 ≡ q = omega arith in rw z (omega arith)
-upper_by a n q (suc r) e short = let z : q + min 1 (suc r) ≡ q + 1 = omega arith in rw z (omega arith)
-
-least_by : (a n q r k : ℕ) → n * q + r ≡ a → 0 < n → a ≤ k * n → q + min 1 r ≤ k
-least_by a n q zero k e some room = let h : q ≤ k = le_of_mul-le-mul_left (let m : n * q ≤ n * k = omega arith in m) some in omega arith
-least_by a n q (suc r) k e some room = let h : q < k = lt_of_mul-lt-mul_left n (let m : n * q < n * k = omega arith in m) in omega arith
+piece_count-whole k (suc n) some = div_ceil-is (k * suc n) k (suc n) some (omega arith) (omega arith)
 
 pub div_ceil-upper : (a n : ℕ) → 0 < n → a ≤ div_ceil a n * n
-div_ceil-upper a n some = upper_by a n (a / n) (a % n) (div-add-mod a n) (omega arith)
-
-pub div_ceil-least : (a k n : ℕ) → 0 < n → a ≤ k * n → div_ceil a n ≤ k
-div_ceil-least a k n some room = least_by a n (a / n) (a % n) k (div-add-mod a n) some room
+div_ceil-upper a n some = (div_ceil_times a n some).0
 
 -- n items fewer make one piece fewer at least
-div_ceil-falls : (n a b c : ℕ) → 0 < n → a + n ≤ b → b ≤ c * n → div_ceil a n < c
-div_ceil-falls n a b zero some fall upper = absurd (omega arith)
-div_ceil-falls n a b (suc c) some fall upper = let h : div_ceil a n ≤ c = div_ceil-least a c n some (omega arith) in omega (arith, h)
+falls_by : (n q a b c : ℕ) → q * n < a + n → a + n ≤ b → b ≤ c * n → q < c
+falls_by n q a b c over fall upper = lt_of_mul-lt-mul_left n (let m : n * q < n * c = omega arith in m)
 
 pub piece_count-falls : (n a b : ℕ) → 0 < n → a + n ≤ b → piece_count n a < piece_count n b
 piece_count-falls zero a b some fall = absurd (omega arith)
-piece_count-falls (suc k) a b some fall = div_ceil-falls (suc k) a b (div_ceil b (suc k)) some fall (div_ceil-upper b (suc k) some)
+piece_count-falls (suc k) a b some fall = falls_by (suc k) (div_ceil a (suc k)) a b (div_ceil b (suc k)) (div_ceil_times a (suc k) some).1 fall (div_ceil-upper b (suc k) some)
 
 pub piece_count-none : (n : ℕ) → piece_count n 0 ≡ 0
 piece_count-none zero = refl
