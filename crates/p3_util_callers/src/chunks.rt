@@ -1,6 +1,6 @@
 //! Callers of the chunks of iterators.
 
-ghost use Rattle.std.specs.Prelude.{◌≡◌, ℕ, ◌+◌, ◌*◌, ◌%◌, ◌^◌, List, IfOk, fold, slice_index, sum};
+ghost use Rattle.std.specs.Prelude.{◌≡◌, ℕ, ◌+◌, ◌*◌, ◌/◌, ◌%◌, ◌^◌, ◌<◌, List, IfOk, fold, length, slice_index, sum};
 ghost use Rattle.std.specs.Fn.{CalledAt};
 ghost use Rattle.std.specs.List.{FoldsTo};
 ghost use Rattle.p3_util.specs.Flat.{flat};
@@ -56,4 +56,12 @@ pub fn mixed_lanes(alloc: Global, xs: &[u32]) -> Result<u64, AllocError>
             state.wrapping_add(lane[0] as u64 * lane[1] as u64)
         }),
     )
+}
+
+/// How many whole rows of `width` items `xs` has.
+pub fn whole_rows<T>(xs: &[T], width: usize) -> usize
+    requires { 0 < width }
+    ensures { result ≡ length xs.now / width }
+{
+    xs.chunks_exact(width).count()
 }

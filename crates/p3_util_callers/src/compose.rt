@@ -144,6 +144,7 @@ pub fn transpose_twice_on<S: Places>(m: &mut Swaps<S>, log_size: usize)
 
 /// Puts the transpose of a region as that of its upper rows and then that of its lower rows, with the contract of
 /// `transpose_region_on`.
+#[tactic(auto, using(p3_util::proofs::Callers::items_of_rows))]
 pub fn transpose_by_rows<C: Cells>(
     input: &[C::Item],
     out: &mut Writes<C>,
@@ -173,6 +174,7 @@ pub fn transpose_by_rows<C: Cells>(
 }
 
 /// The same as that of its left columns and then that of its right columns.
+#[tactic(auto, using(p3_util::proofs::Callers::items_of_cols))]
 pub fn transpose_by_columns<C: Cells>(
     input: &[C::Item],
     out: &mut Writes<C>,

@@ -1,6 +1,6 @@
 //! Callers of the views over rows of any length, and of written lengths: the kernels, and single items.
 
-ghost use Rattle.std.specs.Prelude.{◌≡◌, ◌+◌, ◌*◌, ◌^◌, ◌<◌, ◌↔◌, IsTrue, IsFalse, Some, length, slice_get, slice_set, swap, vec_len};
+ghost use Rattle.std.specs.Prelude.{◌≡◌, ◌+◌, ◌*◌, ◌^◌, ◌<◌, ◌↔◌, [], IsTrue, IsFalse, Some, length, slice_get, slice_index_or, slice_set, swap, vec_len};
 ghost use Rattle.std.specs.Int.{is_power_of_two};
 ghost use Rattle.p3_util.specs.Flat.{flat};
 ghost use Rattle.p3_util.specs.Reversal.{FitsRows, IsReversal, IsRowReversal, IsZeroOrPowerOfTwo};
@@ -145,6 +145,17 @@ pub fn item_at<T: Copy, const N: usize>(rows: &mut [[T; N]], i: usize) -> T
     ensures { slice_get (flat rows.old) i ≡ Some result }
 {
     as_base_slice_mut(rows)[i]
+}
+
+/// Item `c` of row `r`, read at its place in the list of all items.
+#[tactic(auto, using(p3_util::proofs::Callers::flat_place))]
+pub fn item_of_row<T: Copy, const N: usize>(rows: &[[T; N]], r: usize, c: usize) -> T
+    requires fits { length rows.now * N < 2 ^ 64 }
+    requires row { r < length rows.now }
+    requires column { c < N }
+    ensures { slice_get (slice_index_or rows.now r []) c ≡ Some result }
+{
+    as_base_slice(rows)[r * N + c]
 }
 
 /// Sets item `i` of the rows taken as one list, if there is one: what is written through the loan is in the rows in the

@@ -83,3 +83,17 @@ pub fn wrapping_inner_product(xs: &[u32], ys: &[u32]) -> Option<u64>
         Err(()) => None,
     }
 }
+
+/// The products folded mod `m`, where the lengths are equal. The state is reduced first, since a closure has to be callable in
+/// every state.
+pub fn folded_mod(xs: &[u32], ys: &[u32], m: u32) -> Option<u64>
+    requires { 0 < m }
+    ensures { IfSome result (λ s. s ≡ fold (λ s p. (s % m + p.0 * p.1) % m) 0 (zip xs.now ys.now)) }
+{
+    match zip_eq(xs.iter().copied(), ys.iter().copied(), ()) {
+        Ok(pairs) => Some(pairs.fold(0u64, |s, (x, y)| {
+            (s % m as u64 + x as u64 * y as u64) % m as u64
+        })),
+        Err(()) => None,
+    }
+}
