@@ -1,38 +1,63 @@
 #!/usr/bin/env bash
-# Proves the examples of docs/CALLING.md as a reader pastes them: each block of Rust that has `use` lines is a module of a crate
-# that names p3_util alone. The crates are copied with what their checks left in out/, so that they are proved once.
+# Proves the examples of docs/CALLING.md as a reader pastes them. A block of Rust that has `use` lines is a module of a crate that
+# names p3_util alone. A block of antt says in its first line which file of proofs/ it is, of a crate app: the block of Rust in
+# front of it is the lib.rt of that crate. The crates are copied with what their checks left in out/, so that they are proved once.
 set -euo pipefail
 cd "$(dirname "$0")/.."
 copy=$(mktemp -d)
 trap 'rm -rf "$copy"' EXIT
 
-mkdir -p "$copy/crates/examples/src"
+mkdir -p "$copy/crates/examples/src" "$copy/apps"
 cp -a crates/p3_util crates/p3_util_kernels "$copy/crates/"
 grep -E '^(p3_util|p3_util_kernels):' crates.txt >"$copy/crates.txt"
 echo 'examples: p3_util p3_util_kernels serde_json' >>"$copy/crates.txt"
 
-python3 - docs/CALLING.md "$copy/crates/examples/src" <<'PYTHON'
+python3 - docs/CALLING.md "$copy" <<'PYTHON'
+import os
 import re
 import sys
 
-page, folder = sys.argv[1:]
+page, copy = sys.argv[1:]
 with open(page, encoding="utf-8") as text:
-    blocks = re.findall(r"^```rust\n(.*?)^```", text.read(), re.M | re.S)
-names = []
-for block in blocks:
-    if re.search(r"^use ", block, re.M):
-        name = "page_" + re.search(r"^pub fn (\w+)", block, re.M).group(1)
-        with open(f"{folder}/{name}.rt", "w", encoding="utf-8") as module:
-            module.write(f"//! An example of {page}.\n{block}")
-        names.append(name)
-if not names:
-    raise SystemExit(f"FAILED  there is no example in {page}")
-with open(f"{folder}/lib.rt", "w", encoding="utf-8") as root:
-    root.write(f"//! The examples of {page}.\n#![tactic(auto)]\n\n")
-    root.writelines(f"pub mod {name};\n" for name in names)
-print(f"{len(names)} examples of {page}")
+    blocks = re.findall(r"^```(\w+)\n(.*?)^```", text.read(), re.M | re.S)
+
+
+def write(path, text):
+    os.makedirs(os.path.dirname(path), exist_ok=True)
+    with open(path, "w", encoding="utf-8") as file:
+        file.write(text)
+
+
+names, apps, in_front = [], 0, ""
+for (kind, block), (behind, _) in zip(blocks, blocks[1:] + [("", "")]):
+    if kind == "antt":
+        head = re.match(r"-- proofs/(\S+) of a crate app, where the function is in src/lib\.rt\n", block)
+        if not head or not re.search(r"^(ghost )?use ", in_front, re.M):
+            raise SystemExit(f"FAILED  {page}: a block of antt says no file, or has no block of Rust in front:\n{block}")
+        apps += 1
+        write(f"{copy}/apps/{apps}/src/lib.rt", f"//! An example of {page}.\n#![tactic(auto)]\n\n{in_front}")
+        write(f"{copy}/apps/{apps}/proofs/{head.group(1)}", block)
+    elif kind == "rust" and behind != "antt" and re.search(r"^use ", block, re.M):
+        names.append("page_" + re.search(r"^pub fn (\w+)", block, re.M).group(1))
+        write(f"{copy}/crates/examples/src/{names[-1]}.rt", f"//! An example of {page}.\n{block}")
+    in_front = block if kind == "rust" else ""
+if not names or not apps:
+    raise SystemExit(f"FAILED  there is no example in {page}, or none with a file of proofs/")
+modules = "".join(f"pub mod {name};\n" for name in names)
+write(f"{copy}/crates/examples/src/lib.rt", f"//! The examples of {page}.\n#![tactic(auto)]\n\n{modules}")
+print(f"{len(names)} examples of {page}, and {apps} with a file of proofs/")
 PYTHON
 
-cd "$copy/crates/examples"
-rt check >"$copy/log" 2>&1 || { grep -E '^fn examples|error' "$copy/log" || tail "$copy/log"; exit 1; }
-grep '^logic=' "$copy/log" | tail -n 1
+# Proves the crate in a folder, or prints what is open.
+prove() {
+    (cd "$1" && rt check) >"$copy/log" 2>&1 || { grep -E '^fn |error|^note: `' "$copy/log" || tail "$copy/log"; exit 1; }
+    grep '^logic=' "$copy/log" | tail -n 1
+}
+
+prove "$copy/crates/examples"
+echo 'app: p3_util p3_util_kernels serde_json' >>"$copy/crates.txt"
+for app in "$copy"/apps/*; do
+    rm -rf "$copy/crates/app"
+    cp -r "$app" "$copy/crates/app"
+    prove "$copy/crates/app"
+done
