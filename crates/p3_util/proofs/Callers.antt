@@ -261,6 +261,17 @@ module _ {A : Type 0} where
   reversed_item_from k i item old new reversal e h read =
       ap (slice_get old) (sym (rev-rev-below k i h)) ∙ reversed_item_at k (rev k i) item old new reversal e (rev-lt k i) read
 
+  -- the same where the item is a number, which an index reads with 0 for no place
+  pub reversed_some : (k i : ℕ) (d : A) (old new : List A) → IsReversal old new → length old ≡ 2 ^ k → i < 2 ^ k
+      → slice_get old (rev k i) ≡ Some (get_or new i d)
+  reversed_some k i d old new reversal e h =
+      sym (reversed_place k i old new reversal e h) ∙ slice_get-get_or new i d (omega (arith, reversal.same_length))
+
+  pub reversed_some_from : (k i : ℕ) (d : A) (old new : List A) → IsReversal old new → length old ≡ 2 ^ k → i < 2 ^ k
+      → slice_get old i ≡ Some (get_or new (rev k i) d)
+  reversed_some_from k i d old new reversal e h =
+      ap (slice_get old) (sym (rev-rev-below k i h)) ∙ reversed_some k (rev k i) d old new reversal e (rev-lt k i)
+
   -- the places 2i and 2i + 1, which are those of one half and of the other
   pub reversed_even : (k i : ℕ) (old new : List A) → IsReversal old new → length old ≡ 2 ^ (k + 1) → i < 2 ^ k → slice_get new (2 * i) ≡ slice_get old (rev k i)
   reversed_even k i old new reversal e h =
@@ -334,7 +345,7 @@ reversed_sum old new reversal fits =
           ∙ sum_below_reversed k (λ i. get_or old i 0) ∙ sym (sum_by_places old ∙ at-old)
     ]
 
-pub ruleset reversed_read = (reversed_index, reversed_item, reversed_item_at, reversed_item_from)
+pub ruleset reversed_read = (reversed_index, reversed_item, reversed_item_at, reversed_item_from, reversed_some, reversed_some_from)
 
 pub ruleset reversed_back = (row_back, item_back)
 

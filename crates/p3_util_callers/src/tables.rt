@@ -44,6 +44,17 @@ pub fn evaluation_kept<T: Copy>(evals: &mut [T], k: usize, i: usize) -> T
     evals[reverse_bits_len(i, k)]
 }
 
+/// The same of a table of numbers.
+#[tactic(auto, using(p3_util::proofs::Callers::reversed_read))]
+pub fn number_after(evals: &mut [u64], k: usize, i: usize) -> u64
+    requires len { length evals.old ≡ 2 ^ k }
+    requires inside { i < 2 ^ k }
+    ensures { slice_get evals.old (rev k i) ≡ Some result }
+{
+    reverse_slice_index_bits(evals);
+    evals[i]
+}
+
 /// Item `i` of a table that somebody has reordered: it was at the reversed index.
 #[tactic(auto, using(p3_util::proofs::Callers::reversed_read))]
 pub fn item_of_reordered<T: Copy>(table: &[T], k: usize, i: usize) -> T
