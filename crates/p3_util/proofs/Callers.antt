@@ -10,8 +10,6 @@ use Rattle.std.proofs.lemmas.List.{get_or_default, length-map, length-take-le, m
 use Rattle.std.proofs.lemmas.Map.Entries.{sum_by-set_value}
 use Rattle.std.proofs.lemmas.Map.Steps.{lookup-le-sum}
 use Rattle.std.proofs.lemmas.Option.{slice_get-get_or, slice_get-map}
-use Rattle.std.proofs.lemmas.Grind.{get_or_default_zero}
-use Rattle.std.proofs.lemmas.Slice.Zip.{get_or-zip, length-zip}
 use Rattle.std.proofs.lemmas.Nat.{div-mul-add, mod-mul-add, mul-add-lt, pow-add, pow_pos, same_from_place}
 use Rattle.std.proofs.lemmas.List.Folds.{sum_by-replicate}
 use Rattle.std.proofs.lemmas.List.Sums.{sum-map, sum_by-append, sum_by-cons}
@@ -556,14 +554,13 @@ flat_place (suc m) rows items r c at hr hc =
     let column : (r * n + c) % n ≡ c = mod-mul-add r n c hc in
     at.places (r * n + c) inside ∙ rw (row, column) refl
 
--- place i of the pairs of two lists of numbers
-pub pair_of_places : (xs ys : List ℕ) (i : ℕ) (d : ℕ × ℕ) → i < length xs → i < length ys → get_or (zip xs ys) i d ≡ (get_or xs i 0, get_or ys i 0)
-pair_of_places xs ys i d hx hy =
-    let first : get_or xs i d.0 ≡ get_or xs i 0 = get_or_default_zero xs i d.0 hx in
-    let second : get_or ys i d.1 ≡ get_or ys i 0 = get_or_default_zero ys i d.1 hy in
-    get_or-zip xs ys i d hx hy ∙ cc
-
-pub ruleset zip_place = (pair_of_places, length-zip)
+-- place i of the pairs of two lists
+pub zip_place : {A B : Type 0} (xs : List A) (ys : List B) (i : ℕ) (x : A) (y : B) → slice_get xs i ≡ Some x → slice_get ys i ≡ Some y
+    → slice_get (zip xs ys) i ≡ Some (x, y)
+zip_place [] ys i x y hx hy = search hx
+zip_place (x' ∷ xs) [] i x y hx hy = search hy
+zip_place (x' ∷ xs) (y' ∷ ys) zero x y hx hy = cc
+zip_place (x' ∷ xs) (y' ∷ ys) (suc i) x y hx hy = zip_place xs ys i x y hx hy
 
 -- A fold that takes a remainder at each step is the remainder of the sum.
 module _ {A : Type 0} (f : A → ℕ) (m : ℕ) where
@@ -587,28 +584,15 @@ module _ {A : Type 0} (f : A → ℕ) (m : ℕ) where
       let again : b % m % m ≡ a % m = rw (left, right) at (one_remainder a b 0 e) in
       reduced xs (a + f x) (b % m % m + f x) (one_remainder a (b % m) (f x) again)
 
-  pub fold_of_remainders : (xs : List A) → 0 < m → fold (λ s x. (s + f x) % m) 0 xs ≡ sum (map f xs) % m
-  fold_of_remainders xs some =
+  pub remainders_summed : (xs : List A) → 0 < m → fold (λ s x. (s + f x) % m) 0 xs ≡ sum (map f xs) % m
+  remainders_summed xs some =
       let none : 0 % m ≡ 0 = omega arith in
       rw sum-map (rw none at (remainders xs 0 0 refl))
 
-  pub fold_of_reduced : (xs : List A) → 0 < m → fold (λ s x. (s % m + f x) % m) 0 xs ≡ sum (map f xs) % m
-  fold_of_reduced xs some =
+  pub reduced_summed : (xs : List A) → 0 < m → fold (λ s x. (s % m + f x) % m) 0 xs ≡ sum (map f xs) % m
+  reduced_summed xs some =
       let none : 0 % m ≡ 0 = omega arith in
       rw sum-map (rw none at (reduced xs 0 0 refl))
-
--- the same of an inner product, with any number or 2 ^ 64 for the remainder, in a form that a search finds
-module _ (m : ℕ) (pairs : List (ℕ × ℕ)) (some : 0 < m) where
-  pub products_by_remainders : fold (λ s p. (s + p.0 * p.1) % m) 0 pairs ≡ sum (map (λ p. p.0 * p.1) pairs) % m
-  products_by_remainders = fold_of_remainders (λ p. p.0 * p.1) m pairs some
-
-  pub products_by_reduced : fold (λ s p. (s % m + p.0 * p.1) % m) 0 pairs ≡ sum (map (λ p. p.0 * p.1) pairs) % m
-  products_by_reduced = fold_of_reduced (λ p. p.0 * p.1) m pairs some
-
-pub products_in_word : (pairs : List (ℕ × ℕ)) → fold (λ s p. (s + p.0 * p.1) % 2 ^ 64) 0 pairs ≡ sum (map (λ p. p.0 * p.1) pairs) % 2 ^ 64
-products_in_word pairs = products_by_remainders (2 ^ 64) pairs (omega arith)
-
-pub ruleset remainders_summed = (products_by_remainders, products_by_reduced, products_in_word)
 
 -- Lanes that are filled with 0 add up to what the list does.
 lane_sum : (n : ℕ) (xs : List ℕ) → sum (padded n 0 xs) ≡ sum xs
@@ -624,11 +608,5 @@ lanes_sum n (row ∷ rows) =
     let all : sum (row ++ flat rows) ≡ sum row + sum (flat rows) = sum_by-append (λ x. x) row (flat rows) in
     omega arith
 
-pub sum_of_lanes : (n : ℕ) (xs : List ℕ) → 0 < n → sum (map sum (padded_pieces n 0 xs)) ≡ sum xs
-sum_of_lanes n xs some = sum-map sum (padded_pieces n 0 xs) ∙ rw (lanes_sum n (pieces n xs), joined-pieces n xs some) refl
-
-pub sum_of_lanes_in_word : (n : ℕ) (xs : List ℕ) → 0 < n → fold (λ s lane. (s + sum lane) % 2 ^ 64) 0 (padded_pieces n 0 xs) ≡ sum xs % 2 ^ 64
-sum_of_lanes_in_word n xs some =
-    fold_of_remainders sum (2 ^ 64) (padded_pieces n 0 xs) (omega arith) ∙ ap (λ k. k % 2 ^ 64) (sum_of_lanes n xs some)
-
-pub ruleset padded_sum = (sum_of_lanes, sum_of_lanes_in_word)
+pub padded_sum : (n : ℕ) (xs : List ℕ) → 0 < n → sum (map sum (padded_pieces n 0 xs)) ≡ sum xs
+padded_sum n xs some = sum-map sum (padded_pieces n 0 xs) ∙ rw (lanes_sum n (pieces n xs), joined-pieces n xs some) refl

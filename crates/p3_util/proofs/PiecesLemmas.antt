@@ -1,7 +1,7 @@
 -- What follows from `specs/Pieces.antt`: how many pieces there are, which one is where, and one piece more.
 use Rattle.std.proofs.Common.{◌≡◌, ℕ, zero, suc, get_or, slice_get, ◌+◌, ◌*◌, ◌/◌, ◌%◌, ◌<◌, ◌≤◌, List, [], ◌∷◌, ◌++◌, map, length, take, drop, refl, sym, ap, ap₂, ◌∙◌, subst, arith, rules, false, length-append, length-drop, append-nil}
 use borrow.Author.Tests.{tests}
-use Rattle.std.proofs.Math.Nat.{div-add-mod, lt_of_mul-lt-mul_left, mul-le-mul_right}
+use Rattle.std.proofs.Math.Nat.{lt_of_mul-lt-mul_left, mul-le-mul_right}
 use Rattle.std.proofs.Math.Seq.{drop-append_seam}
 use Rattle.std.proofs.lemmas.Grind.{div_ceil_times, flat_map-append}
 use Rattle.std.proofs.lemmas.List.{take-append-le, drop-append-le, length-take-le, take-append-drop, take_all}

@@ -1,6 +1,6 @@
 //! Callers of the chunks of iterators.
 
-ghost use Rattle.std.specs.Prelude.{◌≡◌, ℕ, ◌+◌, ◌*◌, ◌/◌, ◌%◌, ◌^◌, ◌<◌, List, IfOk, fold, length, slice_index, sum};
+ghost use Rattle.std.specs.Prelude.{◌≡◌, ℕ, ◌+◌, ◌*◌, ◌/◌, ◌%◌, ◌^◌, ◌<◌, List, IfOk, fold, length, map, slice_index, sum};
 ghost use Rattle.std.specs.Fn.{CalledAt};
 ghost use Rattle.std.specs.List.{FoldsTo};
 ghost use Rattle.p3_util.specs.Flat.{flat};
@@ -64,4 +64,33 @@ pub fn whole_rows<T>(xs: &[T], width: usize) -> usize
     ensures { result ≡ length xs.now / width }
 {
     xs.chunks_exact(width).count()
+}
+
+/// What a lane adds up to.
+pub fn sum_of_lane(lane: &[u32; 4]) -> u64
+    ensures { result ≡ sum lane.now }
+{
+    lane[0] as u64 + lane[1] as u64 + lane[2] as u64 + lane[3] as u64
+}
+
+/// What all lanes add up to, where that fits.
+pub fn sum_of_lanes(lanes: &[[u32; 4]]) -> u64
+    requires { sum (map sum lanes.now) < 2 ^ 64 }
+    ensures { result ≡ sum (map sum lanes.now) }
+{
+    lanes.iter().map(|lane| sum_of_lane(lane)).sum()
+}
+
+/// The sum of `xs`, which fits, taken by lanes of 4, of which the last is filled with 0.
+///
+/// # Errors
+///
+/// `AllocError` where there is no memory for the lanes.
+#[tactic(auto, using(p3_util::proofs::Callers::padded_sum))]
+pub fn sum_by_lanes(alloc: Global, xs: &[u32]) -> Result<u64, AllocError>
+    requires { sum xs.now < 2 ^ 64 }
+    ensures { IfOk result (λ s. s ≡ sum xs.now) }
+{
+    let lanes = lanes(alloc, xs, 0)?;
+    Ok(sum_of_lanes(&lanes))
 }

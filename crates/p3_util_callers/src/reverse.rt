@@ -46,23 +46,23 @@ pub fn reversed_literal() -> [u32; 4]
     items
 }
 
-/// Reverses the order of the `2^log_chunks` chunks of `2^log_size` items where `m` is as long as these. `false`, and nothing
-/// done, elsewhere.
+/// Reverses the order of the `2^lb_num_chunks` chunks of `2^lb_chunk_size` items where `m` is as long as these. `false`, and
+/// nothing done, elsewhere.
 pub fn reverse_chunks_where_they_fit<S: Places>(
     m: &mut Swaps<S>,
-    log_chunks: usize,
-    log_size: usize,
+    lb_num_chunks: usize,
+    lb_chunk_size: usize,
 ) -> bool
     ensures done { IsTrue result
-        → IsRowReversal (2 ^ log_size) (S.items m.old.holder) (S.items m.new.holder) }
+        → IsRowReversal (2 ^ lb_chunk_size) (S.items m.old.holder) (S.items m.new.holder) }
     ensures left { IsFalse result → m.new ≡ m.old }
-    ensures fits { let log_len = log_chunks + log_size in
-        IsTrue result ↔ ((log_len < 64) × (length (S.items m.old.holder) ≡ 2 ^ log_len)) }
+    ensures fits { let lb_len = lb_num_chunks + lb_chunk_size in
+        IsTrue result ↔ ((lb_len < 64) × (length (S.items m.old.holder) ≡ 2 ^ lb_len)) }
 {
     let len = m.len();
-    match checked_log_size_sum(log_chunks, log_size) {
+    match checked_log_size_sum(lb_num_chunks, lb_chunk_size) {
         Some((_, size)) if size == len => {
-            reverse_chunks_on(m, log_chunks, log_size);
+            reverse_chunks_on(m, lb_num_chunks, lb_chunk_size);
             true
         }
         _ => false,

@@ -1,6 +1,6 @@
 //! Callers of the zip of equal lengths, which collect the pairs or go over them.
 
-ghost use Rattle.std.specs.Prelude.{◌≡◌, ◌≢◌, ◌+◌, ◌*◌, ◌%◌, ◌^◌, ◌<◌, ◌↔◌, IfOk, IfSome, fold, length, map, sum, zip};
+ghost use Rattle.std.specs.Prelude.{◌≡◌, ◌≢◌, ℕ, ◌+◌, ◌*◌, ◌%◌, ◌^◌, ◌<◌, ◌↔◌, IfOk, IfSome, Some, fold, length, map, slice_get, sum, zip};
 
 use p3_util::zip_eq::zip_eq;
 use std::alloc::{AllocError, Global};
@@ -47,7 +47,20 @@ pub fn paired(alloc: Global, xs: &[u16], ys: &[u16]) -> Result<Option<Vec<(u16, 
     Ok(Some(all))
 }
 
-/// The same by `match`, and `None` where there is no memory.
+/// The pairs of two lists, place by place: the pair at a place is that of the items there.
+///
+/// # Errors
+///
+/// `AllocError` where the lengths differ or there is no memory for the pairs.
+#[tactic(auto, using(p3_util::proofs::Callers::zip_place))]
+pub fn paired_by_place(alloc: Global, xs: &[u16], ys: &[u16]) -> Result<Vec<(u16, u16)>, AllocError>
+    ensures { IfOk result (λ v. (i x y : ℕ) → slice_get xs.now i ≡ Some x → slice_get ys.now i ≡ Some y
+        → slice_get v.items i ≡ Some (x, y)) }
+{
+    zip_eq(xs.iter().copied(), ys.iter().copied(), AllocError)?.collect(alloc)
+}
+
+/// As [`paired`], by `match`, and `None` where there is no memory.
 pub fn paired_if_room(alloc: Global, xs: &[u16], ys: &[u16]) -> Option<Vec<(u16, u16)>>
     ensures { IfSome result (λ v. v.items ≡ zip xs.now ys.now) }
 {
@@ -96,4 +109,21 @@ pub fn folded_mod(xs: &[u32], ys: &[u32], m: u32) -> Option<u64>
         })),
         Err(()) => None,
     }
+}
+
+/// The sum of the products mod 2^64, as a remainder of their sum. A file says it of the fold.
+pub fn inner_product_in_word(xs: &[u32], ys: &[u32]) -> Option<u64>
+    ensures { IfSome result (λ s. s ≡ sum (map (λ p. p.0 * p.1) (zip xs.now ys.now)) % 2 ^ 64) }
+{
+    let sum = wrapping_inner_product(xs, ys)?;
+    Some(sum)
+}
+
+/// The sum of the products mod `m`, as a remainder of their sum. A file says it of the fold.
+pub fn inner_product_mod(xs: &[u32], ys: &[u32], m: u32) -> Option<u64>
+    requires { 0 < m }
+    ensures { IfSome result (λ s. s ≡ sum (map (λ p. p.0 * p.1) (zip xs.now ys.now)) % m) }
+{
+    let sum = folded_mod(xs, ys, m)?;
+    Some(sum)
 }

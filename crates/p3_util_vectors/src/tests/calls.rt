@@ -51,11 +51,11 @@ pub(crate) fn count_swaps<S: Places>(rt: &impl Abort, places: &mut S, call: Call
             assert!(rt; fits_rows(places.len(), row_width));
             reverse_rows_counted(places, row_width)
         }
-        Call::Chunks(log_chunks, log_size) => {
+        Call::Chunks(lb_num_chunks, lb_chunk_size) => {
             let mut m = Swaps::new(places);
-            let size = checked_log_size_sum(log_chunks, log_size);
+            let size = checked_log_size_sum(lb_num_chunks, lb_chunk_size);
             assert!(rt; matches!(size, Some((_, size)) if size == m.len()));
-            reverse_chunks_on(&mut m, log_chunks, log_size);
+            reverse_chunks_on(&mut m, lb_num_chunks, lb_chunk_size);
             m.swaps()
         }
         Call::Square(base, log_stride, log_size) => {
