@@ -2,9 +2,9 @@
 use Rattle.std.proofs.Common.{◌≡◌, ◌≢◌, ℕ, ◌+◌, ◌-◌, ◌*◌, ◌/◌, ◌%◌, ◌^◌, ◌<◌, ◌≤◌, ◌⊎◌, min, max, List, length, slice_get, inl, inr, refl, sym, ap, ◌∙◌, arith}
 use Rattle.std.proofs.Math.Nat.{mul-le-mul_right}
 use Rattle.std.proofs.lemmas.Bool.{cases_eq}
-use Rattle.std.proofs.lemmas.Nat.{div_below, div-add-mod', mod_below, pow_pos, same_from_place}
+use Rattle.std.proofs.lemmas.Nat.{div_below, div-add-mod', pow_pos, same_from_place}
 use Rattle.p3_util_kernels.specs.declared.transpose.regions.Region.{Region}
-use Rattle.p3_util_kernels.specs.Crossing.{IsCrossed, IsRowItem, row_of}
+use Rattle.p3_util_kernels.specs.Crossing.{IsCrossed, IsRowItem, line_pairs_of, row_of}
 use Rattle.p3_util_kernels.specs.Digits.{rev}
 use Rattle.p3_util_kernels.specs.Exchanged.{RunsExchanged}
 use Rattle.p3_util_kernels.specs.Halves.{IsCut}
@@ -12,6 +12,7 @@ use Rattle.p3_util_kernels.specs.Region.{IsInRegion}
 use Rattle.p3_util_kernels.specs.Reversal.{IsRowReversal}
 use Rattle.p3_util_kernels.proofs.DigitsLemmas.{rev-lt, rev-rev-below, rev-around}
 use Rattle.p3_util_kernels.proofs.Lengths.{rows-same}
+use Rattle.p3_util_kernels.proofs.Lines.{line-below, line-even}
 use Rattle.p3_util_kernels.proofs.MirroredLemmas.{Mirrored-cut, Mirrored-none}
 use Rattle.p3_util_kernels.proofs.RegionLemmas.{IsCut-cols, IsCut-rows}
 use Rattle.p3_util_kernels.proofs.SideBySideLemmas.{each_part, in_row, row_length}
@@ -38,16 +39,9 @@ module _ (half c : ℕ) (within : half ≤ c) where
       (inner.0, sym (rev-rev-below half x hx) ∙ ap (rev half) outer.0 ∙ rev-rev-below half x' hx', inner.1)
 
   -- the rows of a pair differ
-  pub pair-apart : (line x : ℕ) → line < 2 ^ c → x < line % 2 ^ half
-      → rev half x * 2 ^ c + line ≢ rev half (line % 2 ^ half) * 2 ^ c + (line - line % 2 ^ half + x)
-  pair-apart line x h less e =
-      let m = line / 2 ^ half in
-      let y = line % 2 ^ half in
-      let split : m * 2 ^ half + y ≡ line = div-add-mod' line (2 ^ half) in
-      let below : y < 2 ^ half = mod_below line (2 ^ half) (pow_pos half) in
-      let low : line - y + x ≡ m * 2 ^ half + x = omega arith in
-      let same = row-same m x y m y x (middle-lt line h) (omega arith) below (middle-lt line h) below (omega arith) (ap (λ n. rev half x * 2 ^ c + n) split ∙ e ∙ ap (λ n. rev half y * 2 ^ c + n) low) in
-      absurd (omega (arith, same.1))
+  pub pair-apart : (middle x y : ℕ) → middle < 2 ^ (c - half) → x < y → y < 2 ^ half → row_of half c middle x y ≢ row_of half c middle y x
+  pair-apart middle x y hm less below e =
+      absurd (omega (arith, (row-same middle x y middle y x hm (omega arith) below hm below (omega arith) e).1))
 
   module _ (row_width : ℕ) where
     turned : (m : ℕ × ℕ) (x y : ℕ) → IsRowItem half c row_width m.0 m.1 x y → IsRowItem half c row_width m.0 m.1 y x
@@ -73,27 +67,20 @@ module _ (half c : ℕ) (within : half ≤ c) where
       IsCrossed-cut = Mirrored-cut _ _ (λ m n. m.0 * 2 ^ half + n) turned same_pair
 
       -- one pair of rows exchanged
-      pub IsCrossed-pair : (line x : ℕ) (old new : List A) → line < 2 ^ c → x < line % 2 ^ half
-          → RunsExchanged ((rev half x * 2 ^ c + line) * row_width) ((rev half (line % 2 ^ half) * 2 ^ c + (line - line % 2 ^ half + x)) * row_width) row_width old new
-          → IsCrossed half c row_width (record { row_start = x; row_end = x + 1; col_start = line; col_end = line + 1 }) old new
-      IsCrossed-pair line x old new h less runs =
-          let middle = line / 2 ^ half in
-          let y = line % 2 ^ half in
-          let split : line ≡ middle * 2 ^ half + y = sym (div-add-mod' line (2 ^ half)) in
-          let below : y < 2 ^ half = mod_below line (2 ^ half) (pow_pos half) in
-          let low : line - y + x ≡ middle * 2 ^ half + x = omega arith in
-          let pair : RunsExchanged (row_of half c middle x y * row_width) (row_of half c middle y x * row_width) row_width old new = rw (← low, ← split) runs in
-          record {
-            same_length = pair.same_length;
-            crossed = λ m v w s.
-                let same = same_from_place m.0 (max v w) middle y (2 ^ half) (omega (arith, s)) below (omega (arith, split, s)) in
-                grind (arith, s, same, pair.first m.1, pair.second m.1);
-            others = λ k out.
-                let of_pair : (v w : ℕ) → v < 2 ^ half → w < 2 ^ half → max v w ≡ y → min v w ≡ x → (t : ℕ) → t < row_width → k ≢ row_of half c middle v w * row_width + t =
-                λ v w hv hw greater smaller t ht. out (middle, t) v w (grind (arith, middle-lt line h)) in
-                pair.others k (outside k _ row_width (of_pair x y (omega arith) below (omega arith) (omega arith)))
-                (outside k _ row_width (of_pair y x below (omega arith) (omega arith) (omega arith)));
-          }
+      pub IsCrossed-pair : (middle x y : ℕ) (old new : List A) → middle < 2 ^ (c - half) → x < y → y < 2 ^ half
+          → RunsExchanged (row_of half c middle x y * row_width) (row_of half c middle y x * row_width) row_width old new
+          → IsCrossed half c row_width (record { row_start = x; row_end = x + 1; col_start = middle * 2 ^ half + y; col_end = middle * 2 ^ half + y + 1 }) old new
+      IsCrossed-pair middle x y old new hm less below pair = record {
+        same_length = pair.same_length;
+        crossed = λ m v w s.
+            let same = same_from_place m.0 (max v w) middle y (2 ^ half) (omega (arith, s)) below (omega (arith, s)) in
+            grind (arith, s, same, pair.first m.1, pair.second m.1);
+        others = λ k out.
+            let of_pair : (v w : ℕ) → v < 2 ^ half → w < 2 ^ half → max v w ≡ y → min v w ≡ x → (t : ℕ) → t < row_width → k ≢ row_of half c middle v w * row_width + t =
+            λ v w hv hw greater smaller t ht. out (middle, t) v w (grind (arith, hm)) in
+            pair.others k (outside k _ row_width (of_pair x y (omega arith) below (omega arith) (omega arith)))
+            (outside k _ row_width (of_pair y x below (omega arith) (omega arith) (omega arith)));
+      }
 
       -- the pairs of two lines that have one x more
       pub IsCrossed-more : (line x : ℕ) (xs ys zs ws : List A)
@@ -158,3 +145,15 @@ module _ (half c : ℕ) (within : half ≤ c) where
                 ∙ ap (λ n. slice_get old (n * row_width + j)) (sym turned)) in
                 at r (rw same at h) ∙ ap (λ n. slice_get old (rev n r * row_width + j)) (sym same);
           }
+
+-- the middle digit of a line of an even number, and its number y, below which there is room for the next line
+pub line-middle : (digits line side : ℕ) → side ≡ 2 ^ (digits / 2) → line % 2 ≡ 0 → line / 2 < line_pairs_of digits
+    → line / side < 2 ^ (digits - digits / 2 - digits / 2)
+line-middle digits line side is even h = rw is (middle-lt (digits / 2) (digits - digits / 2) (omega arith) line (omega (arith, (line-below digits line even h).1)))
+
+pub line-next : (digits line side : ℕ) → side ≡ 2 ^ (digits / 2) → line % 2 ≡ 0 → line / 2 < line_pairs_of digits
+    → line % side + 1 < 2 ^ (digits / 2)
+line-next digits line side is even h = rw is (line-even (digits / 2) line (omega (arith, (line-below digits line even h).0)) even).0
+
+-- the parts of a line
+pub ruleset line_parts = (line-middle, line-next)
