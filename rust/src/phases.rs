@@ -6,16 +6,34 @@
 use crate::kernels::parts::{Cut, Squares};
 use crate::kernels::places::{Cells, Places, Source};
 use crate::kernels::reverse::{RowDigits, exchange_pairs, reverse_index_bits, reverse_rows};
-use crate::kernels::transpose::{Matrix, Region, put_split};
+use crate::kernels::transpose::{Matrix, Region, Strips, put_split};
 
 /// What the sides of regions and blocks begin at multiples of.
 const UNIT: usize = 16;
+
+/// What both sides are multiples of where a matrix of wide items is put 16 columns at a time, row after row.
+const WIDE_UNIT: usize = 64;
+
+/// The number of items above which it is.
+const WIDE_ITEMS: usize = 1 << 20;
 
 /// As many levels as the split of any region needs, and more.
 const ENOUGH_LEVELS: u32 = 64;
 
 /// The greatest number of items that are reversed as one part. Up to this length the call alone takes less time.
 const ONE_PART_ITEMS: usize = 1 << 18;
+
+/// The strips by which a matrix is put, whole or in parts: those of the kernels' own choice, but for large matrices of wide items
+/// whose sides are both multiples of 64. The items' size chooses the order of the puts alone.
+pub(crate) fn strips_of<R: Source + Copy>(matrix: Matrix<R>) -> Strips {
+    let wide_items = matches!(size_of::<R::Item>(), 32 | 64);
+    let aligned = matrix.width % WIDE_UNIT == 0 && matrix.height % WIDE_UNIT == 0;
+    if wide_items && aligned && matrix.source.len() > WIDE_ITEMS {
+        Strips::Wide
+    } else {
+        Strips::of(matrix)
+    }
+}
 
 /// The regions that a matrix is cut into along one side.
 #[derive(Clone, Copy)]
@@ -73,7 +91,8 @@ impl<R> Regions<R> {
 impl<R: Source + Copy> Regions<R> {
     /// Puts the transpose of the region of this number into cells for the whole matrix.
     pub(crate) fn put<M: Cells<Item = R::Item>>(&self, cells: M, number: usize) {
-        let _ = put_split(cells, self.matrix, self.region(number), ENOUGH_LEVELS);
+        let strips = strips_of(self.matrix);
+        let _ = put_split(cells, self.matrix, self.region(number), ENOUGH_LEVELS, strips);
     }
 }
 

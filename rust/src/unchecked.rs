@@ -16,7 +16,7 @@ use core::ops::Range;
 
 use crate::kernels::reverse::{self, RowDigits, fits_rows, reverse_index_bits};
 use crate::kernels::transpose::{Matrix, fits_matrix, transpose_matrix};
-use crate::phases::{Phase, Phases, Regions};
+use crate::phases::{Phase, Phases, Regions, strips_of};
 
 #[cfg(feature = "checked")]
 use crate::checked::{PartItems, SliceCells, SlicePlaces, SliceSource};
@@ -52,7 +52,7 @@ pub(crate) fn transpose<T: Copy>(input: &[T], output: &mut [T], width: usize, he
     let fits = fits_matrix(input.len(), output.len(), width, height);
     if fits && size_of::<T>() > 0 {
         let matrix = Matrix::new(SliceSource::new(input), width, height);
-        let _ = transpose_matrix(SliceCells::new(output), matrix);
+        let _ = transpose_matrix(SliceCells::new(output), matrix, strips_of(matrix));
     }
     fits
 }

@@ -19,7 +19,8 @@ pub(crate) use split::put_split;
 pub use split::{transpose_source_split_on, transpose_split_on};
 pub use square::transpose_square_on;
 pub(crate) use square::{Square, exchange_region, transpose_diagonal, transpose_square};
-use strips::{Strips, put_strips};
+pub(crate) use strips::Strips;
+use strips::put_strips;
 
 /// The number of items above which a matrix is split.
 const LARGE_MATRIX: usize = 1_048_576;
@@ -85,7 +86,7 @@ where
     ensures holder { C.same_holder result cells.old cells.new }
 {
     let matrix = Matrix::new(input, width, height);
-    transpose_matrix(Writes::new(cells), matrix).writes()
+    transpose_matrix(Writes::new(cells), matrix, Strips::of(matrix)).writes()
 }
 
 /// Puts the transpose of `input` into `out`, as [`transpose`] does, in exactly `width * height` writes. Both lengths are
@@ -115,7 +116,7 @@ where
 {
     let matrix = Matrix::new(input, width, height);
     let counter = Writes::resumed(&mut out.holder, out.count);
-    out.count = transpose_matrix(counter, matrix).writes();
+    out.count = transpose_matrix(counter, matrix, Strips::of(matrix)).writes();
 }
 
 /// Puts the transpose of `region`, a part of the matrix `input`, into `out`, in one write an item: what stood at
@@ -174,15 +175,17 @@ fn transpose_items<T: Copy, R: Source<Item = T> + Copy>(
     ensures order { IsTranspose matrix.width matrix.height (R.items matrix.source) result.now }
     ensures slice { result.ghost_name ≡ output.entry.ghost_name }
 {
-    let SliceCells { values } = transpose_matrix(SliceCells::new(output), matrix);
+    let out = SliceCells::new(output);
+    let SliceCells { values } = transpose_matrix(out, matrix, Strips::of(matrix));
     values
 }
 
-/// The kernel of [`transpose_source_on`]. The source is passed by value here and below: behind a reference, the address of
-/// its items would be read from memory again for each item.
+/// The kernel of [`transpose_source_on`], by `strips`. The source is passed by value here and below: behind a reference, the
+/// address of its items would be read from memory again for each item.
 pub(crate) fn transpose_matrix<M: Cells, R: Source<Item = M::Item> + Copy>(
     out: M,
     matrix: Matrix<R>,
+    strips: Strips,
 ) -> M
     requires input_fits { length (R.items matrix.source) ≡ matrix.width * matrix.height }
     requires output_fits { length (M.items out) ≡ matrix.width * matrix.height }
@@ -191,10 +194,10 @@ pub(crate) fn transpose_matrix<M: Cells, R: Source<Item = M::Item> + Copy>(
 {
     let whole = matrix.whole();
     if out.len() > LARGE_MATRIX {
-        let (out, _) = put_split(out, matrix, whole, ENOUGH_LEVELS);
+        let (out, _) = put_split(out, matrix, whole, ENOUGH_LEVELS, strips);
         return out;
     }
-    match Strips::of(matrix) {
+    match strips {
         // Where the compiler knows the strips, the smallest matrices take a third less time.
         Strips::High => put_strips(out, matrix, whole, Strips::High),
         strips => put_strips(out, matrix, whole, strips),

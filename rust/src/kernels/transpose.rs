@@ -14,7 +14,8 @@ pub(crate) use split::put_split;
 pub use split::{transpose_source_split_on, transpose_split_on};
 pub use square::transpose_square_on;
 pub(crate) use square::{Square, exchange_region, transpose_diagonal, transpose_square};
-use strips::{Strips, put_strips};
+pub(crate) use strips::Strips;
+use strips::put_strips;
 
 /// The number of items above which a matrix is split.
 const LARGE_MATRIX: usize = 1_048_576;
@@ -104,7 +105,7 @@ where
     R: Source<Item = C::Item>,
 {
     let matrix = Matrix::new(input, width, height);
-    transpose_matrix(Writes::new(cells), matrix).writes()
+    transpose_matrix(Writes::new(cells), matrix, Strips::of(matrix)).writes()
 }
 
 /// Puts the transpose of `input` into `out`, as [`transpose`] does, in exactly `width * height` writes. Both lengths are
@@ -147,7 +148,7 @@ where
 {
     let matrix = Matrix::new(input, width, height);
     let counter = Writes::resumed(&mut out.holder, out.count);
-    out.count = transpose_matrix(counter, matrix).writes();
+    out.count = transpose_matrix(counter, matrix, Strips::of(matrix)).writes();
 }
 
 /// Puts the transpose of `region`, a part of the matrix `input`, into `out`, in one write an item: what stood at
@@ -213,22 +214,24 @@ fn transpose_items<T: Copy, R: Source<Item = T> + Copy>(
     matrix: Matrix<R>,
     output: &mut [T],
 ) -> &mut [T] {
-    let SliceCells { values } = transpose_matrix(SliceCells::new(output), matrix);
+    let out = SliceCells::new(output);
+    let SliceCells { values } = transpose_matrix(out, matrix, Strips::of(matrix));
     values
 }
 
-/// The kernel of [`transpose_source_on`]. The source is passed by value here and below: behind a reference, the address of
-/// its items would be read from memory again for each item.
+/// The kernel of [`transpose_source_on`], by `strips`. The source is passed by value here and below: behind a reference, the
+/// address of its items would be read from memory again for each item.
 pub(crate) fn transpose_matrix<M: Cells, R: Source<Item = M::Item> + Copy>(
     out: M,
     matrix: Matrix<R>,
+    strips: Strips,
 ) -> M {
     let whole = matrix.whole();
     if out.len() > LARGE_MATRIX {
-        let (out, _) = put_split(out, matrix, whole, ENOUGH_LEVELS);
+        let (out, _) = put_split(out, matrix, whole, ENOUGH_LEVELS, strips);
         return out;
     }
-    match Strips::of(matrix) {
+    match strips {
         // Where the compiler knows the strips, the smallest matrices take a third less time.
         Strips::High => put_strips(out, matrix, whole, Strips::High),
         strips => put_strips(out, matrix, whole, strips),

@@ -18,7 +18,7 @@ ghost use Rattle.p3_util_kernels.specs.SwapCounts.{line_swaps};
 use crate::parts::{Cut, Squares};
 use crate::places::{Cells, Places, Source};
 use crate::reverse::{RowDigits, exchange_pairs};
-use crate::transpose::{Matrix, Region, put_split};
+use crate::transpose::{Matrix, Region, Strips, put_split};
 
 /// A holder by which steps exist: `same_holder n a b` says that n puts lead from the items of `a` to those of `b`.
 #[derive(Drop)]
@@ -79,12 +79,13 @@ pub(crate) fn changed_places<T>()
     ensures puts { PutsAtChanged T }
 {}
 
-/// A region of a transpose is put by as many writes as it has items. Where no item of the input is in the output, all of them
-/// are at places of the region's transpose, and at one place each.
+/// A region of a transpose is put by as many writes as it has items, by any strips. Where no item of the input is in the
+/// output, all of them are at places of the region's transpose, and at one place each.
 pub(crate) fn put_region<C: Cells, R: Source<Item = C::Item> + Copy>(
     out: C,
     matrix: Matrix<R>,
     region: Region,
+    strips: Strips,
 ) -> C
     requires ready { IsReady region matrix.width matrix.height (R.items matrix.source) (C.items out) }
     ensures transposed { IsRegionTransposed region matrix.width matrix.height (R.items matrix.source) (C.items out) (C.items result) }
@@ -92,7 +93,7 @@ pub(crate) fn put_region<C: Cells, R: Source<Item = C::Item> + Copy>(
     ensures stay { NoItemInCommon (R.items matrix.source) (C.items out)
         → PutsStay (IsPlaceOfRegion region matrix.height) (items_of region) (C.items out) (C.items result) }
 {
-    let (done, _) = put_split(PutSteps { cells: out }, matrix, region, 64);
+    let (done, _) = put_split(PutSteps { cells: out }, matrix, region, 64, strips);
     done.cells
 }
 

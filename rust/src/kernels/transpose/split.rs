@@ -89,25 +89,27 @@ fn put_split_resumed<C: Cells, R: Source<Item = C::Item> + Copy>(
     region: Region,
     levels: u32,
 ) -> (C, u128, u32) {
-    let (done, nested) = put_split(Writes::resumed(cells, count), matrix, region, levels);
+    let counter = Writes::resumed(cells, count);
+    let (done, nested) = put_split(counter, matrix, region, levels, Strips::of(matrix));
     let count = done.writes();
     (done.into_inner(), count, nested)
 }
 
-/// The kernel of [`transpose_source_split_on`]: puts `region` by halves, with at most `levels` levels, and returns how many
-/// splits are nested too.
+/// The kernel of [`transpose_source_split_on`]: puts `region` by halves, with at most `levels` levels and each leaf by
+/// `strips`, and returns how many splits are nested too.
 pub(crate) fn put_split<M: Cells, R: Source<Item = M::Item> + Copy>(
     out: M,
     matrix: Matrix<R>,
     region: Region,
     levels: u32,
+    strips: Strips,
 ) -> (M, u32) {
     if is_leaf(region) {
-        return (put_strips(out, matrix, region, Strips::of(matrix)), 0);
+        return (put_strips(out, matrix, region, strips), 0);
     }
     let (first, second) = halves(region);
-    let (out, nested) = put_split(out, matrix, first, levels - 1);
-    let (out, nested_after) = put_split(out, matrix, second, levels - 1);
+    let (out, nested) = put_split(out, matrix, first, levels - 1, strips);
+    let (out, nested_after) = put_split(out, matrix, second, levels - 1, strips);
     (out, 1 + nested.max(nested_after))
 }
 

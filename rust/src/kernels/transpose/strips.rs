@@ -4,7 +4,7 @@
 //! - A *region* is some neighbouring rows of the matrix, and of these some neighbouring columns.
 //! - A region is cut into *strips*, each of some of its rows. The strips are put from top to bottom, most of them column after
 //!   column.
-//! - A *tile* is 16 columns of a strip of 16 rows. A *block* is 4 by 4 items of a tile.
+//! - A *tile* is 16 columns of a strip of 16 rows. A *block* is 4 by 4 items of a tile, or one of its rows.
 //!
 //! Each function is given the holder by value and gives it back, so that it stays in registers in the loops.
 
@@ -35,6 +35,9 @@ pub(crate) enum Strips {
     Low,
     /// At most 16 rows, put tile after tile, and each tile by its blocks.
     Tiles,
+    /// At most 16 rows, put tile after tile, and each tile row after row. It is for items of 32 and of 64 bytes, and whoever
+    /// calls a kernel chooses it.
+    Wide,
 }
 
 impl Strips {
@@ -59,7 +62,25 @@ impl Strips {
     fn rows(self) -> usize {
         match self {
             Strips::High => STRIP_ROWS,
-            Strips::Low | Strips::Tiles => TILE_SIDE,
+            Strips::Low | Strips::Tiles | Strips::Wide => TILE_SIDE,
+        }
+    }
+
+    /// The number of rows of a block of a tile.
+    #[inline(always)]
+    fn block_rows(self) -> usize {
+        match self {
+            Strips::Wide => 1,
+            _ => BLOCK_SIDE,
+        }
+    }
+
+    /// The number of columns of a block of a tile.
+    #[inline(always)]
+    fn block_cols(self) -> usize {
+        match self {
+            Strips::Wide => TILE_SIDE,
+            _ => BLOCK_SIDE,
         }
     }
 }
@@ -96,7 +117,9 @@ fn put_strip<M: Cells, R: Source<Item = M::Item> + Copy>(
 ) -> M {
     let (rows, cols) = (region.rows(), region.cols());
     match strips {
-        Strips::Tiles => put_tiles(out, matrix, region),
+        // The compiler knows the strips, and so the loops.
+        Strips::Tiles => put_tiles(out, matrix, region, Strips::Tiles),
+        Strips::Wide => put_tiles(out, matrix, region, Strips::Wide),
         // The compiler knows how many rows most low strips have.
         Strips::Low if rows == TILE_SIDE => put_columns(
             out,
@@ -107,19 +130,20 @@ fn put_strip<M: Cells, R: Source<Item = M::Item> + Copy>(
     }
 }
 
-/// Puts a strip of at most 16 rows by four columns at a time, which are the columns of a block. No function puts a tile: four
-/// such steps do.
+/// Puts a strip of at most 16 rows by as many columns at a time as a block of `strips` has. No function puts a tile: some such
+/// steps do.
 #[inline(always)]
 fn put_tiles<M: Cells, R: Source<Item = M::Item> + Copy>(
     out: M,
     matrix: Matrix<R>,
     region: Region,
+    strips: Strips,
 ) -> M {
     let mut out = out;
     let mut col = region.col_start;
     while col < region.col_end {
-        let end = region.col_end.min(col.saturating_add(BLOCK_SIDE));
-        out = put_blocks(out, matrix, region.with_cols(col, end));
+        let end = region.col_end.min(col.saturating_add(strips.block_cols()));
+        out = put_blocks(out, matrix, region.with_cols(col, end), strips);
         col = end;
     }
     out
@@ -131,15 +155,17 @@ fn put_blocks<M: Cells, R: Source<Item = M::Item> + Copy>(
     out: M,
     matrix: Matrix<R>,
     region: Region,
+    strips: Strips,
 ) -> M {
-    if region.rows() != TILE_SIDE || region.cols() != BLOCK_SIDE {
+    let (rows, cols) = (strips.block_rows(), strips.block_cols());
+    if region.rows() != TILE_SIDE || region.cols() != cols {
         return put_columns(out, matrix, region);
     }
     let mut out = out;
-    for k in 0..TILE_SIDE / BLOCK_SIDE {
-        let row = region.row_start + k * BLOCK_SIDE;
-        let block = region.with_rows(row, row + BLOCK_SIDE);
-        out = put_columns(out, matrix, block.with_known_sides(BLOCK_SIDE, BLOCK_SIDE));
+    for k in 0..TILE_SIDE / rows {
+        let row = region.row_start + k * rows;
+        let block = region.with_rows(row, row + rows);
+        out = put_columns(out, matrix, block.with_known_sides(rows, cols));
     }
     out
 }

@@ -1,11 +1,10 @@
 use Rattle.std.proofs.Common.{◌+◌, ◌*◌}
 use Rattle.p3_util_kernels.specs.Region.{IsRegionTransposed}
-use Rattle.p3_util_kernels.specs.declared.transpose.strips.TheConstants.{BLOCK_SIDE}
 use Rattle.p3_util_kernels.proofs.transpose.strips.put_blocks.Given as goal
 
 abbrev pub invariant-loop-k : goal.invariant-loop-k
 invariant-loop-k g l = record {
-  transposed : IsRegionTransposed (record l.region { row_end = l.region.row_start + l.k * BLOCK_SIDE }) l.matrix.width l.matrix.height
+  transposed : IsRegionTransposed (record l.region { row_end = l.region.row_start + l.k * l.rows }) l.matrix.width l.matrix.height
       (g.R.Source.items l.matrix.source) (g.M.Cells.items l.fn.out) (g.M.Cells.items l.out);
-  holder : g.M.Cells.same_holder (l.k * BLOCK_SIDE * BLOCK_SIDE) l.fn.out l.out;
+  holder : g.M.Cells.same_holder (l.k * l.rows * l.cols) l.fn.out l.out;
 }
