@@ -1,7 +1,7 @@
 -- An exchange of two items of a list, or a write of one, as those who see only some of its items see it.
 use Rattle.std.proofs.Common.{ℕ, zero, suc, ◌≡◌, ◌-◌, ◌<◌, List, [], ◌∷◌, length, take, drop, set, slice_get, reverse, inl, inr, refl, sym, ap, ◌∙◌, arith, length-append, length-drop, length-set}
 use Rattle.std.specs.List.{swap}
-use Rattle.std.proofs.lemmas.Bool.{cases_eq, cases_lt}
+use Rattle.std.proofs.lemmas.Bool.{cases_lt}
 use Rattle.std.proofs.lemmas.List.{get_or-reverse, length-reverse, length-take-le}
 use Rattle.std.proofs.lemmas.List.Edits.{length-swap}
 use Rattle.std.proofs.lemmas.Option.{slice_get-get_or}
@@ -53,20 +53,7 @@ module _ {A : Type 0} (place : ℕ → ℕ) where
         (λ k h.
         let below : k < n = rw many at h in
         slice_get-items_at n after still k below
-        ∙ elim (cases_eq k j) [
-          | inl e ↦
-              rw e (slice_get-swap_second xs (place i) (place j) (inside i hi) (inside j hj) ∙ sym (slice_get-items_at n xs inside i hi)
-              ∙ sym (slice_get-swap_second seen i j hi' hj'))
-          | inr not_j ↦
-              elim (cases_eq k i) [
-                | inl e ↦
-                    rw e (slice_get-swap_first xs (place i) (place j) (inside i hi) (inside j hj) ∙ sym (slice_get-items_at n xs inside j hj)
-                    ∙ sym (slice_get-swap_first seen i j hi' hj'))
-                | inr not_i ↦
-                    slice_get-swap_other xs (place i) (place j) (place k) (λ e. not_i (apart k i below hi e)) (λ e. not_j (apart k j below hj e))
-                    ∙ sym (slice_get-items_at n xs inside k below) ∙ sym (slice_get-swap_other seen i j k not_i not_j)
-              ]
-        ])
+        ∙ grind (arith, slice_get-items_at n xs inside, slice_get-swap_first, slice_get-swap_second, slice_get-swap_other, apart k, inside))
 
     pub items_at-set : (i : ℕ) (v : A) → i < n → items_at place n (set xs (place i) v) ≡ set (items_at place n xs) i v
     items_at-set i v hi =
@@ -78,13 +65,7 @@ module _ {A : Type 0} (place : ℕ → ℕ) where
         same_places (items_at place n after) (set seen i v) (many ∙ sym (length-set seen i v ∙ all))
         (λ k h.
         let below : k < n = rw many at h in
-        slice_get-items_at n after still k below
-        ∙ elim (cases_eq k i) [
-          | inl e ↦ rw e (slice_get-set_same xs (place i) v (inside i hi) ∙ sym (slice_get-set_same seen i v hi'))
-          | inr not_i ↦
-              slice_get-set_other xs (place i) (place k) v (λ e. not_i (apart k i below hi e))
-              ∙ sym (slice_get-items_at n xs inside k below) ∙ sym (slice_get-set_other seen i k v not_i)
-        ])
+        slice_get-items_at n after still k below ∙ grind (arith, slice_get-items_at n xs inside, slice_get-set_same, slice_get-set_other, apart k, inside))
 
 -- The items from the end on.
 module _ {A : Type 0} where

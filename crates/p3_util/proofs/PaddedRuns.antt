@@ -5,6 +5,7 @@ use Rattle.std.specs.Iterator.{Yields, YieldsThen, DrainsIf}
 use Rattle.std.specs.Iterator.Runs.{Run, SomeRun, EachRunFrom}
 use Rattle.std.specs.List.{flat_map}
 use Rattle.std.proofs.iter.runs.Made.{run, took}
+use Rattle.std.proofs.lemmas.Bool.{cases_Bool}
 use Rattle.std.proofs.lemmas.List.{map-append, length-map}
 use Rattle.std.proofs.lemmas.List.Folds.{flat_map-map}
 use Rattle.p3_util.specs.Pieces.{piece_count, padded, pieces, padded_pieces}
@@ -89,10 +90,6 @@ no-piece-asks true d e X Y some begun h = absurd (true≢false some)
 no-piece-asks false true e X Y some begun h = absurd (true≢false begun)
 no-piece-asks false false e X Y some begun h = h.0
 
-true_or_false : (b : Bool) → (b ≡ true) ⊎ (b ≡ false)
-true_or_false true = inl refl
-true_or_false false = inr refl
-
 module _ {S A : Type 0} {n : ℕ} (steps : S → Option A → S → Type 0) where
   empty-step : (s t : ArrayChunksPadded S A n) (piece : List A) → n ≡ 0 → padded_steps steps s (Some piece) t → ⊥
   empty-step s t piece none h =
@@ -141,7 +138,7 @@ module _ {S A : Type 0} {n : ℕ} (steps : S → Option A → S → Type 0) wher
   behind s t [] front k begun whole y = subst (λ u. Behind s u [] front) y (behind-none s front begun)
   behind s t (p ∷ ps) front k begun whole y =
       let step = y.1.1.1 in
-      rw step.2 (elim (true_or_false (padded_done y.0)) [
+      rw step.2 (elim (cases_Bool (padded_done y.0)) [
         | inl over ↦
             let last = nothing-more y.0 t ps over y.2 in
             subst (λ l. Behind s t (padded n (padded_fill s) step.0 ∷ l) front) (sym last.0)

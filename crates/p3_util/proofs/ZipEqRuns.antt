@@ -1,13 +1,13 @@
 -- What the runs of an iterator over pairs give, and that the length it says is true.
 use Rattle.std.proofs.Common.{◌≡◌, ◌+◌, ◌⊎◌, inl, inr, Bool, true, false, true≢false, List, [], ◌∷◌, ◌++◌, map, Option, Some, None, length, refl, sym, ap, subst, ◌∙◌, arith}
 use Rattle.std.specs.Iterator.{Yields, Count, size}
-use Rattle.std.specs.Iterator.Runs.{Run, SomeRun}
 use Rattle.std.specs.List.{zip}
 use Rattle.std.specs.Option.{option_map}
 use Rattle.std.proofs.iter.runs.Made.{run, took, at-is, run_of_turn}
+use Rattle.std.proofs.lemmas.Bool.{cases_Bool}
 use Rattle.std.proofs.lemmas.List.{length-map}
 use Rattle.std.proofs.lemmas.Option.{slice_get-map}
-use Rattle.p3_util.specs.ZipEq.{HasTrueLength, zip_eq_first, zip_eq_second, zip_eq_left, zip_eq_steps, AskedRuns, IsAskedRun, PairsRuns}
+use Rattle.p3_util.specs.ZipEq.{HasTrueLength, zip_eq_first, zip_eq_second, zip_eq_left, zip_eq_steps, AskedRuns, PairsRuns}
 use Rattle.p3_util.specs.declared.zip_eq.ZipEq.{ZipEq}
 
 module _ {S A : Type 0} {steps : S → Option A → S → Type 0} {left : S → Count} where
@@ -96,78 +96,38 @@ module _ {S T A B : Type 0} (steps : S → Option A → S → Type 0) (others : 
   more-zip [] a = refl
   more-zip (p ∷ ps) a = ap (λ l. p ∷ l) (more-zip ps a)
 
-  -- the runs of the two sides with all that the pairs' run asked for
-  abbrev Asked : Run (zip_eq_steps steps others) → Type 0
-  Asked p = SomeRun steps (zip_eq_first p.from) (λ u. SomeRun others (zip_eq_second p.from) (λ v. IsAskedRun p u v))
-
-  asked-open : (p : Run (zip_eq_steps steps others)) (t : ZipEq S T) → Yields (zip_eq_steps steps others) p.from p.items t → p.whole ≡ false → Asked p
-  asked-open p t came more =
-      let a = first-came p.items p.from t came in
-      let b = second-came p.items p.from t came in (
-        run steps (zip_eq_first p.from) (map (λ x. x.0) p.items) false (zip_eq_first t, a, λ e. absurd (true≢false (sym e))),
-        refl,
-        (
-          run others (zip_eq_second p.from) (map (λ x. x.1) p.items) false (zip_eq_second t, b, λ e. absurd (true≢false (sym e))),
-          refl,
-          record { items = zip-maps p.items; ends = λ whole. absurd (true≢false (sym whole ∙ more)) },
-        ),
-      )
-
-  asked-whole : (p : Run (zip_eq_steps steps others)) (t u : ZipEq S T) (o : Option A) (q : Option B) → Yields (zip_eq_steps steps others) p.from p.items t
-      → steps (zip_eq_first t) o (zip_eq_first u) → others (zip_eq_second t) q (zip_eq_second u) → (o ≡ None) ⊎ (q ≡ None) → Asked p
-  asked-whole p t u None None came x y e =
-      let a = first-came p.items p.from t came in
-      let b = second-came p.items p.from t came in (
-        run steps (zip_eq_first p.from) (map (λ i. i.0) p.items) true (zip_eq_first t, a, λ _. (zip_eq_first u, x)),
-        refl,
-        (
-          run others (zip_eq_second p.from) (map (λ i. i.1) p.items) true (zip_eq_second t, b, λ _. (zip_eq_second u, y)),
-          refl,
-          record { items = zip-maps p.items; ends = λ whole. inl (refl, refl) },
-        ),
-      )
-  asked-whole p t u None (Some w) came x y e =
-      let a = first-came p.items p.from t came in
-      let more = run_of_turn others (zip_eq_second p.from) (map (λ i. i.1) p.items) (zip_eq_second t) (second-came p.items p.from t came) w (zip_eq_second u) y in (
-        run steps (zip_eq_first p.from) (map (λ i. i.0) p.items) true (zip_eq_first t, a, λ _. (zip_eq_first u, x)),
-        refl,
-        (
-          more.0,
-          more.1,
-          record {
-            items = zip-more p.items w ∙ ap (λ l. zip (map (λ i. i.0) p.items) l) (sym more.2.0);
-            ends = λ whole. inr (inl (refl, more.2.1 ∙ ap (λ n. n + 1) (length-map p.items (λ i. i.1) ∙ sym (length-map p.items (λ i. i.0)))));
-          },
-        ),
-      )
-  asked-whole p t u (Some w) None came x y e =
-      let b = second-came p.items p.from t came in
-      let more = run_of_turn steps (zip_eq_first p.from) (map (λ i. i.0) p.items) (zip_eq_first t) (first-came p.items p.from t came) w (zip_eq_first u) x in (
-        more.0,
-        more.1,
-        (
-          run others (zip_eq_second p.from) (map (λ i. i.1) p.items) true (zip_eq_second t, b, λ _. (zip_eq_second u, y)),
-          refl,
-          record {
-            items = more-zip p.items w ∙ ap (λ l. zip l (map (λ i. i.1) p.items)) (sym more.2.0);
-            ends = λ whole. inr (inr (refl, more.2.1 ∙ ap (λ n. n + 1) (length-map p.items (λ i. i.0) ∙ sym (length-map p.items (λ i. i.1)))));
-          },
-        ),
-      )
-  asked-whole p t u (Some w) (Some z) came x y (inl e) = absurd cc
-  asked-whole p t u (Some w) (Some z) came x y (inr e) = absurd cc
-
-  asked-at : (p : Run (zip_eq_steps steps others)) (b : Bool) → p.whole ≡ b → Asked p
-  asked-at p false more =
-      let t = took p in
-      asked-open p t.0 t.1 more
-  asked-at p true whole =
-      let t = took p in
-      let last = t.2 whole in
-      asked-whole p t.0 last.0 last.1.0 last.1.1 t.1 last.1.2 last.1.3 last.1.4
-
+  -- the same with all that the pairs' run asked for
   pub asked-runs : (z : ZipEq S T) → AskedRuns steps others z
-  asked-runs z p seen from = subst (λ s. SomeRun steps (zip_eq_first s) (λ u. SomeRun others (zip_eq_second s) (λ v. IsAskedRun p u v))) from (asked-at p p.whole refl)
+  asked-runs z p seen from =
+      let t = took p in
+      let xs = map (λ x. x.0) p.items in
+      let ys = map (λ x. x.1) p.items in
+      let c : Ended p.whole t.0 = pairs-end p.whole t.0 t.2 in
+      let a = first-came p.items p.from t.0 t.1 in
+      let b = second-came p.items p.from t.0 t.1 in
+      let u = run steps (zip_eq_first p.from) xs c.0 (zip_eq_first t.0, a, c.2) in
+      let v = run others (zip_eq_second p.from) ys c.1 (zip_eq_second t.0, b, c.3) in
+      let lens : length xs ≡ length ys = length-map p.items (λ x. x.0) ∙ sym (length-map p.items (λ x. x.1)) in
+      elim (cases_Bool p.whole) [
+        | inr on ↦ (u, ap zip_eq_first from, (v, ap zip_eq_second from, record { items = zip-maps p.items; ends = λ whole. absurd (true≢false (sym whole ∙ on)) }))
+        | inl over ↦ elim (c.4 over) [
+          | inl both ↦ (u, ap zip_eq_first from, (v, ap zip_eq_second from, record { items = zip-maps p.items; ends = λ whole. inl both }))
+          | inr one ↦ elim one [
+            | inl m ↦
+                let more = run_of_turn others (zip_eq_second p.from) ys (zip_eq_second t.0) b m.1.0 m.1.1 m.1.2 in
+                (u, ap zip_eq_first from, (more.0, more.1 ∙ ap zip_eq_second from, record {
+                  items = zip-more p.items m.1.0 ∙ ap (λ l. zip xs l) (sym more.2.0);
+                  ends = λ whole. inr (inl (m.0, more.2.1 ∙ ap (λ n. n + 1) (sym lens)));
+                }))
+            | inr m ↦
+                let more = run_of_turn steps (zip_eq_first p.from) xs (zip_eq_first t.0) a m.1.0 m.1.1 m.1.2 in
+                (more.0, more.1 ∙ ap zip_eq_first from, (v, ap zip_eq_second from, record {
+                  items = more-zip p.items m.1.0 ∙ ap (λ l. zip l ys) (sym more.2.0);
+                  ends = λ whole. inr (inr (m.0, more.2.1 ∙ ap (λ n. n + 1) lens));
+                }))
+          ]
+        ]
+      ]
 
   module _ (left : S → Count) (others_left : T → Count) where
     -- where both sides state true lengths, which are the same, the pairs end where the length that they state is 0

@@ -1,8 +1,8 @@
 -- The places of a square that are exchanged across its diagonal, and the exchanges at them.
-use Rattle.std.proofs.Common.{◌≡◌, ℕ, suc, Bool, true, nat_lt, ltb-true, ◌+◌, ◌-◌, ◌*◌, ◌/◌, ◌%◌, ◌^◌, ◌<◌, ◌≤◌, IsTrue, List, length, max, min, inl, inr, refl, sym, ◌∙◌, ap, arith}
+use Rattle.std.proofs.Common.{◌≡◌, ℕ, Bool, true, nat_lt, ltb-true, ◌+◌, ◌-◌, ◌*◌, ◌/◌, ◌%◌, ◌^◌, ◌<◌, ◌≤◌, IsTrue, List, length, max, min, inl, inr, refl, ◌∙◌, arith}
 use Rattle.std.proofs.lemmas.Bool.{cases_eq, eq-eqb, ne_eqb}
-use Rattle.std.proofs.lemmas.Nat.{div_below, div-add-mod', mod_below, same_from_place}
-use Rattle.std.proofs.Math.Nat.{pos_of_ne-zero}
+use Rattle.std.proofs.lemmas.Nat.{same_from_place}
+use Rattle.std.specs.Prelude.{⊤}
 use Rattle.p3_util_kernels.specs.declared.transpose.regions.Region.{Region}
 use Rattle.p3_util_kernels.specs.Blocks.{IsBlock, swaps_of_block}
 use Rattle.p3_util_kernels.specs.Diagonal.{HoldsSquare, SwapsAcross}
@@ -13,8 +13,9 @@ use Rattle.p3_util_kernels.specs.SwapCounts.{square_swaps}
 use Rattle.p3_util_kernels.proofs.BlocksLemmas.{block-above, block-cols, block-diagonal, block-ready, block-rows}
 use Rattle.p3_util_kernels.proofs.Counts.{count-all, count-first}
 use Rattle.p3_util_kernels.proofs.DiagonalLemmas.{square_place}
-use Rattle.p3_util_kernels.proofs.MirrorSteps.{mirror-stays}
-use Rattle.p3_util_kernels.proofs.Pairs.{pairs-add}
+use Rattle.p3_util_kernels.proofs.Matrix.{row_and_column, same_number}
+use Rattle.p3_util_kernels.proofs.MirrorSteps.{mirrored-stays}
+use Rattle.p3_util_kernels.proofs.Pairs.{square_swaps-next}
 use Rattle.p3_util_kernels.proofs.Written.{AreOnceAmong-weaker}
 
 module _ {A : Type 0} (base stride last : ℕ) (region : Region) (old new : List A) (ready : HoldsSquare base stride last old)
@@ -25,40 +26,18 @@ module _ {A : Type 0} (base stride last : ℕ) (region : Region) (old new : List
       → ((i j : ℕ) → i < n → j < n → IsTrue (test i) → IsTrue (test j) → row i ≡ row j → col i ≡ col j → i ≡ j)
       → SwapsStay (IsPlaceAcross base stride region) (count_below n test) old new
   across-stays n test row col known one =
-      mirror-stays n test (λ i. base + row i * stride + col i) (λ i. base + col i * stride + row i)
-      (λ i j hi hj ti tj e.
-      let a = known i hi ti in
-      let b = known j hj tj in
-      let same = same_from_place (row i) (col i) (row j) (col j) stride a.1 b.1 (omega arith) in
-      one i j hi hj ti tj same.0 same.1)
-      (λ i j hi hj ti tj e.
-      let a = known i hi ti in
-      let b = known j hj tj in
-      let same = same_from_place (col i) (row i) (col j) (row j) stride (omega (arith, a.0, a.1)) (omega (arith, b.0, b.1)) (omega arith) in
-      one i j hi hj ti tj same.1 same.0)
-      (λ i j hi hj ti tj e.
-      let a = known i hi ti in
-      let b = known j hj tj in
-      let same = same_from_place (row i) (col i) (col j) (row j) stride a.1 (omega (arith, b.0, b.1)) (omega arith) in
-      omega (arith, a.0, b.0, same.0, same.1))
-      old new (IsPlaceAcross base stride region) differ
+      mirrored-stays (λ m a b. base + a * stride + b) (λ m a b. (a < stride) × (b < stride)) (λ m a b. IsInRegion region (max a b) (min a b)) (λ k l. ⊤)
+      (λ m a b h. (h.1, h.0)) (λ k l a b v w h g e. let same = same_from_place a b v w stride h.1 g.1 (omega arith) in (tt, same.0, same.1))
+      n test (λ i. 0) row col
       (λ i hi ti.
-      let a = known i hi ti in
-      let r : ℕ = row i in
-      let c : ℕ = col i in
-      let below : r < stride = omega (arith, a.0, a.1) in
-      let right : c ≤ last = omega (arith, a.2.col_to, end) in
-      let upper_in : IsInRegion region (max r c) (min r c) =
-      record { row_from = omega (arith, a.0, a.2.row_from); row_to = omega (arith, a.0, a.2.row_to); col_from = omega (arith, a.0, a.2.col_from); col_to = omega (arith, a.0, a.2.col_to) } in
-      let lower_in : IsInRegion region (max c r) (min c r) =
-      record { row_from = omega (arith, a.0, a.2.row_from); row_to = omega (arith, a.0, a.2.row_to); col_from = omega (arith, a.0, a.2.col_from); col_to = omega (arith, a.0, a.2.col_to) } in (
-        square_place base stride r c last (length old) (omega (arith, a.0, right)) right ready.room,
-        square_place base stride c r last (length old) right (omega (arith, a.0, right)) ready.room,
-        (r, c, (below, a.1), upper_in, refl),
-        (c, r, (a.1, below), lower_in, refl),
-        across.crossed 0 r c ((below, a.1), upper_in),
-        across.crossed 0 c r ((a.1, below), lower_in),
-      ))
+      let (above, right, at) = known i hi ti in
+      let upper : (max (row i) (col i) ≡ col i) × (min (row i) (col i) ≡ row i) = (omega arith, omega arith) in
+      let lower : (max (col i) (row i) ≡ col i) × (min (col i) (row i) ≡ row i) = (omega arith, omega arith) in
+      ((omega arith, right), above, rw (upper.0, upper.1) at, rw (lower.0, lower.1) at))
+      (λ i j hi hj ti tj same. one i j hi hj ti tj)
+      old new (IsPlaceAcross base stride region)
+      (λ m a b h at. (square_place base stride a b last (length old) (omega (arith, at.col_to, end)) (omega (arith, at.col_to, end)) ready.room, (a, b, h, at, refl)))
+      differ across
 
   -- a region above the diagonal
   pub block-stays : region.row_end ≤ region.col_start → region.col_end ≤ stride → SwapsStay (IsPlaceAcross base stride region) (items_of region) old new
@@ -67,18 +46,10 @@ module _ {A : Type 0} (base stride last : ℕ) (region : Region) (old new : List
       rw (count-all (items_of region)) at
       (across-stays (items_of region) (λ i. true) (λ i. region.row_start + i / cols) (λ i. region.col_start + i % cols)
       (λ i less t.
-      let some : 0 < cols = pos_of_ne-zero (λ none. omega (arith, less, ap (λ n. rows_of region * n) none)) in
-      let high : i / cols < rows_of region = div_below i cols (rows_of region) some less in
-      let low : i % cols < cols = mod_below i cols some in
+      let at = row_and_column i (rows_of region) cols less in
       (omega arith, omega arith, record { row_from = omega arith; row_to = omega arith; col_from = omega arith; col_to = omega arith }))
       (λ i j hi hj ti tj same_row same_col.
-      let high : i / cols ≡ j / cols = omega arith in
-      let low : i % cols ≡ j % cols = omega arith in
-      sym (div-add-mod' i cols) ∙ rw (high, low) (div-add-mod' j cols)))
-
--- one row more of a triangle of pairs
-pub square_swaps-next : (n : ℕ) → square_swaps (suc n) ≡ square_swaps n + n
-square_swaps-next n = let more : suc n ≡ n + 1 = omega arith in rw more (omega (arith, pairs-add n 1))
+      same_number i j cols (omega arith) (omega arith)))
 
 module _ {A : Type 0} (base stride last : ℕ) (region : Region) (old new : List A) (ready : HoldsSquare base stride last old)
     (differ : AllDiffer old) (across : SwapsAcross base stride region old new) (end : region.col_end ≤ last + 1) where
@@ -93,14 +64,11 @@ module _ {A : Type 0} (base stride last : ℕ) (region : Region) (old new : List
       (across-stays base stride last region old new ready differ across end (size * size) (λ i. nat_lt (i % size) (i / size))
       (λ i. region.row_start + i % size) (λ i. region.row_start + i / size)
       (λ i less t.
-      let some : 0 < size = pos_of_ne-zero (λ none. omega (arith, less, ap (λ n. n * size) none)) in
-      let high : i / size < size = div_below i size size some less in
+      let at = row_and_column i size size less in
       let above : i % size < i / size = ltb-true (i % size) (i / size) t in
       (omega arith, omega arith, record { row_from = omega arith; row_to = omega arith; col_from = omega arith; col_to = omega arith }))
       (λ i j hi hj ti tj same_row same_col.
-      let low : i % size ≡ j % size = omega arith in
-      let high : i / size ≡ j / size = omega arith in
-      sym (div-add-mod' i size) ∙ rw (high, low) (div-add-mod' j size)))
+      same_number i j size (omega arith) (omega arith)))
 
 -- a block of squares side by side
 pub block-steps : {A : Type 0} (side stride step number base : ℕ) (region : Region) (old new : List A) → 0 < step

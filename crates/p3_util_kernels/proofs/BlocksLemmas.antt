@@ -1,21 +1,20 @@
 -- Blocks of squares side by side: what the kernels of blocks ask of them, and that two of them have no place in common.
-use Rattle.std.proofs.Common.{◌≡◌, ◌≢◌, ℕ, zero, suc, ◌+◌, ◌*◌, ◌/◌, ◌%◌, ◌^◌, ◌<◌, ◌≤◌, List, length, max, min, refl, sym, ◌∙◌, ap, inl, inr, arith}
+use Rattle.std.proofs.Common.{◌≡◌, ◌≢◌, ℕ, zero, suc, ◌+◌, ◌*◌, ◌/◌, ◌%◌, ◌^◌, ◌<◌, ◌≤◌, List, length, max, min, refl, sym, ◌∙◌, inl, inr, arith}
 use Rattle.std.proofs.lemmas.Bool.{cases_lt}
-use Rattle.std.proofs.lemmas.Nat.{div_below, div-add-mod', same_from_place}
-use Rattle.std.proofs.Math.Nat.{div-mul-le_self, mul-le-mul, mul-le-mul_left, mul-le-mul_right, pos_of_ne-zero}
+use Rattle.std.proofs.lemmas.Nat.{div-add-mod', same_from_place}
+use Rattle.std.proofs.Math.Nat.{div-mul-le_self, mul-le-mul, mul-le-mul_left, mul-le-mul_right}
 use Rattle.p3_util_kernels.specs.declared.transpose.regions.Region.{Region}
 use Rattle.p3_util_kernels.specs.Blocks.{IsBlock, blocks_of}
 use Rattle.p3_util_kernels.specs.Diagonal.{HoldsSquare}
 use Rattle.p3_util_kernels.specs.PartSteps.{IsPlaceOfBlock, NoPlaceInCommon}
 use Rattle.p3_util_kernels.specs.Parts.{number_of_pair, pairs_of, parts_in, start_of}
 use Rattle.p3_util_kernels.proofs.CutParts.{pair-alone, pair-below, parts-within, start-below, start-rising}
+use Rattle.p3_util_kernels.proofs.Matrix.{row_and_column}
 
 -- a square lies in the rows
 pub square-inside : (number pairs side stride : ℕ) → number < stride / side * pairs → number / pairs * side + side ≤ stride
 square-inside number pairs side stride below =
-    let some : 0 < pairs = pos_of_ne-zero (λ none. omega (arith, below, ap (λ n. stride / side * n) none)) in
-    let less : number / pairs < stride / side = div_below number pairs (stride / side) some below in
-    let rows : suc (number / pairs) * side ≤ stride / side * side = mul-le-mul_right side less in
+    let rows : suc (number / pairs) * side ≤ stride / side * side = mul-le-mul_right side (row_and_column number (stride / side) pairs below).0 in
     omega (arith, rows, div-mul-le_self stride side)
 
 square-large : (n : ℕ) → n ≤ n * n

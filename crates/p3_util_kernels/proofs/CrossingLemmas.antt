@@ -44,17 +44,23 @@ module _ (half c : ℕ) (within : half ≤ c) where
       absurd (omega (arith, (row-same middle x y middle y x hm (omega arith) below hm below (omega arith) e).1))
 
   module _ (row_width : ℕ) where
-    turned : (m : ℕ × ℕ) (x y : ℕ) → IsRowItem half c row_width m.0 m.1 x y → IsRowItem half c row_width m.0 m.1 y x
+    pub turned : (m : ℕ × ℕ) (x y : ℕ) → IsRowItem half c row_width m.0 m.1 x y → IsRowItem half c row_width m.0 m.1 y x
     turned m x y h = record { middle = h.middle; item = h.item; high = h.low; low = h.high }
+
+    pub same_item : (m n : ℕ × ℕ) (x y v w : ℕ) → IsRowItem half c row_width m.0 m.1 x y → IsRowItem half c row_width n.0 n.1 v w
+        → row_of half c m.0 x y * row_width + m.1 ≡ row_of half c n.0 v w * row_width + n.1 → ((m.0 ≡ n.0) × (m.1 ≡ n.1)) × (x ≡ v) × (y ≡ w)
+    same_item m n x y v w h k e =
+        let rows = same_from_place (row_of half c m.0 x y) m.1 (row_of half c n.0 v w) n.1 row_width h.item k.item e in
+        let same = row-same m.0 x y n.0 v w h.middle h.high h.low k.middle k.high k.low rows.0 in
+        ((same.0, rows.1), same.1, same.2)
 
     same_pair : (m n : ℕ × ℕ) (x y v w : ℕ) → IsRowItem half c row_width m.0 m.1 x y → IsRowItem half c row_width n.0 n.1 v w
         → row_of half c m.0 x y * row_width + m.1 ≡ row_of half c n.0 v w * row_width + n.1
         → (m.0 * 2 ^ half + max x y ≡ n.0 * 2 ^ half + max v w) × (min x y ≡ min v w)
     same_pair m n x y v w h k e =
-        let rows = same_from_place (row_of half c m.0 x y) m.1 (row_of half c n.0 v w) n.1 row_width h.item k.item e in
-        let same = row-same m.0 x y n.0 v w h.middle h.high h.low k.middle k.high k.low rows.0 in
+        let same = same_item m n x y v w h k e in
         let greater : max x y ≡ max v w = omega (arith, same.1, same.2) in
-        (rw (same.0, greater) refl, omega (arith, same.1, same.2))
+        (rw (same.0.0, greater) refl, omega (arith, same.1, same.2))
 
     module _ {A : Type 0} where
       pub IsCrossed-none : (pairs : Region) (xs : List A)

@@ -4,7 +4,7 @@ use Rattle.std.proofs.lemmas.Bool.{cases_lt}
 use Rattle.std.proofs.lemmas.Nat.{div-add-mod', div-mul-add, mod-mul-add, mod_below, pow-add, pow_pos}
 use Rattle.p3_util_kernels.specs.Crossing.{line_pairs_of}
 use Rattle.p3_util_kernels.specs.SwapCounts.{line_swaps, short_swaps, square_swaps}
-use Rattle.p3_util_kernels.proofs.Pairs.{pairs-add, twice-pairs}
+use Rattle.p3_util_kernels.proofs.Pairs.{square_swaps-next, twice-pairs}
 use Rattle.p3_util_kernels.proofs.PowersLemmas.{power-even}
 
 -- the number of a line's pairs where the line has an even number, and one more for the line after it
@@ -17,32 +17,42 @@ line-even q line some even =
     let next : line + 1 ≡ line / 2 ^ q * 2 ^ q + (y + 1) = omega arith in
     (below, rw next (mod-mul-add (line / 2 ^ q) (2 ^ q) (y + 1) below))
 
--- the pairs of some whole squares of lines, and of j lines more
-line_swaps-of : (digits line_pairs e j : ℕ) → line_pairs * 2 ≡ e * 2 ^ (digits / 2) + j → j < 2 ^ (digits / 2)
-    → line_swaps digits line_pairs ≡ e * square_swaps (2 ^ (digits / 2)) + square_swaps j
-line_swaps-of digits line_pairs e j is below =
-    rw (is, div-mul-add e (2 ^ (digits / 2)) j below, mod-mul-add e (2 ^ (digits / 2)) j below) refl
+-- the pairs of the first lines, where line l has l % side of them
+abbrev pub pairs_before : (side line : ℕ) → ℕ
+pairs_before side line = line / side * square_swaps side + square_swaps (line % side)
+
+pub pairs_before-next : (side line : ℕ) → 0 < side → pairs_before side (suc line) ≡ pairs_before side line + line % side
+pairs_before-next side line some =
+    let e : ℕ = line / side in
+    let j : ℕ = line % side in
+    let split : e * side + j ≡ line = div-add-mod' line side in
+    let below : j < side = mod_below line side some in
+    elim (cases_lt (suc j) side) [
+      | inl more ↦
+          let next : suc line ≡ e * side + suc j = omega arith in
+          rw (next, div-mul-add e side (suc j) more, mod-mul-add e side (suc j) more) (omega (arith, square_swaps-next j))
+      | inr last ↦
+          let next : suc line ≡ suc e * side + 0 = omega arith in
+          let whole : square_swaps side ≡ square_swaps j + j = let end : side ≡ suc j = omega arith in ap square_swaps end ∙ square_swaps-next j in
+          rw (next, div-mul-add (suc e) side 0 some, mod-mul-add (suc e) side 0 some) (omega (arith, whole))
+    ]
+
+-- those of some whole squares of lines, of none, and of one pair of lines more
+pairs_before-whole : (side line e : ℕ) → 0 < side → line ≡ e * side + 0 → pairs_before side line ≡ e * square_swaps side
+pairs_before-whole side line e some is = rw (is, div-mul-add e side 0 some, mod-mul-add e side 0 some) (omega arith)
 
 pub line_swaps-none : (digits : ℕ) → line_swaps digits 0 ≡ 0
-line_swaps-none digits = line_swaps-of digits 0 0 0 (omega arith) (pow_pos (digits / 2)) ∙ omega arith
+line_swaps-none digits = pairs_before-whole (2 ^ (digits / 2)) 0 0 (pow_pos (digits / 2)) (omega arith) ∙ omega arith
 
--- one pair of lines more
 pub line_swaps-more : (digits line_pair : ℕ) → 2 ≤ digits
     → line_swaps digits (line_pair + 1) ≡ line_swaps digits line_pair + (line_pair * 2 % 2 ^ (digits / 2) + (line_pair * 2 % 2 ^ (digits / 2) + 1))
 line_swaps-more digits line_pair some =
     let side = 2 ^ (digits / 2) in
-    let e = line_pair * 2 / side in
-    let j = line_pair * 2 % side in
-    let split : e * side + j ≡ line_pair * 2 = div-add-mod' (line_pair * 2) side in
-    let fits = line-even (digits / 2) (line_pair * 2) (omega arith) (omega arith) in
-    let now = line_swaps-of digits line_pair e j (omega arith) (omega (arith, fits.0)) in
-    let two : square_swaps (j + 2) ≡ square_swaps j + (j + (j + 1)) = omega (arith, pairs-add j 2) in
-    elim (cases_lt (j + 2) side) [
-      | inl more ↦ line_swaps-of digits (line_pair + 1) e (j + 2) (omega arith) more ∙ omega (arith, now, two)
-      | inr last ↦
-          let end : j + 2 ≡ side = omega (arith, fits.0) in
-          line_swaps-of digits (line_pair + 1) (e + 1) 0 (omega arith) (pow_pos (digits / 2)) ∙ omega (arith, now, rw end at two)
-    ]
+    let line = line_pair * 2 in
+    let two : (line_pair + 1) * 2 ≡ suc (suc line) = omega arith in
+    let odd : line + 1 ≡ suc line = omega arith in
+    let next = rw odd at (line-even (digits / 2) line (omega arith) (omega arith)).1 in
+    rw two (omega (arith, next, pairs_before-next side line (pow_pos (digits / 2)), pairs_before-next side (suc line) (pow_pos (digits / 2))))
 
 -- the pairs of all lines
 pub lines-short : (q d : ℕ) → d ≤ 1 → 2 ^ d * square_swaps (2 ^ q) ≡ short_swaps (q + (d + q))
@@ -83,4 +93,4 @@ line_swaps-all (suc (suc d)) =
     let digits = suc (suc d) in
     let parts : digits / 2 + (digits % 2 + digits / 2) ≡ digits = omega arith in
     let short = rw parts at (lines-short (digits / 2) (digits % 2) (omega arith)) in
-    line_swaps-of digits (line_pairs_of digits) (2 ^ (digits % 2)) 0 (omega (arith, line_pairs-all digits (omega arith))) (pow_pos (digits / 2)) ∙ omega (arith, short)
+    pairs_before-whole (2 ^ (digits / 2)) _ (2 ^ (digits % 2)) (pow_pos (digits / 2)) (omega (arith, line_pairs-all digits (omega arith))) ∙ omega (arith, short)

@@ -1,5 +1,6 @@
 -- How many pairs of places blocks and squares exchange.
 use Rattle.std.proofs.Common.{◌≡◌, ℕ, zero, suc, ◌+◌, ◌-◌, ◌*◌, ◌/◌, arith}
+use Rattle.p3_util_kernels.specs.SwapCounts.{square_swaps}
 
 pub mul-pred : (n : ℕ) → n * (n - 1) + n ≡ n * n
 mul-pred zero = omega arith
@@ -16,6 +17,10 @@ twice-pairs n = let half : (m : ℕ) × (n * n ≡ 2 * m + n) = half-square n in
 -- the pairs within two parts of a square, and those between them
 pub pairs-add : (h r : ℕ) → (h + r) * (h + r - 1) / 2 ≡ h * (h - 1) / 2 + h * r + r * (r - 1) / 2
 pairs-add h r = omega (arith, twice-pairs h, twice-pairs r, twice-pairs (h + r))
+
+-- one row more of a triangle of pairs
+pub square_swaps-next : (n : ℕ) → square_swaps (suc n) ≡ square_swaps n + n
+square_swaps-next n = let more : suc n ≡ n + 1 = omega arith in rw more (omega (arith, pairs-add n 1))
 
 -- the products of two parts of one factor
 pub mul-parts_left : (h r n c : ℕ) → h + r ≡ n → h * c + r * c ≡ n * c

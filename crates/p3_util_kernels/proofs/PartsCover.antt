@@ -1,17 +1,18 @@
 -- The parts of a phase have all of its places.
-use Rattle.std.proofs.Common.{◌≡◌, ℕ, suc, Bool, true, false, if◌then◌else◌, ◌+◌, ◌*◌, ◌/◌, ◌%◌, ◌^◌, ◌<◌, ◌≤◌, max, min, refl, sym, ap, arith}
+use Rattle.std.proofs.Common.{◌≡◌, ℕ, suc, Bool, true, false, if◌then◌else◌, ◌+◌, ◌*◌, ◌/◌, ◌%◌, ◌^◌, ◌<◌, ◌≤◌, max, min, refl, sym, arith}
 use Rattle.std.proofs.lemmas.Grind.{div_ceil_times}
-use Rattle.std.proofs.lemmas.Nat.{div_below, div-add-mod', le-div, mod_below}
-use Rattle.std.proofs.Math.Nat.{div-mul-le_self, lt_of_mul-lt-mul_right, mul-le-mul_right, pos_of_ne-zero}
+use Rattle.std.proofs.lemmas.Nat.{div-add-mod', le-div, mod_below}
+use Rattle.std.proofs.Math.Nat.{div-mul-le_self, lt_of_mul-lt-mul_right, mul-le-mul_right}
 use Rattle.p3_util_kernels.specs.declared.transpose.regions.Region.{Region}
 use Rattle.p3_util_kernels.specs.Blocks.{blocks_of}
 use Rattle.p3_util_kernels.specs.Parts.{number_of_pair, pairs_of, part_of_matrix, parts_in, start_of}
 use Rattle.p3_util_kernels.specs.PartSteps.{IsPlaceOfBlock, IsPlaceOfRegion, IsPlaceOfRows, IsPlaceOfSquares, PartsCover}
 use Rattle.p3_util_kernels.specs.Region.{IsInRegion}
 use Rattle.p3_util_kernels.proofs.CutParts.{pair-below}
+use Rattle.p3_util_kernels.proofs.Matrix.{row_and_column}
 
 -- each number below the length is in a part
-number-covered : (len step v : ℕ) → 0 < step → v < len
+pub number-covered : (len step v : ℕ) → 0 < step → v < len
     → (v / step < parts_in len step) × (start_of len step (v / step) ≤ v) × (v < start_of len step (v / step + 1))
 number-covered len step v some below =
     let whole : v / step * step + v % step ≡ v = div-add-mod' v step in
@@ -22,16 +23,12 @@ number-covered len step v some below =
 pub matrix-covered : (width height : ℕ) (by_rows : Bool) (len step : ℕ) → 0 < step → len ≡ (if by_rows then height else width)
     → PartsCover (λ p. p < width * height) (parts_in len step) (λ k. IsPlaceOfRegion (part_of_matrix width height by_rows len step k) height)
 matrix-covered width height true len step some side p below =
-    let tall : 0 < height = pos_of_ne-zero (λ none. omega (arith, below, ap (λ n. width * n) none)) in
-    let x_below : p / height < width = div_below p height width tall below in
-    let y_below : p % height < height = mod_below p height tall in
+    let (x_below, y_below) = row_and_column p width height below in
     let at = number-covered len step (p % height) some (omega arith) in
     let inside : IsInRegion (part_of_matrix width height true len step (p % height / step)) (p / height) (p % height) = record { row_from = at.1; row_to = at.2; col_from = omega arith; col_to = x_below } in
     (p % height / step, at.0, (p / height, p % height, inside, sym (div-add-mod' p height)))
 matrix-covered width height false len step some side p below =
-    let tall : 0 < height = pos_of_ne-zero (λ none. omega (arith, below, ap (λ n. width * n) none)) in
-    let x_below : p / height < width = div_below p height width tall below in
-    let y_below : p % height < height = mod_below p height tall in
+    let (x_below, y_below) = row_and_column p width height below in
     let at = number-covered len step (p / height) some (omega arith) in
     let inside : IsInRegion (part_of_matrix width height false len step (p / height / step)) (p / height) (p % height) = record { row_from = omega arith; row_to = y_below; col_from = at.1; col_to = at.2 } in
     (p / height / step, at.0, (p / height, p % height, inside, sym (div-add-mod' p height)))

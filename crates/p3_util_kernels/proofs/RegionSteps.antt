@@ -1,12 +1,12 @@
 -- A region of a transpose names each of its places once, so as many writes as it has items are at these places.
-use Rattle.std.proofs.Common.{◌≡◌, ◌≢◌, ℕ, ◌+◌, ◌*◌, ◌/◌, ◌%◌, ◌<◌, true, List, length, slice_get, sym, ◌∙◌, ap, arith}
-use Rattle.std.proofs.lemmas.Nat.{div_below, div-add-mod', mod_below, mul-add-lt, same_from_place}
-use Rattle.std.proofs.Math.Nat.{pos_of_ne-zero}
+use Rattle.std.proofs.Common.{◌≡◌, ◌≢◌, ℕ, ◌+◌, ◌*◌, ◌/◌, ◌%◌, ◌<◌, true, List, length, slice_get, sym, ◌∙◌, arith}
+use Rattle.std.proofs.lemmas.Nat.{mul-add-lt, same_from_place}
 use Rattle.p3_util_kernels.specs.declared.transpose.regions.Region.{Region}
 use Rattle.p3_util_kernels.specs.Least.{places_put}
 use Rattle.p3_util_kernels.specs.PartSteps.{IsPlaceOfRegion, NoItemInCommon, NoPlaceInCommon, PutsStay}
 use Rattle.p3_util_kernels.specs.Region.{IsInRegion, IsRegionTransposed, LiesInMatrix, cols_of, items_of, rows_of}
 use Rattle.p3_util_kernels.proofs.Counts.{count-all}
+use Rattle.p3_util_kernels.proofs.Matrix.{row_and_column, same_number}
 use Rattle.p3_util_kernels.proofs.Written.{AreOnceAmong-weaker, puts-places, puts-written, written-at}
 
 module _ (region : Region) (width height : ℕ) (inside : LiesInMatrix region width height) where
@@ -19,9 +19,7 @@ module _ (region : Region) (width height : ℕ) (inside : LiesInMatrix region wi
 
   in_region : (i : ℕ) → i < items_of region → IsInRegion region (column i) (row i)
   in_region i less =
-      let some : 0 < rows_of region = pos_of_ne-zero (λ none. omega (arith, less, ap (λ n. n * cols_of region) none)) in
-      let below : i / rows_of region < cols_of region = div_below i (rows_of region) (cols_of region) some (omega arith) in
-      let low : i % rows_of region < rows_of region = mod_below i (rows_of region) some in
+      let at = row_and_column i (cols_of region) (rows_of region) (omega arith) in
       record { row_from = omega arith; row_to = omega arith; col_from = omega arith; col_to = omega arith }
 
   abbrev place : ℕ → ℕ
@@ -32,10 +30,7 @@ module _ (region : Region) (width height : ℕ) (inside : LiesInMatrix region wi
       let here = in_region i hi in
       let there = in_region j hj in
       let same = same_from_place (column i) (row i) (column j) (row j) height (omega (arith, here.row_to, inside.rows_inside)) (omega (arith, there.row_to, inside.rows_inside)) e in
-      let rows = rows_of region in
-      let high : i / rows ≡ j / rows = omega (arith, same.0) in
-      let low : i % rows ≡ j % rows = omega (arith, same.1) in
-      sym (div-add-mod' i rows) ∙ rw (high, low) (div-add-mod' j rows)
+      same_number i j (rows_of region) (omega (arith, same.0)) (omega (arith, same.1))
 
   pub region-stays : {A : Type 0} (input old new : List A) → length input ≡ width * height → length old ≡ width * height
       → IsRegionTransposed region width height input old new → NoItemInCommon input old → PutsStay (IsPlaceOfRegion region height) (items_of region) old new
