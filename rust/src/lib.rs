@@ -71,11 +71,11 @@ mod checked;
 /// | `reverse_slice_index_bits`, `reverse_counted`, `reverse_index_bits_on`, `reverse_index_bits_short` | `fits_rows(len, 1)` |
 /// | `reverse_index_bits_long` | `len.is_power_of_two() && len >= 4` |
 /// | `reverse_slice_row_index_bits`, `reverse_rows_counted`, `reverse_row_index_bits_on` | `fits_rows(len, row_width)` |
-/// | `reverse_chunks_on` | none has a name: `len` is `1 << (lb_num_chunks + lb_chunk_size)`, a shift by less than 64 |
+/// | `reverse_chunks_on` | `checked_log_size_sum(lb_num_chunks, lb_chunk_size)` is `Some((_, items))` where `items` is `len` |
 /// | `transpose`, `transpose_counted`, `transpose_source_counted`, `transpose_on`, `transpose_source_on` | `fits_matrix(input_len, len, width, height)` |
-/// | `transpose_region_counted`, `transpose_region_on` | the same; for the region none has a name: `row_start <= row_end`, `row_end <= height`, and so for its columns and `width` |
+/// | `transpose_region_counted`, `transpose_region_on` | the same, and `region.fits(width, height)` |
 /// | `transpose_split_on`, `transpose_source_split_on` | the same as for a region; `levels` of 64 are always enough |
-/// | `transpose_square_on` | none has a name: `log_size <= log_stride`, `log_stride < 64`, and the square's last place is below `len` |
+/// | `transpose_square_on` | `fits_square(len, base, log_stride, log_size)` |
 ///
 /// A container of one's own is reversed by an impl of [`Places`](kernels::places::Places), and the swaps are counted:
 ///

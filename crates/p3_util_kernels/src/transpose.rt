@@ -17,7 +17,7 @@ pub(crate) use regions::Matrix;
 pub use regions::Region;
 pub(crate) use split::put_split;
 pub use split::{transpose_source_split_on, transpose_split_on};
-pub use square::transpose_square_on;
+pub use square::{fits_square, transpose_square_on};
 pub(crate) use square::{Square, exchange_region, transpose_diagonal, transpose_square};
 pub(crate) use strips::Strips;
 use strips::put_strips;
@@ -121,8 +121,7 @@ where
 
 /// Puts the transpose of `region`, a part of the matrix `input`, into `out`, in one write an item: what stood at
 /// `y * width + x` is put at `x * height + y`, for each row y and column x of the region. Every other place stays. Both
-/// lengths are `width` times `height`, which [`fits_matrix`] tests. The region lies in the matrix, for which there is no test:
-/// `row_start <= row_end <= height` and `col_start <= col_end <= width`.
+/// lengths are `width` times `height`, which [`fits_matrix`] tests. The region lies in the matrix, which [`Region::fits`] tests.
 pub fn transpose_region_on<C: Cells>(
     input: &[C::Item],
     out: &mut Writes<C>,

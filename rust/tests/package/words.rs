@@ -1,7 +1,7 @@
 //! The calls on single words.
 
 use p3_util_proved::kernels::reverse::fits_rows;
-use p3_util_proved::kernels::transpose::fits_matrix;
+use p3_util_proved::kernels::transpose::{Region, fits_matrix, fits_square};
 use p3_util_proved::linear_map::LinearMap;
 use p3_util_proved::zip_eq::zip_eq;
 use p3_util_proved::*;
@@ -85,7 +85,13 @@ const OTHERS: (usize, usize, u64, usize, usize) = (
     log3_strict_usize(531_441),
     reverse_bits(0b01011, ROWS),
 );
-const FITS: (bool, bool) = (fits_rows(12, 3), fits_matrix(6, 6, 3, 3));
+const WHOLE: Region = Region {
+    row_start: 0,
+    row_end: 2,
+    col_start: 0,
+    col_end: 3,
+};
+const FITS: [bool; 4] = [fits_rows(12, 3), fits_matrix(6, 6, 3, 3), fits_square(9, 1, 2, 1), WHOLE.fits(2, 3)];
 const CHECKED: (Option<usize>, Option<(usize, usize)>) = (checked_pow2(64), checked_log_size_sum(20, 3));
 
 #[test]
@@ -94,7 +100,7 @@ fn constants() {
     assert_eq!(PLACES[..5], [0, 16, 8, 24, 4]);
     assert!((0..=u16::MAX).all(|i| LONG_TABLE[usize::from(i)] == i.reverse_bits()));
     assert_eq!(OTHERS, (4, 3, 4, 12, 0b11010));
-    assert_eq!(FITS, (true, false));
+    assert_eq!(FITS, [true, false, true, false]);
     assert_eq!(CHECKED, (None, Some((23, 8_388_608))));
     assert_eq!(indices_arr::<0>(), [0; 0]);
 }
@@ -128,5 +134,7 @@ fn unused_answers() {
         LinearMap::<u8, u8>::new().values();
         fits_rows(4, 2);
         fits_matrix(6, 6, 3, 2);
+        fits_square(4, 0, 1, 1);
+        WHOLE.fits(3, 2);
     }
 }

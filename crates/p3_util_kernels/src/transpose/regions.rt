@@ -1,8 +1,8 @@
 //! A matrix that is read, its regions, and the parts that they are cut into.
 
-ghost use Rattle.std.specs.Prelude.{◌≡◌, ◌≤◌};
+ghost use Rattle.std.specs.Prelude.{◌≡◌, ◌≤◌, ◌↔◌, IsTrue};
 ghost use Rattle.p3_util_kernels.specs.Halves.{IsCut};
-ghost use Rattle.p3_util_kernels.specs.Region.{cols_of, rows_of};
+ghost use Rattle.p3_util_kernels.specs.Region.{LiesInMatrix, cols_of, rows_of};
 
 /// A matrix of `height` rows of `width` items, row after row in `source`.
 #[derive(Clone, Copy)]
@@ -55,6 +55,19 @@ pub struct Region {
 }
 
 impl Region {
+    /// Whether the region lies in a matrix of `height` rows of `width` items: its rows are in order and none is beyond the last
+    /// one, and so for its columns. It is the test for what the calls on a region ask of it.
+    #[inline]
+    #[must_use]
+    pub const fn fits(self, width: usize, height: usize) -> bool
+        ensures { IsTrue result ↔ LiesInMatrix self width height }
+    {
+        self.row_start <= self.row_end
+            && self.row_end <= height
+            && self.col_start <= self.col_end
+            && self.col_end <= width
+    }
+
     /// The number of rows.
     #[inline(always)]
     pub(crate) fn rows(self) -> usize

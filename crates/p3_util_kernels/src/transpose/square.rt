@@ -3,7 +3,7 @@
 //! Row `a` and column `b` of the square are at place `base + a * stride + b` of the list. Each exchange is of two places
 //! that mirror one another across the diagonal, and each such pair is exchanged once.
 
-ghost use Rattle.std.specs.Prelude.{◌≡◌, ℕ, ◌+◌, ◌-◌, ◌*◌, ◌/◌, ◌^◌, ◌<◌, ◌≤◌, length};
+ghost use Rattle.std.specs.Prelude.{◌≡◌, ℕ, ◌+◌, ◌-◌, ◌*◌, ◌/◌, ◌^◌, ◌<◌, ◌≤◌, ◌↔◌, IsTrue, length};
 ghost use Rattle.p3_util_kernels.specs.Diagonal.{HoldsSquare, SwapsAcross};
 ghost use Rattle.p3_util_kernels.specs.Region.{items_of};
 ghost use Rattle.p3_util_kernels.specs.Square.{IsSquareTransposed};
@@ -25,10 +25,30 @@ pub(crate) struct Square {
     pub stride: usize,
 }
 
+/// Whether a list of `len` items holds the square of `s = 2^log_size` rows and columns whose first place is `base` and whose
+/// rows begin `2^log_stride` places apart: no row reaches into the next one, and the last place, a whole number that does not
+/// wrap, lies in the list. It is the test for the condition of [`transpose_square_on`].
+#[inline]
+#[must_use]
+pub const fn fits_square(len: usize, base: usize, log_stride: usize, log_size: usize) -> bool
+    ensures { let s = 2 ^ log_size in
+        IsTrue result ↔ ((log_size ≤ log_stride) × (log_stride < 64) × (base + (s - 1) * 2 ^ log_stride + (s - 1) < len)) }
+{
+    if log_stride >= 64 || log_size > log_stride {
+        return false;
+    }
+    // The last place is `last` rows below the first, and as many columns to its right.
+    let last = pow2(log_size) - 1;
+    match last.checked_mul(pow2(log_stride) + 1) {
+        Some(distance) => distance < len.saturating_sub(base),
+        None => false,
+    }
+}
+
 /// Transposes in place the square of `s = 2^log_size` rows and columns whose first place is `base` and whose rows begin
-/// `2^log_stride` places apart, by `s * (s - 1) / 2` exchanges. All other places stay. There is no test for the conditions:
-/// `log_size` is at most `log_stride` and that is below 64, so that no row reaches into the next one, and the last place of the
-/// square, `base + (s - 1) * 2^log_stride + s - 1`, lies in the list.
+/// `2^log_stride` places apart, by `s * (s - 1) / 2` exchanges. All other places stay. `log_size` is at most `log_stride` and
+/// that is below 64, so that no row reaches into the next one, and the last place of the square,
+/// `base + (s - 1) * 2^log_stride + s - 1`, lies in the list. [`fits_square`] tests all of this.
 pub fn transpose_square_on<S: Places>(
     m: &mut Swaps<S>,
     base: usize,

@@ -46,7 +46,7 @@ pub fn reverse_index_bits_short<S: Places>(m: &mut Swaps<S>) {
 
 /// Reverses the order of the `2^lb_num_chunks` chunks of `2^lb_chunk_size` items: with both lengths written as h and c,
 /// place `i` gets the item from `rev(h, i / 2^c) * 2^c + i mod 2^c`. It makes at most n/2 swaps. The length is `2^(h + c)`, for
-/// which there is no test: [`checked_log_size_sum`](crate::kernels::bits::checked_log_size_sum) of both lengths has that number.
+/// which [`checked_log_size_sum`](crate::kernels::bits::checked_log_size_sum) of both lengths tests: it has that number.
 ///
 /// # Contract
 ///

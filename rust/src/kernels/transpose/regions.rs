@@ -45,6 +45,25 @@ pub struct Region {
 }
 
 impl Region {
+    /// Whether the region lies in a matrix of `height` rows of `width` items: its rows are in order and none is beyond the last
+    /// one, and so for its columns. It is the test for what the calls on a region ask of it.
+    ///
+    /// # Contract
+    ///
+    /// In the words of [`contracts`](crate::kernels::contracts):
+    ///
+    /// ```text
+    /// ensures { IsTrue result ↔ LiesInMatrix self width height }
+    /// ```
+    #[inline]
+    #[must_use]
+    pub const fn fits(self, width: usize, height: usize) -> bool {
+        self.row_start <= self.row_end
+            && self.row_end <= height
+            && self.col_start <= self.col_end
+            && self.col_end <= width
+    }
+
     /// The number of rows.
     #[inline(always)]
     pub(crate) fn rows(self) -> usize {
