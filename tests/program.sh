@@ -1,7 +1,8 @@
 #!/usr/bin/env bash
 # The program and its surroundings: words that are no text, standard streams that are closed, full or cut short, an input
 # that never ends. Each run has to end with the right text and status, or as the system ends a program, and never with a
-# wrong list. And how much memory a long input takes, by what it has in it.
+# wrong list. And how much memory a long input takes, by what it has in it. What main does with words and faults has no
+# contract, and a program that holds the input to its last line meets that of `run`: both are tested here.
 #
 #     tests/program.sh [PROGRAM]..
 #

@@ -9,7 +9,9 @@
 # It takes what `rt ci` left in crates/*/out: the program, as each compiler built it, and the tests. What is not there
 # it builds. The program has to print that it is out of memory, end with status 3 and write nothing; a test has to pass,
 # whatever is refused, and has to make as many requests as are written beside it. Each run has to give back all memory
-# that it was given. The tests of the library have no proof. They count their requests and the memory that is held
+# that it was given. So these bodies, which meet their contracts, fail here: a run that answers another fault where memory runs
+# out, a transform_and_back that makes no request and does nothing, and calls that forget the program's input or values that
+# make no whole rows. The tests of the library have no proof. They count their requests and the memory that is held
 # themselves, and `rt try` refuses one of the requests.
 set -uo pipefail
 cd "$(dirname "$0")/.." || exit

@@ -416,7 +416,8 @@ fn check_failing_reader(
     Ok(())
 }
 
-/// The first failure ends the run, and is counted once, also where the next call would succeed.
+/// The first failure ends the run, and is counted once, also where the next call would succeed. A `Watched` that tries again, or
+/// fails without a call, fails here and in the next test.
 #[test]
 fn failing_readers(rt: HostRuntime) -> Result<(), AllocError> {
     for good_reads in 0..6 {

@@ -100,6 +100,7 @@ fn a_refused_pair_leaves_the_map() {
     }
 }
 
+/// A map that asks for room for more pairs than it is to have meets its contract, and fails here.
 #[test]
 fn empty_maps_take_no_memory() {
     let maps: [fn() -> LinearMap<u64, u64>; 3] = [LinearMap::new, LinearMap::default, || LinearMap::with_capacity(0)];
@@ -130,6 +131,7 @@ fn check_name<T>() {
     assert_eq!(requests, (1, name.len()), "{name}, {short}");
 }
 
+/// A `pretty_name` that asks for more bytes than the name has, or asks again, meets its contract, and fails here.
 #[test]
 fn a_name_takes_its_bytes_once() {
     check_name::<u8>();

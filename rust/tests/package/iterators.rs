@@ -62,6 +62,8 @@ fn check_lengths<const N: usize>() {
     }
 }
 
+/// An `apply_to_chunks` that calls the closure once more at the end, or asks its iterator again, meets its contract, and fails
+/// here.
 #[test]
 fn pieces_of_each_length() {
     check_lengths::<1>();
@@ -117,6 +119,7 @@ fn dropped_by_pieces<const BUFLEN: usize>() -> [[usize; 2]; 2] {
 }
 
 /// The closure and the iterator are dropped after the last call, which may be on a short piece, also where neither is called.
+/// Bodies that drop them earlier, or forget the closure, meet their contract, and fail here.
 #[test]
 fn closures_on_pieces() {
     assert_eq!(dropped_by_pieces::<3>(), [[0; 2], [1; 2]]);
@@ -174,7 +177,8 @@ impl<'a> IntoIterator for Made<'a> {
     }
 }
 
-/// The first side is asked before the second: for its iterator, its length, for each item and at the end.
+/// The first side is asked before the second: for its iterator, its length, for each item and at the end. A `zip_eq` that makes
+/// or asks its second iterator first meets its contract, and fails here.
 #[test]
 fn first_side_first() {
     let asked = Cell::new(0);
@@ -239,7 +243,8 @@ fn iterators_end_for_good() {
     ends_for_good(kernels::chunks::iter_array_chunks_padded::<u8, 2, _>([1], 0));
 }
 
-/// Where the lengths differ the call drops both lists, and else the error.
+/// Where the lengths differ the call drops both lists, and else the error. A body that forgets them meets its contract, and
+/// fails here.
 #[test]
 fn zips_drop_what_they_do_not_return() {
     for (first, second) in [(3, 2), (0, 4), (5, 0), (2, 2), (0, 0)] {

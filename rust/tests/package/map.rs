@@ -46,7 +46,8 @@ impl PartialEq for Named<'_> {
 
 impl Eq for Named<'_> {}
 
-/// Each stored key in turn is asked about the given one, up to the first that equals it.
+/// Each stored key in turn is asked about the given one, up to the first that equals it. A look-up that compares a new key
+/// twice, or the given key with the stored one, meets its contract, and fails here.
 #[test]
 fn stored_keys_are_compared_with_the_given_one() {
     let compared = &RefCell::new(String::new());
@@ -133,7 +134,8 @@ fn maps_of_many_pairs() {
     assert_eq!(roomy.insert(7, 7), None);
 }
 
-/// The closure is called once, and under a new key alone. It is dropped before the value is lent.
+/// The closure is called once, and under a new key alone. It is dropped before the value is lent. Bodies that forget it
+/// meet their contract, and fail here, and so do those below that forget a key or a pair.
 #[test]
 fn closures() {
     let mut map = LinearMap::new();

@@ -140,6 +140,14 @@ const ORDERS: [(usize, usize, Order); 20] = [
     (32, 32_800, Order::Parts(16)),
 ];
 
+/// A contract says what is put where, and not in which order. So these bodies meet theirs, and fail here:
+///
+/// - a matrix that is never split, or that is split from another size on;
+/// - a split that puts by strips and computes its answer, or whose leaves take another path where 16 divides the width;
+/// - tiles everywhere, or strips everywhere, of regions and of sources too;
+/// - a tile whose blocks or runs are not put one after the other, and blocks beyond 1024 items;
+/// - high strips by another test of the shape;
+/// - columns from right to left, and strips from the last to the first.
 #[test]
 fn puts_in_order() {
     for (width, height, order) in ORDERS {

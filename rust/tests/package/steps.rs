@@ -103,6 +103,7 @@ fn short_order(bits: u32, width: usize) -> Vec<(usize, usize)> {
     pairs.into_iter().flat_map(of_rows).collect()
 }
 
+/// Bodies that exchange rows of any width line by line meet their contract, and fail here.
 #[test]
 fn short_path_in_order() {
     for bits in 0..=13 {
@@ -135,6 +136,7 @@ fn square_order(base: usize, log_stride: usize, log_side: u32) -> Vec<(usize, us
     places.map(|(row, col)| (place(row, col), place(col, row))).collect()
 }
 
+/// Bodies that transpose a square line by line, or its leaves in another order, meet their contract, and fail here.
 #[test]
 fn squares_in_order() {
     for log_side in 0..=10 {
@@ -151,7 +153,8 @@ fn squares_in_order() {
 }
 
 /// Half of the digits, rounded down, are those of a chunk's number. The chunks are exchanged as rows, then the items of one
-/// square or of two beside each other, and then the chunks again.
+/// square or of two beside each other, and then the chunks again. Bodies with another order of these passes meet their
+/// contract, and fail here.
 #[test]
 fn long_path_in_order() {
     for bits in [14, 15] {
