@@ -15,8 +15,7 @@ READ_ALOUD = "docs/CALLING.md", "A contract, word by word"
 TABLES = [
     ("Marks, and words of Rust and its std", "In a clause", "docs/CALLING.md", "How a clause is read"),
     ("Words of this package's kernels", "Name", "docs/MODEL.md", "Definitions of `p3_util_kernels`, in `specs/`"),
-    ("Words of the chunks, the map and `zip_eq`", "Name", "docs/MODEL.md",
-     "Definitions of `p3_util`, `p3_util_run` and `p3_util_c`"),
+    ("Words of the chunks, the map and `zip_eq`", "Name", "docs/MODEL.md", "Definitions of `p3_util`, in `specs/`"),
 ]
 CONTRACT = re.compile(r"^ */// ```text\n(?P<clauses>(?: *///.*\n)*?) */// ```\n(?: *#\[.*\n)*(?P<head>[^;{]*)", re.M)
 OWNER = re.compile(r"^(?:impl|pub trait)\b[^{]*", re.M)

@@ -1,6 +1,6 @@
-"""Compares the pages with the code: the functions that blocks of Rust quote, the clauses and definitions that MODEL
-names, the constants of ARCHITECTURE's table, and each link, file and name; and the modules with the files. Prints what is wrong,
-a line each, and fails if anything is."""
+"""Compares the pages with the code: the functions that blocks of Rust quote, the clauses that MODEL names, the constants of
+ARCHITECTURE's table, and each link, file and name; and the modules with the files. Prints what is wrong, a line each, and fails
+if anything is."""
 import os
 import re
 import subprocess
@@ -85,24 +85,6 @@ def check_clauses():
                 report(page, row.start(), f"no call of {', '.join(calls) or 'no name'} has a clause {label}")
 
 
-def check_definitions():
-    """MODEL's tables of definitions have each one of specs/ that CONTRACTS lists, and none that is not there."""
-    page, listed = "docs/MODEL.md", set()
-    there = {name for path in tracked if re.fullmatch(r"crates/\w+/specs/.*\.antt", path) for name in re.findall(
-        r"^ *(?:(?:abbrev|unfoldable) pub|pub (?:record|data)) (\w+)", read(path), re.M)}
-    # Each holder says for itself what these are.
-    there |= {name for text in sources.values() for name in re.findall(r"^    ghost (\w+): \{", text, re.M)}
-    for row in re.finditer(r"^\|([^|\n]*)\|", pages[page][:pages[page].index("\n## Promises")], re.M):
-        for name in re.findall(r"(?<!std's )(?<!\w)`(\w+)[^`]*`", row.group(1)):
-            listed.add(name)
-            if name not in there:
-                report(page, row.start(), f"no file of specs/ has a definition {name}")
-    words = pages["docs/CONTRACTS.md"].split("\n## Where the words of clauses are\n")[1]
-    for home, names in re.findall(r"^Rattle\.p3_util\.specs\.(\w+):((?: \w+|\n   )*)", words, re.M):
-        for name in sorted(set(names.split()) - listed):
-            wrong.append(f"{page}: its tables have no row for {name} of specs/{home}.antt, which a contract cites")
-
-
 def check_constants():
     """ARCHITECTURE's table has each constant of the kernels, the exports and the program, with its file and its value."""
     page, listed, known = "docs/ARCHITECTURE.md", set(), {}
@@ -159,7 +141,6 @@ def check_modules():
 
 check_quotations()
 check_clauses()
-check_definitions()
 check_constants()
 check_links_and_names()
 check_modules()

@@ -19,6 +19,10 @@ if [ "$contracts" != "$(cat docs/CONTRACTS.md)" ]; then
     echo "docs/CONTRACTS.md is stale: write it anew by python3 tests/contracts.py >docs/CONTRACTS.md"
     wrong=1
 fi
+if ! python3 tests/definitions.py --check; then
+    echo "docs/MODEL.md is stale: write its tables anew by python3 tests/definitions.py, and then rust/src/kernels by rust/erase"
+    wrong=1
+fi
 python3 tests/facts.py || wrong=1
 python3 tests/exports.py || wrong=1
 for file in LICENSE NOTICE; do

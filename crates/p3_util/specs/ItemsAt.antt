@@ -1,12 +1,13 @@
 -- Some of a list's items, as a list: a column of a matrix, or the items from the end on.
+-- Source: new.
 use Rattle.std.specs.Prelude.{ℕ, zero, suc, ◌≡◌, ◌≢◌, ◌+◌, ◌*◌, ◌<◌, List, [], ◌++◌, slice_get, take, drop}
 
--- the items at place 0, place 1, and so on to place (n - 1)
+-- the items at `place 0`, `place 1` and so on to `place (n - 1)`
 unfoldable pub items_at : {A : Type 0} → (place : ℕ → ℕ) (n : ℕ) → List A → List A
 items_at place zero xs = []
 items_at place (suc n) xs = items_at place n xs ++ take 1 (drop (place n) xs)
 
--- an item that is at none of these places is the same in both lists
+-- an item that is at none of the places of `items_at` is the same in both lists
 abbrev pub AreOthersSame : {A : Type 0} → (place : ℕ → ℕ) (n : ℕ) (old new : List A) → Type 0
 AreOthersSame place n old new = (p : ℕ) → ((k : ℕ) → k < n → p ≢ place k) → slice_get new p ≡ slice_get old p
 

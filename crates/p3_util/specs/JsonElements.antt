@@ -1,5 +1,5 @@
--- The four element types: what one JSON value is read as. The original, `array_serialization` of p3-util 0.8.0, takes
--- any type of serde; the rules for these four are this port's own.
+-- The four element types: what one JSON value is read as.
+-- Source: new, since the original takes any type of serde.
 use Rattle.std.specs.Prelude.{ℕ, ◌^◌, ℤ, pos, negsuc, Bool, nat_lt, Option, Some, None, Result, Ok, Err, if◌then◌else◌}
 use Rattle.std.specs.Option.{ok_or}
 use Rattle.serde_json.specs.Data.{Data, null, boolean, number, string, array, object}
@@ -30,16 +30,19 @@ abbrev pub i64_of : ℤ → Option ℤ
 i64_of (pos n) = if nat_lt n (2 ^ 63) then Some (pos n) else None
 i64_of (negsuc n) = if nat_lt n (2 ^ 63) then Some (negsuc n) else None
 
--- a value as a u32, a u64, an i64 or a bool
+-- a JSON value as a `u32`, or its `Refusal`
 abbrev pub u32_reading : Data → Result ℕ Refusal
 u32_reading d = in_type (unsigned_of 32) (whole_number d)
 
+-- a JSON value as a `u64`, or its `Refusal`
 abbrev pub u64_reading : Data → Result ℕ Refusal
 u64_reading d = in_type (unsigned_of 64) (whole_number d)
 
+-- a JSON value as an `i64`, or its `Refusal`
 abbrev pub i64_reading : Data → Result ℤ Refusal
 i64_reading d = in_type i64_of (whole_number d)
 
+-- a JSON value as a `bool`, or its `Refusal`
 abbrev pub bool_reading : Data → Result Bool Refusal
 bool_reading null = Err wrong_kind
 bool_reading (boolean b) = Ok b

@@ -1,5 +1,6 @@
--- A map as the list of its pairs, in the order in which their keys first came. Keys are compared by the test `eq`, and no two are equal.
--- The words are those of the documentation and the tests of `LinearMap` of p3-util 0.8.0.
+-- A map as the list of its pairs, in the order in which their keys first came. Keys are compared by the test `eq`, and no two
+-- are equal.
+-- Source: the documentation and the tests of `LinearMap` of p3-util 0.8.0.
 use Rattle.std.specs.Prelude.{Bool, List, [], ◌∷◌, ◌++◌, Option, is_some, fold, if◌then◌else◌}
 use Rattle.std.specs.List.{IsDistinct}
 use Rattle.std.specs.Map.{lookup, set_value, keys_of}
@@ -9,7 +10,7 @@ module _ {K V : Type 0} (eq : K → K → Bool) where
   abbrev pub HasDistinctKeys : List (K × V) → Type 0
   HasDistinctKeys pairs = IsDistinct eq (keys_of pairs)
 
-  -- the value of the pair whose key is equal to k
+  -- the value of the pair whose key is equal to k, if there is one
   abbrev pub value_at : List (K × V) → K → Option V
   value_at pairs k = lookup (eq k) pairs
 
@@ -21,6 +22,6 @@ module _ {K V : Type 0} (eq : K → K → Bool) where
   abbrev pub put : List (K × V) → K → V → List (K × V)
   put pairs k v = if is_some (value_at pairs k) then with_value pairs k v else pairs ++ (k, v) ∷ []
 
-  -- the pairs after each of xs is put in turn
+  -- the pairs after each of xs is put in turn, as by `put`
   abbrev pub put_all : List (K × V) → List (K × V) → List (K × V)
   put_all pairs xs = fold (λ done x. put done x.0 x.1) pairs xs

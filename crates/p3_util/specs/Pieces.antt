@@ -1,5 +1,5 @@
 -- A list cut into pieces of n items, the last of which is shorter where they do not divide.
--- From the documentation and the tests of `apply_to_chunks` and `iter_array_chunks_padded` of p3-util 0.8.0.
+-- Source: the documentation and the tests of `apply_to_chunks` and `iter_array_chunks_padded` of p3-util 0.8.0.
 use Rattle.std.specs.Prelude.{ℕ, zero, suc, ◌-◌, ◌*◌, List, ◌++◌, length, map, take, drop, replicate}
 use Rattle.std.specs.Borrow.{Bor}
 use Rattle.std.specs.Fn.{Mut, CalledAt}
@@ -12,11 +12,12 @@ piece_count zero items = 0
 piece_count (suc k) items = div_ceil items (suc k)
 
 module _ {A : Type 0} where
-  -- piece p has the items from place p * n on, at most n of them
+  -- piece p has the items from place `p * n` on, at most n of them
   abbrev pub piece : (n : ℕ) → List A → (p : ℕ) → List A
   piece n xs p = take n (drop (p * n) xs)
 
-  -- piece 0, piece 1 and so on
+  -- the list cut into pieces of n items, of which the last one may be shorter. They are as many as the length divided by n,
+  -- rounded up, and none for n = 0
   unfoldable pub pieces : (n : ℕ) → List A → List (List A)
   pieces n xs = map (piece n xs) (range_with_len 0 (piece_count n (length xs)))
 
@@ -24,10 +25,11 @@ module _ {A : Type 0} where
   abbrev pub padded : (n : ℕ) → A → List A → List A
   padded n fill xs = xs ++ replicate (n - length xs) fill
 
-  -- the pieces, each filled to n items
+  -- `pieces` of the list, each filled to n items with `fill`
   abbrev pub padded_pieces : (n : ℕ) → A → List A → List (List A)
   padded_pieces n fill xs = map (padded n fill) (pieces n xs)
 
--- f was called at each piece of n items of xs, one call after another: a list of states, one more than the pieces, begins with f, and each call led from one to the next
+-- f was called at each piece of n items of xs, one call after another: a list of states, one more than the pieces, begins
+-- with f, and each call led from one to the next
 abbrev pub CallsOnPieces : {F A : Type 0} → Mut F (Bor (List A) × Unit {0}) (Unit {0}) → (n : ℕ) → F → List A → Type 0
 CallsOnPieces {F} g n f xs = (last : F) × FoldsTo (λ p piece q. CalledAt g p piece tt q) f (pieces n xs) last

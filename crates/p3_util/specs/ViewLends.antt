@@ -1,4 +1,5 @@
 -- What the holder of rows ends as where a `&mut` to one of their items is returned.
+-- Source: new.
 use Rattle.std.specs.Prelude.{ℕ, Option, List, ◌≡◌, slice_set}
 use Rattle.std.specs.Option.{OnSome}
 use Rattle.std.specs.Borrow.{LendsSo, MutBor, Fml, RattleType}
@@ -12,6 +13,7 @@ module _ (S T : RattleType) (items : S.Denot → List T.Denot) (same_rows : S.De
   abbrev pub HasKept : S.Denot → Type 0
   HasKept last = same_rows rows.now last × (items last ≡ items rows.now)
 
-  -- the rows end with what is last behind l in the place of item i, and as they were where l has none
+  -- the rows end with item i as it was last written through l and every other item as it was, and where l has none with all
+  -- as they were
   abbrev pub lends_item : Fml
   lends_item = LendsSo S T rows l HasWritten HasKept

@@ -1,4 +1,5 @@
 -- Squares side by side, cut into blocks, for the contracts of `src/parts.rt`.
+-- Source: new.
 use Rattle.std.specs.Prelude.{ℕ, ◌≡◌, ◌+◌, ◌*◌, ◌/◌, ◌<◌, ◌≤◌, ◌==◌, if◌then◌else◌}
 use Rattle.p3_util_kernels.specs.declared.transpose.regions.Region.{Region}
 use Rattle.p3_util_kernels.specs.Parts.{number_of_pair, pairs_of, parts_in, start_of}
@@ -9,8 +10,8 @@ use Rattle.p3_util_kernels.specs.SwapCounts.{square_swaps}
 abbrev pub blocks_of : (side stride step : ℕ) → ℕ
 blocks_of side stride step = stride / side * pairs_of (parts_in side step)
 
--- The block of this number is the region, of the square whose first place is `base`: the rows of one part of the side, and the
--- columns of the same part or of a later one. The blocks of one square have following numbers, and so have the squares.
+-- The block of this number is the region, of the square whose first place is `base`: the rows of one part of the side, and
+-- the columns of the same part or of a later one. The blocks of one square have following numbers, and so have the squares.
 pub record IsBlock (side stride step number base : ℕ) (region : Region) : Type 0 where
   pub square : ℕ
   pub row : ℕ

@@ -5,13 +5,14 @@
 -- The row is exchanged with the row that has x and y in each other's place. A line is all pairs that share `middle` and the
 -- greater one of x and y. So a pair is named by its line and by the smaller one, and pairs are given as a region is: its
 -- columns are lines, and its rows the smaller numbers.
+-- Source: new.
 use Rattle.std.specs.Prelude.{ℕ, ◌≡◌, ◌+◌, ◌-◌, ◌*◌, ◌/◌, ◌%◌, ◌^◌, ◌<◌, min, max, List, length}
 use Rattle.p3_util_kernels.specs.declared.transpose.regions.Region.{Region}
 use Rattle.p3_util_kernels.specs.Digits.{rev}
 use Rattle.p3_util_kernels.specs.Mirrored.{Mirrored}
 use Rattle.p3_util_kernels.specs.Region.{IsInRegion}
 
--- the row of three parts
+-- the index of the row of three parts: x reversed, `middle` and y
 abbrev pub row_of : (half c middle x y : ℕ) → ℕ
 row_of half c middle x y = rev half x * 2 ^ c + (middle * 2 ^ half + y)
 
@@ -22,17 +23,17 @@ pub record IsRowItem (half c row_width m t x y : ℕ) : Type 0 where
   pub high : x < 2 ^ half
   pub low : y < 2 ^ half
 
--- The pairs of these lines are exchanged, each item with its counterpart, and all other rows stay.
+-- the pairs of these lines are exchanged, each item with its counterpart, and all other rows stay
 abbrev pub IsCrossed : {A : Type 0} (half c row_width : ℕ) (pairs : Region) (old new : List A) → Type 0
 IsCrossed half c row_width pairs old new =
     Mirrored {M = ℕ × ℕ} (λ m x y. row_of half c m.0 x y * row_width + m.1)
     (λ m x y. IsRowItem half c row_width m.0 m.1 x y × IsInRegion pairs (m.0 * 2 ^ half + max x y) (min x y)) old new
 
--- the number of pairs of neighbouring lines of 2 ^ digits rows
+-- how many pairs of neighbouring lines `2 ^ digits` rows have
 abbrev pub line_pairs_of : (digits : ℕ) → ℕ
 line_pairs_of digits = 2 ^ (digits % 2) * (2 ^ (digits / 2) / 2)
 
--- The list is 2 ^ digits rows of `row_width` items, and the machine can hold its places.
+-- the list is `2 ^ digits` rows of `row_width` items, and the machine can hold its places
 pub record HoldsRows {A : Type 0} (row_width digits : ℕ) (items : List A) : Type 0 where
   pub wide : 0 < row_width
   pub few : digits < 64

@@ -1,25 +1,27 @@
 -- Lists of exchanges and of writes, and the least number of steps in which a list can be rearranged.
+-- Source: new.
 use Rattle.std.specs.Prelude.{ℕ, Bool, ◌==◌, ◌≡◌, ◌≢◌, ◌↔◌, ◌+◌, ◌-◌, ◌*◌, ◌/◌, ◌^◌, ◌<◌, ◌≤◌, IsTrue, if◌then◌else◌, List, [], ◌∷◌, All, AllPairs, length, slice_get, slice_set, swap}
 use Rattle.p3_util_kernels.specs.Digits.{rev, sum_below}
 use Rattle.p3_util_kernels.specs.Reversal.{IsReversal}
 use Rattle.p3_util_kernels.specs.SwapCounts.{short_swaps, square_swaps}
 use Rattle.p3_util_kernels.specs.Transpose.{IsTranspose}
 
--- A list of exchanges has pairs of places. This is the list after it: the pairs are exchanged in turn.
+-- the list after a list of exchanges, each a pair of places: the items at the two places of each are exchanged in turn
 unfoldable pub after_swaps : {A : Type 0} → List A → List (ℕ × ℕ) → List A
 after_swaps xs [] = xs
 after_swaps xs (pair ∷ steps) = after_swaps (swap xs pair.0 pair.1) steps
 
--- A list of writes has places, each with an item. This is the list after it: the items are put in turn.
+-- the list after a list of writes, each a place with an item: the items are put in turn
 unfoldable pub after_puts : {A : Type 0} → List A → List (ℕ × A) → List A
 after_puts xs [] = xs
 after_puts xs (put ∷ steps) = after_puts (slice_set xs put.0 put.1) steps
 
--- the places of a list of exchanges, two for each, and those of a list of writes, in turn
+-- the places of a list of exchanges in turn, two of each
 unfoldable pub places_swapped : List (ℕ × ℕ) → List ℕ
 places_swapped [] = []
 places_swapped (pair ∷ steps) = pair.0 ∷ pair.1 ∷ places_swapped steps
 
+-- the places of a list of writes in turn
 unfoldable pub places_put : {A : Type 0} → List (ℕ × A) → List ℕ
 places_put [] = []
 places_put (put ∷ steps) = put.0 ∷ places_put steps
@@ -45,7 +47,7 @@ AreApart n place = (i j : ℕ) → i < n → j < n → place i ≡ place j → i
 abbrev pub AllDiffer : {A : Type 0} → List A → Type 0
 AllDiffer xs = (i j : ℕ) → i < length xs → j < length xs → slice_get xs i ≡ slice_get xs j → i ≡ j
 
--- m exchanges change at most 2 * m places
+-- m exchanges change at most `2 * m` places
 abbrev pub SwapsChange : Type 0 → Type 0
 SwapsChange A = (xs : List A) (steps : List (ℕ × ℕ)) (n : ℕ) (test : ℕ → Bool)
     → DifferWhere n test xs (after_swaps xs steps) → count_below n test ≤ 2 * length steps
@@ -55,12 +57,12 @@ abbrev pub PutsChange : Type 0 → Type 0
 PutsChange A = (xs : List A) (steps : List (ℕ × A)) (n : ℕ) (test : ℕ → Bool)
     → DifferWhere n test xs (after_puts xs steps) → count_below n test ≤ length steps
 
--- each of these places is among those that have the property, and they differ from each other
+-- each of these places has the property `among`, and they all differ
 pub record AreOnceAmong (among : ℕ → Type 0) (places : List ℕ) : Type 0 where
   pub inside : All among places
   pub once : AllPairs (λ a b. a ≢ b) places
 
--- where m exchanges change 2 * m places, these are the places of the exchanges, each in one of them
+-- where m exchanges change `2 * m` places, these are the places of the exchanges, each in one of them
 abbrev pub SwapsAtChanged : Type 0 → Type 0
 SwapsAtChanged A = (xs : List A) (steps : List (ℕ × ℕ)) (n : ℕ) (test : ℕ → Bool) → DifferWhere n test xs (after_swaps xs steps)
     → count_below n test ≡ 2 * length steps → AreOnceAmong (λ p. (p < n) × IsTrue (test p)) (places_swapped steps)
@@ -70,31 +72,32 @@ abbrev pub PutsAtChanged : Type 0 → Type 0
 PutsAtChanged A = (xs : List A) (steps : List (ℕ × A)) (n : ℕ) (test : ℕ → Bool) → DifferWhere n test xs (after_puts xs steps)
     → count_below n test ≡ length steps → AreOnceAmong (λ p. (p < n) × IsTrue (test p)) (places_put steps)
 
--- Of the numbers of k bits, 2 ^ ceil(k / 2) are their own reverse.
+-- of the numbers of k bits, `2 ^ ceil(k / 2)` are their own reverse
 abbrev pub Palindromes : Type 0
 Palindromes = (k : ℕ) → count_below (2 ^ k) (λ i. rev k i == i) ≡ 2 ^ ((k + 1) / 2)
 
--- every list of exchanges that reverses 2 ^ k different items by their index bits
+-- every list of exchanges that reverses `2 ^ k` different items has at least `short_swaps k` of them
 abbrev pub LeastReversal : Type 0 → Type 0
 LeastReversal A = (k : ℕ) (xs : List A) (steps : List (ℕ × ℕ)) → length xs ≡ 2 ^ k → AllDiffer xs
     → IsReversal xs (after_swaps xs steps) → short_swaps k ≤ length steps
 
--- every list of exchanges that transposes a square of different items
+-- every list of exchanges that transposes a square of different items has at least `square_swaps side` of them
 abbrev pub LeastSquare : Type 0 → Type 0
 LeastSquare A = (side : ℕ) (xs : List A) (steps : List (ℕ × ℕ)) → length xs ≡ side * side → AllDiffer xs
     → IsTranspose side side xs (after_swaps xs steps) → square_swaps side ≤ length steps
 
--- every list of writes that leaves another item at each of n different places
+-- every list of writes that leaves another item at each of n different places has at least n of them
 abbrev pub LeastPuts : Type 0 → Type 0
 LeastPuts A = (n : ℕ) (place : ℕ → ℕ) (xs : List A) (steps : List (ℕ × A)) → AreApart n place
     → ((i : ℕ) → i < n → slice_get xs (place i) ≢ slice_get (after_puts xs steps) (place i)) → n ≤ length steps
 
--- 2 ^ k different items and their reversal differ at two places for each exchange of the least list
+-- a list of `2 ^ k` different items differs from its reversal at `2 * short_swaps k` places, two for each exchange of the
+-- least list
 abbrev pub ReversalDiffers : Type 0 → Type 0
 ReversalDiffers A = (k : ℕ) (old new : List A) → length old ≡ 2 ^ k → AllDiffer old
     → IsReversal old new → DifferAt (2 ^ k) (2 * short_swaps k) old new
 
--- so do the different items of a square and their transpose
+-- a square of different items differs from its transpose at `side * (side - 1)` places, all but those on the diagonal
 abbrev pub SquareDiffers : Type 0 → Type 0
 SquareDiffers A = (side : ℕ) (old new : List A) → length old ≡ side * side → AllDiffer old
     → IsTranspose side side old new → DifferAt (side * side) (side * (side - 1)) old new

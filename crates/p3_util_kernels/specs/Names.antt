@@ -1,12 +1,13 @@
--- Short names of types. From the documentation of `pretty_name` of p3-util 0.8.0.
+-- Short names of types.
+-- Source: the documentation and the code of `pretty_name` of p3-util 0.8.0.
 use Rattle.std.specs.Prelude.{ℕ, Bool, ◌==◌, ◌&&◌, ◌||◌, if◌then◌else◌, List, [], ◌∷◌}
 use Rattle.std.specs.List.{flat_map}
 
--- the marks after which a name is cut: `<`, `>` and `,`
+-- one of the marks after which a name is cut: `<`, `>` and `,`
 abbrev pub is_mark : ℕ → Bool
 is_mark b = b == 60 || b == 62 || b == 44
 
--- the list with b in front of its first piece
+-- the list of pieces with b in front of the first one
 unfoldable pub in_front : ℕ → List (List ℕ) → List (List ℕ)
 in_front b [] = (b ∷ []) ∷ []
 in_front b (piece ∷ rest) = (b ∷ piece) ∷ rest
@@ -16,7 +17,7 @@ unfoldable pub name_pieces : List ℕ → List (List ℕ)
 name_pieces [] = [] ∷ []
 name_pieces (b ∷ t) = if is_mark b then (b ∷ []) ∷ name_pieces t else in_front b (name_pieces t)
 
--- what follows the last `::` of the text, where `::` is looked for from left to right, and `whole` where there is none
+-- what follows the last `::` of the text, where each `::` is found from the left, and `whole` where there is none
 unfoldable pub after_colons : (whole text : List ℕ) → List ℕ
 after_colons whole [] = whole
 after_colons whole (b ∷ []) = whole
@@ -26,6 +27,7 @@ after_colons whole (b ∷ c ∷ t) = if b == 58 && c == 58 then after_colons t t
 abbrev pub last_part : List ℕ → List ℕ
 last_part t = after_colons t t
 
--- the last parts of the pieces, joined in order
+-- the text cut after each `<`, `>` and `,`, and of each piece what follows its last `::`, joined in order. Each `::` is
+-- found from the left, so `a:::b` gives `:b`
 unfoldable pub short_name : List ℕ → List ℕ
 short_name t = flat_map last_part (name_pieces t)

@@ -1,5 +1,6 @@
 -- Steps that lead from one list to another, and the places that they are at, for the contracts of `src/laws/parts.rt`. The
 -- lemmas are those by which a holder says that such steps exist.
+-- Source: new.
 use Rattle.std.proofs.Common.{◌≡◌, ◌≢◌, ℕ, ◌+◌, ◌*◌, ◌/◌, ◌^◌, ◌<◌, min, max, List, [], ◌∷◌, ◌++◌, length, slice_get, slice_set, length-append, refl, sym, ◌∙◌, ap, arith}
 use Rattle.std.specs.Prelude.{swap}
 use Rattle.p3_util_kernels.specs.declared.transpose.regions.Region.{Region}
@@ -8,25 +9,27 @@ use Rattle.p3_util_kernels.specs.Crossing.{IsRowItem, row_of}
 use Rattle.p3_util_kernels.specs.Least.{AreOnceAmong, after_puts, after_swaps, places_put, places_swapped}
 use Rattle.p3_util_kernels.specs.Region.{IsInRegion}
 
--- n steps lead from the one list to the other, where `after xs steps` is the list xs after the steps
+-- some n steps turn the one list into the other, where `after xs steps` is the list xs after the steps
 abbrev pub StepsLead : {A S : Type 0} → (List A → List S → List A) → ℕ → List A → List A → Type 0
 StepsLead {A} {S} after n old new = (steps : List S) × (length steps ≡ n) × (after old steps ≡ new)
 
--- wherever n steps lead from the one list to the other, the places of the steps have the property, and they all differ
+-- all n steps that turn the one list into the other are at different places, each with the property `among`
 abbrev pub StepsStay : {A S : Type 0} → (List A → List S → List A) → (List S → List ℕ) → (ℕ → Type 0) → ℕ → List A → List A → Type 0
 StepsStay {A} {S} after places among n old new = (steps : List S) → length steps ≡ n → after old steps ≡ new → AreOnceAmong among (places steps)
 
--- writes
+-- some n writes turn the one list into the other, by `after_puts`
 abbrev pub PutsLead : {A : Type 0} → ℕ → List A → List A → Type 0
 PutsLead = StepsLead after_puts
 
+-- all n writes that turn the one list into the other are at different places, each with the property that is given
 abbrev pub PutsStay : {A : Type 0} → (ℕ → Type 0) → ℕ → List A → List A → Type 0
 PutsStay = StepsStay after_puts places_put
 
--- exchanges
+-- some n exchanges turn the one list into the other, by `after_swaps`
 abbrev pub SwapsLead : {A : Type 0} → ℕ → List A → List A → Type 0
 SwapsLead = StepsLead after_swaps
 
+-- all n exchanges that turn the one list into the other are at different places, each with the property that is given
 abbrev pub SwapsStay : {A : Type 0} → (ℕ → Type 0) → ℕ → List A → List A → Type 0
 SwapsStay = StepsStay after_swaps places_swapped
 
@@ -34,7 +37,7 @@ SwapsStay = StepsStay after_swaps places_swapped
 abbrev pub NoPlaceInCommon : (ℕ → Type 0) → (ℕ → Type 0) → Type 0
 NoPlaceInCommon first second = (p : ℕ) → first p → second p → ⊥
 
--- each place of the whole is a place of one of the parts, which are numbered from 0
+-- each place of the whole is a place of one of `count` parts, which are numbered from 0
 abbrev pub PartsCover : (whole : ℕ → Type 0) (count : ℕ) (part : ℕ → ℕ → Type 0) → Type 0
 PartsCover whole count part = (p : ℕ) → whole p → (k : ℕ) × (k < count) × part k p
 
@@ -42,26 +45,26 @@ PartsCover whole count part = (p : ℕ) → whole p → (k : ℕ) × (k < count)
 abbrev pub NoItemInCommon : {A : Type 0} → List A → List A → Type 0
 NoItemInCommon xs ys = (i j : ℕ) → i < length xs → j < length ys → slice_get xs i ≢ slice_get ys j
 
--- where the items of a region are in the transpose of a matrix of `height` rows
+-- p is where an item of the region is in the transpose of a matrix of `height` rows
 abbrev pub IsPlaceOfRegion : (region : Region) (height p : ℕ) → Type 0
 IsPlaceOfRegion region height p = (x y : ℕ) × IsInRegion region x y × (p ≡ x * height + y)
 
--- the places of a region above the diagonal of a square, or on it, and their mirror images, as in `SwapsAcross`
+-- p is a place of a region above the diagonal of a square, or on it, or its mirror image, as in `SwapsAcross`
 abbrev pub IsPlaceAcross : (base stride : ℕ) (region : Region) (p : ℕ) → Type 0
 IsPlaceAcross base stride region p =
     (a b : ℕ) × ((a < stride) × (b < stride)) × IsInRegion region (max a b) (min a b) × (p ≡ base + a * stride + b)
 
--- those of a block of squares side by side
+-- p is a place of the block of this number, of squares side by side, or its mirror image
 abbrev pub IsPlaceOfBlock : (side stride step number p : ℕ) → Type 0
 IsPlaceOfBlock side stride step number p =
     (base : ℕ) × (region : Region) × IsBlock side stride step number base region × IsPlaceAcross base stride region p
 
--- those of all squares that fit side by side into rows of `stride` items
+-- p is a place of one of the squares that fit side by side into rows of `stride` items
 abbrev pub IsPlaceOfSquares : (side stride p : ℕ) → Type 0
 IsPlaceOfSquares side stride p =
     (square a b : ℕ) × (square < stride / side) × (a < side) × (b < side) × (p ≡ square * side + a * stride + b)
 
--- the places of pairs of rows, as in `IsCrossed`
+-- p is a place of one of the rows of these pairs, as in `IsCrossed`
 abbrev pub IsPlaceOfRows : (half c row_width : ℕ) (pairs : Region) (p : ℕ) → Type 0
 IsPlaceOfRows half c row_width pairs p =
     (m t x y : ℕ) × IsRowItem half c row_width m t x y × IsInRegion pairs (m * 2 ^ half + max x y) (min x y) × (p ≡ row_of half c m x y * row_width + t)

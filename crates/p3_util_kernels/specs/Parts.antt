@@ -1,23 +1,26 @@
 -- Neighbouring numbers cut into parts, for the contracts of `src/parts.rt`.
+-- Source: new.
 use Rattle.std.specs.Prelude.{ℕ, Bool, ◌≡◌, ◌+◌, ◌-◌, ◌*◌, ◌/◌, ◌<◌, min, nat_le, if◌then◌else◌}
 use Rattle.std.specs.Int.{div_ceil}
 use Rattle.p3_util_kernels.specs.declared.transpose.regions.Region.{Region}
 
--- Part k has the numbers from `start k` to below `start (k + 1)`. So each of the `count` parts begins where the one before it
--- ends, the first one at 0, none is empty, and the last one ends at `len`.
+-- Part k has the numbers from `start k` to below `start (k + 1)`. So each of the `count` parts begins where the one before
+-- it ends, the first one at 0, none is empty, and the last one ends at `len`.
 pub record FollowEachOther (count len : ℕ) (start : ℕ → ℕ) : Type 0 where
   pub first : start 0 ≡ 0
   pub last : start count ≡ len
   pub rising : (k : ℕ) → k < count → start k < start (k + 1)
 
--- how many parts of `step` numbers there are of the numbers below `len`, where the last one may have fewer, and where part k begins
+-- how many parts of `step` numbers there are of the numbers below `len`, where the last one may have fewer
 abbrev pub parts_in : (len step : ℕ) → ℕ
 parts_in len step = div_ceil len step
 
+-- where part k of these begins: at `k * step`, and at most at `len`
 abbrev pub start_of : (len step k : ℕ) → ℕ
 start_of len step k = min (k * step) len
 
--- The region of part k of a matrix of `height` rows of `width` items. Its rows are cut, or its columns, and the other side is whole.
+-- the region of part k of a matrix of `height` rows of `width` items: its rows are cut, or its columns, at every `step`, and
+-- the other side is whole
 abbrev pub part_of_matrix : (width height : ℕ) (by_rows : Bool) (len step k : ℕ) → Region
 part_of_matrix width height by_rows len step k =
     if by_rows then record { row_start = start_of len step k; row_end = start_of len step (k + 1); col_start = 0; col_end = width }
@@ -27,7 +30,8 @@ part_of_matrix width height by_rows len step k =
 abbrev pub pairs_of : ℕ → ℕ
 pairs_of n = n * (n + 1) / 2
 
--- The number of the pair of parts i and j, where i ≤ j. The n parts stand in a circle, and the shorter way from one to the other
--- counts: pairs are numbered by how long it is, and then by the part where it begins. So different pairs have different numbers.
+-- The number of the pair of parts i and j, where i ≤ j. The n parts stand in a circle, and the shorter way from one to the
+-- other counts: pairs are numbered by how long it is, and then by the part where it begins. So different pairs have
+-- different numbers.
 abbrev pub number_of_pair : (n i j : ℕ) → ℕ
 number_of_pair n i j = if nat_le (2 * (j - i)) n then (j - i) * n + i else (n - (j - i)) * n + j

@@ -1,4 +1,5 @@
--- Powers and their exponents. From the documentation of the logarithms of p3-util 0.8.0.
+-- Powers and their exponents.
+-- Source: the documentation of the logarithms of p3-util 0.8.0.
 use Rattle.std.specs.Prelude.{ℕ, zero, suc, Bool, false, not, ◌==◌, ◌&&◌, ◌||◌, ◌⊎◌, ◌≡◌, ◌-◌, ◌^◌, IsTrue, bit_and}
 use Rattle.std.specs.Int.{IsPowerOfTwo, is_power_of_two}
 
@@ -11,10 +12,14 @@ abbrev pub any_below : ℕ → (ℕ → Bool) → Bool
 any_below zero test = false
 any_below (suc n) test = any_below n test || test n
 
--- What the strict logarithms ask of a number: that it is a power, or a test that says the same. The tests compute for a
--- number that is written out, and `is_power_of_two` is what std's test returns. The powers of three of a word are 41.
+-- n is a power of two, by std's `IsPowerOfTwo` or by either of two tests, so that callers need no proof: one test computes
+-- for a number that is written out, and the other is std's `is_power_of_two`.
+-- Source: new.
 abbrev pub HasLog2 : ℕ → Type 0
 HasLog2 n = IsPowerOfTwo n ⊎ IsTrue (not (n == 0) && bit_and n (n - 1) == 0 || is_power_of_two n)
 
+-- n is a power of three, by definition or by a test of the 41 such powers that a word holds, which computes for a number
+-- that is written out.
+-- Source: new.
 abbrev pub HasLog3 : ℕ → Type 0
 HasLog3 n = IsPowerOfThree n ⊎ IsTrue (any_below 41 (λ e. n == 3 ^ e))

@@ -1,6 +1,7 @@
 -- How counts add up: a count stays at the largest u128 once it is there.
+-- Source: new.
 use Rattle.std.specs.Prelude.{ℕ, ◌+◌, ◌-◌, ◌^◌, min}
 
--- the count c after s more steps
+-- the count c after s more steps: `min (2 ^ 128 - 1) (c + s)`
 abbrev pub counted : (c s : ℕ) → ℕ
 counted c s = min (2 ^ 128 - 1) (c + s)

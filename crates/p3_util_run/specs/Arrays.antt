@@ -1,4 +1,5 @@
 -- Lists of numbers as JSON, by the readings and the texts of `serde_json`.
+-- Source: new.
 use Rattle.std.specs.Prelude.{ℕ, ◌≡◌, List, [], ◌∷◌, ◌++◌, map, Some, IsUtf8}
 use Rattle.serde_json.specs.Data.{Data, number, array, unsigned}
 use Rattle.serde_json.specs.Read.{read}

@@ -1,4 +1,5 @@
 -- What the program does: the text that it writes for its words and its input, and why it ends without one.
+-- Source: new.
 use Rattle.std.specs.Prelude.{ℕ, ◌≡◌, ◌⊎◌, ◌*◌, List, length, map, String, string_bytes, Option, Result, Ok, Err, IsSomeAnd, MatchOption, ⊤}
 use Rattle.std.specs.declared.alloc.Global.{Global}
 use Rattle.std.specs.Io.KnownBytes.{Consumes, IsAtEnd}
@@ -11,38 +12,41 @@ use Rattle.p3_util_run.specs.declared.fault.RunFault.TheVariants.{UnknownCommand
 use Rattle.p3_util_run.specs.declared.words.Command.{Command}
 use Rattle.p3_util_run.specs.declared.words.Command.TheVariants.{Revbits, Revrows, Transpose}
 
--- a list of this length can be rearranged
+-- a list of this length can be rearranged by the command: its length is zero or a power of two, or the row width times such
+-- a number, or the width times the height
 abbrev pub Fits : Command → ℕ → Type 0
 Fits Revbits len = IsZeroOrPowerOfTwo len
 Fits (Revrows width) len = FitsRows len width
 Fits (Transpose width height) len = len ≡ width * height
 
--- the new list is the old one as the command rearranges it
+-- the new list is the old one as the command rearranges it: by `IsReversal`, `IsRowReversal` or `IsTranspose`
 abbrev pub IsRearranged : Command → (old new : List ℕ) → Type 0
 IsRearranged Revbits old new = IsReversal old new
 IsRearranged (Revrows width) old new = IsRowReversal width old new
 IsRearranged (Transpose width height) old new = IsTranspose width height old new
 
--- the fault of a list of this length, where it cannot be rearranged
+-- the fault of a list of this length, where the command cannot rearrange it: `BadLength`, `BadRows` or `NotTheLength`
 abbrev pub misfit : Command → ℕ → RunFault
 misfit Revbits len = BadLength len
 misfit (Revrows width) len = BadRows width len
 misfit (Transpose width height) len = NotTheLength width height len
 
--- the input is the array of a list that can be rearranged, and the text is the line of what it becomes
+-- the input is the array of a list that `Fits` the command, and the text is the line of what it becomes by `IsRearranged`
 abbrev pub Answers : Command → (input text : List ℕ) → Type 0
 Answers command input text = (old new : List ℕ) × IsArrayOf input old × Fits command (length old) × IsRearranged command old new × (text ≡ line_of new)
 
--- why a command has no answer to an input
+-- why a command has no answer to an input: it is not an array of numbers, or one that does not fit, with its `misfit`
 abbrev pub Refuses : Command → List ℕ → RunFault → Type 0
 Refuses command input fault = ((fault ≡ NotAnArray) × ((xs : List ℕ) → ¬ IsArrayOf input xs))
     ⊎ ((xs : List ℕ) × IsArrayOf input xs × ¬ Fits command (length xs) × (fault ≡ misfit command (length xs)))
 
--- the text that the program writes
+-- the text is what the program writes for these words and this input: the `command_of` the words answers the input with it,
+-- as `Answers` says
 abbrev pub Out : (words : List (List ℕ)) (input text : List ℕ) → Type 0
 Out words input text = IsSomeAnd (command_of words) (λ command. Answers command input text)
 
--- the fault that it ends with where there is no such text
+-- the fault that the program ends with where there is no such text: `UnknownCommand` where `command_of` the words is none,
+-- else as `Refuses` says
 abbrev pub Fault : (words : List (List ℕ)) (input : List ℕ) → RunFault → Type 0
 Fault words input fault = MatchOption (command_of words) (fault ≡ UnknownCommand) (λ command. Refuses command input fault)
 

@@ -1,9 +1,11 @@
 -- A reader or a writer whose failures are counted. The count stays at the largest u64 once it is there.
+-- Source: new.
 use Rattle.std.specs.Prelude.{Bool, ℕ, ◌≡◌, ◌+◌, ◌-◌, ◌^◌, ◌<◌, ◌⊎◌, min, List, length, Result, Ok, Err, nat_lt, ◌&&◌, ◌==◌, if◌then◌else◌}
 use Rattle.p3_util_run.specs.declared.watched.InputEnd.{InputEnd}
 use Rattle.p3_util_run.specs.declared.watched.InputEnd.TheVariants.{Ahead, Reached, Passed}
 
--- what a contract sees of a watched reader or writer
+-- what a contract sees of a watched reader or writer: what is inside, how often it failed, whether the input ended, and
+-- whether the output is flushed
 pub record Watch (T : Type 0) : Type 0 where
   pub inner : T
   pub failures : ℕ
@@ -35,6 +37,6 @@ end_after_read (Err _) bytes Ahead = Ahead
 end_after_read r bytes Reached = Passed
 end_after_read r bytes Passed = Passed
 
--- it failed since: the count rose, or it is at its greatest
+-- a `Watch` failed since: its count rose, or is at its greatest
 abbrev pub HasFailed : {T : Type 0} → Watch T → Watch T → Type 0
 HasFailed old new = (old.failures < new.failures) ⊎ (new.failures ≡ 2 ^ 64 - 1)

@@ -86,47 +86,64 @@
 //!
 //! | Name | Meaning |
 //! |---|---|
-//! | `bit x i` | digit i of x in base 2, `(x / 2^i) % 2` |
-//! | `rev k x` | the k low digits of x reversed: the sum over i < k of `bit x i * 2^(k-1-i)` |
-//! | `rev_word b x` | `rev b x`, and for 0 bits the whole word, `rev 64 x` |
-//! | `IsPowerOfThree n`, std's `IsPowerOfTwo n` | n is a power of three, or of two |
-//! | `HasLog2 n`, `HasLog3 n` | n is a power of two, or of three, by definition or by a test that says the same, so that callers need no proof |
-//! | `clog n` | the least e with `n <= 2^e` |
-//! | `short_name t` | t cut after each `<`, `>` and `,`; of each piece what follows its last `::`, these being found from the left, so that `a:::b` gives `:b`; joined in order |
+//! | `bit x i` | digit i of x in base 2, counted from the lowest: `x / 2 ^ i % 2` |
+//! | `rev k x` | the k low digits of x in reversed order: digit i of x, which is `bit x i`, becomes digit `k - 1 - i` |
+//! | `rev_word bit_len x` | what `reverse_bits_len` returns: `rev bit_len x`, and for 0 bits the whole word reversed, `rev 64 x` |
+//! | `IsPowerOfThree n` | n is 3 to some power |
+//! | `HasLog2 n` | n is a power of two, by std's `IsPowerOfTwo` or by either of two tests, so that callers need no proof: one test computes for a number that is written out, and the other is std's `is_power_of_two` |
+//! | `HasLog3 n` | n is a power of three, by definition or by a test of the 41 such powers that a word holds, which computes for a number that is written out |
+//! | `clog n` | the least e with `n ≤ 2 ^ e`, which is how many powers of two are below n |
+//! | `lev r c` | how often a region of r rows and c columns can be halved at its longer side until both are at most 128, which is 2 ^ 7: `(clog r - 7) + (clog c - 7)`, where a difference is 0 at least |
+//! | `nest r c` | how many splits nest in the split of such a region, which ends too where a side is at most 2: `lev r c`, or 0 where that is so from the start |
+//! | `short_name t` | the text cut after each `<`, `>` and `,`, and of each piece what follows its last `::`, joined in order. Each `::` is found from the left, so `a:::b` gives `:b` |
 //! | `IsZeroOrPowerOfTwo n` | n is 0 or a power of two |
-//! | `IsReversible n` | the same, by definition or by either of two tests, so that callers need no proof |
-//! | `FitsRows len w` | `len = w * m` for some m that is 0 or a power of two |
-//! | `IsRowReversal w old new` | same length, and with 2^k rows of w items, item j of row r of `new` is item j of row `rev k r` of `old` |
-//! | `IsReversal old new` | `IsRowReversal 1 old new`: place i of `new` holds what was at place `rev k i` of `old` |
-//! | `RunsExchanged i j n old new` | the n items from i on and the n from j on are exchanged in order; all others stay |
-//! | `IsTranspose w h old new` | `new` has w * h items, and `new[x*h + y] = old[y*w + x]` for x < w, y < h |
-//! | `IsRegionTransposed region w h input old new` | for each row y and column x of the region `new[x*h + y] = input[y*w + x]`; every other place of `old` stays |
-//! | `LiesInMatrix`, `rows_of`, `cols_of`, `items_of` | the region is within the matrix; its rows, columns and items |
-//! | `IsStageOne`, `IsStageTwo`, `IsBlockTransposed` | of a block of 4 by 4: the lowest, or the next, bit of the row number is exchanged with that of the column number; the transpose |
-//! | `IsSquareTransposed base t s old new` | for a, b < 2^s, place `base + a * 2^t + b` holds what was at `base + b * 2^t + a`; every other place stays |
-//! | `lev r c`, `nest r c` | `max(0, clog r - 7) + max(0, clog c - 7)`, which is how often a region of r rows and c columns can be halved; the same where both sides exceed 2, else 0, which is how many splits nest |
-//! | `short_swaps k` | `(2^k - 2^ceil(k/2)) / 2`, the number of pairs of indices that are each other's reverse |
-//! | `row_swaps n w` | of n items in rows of w: `w * short_swaps (clog (n / w))` |
-//! | `square_swaps s` | `s * (s - 1) / 2`, the number of pairs of places across the diagonal |
-//! | `long_swaps k` | `2 * short_swaps h * 2^c + 2^(c-h) * square_swaps (2^h)`, with h = k/2 and c = k - h |
-//! | `reversal_swaps n` | of n items: `short_swaps (clog n)` up to 8192 items, else `long_swaps (clog n)` |
-//! | `same_holder n a b` | the [holder](ARCHITECTURE.md#words) b is the holder a after n steps. Each type of holder defines it. It has two laws: a is itself after no step, and m steps and then n are m + n |
-//! | `counted c s` | the count c after s steps, which is `min(2^128 - 1, c + s)` |
+//! | `IsReversible n` | n is 0 or a power of two, by definition or by either of two tests, so that callers need no proof: one test computes for a number that is written out, and the other is std's `is_power_of_two` |
+//! | `FitsRows len row_width` | `len` items are rows of `row_width` items, and the number of rows is 0 or a power of two |
+//! | `IsRowReversal row_width old new` | With `2 ^ k` rows of `row_width` items, row r of `new` is row `rev k r` of `old`, item by item, and the length is the same |
+//! | `IsReversal old new` | With `2 ^ k` items, place i of `new` holds what stood at place `rev k i` of `old`: it is `IsRowReversal` of rows of one item |
+//! | `RunsExchanged i j len old new` | the `len` items from place i on and the `len` items from place j on are exchanged, each with its counterpart, and all other items stay |
+//! | `IsTranspose width height old new` | `old` has `height` rows of `width` items, and `new` is its transpose, `width` rows of `height` items: place `x * height + y` of `new` holds what is at place `y * width + x` of `old`, for x < width and y < height |
+//! | `LiesInMatrix region width height` | the region lies in a matrix of `height` rows of `width` items |
+//! | `rows_of region` | how many rows the region has |
+//! | `cols_of region` | how many columns the region has |
+//! | `items_of region` | how many items the region has |
+//! | `IsRegionTransposed region width height input old new` | `input` has `height` rows of `width` items. For each row y and column x of the region, place `x * height + y` of `new` holds what is at place `y * width + x` of `input`, and every other place what it held in `old` |
+//! | `IsStageOne old new` | of a block of 4 by 4 items, the lowest bit of each item's row number is exchanged with that of its column number |
+//! | `IsStageTwo old new` | of a block of 4 by 4 items, the next bit of each item's row number is exchanged with that of its column number |
+//! | `IsBlockTransposed old new` | a block of 4 by 4 items is transposed |
+//! | `IsSquareTransposed base log_stride log_size old new` | The square has `2 ^ log_size` rows of as many items. Its first place is `base`, and each row begins `2 ^ log_stride` places after the row before. Row a and column b of `new` hold what stood at row b and column a, and all else stays |
+//! | `short_swaps k` | how many pairs of different numbers of k bits are each other's reverse: `(2 ^ k - 2 ^ ceil(k / 2)) / 2`, since `2 ^ ceil(k / 2)` of the `2 ^ k` numbers are their own reverse |
+//! | `row_swaps items row_width` | the swaps of `items` items in rows of `row_width`: as many for each item of a row as there are pairs of rows, `row_width * short_swaps (clog (items / row_width))` |
+//! | `square_swaps side` | how many pairs of places of a square of `side` rows mirror each other across its diagonal: `side * (side - 1) / 2` |
+//! | `long_swaps k` | the swaps of `2 ^ k` items by way of chunks, squares and chunks, with `h = k / 2` and `c = k - h`: `2 * short_swaps h * 2 ^ c + 2 ^ (c - h) * square_swaps (2 ^ h)` |
+//! | `reversal_swaps items` | the swaps of `items` items, zero or a power of two: `short_swaps (clog items)` up to 8192 items, and `long_swaps (clog items)` beyond |
+//! | `counted c s` | the count c after s more steps: `min (2 ^ 128 - 1) (c + s)` |
+//! | `same_holder n a b` | the holder b is the holder a after n steps. Each type of holder says what that means. A holder is itself after no step, and m steps and then n are m + n |
 //!
 //! # Words of the chunks, the map and `zip_eq`
 //!
 //! | Name | Meaning |
 //! |---|---|
-//! | `pieces n xs`, `padded_pieces n fill xs` | xs cut into ceil(length / n) pieces of n items, the last one shorter, or filled; none for n = 0 |
-//! | `CallsOnPieces` | states of a closure, each from the one before by a call on the next piece |
-//! | `padded_source`, `padded_done`, `padded_fill` | of an `ArrayChunksPadded`: the iterator inside; whether that has ended; the item that fills the last piece |
-//! | `padded_steps`, `padded_can`, `padded_left` | a call gives the next piece, filled, or `None` where no item is left; when a call may be made; how many pieces are left |
-//! | `PadsRuns`, `EndsForGood` | behind each run of calls is a run of the iterator inside, and the pieces are `padded_pieces` of its items; after `None` nothing else comes |
-//! | `zip_eq_first`, `zip_eq_second` | the two iterators of a `ZipEq` |
-//! | `zip_eq_steps`, `zip_eq_left` | a call asks both iterators, and gives a pair where both give an item, else `None`; as many pairs are left as items of the first |
-//! | `PairsRuns`, `AskedRuns` | behind each run of calls is a run of either iterator, whose items it pairs by place; the same of all that the two were asked for |
-//! | `HasTrueLength` | the length that an iterator states falls by one with each item, and is 0 where `None` comes |
-//! | `flat rows`, `IsFlat n rows items` | the items row after row; item i is item i mod n of row i / n |
-//! | `HasDistinctKeys eq pairs` | no two of the pairs have equal keys |
-//! | `put eq pairs k v`, `value_at`, `put_all` | the pairs after k is given v: a known key keeps its place and spelling, a new pair goes last; the value at a key; `put` of each pair in turn |
-//! | `lends_value`, `lends_put` | what a map ends as where the value of a key is lent: the key has the value that was written last; `lends_put` adds a new key as `put` does. Where none is lent the map is as it was |
+//! | `flat rows` | the items of the rows, row after row |
+//! | `pieces n xs` | the list cut into pieces of n items, of which the last one may be shorter. They are as many as the length divided by n, rounded up, and none for n = 0 |
+//! | `padded_pieces n fill xs` | `pieces` of the list, each filled to n items with `fill` |
+//! | `CallsOnPieces g n f xs` | f was called at each piece of n items of xs, one call after another: a list of states, one more than the pieces, begins with f, and each call led from one to the next |
+//! | `padded_source s` | of an `ArrayChunksPadded`, the iterator inside |
+//! | `padded_done s` | whether the iterator inside has returned `None`, after which it is not asked again |
+//! | `padded_fill s` | the item that fills the last piece |
+//! | `padded_steps steps s r t` | a call gives the next piece, filled to n items, or `None` where no item is left |
+//! | `PadsRuns steps fill s` | behind each run of calls is a run of the iterator inside, and the pieces are `padded_pieces` of its items |
+//! | `EndsForGood steps` | after `None` comes nothing but `None` |
+//! | `HasTrueLength steps left s` | the length that an iterator states is true, now and after any calls: each item lowers it by one, and `None` comes where it is 0 |
+//! | `zip_eq_first z` | the first of the two iterators of a `ZipEq` |
+//! | `zip_eq_second z` | the second of the two iterators of a `ZipEq` |
+//! | `zip_eq_steps steps others s r t` | a call asks both iterators, and gives a pair where both give an item, else `None` |
+//! | `PairsRuns steps others z` | behind each run of calls are a run of the first iterator and one of the second, whose items it pairs by place |
+//! | `AskedRuns steps others z` | behind each run of calls are runs of both iterators, of all that the two were asked for |
+//! | `zip_eq_left left z` | as many pairs are left as the first iterator has items left |
+//! | `HasDistinctKeys eq pairs` | no two pairs have equal keys |
+//! | `value_at eq pairs k` | the value of the pair whose key is equal to k, if there is one |
+//! | `put eq pairs k v` | the pairs after k is given the value v: a known key keeps its place and its spelling, and a new pair goes last |
+//! | `put_all eq pairs xs` | the pairs after each of xs is put in turn, as by `put` |
+//! | `lends_value K V eq m k r` | the key k has the value that was last written through r, and where r is `None` the map stays as it is |
+//! | `lends_put K V eq m k r` | the key k has the value that was last written through r, as after `put`, and where r is `Err` the map stays as it is |
