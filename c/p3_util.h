@@ -5,7 +5,8 @@
  *
  * The number at the end of a name is the size of an item in bytes. Items are moved whole and never looked at.
  *
- * Each call tests its own condition, returns true exactly where it holds, and changes nothing where it returns false.
+ * A call that has a condition returns true exactly where it holds, and changes nothing where it returns false. The others
+ * return a number.
  *
  * What a call needs of its pointers, and cannot test:
  * - The bytes of a list of n items are n times the size of an item, in one object, at any address, and fewer than 2^63.
