@@ -52,9 +52,10 @@
 use core::fmt;
 use core::iter::FusedIterator;
 
+use crate::kernels::parts::Phase;
 use crate::kernels::reverse::fits_rows;
 use crate::kernels::transpose::Matrix;
-use crate::phases::{Phase, Phases, Regions};
+use crate::phases::{Phases, Regions};
 use crate::unchecked::{self, Parts};
 
 /// The parts of a transpose that are left, as an iterator of known length.

@@ -1,24 +1,15 @@
-//! The cut of a call into parts: which kernel a part runs, and of what. It is the same over every holder.
-//!
-//! No place is stepped on by two parts of one phase. The parts of a transpose are regions of its matrix, which are one phase. Those
-//! of a reversal's phase are ranges of line pairs, or blocks of squares.
+//! What is chosen for the plans of the kernels: by which strips a matrix is put, whether its rows are cut, and up to which length a
+//! reversal is one part.
 
-use crate::kernels::parts::{Cut, Squares};
-use crate::kernels::places::{Cells, Places, Source};
-use crate::kernels::reverse::{RowDigits, exchange_pairs, reverse_index_bits, reverse_rows};
-use crate::kernels::transpose::{Matrix, Region, Strips, put_split};
-
-/// What the sides of regions and blocks begin at multiples of.
-const UNIT: usize = 16;
+use crate::kernels::parts::{Phase, ReversalPlan, TransposePlan};
+use crate::kernels::places::{Cells, Source};
+use crate::kernels::transpose::{Matrix, Strips};
 
 /// What both sides are multiples of where a matrix of wide items is put 16 columns at a time, row after row.
 const WIDE_UNIT: usize = 64;
 
 /// The number of items above which it is.
 const WIDE_ITEMS: usize = 1 << 20;
-
-/// As many levels as the split of any region needs, and more.
-const ENOUGH_LEVELS: u32 = 64;
 
 /// The greatest number of items that are reversed as one part. Up to this length the call alone takes less time.
 const ONE_PART_ITEMS: usize = 1 << 18;
@@ -35,25 +26,20 @@ pub(crate) fn strips_of<R: Source + Copy>(matrix: Matrix<R>) -> Strips {
     }
 }
 
-/// The regions that a matrix is cut into along one side.
+/// A matrix to be transposed, and how it is cut into regions.
 #[derive(Clone, Copy)]
 pub(crate) struct Regions<R> {
     matrix: Matrix<R>,
-    by_rows: bool,
-    cut: Cut,
+    plan: TransposePlan,
 }
 
 impl<R> Regions<R> {
     /// Cuts the longer side into at most `parts` parts. With the feature `checked` it is always the columns, whose cells are
-    /// a run of the output.
+    /// a run of the output. The machine can hold the matrix.
     pub(crate) fn new(matrix: Matrix<R>, parts: usize) -> Self {
-        let by_rows = matrix.height > matrix.width && cfg!(not(feature = "checked"));
-        let side = if by_rows { matrix.height } else { matrix.width };
-        Regions {
-            matrix,
-            by_rows,
-            cut: Cut::new(side, parts, UNIT),
-        }
+        let may_cut_rows = cfg!(not(feature = "checked"));
+        let plan = TransposePlan::new(matrix.width, matrix.height, parts, may_cut_rows);
+        Regions { matrix, plan }
     }
 
     /// The same regions of the matrix whose source this call makes of the source.
@@ -61,30 +47,21 @@ impl<R> Regions<R> {
         let Matrix { source, width, height } = self.matrix;
         Regions {
             matrix: Matrix::new(call(source), width, height),
-            by_rows: self.by_rows,
-            cut: self.cut,
+            plan: self.plan,
         }
     }
 
-    /// The number of regions: none where the matrix is empty.
+    /// The number of regions.
     pub(crate) fn count(&self) -> usize {
-        if self.matrix.width.min(self.matrix.height) == 0 {
-            return 0;
-        }
-        self.cut.count()
+        self.plan.count()
     }
 
     /// How many cells each region but the last one has, where the columns are cut.
     pub(crate) fn cells(&self) -> usize {
         match self.count() {
             0 => 0,
-            _ => self.cut.part(0).1 * self.matrix.height,
+            _ => self.plan.items(0),
         }
-    }
-
-    /// The region of this number. No two have an item in common, since the parts of a cut follow each other.
-    fn region(&self, number: usize) -> Region {
-        self.cut.region(&self.matrix, self.by_rows, number)
     }
 }
 
@@ -92,7 +69,7 @@ impl<R: Source + Copy> Regions<R> {
     /// Puts the transpose of the region of this number into cells for the whole matrix.
     pub(crate) fn put<M: Cells<Item = R::Item>>(&self, cells: M, number: usize) {
         let strips = strips_of(self.matrix);
-        let _ = put_split(cells, self.matrix, self.region(number), ENOUGH_LEVELS, strips);
+        let _ = self.plan.put(cells, self.matrix.source, number, strips);
     }
 }
 
@@ -104,63 +81,14 @@ pub(crate) struct Phases {
 }
 
 impl Phases {
-    /// The phases of a list of `len` items, in order. It is of whole rows, whose number is a power of two.
-    pub(crate) fn of(self, len: usize) -> impl Iterator<Item = Phase> {
-        let rows = RowDigits::of(len, self.row_width);
-        let phases = if len <= ONE_PART_ITEMS || cfg!(feature = "checked") {
-            [Some(Phase::Whole(rows)), None, None]
-        } else if rows.width > 1 {
-            [Some(self.line_pairs(rows)), None, None]
+    /// Phase `number` of a list of `len` items. It is of whole rows, whose number is zero or a power of two.
+    pub(crate) fn phase(self, len: usize, number: usize) -> Option<Phase> {
+        let one_part = if cfg!(feature = "checked") {
+            usize::MAX
         } else {
-            let half = rows.digits / 2;
-            let chunks = self.line_pairs(RowDigits::chunks(half, rows.digits - half));
-            let squares = self.squares(1 << half, 1 << (rows.digits - half));
-            [Some(chunks), Some(squares), Some(chunks)]
+            ONE_PART_ITEMS
         };
-        phases.into_iter().flatten()
-    }
-
-    fn line_pairs(self, rows: RowDigits) -> Phase {
-        Phase::LinePairs(rows, Cut::new(rows.line_pairs(), self.parts, 1))
-    }
-
-    fn squares(self, side: usize, stride: usize) -> Phase {
-        Phase::Squares(Squares::new(stride, Cut::new(side, self.parts, UNIT)))
-    }
-}
-
-/// A pass over a list, in parts.
-#[derive(Clone, Copy)]
-pub(crate) enum Phase {
-    /// The reversal of all rows is one part.
-    Whole(RowDigits),
-    /// The exchange of all pairs of rows, by ranges of line pairs.
-    LinePairs(RowDigits, Cut),
-    /// The transpose of squares, by blocks.
-    Squares(Squares),
-}
-
-impl Phase {
-    /// The number of parts.
-    pub(crate) fn count(&self) -> usize {
-        match self {
-            Phase::Whole(_) => 1,
-            Phase::LinePairs(_, cut) => cut.count(),
-            Phase::Squares(squares) => squares.count(),
-        }
-    }
-
-    /// Makes the exchanges of the part of this number. The list is the one that the phase is of.
-    pub(crate) fn exchange<M: Places>(&self, places: M, number: usize) {
-        match *self {
-            Phase::Whole(rows) if rows.width == 1 => _ = reverse_index_bits(places),
-            Phase::Whole(rows) => _ = reverse_rows(places, rows),
-            Phase::LinePairs(rows, cut) => {
-                let (from, to) = cut.part(number);
-                let _ = exchange_pairs(places, rows, from, to);
-            }
-            Phase::Squares(squares) => _ = squares.exchange(places, number),
-        }
+        ReversalPlan::new(len, self.row_width, self.parts, one_part).phase(number)
     }
 }
 

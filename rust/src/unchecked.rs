@@ -14,9 +14,10 @@
 
 use core::ops::Range;
 
+use crate::kernels::parts::Phase;
 use crate::kernels::reverse::{self, RowDigits, fits_rows, reverse_index_bits};
 use crate::kernels::transpose::{Matrix, fits_matrix, transpose_matrix};
-use crate::phases::{Phase, Phases, Regions, strips_of};
+use crate::phases::{Phases, Regions, strips_of};
 
 #[cfg(feature = "checked")]
 use crate::checked::{PartItems, SliceCells, SlicePlaces, SliceSource};
@@ -90,7 +91,7 @@ pub(crate) fn reverse_in_parts<F>(vals: &mut [F], phases: Phases, number: usize)
     if !fits_rows(len, phases.row_width) || size_of_val(vals) == 0 {
         return None;
     }
-    let phase = phases.of(len).nth(number)?;
+    let phase = phases.phase(len, number)?;
     Some(Parts {
         items: PartItems::in_shares(vals, len),
         phase,
@@ -123,7 +124,7 @@ impl<T: Copy> Parts<'_, T, Regions<&[T]>> {
 impl<F> Parts<'_, F, Phase> {
     pub(crate) fn exchange(mut self) {
         self.numbers
-            .for_each(|number| self.phase.exchange(self.items.share(), number));
+            .for_each(|number| _ = self.phase.exchange(self.items.share(), number));
     }
 }
 

@@ -11,6 +11,7 @@ pub mod Mirrored
 pub mod Names
 pub mod PartSteps
 pub mod Parts
+pub mod Plans
 pub mod Powers
 pub mod Region
 pub mod Reversal

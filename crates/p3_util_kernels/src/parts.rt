@@ -1,13 +1,26 @@
-//! The cut of a length into parts, by which calls are given to several threads.
+//! Calls that are cut into parts, each of which may run on a thread of its own. No thread is started here.
+//!
+//! What is cut and not yet done is a *plan*: of a transpose the [`TransposePlan`], of a reversal the [`ReversalPlan`]. The regions
+//! of a transpose are put in any order. A reversal has one *phase* or three, each of which is done before the next one, and its
+//! parts are made in any order: all rows at once, ranges of [`LinePairs`], or blocks of [`Squares`]. What is numbered is cut by a
+//! [`Cut`].
 
-ghost use Rattle.std.specs.Prelude.{length, ◌≡◌, ℕ, ◌+◌, ◌*◌, ◌%◌, ◌^◌, ◌<◌, ◌≤◌, if◌then◌else◌, max};
+ghost use Rattle.std.specs.Prelude.{length, ◌≡◌, ℕ, ◌+◌, ◌-◌, ◌*◌, ◌/◌, ◌%◌, ◌^◌, ◌<◌, ◌≤◌, if◌then◌else◌, max};
 ghost use Rattle.p3_util_kernels.specs.Blocks.{IsBlock, blocks_of, swaps_of_block};
+ghost use Rattle.p3_util_kernels.specs.Crossing.{HoldsRows, IsCrossed, line_pairs_of};
 ghost use Rattle.p3_util_kernels.specs.Diagonal.{SwapsAcross};
 ghost use Rattle.p3_util_kernels.specs.Parts.{FollowEachOther, number_of_pair, pairs_of, part_of_matrix, parts_in, start_of};
 ghost use Rattle.p3_util_kernels.specs.Region.{LiesInMatrix};
+ghost use Rattle.p3_util_kernels.specs.SwapCounts.{line_swaps};
+
+mod reversal;
+mod transpose;
 
 use crate::places::Places;
+use crate::reverse::{RowDigits, exchange_pairs};
 use crate::transpose::{Matrix, Region, Square, exchange_region, transpose_diagonal};
+pub(crate) use reversal::{Phase, ReversalPlan};
+pub(crate) use transpose::TransposePlan;
 
 /// The numbers below `len`, cut into parts of `step` neighbouring ones. The last part may have fewer.
 #[derive(Clone, Copy, Debug)]
@@ -96,8 +109,8 @@ impl Cut {
 /// Squares that lie side by side in rows of `stride` items. The rows and the columns of each are cut alike, into blocks.
 #[derive(Clone, Copy, Debug)]
 pub(crate) struct Squares {
-    pub stride: usize,
-    pub cut: Cut,
+    stride: usize,
+    cut: Cut,
     pub ghost some: { 0 < cut.len },
     pub ghost few: { cut.len < 2 ^ 32 },
     pub ghost fits: { cut.len * stride < 2 ^ 64 },
@@ -159,5 +172,41 @@ impl Squares {
         } else {
             exchange_region(m, square, region)
         }
+    }
+}
+
+/// The pairs of neighbouring lines of `rows`, by which the rows are reversed. They are cut into ranges.
+#[derive(Clone, Copy)]
+pub(crate) struct LinePairs {
+    rows: RowDigits,
+    cut: Cut,
+    pub ghost all: { cut.len ≡ line_pairs_of rows.digits },
+}
+
+impl LinePairs {
+    /// Cuts the line pairs of `rows` into at most `parts` ranges. 0 ranges are 1.
+    pub(crate) fn new(rows: RowDigits, parts: usize) -> LinePairs
+        requires { rows.digits < 64 }
+        ensures rows { result.rows ≡ rows }
+        ensures few { parts_in result.cut.len result.cut.step ≤ max parts 1 }
+    {
+        LinePairs {
+            rows,
+            cut: Cut::new(rows.line_pairs(), parts, 1),
+        }
+    }
+
+    /// Exchanges the pairs of rows of range `number`.
+    pub(crate) fn exchange<M: Places>(self, m: M, number: usize) -> M
+        requires below { number < parts_in self.cut.len self.cut.step }
+        requires ready { HoldsRows self.rows.width self.rows.digits (M.items m) }
+        ensures crossed { let half = self.rows.digits / 2 in IsCrossed half (self.rows.digits - half) self.rows.width
+            (record { row_start = 0; row_end = 2 ^ half; col_start = start_of self.cut.len self.cut.step number * 2; col_end = start_of self.cut.len self.cut.step (number + 1) * 2 })
+            (M.items m) (M.items result) }
+        ensures holder { M.same_holder (self.rows.width * (line_swaps self.rows.digits (start_of self.cut.len self.cut.step (number + 1))
+            - line_swaps self.rows.digits (start_of self.cut.len self.cut.step number))) m result }
+    {
+        let (from, to) = self.cut.part(number);
+        exchange_pairs(m, self.rows, from, to)
     }
 }

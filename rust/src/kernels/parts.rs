@@ -1,7 +1,18 @@
-//! The cut of a length into parts, by which calls are given to several threads.
+//! Calls that are cut into parts, each of which may run on a thread of its own. No thread is started here.
+//!
+//! What is cut and not yet done is a *plan*: of a transpose the [`TransposePlan`], of a reversal the [`ReversalPlan`]. The regions
+//! of a transpose are put in any order. A reversal has one *phase* or three, each of which is done before the next one, and its
+//! parts are made in any order: all rows at once, ranges of [`LinePairs`], or blocks of [`Squares`]. What is numbered is cut by a
+//! [`Cut`].
+
+mod reversal;
+mod transpose;
 
 use crate::kernels::places::Places;
+use crate::kernels::reverse::{RowDigits, exchange_pairs};
 use crate::kernels::transpose::{Matrix, Region, Square, exchange_region, transpose_diagonal};
+pub(crate) use reversal::{Phase, ReversalPlan};
+pub(crate) use transpose::TransposePlan;
 
 /// The numbers below `len`, cut into parts of `step` neighbouring ones. The last part may have fewer.
 #[derive(Clone, Copy, Debug)]
@@ -62,8 +73,8 @@ impl Cut {
 /// Squares that lie side by side in rows of `stride` items. The rows and the columns of each are cut alike, into blocks.
 #[derive(Clone, Copy, Debug)]
 pub(crate) struct Squares {
-    pub stride: usize,
-    pub cut: Cut,
+    stride: usize,
+    cut: Cut,
 }
 
 impl Squares {
@@ -104,5 +115,28 @@ impl Squares {
         } else {
             exchange_region(m, square, region)
         }
+    }
+}
+
+/// The pairs of neighbouring lines of `rows`, by which the rows are reversed. They are cut into ranges.
+#[derive(Clone, Copy)]
+pub(crate) struct LinePairs {
+    rows: RowDigits,
+    cut: Cut,
+}
+
+impl LinePairs {
+    /// Cuts the line pairs of `rows` into at most `parts` ranges. 0 ranges are 1.
+    pub(crate) fn new(rows: RowDigits, parts: usize) -> LinePairs {
+        LinePairs {
+            rows,
+            cut: Cut::new(rows.line_pairs(), parts, 1),
+        }
+    }
+
+    /// Exchanges the pairs of rows of range `number`.
+    pub(crate) fn exchange<M: Places>(self, m: M, number: usize) -> M {
+        let (from, to) = self.cut.part(number);
+        exchange_pairs(m, self.rows, from, to)
     }
 }

@@ -14,14 +14,14 @@ pub(crate) use split::put_split;
 pub use split::{transpose_source_split_on, transpose_split_on};
 pub use square::{fits_square, transpose_square_on};
 pub(crate) use square::{Square, exchange_region, transpose_diagonal, transpose_square};
-pub(crate) use strips::Strips;
 use strips::put_strips;
+pub(crate) use strips::{Strips, TILE_SIDE};
 
 /// The number of items above which a matrix is split.
 const LARGE_MATRIX: usize = 1_048_576;
 
 /// As many levels as the split of any matrix needs, and more.
-const ENOUGH_LEVELS: u32 = 64;
+pub(crate) const ENOUGH_LEVELS: u32 = 64;
 
 /// Whether an input and an output of these lengths hold a matrix of `width` by `height` items, with the product as a
 /// whole number that does not wrap. It is the test for the condition of [`transpose`] and [`transpose_on`].

@@ -5,7 +5,9 @@ use std::collections::BTreeSet;
 use std::vec::Vec;
 
 use super::*;
-use crate::kernels::places::SliceSource;
+use crate::kernels::parts::{Cut, LinePairs, Squares};
+use crate::kernels::places::{Places, SliceSource};
+use crate::kernels::reverse::RowDigits;
 
 /// A list of numbers that notes each place that is stepped on.
 #[derive(Debug)]
@@ -77,9 +79,10 @@ fn check_matrix(width: usize, height: usize, parts: usize) {
     let regions = Regions::new(Matrix::new(SliceSource::new(&input), width, height), parts);
     let wanted = |number, place| {
         let (x, y) = (place / height, place % height);
-        let region = regions.region(number);
-        let is_inside =
-            (region.row_start..region.row_end).contains(&y) && (region.col_start..region.col_end).contains(&x);
+        let by_rows = height > width && cfg!(not(feature = "checked"));
+        let cut = Cut::new(if by_rows { height } else { width }, parts, 16);
+        let (from, to) = cut.part(number);
+        let is_inside = (from..to).contains(if by_rows { &y } else { &x });
         if is_inside { input[y * width + x] } else { place }
     };
     let puts = check(len, regions.count(), |noted, number| regions.put(noted, number), wanted);
@@ -117,14 +120,9 @@ fn line(digits: usize, row: usize) -> usize {
 fn ranges_of_line_pairs() {
     let cases = (0..=9).flat_map(|digits| (0..=9).map(move |parts| (digits, parts)));
     for ((digits, parts), width) in cases.flat_map(|case| [(case, 1), (case, 3)]) {
-        let phase = Phases {
-            row_width: width,
-            parts,
-        }
-        .line_pairs(RowDigits { width, digits });
-        let Phase::LinePairs(_, cut) = phase else {
-            unreachable!()
-        };
+        let rows = RowDigits { width, digits };
+        let phase = Phase::Ranges(LinePairs::new(rows, parts));
+        let cut = Cut::new(rows.line_pairs(), parts, 1);
         let wanted = |number, place: usize| {
             let (row, (from, to)) = (place / width, cut.part(number));
             let is_inside = (from..to).contains(&(line(digits, row) / 2));
@@ -135,7 +133,7 @@ fn ranges_of_line_pairs() {
         let moved = check(
             len,
             phase.count(),
-            |noted, number| phase.exchange(noted, number),
+            |noted, number| _ = phase.exchange(noted, number),
             wanted,
         );
         let all = (0..len).filter(|place| reversed(digits, place / width) != place / width);
@@ -150,8 +148,8 @@ fn blocks_of_squares() {
         .flat_map(|side| (0..=9).map(move |parts| (*side, parts % 2 + 1, parts)))
     {
         let stride = side * count;
-        let phase = Phases { row_width: 1, parts }.squares(side, stride);
-        let cut = Cut::new(side, parts, UNIT);
+        let cut = Cut::new(side, parts, 16);
+        let phase = Phase::Blocks(Squares::new(stride, cut));
         let wanted = |number: usize, place: usize| {
             let (square, row, col) = (place % stride / side, place / stride, place % side);
             let (first, second) = cut.pair(number % cut.pairs());
@@ -166,7 +164,7 @@ fn blocks_of_squares() {
         let moved = check(
             side * stride,
             phase.count(),
-            |noted, number| phase.exchange(noted, number),
+            |noted, number| _ = phase.exchange(noted, number),
             wanted,
         );
         assert_eq!(moved, side * (side - 1) * count, "side {side} in {parts} parts");
@@ -180,13 +178,15 @@ fn long_lists() {
     for (digits, row_width, count) in [(19, 1, 3), (20, 1, 3), (15, 20, 1)] {
         let len = row_width << digits;
         let mut noted = Noted::numbered(len);
-        let phases: Vec<Phase> = Phases { row_width, parts: 5 }.of(len).collect();
+        let phases: Vec<Phase> = (0..4)
+            .map_while(|number| Phases { row_width, parts: 5 }.phase(len, number))
+            .collect();
         assert_eq!(phases.len(), count);
         for phase in phases {
             let mut owners = std::vec![usize::MAX; len];
             for number in 0..phase.count() {
                 noted.places.clear();
-                phase.exchange(&mut noted, number);
+                let _ = phase.exchange(&mut noted, number);
                 for place in &noted.places {
                     assert!([usize::MAX, number].contains(&owners[*place]));
                     owners[*place] = number;

@@ -19,7 +19,7 @@ use crate::transpose::regions::{Matrix, Region};
 const SMALL_MATRIX: usize = 1024;
 
 /// The side of a tile.
-const TILE_SIDE: usize = 16;
+pub(crate) const TILE_SIDE: usize = 16;
 
 /// The side of a block.
 const BLOCK_SIDE: usize = 4;

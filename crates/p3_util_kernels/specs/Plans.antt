@@ -1,0 +1,67 @@
+-- Plans of reversals, their phases and the parts of these, for the contracts of `src/parts/reversal.rt`.
+use Rattle.std.specs.Prelude.{ℕ, ◌≡◌, ◌+◌, ◌-◌, ◌*◌, ◌/◌, ◌^◌, ◌<◌, ◌≤◌, ◌==◌, if◌then◌else◌, max, List, [], ◌∷◌, length}
+use Rattle.p3_util_kernels.specs.declared.parts.reversal.Phase.{Phase}
+use Rattle.p3_util_kernels.specs.declared.parts.reversal.Phase.TheVariants.{Rows, Ranges, Blocks}
+use Rattle.p3_util_kernels.specs.declared.parts.reversal.ReversalPlan.{ReversalPlan}
+use Rattle.p3_util_kernels.specs.declared.parts.reversal.ReversalPlan.TheVariants.{Nothing, OnePart, ByRanges, Long}
+use Rattle.p3_util_kernels.specs.declared.transpose.regions.Region.{Region}
+use Rattle.p3_util_kernels.specs.Blocks.{IsBlock, blocks_of, swaps_of_block}
+use Rattle.p3_util_kernels.specs.Crossing.{IsCrossed}
+use Rattle.p3_util_kernels.specs.Diagonal.{SwapsAcross}
+use Rattle.p3_util_kernels.specs.Levels.{clog}
+use Rattle.p3_util_kernels.specs.Parts.{parts_in, start_of}
+use Rattle.p3_util_kernels.specs.Reversal.{FitsRows, IsRowReversal}
+use Rattle.p3_util_kernels.specs.SwapCounts.{line_swaps, reversal_swaps, row_swaps}
+
+-- the phases of a plan, in order
+abbrev pub phases_of : ReversalPlan → List Phase
+phases_of Nothing = []
+phases_of (OnePart rows) = Rows rows ∷ []
+phases_of (ByRanges pairs) = Ranges pairs ∷ []
+phases_of (Long pairs squares) = Ranges pairs ∷ Blocks squares ∷ Ranges pairs ∷ []
+
+-- The plan is by chunks, squares and chunks, of 2 ^ digits items.
+abbrev pub IsLongPlan : (digits parts : ℕ) → ReversalPlan → Type 0
+IsLongPlan digits parts (Long pairs squares) =
+    let half = digits / 2 in
+    (pairs.rows.width ≡ 2 ^ (digits - half)) × (pairs.rows.digits ≡ half) × (parts_in pairs.cut.len pairs.cut.step ≤ max parts 1)
+    × (squares.stride ≡ 2 ^ (digits - half)) × (squares.cut.len ≡ 2 ^ half) × (parts_in squares.cut.len squares.cut.step ≤ max parts 1)
+IsLongPlan digits parts _ = ⊥
+
+-- The plan is that of a reversal of the rows of a list of so many items. It is cut where there are more than `one_part` items.
+abbrev pub IsReversalPlan : (len row_width parts one_part : ℕ) → ReversalPlan → Type 0
+IsReversalPlan len row_width parts one_part Nothing = len ≡ 0
+IsReversalPlan len row_width parts one_part (OnePart rows) =
+    (0 < len) × (len ≤ one_part) × (rows.width ≡ row_width) × (rows.digits ≡ clog (len / row_width))
+IsReversalPlan len row_width parts one_part (ByRanges pairs) =
+    (one_part < len) × (1 < row_width) × (pairs.rows.width ≡ row_width) × (pairs.rows.digits ≡ clog (len / row_width))
+    × (parts_in pairs.cut.len pairs.cut.step ≤ max parts 1)
+IsReversalPlan len row_width parts one_part (Long pairs squares) =
+    (one_part < len) × (0 < len) × (row_width ≡ 1) × IsLongPlan (clog len) parts (Long pairs squares)
+
+-- how many parts a phase has
+abbrev pub parts_of : Phase → ℕ
+parts_of (Rows rows) = 1
+parts_of (Ranges pairs) = parts_in pairs.cut.len pairs.cut.step
+parts_of (Blocks squares) = blocks_of squares.cut.len squares.stride squares.cut.step
+
+-- The phase is one of a list of so many items.
+abbrev pub IsPhaseOf : Phase → (len : ℕ) → Type 0
+IsPhaseOf (Rows rows) len = FitsRows len rows.width × (rows.digits ≡ clog (len / rows.width))
+IsPhaseOf (Ranges pairs) len = (0 < pairs.rows.width) × (pairs.rows.digits < 64) × (len ≡ pairs.rows.width * 2 ^ pairs.rows.digits)
+IsPhaseOf (Blocks squares) len = len ≡ squares.cut.len * squares.stride
+
+-- Part `number` of a phase is made, by steps of which `Steps` says how many they are: all rows are reversed, the rows of a range
+-- are exchanged, or a block is exchanged with its mirror image.
+abbrev pub IsPartMade : {A : Type 0} (phase : Phase) (number : ℕ) (old new : List A) (Steps : ℕ → Type 0) → Type 0
+IsPartMade (Rows rows) number old new Steps =
+    IsRowReversal rows.width old new × Steps (if rows.width == 1 then reversal_swaps (length old) else row_swaps (length old) rows.width)
+IsPartMade (Ranges pairs) number old new Steps =
+    let digits = pairs.rows.digits in
+    let from = start_of pairs.cut.len pairs.cut.step number in
+    let to = start_of pairs.cut.len pairs.cut.step (number + 1) in
+    IsCrossed (digits / 2) (digits - digits / 2) pairs.rows.width (record { row_start = 0; row_end = 2 ^ (digits / 2); col_start = from * 2; col_end = to * 2 }) old new
+    × Steps (pairs.rows.width * (line_swaps digits to - line_swaps digits from))
+IsPartMade (Blocks squares) number old new Steps =
+    (base : ℕ) × (region : Region) × IsBlock squares.cut.len squares.stride squares.cut.step number base region
+    × SwapsAcross base squares.stride region old new × Steps (swaps_of_block region)

@@ -1,0 +1,99 @@
+//! The regions that the transpose of a matrix is cut into.
+
+ghost use Rattle.std.specs.Prelude.{◌≡◌, ℕ, ◌+◌, ◌*◌, ◌%◌, ◌^◌, ◌<◌, ◌≤◌, ◌↔◌, IsTrue, if◌then◌else◌, length, max};
+ghost use Rattle.p3_util_kernels.specs.Parts.{part_of_matrix, parts_in, start_of};
+ghost use Rattle.p3_util_kernels.specs.Region.{IsRegionTransposed, items_of};
+
+use crate::parts::Cut;
+use crate::places::{Cells, Source};
+use crate::transpose::{ENOUGH_LEVELS, Matrix, Strips, TILE_SIDE, put_split};
+
+/// A transpose of a matrix of `height` rows of `width` items that is cut into regions: by its rows or by its columns.
+#[derive(Clone, Copy, Debug)]
+pub(crate) struct TransposePlan {
+    width: usize,
+    height: usize,
+    by_rows: bool,
+    cut: Cut,
+    pub ghost side: { 0 < cut.len → cut.len ≡ if by_rows then height else width },
+    pub ghost all: { cut.len ≡ 0 → width * height ≡ 0 },
+    pub ghost fits: { width * height < 2 ^ 64 },
+}
+
+impl TransposePlan {
+    /// Cuts the longer side into at most `parts` parts, at multiples of the side of a tile, or always the columns where the rows may
+    /// not be cut. 0 parts are 1. Of a matrix with no item there is no region.
+    pub(crate) fn new(
+        width: usize,
+        height: usize,
+        parts: usize,
+        may_cut_rows: bool,
+    ) -> TransposePlan
+        requires { width * height < 2 ^ 64 }
+        ensures width { result.width ≡ width }
+        ensures height { result.height ≡ height }
+        ensures by_rows { IsTrue result.by_rows ↔ (IsTrue may_cut_rows × (width < height)) }
+        ensures empty { width * height ≡ 0 → parts_in result.cut.len result.cut.step ≡ 0 }
+        ensures few { parts_in result.cut.len result.cut.step ≤ max parts 1 }
+        ensures units { (k : ℕ) → k < parts_in result.cut.len result.cut.step
+            → start_of result.cut.len result.cut.step k % TILE_SIDE ≡ 0 }
+    {
+        let by_rows = may_cut_rows && height > width;
+        let side = if width == 0 || height == 0 {
+            0
+        } else if by_rows {
+            height
+        } else {
+            width
+        };
+        TransposePlan {
+            width,
+            height,
+            by_rows,
+            cut: Cut::new(side, parts, TILE_SIDE),
+        }
+    }
+
+    /// The number of regions.
+    pub(crate) fn count(self) -> usize
+        ensures { result ≡ parts_in self.cut.len self.cut.step }
+    {
+        self.cut.count()
+    }
+
+    /// The number of items of region `number`. Where the columns are cut, these are put at following cells, behind those of the
+    /// regions before it.
+    pub(crate) fn items(self, number: usize) -> usize
+        requires { number < parts_in self.cut.len self.cut.step }
+        ensures { result ≡ items_of (part_of_matrix self.width self.height self.by_rows self.cut.len self.cut.step number) }
+    {
+        let region = self.cut.region(
+            &Matrix::new((), self.width, self.height),
+            self.by_rows,
+            number,
+        );
+        region.rows() * region.cols()
+    }
+
+    /// Puts the transpose of region `number` of `source` into cells for that of the whole matrix, by `strips`.
+    pub(crate) fn put<C: Cells, R: Source<Item = C::Item> + Copy>(
+        self,
+        out: C,
+        source: R,
+        number: usize,
+        strips: Strips,
+    ) -> C
+        requires below { number < parts_in self.cut.len self.cut.step }
+        requires input_fits { length (R.items source) ≡ self.width * self.height }
+        requires output_fits { length (C.items out) ≡ self.width * self.height }
+        ensures transposed { IsRegionTransposed (part_of_matrix self.width self.height self.by_rows self.cut.len self.cut.step number)
+            self.width self.height (R.items source) (C.items out) (C.items result) }
+        ensures holder { C.same_holder (items_of (part_of_matrix self.width self.height self.by_rows self.cut.len self.cut.step number))
+            out result }
+    {
+        let matrix = Matrix::new(source, self.width, self.height);
+        let region = self.cut.region(&matrix, self.by_rows, number);
+        let (out, _) = put_split(out, matrix, region, ENOUGH_LEVELS, strips);
+        out
+    }
+}

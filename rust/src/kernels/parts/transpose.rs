@@ -1,0 +1,70 @@
+//! The regions that the transpose of a matrix is cut into.
+
+use crate::kernels::parts::Cut;
+use crate::kernels::places::{Cells, Source};
+use crate::kernels::transpose::{ENOUGH_LEVELS, Matrix, Strips, TILE_SIDE, put_split};
+
+/// A transpose of a matrix of `height` rows of `width` items that is cut into regions: by its rows or by its columns.
+#[derive(Clone, Copy, Debug)]
+pub(crate) struct TransposePlan {
+    width: usize,
+    height: usize,
+    by_rows: bool,
+    cut: Cut,
+}
+
+impl TransposePlan {
+    /// Cuts the longer side into at most `parts` parts, at multiples of the side of a tile, or always the columns where the rows may
+    /// not be cut. 0 parts are 1. Of a matrix with no item there is no region.
+    pub(crate) fn new(
+        width: usize,
+        height: usize,
+        parts: usize,
+        may_cut_rows: bool,
+    ) -> TransposePlan {
+        let by_rows = may_cut_rows && height > width;
+        let side = if width == 0 || height == 0 {
+            0
+        } else if by_rows {
+            height
+        } else {
+            width
+        };
+        TransposePlan {
+            width,
+            height,
+            by_rows,
+            cut: Cut::new(side, parts, TILE_SIDE),
+        }
+    }
+
+    /// The number of regions.
+    pub(crate) fn count(self) -> usize {
+        self.cut.count()
+    }
+
+    /// The number of items of region `number`. Where the columns are cut, these are put at following cells, behind those of the
+    /// regions before it.
+    pub(crate) fn items(self, number: usize) -> usize {
+        let region = self.cut.region(
+            &Matrix::new((), self.width, self.height),
+            self.by_rows,
+            number,
+        );
+        region.rows() * region.cols()
+    }
+
+    /// Puts the transpose of region `number` of `source` into cells for that of the whole matrix, by `strips`.
+    pub(crate) fn put<C: Cells, R: Source<Item = C::Item> + Copy>(
+        self,
+        out: C,
+        source: R,
+        number: usize,
+        strips: Strips,
+    ) -> C {
+        let matrix = Matrix::new(source, self.width, self.height);
+        let region = self.cut.region(&matrix, self.by_rows, number);
+        let (out, _) = put_split(out, matrix, region, ENOUGH_LEVELS, strips);
+        out
+    }
+}
