@@ -1,0 +1,30 @@
+-- Reversed digits of even and odd numbers, and std's test of a power of two.
+use Rattle.std.proofs.Common.{◌≡◌, ℕ, ◌+◌, ◌*◌, ◌^◌, ◌<◌, true, inl, refl, arith}
+use Rattle.std.proofs.lemmas.Nat.{pow-add}
+use Rattle.std.specs.Int.{is_power_of_two}
+use Rattle.p3_util_kernels.specs.Digits.{rev}
+use Rattle.p3_util_kernels.specs.Powers.{HasLog2}
+use Rattle.p3_util_kernels.proofs.DigitsLemmas.{rev-parts, rev-shl, rev-suc, rev-zero}
+use Rattle.p3_util_kernels.proofs.PowersLemmas.{power_of_two_test as power_test}
+
+-- the reverse of an even number, and of an odd one
+pub rev_even : (k b : ℕ) → rev (k + 1) (2 * b) ≡ rev k b
+rev_even k b =
+    let double : 2 * b ≡ b * 2 ^ 1 = omega arith in
+    rw double (rev-shl k 1 b)
+
+pub rev_odd : (k b : ℕ) → rev (k + 1) (2 * b + 1) ≡ 2 ^ k + rev k b
+rev_odd k b =
+    let double : 2 * b + 1 ≡ b * 2 ^ 1 + 1 = omega arith in
+    let one : rev 1 1 ≡ 1 = rw (rev-suc 0 1, rev-zero 1) refl in
+    rw (double, rev-parts k 1 b 1 (omega arith), one) (omega arith)
+
+-- a pair of neighbours lies in the list of twice as many
+pub pair_below : (k i : ℕ) → i < 2 ^ k → 2 * i + 1 < 2 ^ (k + 1)
+pair_below k i h =
+    let double : 2 ^ (k + 1) ≡ 2 ^ k * 2 ^ 1 = pow-add 2 k 1 in
+    omega arith
+
+-- A number that passes std's test has a logarithm. The search knows it; a proof by hand names the lemma.
+pub power_of_two_test : (n : ℕ) → is_power_of_two n ≡ true → HasLog2 n
+power_of_two_test n tested = inl ((power_test n).0 tested)

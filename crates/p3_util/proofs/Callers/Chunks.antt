@@ -1,0 +1,36 @@
+-- What calls on chunks add up, and what padded lanes do.
+use Rattle.std.proofs.Common.{◌≡◌, ℕ, ◌+◌, ◌-◌, ◌<◌, List, [], ◌∷◌, ◌++◌, length, map, sum, refl, sym, ap, ◌∙◌, arith}
+use Rattle.std.proofs.lemmas.List.Folds.{sum_by-replicate}
+use Rattle.std.proofs.lemmas.List.Sums.{sum-map, sum_by-append, sum_by-cons}
+use Rattle.std.specs.List.{FoldsTo, sum_by}
+use Rattle.std.specs.Prelude.{replicate}
+use Rattle.p3_util.specs.Flat.{flat}
+use Rattle.p3_util.specs.Pieces.{padded, padded_pieces, pieces}
+use Rattle.p3_util.proofs.PiecesLemmas.{joined-pieces}
+
+-- Where each step over a piece adds its bytes to what `total` reads, the steps over all pieces add the bytes of all.
+pub folded_sum : {H : Type 0} (step : H → List ℕ → H → Type 0) (total : H → ℕ) (rows : List (List ℕ)) (f last : H)
+    → ((f g : H) (piece : List ℕ) → step f piece g → total g ≡ total f + sum piece) → FoldsTo step f rows last → total last ≡ total f + sum (flat rows)
+folded_sum step total [] f last adds same = ap total (sym same) ∙ omega arith
+folded_sum step total (piece ∷ rows) f last adds (g, one, rest) =
+    let first : total g ≡ total f + sum piece = adds f g piece one in
+    let others : total last ≡ total g + sum (flat rows) = folded_sum step total rows g last adds rest in
+    let all : sum (piece ++ flat rows) ≡ sum piece + sum (flat rows) = sum_by-append (λ x. x) piece (flat rows) in
+    omega arith
+
+-- Lanes that are filled with 0 add up to what the list does.
+lane_sum : (n : ℕ) (xs : List ℕ) → sum (padded n 0 xs) ≡ sum xs
+lane_sum n xs = rw (sum_by-append (λ x. x) xs (replicate (n - length xs) 0), sum_by-replicate (λ x. x) (n - length xs) 0) (omega arith)
+
+lanes_sum : (n : ℕ) (rows : List (List ℕ)) → sum_by sum (map (padded n 0) rows) ≡ sum (flat rows)
+lanes_sum n [] = refl
+lanes_sum n (row ∷ rows) =
+    let here : sum (padded n 0 row) ≡ sum row = lane_sum n row in
+    let rest : sum_by sum (map (padded n 0) rows) ≡ sum (flat rows) = lanes_sum n rows in
+    let cut : sum_by sum (map (padded n 0) (row ∷ rows)) ≡ sum (padded n 0 row) + sum_by sum (map (padded n 0) rows) =
+    sum_by-cons sum (padded n 0 row) (map (padded n 0) rows) in
+    let all : sum (row ++ flat rows) ≡ sum row + sum (flat rows) = sum_by-append (λ x. x) row (flat rows) in
+    omega arith
+
+pub padded_sum : (n : ℕ) (xs : List ℕ) → 0 < n → sum (map sum (padded_pieces n 0 xs)) ≡ sum xs
+padded_sum n xs some = sum-map sum (padded_pieces n 0 xs) ∙ rw (lanes_sum n (pieces n xs), joined-pieces n xs some) refl

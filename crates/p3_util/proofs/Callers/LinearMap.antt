@@ -1,0 +1,109 @@
+-- A map after an insert: what a look-up finds, all values, and their sum.
+use Rattle.std.proofs.Common.{◌≡◌, ◌≢◌, ℕ, suc, ◌+◌, ◌≤◌, Bool, true, false, not, cond, nat_eq, Some, None, List, [], ◌∷◌, ◌++◌, Bor, set, sum, refl, sym, ap, ◌∙◌, arith}
+use Rattle.std.proofs.lemmas.Bool.{ne_eqb}
+use Rattle.std.proofs.lemmas.List.{map-append}
+use Rattle.std.proofs.lemmas.Map.Entries.{sum_by-set_value}
+use Rattle.std.proofs.lemmas.Map.Steps.{lookup-le-sum}
+use Rattle.std.proofs.lemmas.List.Sums.{sum_by-append}
+use Rattle.std.specs.Cmp.{IsEquivalence, nat_eq_equiv}
+use Rattle.std.specs.Cmp.Lexicographic.{on_texts_equal, pointwise}
+use Rattle.std.specs.List.{position_or_len}
+use Rattle.std.specs.Map.{keys_of, lookup, set_value, values_of}
+use Rattle.std.specs.Option.{UnwrapsOrElse, unwrap_or}
+use Rattle.p3_util.specs.LinearMap.{put, value_at}
+use Rattle.p3_util.proofs.MapLemmas.{lookup_put}
+
+-- after `insert`: what a look-up finds
+module _ {K V : Type 0} {eq : K → K → Bool} (laws : IsEquivalence eq) where
+  pub key_found : (pairs : List (K × V)) (k : K) (v : V) → value_at eq (put eq pairs k v) k ≡ Some v
+  key_found pairs k v = lookup_put laws pairs k v k ∙ rw (laws.refl k) refl
+
+  pub key_others : (pairs : List (K × V)) (k : K) (v : V) (q : K) → eq k q ≡ false → value_at eq (put eq pairs k v) q ≡ value_at eq pairs q
+  key_others pairs k v q apart = lookup_put laws pairs k v q ∙ rw apart refl
+
+-- the same where the keys are numbers
+module _ {V : Type 0} where
+  pub number_found : (pairs : List (ℕ × V)) (k : ℕ) (v : V) → value_at nat_eq (put nat_eq pairs k v) k ≡ Some v
+  number_found = key_found nat_eq_equiv
+
+  pub number_others : (pairs : List (ℕ × V)) (k : ℕ) (v : V) (q : ℕ) → q ≢ k → value_at nat_eq (put nat_eq pairs k v) q ≡ value_at nat_eq pairs q
+  number_others pairs k v q apart = key_others nat_eq_equiv pairs k v q (ne_eqb k q (λ same. apart (sym same)))
+
+pub ruleset put_found = (key_found, number_found)
+
+pub ruleset put_others = (key_others, number_others)
+
+-- the first value whose key passes, replaced
+value_replaced : {K V : Type 0} (test : K → Bool) (es : List (K × V)) (old new : V) → lookup test es ≡ Some old
+    → values_of (set_value test es new) ≡ set (values_of es) (position_or_len test (keys_of es)) new
+value_replaced test [] old new found = absurd (cc)
+value_replaced test (e ∷ es) old new found =
+    elim (test e.0) as (λ b. cond b (Some e.1) (lookup test es) ≡ Some old
+    → values_of (cond b ((e.0, new) ∷ es) (e ∷ set_value test es new)) ≡ set (values_of (e ∷ es)) (cond (not b) (1 + position_or_len test (keys_of es)) 0) new) [
+      | true ↦ λ first. refl
+      | false ↦ λ later.
+          let next : 1 + position_or_len test (keys_of es) ≡ suc (position_or_len test (keys_of es)) = omega arith in
+          rw next (ap (λ l. e.1 ∷ l) (value_replaced test es old new later))
+    ] found
+
+-- after `insert`: what all values are, and what they add up to where they are numbers
+module _ {K V : Type 0} (eq : K → K → Bool) (pairs : List (K × V)) (k : K) (v : V) where
+  -- the value of a new key comes last
+  pub new_value_last : value_at eq pairs k ≡ None → values_of (put eq pairs k v) ≡ values_of pairs ++ v ∷ []
+  new_value_last absent = rw absent (map-append (λ (x : K × V). x.1) pairs ((k, v) ∷ []))
+
+  -- that of a known key takes the place of the old one
+  pub known_value_replaced : (old : V) → value_at eq pairs k ≡ Some old
+      → values_of (put eq pairs k v) ≡ set (values_of pairs) (position_or_len (eq k) (keys_of pairs)) v
+  known_value_replaced old found = rw found (value_replaced (eq k) pairs old v found)
+
+-- The values of a map to numbers, where 0 stands for a key that is not there: `insert` adds to their sum what it adds to the
+-- value, and no value is above the sum.
+module _ {K : Type 0} {eq : K → K → Bool} (laws : IsEquivalence eq) (pairs : List (K × ℕ)) (k : K) where
+  pub key_summed : (v : ℕ) → sum (values_of (put eq pairs k v)) + unwrap_or (value_at eq pairs k) 0 ≡ sum (values_of pairs) + v
+  key_summed v =
+      elim (value_at eq pairs k) as (λ o. value_at eq pairs k ≡ o → sum (values_of (put eq pairs k v)) + unwrap_or o 0 ≡ sum (values_of pairs) + v) [
+        | Some old ↦ λ known. rw known (sum_by-set_value (λ x. x) (eq k) pairs old v known)
+        | None ↦ λ absent. rw (new_value_last eq pairs k v absent) (ap (λ n. n + 0) (sum_by-append (λ x. x) (values_of pairs) (v ∷ [])) ∙ omega arith)
+      ] refl
+
+  pub key_within_sum : unwrap_or (value_at eq pairs k) 0 ≤ sum (values_of pairs)
+  key_within_sum = lookup-le-sum (eq k) pairs
+
+  -- the value that `get_or_insert_with` lends, where its closure gives 0
+  pub key_or_zero : (given : ℕ → Type 0) (value : ℕ) → UnwrapsOrElse (value_at eq pairs k) given value → ((x : ℕ) → given x → x ≡ 0)
+      → unwrap_or (value_at eq pairs k) 0 ≡ value
+  key_or_zero given value lent zero_given =
+      elim (value_at eq pairs k) as (λ o. UnwrapsOrElse o given value → unwrap_or o 0 ≡ value) [
+        | Some old ↦ λ same. sym same
+        | None ↦ λ made. sym (zero_given value made)
+      ] lent
+
+-- the same where the keys are texts, as `&str` compares them
+abbrev pub text_eq : Bor (List ℕ) → Bor (List ℕ) → Bool
+text_eq x y = pointwise nat_eq x.now y.now
+
+module _ (pairs : List (Bor (List ℕ) × ℕ)) (k : Bor (List ℕ)) where
+  pub text_summed : (v : ℕ) → sum (values_of (put text_eq pairs k v)) + unwrap_or (value_at text_eq pairs k) 0 ≡ sum (values_of pairs) + v
+  text_summed = key_summed (on_texts_equal (λ x. x.now)) pairs k
+
+  pub text_within_sum : unwrap_or (value_at text_eq pairs k) 0 ≤ sum (values_of pairs)
+  text_within_sum = key_within_sum (on_texts_equal (λ x. x.now)) pairs k
+
+  pub text_or_zero : (given : ℕ → Type 0) (value : ℕ) → UnwrapsOrElse (value_at text_eq pairs k) given value → ((x : ℕ) → given x → x ≡ 0)
+      → unwrap_or (value_at text_eq pairs k) 0 ≡ value
+  text_or_zero = key_or_zero (on_texts_equal (λ x. x.now)) pairs k
+
+-- the same where the keys are numbers
+module _ (pairs : List (ℕ × ℕ)) (k : ℕ) where
+  pub number_summed : (v : ℕ) → sum (values_of (put nat_eq pairs k v)) + unwrap_or (value_at nat_eq pairs k) 0 ≡ sum (values_of pairs) + v
+  number_summed = key_summed nat_eq_equiv pairs k
+
+  pub number_within_sum : unwrap_or (value_at nat_eq pairs k) 0 ≤ sum (values_of pairs)
+  number_within_sum = key_within_sum nat_eq_equiv pairs k
+
+  pub number_or_zero : (given : ℕ → Type 0) (value : ℕ) → UnwrapsOrElse (value_at nat_eq pairs k) given value → ((x : ℕ) → given x → x ≡ 0)
+      → unwrap_or (value_at nat_eq pairs k) 0 ≡ value
+  number_or_zero = key_or_zero nat_eq_equiv pairs k
+
+pub ruleset values_summed = (key_summed, number_summed, text_summed, key_within_sum, number_within_sum, text_within_sum, key_or_zero, number_or_zero, text_or_zero)

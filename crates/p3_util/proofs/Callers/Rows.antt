@@ -1,0 +1,35 @@
+-- A list after a write to a part of it.
+use Rattle.std.proofs.Common.{◌≡◌, ℕ, ◌+◌, ◌-◌, ◌<◌, ◌≤◌, List, ◌++◌, length, slice_get, take, drop, ◌∙◌, arith, length-append, length-drop}
+use borrow.Rule.Slice.PartMut.{mid_of, put_mid}
+use Rattle.std.proofs.lemmas.List.{length-take-le}
+use Rattle.p3_util_kernels.proofs.Cuts.{slice_get-append_left, slice_get-append_right, slice_get-drop, slice_get-take}
+
+-- A list after a write to the part of k items from place a on, which holds `part` then, as in `&mut xs[a..a + k]`. Every other
+-- place holds what it held.
+module _ {A : Type 0} (a k : ℕ) (xs part : List A) (fits : a + k ≤ length xs) (same : length part ≡ k) where
+  pub part_length : length (put_mid a k xs part) ≡ length xs
+  part_length =
+      let front : length (take a xs) ≡ a = length-take-le a xs (omega arith) in
+      simp length-append (omega (arith, length-drop k (drop a xs), length-drop a xs))
+
+  pub part_inside : (j : ℕ) → j < k → slice_get (put_mid a k xs part) (a + j) ≡ slice_get part j
+  part_inside j h =
+      let front : length (take a xs) ≡ a = length-take-le a xs (omega arith) in
+      slice_get-append_right (take a xs) (part ++ drop k (drop a xs)) (a + j) j (omega arith)
+      ∙ slice_get-append_left part (drop k (drop a xs)) j (omega arith)
+
+  pub part_before : (p : ℕ) → p < a → slice_get (put_mid a k xs part) p ≡ slice_get xs p
+  part_before p h =
+      let front : length (take a xs) ≡ a = length-take-le a xs (omega arith) in
+      slice_get-append_left (take a xs) (part ++ drop k (drop a xs)) p (omega arith) ∙ slice_get-take a xs p h
+
+  pub part_after : (p : ℕ) → a + k ≤ p → slice_get (put_mid a k xs part) p ≡ slice_get xs p
+  part_after p h =
+      let front : length (take a xs) ≡ a = length-take-le a xs (omega arith) in
+      slice_get-append_right (take a xs) (part ++ drop k (drop a xs)) p (p - a) (omega arith)
+      ∙ slice_get-append_right part (drop k (drop a xs)) (p - a) (p - a - k) (omega arith)
+      ∙ slice_get-drop k (drop a xs) (p - a - k) (p - a) (omega arith) ∙ slice_get-drop a xs (p - a) p (omega arith)
+
+-- the part itself, read
+pub part_read : {A : Type 0} (a k j : ℕ) (xs : List A) → j < k → slice_get (mid_of a k xs) j ≡ slice_get xs (a + j)
+part_read a k j xs h = slice_get-take k (drop a xs) j h ∙ slice_get-drop a xs j (a + j) (omega arith)

@@ -1,0 +1,45 @@
+-- The pair at a place, and a sum that is taken by remainders.
+use Rattle.std.proofs.Common.{◌≡◌, ℕ, zero, suc, ◌+◌, ◌*◌, ◌/◌, ◌%◌, ◌<◌, Some, List, [], ◌∷◌, map, slice_get, sum, refl, sym, ap, ◌∙◌, arith}
+use Rattle.std.proofs.lemmas.List.Sums.{sum-map}
+use Rattle.std.proofs.Math.Nat.{add-mul-mod_self_right, mod-add-div'}
+use Rattle.std.specs.List.{fold, zip}
+
+-- place i of the pairs of two lists
+pub zip_place : {A B : Type 0} (xs : List A) (ys : List B) (i : ℕ) (x : A) (y : B) → slice_get xs i ≡ Some x → slice_get ys i ≡ Some y
+    → slice_get (zip xs ys) i ≡ Some (x, y)
+zip_place [] ys i x y hx hy = search hx
+zip_place (x' ∷ xs) [] i x y hx hy = search hy
+zip_place (x' ∷ xs) (y' ∷ ys) zero x y hx hy = cc
+zip_place (x' ∷ xs) (y' ∷ ys) (suc i) x y hx hy = zip_place xs ys i x y hx hy
+
+-- A fold that takes a remainder at each step is the remainder of the sum.
+module _ {A : Type 0} (f : A → ℕ) (m : ℕ) where
+  one_remainder : (a b y : ℕ) → b % m ≡ a % m → (b % m + y) % m ≡ (a + y) % m
+  one_remainder a b y e =
+      let whole : a % m + a / m * m ≡ a = mod-add-div' a m in
+      let same : (a % m + y) + a / m * m ≡ a + y = omega arith in
+      let rest : ((a % m + y) + a / m * m) % m ≡ (a % m + y) % m = add-mul-mod_self_right (a % m + y) (a / m) m in
+      rw e (sym rest ∙ ap (λ k. k % m) same)
+
+  remainders : (xs : List A) (a b : ℕ) → b % m ≡ a % m → fold (λ s x. (s + f x) % m) (b % m) xs ≡ fold (λ s x. s + f x) a xs % m
+  remainders [] a b e = e
+  remainders (x ∷ xs) a b e = remainders xs (a + f x) (b % m + f x) (one_remainder a b (f x) e)
+
+  -- the same where the state is reduced first
+  reduced : (xs : List A) (a b : ℕ) → b % m ≡ a % m → fold (λ s x. (s % m + f x) % m) (b % m) xs ≡ fold (λ s x. s + f x) a xs % m
+  reduced [] a b e = e
+  reduced (x ∷ xs) a b e =
+      let left : b % m + 0 ≡ b % m = omega arith in
+      let right : a + 0 ≡ a = omega arith in
+      let again : b % m % m ≡ a % m = rw (left, right) at (one_remainder a b 0 e) in
+      reduced xs (a + f x) (b % m % m + f x) (one_remainder a (b % m) (f x) again)
+
+  pub remainders_summed : (xs : List A) → 0 < m → fold (λ s x. (s + f x) % m) 0 xs ≡ sum (map f xs) % m
+  remainders_summed xs some =
+      let none : 0 % m ≡ 0 = omega arith in
+      rw sum-map (rw none at (remainders xs 0 0 refl))
+
+  pub reduced_summed : (xs : List A) → 0 < m → fold (λ s x. (s % m + f x) % m) 0 xs ≡ sum (map f xs) % m
+  reduced_summed xs some =
+      let none : 0 % m ≡ 0 = omega arith in
+      rw sum-map (rw none at (reduced xs 0 0 refl))
