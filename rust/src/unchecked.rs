@@ -7,7 +7,7 @@
 //!
 //! Parts of a call have one list at once. The holder of a part is a pointer and a length, and makes references to one place or
 //! one run at a time, never to the whole list. A part's kernel makes an exact number of steps, and it is proved
-//! (`crates/p3_util_kernels/src/laws/parts.rt`) that over items that all differ each of them is at another place of the part,
+//! (`crates/p3_util_kernels/src/parts/laws.rt`) that over items that all differ each of them is at another place of the part,
 //! and that two parts of a phase have no place in common. A kernel is generic in its items and in its holder, and calls no
 //! `clone`, `size_of`, `type_name` or `needs_drop`, so where it steps depends on the shape alone, and what holds of one list and
 //! one holder holds of all. This last step is said and not proved. A script looks for these words in the kernels' sources.

@@ -14,6 +14,10 @@ start-below len step some k below =
     let next : suc k * step ≤ parts_in len step * step = mul-le-mul_right step below in
     omega (arith, (div_ceil_times len step some).1, next)
 
+-- where there is a part there is a number
+pub side-cut : (len step : ℕ) → 0 < step → (k : ℕ) → k < parts_in len step → 0 < len
+side-cut len step some k below = omega (arith, start-below len step some k below)
+
 pub parts-within : (len step : ℕ) → 0 < step → parts_in len step ≤ len
 parts-within len step some =
     let whole : len / step * step + len % step ≡ len = div-add-mod' len step in

@@ -1,4 +1,5 @@
 -- Plans of reversals, their phases and the parts of these, for the contracts of `src/parts/reversal.rt`.
+-- Source: new.
 use Rattle.std.specs.Prelude.{ℕ, ◌≡◌, ◌+◌, ◌-◌, ◌*◌, ◌/◌, ◌^◌, ◌<◌, ◌≤◌, ◌==◌, if◌then◌else◌, max, List, [], ◌∷◌, length}
 use Rattle.p3_util_kernels.specs.declared.parts.reversal.Phase.{Phase}
 use Rattle.p3_util_kernels.specs.declared.parts.reversal.Phase.TheVariants.{Rows, Ranges, Blocks}
@@ -14,46 +15,48 @@ use Rattle.p3_util_kernels.specs.Reversal.{FitsRows, IsRowReversal}
 use Rattle.p3_util_kernels.specs.SwapCounts.{line_swaps, reversal_swaps, row_swaps}
 
 -- the phases of a plan, in order
-abbrev pub phases_of : ReversalPlan → List Phase
+abbrev pub phases_of : (plan : ReversalPlan) → List Phase
 phases_of Nothing = []
 phases_of (OnePart rows) = Rows rows ∷ []
 phases_of (ByRanges pairs) = Ranges pairs ∷ []
 phases_of (Long pairs squares) = Ranges pairs ∷ Blocks squares ∷ Ranges pairs ∷ []
 
--- The plan is by chunks, squares and chunks, of 2 ^ digits items.
-abbrev pub IsLongPlan : (digits parts : ℕ) → ReversalPlan → Type 0
-IsLongPlan digits parts (Long pairs squares) =
+-- the plan is of a reversal of the rows of a list of `len` items
+abbrev pub IsReversalPlan : (len row_width : ℕ) (plan : ReversalPlan) → Type 0
+IsReversalPlan len row_width Nothing = len ≡ 0
+IsReversalPlan len row_width (OnePart rows) = (0 < len) × (rows.width ≡ row_width) × (rows.digits ≡ clog (len / row_width))
+IsReversalPlan len row_width (ByRanges pairs) = (0 < len) × (pairs.rows.width ≡ row_width) × (pairs.rows.digits ≡ clog (len / row_width))
+IsReversalPlan len row_width (Long pairs squares) =
+    let digits = clog len in
     let half = digits / 2 in
-    (pairs.rows.width ≡ 2 ^ (digits - half)) × (pairs.rows.digits ≡ half) × (parts_in pairs.cut.len pairs.cut.step ≤ max parts 1)
-    × (squares.stride ≡ 2 ^ (digits - half)) × (squares.cut.len ≡ 2 ^ half) × (parts_in squares.cut.len squares.cut.step ≤ max parts 1)
-IsLongPlan digits parts _ = ⊥
+    (0 < len) × (row_width ≡ 1) × (pairs.rows.width ≡ 2 ^ (digits - half)) × (pairs.rows.digits ≡ half) × (squares.stride ≡ 2 ^ (digits - half))
+    × (squares.cut.len ≡ 2 ^ half)
 
--- The plan is that of a reversal of the rows of a list of so many items. It is cut where there are more than `one_part` items.
-abbrev pub IsReversalPlan : (len row_width parts one_part : ℕ) → ReversalPlan → Type 0
-IsReversalPlan len row_width parts one_part Nothing = len ≡ 0
-IsReversalPlan len row_width parts one_part (OnePart rows) =
-    (0 < len) × (len ≤ one_part) × (rows.width ≡ row_width) × (rows.digits ≡ clog (len / row_width))
-IsReversalPlan len row_width parts one_part (ByRanges pairs) =
-    (one_part < len) × (1 < row_width) × (pairs.rows.width ≡ row_width) × (pairs.rows.digits ≡ clog (len / row_width))
-    × (parts_in pairs.cut.len pairs.cut.step ≤ max parts 1)
-IsReversalPlan len row_width parts one_part (Long pairs squares) =
-    (one_part < len) × (0 < len) × (row_width ≡ 1) × IsLongPlan (clog len) parts (Long pairs squares)
+-- Up to `one_part` items the plan is one part. Beyond that rows of several items are cut into ranges, and rows of one item into
+-- ranges, blocks and ranges again. What is cut has at most `parts` parts, where 0 is 1.
+abbrev pub IsCutAsAsked : (len row_width parts one_part : ℕ) (plan : ReversalPlan) → Type 0
+IsCutAsAsked len row_width parts one_part Nothing = len ≡ 0
+IsCutAsAsked len row_width parts one_part (OnePart rows) = len ≤ one_part
+IsCutAsAsked len row_width parts one_part (ByRanges pairs) = (one_part < len) × (1 < row_width) × (parts_in pairs.cut.len pairs.cut.step ≤ max parts 1)
+IsCutAsAsked len row_width parts one_part (Long pairs squares) =
+    (one_part < len) × (row_width ≡ 1) × (parts_in pairs.cut.len pairs.cut.step ≤ max parts 1)
+    × (parts_in squares.cut.len squares.cut.step ≤ max parts 1)
 
 -- how many parts a phase has
-abbrev pub parts_of : Phase → ℕ
+abbrev pub parts_of : (phase : Phase) → ℕ
 parts_of (Rows rows) = 1
 parts_of (Ranges pairs) = parts_in pairs.cut.len pairs.cut.step
 parts_of (Blocks squares) = blocks_of squares.cut.len squares.stride squares.cut.step
 
--- The phase is one of a list of so many items.
-abbrev pub IsPhaseOf : Phase → (len : ℕ) → Type 0
+-- the phase is one of a list of `len` items
+abbrev pub IsPhaseOf : (phase : Phase) (len : ℕ) → Type 0
 IsPhaseOf (Rows rows) len = FitsRows len rows.width × (rows.digits ≡ clog (len / rows.width))
 IsPhaseOf (Ranges pairs) len = (0 < pairs.rows.width) × (pairs.rows.digits < 64) × (len ≡ pairs.rows.width * 2 ^ pairs.rows.digits)
 IsPhaseOf (Blocks squares) len = len ≡ squares.cut.len * squares.stride
 
 -- Part `number` of a phase is made, by steps of which `Steps` says how many they are: all rows are reversed, the rows of a range
 -- are exchanged, or a block is exchanged with its mirror image.
-abbrev pub IsPartMade : {A : Type 0} (phase : Phase) (number : ℕ) (old new : List A) (Steps : ℕ → Type 0) → Type 0
+abbrev pub IsPartMade : {A : Type 0} → (phase : Phase) (number : ℕ) (old new : List A) (Steps : ℕ → Type 0) → Type 0
 IsPartMade (Rows rows) number old new Steps =
     IsRowReversal rows.width old new × Steps (if rows.width == 1 then reversal_swaps (length old) else row_swaps (length old) rows.width)
 IsPartMade (Ranges pairs) number old new Steps =

@@ -3,8 +3,6 @@
 ghost use Rattle.std.specs.Prelude.{ℕ};
 ghost use Rattle.p3_util_kernels.specs.Least.{LeastPuts, LeastReversal, LeastSquare, Palindromes, PutsChange, ReversalDiffers, SquareDiffers, SwapsChange};
 
-mod parts;
-
 /// The law of least numbers, over lists of numbers: that of [`least_runs_of`] for them.
 pub fn least_runs()
     ensures swaps_change { SwapsChange ℕ }

@@ -13,6 +13,7 @@ ghost use Rattle.p3_util_kernels.specs.Parts.{FollowEachOther, number_of_pair, p
 ghost use Rattle.p3_util_kernels.specs.Region.{LiesInMatrix};
 ghost use Rattle.p3_util_kernels.specs.SwapCounts.{line_swaps};
 
+mod laws;
 mod reversal;
 mod transpose;
 

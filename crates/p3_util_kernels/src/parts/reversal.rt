@@ -1,7 +1,8 @@
 //! The phases that a reversal is cut into, and their parts.
 
-ghost use Rattle.std.specs.Prelude.{◌≡◌, ℕ, ◌^◌, ◌<◌, Some, length, slice_get};
-ghost use Rattle.p3_util_kernels.specs.Plans.{IsLongPlan, IsPartMade, IsPhaseOf, IsReversalPlan, parts_of, phases_of};
+ghost use Rattle.std.specs.Prelude.{◌≡◌, ℕ, ◌-◌, ◌/◌, ◌^◌, ◌<◌, ◌≤◌, Some, length, max, slice_get};
+ghost use Rattle.p3_util_kernels.specs.Parts.{parts_in};
+ghost use Rattle.p3_util_kernels.specs.Plans.{IsCutAsAsked, IsPartMade, IsPhaseOf, IsReversalPlan, parts_of, phases_of};
 ghost use Rattle.p3_util_kernels.specs.Reversal.{FitsRows};
 
 use crate::bits::pow2;
@@ -39,7 +40,8 @@ impl ReversalPlan {
     /// beyond that the line pairs, and each side of a square, are cut into at most `parts` parts. 0 parts are 1.
     pub(crate) fn new(len: usize, row_width: usize, parts: usize, one_part: usize) -> ReversalPlan
         requires { FitsRows len row_width }
-        ensures plan { IsReversalPlan len row_width parts one_part result }
+        ensures plan { IsReversalPlan len row_width result }
+        ensures cut { IsCutAsAsked len row_width parts one_part result }
         ensures phases { (k : ℕ) (phase : Phase) → slice_get (phases_of result) k ≡ Some phase → IsPhaseOf phase len }
     {
         if len == 0 {
@@ -51,22 +53,9 @@ impl ReversalPlan {
         } else if row_width > 1 {
             ReversalPlan::ByRanges(LinePairs::new(rows, parts))
         } else {
-            ReversalPlan::long(rows.digits, parts)
+            let (chunks, squares) = chunks_and_squares(rows.digits, parts);
+            ReversalPlan::Long(chunks, squares)
         }
-    }
-
-    /// The plan of a list of 2^`digits` items, by chunks, squares and chunks.
-    fn long(digits: usize, parts: usize) -> ReversalPlan
-        requires { digits < 64 }
-        ensures { IsLongPlan digits parts result }
-    {
-        let half = digits / 2;
-        let chunks = RowDigits::chunks(half, digits - half);
-        let cut = Cut::new(pow2(half), parts, TILE_SIDE);
-        ReversalPlan::Long(
-            LinePairs::new(chunks, parts),
-            Squares::new(pow2(digits - half), cut),
-        )
     }
 
     /// Phase `number`, or `None` after the last one. The phases are done in the order of their numbers.
@@ -81,6 +70,23 @@ impl ReversalPlan {
             _ => None,
         }
     }
+}
+
+/// The line pairs of the chunks of 2^`digits` items, and their squares.
+fn chunks_and_squares(digits: usize, parts: usize) -> (LinePairs, Squares)
+    requires { digits < 64 }
+    ensures width { result.0.rows.width ≡ 2 ^ (digits - digits / 2) }
+    ensures chunks { result.0.rows.digits ≡ digits / 2 }
+    ensures ranges { parts_in result.0.cut.len result.0.cut.step ≤ max parts 1 }
+    ensures stride { result.1.stride ≡ 2 ^ (digits - digits / 2) }
+    ensures side { result.1.cut.len ≡ 2 ^ (digits / 2) }
+    ensures blocks { parts_in result.1.cut.len result.1.cut.step ≤ max parts 1 }
+{
+    let half = digits / 2;
+    let chunks = RowDigits::chunks(half, digits - half);
+    let sides = Cut::new(pow2(half), parts, TILE_SIDE);
+    let squares = Squares::new(pow2(digits - half), sides);
+    (LinePairs::new(chunks, parts), squares)
 }
 
 impl Phase {

@@ -45,6 +45,7 @@ impl RowDigits {
         requires { FitsRows len width }
         ensures width { result.width ≡ width }
         ensures digits { result.digits ≡ clog (len / width) }
+        ensures few { result.digits < 64 }
     {
         if len == 0 {
             return RowDigits { width, digits: 0 };

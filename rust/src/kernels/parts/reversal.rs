@@ -43,19 +43,9 @@ impl ReversalPlan {
         } else if row_width > 1 {
             ReversalPlan::ByRanges(LinePairs::new(rows, parts))
         } else {
-            ReversalPlan::long(rows.digits, parts)
+            let (chunks, squares) = chunks_and_squares(rows.digits, parts);
+            ReversalPlan::Long(chunks, squares)
         }
-    }
-
-    /// The plan of a list of 2^`digits` items, by chunks, squares and chunks.
-    fn long(digits: usize, parts: usize) -> ReversalPlan {
-        let half = digits / 2;
-        let chunks = RowDigits::chunks(half, digits - half);
-        let cut = Cut::new(pow2(half), parts, TILE_SIDE);
-        ReversalPlan::Long(
-            LinePairs::new(chunks, parts),
-            Squares::new(pow2(digits - half), cut),
-        )
     }
 
     /// Phase `number`, or `None` after the last one. The phases are done in the order of their numbers.
@@ -68,6 +58,15 @@ impl ReversalPlan {
             _ => None,
         }
     }
+}
+
+/// The line pairs of the chunks of 2^`digits` items, and their squares.
+fn chunks_and_squares(digits: usize, parts: usize) -> (LinePairs, Squares) {
+    let half = digits / 2;
+    let chunks = RowDigits::chunks(half, digits - half);
+    let sides = Cut::new(pow2(half), parts, TILE_SIDE);
+    let squares = Squares::new(pow2(digits - half), sides);
+    (LinePairs::new(chunks, parts), squares)
 }
 
 impl Phase {

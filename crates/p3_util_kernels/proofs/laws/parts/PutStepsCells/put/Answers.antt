@@ -1,5 +1,0 @@
-use Rattle.p3_util_kernels.specs.PartSteps.{one_put}
-use Rattle.p3_util_kernels.proofs.laws.parts.PutStepsCells.put.Goals as goal
-
-pub returns-clause-holder : goal.returns-clause-holder
-returns-clause-holder g c = one_put _ _ c.args.i c.args.v c.put.ensures.written

@@ -1,5 +1,0 @@
-use Rattle.p3_util_kernels.specs.PartSteps.{one_swap}
-use Rattle.p3_util_kernels.proofs.laws.parts.SwapStepsPlaces.exchange.Goals as goal
-
-pub returns-clause-holder : goal.returns-clause-holder
-returns-clause-holder g c = one_swap _ _ c.args.i c.args.j c.exchange.ensures.exchanged

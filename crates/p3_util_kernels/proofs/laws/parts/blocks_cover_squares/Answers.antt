@@ -1,5 +1,0 @@
-use Rattle.p3_util_kernels.proofs.PartsCover.{squares-covered}
-use Rattle.p3_util_kernels.proofs.laws.parts.blocks_cover_squares.Goals as goal
-
-pub returns : goal.returns
-returns c = squares-covered c.args.squares.cut.len c.args.squares.stride c.args.squares.cut.step c.args.squares.cut.some_step

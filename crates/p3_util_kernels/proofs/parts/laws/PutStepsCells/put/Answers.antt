@@ -1,0 +1,5 @@
+use Rattle.p3_util_kernels.specs.PartSteps.{one_put}
+use Rattle.p3_util_kernels.proofs.parts.laws.PutStepsCells.put.Goals as goal
+
+pub returns-clause-holder : goal.returns-clause-holder
+returns-clause-holder g c = one_put _ _ c.args.i c.args.v c.put.ensures.written

@@ -1,0 +1,5 @@
+use Rattle.p3_util_kernels.specs.PartSteps.{one_swap}
+use Rattle.p3_util_kernels.proofs.parts.laws.SwapStepsPlaces.exchange.Goals as goal
+
+pub returns-clause-holder : goal.returns-clause-holder
+returns-clause-holder g c = one_swap _ _ c.args.i c.args.j c.exchange.ensures.exchanged

@@ -1,0 +1,234 @@
+//! What makes it safe to give the parts of a call to several threads. Nothing calls these functions, and the package is made
+//! without them. Some make a part of a plan over a holder by which its steps exist, and say at which places they are. The others
+//! say that two parts have no place in common, and that each place is one of some part.
+
+ghost use Rattle.std.specs.Prelude.{◌≡◌, ◌≢◌, ℕ, ◌⊎◌, ◌+◌, ◌-◌, ◌*◌, ◌/◌, ◌^◌, ◌<◌, ◌≤◌, if◌then◌else◌, length};
+ghost use Rattle.p3_util_kernels.specs.Blocks.{IsBlock, blocks_of, swaps_of_block};
+ghost use Rattle.p3_util_kernels.specs.Crossing.{HoldsRows, IsCrossed};
+ghost use Rattle.p3_util_kernels.specs.Diagonal.{SwapsAcross};
+ghost use Rattle.p3_util_kernels.specs.Least.{AllDiffer, PutsAtChanged, SwapsAtChanged};
+ghost use Rattle.p3_util_kernels.specs.PartSteps.{IsPlaceOfBlock, IsPlaceOfRegion, IsPlaceOfRows, IsPlaceOfSquares, NoItemInCommon, NoPlaceInCommon};
+ghost use Rattle.p3_util_kernels.specs.PartSteps.{PartsCover};
+ghost use Rattle.p3_util_kernels.specs.PartSteps.{PutsLead, PutsStay, more_puts, no_puts, one_put};
+ghost use Rattle.p3_util_kernels.specs.PartSteps.{SwapsLead, SwapsStay, more_swaps, no_swaps, one_swap};
+ghost use Rattle.p3_util_kernels.specs.Parts.{number_of_pair, pairs_of, part_of_matrix, parts_in, start_of};
+ghost use Rattle.p3_util_kernels.specs.Region.{IsRegionTransposed, LiesInMatrix, items_of};
+ghost use Rattle.p3_util_kernels.specs.SwapCounts.{line_swaps};
+
+use crate::parts::{Cut, LinePairs, Phase, Squares, TransposePlan};
+use crate::places::{Cells, Places, Source};
+use crate::reverse::RowDigits;
+use crate::transpose::{Matrix, Region, Strips};
+
+/// A holder by which steps exist: `same_holder n a b` says that n puts lead from the items of `a` to those of `b`.
+#[derive(Drop)]
+struct PutSteps<C> {
+    cells: C,
+}
+
+impl<C: Cells> Cells for PutSteps<C> {
+    type Item = C::Item;
+
+    ghost items = { λ h. C.items h.cells };
+
+    ghost same_holder = { λ n a b. PutsLead n (C.items a.cells) (C.items b.cells) };
+
+    fn len(&self) -> usize {
+        self.cells.len()
+    }
+
+    fn put(&mut self, i: usize, v: Self::Item) {
+        self.cells.put(i, v);
+    }
+
+    ghost same_holder_refl = { λ a. no_puts (C.items a.cells) };
+
+    ghost same_holder_trans = { λ m n all a b c. more_puts m n all (C.items a.cells) (C.items b.cells) (C.items c.cells) };
+}
+
+/// A holder by which steps exist: `same_holder n a b` says that n exchanges lead from the items of `a` to those of `b`.
+#[derive(Drop)]
+struct SwapSteps<S> {
+    places: S,
+}
+
+impl<S: Places> Places for SwapSteps<S> {
+    type Item = S::Item;
+
+    ghost items = { λ h. S.items h.places };
+
+    ghost same_holder = { λ n a b. SwapsLead n (S.items a.places) (S.items b.places) };
+
+    fn len(&self) -> usize {
+        self.places.len()
+    }
+
+    fn exchange(&mut self, i: usize, j: usize) {
+        self.places.exchange(i, j);
+    }
+
+    ghost same_holder_refl = { λ a. no_swaps (S.items a.places) };
+
+    ghost same_holder_trans = { λ m n all a b c. more_swaps m n all (S.items a.places) (S.items b.places) (S.items c.places) };
+}
+
+/// Where as many places changed as there were writes, or twice as many as there were exchanges, the steps are at these places,
+/// and no place is in two of them.
+pub(crate) fn changed_places<T>()
+    ensures swaps { SwapsAtChanged T }
+    ensures puts { PutsAtChanged T }
+{}
+
+/// A region of a plan is put by as many writes as it has items, by any strips. Where no item of the input is in the output, all
+/// of them are at places of the region's transpose, and at one place each.
+pub(crate) fn put_region<C: Cells, R: Source<Item = C::Item> + Copy>(
+    out: C,
+    source: R,
+    plan: TransposePlan,
+    number: usize,
+    strips: Strips,
+) -> C
+    requires below { number < parts_in plan.cut.len plan.cut.step }
+    requires input_fits { length (R.items source) ≡ plan.width * plan.height }
+    requires output_fits { length (C.items out) ≡ plan.width * plan.height }
+    ensures transposed { let region = part_of_matrix plan.width plan.height plan.by_rows plan.cut.len plan.cut.step number in
+        IsRegionTransposed region plan.width plan.height (R.items source) (C.items out) (C.items result) }
+    ensures steps { let region = part_of_matrix plan.width plan.height plan.by_rows plan.cut.len plan.cut.step number in
+        PutsLead (items_of region) (C.items out) (C.items result) }
+    ensures stay { let region = part_of_matrix plan.width plan.height plan.by_rows plan.cut.len plan.cut.step number in
+        NoItemInCommon (R.items source) (C.items out)
+        → PutsStay (IsPlaceOfRegion region plan.height) (items_of region) (C.items out) (C.items result) }
+{
+    plan.put(PutSteps { cells: out }, source, number, strips)
+        .cells
+}
+
+/// Two regions of one matrix that have no row, or no column, in common have no place of the transpose in common.
+pub(crate) fn regions_apart(first: Region, second: Region, width: usize, height: usize)
+    requires first { LiesInMatrix first width height }
+    requires second { LiesInMatrix second width height }
+    requires apart { (first.row_end ≤ second.row_start) ⊎ (first.col_end ≤ second.col_start) }
+    ensures { NoPlaceInCommon (IsPlaceOfRegion first height) (IsPlaceOfRegion second height) }
+{}
+
+/// Two parts of a matrix that is cut along its rows or along its columns have no place of the transpose in common.
+pub(crate) fn parts_of_matrix(
+    width: usize,
+    height: usize,
+    by_rows: bool,
+    cut: Cut,
+    parts: (usize, usize),
+) -> (Region, Region)
+    requires side { cut.len ≡ if by_rows then height else width }
+    requires in_order { parts.0 < parts.1 }
+    requires below { parts.1 < parts_in cut.len cut.step }
+    ensures first_is { result.0 ≡ part_of_matrix width height by_rows cut.len cut.step parts.0 }
+    ensures second_is { result.1 ≡ part_of_matrix width height by_rows cut.len cut.step parts.1 }
+    ensures first { LiesInMatrix result.0 width height }
+    ensures second { LiesInMatrix result.1 width height }
+    ensures apart { NoPlaceInCommon (IsPlaceOfRegion result.0 height) (IsPlaceOfRegion result.1 height) }
+{
+    let matrix = Matrix::new((), width, height);
+    let first = cut.region(&matrix, by_rows, parts.0);
+    let second = cut.region(&matrix, by_rows, parts.1);
+    regions_apart(first, second, width, height);
+    (first, second)
+}
+
+/// A block of squares side by side is exchanged with its mirror image by an exact number of exchanges. Where all items of the
+/// list differ, all of them are of places of the block and of its mirror image, and no place is in two of them.
+pub(crate) fn exchange_block<S: Places>(places: S, squares: Squares, number: usize) -> S
+    requires below { number < blocks_of squares.cut.len squares.stride squares.cut.step }
+    requires whole { length (S.items places) ≡ squares.cut.len * squares.stride }
+    ensures block { (base : ℕ) × (region : Region) × IsBlock squares.cut.len squares.stride squares.cut.step number base region
+        × SwapsLead (swaps_of_block region) (S.items places) (S.items result)
+        × (AllDiffer (S.items places) → SwapsStay (IsPlaceOfBlock squares.cut.len squares.stride squares.cut.step number)
+        (swaps_of_block region) (S.items places) (S.items result)) }
+    ensures across { (base : ℕ) → (region : Region) → IsBlock squares.cut.len squares.stride squares.cut.step number base region
+        → SwapsAcross base squares.stride region (S.items places) (S.items result) }
+{
+    Phase::Blocks(squares)
+        .exchange(SwapSteps { places }, number)
+        .places
+}
+
+/// Each pair of the parts of a cut has a number below the number of pairs, and no other pair has it.
+pub(crate) fn pairs_have_numbers()
+    ensures below { (n i j : ℕ) → i ≤ j → j < n → number_of_pair n i j < pairs_of n }
+    ensures apart { (n i j k l : ℕ) → i ≤ j → j < n → k ≤ l → l < n → number_of_pair n i j ≡ number_of_pair n k l → (i ≡ k) × (j ≡ l) }
+{}
+
+/// A block of squares side by side is given by its number.
+pub(crate) fn block_of_number(squares: Squares, number: usize)
+    ensures { (base other_base : ℕ) → (region other_region : Region)
+        → IsBlock squares.cut.len squares.stride squares.cut.step number base region
+        → IsBlock squares.cut.len squares.stride squares.cut.step number other_base other_region
+        → (base ≡ other_base) × (region ≡ other_region) }
+{}
+
+/// Two blocks of squares side by side have no place in common.
+pub(crate) fn blocks_apart(squares: Squares, first: usize, second: usize)
+    requires { first ≢ second }
+    ensures { NoPlaceInCommon (IsPlaceOfBlock squares.cut.len squares.stride squares.cut.step first)
+        (IsPlaceOfBlock squares.cut.len squares.stride squares.cut.step second) }
+{}
+
+/// The pairs of rows of a range of line pairs are exchanged by an exact number of exchanges. Where all items of the list differ,
+/// all of them are of places of these rows, and no place is in two of them.
+pub(crate) fn exchange_range<S: Places>(places: S, pairs: LinePairs, number: usize) -> S
+    requires below { number < parts_in pairs.cut.len pairs.cut.step }
+    requires ready { HoldsRows pairs.rows.width pairs.rows.digits (S.items places) }
+    ensures crossed { let from = start_of pairs.cut.len pairs.cut.step number in let to = start_of pairs.cut.len pairs.cut.step (number + 1) in
+        let half = pairs.rows.digits / 2 in IsCrossed half (pairs.rows.digits - half) pairs.rows.width
+        (record { row_start = 0; row_end = 2 ^ half; col_start = from * 2; col_end = to * 2 }) (S.items places) (S.items result) }
+    ensures steps { let from = start_of pairs.cut.len pairs.cut.step number in let to = start_of pairs.cut.len pairs.cut.step (number + 1) in
+        SwapsLead (pairs.rows.width * (line_swaps pairs.rows.digits to - line_swaps pairs.rows.digits from)) (S.items places) (S.items result) }
+    ensures stay { let from = start_of pairs.cut.len pairs.cut.step number in let to = start_of pairs.cut.len pairs.cut.step (number + 1) in
+        AllDiffer (S.items places) → let half = pairs.rows.digits / 2 in SwapsStay (IsPlaceOfRows half (pairs.rows.digits - half) pairs.rows.width
+        (record { row_start = 0; row_end = 2 ^ half; col_start = from * 2; col_end = to * 2 }))
+        (pairs.rows.width * (line_swaps pairs.rows.digits to - line_swaps pairs.rows.digits from)) (S.items places) (S.items result) }
+{
+    Phase::Ranges(pairs)
+        .exchange(SwapSteps { places }, number)
+        .places
+}
+
+/// Two ranges of line pairs that are parts of one cut have no place in common.
+pub(crate) fn ranges_apart(
+    rows: RowDigits,
+    cut: Cut,
+    parts: (usize, usize),
+) -> ((usize, usize), (usize, usize))
+    requires in_order { parts.0 < parts.1 }
+    requires below { parts.1 < parts_in cut.len cut.step }
+    ensures first_is { result.0 ≡ (start_of cut.len cut.step parts.0, start_of cut.len cut.step (parts.0 + 1)) }
+    ensures second_is { result.1 ≡ (start_of cut.len cut.step parts.1, start_of cut.len cut.step (parts.1 + 1)) }
+    ensures apart { let half = rows.digits / 2 in NoPlaceInCommon
+        (IsPlaceOfRows half (rows.digits - half) rows.width
+        (record { row_start = 0; row_end = 2 ^ half; col_start = result.0.0 * 2; col_end = result.0.1 * 2 }))
+        (IsPlaceOfRows half (rows.digits - half) rows.width
+        (record { row_start = 0; row_end = 2 ^ half; col_start = result.1.0 * 2; col_end = result.1.1 * 2 })) }
+{
+    (cut.part(parts.0), cut.part(parts.1))
+}
+
+/// Each place of the transpose of a matrix is a place of one of the parts that its rows or its columns are cut into.
+pub(crate) fn parts_cover_matrix(width: usize, height: usize, by_rows: bool, cut: Cut)
+    requires side { cut.len ≡ if by_rows then height else width }
+    ensures { PartsCover (λ p. p < width * height) (parts_in cut.len cut.step)
+        (λ k. IsPlaceOfRegion (part_of_matrix width height by_rows cut.len cut.step k) height) }
+{}
+
+/// Each place of squares side by side is a place of one of their blocks.
+pub(crate) fn blocks_cover_squares(squares: Squares)
+    ensures { PartsCover (IsPlaceOfSquares squares.cut.len squares.stride) (blocks_of squares.cut.len squares.stride squares.cut.step)
+        (IsPlaceOfBlock squares.cut.len squares.stride squares.cut.step) }
+{}
+
+/// Each place of the rows of all line pairs is a place of one of the ranges that these are cut into.
+pub(crate) fn ranges_cover_rows(rows: RowDigits, cut: Cut)
+    ensures { let half = rows.digits / 2 in PartsCover
+        (IsPlaceOfRows half (rows.digits - half) rows.width (record { row_start = 0; row_end = 2 ^ half; col_start = 0; col_end = cut.len * 2 }))
+        (parts_in cut.len cut.step) (λ k. IsPlaceOfRows half (rows.digits - half) rows.width
+        (record { row_start = 0; row_end = 2 ^ half; col_start = start_of cut.len cut.step k * 2; col_end = start_of cut.len cut.step (k + 1) * 2 })) }
+{}
