@@ -12,3 +12,6 @@ returns-then-row_width-eq1-clause-exchanged g c =
     let first = rw one at c.requires.first in
     let second = rw one at c.requires.second in
     rw (one, i, j) (RunsExchanged-one c.args.i c.args.j _ _ (omega arith) (omega arith) c.exchange.ensures.exchanged)
+
+-- edit 1
+-- edit 2

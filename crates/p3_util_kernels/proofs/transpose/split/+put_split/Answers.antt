@@ -5,6 +5,7 @@ use Rattle.p3_util_kernels.proofs.HalvesLemmas.{lev-of_region}
 use Rattle.p3_util_kernels.proofs.LevelsLemmas.{nest_le}
 use Rattle.p3_util_kernels.proofs.RegionLemmas.{IsRegionTransposed-cut}
 use Rattle.p3_util_kernels.proofs.transpose.split.+put_split.Goals as goal
+-- edit 1
 
 -- The splits of a region that is halved nest at least once, so a level is there to be taken off. Those of each half nest at
 -- least one level less, so that the levels that are left are enough.
@@ -53,3 +54,10 @@ returns-clause-bound g t c =
       nest_le (rows_of c.args.region) (cols_of c.args.region),
       lev-of_region c.args.region c.args.matrix.width c.args.matrix.height c.requires.ready.inside (omega arith) (omega arith) (omega arith),
     )
+
+-- edit 2
+-- edit 3
+-- edit 4
+-- edit 5
+-- edit 6
+-- edit 7
