@@ -136,6 +136,10 @@ def sections():
     yield from ["\n## The root\n\n```text", *lines, "```"]
 
 
-if __name__ == "__main__":
+def page():
     said = list(sections())
-    print(HEAD, *said, WORDS, *words_by_module("\n".join(said)), "```", sep="\n")
+    return "\n".join([HEAD, *said, WORDS, *words_by_module("\n".join(said)), "```"])
+
+
+if __name__ == "__main__":
+    print(page())

@@ -1,14 +1,12 @@
 """Writes the tables of definitions in docs/MODEL.md, from the comments above these definitions in crates/*/specs/.
 
-    python3 tests/definitions.py            writes them
-    python3 tests/definitions.py --check    says which are not as it would write them, and then fails
+    python3 tests/definitions.py
 
 A table has each word of its crate that a clause of a public call, or of a law on parts, names, and each that the comment of
 such a word names in backquotes. The comment is the row's text. Its last sentence `Source: ..` says what the definition was made
 from, and else that of the file's head does."""
 import glob
 import re
-import sys
 
 from contracts import CLAUSE, HEAD_ENDS, closed, read, sections
 
@@ -133,8 +131,10 @@ def tables():
         yield crate, rows
 
 
-def page(text):
+def page():
     """The page with the tables that the comments give."""
+    with open(PAGE, encoding="utf-8") as found:
+        text = found.read()
     for crate, rows in tables():
         begin = BEGIN.format(crate)
         before, marked, rest = text.partition(begin)
@@ -146,13 +146,6 @@ def page(text):
 
 
 if __name__ == "__main__":
-    with open(PAGE, encoding="utf-8") as found:
-        old = found.read()
-    new = page(old)
-    if sys.argv[1:] == ["--check"]:
-        stale = [line for line in old.split("\n") if line not in new.split("\n")]
-        for line in stale or ["its rows are others"] * (old != new):
-            print(f"{PAGE}: not as the comments in specs/ say: {line}")
-        raise SystemExit(old != new)
+    made = page()
     with open(PAGE, "w", encoding="utf-8") as found:
-        found.write(new)
+        found.write(made)

@@ -1,5 +1,5 @@
-"""Compares the exports of crates/p3_util_c, with their arguments and clauses, to the list tests/exports.txt, which is written
-by hand. Prints what differs, and fails if anything does."""
+"""For tests/agree: compares the exports of crates/p3_util_c, with their arguments and clauses, to the list tests/exports.txt, which
+is written by hand."""
 import difflib
 import glob
 import math
@@ -23,24 +23,30 @@ def entry(head, clauses):
     return "\n".join(function(0, "", head, clauses)), size
 
 
-found = {}
-for path in sorted(glob.glob("crates/p3_util_c/src/*.rt")):
-    text = read(path)
-    for public, kind, head, clauses, _ in declarations(text, 0):
-        if public and kind == "fn":
-            lines, size = entry(head, clauses)
-            found.setdefault(lines, []).append(size)
-
-# The list without its comment: the sizes, and then an entry a paragraph.
-first, *wanted = re.sub(r"^#.*\n", "", read(LIST), flags=re.M).strip().split("\n\n")
-sizes = first.removeprefix("SIZE: ").split()
-wanted = {lines: sizes if "_SIZE(" in lines else [""] for lines in wanted}
+def exported():
+    """The sizes of each entry that the crate exports."""
+    found = {}
+    for path in sorted(glob.glob("crates/p3_util_c/src/*.rt")):
+        for public, kind, head, clauses, _ in declarations(read(path), 0):
+            if public and kind == "fn":
+                lines, size = entry(head, clauses)
+                found.setdefault(lines, []).append(size)
+    return found
 
 
-def listed(entries):
+def listed():
+    """The sizes of each entry of the list, which is without its comment: the sizes, and then an entry a paragraph."""
+    first, *wanted = re.sub(r"^#.*\n", "", read(LIST), flags=re.M).strip().split("\n\n")
+    sizes = first.removeprefix("SIZE: ").split()
+    return {lines: sizes if "_SIZE(" in lines else [""] for lines in wanted}
+
+
+def lines_of(entries):
     return [line for lines in sorted(entries) for line in f"{lines}\nSIZE: {' '.join(entries[lines])}".split("\n")]
 
 
-differences = list(difflib.unified_diff(listed(wanted), listed(found), LIST, "crates/p3_util_c/src", lineterm="", n=1))
-print("\n".join(differences), end="\n" if differences else "")
-raise SystemExit(1 if differences else 0)
+def wrong():
+    """The lines in which they differ: those of the list begin with -, and those of the crate with +."""
+    differences = difflib.unified_diff(lines_of(listed()), lines_of(exported()), lineterm="", n=0)
+    for line in (line for line in differences if not line.startswith(("---", "+++", "@@"))):
+        yield f"{LIST}, which is written by hand, and crates/p3_util_c/src differ: {line}"

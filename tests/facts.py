@@ -1,15 +1,19 @@
-"""Compares the pages with the code: the functions that blocks of Rust quote, the clauses that MODEL names, the constants of
-ARCHITECTURE's table, and each link, file and name; and the modules with the files. Prints what is wrong, a line each, and fails
-if anything is."""
+"""For tests/agree: compares the pages with the code: the functions that blocks of Rust quote, the clauses that MODEL names, the
+constants of ARCHITECTURE's table and of sentences, and each link, file and name; and the modules with the files."""
+import itertools
 import os
 import re
 import subprocess
 
-# Names of std, of the original and of the system that pages speak of, and no source has.
-OUTSIDE = {"as_flattened_mut", "gcd_inner", "p3_maybe_rayon", "try_from_fn"}
+# Names of std, of the original, of the kit and of the system that pages speak of, and no source has.
+OUTSIDE = set("""
+    as_chunks as_flattened_mut bytemuck DisjointMutPtr gcd_inner gcd_inversion_prime_field_32 get_disjoint_mut into_flattened
+    p3_maybe_rayon relatively_prime_u64 transparent TransparentWrapper try_from_fn
+    axioms holes incremental Invariants LEMMA libraries statements tidy
+""".split())
 # These pages speak of names that are not here, or are here no more, so none is looked up.
 ELSEWHERE = {"CHANGELOG.md", "bench/TRIED.md", "docs/DIFFERENCES.md"}
-TABLE_ROW = r"^\| (`[A-Z_`, ]+`) \| ([\d, ]+) \| `([^`]+)` \|.*$"
+TABLE_ROW = r"^\| (`[A-Z_`, ]+`) \| ([\d, ^+]+) \| `([^`]+)` \|.*$"
 FILE = r"[\w.-]+(/[\w.-]+)+/?|[\w-]+\.(md|rt|antt|sh|py|rs|h|c|tsv|svg|txt|toml)"
 
 
@@ -21,14 +25,13 @@ def read(path):
 listing = ["git", "ls-files", "--cached", "--others", "--exclude-standard"]
 tracked = subprocess.run(listing, capture_output=True, text=True, check=True).stdout.split("\n")
 tracked = [path for path in tracked if os.path.isfile(path)]
-pages = {path: read(path) for path in tracked if re.fullmatch(r"(docs/|bench/)?\w+\.md", path)}
+pages = {path: read(path) for path in tracked if path.endswith(".md")}
 sources = {path: read(path) for path in tracked if re.fullmatch(r"crates/\w+/src/.*\.rt", path)}
 sources = {path: text for path, text in sources.items() if not re.search(r"/tests(\.rt|/)", path)}
-wrong = []
 
 
-def report(page, start, text):
-    wrong.append(f"{page}:{pages[page].count(chr(10), 0, start) + 1}: {text}")
+def place(page, start, text):
+    return f"{page}:{pages[page].count(chr(10), 0, start) + 1}: {text}"
 
 
 def in_one_line(code):
@@ -67,7 +70,16 @@ def check_quotations():
                 name = re.search(r"^(?:pub )?(?:const )?fn (?!main\b)(\w+)", part, re.M)
                 departs = name and difference(part, name.group(1))
                 if departs:
-                    report(page, block.start(), f"{name.group(1)} is not as in the sources: {departs}")
+                    yield place(page, block.start(), f"{name.group(1)} is not as in the sources: {departs}")
+
+
+def check_edits():
+    """A block that has the lines of a must-fail edit is the text of one."""
+    edits = [read(path) for path in tracked if path.endswith(".edit")]
+    for page, text in pages.items():
+        for block in re.finditer(r"^```text\n(.*?)^```", text, re.M | re.S):
+            if re.search("^file: .*\nold: ", block[1], re.M) and block[1] not in edits:
+                yield place(page, block.start(), "no edit of must-fail/ has this text")
 
 
 def check_clauses():
@@ -79,50 +91,101 @@ def check_clauses():
         heads = {call: [head for text in sources.values() for head in re.findall(
             rf"^ *(?:pub(?:\(crate\))? )?(?:const )?fn {call}\b(.*?)(?:\n *\{{|;$)", text, re.M | re.S)] for call in calls if named}
         for call in (call for call, found in heads.items() if not found):
-            report(page, row.start(), f"no source has a call {call}")
+            yield place(page, row.start(), f"no source has a call {call}")
         for label in sorted(named):
             if not any(re.search(rf"(requires|ensures)\*? {label} \{{", head) for found in heads.values() for head in found):
-                report(page, row.start(), f"no call of {', '.join(calls) or 'no name'} has a clause {label}")
+                yield place(page, row.start(), f"no call of {', '.join(calls) or 'no name'} has a clause {label}")
+
+
+def number(text):
+    """The number that an expression of Rust, a page or a comment writes, and None where it is none."""
+    text = {"two": "2", "three": "3", "four": "4", "eight": "8", "sixteen": "16"}.get(text, text).replace("_", "").replace("^", "**")
+    return eval(text) if re.fullmatch(r"[\d ()<*+-]+", text) else None
+
+
+def constants():
+    """Of each constant of the sources, of the package and of its overlay: its name, file and number."""
+    for path in tracked:
+        if path in sources or re.fullmatch(r"rust/(overlay/)?src/\w+\.rs", path):
+            for name, value in re.findall(r"^ *(?:pub(?:\(\w+\))? )?const ([A-Z_]+): \w+ = ([^;]+);", read(path), re.M):
+                if number(value) is not None:
+                    yield name, path, number(value)
+
+
+def check_table_of_constants(known):
+    """ARCHITECTURE's table has each constant of the kernels, the exports, the program, the package and its overlay, with its file
+    and its number."""
+    page, listed = "docs/ARCHITECTURE.md", set()
+    for row in re.finditer(TABLE_ROW, pages[page], re.M):
+        names, values = re.findall(r"\w+", row.group(1)), row.group(2).split(", ")
+        for name, value in itertools.zip_longest(names, values):
+            found = [(path, there) for other, path, there in known if other == name and path.endswith(row.group(3))]
+            listed.update((name, path) for path, _ in found)
+            if [there for _, there in found] != [number(value or "")]:
+                yield place(page, row.start(), f"{name} is {value} in {row.group(3)}, and the code has "
+                            + (", ".join(f"{there} in {path}" for path, there in found) or "no such constant there"))
+    for name, path, value in known:
+        if re.match(r"rust/|crates/p3_util(_kernels|_c|_run)?/", path) and (name, path) not in listed:
+            yield f"{page}: its table has no row for {name}, which is {value} in {path}"
 
 
 def check_constants():
-    """ARCHITECTURE's table has each constant of the kernels, the exports and the program, with its file and its value."""
-    page, listed, known = "docs/ARCHITECTURE.md", set(), {}
-    for path, text in sources.items():
-        for name, value in re.findall(r"^(?:pub(?:\(\w+\))? )?const (\w+): \w+ = ([\d_]+);", text, re.M):
-            known[name] = path, str(int(value))
-    for row in re.finditer(TABLE_ROW, pages[page], re.M):
-        names, values = re.findall(r"\w+", row.group(1)), re.findall(r"\d+", row.group(2))
-        listed.update(names)
-        for name, value in zip(names, values + [None] * len(names)):
-            path, number = known.get(name, ("no file", None))
-            if not path.endswith("/" + row.group(3)) or number != value:
-                report(page, row.start(), f"{name} is {value} in {row.group(3)}, and the code has {number} in {path}")
-    for name, (path, number) in known.items():
-        if re.match(r"crates/p3_util(_kernels|_c|_run)?/", path) and name not in listed:
-            wrong.append(f"{page}: its table has no row for {name}, which is {number} in {path}")
+    """What states a constant has its number: ARCHITECTURE's table, and the sentences of tests/constants.txt."""
+    known = list(constants())
+    yield from check_table_of_constants(known)
+    # Each text in one line, in which signs of comments are blanks.
+    texts = {path: re.sub(r"(?<=\s)(?://[/!]?|--)(?=\s)", lambda sign: " " * len(sign[0]), read(path)) for path in tracked
+             if re.fullmatch(r".*\.(md|rt|antt|rs|h)", path) and not re.match("rust/src/kernels/|bench/|CHANGELOG|docs/PERF", path)}
+    for line in (line for line in read("tests/constants.txt").splitlines() if line and not line.startswith("#")):
+        parts = re.split(r"\{([^}]*)\}", line)
+        pattern = r"(\d[\d_]*(?:\^\d+)?|\w+)".join(re.escape(part).replace(r"\ ", r"\s+") for part in parts[::2])
+        wanted = []
+        for part in parts[1::2]:
+            name, _, more = part.partition(" ")
+            values = {value for other, _, value in known if other == name}
+            if len(values) != 1:
+                yield f"tests/constants.txt: {name} has the values {values or 'of no constant'}, and not one"
+            wanted.append(max(values, default=0) + (number(more) if more else 0))
+        found = [(path, there) for path, text in texts.items() for there in re.finditer(pattern, text)]
+        if not found:
+            yield f"tests/constants.txt: no page, source or definition says '{line}'"
+        for path, there in found:
+            if [number(said) for said in there.groups()] != wanted:
+                said = f"'{' '.join(there[0].split())}', and the code has {', '.join(map(str, wanted))}: see {', '.join(parts[1::2])}"
+                yield f"{path}:{texts[path].count(chr(10), 0, there.start()) + 1}: {said}"
+
+
+def anchors(page):
+    """The anchors of a page's headings, as they are made from their words."""
+    return {re.sub(r"[^\w -]", "", heading).lower().replace(" ", "-") for heading in re.findall(r"^#+ (.*)$", read(page), re.M)}
 
 
 def check_links_and_names():
-    """Each link leads to a file, and each file and name in backquotes is there."""
+    """Each link leads to a file and its heading, and each file and name in backquotes is there."""
     words = {word for path in tracked if not path.endswith((".md", ".svg", ".tsv")) and path != "tests/facts.py"
              for word in re.findall(r"\w+", read(path))} | OUTSIDE
     paths = {"/" + "/".join(path.split("/")[:k]) for path in tracked for k in range(1, path.count("/") + 2)}
     for page, text in pages.items():
         # Blocks of code are blank here, and as long.
         text = re.sub(r"^```.*?^```", lambda block: re.sub(r"[^\n]", " ", block.group()), text, flags=re.M | re.S)
-        for link in re.finditer(r"\]\(([^)#]+)", text):
-            if "://" not in link.group(1) and not os.path.exists(os.path.join(os.path.dirname(page), link.group(1))):
-                report(page, link.start(), f"no file {link.group(1)}")
+        for link in re.finditer(r"\]\(([^)#]*)#?([^)]*)\)", text):
+            file = os.path.normpath(os.path.join(os.path.dirname(page), link.group(1))) if link.group(1) else page
+            if "://" in link.group(1):
+                continue
+            if not os.path.exists(file):
+                yield place(page, link.start(), f"no file {link.group(1)}")
+            elif link.group(2) and link.group(2) not in anchors(file):
+                yield place(page, link.start(), f"{file} has no heading {link.group(2)}")
         for token in re.finditer(r"`([^`]+)`", text):
             code = token.group(1)
             if re.fullmatch(FILE, code):
                 if not any(path.endswith("/" + code.rstrip("/")) for path in paths):
-                    report(page, token.start(), f"no file {code}")
+                    yield place(page, token.start(), f"no file {code}")
             elif page not in ELSEWHERE:
                 for name in re.findall(r"(?<!\w)[A-Za-z]\w*", code):
-                    if "_" in name.strip("_") and name not in words:
-                        report(page, token.start(), f"no name {name}")
+                    # An N at the end stands for the size of an item.
+                    if len(name) > 3 and re.sub("_N$", "_8", name) not in words and not re.fullmatch("[0-9a-f]{16}", name):
+                        yield place(page, token.start(), f"no name {name}. Where it is none of this repository, tests/facts.py names it")
 
 
 def check_modules():
@@ -136,13 +199,11 @@ def check_modules():
         folder, name, end = file.groups()
         above = {folder + end, *(f"{folder}/{root}{end}" for root in ("lib", "main", "mod"))}.intersection(tracked)
         if not any(re.search(rf"^(pub(\(crate\))? )?mod {name};", read(parent), re.M) for parent in above):
-            wrong.append(f"{path}: no file above it has it as a module")
+            yield (f"{path}: no file above it has it as a module")
 
 
-check_quotations()
-check_clauses()
-check_constants()
-check_links_and_names()
-check_modules()
-print("\n".join(wrong), end="\n" if wrong else "")
-raise SystemExit(1 if wrong else 0)
+
+def wrong():
+    """A line for each thing that is wrong."""
+    for check in (check_quotations, check_edits, check_clauses, check_constants, check_links_and_names, check_modules):
+        yield from check()
