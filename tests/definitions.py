@@ -14,15 +14,15 @@ PAGE = "docs/MODEL.md"
 # The files of specs/ of each crate that has a table, in the order of reading. Files that are not named come last.
 ORDER = {
     "p3_util_kernels": ["Digits", "Powers", "Levels", "Names", "Reversal", "Exchanged", "Transpose", "Region", "Stages", "Square",
-                        "SwapCounts", "Steps", "Least", "Parts", "Blocks", "Plans", "PartSteps", "Crossing", "Diagonal"],
+                        "SwapCounts", "Steps", "Least", "Parts", "Blocks", "Plans", "AnyOrder", "PartSteps", "Crossing", "Diagonal"],
     "p3_util": ["Flat", "ItemsAt", "ViewLends", "Pieces", "PaddedPieces", "ZipEq", "LinearMap", "MapIter", "MapLends", "JsonArray",
                 "JsonElements"],
     "p3_util_run": ["Words", "Program", "Arrays", "Texts", "Watch"],
     "p3_util_c": ["Tried"],
 }
 # The sources whose public clauses docs/CONTRACTS.md does not list.
-OTHERS = ["p3_util_kernels/src/parts.rt", "p3_util_kernels/src/parts/*.rt", "p3_util_run/src/program.rt", "p3_util_run/src/fault.rt",
-          "p3_util_c/src/*.rt"]
+OTHERS = ["p3_util_kernels/src/parts.rt", "p3_util_kernels/src/parts/*.rt", "p3_util_kernels/src/parts/laws/*.rt",
+          "p3_util_run/src/program.rt", "p3_util_run/src/fault.rt", "p3_util_c/src/*.rt"]
 # The files of words that no call has in a clause, and that callers need.
 FOR_CALLERS = {"ItemsAt"}
 # What each holder says of itself is a word of the trait: its file, what it is called with, and the comment that says what it is.

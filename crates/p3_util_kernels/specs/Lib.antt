@@ -1,3 +1,4 @@
+pub mod AnyOrder
 pub mod Blocks
 pub mod Columns
 pub mod Crossing

@@ -10,9 +10,10 @@ use Rattle.p3_util_kernels.specs.Blocks.{IsBlock, blocks_of, swaps_of_block}
 use Rattle.p3_util_kernels.specs.Crossing.{IsCrossed}
 use Rattle.p3_util_kernels.specs.Diagonal.{SwapsAcross}
 use Rattle.p3_util_kernels.specs.Levels.{clog}
+use Rattle.p3_util_kernels.specs.Mirrored.{Mirrored}
 use Rattle.p3_util_kernels.specs.Parts.{parts_in, start_of}
 use Rattle.p3_util_kernels.specs.Reversal.{FitsRows, IsRowReversal}
-use Rattle.p3_util_kernels.specs.SwapCounts.{line_swaps, reversal_swaps, row_swaps}
+use Rattle.p3_util_kernels.specs.SwapCounts.{line_swaps, long_swaps, reversal_swaps, row_swaps, short_swaps, square_swaps}
 
 -- the phases of a plan, in order
 abbrev pub phases_of : (plan : ReversalPlan) → List Phase
@@ -54,11 +55,15 @@ IsPhaseOf (Rows rows) len = FitsRows len rows.width × (rows.digits ≡ clog (le
 IsPhaseOf (Ranges pairs) len = (0 < pairs.rows.width) × (pairs.rows.digits < 64) × (len ≡ pairs.rows.width * 2 ^ pairs.rows.digits)
 IsPhaseOf (Blocks squares) len = len ≡ squares.cut.len * squares.stride
 
+-- how many exchanges the reversal of rows of `row_width` items takes as one call
+abbrev pub call_swaps : (len row_width : ℕ) → ℕ
+call_swaps len row_width = if row_width == 1 then reversal_swaps len else row_swaps len row_width
+
 -- Part `number` of a phase is made, by steps of which `Steps` says how many they are: all rows are reversed, the rows of a range
 -- are exchanged, or a block is exchanged with its mirror image.
 abbrev pub IsPartMade : {A : Type 0} → (phase : Phase) (number : ℕ) (old new : List A) (Steps : ℕ → Type 0) → Type 0
 IsPartMade (Rows rows) number old new Steps =
-    IsRowReversal rows.width old new × Steps (if rows.width == 1 then reversal_swaps (length old) else row_swaps (length old) rows.width)
+    IsRowReversal rows.width old new × Steps (call_swaps (length old) rows.width)
 IsPartMade (Ranges pairs) number old new Steps =
     let digits = pairs.rows.digits in
     let from = start_of pairs.cut.len pairs.cut.step number in
@@ -68,3 +73,24 @@ IsPartMade (Ranges pairs) number old new Steps =
 IsPartMade (Blocks squares) number old new Steps =
     (base : ℕ) × (region : Region) × IsBlock squares.cut.len squares.stride squares.cut.step number base region
     × SwapsAcross base squares.stride region old new × Steps (swaps_of_block region)
+
+-- all parts of a phase are made: the rows are reversed, or each square is transposed
+abbrev pub IsPhaseMade : {A : Type 0} → (phase : Phase) (old new : List A) → Type 0
+IsPhaseMade (Rows rows) old new = IsRowReversal rows.width old new
+IsPhaseMade (Ranges pairs) old new = IsRowReversal pairs.rows.width old new
+IsPhaseMade (Blocks squares) old new =
+    let side = squares.cut.len in
+    Mirrored {M = ℕ} (λ s a b. s * side + a * squares.stride + b) (λ s a b. (s < squares.stride / side) × (a < side) × (b < side)) old new
+
+-- how many exchanges the parts of a phase take, of a list of `len` items
+abbrev pub swaps_of_phase : (phase : Phase) (len : ℕ) → ℕ
+swaps_of_phase (Rows rows) len = call_swaps len rows.width
+swaps_of_phase (Ranges pairs) len = pairs.rows.width * short_swaps pairs.rows.digits
+swaps_of_phase (Blocks squares) len = squares.stride / squares.cut.len * square_swaps squares.cut.len
+
+-- how many exchanges the phases of a plan take, of a list of `len` items: as many as the call makes on the same path
+abbrev pub swaps_of_plan : (plan : ReversalPlan) (len : ℕ) → ℕ
+swaps_of_plan Nothing len = 0
+swaps_of_plan (OnePart rows) len = call_swaps len rows.width
+swaps_of_plan (ByRanges pairs) len = row_swaps len pairs.rows.width
+swaps_of_plan (Long pairs squares) len = long_swaps (clog len)

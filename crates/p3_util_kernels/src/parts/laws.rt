@@ -1,6 +1,7 @@
 //! What makes it safe to give the parts of a call to several threads. Nothing calls these functions, and the package is made
 //! without them. Some make a part of a plan over a holder by which its steps exist, and say at which places they are. The others
-//! say that two parts have no place in common, and that each place is one of some part.
+//! say that two parts have no place in common, and that each place is one of some part. `all_parts.rt` has the calls that all parts
+//! together make.
 
 ghost use Rattle.std.specs.Prelude.{◌≡◌, ◌≢◌, ℕ, ◌⊎◌, ◌+◌, ◌-◌, ◌*◌, ◌/◌, ◌^◌, ◌<◌, ◌≤◌, if◌then◌else◌, length};
 ghost use Rattle.p3_util_kernels.specs.Blocks.{IsBlock, blocks_of, swaps_of_block};
@@ -14,6 +15,8 @@ ghost use Rattle.p3_util_kernels.specs.PartSteps.{SwapsLead, SwapsStay, more_swa
 ghost use Rattle.p3_util_kernels.specs.Parts.{number_of_pair, pairs_of, part_of_matrix, parts_in, start_of};
 ghost use Rattle.p3_util_kernels.specs.Region.{IsRegionTransposed, LiesInMatrix, items_of};
 ghost use Rattle.p3_util_kernels.specs.SwapCounts.{line_swaps};
+
+mod all_parts;
 
 use crate::parts::{Cut, LinePairs, Phase, Squares, TransposePlan};
 use crate::places::{Cells, Places, Source};

@@ -1,0 +1,10 @@
+use Rattle.std.proofs.Common.{length, slice_index_or}
+use Rattle.p3_util_kernels.proofs.PhasesMade.{AreMade, swaps_made}
+use Rattle.p3_util_kernels.proofs.parts.laws.all_parts.make_in_order.Given as goal
+
+-- the parts of the first turns are made
+abbrev pub invariant-loop-i : goal.invariant-loop-i
+invariant-loop-i g l = record {
+  made : AreMade l.phase (λ j. slice_index_or l.order j 0) l.i (g.M.Places.items l.initial.m) (g.M.Places.items l.m);
+  holder : g.M.Places.same_holder (swaps_made l.phase (λ j. slice_index_or l.order j 0) l.i (length (g.M.Places.items l.initial.m))) l.initial.m l.m;
+}

@@ -1,0 +1,10 @@
+use Rattle.std.proofs.Common.{slice_index_or}
+use Rattle.p3_util_kernels.proofs.PutsMade.{ArePut, puts}
+use Rattle.p3_util_kernels.proofs.parts.laws.all_parts.put_in_order.Given as goal
+
+-- the regions of the first turns are put
+abbrev pub invariant-loop-i : goal.invariant-loop-i
+invariant-loop-i g l = record {
+  put : ArePut l.plan (λ j. slice_index_or l.order j 0) l.i (g.R.Source.items l.source) (g.C.Cells.items l.initial.out) (g.C.Cells.items l.out);
+  holder : g.C.Cells.same_holder (puts l.plan (λ j. slice_index_or l.order j 0) l.i) l.initial.out l.out;
+}

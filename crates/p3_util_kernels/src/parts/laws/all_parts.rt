@@ -1,0 +1,143 @@
+//! All parts of a call, one after the other or in any order, are the call, in as many steps.
+
+ghost use Rattle.std.specs.Prelude.{◌≡◌, ℕ, ◌*◌, ◌^◌, ◌<◌, Some, length, slice_get};
+ghost use Rattle.p3_util_kernels.specs.AnyOrder.{IsOrder, order_of};
+ghost use Rattle.p3_util_kernels.specs.Parts.{parts_in};
+ghost use Rattle.p3_util_kernels.specs.Plans.{IsPhaseMade, IsPhaseOf, IsReversalPlan, parts_of, phases_of, swaps_of_phase, swaps_of_plan};
+ghost use Rattle.p3_util_kernels.specs.Reversal.{FitsRows, IsRowReversal};
+ghost use Rattle.p3_util_kernels.specs.Transpose.{IsTranspose};
+
+use crate::parts::{Phase, ReversalPlan, TransposePlan};
+use crate::places::{Cells, Places, Source};
+use crate::transpose::Strips;
+
+/// Puts all regions of a plan, from the first one on.
+pub(crate) fn put_all<C: Cells, R: Source<Item = C::Item> + Copy>(
+    out: C,
+    source: R,
+    plan: TransposePlan,
+    strips: Strips,
+) -> C
+    requires input_fits { length (R.items source) ≡ plan.width * plan.height }
+    requires output_fits { length (C.items out) ≡ plan.width * plan.height }
+    ensures order { IsTranspose plan.width plan.height (R.items source) (C.items result) }
+    ensures holder { C.same_holder (plan.width * plan.height) out result }
+{
+    let mut out = out;
+    for number in 0..plan.count() {
+        out = plan.put(out, source, number, strips);
+    }
+    out
+}
+
+/// Puts the regions of a plan in this order.
+pub(crate) fn put_in_order<C: Cells, R: Source<Item = C::Item> + Copy>(
+    out: C,
+    source: R,
+    plan: TransposePlan,
+    strips: Strips,
+    order: &[usize],
+) -> C
+    requires order { IsOrder (parts_in plan.cut.len plan.cut.step) order.now }
+    requires input_fits { length (R.items source) ≡ plan.width * plan.height }
+    requires output_fits { length (C.items out) ≡ plan.width * plan.height }
+    ensures order { IsTranspose plan.width plan.height (R.items source) (C.items result) }
+    ensures holder { C.same_holder (plan.width * plan.height) out result }
+{
+    let mut out = out;
+    for i in 0..order.len() {
+        out = plan.put(out, source, order[i], strips);
+    }
+    out
+}
+
+/// Makes all parts of a phase, from the first one on.
+pub(crate) fn make_phase<M: Places>(m: M, phase: Phase) -> M
+    requires list { IsPhaseOf phase (length (M.items m)) }
+    requires len_fits { length (M.items m) < 2 ^ 64 }
+    ensures made { IsPhaseMade phase (M.items m) (M.items result) }
+    ensures holder { M.same_holder (swaps_of_phase phase (length (M.items m))) m result }
+{
+    let mut m = m;
+    for number in 0..phase.count() {
+        m = phase.exchange(m, number);
+    }
+    m
+}
+
+/// Makes the parts of a phase in this order.
+pub(crate) fn make_in_order<M: Places>(m: M, phase: Phase, order: &[usize]) -> M
+    requires order { IsOrder (parts_of phase) order.now }
+    requires list { IsPhaseOf phase (length (M.items m)) }
+    requires len_fits { length (M.items m) < 2 ^ 64 }
+    ensures made { IsPhaseMade phase (M.items m) (M.items result) }
+    ensures holder { M.same_holder (swaps_of_phase phase (length (M.items m))) m result }
+{
+    let mut m = m;
+    for i in 0..order.len() {
+        m = phase.exchange(m, order[i]);
+    }
+    m
+}
+
+/// Makes all phases of a plan of a reversal, and of each all parts from the first one on.
+pub(crate) fn reverse_all<M: Places>(m: M, row_width: usize, plan: ReversalPlan) -> M
+    requires fits { FitsRows (length (M.items m)) row_width }
+    requires plan { IsReversalPlan (length (M.items m)) row_width plan }
+    requires len_fits { length (M.items m) < 2 ^ 64 }
+    ensures order { IsRowReversal row_width (M.items m) (M.items result) }
+    ensures holder { M.same_holder (swaps_of_plan plan (length (M.items m))) m result }
+{
+    let mut m = m;
+    let mut number = 0;
+    while let Some(phase) = plan.phase(number) {
+        m = make_phase(m, phase);
+        number += 1;
+    }
+    m
+}
+
+/// An order of the parts for each phase.
+#[derive(Clone, Copy)]
+pub(crate) struct Orders<'a> {
+    pub first: &'a [usize],
+    pub second: &'a [usize],
+    pub third: &'a [usize],
+}
+
+impl<'a> Orders<'a> {
+    /// The order of the parts of phase `number`.
+    fn of_phase(self, number: usize) -> &'a [usize]
+        ensures { result.now ≡ order_of self.entry.first.now self.entry.second.now self.entry.third.now number }
+    {
+        match number {
+            0 => self.first,
+            1 => self.second,
+            _ => self.third,
+        }
+    }
+}
+
+/// Makes all phases of a plan of a reversal, and the parts of each in an order of its own.
+pub(crate) fn reverse_in_order<M: Places>(
+    m: M,
+    row_width: usize,
+    plan: ReversalPlan,
+    orders: Orders,
+) -> M
+    requires fits { FitsRows (length (M.items m)) row_width }
+    requires plan { IsReversalPlan (length (M.items m)) row_width plan }
+    requires len_fits { length (M.items m) < 2 ^ 64 }
+    requires orders { (number : ℕ) (phase : Phase) → slice_get (phases_of plan) number ≡ Some phase
+        → IsOrder (parts_of phase) (order_of orders.first.now orders.second.now orders.third.now number) }
+    ensures order { IsRowReversal row_width (M.items m) (M.items result) }
+    ensures holder { M.same_holder (swaps_of_plan plan (length (M.items m))) m result }
+{
+    let mut m = m;
+    let mut number = 0;
+    while let Some(phase) = plan.phase(number) {
+        m = make_in_order(m, phase, orders.of_phase(number));
+        number += 1;
+    }
+    m
+}
