@@ -38,12 +38,11 @@ fn main() {
     assert!(columns == expected);
 
     let mut list = matrix.clone();
-    let mut phases = parts::reversal(&mut list, wish);
     // All parts of a phase are done before the next one begins. The compiler sees to that.
-    while let Some(parts) = phases.next_phase() {
+    parts::reversal(&mut list, wish).for_each_phase(|parts| {
         println!("a phase of a reversal in {} parts", parts.len());
         run_all(threads, parts, ReversalPart::run);
-    }
+    });
     let mut expected = matrix;
     reverse_slice_index_bits(&mut expected);
     assert!(list == expected);

@@ -1,8 +1,10 @@
 //! Bit reversal, transposes and the other small calls of `p3-util` 0.8.0, under its names, over sources that are proved.
 //!
 //! What [`kernels`] has was proved as Rust with contracts, and here has the contracts as documentation. The calls beside it
-//! are the original's: each tests its condition, panics where it does not hold, and calls the proved one, to which its
-//! documentation leads. [`kernels::contracts`] says how a contract is read.
+//! are the original's. One that has no condition is a proved function itself, or calls one. The others test their condition, panic
+//! where it does not hold, and call the proved function, to which their documentation leads: [`reverse_bits`] and
+//! [`reverse_bits_len`] test it where debug assertions are on, and the others always. [`kernels::contracts`] says how a contract
+//! is read.
 //!
 //! ```
 //! use p3_util_proved::{reverse_slice_index_bits, transpose::transpose};
@@ -155,9 +157,7 @@ pub mod kernels;
 pub mod linear_map;
 mod memory;
 pub mod parts;
-mod phases;
 #[cfg(doctest)]
-#[path = "../tests/unit/refused.rs"]
 mod refused;
 pub mod transpose;
 #[cfg_attr(not(feature = "checked"), allow(unsafe_code))]

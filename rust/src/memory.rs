@@ -172,5 +172,4 @@ impl<T> IntoIterator for Vec<T> {
 }
 
 #[cfg(test)]
-#[path = "../tests/unit/memory.rs"]
 mod tests;

@@ -19,10 +19,9 @@
 //! assert_eq!(columns[..3], [0, 60, 120]);
 //!
 //! let mut list: Vec<u32> = (0..1 << 20).collect();
-//! let mut phases = parts::reversal(&mut list, 16);
-//! while let Some(parts) = phases.next_phase() {
+//! parts::reversal(&mut list, 16).for_each_phase(|parts| {
 //!     scope(|threads| parts.for_each(|part| _ = threads.spawn(|| part.run())));
-//! }
+//! });
 //! assert_eq!(list[..3], [0, 1 << 19, 1 << 18]);
 //! ```
 //!
@@ -30,17 +29,29 @@
 //!
 //! # How many parts
 //!
-//! The number of parts is a wish: there may be fewer or more, and 0 is 1. About four for each thread are best, since parts are
-//! of unequal size. A list that is empty, or whose items have no bytes, has no part, and a reversal of it no phase.
+//! The number of parts that a call asks for is a wish, and 0 is 1. It is the greatest number of parts of a transpose, and of the
+//! first and the last phase of a reversal. In the second phase it is the greatest number P that the side of a square is cut into, and
+//! the phase has P(P + 1) / 2 parts, or twice as many where there are two squares:
+//!
+//! | Items | Wish | Parts of the phases |
+//! |---|---|---|
+//! | 2^20 | 16 | 16, 136 and 16 |
+//! | 2^21 | 16 | 16, 272 and 16 |
+//! | 2^20 | 64 | 16, 2080 and 16 |
+//! | 2^24 | 64 | 32, 2080 and 32 |
+//!
+//! Four for each thread are a good wish, since parts are of unequal size. A list that is empty, or whose items have no bytes, has
+//! no part, and a reversal of it no phase.
 //!
 //! - A transpose is cut along its longer side, at multiples of 16 rows or columns.
-//! - A reversal of up to 2^18 items is one part, since there the call itself is faster. A longer one, of 2^k items, has three
-//!   phases. In the second, each square of 2^(k / 2) rows is cut into a grid, and a part is one of its blocks on or above the
-//!   diagonal. In the first and the third, a part is a range of line pairs. These are few, and the last of them are the largest:
-//!   2^20 items have 16 line pairs, of which the largest makes an eighth of the exchanges, so more than 8 threads do not shorten
-//!   these phases. With 2^22 and 2^24 items they are 32, and the largest makes a sixteenth.
-//! - A reversal of longer rows has one phase, of line pairs of its rows: 2^k rows have about 2^(k / 2 - 1). Of up to 2^18 items
-//!   it is one part, and 4 rows have one line pair.
+//! - A reversal of up to [`one_part_reversal`] items is one part, since there the call itself is faster. A longer one, of 2^k items,
+//!   has three phases. In the second, each square of 2^(k / 2) rows is cut into a grid, and a part is one of its blocks on or above
+//!   the diagonal. There is one square where k is even, and two where it is odd. In the first and the third, a part is a range of
+//!   line pairs. These are few, and the last of them are the largest: 2^20 items have 16 line pairs, of which the largest makes an
+//!   eighth of the exchanges, so more than 8 threads do not shorten these phases. With 2^22 and 2^24 items they are 32, and the
+//!   largest makes a sixteenth.
+//! - A reversal of longer rows has one phase, of line pairs of its rows: 2^k rows have about 2^(k / 2 - 1). Where it has no more
+//!   items than are one part, it is one, and 4 rows have one line pair.
 //! - With the feature `checked` a transpose is cut along its columns, and a reversal is one part.
 //!
 //! # What is not run
@@ -53,64 +64,69 @@ use core::fmt;
 use core::iter::FusedIterator;
 
 use crate::kernels::parts::Phase;
-use crate::kernels::reverse::fits_rows;
-use crate::kernels::transpose::Matrix;
-use crate::phases::{Phases, Regions};
-use crate::unchecked::{self, Parts};
+use crate::unchecked::{self, Parts, Phases, Regions};
+
+/// The number of items above which a reversal is cut, whatever their size.
+const CUT_ITEMS: usize = 1 << 18;
+
+/// The number of bytes above which a reversal is cut where it has more than [`CUT_WIDE_ITEMS`] items.
+const CUT_BYTES: usize = 1 << 21;
+
+/// The number of items up to which a reversal is one part, however many bytes they have.
+const CUT_WIDE_ITEMS: usize = 1 << 16;
+
+/// The greatest number of items of this type that [`reversal`] and [`row_reversal`] leave as one part: 2^18, or as many as 2^21
+/// bytes hold, but 2^16 at the least. Up to that the call itself takes less time than its parts.
+///
+/// ```
+/// use p3_util_proved::parts::one_part_reversal;
+///
+/// # if cfg!(not(feature = "checked")) {
+/// assert_eq!(one_part_reversal::<u32>(), 1 << 18);
+/// assert_eq!(one_part_reversal::<[u64; 4]>(), 1 << 16);
+/// # }
+/// ```
+///
+/// With the feature `checked` each reversal is one part, of however many items.
+#[must_use]
+pub const fn one_part_reversal<F>() -> usize {
+    if cfg!(feature = "checked") {
+        return usize::MAX;
+    }
+    match CUT_BYTES.checked_div(size_of::<F>()) {
+        Some(items) if items < CUT_WIDE_ITEMS => CUT_WIDE_ITEMS,
+        Some(items) if items < CUT_ITEMS => items,
+        _ => CUT_ITEMS,
+    }
+}
 
 /// The parts of a transpose that are left, as an iterator of known length.
+#[must_use = "a part that is not run leaves its cells as they are"]
 pub struct TransposeParts<'a, T>(Parts<'a, T, Regions<&'a [T]>>);
 
-/// A part of a transpose. It is `Send` where its items are `Send` and `Sync`, and it cannot be cloned:
-///
-/// ```compile_fail,E0277
-/// use p3_util_proved::{assert_send, parts::TransposePart};
-/// assert_send::<TransposePart<'_, std::cell::Cell<u8>>>();
-/// ```
-///
-/// ```compile_fail,E0277
-/// use p3_util_proved::{assert_clone, parts::TransposePart};
-/// assert_clone::<TransposePart<'_, u8>>();
-/// ```
+/// A part of a transpose. It is `Send` where its items are `Send` and `Sync`, and it cannot be cloned.
+#[must_use = "a part that is not run leaves its cells as they are"]
 pub struct TransposePart<'a, T>(Parts<'a, T, Regions<&'a [T]>>);
 
 /// The phases of a reversal that are left. A phase has to be done before the next one.
-pub struct ReversalPhases<'a, F> {
-    vals: &'a mut [F],
-    phases: Phases,
-    done: usize,
-}
+#[must_use = "a reversal is done by the parts of its phases, and none has run yet"]
+pub struct ReversalPhases<'a, F>(Phases<'a, F>);
 
-/// The parts of a phase that are left, as an iterator of known length. While one of them is there, no other phase is:
-///
-/// ```compile_fail,E0499
-/// let mut list = [0, 1, 2, 3];
-/// let mut phases = p3_util_proved::parts::reversal(&mut list, 2);
-/// let part = phases.next_phase().unwrap().next().unwrap();
-/// let next_phase = phases.next_phase();
-/// part.run();
-/// ```
+/// The parts of a phase that are left, as an iterator of known length. While one of them is there, no other phase is.
+#[must_use = "a part that is not run leaves the list neither as it was nor reversed"]
 pub struct ReversalParts<'a, F>(Parts<'a, F, Phase>);
 
-/// A part of a phase of a reversal. It is `Send` where its items are, and it cannot be cloned:
-///
-/// ```compile_fail,E0277
-/// use p3_util_proved::{assert_send, parts::ReversalPart};
-/// assert_send::<ReversalPart<'_, std::rc::Rc<u8>>>();
-/// ```
-///
-/// ```compile_fail,E0277
-/// use p3_util_proved::{assert_clone, parts::ReversalPart};
-/// assert_clone::<ReversalPart<'_, u8>>();
-/// ```
+/// A part of a phase of a reversal. It is `Send` where its items are, and it cannot be cloned.
+#[must_use = "a part that is not run leaves the list neither as it was nor reversed"]
 pub struct ReversalPart<'a, F>(Parts<'a, F, Phase>);
 
-/// Cuts [`transpose::transpose`](crate::transpose::transpose) into about `parts` parts.
+/// Cuts [`transpose::transpose`](crate::transpose::transpose) into at most `parts` parts.
 ///
 /// # Panics
 ///
 /// As the call itself, before there is a part.
 #[track_caller]
+#[must_use = "the transpose is put by its parts, and none has run yet"]
 pub fn transpose<'a, T: Copy + Send + Sync>(
     input: &'a [T],
     output: &'a mut [T],
@@ -119,36 +135,41 @@ pub fn transpose<'a, T: Copy + Send + Sync>(
     parts: usize,
 ) -> TransposeParts<'a, T> {
     let lengths = [input.len(), output.len()];
-    match unchecked::transpose_in_parts(Matrix::new(input, width, height), output, parts) {
+    match unchecked::transpose_in_parts(input, output, width, height, parts) {
         Some(parts) => TransposeParts(parts),
         None => crate::transpose::refuse(lengths[0], lengths[1], width, height),
     }
 }
 
-/// Cuts [`reverse_slice_index_bits`](crate::reverse_slice_index_bits) into phases of about `parts` parts.
+/// Cuts [`reverse_slice_index_bits`](crate::reverse_slice_index_bits) into phases, by the wish of `parts` parts: see
+/// [how many there are](self#how-many-parts).
 ///
 /// # Panics
 ///
 /// As the call itself, before there is a phase.
 #[track_caller]
+#[must_use = "the list is reversed by the parts of its phases, and none has run yet"]
 pub fn reversal<F: Send + Sync>(vals: &mut [F], parts: usize) -> ReversalPhases<'_, F> {
-    if !fits_rows(vals.len(), 1) {
-        crate::refuse_items(vals.len());
+    let len = vals.len();
+    match Phases::new(vals, 1, parts, one_part_reversal::<F>()) {
+        Some(phases) => ReversalPhases(phases),
+        None => crate::refuse_items(len),
     }
-    ReversalPhases::new(vals, 1, parts)
 }
 
-/// Cuts [`reverse_slice_row_index_bits`](crate::reverse_slice_row_index_bits) into phases of about `parts` parts.
+/// Cuts [`reverse_slice_row_index_bits`](crate::reverse_slice_row_index_bits) into phases of at most `parts` parts.
 ///
 /// # Panics
 ///
 /// As the call itself, before there is a phase.
 #[track_caller]
+#[must_use = "the list is reversed by the parts of its phases, and none has run yet"]
 pub fn row_reversal<F: Send>(vals: &mut [F], row_width: usize, parts: usize) -> ReversalPhases<'_, F> {
-    if !fits_rows(vals.len(), row_width) {
-        crate::refuse_rows(vals.len(), row_width);
+    let len = vals.len();
+    match Phases::new(vals, row_width, parts, one_part_reversal::<F>()) {
+        Some(phases) => ReversalPhases(phases),
+        None => crate::refuse_rows(len, row_width),
     }
-    ReversalPhases::new(vals, row_width, parts)
 }
 
 impl<T: Copy> TransposePart<'_, T> {
@@ -159,17 +180,28 @@ impl<T: Copy> TransposePart<'_, T> {
     }
 }
 
-impl<'a, F> ReversalPhases<'a, F> {
-    fn new(vals: &'a mut [F], row_width: usize, parts: usize) -> Self {
-        let phases = Phases { row_width, parts };
-        ReversalPhases { vals, phases, done: 0 }
+impl<F> ReversalPhases<'_, F> {
+    /// The parts of the next phase, or `None` after the last one. The parts of the phase before it have to be done.
+    #[must_use = "the list is reversed by the parts of each phase, and none of this one has run yet"]
+    pub fn next_phase(&mut self) -> Option<ReversalParts<'_, F>> {
+        self.0.next_phase().map(ReversalParts)
     }
 
-    /// The parts of the next phase, or `None` after the last one. The parts of the phase before it have to be done.
-    pub fn next_phase(&mut self) -> Option<ReversalParts<'_, F>> {
-        let parts = unchecked::reverse_in_parts(self.vals, self.phases, self.done)?;
-        self.done += 1;
-        Some(ReversalParts(parts))
+    /// Gives `run` the parts of each phase, one phase after the other. It returns when they have run.
+    ///
+    /// ```
+    /// use std::thread::scope;
+    ///
+    /// let mut list: Vec<u32> = (0..1 << 19).collect();
+    /// p3_util_proved::parts::reversal(&mut list, 16).for_each_phase(|parts| {
+    ///     scope(|threads| parts.for_each(|part| _ = threads.spawn(|| part.run())));
+    /// });
+    /// assert_eq!(list[..3], [0, 1 << 18, 1 << 17]);
+    /// ```
+    pub fn for_each_phase(mut self, mut run: impl FnMut(ReversalParts<'_, F>)) {
+        while let Some(parts) = self.next_phase() {
+            run(parts);
+        }
     }
 }
 
@@ -229,7 +261,7 @@ impl<T> fmt::Debug for TransposePart<'_, T> {
 
 impl<F> fmt::Debug for ReversalPhases<'_, F> {
     fn fmt(&self, f: &mut fmt::Formatter<'_>) -> fmt::Result {
-        f.debug_struct("ReversalPhases").field("done", &self.done).finish()
+        f.debug_struct("ReversalPhases").field("done", &self.0.done()).finish()
     }
 }
 
@@ -246,3 +278,6 @@ impl<F> fmt::Debug for ReversalPart<'_, F> {
             .finish()
     }
 }
+
+#[cfg(test)]
+mod tests;

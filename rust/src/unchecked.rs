@@ -6,18 +6,26 @@
 //! in their place.
 //!
 //! Parts of a call have one list at once. The holder of a part is a pointer and a length, and makes references to one place or
-//! one run at a time, never to the whole list. A part's kernel makes an exact number of steps, and it is proved
-//! (`crates/p3_util_kernels/src/parts/laws.rt`) that over items that all differ each of them is at another place of the part,
-//! and that two parts of a phase have no place in common. A kernel is generic in its items and in its holder, and calls no
-//! `clone`, `size_of`, `type_name` or `needs_drop`, so where it steps depends on the shape alone, and what holds of one list and
-//! one holder holds of all. This last step is said and not proved. A script looks for these words in the kernels' sources.
+//! one run at a time, never to the whole list: see `SliceItems`. Which parts there are, and what each one does, is proved code as
+//! the kernels are (`kernels/parts.rs`). Each part makes an exact number of steps, and it is proved
+//! (`crates/p3_util_kernels/src/parts/laws.rt`) that over items that all differ each of them is at another place of the part, and
+//! that two parts of a phase have no place in common.
+//!
+//! Two things are left to reading:
+//!
+//! - that a generic body steps at the same places whatever its items and its holder are. A kernel calls no `clone`, `size_of`,
+//!   `type_name` or `needs_drop`, and a script looks for such words in the kernels' sources. So what is proved over one list and
+//!   one holder, by which steps are counted or noted, holds over all.
+//! - that this file gives each number of a phase out once, and one phase after the other, which rustc's borrow checker sees to:
+//!   [`Parts`] takes numbers from a range and is not cloned, and the parts of a phase borrow the [`Phases`] that the next one is
+//!   asked of.
 
 use core::ops::Range;
 
-use crate::kernels::parts::Phase;
+use crate::kernels::parts::{Phase, ReversalPlan, TransposePlan};
 use crate::kernels::reverse::{self, RowDigits, fits_rows, reverse_index_bits};
-use crate::kernels::transpose::{Matrix, fits_matrix, transpose_matrix};
-use crate::phases::{Phases, Regions, strips_of};
+use crate::kernels::transpose::{Matrix, Strips, fits_matrix, transpose_matrix};
+use crate::transpose::strips_of;
 
 #[cfg(feature = "checked")]
 use crate::checked::{PartItems, SliceCells, SlicePlaces, SliceSource};
@@ -65,41 +73,76 @@ pub(crate) struct Parts<'a, T, P> {
     numbers: Range<usize>,
 }
 
+/// A matrix that is transposed in regions, and the strips by which each is put.
+#[derive(Clone, Copy)]
+pub(crate) struct Regions<R> {
+    source: R,
+    plan: TransposePlan,
+    strips: Strips,
+}
+
 /// The parts of [`transpose`], where both lists have so many items.
-pub(crate) fn transpose_in_parts<'a, T>(
-    matrix: Matrix<&'a [T]>,
+pub(crate) fn transpose_in_parts<'a, T: Copy>(
+    source: &'a [T],
     output: &'a mut [T],
+    width: usize,
+    height: usize,
     parts: usize,
 ) -> Option<Parts<'a, T, Regions<&'a [T]>>> {
-    let Matrix { source, width, height } = matrix;
     if !fits_matrix(source.len(), output.len(), width, height) {
         return None;
     }
-    let phase = Regions::new(matrix, parts);
-    let count = if size_of::<T>() == 0 { 0 } else { phase.count() };
+    let plan = TransposePlan::new(width, height, parts, cfg!(not(feature = "checked")));
+    let strips = strips_of(Matrix::new(SliceSource::new(source), width, height));
+    let count = if size_of::<T>() == 0 { 0 } else { plan.count() };
+    // Where the columns are cut, each region has a run of so many cells, but for the last one, which may have fewer.
+    let share = if count == 0 { 0 } else { plan.items(0) };
     Some(Parts {
-        items: PartItems::in_shares(output, phase.cells()),
-        phase,
+        items: PartItems::in_shares(output, share),
+        phase: Regions { source, plan, strips },
         numbers: 0..count,
     })
 }
 
-/// The parts of a phase of [`reverse_rows`], where the list has such rows. There are none after the last phase, and none of
-/// items without bytes.
-pub(crate) fn reverse_in_parts<F>(vals: &mut [F], phases: Phases, number: usize) -> Option<Parts<'_, F, Phase>> {
-    let len = vals.len();
-    if !fits_rows(len, phases.row_width) || size_of_val(vals) == 0 {
-        return None;
+/// A list whose rows are reversed in phases, and the number of the next one.
+pub(crate) struct Phases<'a, F> {
+    vals: &'a mut [F],
+    plan: ReversalPlan,
+    next: usize,
+}
+
+impl<'a, F> Phases<'a, F> {
+    /// The phases of [`reverse_rows`], where the list has such rows. Up to `one_part` items are one part, and items without bytes
+    /// have no phase.
+    pub(crate) fn new(vals: &'a mut [F], row_width: usize, parts: usize, one_part: usize) -> Option<Self> {
+        if !fits_rows(vals.len(), row_width) {
+            return None;
+        }
+        let len = if size_of::<F>() == 0 { 0 } else { vals.len() };
+        let plan = ReversalPlan::new(len, row_width, parts, one_part);
+        Some(Phases { vals, plan, next: 0 })
     }
-    let phase = phases.phase(len, number)?;
-    Some(Parts {
-        items: PartItems::in_shares(vals, len),
-        phase,
-        numbers: 0..phase.count(),
-    })
+
+    /// The parts of the next phase, or `None` after the last one.
+    pub(crate) fn next_phase(&mut self) -> Option<Parts<'_, F, Phase>> {
+        let phase = self.plan.phase(self.next)?;
+        self.next += 1;
+        let len = self.vals.len();
+        Some(Parts {
+            items: PartItems::in_shares(self.vals, len),
+            phase,
+            numbers: 0..phase.count(),
+        })
+    }
+
+    /// How many phases are done, since none is under way while this can be asked.
+    pub(crate) fn done(&self) -> usize {
+        self.next
+    }
 }
 
 impl<T, P: Copy> Parts<'_, T, P> {
+    /// Takes the first part away.
     pub(crate) fn split_first(&mut self) -> Option<Self> {
         let number = self.numbers.next()?;
         Some(Parts {
@@ -109,19 +152,23 @@ impl<T, P: Copy> Parts<'_, T, P> {
         })
     }
 
+    /// The numbers of the parts that are left.
     pub(crate) fn numbers(&self) -> Range<usize> {
         self.numbers.clone()
     }
 }
 
 impl<T: Copy> Parts<'_, T, Regions<&[T]>> {
+    /// Puts the regions that are left.
     pub(crate) fn put(mut self) {
-        let regions = self.phase.map(SliceSource::new);
-        self.numbers.for_each(|number| regions.put(self.items.share(), number));
+        let Regions { source, plan, strips } = self.phase;
+        self.numbers
+            .for_each(|number| _ = plan.put(self.items.share(), SliceSource::new(source), number, strips));
     }
 }
 
 impl<F> Parts<'_, F, Phase> {
+    /// Makes the exchanges of the parts that are left.
     pub(crate) fn exchange(mut self) {
         self.numbers
             .for_each(|number| _ = self.phase.exchange(self.items.share(), number));
@@ -138,6 +185,10 @@ mod slices {
     use crate::kernels::places::{Cells, Places, Source};
 
     /// The items of a slice, as places or as cells, for one kernel or for one part.
+    ///
+    /// Other parts of a phase have such a holder of the same list at the same time. So no function of this type makes a reference
+    /// to the whole list, nor to a place or a run that it does not step on: a reference to what another part changes is undefined
+    /// behaviour, also where nothing is read by it. No test and no race detector sees one.
     pub(super) struct SliceItems<'a, T> {
         first: *mut T,
         len: usize,
@@ -219,7 +270,7 @@ mod slices {
             unsafe { *self.first.add(i) = v }
             // An input and an output are known to be apart, so the compiler would read eight items at once before it writes
             // them. For processors with AVX-512 it makes one gather of these reads, which lie in eight rows, and that takes
-            // two to three times as long as item by item. A fence of the compiler keeps each read behind the write before it.
+            // two to four times as long as item by item, for items of 4 and 8 bytes. A fence of the compiler keeps each read behind the write before it.
             // The processor sees nothing of it.
             compiler_fence(Ordering::SeqCst);
         }
@@ -255,5 +306,7 @@ mod slices {
 }
 
 #[cfg(test)]
-#[path = "../tests/unit/holders.rs"]
 mod tests;
+
+#[cfg(all(test, not(feature = "checked")))]
+mod races;

@@ -6,7 +6,7 @@ use std::sync::atomic::{AtomicUsize, Ordering::Relaxed};
 use std::thread::scope;
 
 use p3_util_proved::parts::*;
-use p3_util_proved::{assert_send, reverse_slice_row_index_bits};
+use p3_util_proved::reverse_slice_row_index_bits;
 
 use crate::refusal::refusal;
 use crate::{Owner, reversed, transposed};
@@ -123,6 +123,9 @@ fn large_lists_on_threads() {
         check_reversal(|i| i as u16, 12, 100, parts, threads);
     }
     check_transpose(|i| i as u64, (2100, 1000), 16, 4);
+    // Wide items, by strips of their own, cut along the columns and along the rows.
+    check_transpose(|i| [i as u64, 1, !i as u64, 3], (1100, 960), 16, 4);
+    check_transpose(|i| [i as u64, 1, !i as u64, 3], (17, 61_696), 16, 4);
     check_reversal(|i| i as u64, 20, 1, 16, 4);
     check_reversal(|i| i as u32, 21, 1, usize::MAX, 4);
 }
@@ -133,7 +136,15 @@ fn none_and_one() {
     assert_eq!(transpose::<u8>(&[], &mut [], usize::MAX, 0, 3).len(), 0);
     assert_eq!(transpose::<u8>(&[], &mut [], 0, usize::MAX, 3).len(), 0);
     assert_eq!(transpose(&[(); 6], &mut [(); 6], 3, 2, 3).len(), 0);
-    assert_eq!(transpose(&[()][..], &mut [()], 1, 1, usize::MAX).len(), 0);
+    let (input, mut output) = ([(); 1 << 40], [(); 1 << 40]);
+    for parts in [0, 1, 16, usize::MAX] {
+        for (width, height) in [(1, 1 << 33), (1, 1 << 40), (1 << 40, 1)] {
+            let len = width * height;
+            let parts = transpose(&input[..len], &mut output[..len], width, height, parts);
+            assert_eq!(parts.len(), 0, "{width} by {height}");
+        }
+        assert!(reversal(&mut output, parts).next_phase().is_none());
+    }
     assert!(reversal::<u8>(&mut [], 3).next_phase().is_none());
     assert!(reversal(&mut [(); 8], 3).next_phase().is_none());
     assert!(row_reversal::<u8>(&mut [], 0, 3).next_phase().is_none());
@@ -146,27 +157,73 @@ fn none_and_one() {
         let wanted: &[usize] = if cfg!(feature = "checked") { &[1] } else { &[1, 2, 1] };
         assert_eq!(lens, wanted, "a square and the one beside it are two parts");
     }
-    let mut list = vec![0u8; 1 << 18];
-    let mut phases = reversal(&mut list, 9);
-    assert_eq!(phases.next_phase().unwrap().len(), 1);
-    assert!(phases.next_phase().is_none());
 }
 
-/// A part that is not run leaves its cells as they are.
+/// How many parts the phases of a long list have, by a wish: the numbers of the documentation.
+#[test]
+#[cfg(not(feature = "checked"))]
+fn parts_of_phases() {
+    let cases = [
+        (20, 16, [16, 136, 16]),
+        (21, 16, [16, 272, 16]),
+        (20, 64, [16, 2080, 16]),
+        (24, 64, [32, 2080, 32]),
+    ];
+    for (bits, wish, wanted) in cases {
+        let mut list = vec![0u8; 1 << bits];
+        let mut counts = vec![];
+        reversal(&mut list, wish).for_each_phase(|parts| counts.push(parts.len()));
+        assert_eq!(counts, wanted, "2^{bits} items by a wish of {wish}");
+    }
+}
+
+/// The number of phases of a list of so many items.
+fn phases<F: Clone + Send + Sync>(item: F, len: usize) -> usize {
+    let mut list = vec![item; len];
+    let mut phases = reversal(&mut list, 9);
+    std::iter::from_fn(|| phases.next_phase().map(drop)).count()
+}
+
+/// A list is cut where it has more items than are one part.
+#[test]
+fn lists_of_one_part() {
+    let cut = if cfg!(feature = "checked") { 1 } else { 3 };
+    assert_eq!([phases(0u8, 1 << 18), phases(0u8, 1 << 19)], [1, cut]);
+    assert_eq!([phases(0u64, 1 << 18), phases(0u64, 1 << 19)], [1, cut]);
+    assert_eq!([phases(0u128, 1 << 17), phases(0u128, 1 << 18)], [1, cut]);
+    assert_eq!([phases([0u64; 4], 1 << 16), phases([0u64; 4], 1 << 17)], [1, cut]);
+    assert_eq!([phases([0u64; 8], 1 << 16), phases([0u64; 8], 1 << 17)], [1, cut]);
+}
+
+/// The longer side is cut, and with the feature `checked` always the columns. A part that is not run leaves its cells as they are.
 #[test]
 fn parts_that_are_not_run() {
     let input: Vec<u32> = (1..=60 * 40).collect();
-    for kept in 0..2 {
+    for ((width, height), kept) in [(60, 40), (40, 60)]
+        .into_iter()
+        .flat_map(|shape| [(shape, 0), (shape, 1)])
+    {
         let mut output = vec![0; input.len()];
-        let part = transpose(&input, &mut output, 60, 40, 3).nth(kept);
+        let part = transpose(&input, &mut output, width, height, 3).nth(kept);
         part.unwrap().run();
-        // Each part has at most 32 of 60 columns, so there are two.
-        let columns = kept * 32..60.min(kept * 32 + 32);
+        let by_rows = height > width && cfg!(not(feature = "checked"));
+        // Each part has so many whole sixteens that there are at most three parts.
+        let side: usize = if by_rows { height } else { width };
+        let step = side.div_ceil(16).div_ceil(3) * 16;
         for (place, item) in output.into_iter().enumerate() {
-            let wanted = columns.contains(&(place / 40)) as u32 * input[transposed(60, 40, place)];
-            assert_eq!(item, wanted, "place {place} by part {kept}");
+            let (x, y) = (place / height, place % height);
+            let is_kept = (if by_rows { y } else { x }) / step == kept;
+            let wanted = u32::from(is_kept) * input[transposed(width, height, place)];
+            assert_eq!(item, wanted, "place {place} of {width} by {height} by part {kept}");
         }
     }
+}
+
+/// A part whose split has 13 levels.
+#[test]
+fn a_long_part() {
+    check_transpose(|i| i as u8, (3, 1 << 20), 1, 0);
+    check_transpose(|i| i as u8, (1 << 20, 3), 1, 0);
 }
 
 /// Items that own something are each there once, whatever parts of a reversal are run.
@@ -233,13 +290,37 @@ fn debug_shows_numbers() {
     assert_eq!(format!("{:?}", parts.next().unwrap()), "ReversalPart { number: 0 }");
 }
 
+/// What gives parts, and each part, may not be thrown away without a word: the compiler warns of each statement, as the
+/// attribute above it expects.
 #[test]
-fn all_are_send() {
-    assert_send::<TransposeParts<'_, u8>>();
-    assert_send::<TransposePart<'_, u8>>();
-    assert_send::<ReversalPhases<'_, std::cell::Cell<u8>>>();
-    assert_send::<ReversalParts<'_, std::cell::Cell<u8>>>();
-    assert_send::<ReversalPart<'_, std::cell::Cell<u8>>>();
+#[deny(unfulfilled_lint_expectations)]
+fn a_warning_where_parts_are_thrown_away() {
+    fn transpose_parts<'a>(input: &'a [u8], output: &'a mut [u8]) -> TransposeParts<'a, u8> {
+        transpose(input, output, 2, 2, 2)
+    }
+    fn reversal_phases(list: &mut [u8]) -> ReversalPhases<'_, u8> {
+        reversal(list, 2)
+    }
+    let (mut list, mut output) = ([0u8, 1, 2, 3], [0; 4]);
+    #[expect(unused_must_use)]
+    transpose(&list, &mut output, 2, 2, 2);
+    #[expect(unused_must_use)]
+    transpose_parts(&list, &mut output);
+    #[expect(unused_must_use)]
+    transpose(&list, &mut output, 2, 2, 2).next().unwrap();
+    #[expect(unused_must_use)]
+    reversal(&mut list, 2);
+    #[expect(unused_must_use)]
+    reversal_phases(&mut list);
+    #[expect(unused_must_use)]
+    row_reversal(&mut list, 2, 2);
+    #[expect(unused_must_use)]
+    reversal(&mut list, 2).next_phase();
+    #[expect(unused_must_use)]
+    reversal(&mut list, 2).next_phase().unwrap();
+    #[expect(unused_must_use)]
+    reversal(&mut list, 2).next_phase().unwrap().next().unwrap();
+    assert_eq!((list, output), ([0, 1, 2, 3], [0; 4]));
 }
 
 /// The panics of the calls themselves, which name the caller's line.
@@ -274,6 +355,19 @@ fn panics_of_the_calls() {
         [
             || call::transpose::transpose(&[0u8; 6], &mut [0; 5], 3, 2),
             || _ = transpose(&[0u8; 6], &mut [0; 5], 3, 2, 2),
+        ],
+        [
+            || call::transpose::transpose(&[0u8; 7], &mut [0; 6], 3, 2),
+            || _ = transpose(&[0u8; 7], &mut [0; 6], 3, 2, 2),
+        ],
+        [
+            || call::transpose::transpose(&[0u8; 6], &mut [0; 7], 3, 2),
+            || _ = transpose(&[0u8; 6], &mut [0; 7], 3, 2, 2),
+        ],
+        // The product is 2^64, which wraps to zero.
+        [
+            || call::transpose::transpose::<u8>(&[], &mut [], 1 << 32, 1 << 32),
+            || _ = transpose::<u8>(&[], &mut [], 1 << 32, 1 << 32, 3),
         ],
     ];
     for [call, in_parts] in pairs {

@@ -91,7 +91,12 @@ const WHOLE: Region = Region {
     col_start: 0,
     col_end: 3,
 };
-const FITS: [bool; 4] = [fits_rows(12, 3), fits_matrix(6, 6, 3, 3), fits_square(9, 1, 2, 1), WHOLE.fits(2, 3)];
+const FITS: [bool; 4] = [
+    fits_rows(12, 3),
+    fits_matrix(6, 6, 3, 3),
+    fits_square(9, 1, 2, 1),
+    WHOLE.fits(2, 3),
+];
 const CHECKED: (Option<usize>, Option<(usize, usize)>) = (checked_pow2(64), checked_log_size_sum(20, 3));
 
 #[test]

@@ -45,7 +45,8 @@ pub(crate) enum Strips {
 }
 
 impl Strips {
-    /// The choice of how a region of `matrix` is put, by its shape alone.
+    /// How a region of `matrix` is put, by its shape alone: the choice of every call but for those of the package of plain Rust,
+    /// which knows the size of an item and may choose otherwise.
     ///
     /// A strip is read one column after the other, and so in all of its rows at once. Where 16 divides the width, the rows
     /// may begin a multiple of a high power of two apart. The cache lines of a high strip are then in few sets of the cache,

@@ -4,10 +4,11 @@
 use std::collections::BTreeSet;
 use std::vec::Vec;
 
-use super::*;
-use crate::kernels::parts::{Cut, LinePairs, Squares};
-use crate::kernels::places::{Places, SliceSource};
+use super::one_part_reversal;
+use crate::kernels::parts::{Cut, LinePairs, Phase, ReversalPlan, Squares, TransposePlan};
+use crate::kernels::places::{Cells, Places, SliceSource, Source};
 use crate::kernels::reverse::RowDigits;
+use crate::kernels::transpose::{Matrix, Strips};
 
 /// A list of numbers that notes each place that is stepped on.
 #[derive(Debug)]
@@ -72,33 +73,99 @@ fn check(len: usize, count: usize, run: impl Fn(&mut Noted, usize), wanted: impl
     places.len()
 }
 
-/// The parts of the transpose of a matrix of numbers from `len` on, so that each put changes its cell.
-fn check_matrix(width: usize, height: usize, parts: usize) {
+/// The parts of the transpose of a matrix of numbers from `len` on, so that each put changes its cell. It is cut along its longer
+/// side, or always along its columns.
+fn check_matrix(width: usize, height: usize, parts: usize, may_cut_rows: bool) {
     let len = width * height;
     let input: Vec<usize> = (len..2 * len).collect();
-    let regions = Regions::new(Matrix::new(SliceSource::new(&input), width, height), parts);
+    let source = SliceSource::new(&input);
+    let strips = Strips::of(Matrix::new(source, width, height));
+    let plan = TransposePlan::new(width, height, parts, may_cut_rows);
+    let by_rows = height > width && may_cut_rows;
+    let cut = Cut::new(if by_rows { height } else { width }, parts, 16);
     let wanted = |number, place| {
         let (x, y) = (place / height, place % height);
-        let by_rows = height > width && cfg!(not(feature = "checked"));
-        let cut = Cut::new(if by_rows { height } else { width }, parts, 16);
         let (from, to) = cut.part(number);
         let is_inside = (from..to).contains(if by_rows { &y } else { &x });
         if is_inside { input[y * width + x] } else { place }
     };
-    let puts = check(len, regions.count(), |noted, number| regions.put(noted, number), wanted);
+    let put = |noted: &mut Noted, number| _ = plan.put(noted, source, number, strips);
+    let puts = check(len, plan.count(), put, wanted);
     assert_eq!(puts, len, "{width} by {height} in {parts} parts");
+    assert_eq!((0..plan.count()).map(|number| plan.items(number)).sum::<usize>(), len);
 }
 
 #[test]
 fn regions_of_matrices() {
     let small = (0..=40).flat_map(|width| (0..=40).map(move |height| (width, height)));
     for (width, height) in small {
-        check_matrix(width, height, (width + height) % 5);
+        check_matrix(width, height, (width + height) % 5, width % 3 != 0);
     }
     for parts in 0..=9 {
-        [(100, 3), (3, 100), (150, 40), (40, 150), (128, 64)]
-            .iter()
-            .for_each(|&(width, height)| check_matrix(width, height, parts));
+        for (width, height) in [(100, 3), (3, 100), (150, 40), (40, 150), (128, 64)] {
+            check_matrix(width, height, parts, true);
+            check_matrix(width, height, parts, false);
+        }
+    }
+}
+
+/// The numbers below a length, as a source and as cells, of which only the puts are kept.
+struct Far {
+    len: usize,
+    puts: Vec<(usize, usize)>,
+}
+
+impl Cells for &mut Far {
+    type Item = usize;
+
+    fn len(&self) -> usize {
+        self.len
+    }
+
+    fn put(&mut self, i: usize, v: usize) {
+        self.puts.push((i, v));
+    }
+}
+
+#[derive(Clone, Copy)]
+struct Numbers(usize);
+
+impl Source for Numbers {
+    type Item = usize;
+
+    fn len(&self) -> usize {
+        self.0
+    }
+
+    fn at(&self, i: usize) -> usize {
+        assert!(i < self.0);
+        i
+    }
+}
+
+/// The last part of a matrix of one row or of one column, which is its own transpose. Nothing wraps.
+#[test]
+fn regions_of_long_matrices() {
+    let longest = usize::MAX;
+    let shapes = [(1, 1 << 32), (1, 1 << 40), (1, longest)];
+    for ((width, height), wish) in shapes
+        .into_iter()
+        .flat_map(|shape| [0, 1, 16, longest].map(|wish| (shape, wish)))
+    {
+        for (width, height, may_cut_rows) in [(width, height, true), (height, width, true), (height, width, false)] {
+            let plan = TransposePlan::new(width, height, wish, may_cut_rows);
+            let (len, last) = (width * height, plan.count() - 1);
+            assert_eq!(last * plan.items(0) + plan.items(last), len);
+            if plan.items(last) <= 16 {
+                let mut far = Far { len, puts: Vec::new() };
+                let source = Numbers(len);
+                let _ = plan.put(&mut far, source, last, Strips::of(Matrix::new(source, width, height)));
+                assert!(far.puts.into_iter().eq((last * plan.items(0)..len).map(|i| (i, i))));
+            }
+        }
+        // The columns of one column are not cut.
+        let plan = TransposePlan::new(width, height, wish, false);
+        assert_eq!((plan.count(), plan.items(0)), (1, height));
     }
 }
 
@@ -173,14 +240,12 @@ fn blocks_of_squares() {
 
 /// A long list by its three phases, and long rows by one, with the places noted.
 #[test]
-#[cfg(not(feature = "checked"))]
 fn long_lists() {
-    for (digits, row_width, count) in [(19, 1, 3), (20, 1, 3), (15, 20, 1)] {
+    for (digits, row_width, count) in [(9, 1, 3), (14, 1, 3), (15, 1, 3), (19, 1, 3), (10, 20, 1)] {
         let len = row_width << digits;
         let mut noted = Noted::numbered(len);
-        let phases: Vec<Phase> = (0..4)
-            .map_while(|number| Phases { row_width, parts: 5 }.phase(len, number))
-            .collect();
+        let plan = ReversalPlan::new(len, row_width, 5, 0);
+        let phases: Vec<Phase> = (0..4).map_while(|number| plan.phase(number)).collect();
         assert_eq!(phases.len(), count);
         for phase in phases {
             let mut owners = std::vec![usize::MAX; len];
@@ -198,4 +263,39 @@ fn long_lists() {
         };
         assert!(noted.items.iter().enumerate().all(is_reversed));
     }
+}
+
+/// How many phases a list has, which is one part up to a length.
+#[test]
+fn lists_up_to_one_part() {
+    let phases = |len, row_width, one_part| {
+        let plan = ReversalPlan::new(len, row_width, 5, one_part);
+        (0..4).map_while(|number| plan.phase(number)).count()
+    };
+    assert_eq!([phases(0, 1, 0), phases(0, 1, 9), phases(0, 0, 0)], [0, 0, 0]);
+    assert_eq!([phases(1 << 9, 1, 511), phases(1 << 9, 1, 512)], [3, 1]);
+    assert_eq!([phases(3 << 9, 3, 1535), phases(3 << 9, 3, 1536)], [1, 1]);
+}
+
+/// 2^18 items are one part, of more than 8 bytes as many as 2^21 bytes hold, and 2^16 however many bytes they have. With the
+/// feature `checked` each list is.
+#[test]
+fn items_of_one_part() {
+    let wanted = |items| if cfg!(feature = "checked") { usize::MAX } else { items };
+    let of_few_bytes = [
+        one_part_reversal::<()>(),
+        one_part_reversal::<u8>(),
+        one_part_reversal::<u32>(),
+        one_part_reversal::<u64>(),
+    ];
+    assert_eq!(of_few_bytes, [wanted(1 << 18); 4]);
+    assert_eq!(one_part_reversal::<[u8; 9]>(), wanted(233_016));
+    assert_eq!(one_part_reversal::<u128>(), wanted(1 << 17));
+    assert_eq!(one_part_reversal::<[u8; 31]>(), wanted(67_650));
+    let of_many_bytes = [
+        one_part_reversal::<[u8; 32]>(),
+        one_part_reversal::<[u8; 33]>(),
+        one_part_reversal::<[u64; 1000]>(),
+    ];
+    assert_eq!(of_many_bytes, [wanted(1 << 16); 3]);
 }

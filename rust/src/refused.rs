@@ -1,0 +1,196 @@
+//! What the compiler refuses: types, by the bounds of proved calls, and parts that would run twice, out of their phase, or while
+//! their list is used. Each block that fails to compile would compile without one bound or one lifetime.
+//!
+//! ```
+//! use p3_util_proved::{assert_clone, zip_eq::ZipEq};
+//! use std::iter::FusedIterator;
+//!
+//! fn ends_for_good<I: FusedIterator>() {}
+//!
+//! fn of_both<A: ExactSizeIterator + FusedIterator, B: ExactSizeIterator + FusedIterator>() {
+//!     ends_for_good::<ZipEq<A, B>>();
+//! }
+//!
+//! assert_clone::<String>();
+//! ```
+//!
+//! ```compile_fail,E0277
+//! p3_util_proved::assert_clone::<std::sync::Mutex<u8>>();
+//! ```
+//!
+//! ```compile_fail,E0277
+//! use p3_util_proved::zip_eq::ZipEq;
+//! use std::iter::FusedIterator;
+//!
+//! fn ends_for_good<I: FusedIterator>() {}
+//!
+//! fn of_the_first<A: ExactSizeIterator + FusedIterator, B: ExactSizeIterator>() {
+//!     ends_for_good::<ZipEq<A, B>>();
+//! }
+//! ```
+//!
+//! ```compile_fail,E0277
+//! use p3_util_proved::zip_eq::ZipEq;
+//! use std::iter::FusedIterator;
+//!
+//! fn ends_for_good<I: FusedIterator>() {}
+//!
+//! fn of_the_second<A: ExactSizeIterator, B: ExactSizeIterator + FusedIterator>() {
+//!     ends_for_good::<ZipEq<A, B>>();
+//! }
+//! ```
+//!
+//! # Parts
+//!
+//! Parts, and what gives them, go to other threads with their items:
+//!
+//! ```
+//! use p3_util_proved::assert_send;
+//! use p3_util_proved::parts::*;
+//! use std::cell::Cell;
+//!
+//! assert_send::<(TransposeParts<'_, u8>, TransposePart<'_, u8>)>();
+//! assert_send::<(ReversalPhases<'_, Cell<u8>>, ReversalParts<'_, Cell<u8>>, ReversalPart<'_, Cell<u8>>)>();
+//! ```
+//!
+//! ```compile_fail,E0277
+//! p3_util_proved::assert_send::<p3_util_proved::parts::TransposeParts<'_, std::cell::Cell<u8>>>();
+//! ```
+//!
+//! ```compile_fail,E0277
+//! p3_util_proved::assert_send::<p3_util_proved::parts::TransposePart<'_, std::cell::Cell<u8>>>();
+//! ```
+//!
+//! ```compile_fail,E0277
+//! p3_util_proved::assert_send::<p3_util_proved::parts::ReversalPhases<'_, std::rc::Rc<u8>>>();
+//! ```
+//!
+//! ```compile_fail,E0277
+//! p3_util_proved::assert_send::<p3_util_proved::parts::ReversalParts<'_, std::rc::Rc<u8>>>();
+//! ```
+//!
+//! ```compile_fail,E0277
+//! p3_util_proved::assert_send::<p3_util_proved::parts::ReversalPart<'_, std::rc::Rc<u8>>>();
+//! ```
+//!
+//! None of them is cloned, so no part runs twice:
+//!
+//! ```compile_fail,E0277
+//! p3_util_proved::assert_clone::<p3_util_proved::parts::TransposeParts<'_, u8>>();
+//! ```
+//!
+//! ```compile_fail,E0277
+//! p3_util_proved::assert_clone::<p3_util_proved::parts::TransposePart<'_, u8>>();
+//! ```
+//!
+//! ```compile_fail,E0277
+//! p3_util_proved::assert_clone::<p3_util_proved::parts::ReversalPhases<'_, u8>>();
+//! ```
+//!
+//! ```compile_fail,E0277
+//! p3_util_proved::assert_clone::<p3_util_proved::parts::ReversalParts<'_, u8>>();
+//! ```
+//!
+//! ```compile_fail,E0277
+//! p3_util_proved::assert_clone::<p3_util_proved::parts::ReversalPart<'_, u8>>();
+//! ```
+//!
+//! ```compile_fail,E0382
+//! use p3_util_proved::parts::transpose;
+//!
+//! let mut output = [0; 4];
+//! let part = transpose(&[0, 1, 2, 3], &mut output, 2, 2, 2).next().unwrap();
+//! part.run();
+//! part.run();
+//! ```
+//!
+//! While one is there, its list is borrowed, and of a transpose the input too:
+//!
+//! ```
+//! use p3_util_proved::parts::{reversal, transpose};
+//!
+//! let (mut input, mut output) = ([0, 1, 2, 3], [0; 4]);
+//! transpose(&input, &mut output, 2, 2, 2).for_each(|part| part.run());
+//! let mut phases = reversal(&mut input, 2);
+//! phases.next_phase().unwrap().for_each(|part| part.run());
+//! assert!(phases.next_phase().is_none());
+//! input[0] = output[1];
+//! output[0] = input[1];
+//! ```
+//!
+//! ```compile_fail,E0506
+//! use p3_util_proved::parts::transpose;
+//!
+//! let (mut input, mut output) = ([0, 1, 2, 3], [0; 4]);
+//! let parts = transpose(&input, &mut output, 2, 2, 2);
+//! output[0] = 7;
+//! parts.for_each(|part| part.run());
+//! ```
+//!
+//! ```compile_fail,E0506
+//! use p3_util_proved::parts::transpose;
+//!
+//! let (mut input, mut output) = ([0, 1, 2, 3], [0; 4]);
+//! let parts = transpose(&input, &mut output, 2, 2, 2);
+//! input[0] = 7;
+//! parts.for_each(|part| part.run());
+//! ```
+//!
+//! ```compile_fail,E0506
+//! use p3_util_proved::parts::transpose;
+//!
+//! let (mut input, mut output) = ([0, 1, 2, 3], [0; 4]);
+//! let part = transpose(&input, &mut output, 2, 2, 2).next().unwrap();
+//! output[0] = 7;
+//! part.run();
+//! ```
+//!
+//! ```compile_fail,E0506
+//! use p3_util_proved::parts::transpose;
+//!
+//! let (mut input, mut output) = ([0, 1, 2, 3], [0; 4]);
+//! let part = transpose(&input, &mut output, 2, 2, 2).next().unwrap();
+//! input[0] = 7;
+//! part.run();
+//! ```
+//!
+//! ```compile_fail,E0506
+//! use p3_util_proved::parts::reversal;
+//!
+//! let mut list = [0, 1, 2, 3];
+//! let phases = reversal(&mut list, 2);
+//! list[0] = 7;
+//! phases.for_each_phase(|parts| parts.for_each(|part| part.run()));
+//! ```
+//!
+//! No phase begins while a part of the one before is there:
+//!
+//! ```compile_fail,E0499
+//! let mut list = [0, 1, 2, 3];
+//! let mut phases = p3_util_proved::parts::reversal(&mut list, 2);
+//! let parts = phases.next_phase().unwrap();
+//! let next_phase = phases.next_phase();
+//! parts.for_each(|part| part.run());
+//! ```
+//!
+//! ```compile_fail,E0499
+//! let mut list = [0, 1, 2, 3];
+//! let mut phases = p3_util_proved::parts::reversal(&mut list, 2);
+//! let part = phases.next_phase().unwrap().next().unwrap();
+//! let next_phase = phases.next_phase();
+//! part.run();
+//! ```
+//!
+//! ```compile_fail,E0499
+//! let mut list = [0, 1, 2, 3];
+//! let mut phases = p3_util_proved::parts::row_reversal(&mut list, 2, 2);
+//! let parts = phases.next_phase().unwrap();
+//! let next_phase = phases.next_phase();
+//! parts.for_each(|part| part.run());
+//! ```
+//!
+//! ```compile_fail,E0521
+//! let mut list = [0, 1, 2, 3];
+//! let mut kept = None;
+//! p3_util_proved::parts::reversal(&mut list, 2).for_each_phase(|parts| kept = Some(parts));
+//! ```

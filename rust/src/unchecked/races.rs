@@ -1,0 +1,118 @@
+//! Parts on several threads, of lists that are cut however short they are. `rust/test` has a race detector look at this, and at
+//! cuts that overlap, of which it has to report each.
+
+use std::iter::from_fn;
+use std::thread::scope;
+use std::vec::Vec;
+
+use super::*;
+
+/// Runs each share on a thread of its own.
+fn run_all<P: Send>(shares: impl IntoIterator<Item = Vec<P>>, run: fn(P)) {
+    scope(|scope| {
+        let threads: Vec<_> = shares
+            .into_iter()
+            .map(|share| scope.spawn(move || share.into_iter().for_each(run)))
+            .collect();
+        // The detector sees that a thread is done where it is joined, and not where the scope waits for it.
+        threads.into_iter().for_each(|thread| thread.join().unwrap());
+    });
+}
+
+/// Runs all parts, dealt out to so many threads.
+fn run_on<'a, T: Send, P: Copy + Send>(threads: usize, mut parts: Parts<'a, T, P>, run: fn(Parts<'a, T, P>)) {
+    let mut shares: Vec<Vec<_>> = from_fn(|| Some(Vec::new())).take(threads).collect();
+    for (turn, part) in from_fn(|| parts.split_first()).enumerate() {
+        shares[turn % threads].push(part);
+    }
+    run_all(shares, run);
+}
+
+/// Transposes a matrix of numbers in about so many parts.
+fn transposes(width: usize, height: usize, parts: usize, threads: usize) {
+    let input: Vec<usize> = (0..width * height).collect();
+    let mut output = std::vec![0; input.len()];
+    let parts = transpose_in_parts(&input, &mut output, width, height, parts).unwrap();
+    run_on(threads, parts, Parts::put);
+    let transposed = |place| place % height * width + place / height;
+    assert!(output.into_iter().eq((0..input.len()).map(transposed)));
+}
+
+/// Reverses 2^`digits` rows of numbers, in phases of about so many parts.
+fn reverses(digits: u32, row_width: usize, parts: usize, threads: usize) {
+    let mut list: Vec<usize> = (0..row_width << digits).collect();
+    let mut phases = Phases::new(&mut list, row_width, parts, 0).unwrap();
+    while let Some(parts) = phases.next_phase() {
+        run_on(threads, parts, Parts::exchange);
+    }
+    let reversed = |row: usize| (0..digits).fold(0, |rev, place| rev << 1 | row >> place & 1);
+    let item = |place| reversed(place / row_width) * row_width + place % row_width;
+    assert!(list.into_iter().eq((0..row_width << digits).map(item)));
+}
+
+#[test]
+fn parts_on_threads() {
+    for round in 0..150 {
+        let (parts, threads) = (1 + round % 11, 2 + round % 7);
+        transposes(1 + round * 7 % 97, 1 + round * 13 % 89, parts, threads);
+        reverses(round as u32 % 12, 1, parts, threads);
+        reverses(round as u32 % 8, 2 + round % 3, parts, threads);
+    }
+}
+
+/// Runs on two threads a part of each of two phases over one list.
+fn run_both<'a, T: Send, P: Copy + Send>(
+    mut parts: Parts<'a, T, P>,
+    phases: [(P, usize); 2],
+    run: fn(Parts<'a, T, P>),
+) {
+    let shares = phases.map(|(phase, number)| {
+        let items = parts.items.share();
+        std::vec![Parts {
+            items,
+            phase,
+            numbers: number..number + 1,
+        }]
+    });
+    run_all(shares, run);
+}
+
+/// Runs on two threads a part of each of two cuts of a phase of a reversal.
+fn exchanges_both(len: usize, row_width: usize, number: usize, parts: [(usize, usize); 2]) {
+    let mut list: Vec<usize> = (0..len).collect();
+    let mut phases = Phases::new(&mut list, row_width, 1, 0).unwrap();
+    phases.next = number;
+    let cuts = parts.map(|(parts, part)| {
+        let plan = ReversalPlan::new(len, row_width, parts, 0);
+        (plan.phase(number).unwrap(), part)
+    });
+    run_both(phases.next_phase().unwrap(), cuts, Parts::exchange);
+}
+
+/// Of 64 columns the first 32, and of these the last 16.
+#[test]
+#[ignore = "a race, which a detector has to report"]
+fn overlapping_regions() {
+    let input: Vec<usize> = (0..64 * 64).collect();
+    let mut output = input.clone();
+    let parts = transpose_in_parts(&input, &mut output, 64, 64, 1).unwrap();
+    let cuts = [(2, 0), (4, 1)].map(|(count, part)| {
+        let plan = TransposePlan::new(64, 64, count, true);
+        (Regions { plan, ..parts.phase }, part)
+    });
+    run_both(parts, cuts, Parts::put);
+}
+
+/// Of 8 line pairs the first 4, and of the last of these and of two more, in rows of three items.
+#[test]
+#[ignore = "a race, which a detector has to report"]
+fn overlapping_ranges() {
+    exchanges_both(3 << 8, 3, 0, [(2, 0), (3, 1)]);
+}
+
+/// Of a square of 64 by 64 items a block of 32 by 32 on the diagonal, and one of 16 by 16 within it.
+#[test]
+#[ignore = "a race, which a detector has to report"]
+fn overlapping_blocks() {
+    exchanges_both(1 << 12, 1, 1, [(2, 0), (4, 1)]);
+}
