@@ -1,4 +1,4 @@
-//! Leaves the answers unused that the original warns of.
+//! Leaves the answers unused that the original warns of, and calls in parts, of which no part then runs.
 
 use p3_util::*;
 
@@ -11,4 +11,9 @@ fn main() {
     checked_pow2(3);
     checked_log_size_sum(3, 4);
     indices_arr::<3>();
+    let mut phases = parts::reversal(&mut [0; 4], 2);
+    phases.next_phase();
+    parts::reversal(&mut [0; 4], 2);
+    parts::row_reversal(&mut [0; 4], 2, 2);
+    parts::transpose(&[0; 4], &mut [0; 4], 2, 2, 2);
 }

@@ -8,18 +8,25 @@
 extern crate alloc;
 
 #[cfg(all(not(feature = "parallel"), target_pointer_width = "64"))]
-use p3_util_proved as proved;
+use p3_util_proved as calls;
 #[cfg(all(feature = "parallel", target_pointer_width = "64"))]
 #[path = "parallel.rs"]
-mod proved;
+mod calls;
 
-pub use original::*;
 #[cfg(target_pointer_width = "64")]
-pub use proved::{
+pub use calls::{
     apply_to_chunks, assert_clone, assert_send, assert_sync, checked_log_size_sum, checked_pow2, indices_arr,
     iter_array_chunks_padded, log2_ceil_u64, log2_ceil_usize, log2_floor_usize, log2_strict_usize, log3_strict_usize,
     pretty_name, reverse_bits, reverse_bits_len, reverse_slice_index_bits, transpose, zip_eq,
 };
+pub use original::*;
+
+/// What the proved package has beside the original's names: calls in parts, holders of your own with exact numbers of steps, and
+/// the reversal of rows. On other systems it is not there.
+#[cfg(target_pointer_width = "64")]
+pub mod proved {
+    pub use p3_util_proved::{kernels, parts, reverse_slice_row_index_bits};
+}
 
 /// The name of the release whose calls are in use, and in a checkout of the repository that it is none. On other systems,
 /// where all is the original's, it is `None`.

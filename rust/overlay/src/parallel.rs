@@ -8,12 +8,9 @@ pub use p3_util_proved::*;
 /// How many parts there are for each thread, about. They are of unequal size.
 const PARTS_A_THREAD: usize = 4;
 
-/// The least number of items that are reversed in parts. Fewer are one part.
-const LEAST_REVERSAL: usize = (1 << 18) + 1;
-
-/// How many parts a call on so many items is cut into, where its parts take less time on the threads than the call itself.
-fn parts_of(items: usize, least: usize) -> Option<usize> {
-    if items < least {
+/// How many parts to wish for, where the list is long enough and there is more than one thread.
+fn wish(is_long: bool) -> Option<usize> {
+    if !is_long {
         return None;
     }
     let threads = current_num_threads();
@@ -28,14 +25,13 @@ fn parts_of(items: usize, least: usize) -> Option<usize> {
 #[inline]
 #[track_caller]
 pub fn reverse_slice_index_bits<F: Send + Sync>(vals: &mut [F]) {
-    let Some(parts) = parts_of(vals.len(), LEAST_REVERSAL) else {
+    let Some(parts) = wish(vals.len() > p3_util_proved::parts::one_part_reversal::<F>()) else {
         return p3_util_proved::reverse_slice_index_bits(vals);
     };
-    let mut phases = p3_util_proved::parts::reversal(vals, parts);
-    while let Some(parts) = phases.next_phase() {
+    p3_util_proved::parts::reversal(vals, parts).for_each_phase(|parts| {
         let parts: Vec<_> = parts.collect();
         parts.into_par_iter().for_each(|part| part.run());
-    }
+    });
 }
 
 #[allow(dead_code, reason = "the original's transposes may be kept in their place")]
@@ -44,7 +40,7 @@ pub mod transpose {
 
     use super::*;
 
-    /// The least number of items that are transposed in parts.
+    /// The least number of items that are transposed in parts. Fewer take less time on one thread.
     const LEAST_ITEMS: usize = 1 << 18;
 
     /// As [`p3_util_proved::transpose::transpose`], on all threads.
@@ -55,7 +51,7 @@ pub mod transpose {
     #[inline]
     #[track_caller]
     pub fn transpose<T: Copy + Send + Sync>(input: &[T], output: &mut [T], width: usize, height: usize) {
-        let Some(parts) = parts_of(input.len(), LEAST_ITEMS) else {
+        let Some(parts) = wish(input.len() >= LEAST_ITEMS) else {
             return p3_util_proved::transpose::transpose(input, output, width, height);
         };
         let parts: Vec<_> = p3_util_proved::parts::transpose(input, output, width, height, parts).collect();

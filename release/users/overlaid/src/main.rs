@@ -20,7 +20,10 @@ fn reverses<T: Debug + PartialEq + Send + Sync>(item: impl Fn(u8) -> T) {
 fn moves<T: Copy + Debug + PartialEq + Send + Sync>(item: impl Fn(u8) -> T) {
     let items = |numbers: [u8; 6]| numbers.map(&item);
     reverses(&item);
-    assert_eq!(tree::transposed(&items([1, 2, 3, 4, 5, 6]), 3), items([1, 4, 2, 5, 3, 6]));
+    assert_eq!(
+        tree::transposed(&items([1, 2, 3, 4, 5, 6]), 3),
+        items([1, 4, 2, 5, 3, 6])
+    );
 }
 
 /// Reverses and transposes lists that are long enough for several threads.
@@ -29,8 +32,31 @@ fn moves_long_lists() {
     let transposed = tree::transposed(&list, 1 << 11);
     assert!((0..1 << 20).all(|place| transposed[place] == list[place % 512 * 2048 + place / 512]));
     let reversed = tree::reversed(list);
-    assert!(reversed.iter().zip(0u32..).all(|(item, i)| *item == i.reverse_bits() >> 12));
+    assert!(
+        reversed
+            .iter()
+            .zip(0u32..)
+            .all(|(item, i)| *item == i.reverse_bits() >> 12)
+    );
 }
+
+/// What the proved package has beside the original's names, with no dependency on it.
+#[cfg(target_pointer_width = "64")]
+fn calls_of_the_package() {
+    use p3_util::proved::{
+        kernels::places::SlicePlaces, kernels::reverse::reverse_counted, parts, reverse_slice_row_index_bits,
+    };
+
+    let mut rows = [0, 1, 10, 11, 20, 21, 30, 31];
+    reverse_slice_row_index_bits(&mut rows, 2);
+    assert_eq!(rows, [0, 1, 20, 21, 10, 11, 30, 31]);
+    parts::row_reversal(&mut rows, 2, 3).for_each_phase(|parts| parts.for_each(|part| part.run()));
+    assert_eq!(rows, [0, 1, 10, 11, 20, 21, 30, 31]);
+    assert_eq!(reverse_counted(&mut SlicePlaces::new(&mut rows)), 2);
+}
+
+#[cfg(not(target_pointer_width = "64"))]
+fn calls_of_the_package() {}
 
 /// What the calls of the stand-in for the original never answer.
 fn right_answers() -> [bool; 15] {
@@ -70,6 +96,7 @@ fn main() {
     moves(|i| [u32::from(i); 9]);
     reverses(|i| vec![i; 5]);
     moves_long_lists();
+    calls_of_the_package();
     calls();
     // The call of branch_hint alone, or all of them.
     let originals = if IS_PROVED { 1 } else { 2 * 4 + 1 + 2 + 5 };
