@@ -43,7 +43,12 @@ def rows(text):
     """The rows of the table of a section."""
     for name, meaning in re.findall(r"^\|([^|\n]*)\|([^|\n]*)\|", text, re.M)[2:]:
         words = {word for code in re.findall(r"`([^`]*)`", name) for word in defined(code)}
-        yield Row(name.strip(), meaning.strip(), words)
+        yield Row(name.strip(), unlinked(meaning.strip()), words)
+
+
+def unlinked(text):
+    """The text without links, since a page of the repository is not where the documentation is."""
+    return re.sub(r"\[([^]]*)\]\([^)]*\)", r"\1", text)
 
 
 def defined(code):
@@ -98,10 +103,9 @@ def shown(written, tables):
 
 
 def read_aloud(text):
-    """Of the section that reads a contract: its first sentence, the contract, and the list of what each clause says. A link to
-    another page is left out."""
+    """Of the section that reads a contract: its first sentence, the contract, and the list of what each clause says."""
     parts = "\n\n".join(text.strip().split("\n\n")[:3]).replace("```rust\n", "```text\n")
-    return re.sub(r"\[([^]]*)\]\([^)]*\)", r"\1", parts).split("\n")
+    return unlinked(parts).split("\n")
 
 
 def page(written, read):
