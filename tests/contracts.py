@@ -1,5 +1,6 @@
 """Prints docs/CONTRACTS.md: the public calls of p3_util and p3_util_kernels with their clauses, the public types with their
-fields, and the public traits with what their implementations say of them, all as the sources have it."""
+fields, and the public traits with what their implementations say of them, all as the sources have it. So a clause that goes, or a
+condition that comes, is seen. The parts that calls are cut into, which are no public calls, have a section of their own."""
 import glob
 import re
 import textwrap
@@ -14,7 +15,14 @@ use. [MODEL](MODEL.md) says what the words of a clause mean. The headings are mo
 
 A struct is listed with its private fields too, since a clause may name them. Where a type implements a trait, the lines
 below say what a clause sees of that type. `rt check` in the folder of a crate that calls these proves what they ask, or
-names what is open. The page is made by `python3 tests/contracts.py >docs/CONTRACTS.md`."""
+names what is open. [What makes parts safe](#what-makes-parts-safe) is of the kernels' own functions, which no other crate can
+call. The page is made by `python3 tests/contracts.py >docs/CONTRACTS.md`."""
+PARTS = """
+## What makes parts safe
+
+A call that is cut into parts is made of these functions of `p3_util_kernels`, and no other crate can call them. Those of
+`parts/laws.rt`, and of the file below it, are called by nothing: each is there for its contract. What it runs are the
+functions that make a part of a call, so what it says of the places of their steps is said of the parts of that call."""
 WORDS = """
 ## Where the words of clauses are
 
@@ -136,9 +144,19 @@ def sections():
     yield from ["\n## The root\n\n```text", *lines, "```"]
 
 
+def parts():
+    """The section of the parts that calls are cut into, with all that other files of the crate see."""
+    folder = "crates/p3_util_kernels/src/"
+    yield PARTS
+    below = glob.glob(folder + "parts/**/*.rt", recursive=True)
+    for path in [folder + "parts.rt", *sorted(below, key=lambda path: ("laws" in path, path))]:
+        text = read(path).replace("pub(crate) ", "pub ")
+        yield from [f"\nIn `{path.removeprefix(folder)}`:\n\n```text", *items(text, re.findall(r"\w+", text)), "```"]
+
+
 def page():
     said = list(sections())
-    return "\n".join([HEAD, *said, WORDS, *words_by_module("\n".join(said)), "```"])
+    return "\n".join([HEAD, *said, *parts(), WORDS, *words_by_module("\n".join(said)), "```"])
 
 
 if __name__ == "__main__":

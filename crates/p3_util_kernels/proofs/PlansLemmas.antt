@@ -1,5 +1,6 @@
 -- Plans of reversals, for `src/parts/reversal.rt`.
-use Rattle.std.proofs.Common.{◌≡◌, ℕ, zero, suc, ◌+◌, ◌-◌, ◌*◌, ◌/◌, ◌^◌, ◌<◌, List, [], ◌∷◌, Some, slice_get, subst, ap, ◌∙◌, arith}
+use Rattle.std.proofs.Common.{◌≡◌, ℕ, zero, suc, ◌+◌, ◌-◌, ◌*◌, ◌/◌, ◌^◌, ◌<◌, List, [], ◌∷◌, Some, slice_get, nat_le, false, inl, inr, refl, sym, subst, ap, ◌∙◌, arith}
+use Rattle.std.proofs.lemmas.Bool.{cases_eq, eq-eqb, false_from_ne_true, le-leb, leb-true, ne_eqb}
 use Rattle.std.proofs.lemmas.Option.{slice_get_within}
 use Rattle.std.proofs.lemmas.Nat.{pow-add, pow_pos}
 use Rattle.p3_util_kernels.specs.declared.parts.reversal.Phase.{Phase}
@@ -7,9 +8,10 @@ use Rattle.p3_util_kernels.specs.declared.parts.reversal.Phase.TheVariants.{Bloc
 use Rattle.p3_util_kernels.specs.declared.parts.reversal.ReversalPlan.{ReversalPlan}
 use Rattle.p3_util_kernels.specs.declared.parts.reversal.ReversalPlan.TheVariants.{Nothing, OnePart, ByRanges, Long}
 use Rattle.p3_util_kernels.specs.Levels.{clog}
-use Rattle.p3_util_kernels.specs.Plans.{IsPhaseOf, IsReversalPlan, phases_of}
+use Rattle.p3_util_kernels.specs.Plans.{IsCutAsAsked, IsPhaseOf, IsReversalPlan, call_swaps, phases_of, swaps_in_parts, swaps_of_plan}
 use Rattle.p3_util_kernels.specs.Reversal.{FitsRows}
-use Rattle.p3_util_kernels.proofs.Lengths.{IsDigitsOfRows-from}
+use Rattle.p3_util_kernels.proofs.Lengths.{IsDigitsOfRows-from, no_digits}
+use Rattle.p3_util_kernels.proofs.LevelsLemmas.{clog-zero}
 
 -- so many items are so many rows of one item
 pub clog_of_ones : (len row_width : ℕ) → row_width ≡ 1 → clog len ≡ clog (len / row_width)
@@ -41,3 +43,23 @@ module _ (len : ℕ) (phase : Phase) where
       let chunks : IsPhaseOf (Ranges pairs) len = rw (is.2, is.3) (pow_pos (digits - half), omega (arith, rows.few small), omega (arith, whole)) in
       let blocks : IsPhaseOf (Blocks squares) len = rw (is.4, is.5) whole in
       one_more (Ranges pairs) (Blocks squares ∷ Ranges pairs ∷ []) chunks (one_more (Blocks squares) (Ranges pairs ∷ []) blocks (one_more (Ranges pairs) [] chunks none))
+
+-- no items take no exchanges
+call_swaps-none : (row_width : ℕ) → call_swaps 0 row_width ≡ 0
+call_swaps-none row_width =
+    elim (cases_eq row_width 1) [
+      | inl one ↦ rw (one, clog-zero 0 refl) refl
+      | inr several ↦ rw (ne_eqb row_width 1 several, no_digits 0 row_width refl) (omega arith)
+    ]
+
+beyond : (len one_part : ℕ) → one_part < len → nat_le len one_part ≡ false
+beyond len one_part less = false_from_ne_true (nat_le len one_part) (λ t. omega (arith, less, leb-true len one_part t))
+
+-- how many exchanges a plan takes that is cut as it was asked for
+pub plan-swaps : (len row_width parts one_part : ℕ) (plan : ReversalPlan) → IsReversalPlan len row_width plan → IsCutAsAsked len row_width parts one_part plan
+    → swaps_of_plan plan len ≡ swaps_in_parts len row_width one_part
+plan-swaps len row_width parts one_part Nothing is cut = rw (is, le-leb 0 one_part (omega arith)) (sym (call_swaps-none row_width))
+plan-swaps len row_width parts one_part (OnePart rows) is cut = rw (is.1, le-leb len one_part cut) refl
+plan-swaps len row_width parts one_part (ByRanges pairs) is cut =
+    rw (is.1, beyond len one_part cut.0, ne_eqb row_width 1 (λ e. omega (arith, e, cut.1))) refl
+plan-swaps len row_width parts one_part (Long pairs squares) is cut = rw (beyond len one_part cut.0, eq-eqb row_width 1 is.1) refl

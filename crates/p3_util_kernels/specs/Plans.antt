@@ -1,6 +1,6 @@
 -- Plans of reversals, their phases and the parts of these, for the contracts of `src/parts/reversal.rt`.
 -- Source: new.
-use Rattle.std.specs.Prelude.{ℕ, ◌≡◌, ◌+◌, ◌-◌, ◌*◌, ◌/◌, ◌^◌, ◌<◌, ◌≤◌, ◌==◌, if◌then◌else◌, max, List, [], ◌∷◌, length}
+use Rattle.std.specs.Prelude.{ℕ, ◌≡◌, ◌+◌, ◌-◌, ◌*◌, ◌/◌, ◌^◌, ◌<◌, ◌≤◌, ◌==◌, nat_le, if◌then◌else◌, max, List, [], ◌∷◌, length}
 use Rattle.p3_util_kernels.specs.declared.parts.reversal.Phase.{Phase}
 use Rattle.p3_util_kernels.specs.declared.parts.reversal.Phase.TheVariants.{Rows, Ranges, Blocks}
 use Rattle.p3_util_kernels.specs.declared.parts.reversal.ReversalPlan.{ReversalPlan}
@@ -94,3 +94,9 @@ swaps_of_plan Nothing len = 0
 swaps_of_plan (OnePart rows) len = call_swaps len rows.width
 swaps_of_plan (ByRanges pairs) len = row_swaps len pairs.rows.width
 swaps_of_plan (Long pairs squares) len = long_swaps (clog len)
+
+-- How many exchanges the reversal of rows takes in parts: up to `one_part` items as many as the call, and beyond that those of
+-- the rows, or of rows of one item those of the long path.
+abbrev pub swaps_in_parts : (len row_width one_part : ℕ) → ℕ
+swaps_in_parts len row_width one_part =
+    if nat_le len one_part then call_swaps len row_width else if row_width == 1 then long_swaps (clog len) else row_swaps len row_width

@@ -3,16 +3,16 @@
 ghost use Rattle.std.specs.Prelude.{◌≡◌, ℕ, ◌*◌, ◌^◌, ◌<◌, Some, length, slice_get};
 ghost use Rattle.p3_util_kernels.specs.AnyOrder.{IsOrder, order_of};
 ghost use Rattle.p3_util_kernels.specs.Parts.{parts_in};
-ghost use Rattle.p3_util_kernels.specs.Plans.{IsPhaseMade, IsPhaseOf, IsReversalPlan, parts_of, phases_of, swaps_of_phase, swaps_of_plan};
+ghost use Rattle.p3_util_kernels.specs.Plans.{IsPhaseMade, IsPhaseOf, IsReversalPlan, parts_of, phases_of, swaps_in_parts, swaps_of_phase, swaps_of_plan};
 ghost use Rattle.p3_util_kernels.specs.Reversal.{FitsRows, IsRowReversal};
 ghost use Rattle.p3_util_kernels.specs.Transpose.{IsTranspose};
 
 use crate::parts::{Phase, ReversalPlan, TransposePlan};
 use crate::places::{Cells, Places, Source};
-use crate::transpose::Strips;
+use crate::transpose::{Matrix, Strips};
 
 /// Puts all regions of a plan, from the first one on.
-pub(crate) fn put_all<C: Cells, R: Source<Item = C::Item> + Copy>(
+pub(crate) fn put_regions<C: Cells, R: Source<Item = C::Item> + Copy>(
     out: C,
     source: R,
     plan: TransposePlan,
@@ -31,7 +31,7 @@ pub(crate) fn put_all<C: Cells, R: Source<Item = C::Item> + Copy>(
 }
 
 /// Puts the regions of a plan in this order.
-pub(crate) fn put_in_order<C: Cells, R: Source<Item = C::Item> + Copy>(
+pub(crate) fn put_regions_in_order<C: Cells, R: Source<Item = C::Item> + Copy>(
     out: C,
     source: R,
     plan: TransposePlan,
@@ -52,7 +52,7 @@ pub(crate) fn put_in_order<C: Cells, R: Source<Item = C::Item> + Copy>(
 }
 
 /// Makes all parts of a phase, from the first one on.
-pub(crate) fn make_phase<M: Places>(m: M, phase: Phase) -> M
+pub(crate) fn make_parts<M: Places>(m: M, phase: Phase) -> M
     requires list { IsPhaseOf phase (length (M.items m)) }
     requires len_fits { length (M.items m) < 2 ^ 64 }
     ensures made { IsPhaseMade phase (M.items m) (M.items result) }
@@ -66,7 +66,7 @@ pub(crate) fn make_phase<M: Places>(m: M, phase: Phase) -> M
 }
 
 /// Makes the parts of a phase in this order.
-pub(crate) fn make_in_order<M: Places>(m: M, phase: Phase, order: &[usize]) -> M
+pub(crate) fn make_parts_in_order<M: Places>(m: M, phase: Phase, order: &[usize]) -> M
     requires order { IsOrder (parts_of phase) order.now }
     requires list { IsPhaseOf phase (length (M.items m)) }
     requires len_fits { length (M.items m) < 2 ^ 64 }
@@ -81,7 +81,7 @@ pub(crate) fn make_in_order<M: Places>(m: M, phase: Phase, order: &[usize]) -> M
 }
 
 /// Makes all phases of a plan of a reversal, and of each all parts from the first one on.
-pub(crate) fn reverse_all<M: Places>(m: M, row_width: usize, plan: ReversalPlan) -> M
+pub(crate) fn make_phases<M: Places>(m: M, row_width: usize, plan: ReversalPlan) -> M
     requires fits { FitsRows (length (M.items m)) row_width }
     requires plan { IsReversalPlan (length (M.items m)) row_width plan }
     requires len_fits { length (M.items m) < 2 ^ 64 }
@@ -91,7 +91,7 @@ pub(crate) fn reverse_all<M: Places>(m: M, row_width: usize, plan: ReversalPlan)
     let mut m = m;
     let mut number = 0;
     while let Some(phase) = plan.phase(number) {
-        m = make_phase(m, phase);
+        m = make_parts(m, phase);
         number += 1;
     }
     m
@@ -119,7 +119,7 @@ impl<'a> Orders<'a> {
 }
 
 /// Makes all phases of a plan of a reversal, and the parts of each in an order of its own.
-pub(crate) fn reverse_in_order<M: Places>(
+pub(crate) fn make_phases_in_order<M: Places>(
     m: M,
     row_width: usize,
     plan: ReversalPlan,
@@ -136,8 +136,41 @@ pub(crate) fn reverse_in_order<M: Places>(
     let mut m = m;
     let mut number = 0;
     while let Some(phase) = plan.phase(number) {
-        m = make_in_order(m, phase, orders.of_phase(number));
+        m = make_parts_in_order(m, phase, orders.of_phase(number));
         number += 1;
     }
     m
+}
+
+/// Puts the transpose of a matrix by the regions of a plan that is made for it, under the conditions of the call alone.
+pub(crate) fn transpose_in_parts<C: Cells, R: Source<Item = C::Item> + Copy>(
+    out: C,
+    matrix: Matrix<R>,
+    parts: usize,
+    may_cut_rows: bool,
+    strips: Strips,
+) -> C
+    requires input_fits { length (R.items matrix.source) ≡ matrix.width * matrix.height }
+    requires output_fits { length (C.items out) ≡ matrix.width * matrix.height }
+    ensures order { IsTranspose matrix.width matrix.height (R.items matrix.source) (C.items result) }
+    ensures holder { C.same_holder (matrix.width * matrix.height) out result }
+{
+    let _ = out.len();
+    let plan = TransposePlan::new(matrix.width, matrix.height, parts, may_cut_rows);
+    put_regions(out, matrix.source, plan, strips)
+}
+
+/// Reverses rows by the phases of a plan that is made for them, under the condition of the call alone.
+pub(crate) fn reverse_in_parts<M: Places>(
+    m: M,
+    row_width: usize,
+    parts: usize,
+    one_part: usize,
+) -> M
+    requires { FitsRows (length (M.items m)) row_width }
+    ensures order { IsRowReversal row_width (M.items m) (M.items result) }
+    ensures holder { M.same_holder (swaps_in_parts (length (M.items m)) row_width one_part) m result }
+{
+    let plan = ReversalPlan::new(m.len(), row_width, parts, one_part);
+    make_phases(m, row_width, plan)
 }

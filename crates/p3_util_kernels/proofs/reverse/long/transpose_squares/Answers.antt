@@ -3,6 +3,7 @@ use Rattle.std.proofs.Common.{◌≡◌, ℕ, ◌+◌, ◌-◌, ◌^◌, ◌<◌
 use Rattle.p3_util_kernels.proofs.PowersLemmas.{exponent-lt}
 use Rattle.p3_util_kernels.proofs.SideBySideLemmas.{AreTransposed-more, square_room}
 use Rattle.p3_util_kernels.proofs.reverse.long.transpose_squares.Goals as goal
+
 -- edit 1
 
 -- the exponents of a list whose length fits a word

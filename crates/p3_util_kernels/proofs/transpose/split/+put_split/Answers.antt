@@ -5,6 +5,7 @@ use Rattle.p3_util_kernels.proofs.HalvesLemmas.{lev-of_region}
 use Rattle.p3_util_kernels.proofs.LevelsLemmas.{nest_le}
 use Rattle.p3_util_kernels.proofs.RegionLemmas.{IsRegionTransposed-cut}
 use Rattle.p3_util_kernels.proofs.transpose.split.+put_split.Goals as goal
+
 -- edit 1
 
 -- The splits of a region that is halved nest at least once, so a level is there to be taken off. Those of each half nest at

@@ -2,7 +2,7 @@ use Rattle.std.proofs.Common.{◌≡◌, ◌∙◌, refl, arith}
 use Rattle.p3_util_kernels.specs.Parts.{parts_in}
 use Rattle.p3_util_kernels.proofs.AnyOrderLemmas.{put-none, sum_below-next, sum_below-zero, turns-plain}
 use Rattle.p3_util_kernels.proofs.PutsMade.{puts-all, regions-all, regions-more}
-use Rattle.p3_util_kernels.proofs.parts.laws.all_parts.put_all.Goals as goal
+use Rattle.p3_util_kernels.proofs.parts.laws.all_parts.put_regions.Goals as goal
 
 pub loop-number-init : goal.loop-number-init
 loop-number-init g c = record { put = put-none _ _ _ _ _ _; holder = rw (sum_below-zero _) (g.met.C.Cells.same_holder_refl _) }

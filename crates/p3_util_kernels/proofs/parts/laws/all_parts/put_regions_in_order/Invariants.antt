@@ -1,6 +1,6 @@
 use Rattle.std.proofs.Common.{slice_index_or}
 use Rattle.p3_util_kernels.proofs.PutsMade.{ArePut, puts}
-use Rattle.p3_util_kernels.proofs.parts.laws.all_parts.put_in_order.Given as goal
+use Rattle.p3_util_kernels.proofs.parts.laws.all_parts.put_regions_in_order.Given as goal
 
 -- the regions of the first turns are put
 abbrev pub invariant-loop-i : goal.invariant-loop-i

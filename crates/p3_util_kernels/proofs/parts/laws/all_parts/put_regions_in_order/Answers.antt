@@ -1,7 +1,7 @@
 use Rattle.std.proofs.Common.{◌≡◌, ◌∙◌, length, slice_index_or, refl, arith}
 use Rattle.p3_util_kernels.proofs.AnyOrderLemmas.{put-none, sum_below-next, sum_below-zero, turns-of}
 use Rattle.p3_util_kernels.proofs.PutsMade.{puts-all, regions-all, regions-more}
-use Rattle.p3_util_kernels.proofs.parts.laws.all_parts.put_in_order.Goals as goal
+use Rattle.p3_util_kernels.proofs.parts.laws.all_parts.put_regions_in_order.Goals as goal
 
 pub loop-i-init : goal.loop-i-init
 loop-i-init g c = record { put = put-none _ _ _ _ _ _; holder = rw (sum_below-zero _) (g.met.C.Cells.same_holder_refl _) }

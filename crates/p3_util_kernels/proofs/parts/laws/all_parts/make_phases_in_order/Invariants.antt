@@ -1,7 +1,7 @@
 use Rattle.std.proofs.Common.{◌≡◌, ℕ, ◌-◌, ◌≤◌, length}
 use Rattle.p3_util_kernels.specs.Plans.{phases_of}
 use Rattle.p3_util_kernels.proofs.PlansMade.{AreDone}
-use Rattle.p3_util_kernels.proofs.parts.laws.all_parts.reverse_in_order.Given as goal
+use Rattle.p3_util_kernels.proofs.parts.laws.all_parts.make_phases_in_order.Given as goal
 
 -- the first phases are done
 abbrev pub invariant-loop-phase : goal.invariant-loop-phase

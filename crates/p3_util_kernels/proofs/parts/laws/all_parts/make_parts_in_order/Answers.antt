@@ -1,7 +1,7 @@
 use Rattle.std.proofs.Common.{◌≡◌, length, slice_index_or, arith}
 use Rattle.p3_util_kernels.proofs.AnyOrderLemmas.{turns-of}
 use Rattle.p3_util_kernels.proofs.PhasesMade.{made-all, made-length, made-more, made-none, swaps-all, swaps-more, swaps-none}
-use Rattle.p3_util_kernels.proofs.parts.laws.all_parts.make_in_order.Goals as goal
+use Rattle.p3_util_kernels.proofs.parts.laws.all_parts.make_parts_in_order.Goals as goal
 
 pub loop-i-init : goal.loop-i-init
 loop-i-init g c = record {

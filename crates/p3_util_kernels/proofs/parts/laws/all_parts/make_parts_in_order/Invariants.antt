@@ -1,6 +1,6 @@
 use Rattle.std.proofs.Common.{length, slice_index_or}
 use Rattle.p3_util_kernels.proofs.PhasesMade.{AreMade, swaps_made}
-use Rattle.p3_util_kernels.proofs.parts.laws.all_parts.make_in_order.Given as goal
+use Rattle.p3_util_kernels.proofs.parts.laws.all_parts.make_parts_in_order.Given as goal
 
 -- the parts of the first turns are made
 abbrev pub invariant-loop-i : goal.invariant-loop-i

@@ -2,7 +2,7 @@ use Rattle.std.proofs.Common.{◌≡◌, arith}
 use Rattle.p3_util_kernels.specs.Plans.{parts_of}
 use Rattle.p3_util_kernels.proofs.AnyOrderLemmas.{turns-plain}
 use Rattle.p3_util_kernels.proofs.PhasesMade.{made-all, made-length, made-more, made-none, swaps-all, swaps-more, swaps-none}
-use Rattle.p3_util_kernels.proofs.parts.laws.all_parts.make_phase.Goals as goal
+use Rattle.p3_util_kernels.proofs.parts.laws.all_parts.make_parts.Goals as goal
 
 pub loop-number-init : goal.loop-number-init
 loop-number-init g c = record {

@@ -1,5 +1,5 @@
 use Rattle.p3_util_kernels.proofs.PutsMade.{ArePut, puts}
-use Rattle.p3_util_kernels.proofs.parts.laws.all_parts.put_all.Given as goal
+use Rattle.p3_util_kernels.proofs.parts.laws.all_parts.put_regions.Given as goal
 
 -- the regions of the first turns are put
 abbrev pub invariant-loop-number : goal.invariant-loop-number

@@ -1,6 +1,6 @@
 use Rattle.std.proofs.Common.{length}
 use Rattle.p3_util_kernels.proofs.PhasesMade.{AreMade, swaps_made}
-use Rattle.p3_util_kernels.proofs.parts.laws.all_parts.make_phase.Given as goal
+use Rattle.p3_util_kernels.proofs.parts.laws.all_parts.make_parts.Given as goal
 
 -- the parts of the first turns are made
 abbrev pub invariant-loop-number : goal.invariant-loop-number
