@@ -189,13 +189,11 @@ def check_links_and_names():
 
 
 def check_modules():
-    """Each source is a module of the file above it, or of one that says its path. Else it would not be compiled, and its tests would
-    not run. What `rust/test` compiles alone is none."""
-    paths = {name for path in tracked if re.fullmatch(r"rust/src/\w+\.rs", path)
-             for name in re.findall(r'#\[path = "\.\./([^"]+)"\]\nmod ', read(path))}
+    """Each source is a module of the file above it. Else it would not be compiled, and its tests would not run. What `rust/test`
+    compiles alone is none."""
     for path in tracked:
         file = re.fullmatch(r"((?:crates/\w+|rust|tests/unproved)/(?:src|tests)\b.*)/(?!(?:lib|main|mod)\.)(\w+)(\.rt|\.rs|\.rt\.in)", path)
-        if not file or path.removeprefix("rust/") in paths or path.startswith("rust/tests/assembly/"):
+        if not file or path.startswith("rust/tests/assembly/"):
             continue
         folder, name, end = file.groups()
         above = {folder + end, *(f"{folder}/{root}{end}" for root in ("lib", "main", "mod"))}.intersection(tracked)
