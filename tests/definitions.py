@@ -14,7 +14,8 @@ PAGE = "docs/MODEL.md"
 # The files of specs/ of each crate that has a table, in the order of reading. Files that are not named come last.
 ORDER = {
     "p3_util_kernels": ["Digits", "Powers", "Levels", "Names", "Reversal", "Exchanged", "Transpose", "Region", "Stages", "Square",
-                        "SwapCounts", "Steps", "Least", "Parts", "Blocks", "Plans", "AnyOrder", "PartSteps", "Crossing", "Diagonal"],
+                        "SwapCounts", "Steps", "Least", "Parts", "Blocks", "Plans", "AnyOrder", "PartSteps", "Crossing",
+                        "Diagonal"],
     "p3_util": ["Flat", "ItemsAt", "ViewLends", "Pieces", "PaddedPieces", "ZipEq", "LinearMap", "MapIter", "MapLends", "JsonArray",
                 "JsonElements"],
     "p3_util_run": ["Words", "Program", "Arrays", "Texts", "Watch"],
@@ -25,9 +26,8 @@ OTHERS = ["p3_util_kernels/src/parts.rt", "p3_util_kernels/src/parts/*.rt", "p3_
           "p3_util_run/src/program.rt", "p3_util_run/src/fault.rt", "p3_util_c/src/*.rt"]
 # The files of words that no call has in a clause, and that callers need.
 FOR_CALLERS = {"ItemsAt"}
-# What each holder says of itself is a word of the trait: its file, what it is called with, and the comment that says what it is.
-TRAIT = ("places", "same_holder n a b", "the holder b is the holder a after n steps. Each type of holder says what that means. A holder is "
-         "itself after no step, and m steps and then n are m + n", "new")
+# What each holder says of itself, and where the comments on its traits say what that is.
+OF_HOLDERS, TRAITS = "same_holder n a b", "crates/p3_util_kernels/src/places.rt"
 BEGIN = "<!-- Made of the comments in crates/{}/specs/ by tests/definitions.py. -->"
 END = "<!-- The end of what is made. -->"
 OF_ORIGINAL = " of p3-util 0.8.0"
@@ -64,7 +64,8 @@ class Definition:
         above = re.search(rf"((?:^{found[1]}--.*\n)*)\Z", text[:found.start()], re.M)[0]
         self.meaning, source = comment(above.splitlines())
         self.source = source or head[1]
-        outer = {len(module[1]): module[2] for module in re.finditer(r"^( *)module _ (.*) where$", text[:found.start()], re.M)}
+        modules = re.finditer(r"^( *)module _ (.*) where$", text[:found.start()], re.M)
+        outer = {len(module[1]): module[2] for module in modules}
         given = "".join(said for indent, said in outer.items() if indent < len(found[1]))
         self.words = names_in(given) + arguments(text, found.start(), self.name)
 
@@ -112,6 +113,15 @@ def listed(known):
     return rows
 
 
+def of_holders():
+    """The row of what each holder says of itself: of places, and of cells."""
+    with open(TRAITS, encoding="utf-8") as found:
+        text = " ".join(found.read().replace("///", " ").split())
+    places, cells = re.findall(rf"`{OF_HOLDERS}` says that (.*?)\.? pub trait (?:Places|Cells) ", text)
+    cells = re.sub(r"\[(`\w+`)\]", r"\1", cells)
+    return f"| `{OF_HOLDERS}` | {places}. Of `Cells`: {cells} | `src/places.rt`: new |"
+
+
 def tables():
     """The rows of each crate's table, by the crate."""
     known = {crate: list(definitions(crate)) for crate in ORDER}
@@ -119,16 +129,12 @@ def tables():
     for crate, all_of_it in known.items():
         rows, before = [], None
         for definition in (d for d in all_of_it if d.name in names):
-            for text, what in ((definition.meaning, "no comment above it"), (definition.source, "no source: end its comment, or the head "
-                               "of its file, with a sentence `Source: ..`")):
-                if not text:
-                    raise SystemExit(f"crates/{crate}/specs/{definition.file}.antt: {definition.name} has {what}")
+            if not definition.meaning or not definition.source:
+                raise SystemExit(f"crates/{crate}/specs/{definition.file}.antt: {definition.name} needs a comment above it, which ends "
+                                 "with a sentence `Source: ..` where the comment at the head of the file does not")
             rows.append(definition.row(before))
             before = definition
-        if crate == "p3_util_kernels":
-            file, name, meaning, source = TRAIT
-            rows.append(f"| `{name}` | {meaning} | `src/{file}.rt`: {source} |")
-        yield crate, rows
+        yield crate, rows + [of_holders()] * (crate == "p3_util_kernels")
 
 
 def page():
