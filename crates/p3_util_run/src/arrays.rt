@@ -8,7 +8,6 @@ ghost use Rattle.p3_util_run.specs.Arrays.{IsArrayOf, array_of, number_of, line_
 use crate::fault::RunFault;
 use serde_json::Value;
 use std::alloc::{AllocError, Global};
-use std::fmt::Write;
 
 /// The numbers of a JSON array. Its bytes are dropped before the numbers are listed.
 ///
@@ -51,16 +50,23 @@ fn read_numbers(alloc: Global, items: &[Value]) -> Result<Vec<u64>, RunFault>
     Ok(numbers)
 }
 
-/// The text of a JSON array of the numbers, with no space, and a line feed.
-pub fn line(alloc: Global, numbers: &[u64]) -> Result<String, AllocError>
-    ensures { IfOk result (λ text. string_bytes text ≡ line_of numbers.now) }
+/// The text of a JSON array of the numbers, with no space, and a line feed. The list is dropped before the text is made.
+pub fn line(alloc: Global, numbers: Vec<u64>) -> Result<String, AllocError>
+    ensures { IfOk result (λ text. string_bytes text ≡ line_of numbers.items) }
 {
-    let mut text = String::from_str(alloc, "[")?;
-    let mut comma = "";
-    for number in numbers {
-        write!(text, "{comma}{number}")?;
-        comma = ",";
-    }
-    text.push_str("]\n")?;
+    let mut text = array_text(alloc, numbers)?;
+    text.push_str("\n")?;
     Ok(text)
+}
+
+/// The text of a JSON array of the numbers, with no space.
+fn array_text(alloc: Global, numbers: Vec<u64>) -> Result<String, AllocError>
+    ensures { IfOk result (λ text. string_bytes text ≡ compact_text (array_of numbers.items)) }
+{
+    let mut items = Vec::with_capacity(alloc, numbers.len())?;
+    for number in &numbers {
+        items.push(Value::from(*number))?;
+    }
+    drop(numbers);
+    Value::from(items).to_string(alloc)
 }

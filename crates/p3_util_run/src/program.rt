@@ -94,7 +94,7 @@ fn answer(alloc: Global, command: &Command, input: Vec<u8>) -> Result<String, Ru
 {
     let numbers = read_array(alloc, input)?;
     let rearranged = rearrange(alloc, command, numbers)?;
-    match line(alloc, rearranged.as_slice()) {
+    match line(alloc, rearranged) {
         Ok(text) => Ok(text),
         Err(_) => Err(RunFault::Memory),
     }

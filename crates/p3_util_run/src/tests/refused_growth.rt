@@ -53,7 +53,7 @@ fn answers(rt: &impl Abort, alloc: Global, texts: &[&str], input: &str, output: 
     equal(rt, &writer.rest.len(), &left);
 }
 
-/// The words, the input, its numbers and the text. It makes 9 requests for memory.
+/// The words, the input, its numbers, their values and the text. It makes 8 requests for memory.
 #[test]
 fn reverses(rt: HostRuntime) {
     answers(
@@ -65,14 +65,14 @@ fn reverses(rt: HostRuntime) {
     );
 }
 
-/// The same. It makes 12 requests for memory.
+/// The same. It makes 10 requests for memory.
 #[test]
 fn reverses_rows(rt: HostRuntime) {
     let (input, output) = ("[0,1,2,3,4,5,6,7]", "[0,1,4,5,2,3,6,7]\n");
     answers(&rt, rt.alloc(), &["revrows", "2"], input, output);
 }
 
-/// The same, and the transpose. It makes 13 requests for memory.
+/// The same, and the transpose. It makes 12 requests for memory.
 #[test]
 fn transposes(rt: HostRuntime) {
     let (input, output) = ("[1,2,3,4,5,6]", "[1,4,2,5,3,6]\n");
