@@ -4,6 +4,7 @@ mod Bits
 mod Chunks
 mod Columns
 mod Compose
+mod Grid
 mod LinearMap
 mod Places
 mod Reverse
@@ -17,6 +18,7 @@ pub use Rattle.p3_util.proofs.Callers.Bits.{rev_even, rev_odd, pair_below, power
 pub use Rattle.p3_util.proofs.Callers.Chunks.{folded_sum, padded_sum}
 pub use Rattle.p3_util.proofs.Callers.Columns.{column_inside, column_length, column_place, column_read, column_swapped, column_written, others_of_swap, others_of_write, column_others}
 pub use Rattle.p3_util.proofs.Callers.Compose.{region_of_rows, region_of_cols, square_inside, square_more, one_square, reversed_by_squares, swaps_around, rows_in_two, cols_in_two, rows_counted, cols_counted, items_of_rows, items_of_cols}
+pub use Rattle.p3_util.proofs.Callers.Grid.{region_of_column, rows_from_top, rows_across, twice_half, swaps_of_quadrants, last_quadrant_room, quadrants_within, square_of_quadrants}
 pub use Rattle.p3_util.proofs.Callers.LinearMap.{key_found, key_others, number_found, number_others, put_found, put_others, new_value_last, known_value_replaced, key_summed, key_within_sum, key_or_zero, text_eq, text_summed, text_within_sum, text_or_zero, number_summed, number_within_sum, number_or_zero, values_summed, new_value_last as values_after_new, known_value_replaced as values_after_known}
 pub use Rattle.p3_util.proofs.Callers.Places.{others_swapped, others_written}
 pub use Rattle.p3_util.proofs.Callers.Reverse.{reversed_place, reversed_even, reversed_odd, row_back, item_back, reversed_once, reversed_twice, rows_reversed_once, rows_reversed_twice, reversed_back, reversed_worked}
@@ -31,6 +33,9 @@ pub use Rattle.p3_util.proofs.Callers.ZipEq.{zip_place, remainders_summed, reduc
 pub use Rattle.p3_util_kernels.proofs.DigitsLemmas.{rev-lt as rev_below, rev-rev-below as rev_twice, rev-parts as rev_in_parts}
 pub use Rattle.std.proofs.Math.Pow.{pow_mono as power_up}
 pub use Rattle.p3_util_kernels.proofs.LevelsLemmas.{clog_power as log_of_power, clog-zero as log_of_zero}
+
+-- items of a square exchanged across its diagonal, one more of a row; a place of the square lies before its last one
+pub use Rattle.p3_util_kernels.proofs.DiagonalLemmas.{SwapsAcross-item as item_across, square_place}
 
 -- a list from its end
 pub use Rattle.p3_util.proofs.ItemsAtLemmas.{slice_get-reverse as from_end_place, from_end-swap as from_end_swapped, from_end-set as from_end_written}

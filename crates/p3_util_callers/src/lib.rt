@@ -8,6 +8,7 @@ pub mod columns;
 pub mod compose;
 pub mod flat;
 pub mod from_end;
+pub mod grid;
 pub mod holders;
 pub mod laws;
 pub mod linear_map;

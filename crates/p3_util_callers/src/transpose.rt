@@ -3,6 +3,7 @@
 ghost use Rattle.std.specs.Prelude.{◌≡◌, ◌*◌, ◌^◌, ◌<◌, ◌↔◌, IsTrue, IsFalse, List, OnOk, length};
 ghost use Rattle.p3_util.specs.Levels.{lev, nest};
 ghost use Rattle.p3_util.specs.Region.{IsRegionTransposed, LiesInMatrix, cols_of, items_of, rows_of};
+ghost use Rattle.p3_util.specs.Square.{IsSquareTransposed};
 ghost use Rattle.p3_util.specs.Steps.{counted};
 ghost use Rattle.p3_util.specs.SwapCounts.{square_swaps};
 ghost use Rattle.p3_util.specs.Transpose.{IsTranspose};
@@ -10,8 +11,8 @@ ghost use Rattle.p3_util.specs.Transpose.{IsTranspose};
 use p3_util::bits::log2_ceil_usize;
 use p3_util::places::{Cells, Places, SliceCells, Swaps, Writes};
 use p3_util::transpose::{
-    Region, fits_matrix, transpose, transpose_counted, transpose_region_counted,
-    transpose_split_on, transpose_square_on,
+    Region, fits_matrix, fits_square, transpose, transpose_counted, transpose_region_counted,
+    transpose_region_on, transpose_split_on, transpose_square_on,
 };
 use std::alloc::{AllocError, Global};
 
@@ -126,6 +127,45 @@ pub fn transpose_whole_square<S: Places>(m: &mut Swaps<S>, log_size: usize)
     ensures holder { S.same_holder (square_swaps (2 ^ log_size)) m.old.holder m.new.holder }
 {
     transpose_square_on(m, 0, log_size, log_size);
+}
+
+/// Transposes in place the square of `2^log_size` rows and columns at `base` where it lies in `m`. `false`, and nothing done,
+/// elsewhere.
+pub fn transpose_square_where_it_fits<S: Places>(
+    m: &mut Swaps<S>,
+    base: usize,
+    log_stride: usize,
+    log_size: usize,
+) -> bool
+    ensures done { IsTrue result
+        → IsSquareTransposed base log_stride log_size (S.items m.old.holder) (S.items m.new.holder) }
+    ensures left { IsFalse result → m.new ≡ m.old }
+{
+    let fits = fits_square(m.len(), base, log_stride, log_size);
+    if fits {
+        transpose_square_on(m, base, log_stride, log_size);
+    }
+    fits
+}
+
+/// Puts the transpose of a part of a matrix where the part lies in it and both lists are as long as it. `false`, and nothing
+/// done, elsewhere.
+pub fn transpose_part_where_it_fits<C: Cells>(
+    input: &[C::Item],
+    out: &mut Writes<C>,
+    part: Region,
+    width: usize,
+    height: usize,
+) -> bool
+    ensures done { IsTrue result
+        → IsRegionTransposed part width height input.now (C.items out.old.holder) (C.items out.new.holder) }
+    ensures left { IsFalse result → out.new ≡ out.old }
+{
+    if !fits_matrix(input.len(), out.len(), width, height) || !part.fits(width, height) {
+        return false;
+    }
+    transpose_region_on(input, out, part, width, height);
+    true
 }
 
 /// The number of levels that the split of a region of these sides needs.

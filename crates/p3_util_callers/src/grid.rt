@@ -1,0 +1,379 @@
+//! A transpose put together from small parts, each from the public contract of the part before: a block of 4 by 4 items, a tile
+//! of 16 by 16 from its blocks, a region from its tiles and what is left at its edges, and a matrix from its regions. The last
+//! caller is a square in place, from its quadrants.
+//!
+//! Each is over every holder, and says its number of steps by `same_holder`. A counter is a holder too, so over one its count
+//! needs no other proof: `transpose_tile_on` is the tile in 256 writes.
+
+ghost use Rattle.std.specs.Prelude.{◌≡◌, ℕ, ◌+◌, ◌-◌, ◌*◌, ◌/◌, ◌^◌, ◌<◌, ◌≤◌, ◌⊎◌, length, slice_get};
+ghost use Rattle.p3_util.specs.Diagonal.{HoldsSquare, SwapsAcross};
+ghost use Rattle.p3_util.specs.Region.{IsRegionTransposed, LiesInMatrix, cols_of, items_of, rows_of};
+ghost use Rattle.p3_util.specs.Square.{IsSquareTransposed};
+ghost use Rattle.p3_util.specs.Stages.{item_at};
+ghost use Rattle.p3_util.specs.Steps.{counted};
+ghost use Rattle.p3_util.specs.Transpose.{IsTranspose};
+ghost use prog.Memory.{size};
+ghost use denote.Param.{layout};
+
+use p3_util::places::{Cells, Places, SliceSource, Source, Swaps, Writes};
+use p3_util::transpose::{Region, butterfly_4x4, transpose_region_counted, transpose_square_on};
+
+/// The number of rows and of columns of a tile.
+const TILE_SIDE: usize = 16;
+
+/// The greatest number of rows of a region of which a matrix is put together.
+const REGION_ROWS: usize = 128;
+
+/// The four items of a source from place `at` on.
+fn four_items<R: Source>(input: &R, at: usize) -> [R::Item; 4]
+    requires { at + 4 ≤ length (R.items input.now) }
+    ensures { (j : ℕ) → j < 4 → slice_get result j ≡ slice_get (R.items input.now) (at + j) }
+{
+    // Called so that the proof knows that the length fits a usize.
+    let _ = input.len();
+    [
+        input.at(at),
+        input.at(at + 1),
+        input.at(at + 2),
+        input.at(at + 3),
+    ]
+}
+
+/// The block of 4 by 4 items that begins at row `row` and column `col` of a matrix.
+fn read_block<R: Source>(
+    input: &R,
+    row: usize,
+    col: usize,
+    width: usize,
+    height: usize,
+) -> [[R::Item; 4]; 4]
+    requires input_fits { length (R.items input.now) ≡ width * height }
+    requires rows { row + 4 ≤ height }
+    requires cols { col + 4 ≤ width }
+    ensures { (r c : ℕ) → r < 4 → c < 4
+        → item_at result r c ≡ slice_get (R.items input.now) ((row + r) * width + (col + c)) }
+{
+    // Called so that the proof knows that the length fits a usize.
+    let _ = input.len();
+    [
+        four_items(input, row * width + col),
+        four_items(input, (row + 1) * width + col),
+        four_items(input, (row + 2) * width + col),
+        four_items(input, (row + 3) * width + col),
+    ]
+}
+
+/// Row `r` of a block. It is a function of its own, so that a proof can name the row.
+fn row_of<T: Copy>(block: [[T; 4]; 4], r: usize) -> [T; 4]
+    requires { r < 4 }
+    ensures { (c : ℕ) → slice_get result c ≡ item_at block r c }
+{
+    block[r]
+}
+
+/// Puts four items into the cells from `to` on.
+fn put_four<C: Cells>(cells: &mut C, to: usize, items: [C::Item; 4])
+    requires room { to + 4 ≤ length (C.items cells.old) }
+    ensures same_length { length (C.items cells.new) ≡ length (C.items cells.old) }
+    ensures places { (t : ℕ) → t < 4 → slice_get (C.items cells.new) (to + t) ≡ slice_get items t }
+    ensures others { (p : ℕ) → (p < to) ⊎ (to + 4 ≤ p) → slice_get (C.items cells.new) p ≡ slice_get (C.items cells.old) p }
+    ensures holder { C.same_holder 4 cells.old cells.new }
+{
+    // Called so that the proof knows that the length fits a usize.
+    let _ = cells.len();
+    for t in 0..4 {
+        cells.put(to + t, items[t]);
+    }
+}
+
+/// Puts the transpose of a block of 4 by 4 items by way of an array and `butterfly_4x4`, in 16 puts. An array of 16 items has
+/// a condition on their size, `small`.
+pub fn transpose_by_butterfly<R, C>(
+    input: &R,
+    cells: &mut C,
+    block: Region,
+    width: usize,
+    height: usize,
+)
+where
+    C: Cells,
+    R: Source<Item = C::Item>,
+    requires input_fits { length (R.items input.now) ≡ width * height }
+    requires output_fits { length (C.items cells.old) ≡ width * height }
+    requires inside { LiesInMatrix block width height }
+    requires rows { rows_of block ≡ 4 }
+    requires cols { cols_of block ≡ 4 }
+    requires small { 16 * size (layout C.Item.row) < 2 ^ 63 }
+    ensures transposed { IsRegionTransposed block width height (R.items input.now) (C.items cells.old) (C.items cells.new) }
+    ensures holder { C.same_holder 16 cells.old cells.new }
+{
+    // Called so that the proof knows that the length fits a usize.
+    let _ = cells.len();
+    let (row, col) = (block.row_start, block.col_start);
+    let turned = butterfly_4x4(read_block(input, row, col, width, height));
+    for k in 0..4 {
+        let column = row_of(turned, k);
+        put_four(cells, (col + k) * height + row, column);
+    }
+}
+
+/// Puts the transpose of four blocks of 4 by 4 items that lie side by side.
+fn transpose_blocks<R, C>(
+    input: &R,
+    cells: &mut C,
+    blocks: Region,
+    width: usize,
+    height: usize,
+)
+where
+    C: Cells,
+    R: Source<Item = C::Item>,
+    requires input_fits { length (R.items input.now) ≡ width * height }
+    requires output_fits { length (C.items cells.old) ≡ width * height }
+    requires inside { LiesInMatrix blocks width height }
+    requires rows { rows_of blocks ≡ 4 }
+    requires cols { cols_of blocks ≡ 16 }
+    requires small { 16 * size (layout C.Item.row) < 2 ^ 63 }
+    ensures transposed { IsRegionTransposed blocks width height (R.items input.now) (C.items cells.old) (C.items cells.new) }
+    ensures holder { C.same_holder 64 cells.old cells.new }
+{
+    for k in 0..4 {
+        let col = blocks.col_start + 4 * k;
+        let block = Region {
+            col_start: col,
+            col_end: col + 4,
+            ..blocks
+        };
+        transpose_by_butterfly(input, cells, block, width, height);
+    }
+}
+
+/// Puts the transpose of a tile of 16 by 16 items as its 16 blocks, in 256 puts.
+pub fn transpose_tile<R, C>(
+    input: &R,
+    cells: &mut C,
+    tile: Region,
+    width: usize,
+    height: usize,
+)
+where
+    C: Cells,
+    R: Source<Item = C::Item>,
+    requires input_fits { length (R.items input.now) ≡ width * height }
+    requires output_fits { length (C.items cells.old) ≡ width * height }
+    requires inside { LiesInMatrix tile width height }
+    requires rows { rows_of tile ≡ 16 }
+    requires cols { cols_of tile ≡ 16 }
+    requires small { 16 * size (layout C.Item.row) < 2 ^ 63 }
+    ensures transposed { IsRegionTransposed tile width height (R.items input.now) (C.items cells.old) (C.items cells.new) }
+    ensures holder { C.same_holder 256 cells.old cells.new }
+{
+    for k in 0..4 {
+        let row = tile.row_start + 4 * k;
+        let blocks = Region {
+            row_start: row,
+            row_end: row + 4,
+            ..tile
+        };
+        transpose_blocks(input, cells, blocks, width, height);
+    }
+}
+
+/// Puts the transpose of a tile over a counter, in 256 writes.
+pub fn transpose_tile_on<R, C>(
+    input: &R,
+    out: &mut Writes<C>,
+    tile: Region,
+    width: usize,
+    height: usize,
+)
+where
+    C: Cells,
+    R: Source<Item = C::Item>,
+    requires input_fits { length (R.items input.now) ≡ width * height }
+    requires output_fits { length (C.items out.old.holder) ≡ width * height }
+    requires inside { LiesInMatrix tile width height }
+    requires rows { rows_of tile ≡ 16 }
+    requires cols { cols_of tile ≡ 16 }
+    requires small { 16 * size (layout C.Item.row) < 2 ^ 63 }
+    ensures transposed { IsRegionTransposed tile width height (R.items input.now) (C.items out.old.holder) (C.items out.new.holder) }
+    ensures count { out.new.count ≡ counted out.old.count 256 }
+    ensures holder { C.same_holder 256 out.old.holder out.new.holder }
+{
+    transpose_tile(input, out, tile, width, height);
+}
+
+/// Puts the transpose of a part of a region: a tile of 16 by 16 items, or what is left at the right, at the bottom or in the
+/// corner. The input is a slice: where it has as many items as a tile, they are small enough for the array.
+fn transpose_tile_or_rest<C: Cells>(
+    input: &[C::Item],
+    cells: &mut C,
+    part: Region,
+    width: usize,
+    height: usize,
+)
+    requires input_fits { length input.now ≡ width * height }
+    requires output_fits { length (C.items cells.old) ≡ width * height }
+    requires inside { LiesInMatrix part width height }
+    ensures transposed { IsRegionTransposed part width height input.now (C.items cells.old) (C.items cells.new) }
+    ensures holder { C.same_holder (items_of part) cells.old cells.new }
+{
+    let (rows, cols) = (part.row_end - part.row_start, part.col_end - part.col_start);
+    if rows == TILE_SIDE && cols == TILE_SIDE {
+        transpose_tile(&SliceSource::new(input), cells, part, width, height);
+    } else {
+        transpose_region_counted(input, cells, part, width, height);
+    }
+}
+
+/// Puts the transpose of rows of a region, at most as many as a tile has, from left to right.
+fn transpose_row_of_tiles<C: Cells>(
+    input: &[C::Item],
+    cells: &mut C,
+    rows: Region,
+    width: usize,
+    height: usize,
+)
+    requires input_fits { length input.now ≡ width * height }
+    requires output_fits { length (C.items cells.old) ≡ width * height }
+    requires inside { LiesInMatrix rows width height }
+    ensures transposed { IsRegionTransposed rows width height input.now (C.items cells.old) (C.items cells.new) }
+    ensures holder { C.same_holder (items_of rows) cells.old cells.new }
+{
+    let mut col = rows.col_start;
+    while col < rows.col_end {
+        let end = rows.col_end.min(col.saturating_add(TILE_SIDE));
+        let part = Region {
+            col_start: col,
+            col_end: end,
+            ..rows
+        };
+        transpose_tile_or_rest(input, cells, part, width, height);
+        col = end;
+    }
+}
+
+/// Puts the transpose of a region as its tiles of 16 by 16 items and what is left at its edges, in one put an item.
+pub fn transpose_by_tiles<C: Cells>(
+    input: &[C::Item],
+    cells: &mut C,
+    region: Region,
+    width: usize,
+    height: usize,
+)
+    requires input_fits { length input.now ≡ width * height }
+    requires output_fits { length (C.items cells.old) ≡ width * height }
+    requires inside { LiesInMatrix region width height }
+    ensures transposed { IsRegionTransposed region width height input.now (C.items cells.old) (C.items cells.new) }
+    ensures holder { C.same_holder (items_of region) cells.old cells.new }
+{
+    let mut row = region.row_start;
+    while row < region.row_end {
+        let end = region.row_end.min(row.saturating_add(TILE_SIDE));
+        let rows = Region {
+            row_start: row,
+            row_end: end,
+            ..region
+        };
+        transpose_row_of_tiles(input, cells, rows, width, height);
+        row = end;
+    }
+}
+
+/// Puts the transpose of a matrix as regions of at most 128 rows, each by its tiles, with the contract of `transpose_on`:
+/// `width * height` writes over one counter.
+pub fn transpose_by_regions<C: Cells>(
+    input: &[C::Item],
+    out: &mut Writes<C>,
+    width: usize,
+    height: usize,
+)
+    requires input_fits { length input.now ≡ width * height }
+    requires output_fits { length (C.items out.old.holder) ≡ width * height }
+    ensures order { IsTranspose width height input.now (C.items out.new.holder) }
+    ensures count { out.new.count ≡ counted out.old.count (width * height) }
+    ensures holder { C.same_holder (width * height) out.old.holder out.new.holder }
+{
+    let mut row = 0;
+    while row < height {
+        let end = height.min(row.saturating_add(REGION_ROWS));
+        let region = Region {
+            row_start: row,
+            row_end: end,
+            col_start: 0,
+            col_end: width,
+        };
+        transpose_by_tiles(input, out, region, width, height);
+        row = end;
+    }
+}
+
+/// Exchanges row `row` of the upper right quadrant of a square with its mirror image in the lower left one. A quadrant has `half`
+/// rows and columns.
+fn exchange_row_across<S: Places>(
+    places: &mut S,
+    base: usize,
+    stride: usize,
+    half: usize,
+    row: usize,
+)
+    requires row { row < half }
+    requires within { 2 * half ≤ stride }
+    requires ready { HoldsSquare base stride (2 * half - 1) (S.items places.old) }
+    ensures swapped { SwapsAcross base stride (record { row_start = row; row_end = row + 1; col_start = half; col_end = 2 * half })
+        (S.items places.old) (S.items places.new) }
+    ensures holder { S.same_holder half places.old places.new }
+{
+    for col in half..2 * half {
+        places.exchange(base + row * stride + col, base + col * stride + row);
+    }
+}
+
+/// Exchanges the upper right quadrant of a square with the lower left one, across the diagonal, in `half * half` exchanges.
+fn exchange_quadrants<S: Places>(places: &mut S, base: usize, stride: usize, half: usize)
+    requires within { 2 * half ≤ stride }
+    requires ready { HoldsSquare base stride (2 * half - 1) (S.items places.old) }
+    ensures swapped { SwapsAcross base stride (record { row_start = 0; row_end = half; col_start = half; col_end = 2 * half })
+        (S.items places.old) (S.items places.new) }
+    ensures holder { S.same_holder (half * half) places.old places.new }
+{
+    for row in 0..half {
+        exchange_row_across(places, base, stride, half, row);
+    }
+}
+
+/// 2 to the power of `exponent`. It is a function of its own, so that a proof knows of the power alone.
+fn power(exponent: usize) -> usize
+    requires { exponent < 64 }
+    ensures { result ≡ 2 ^ exponent }
+{
+    1 << exponent
+}
+
+/// Transposes a square in place as its quadrants, with the contract of `transpose_square_on`: the upper left and the lower right
+/// one by that call, and the other two exchanged across the diagonal, in s(s - 1)/2 swaps over one counter.
+pub fn transpose_by_quadrants<S: Places>(
+    m: &mut Swaps<S>,
+    base: usize,
+    log_stride: usize,
+    log_size: usize,
+)
+    requires rows_apart { log_size ≤ log_stride }
+    requires stride_fits { log_stride < 64 }
+    requires room { let s = 2 ^ log_size in
+        base + (s - 1) * 2 ^ log_stride + (s - 1) < length (S.items m.old.holder) }
+    ensures transposed { IsSquareTransposed base log_stride log_size (S.items m.old.holder) (S.items m.new.holder) }
+    ensures count { let s = 2 ^ log_size in m.new.count ≡ counted m.old.count (s * (s - 1) / 2) }
+    ensures holder { let s = 2 ^ log_size in S.same_holder (s * (s - 1) / 2) m.old.holder m.new.holder }
+{
+    // Called so that the proof knows that the length fits a usize.
+    let _ = m.len();
+    if log_size == 0 {
+        return;
+    }
+    let log_half = log_size - 1;
+    let (stride, half) = (power(log_stride), power(log_half));
+    transpose_square_on(m, base, log_stride, log_half);
+    exchange_quadrants(m, base, stride, half);
+    transpose_square_on(m, base + half * stride + half, log_stride, log_half);
+}
