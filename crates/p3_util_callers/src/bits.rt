@@ -1,13 +1,13 @@
 //! Callers of the logarithms and powers. A test in front of a strict logarithm is enough.
 
-ghost use Rattle.std.specs.Prelude.{◌≡◌, ℕ, ◌+◌, ◌*◌, ◌^◌, ◌<◌, ◌≤◌, IsTrue, IsFalse, IfSome, MatchOption, None, Some, length, slice_get};
+ghost use Rattle.std.specs.Prelude.{◌≡◌, ℕ, ◌+◌, ◌*◌, ◌/◌, ◌%◌, ◌^◌, ◌<◌, ◌≤◌, IsTrue, IsFalse, IfSome, MatchOption, None, Some, length, slice_get};
 ghost use Rattle.std.specs.Int.{IsPowerOfTwo, is_power_of_two};
 ghost use Rattle.p3_util.specs.Digits.{rev};
 ghost use Rattle.p3_util.specs.Powers.{IsPowerOfThree};
 
 use p3_util::bits::{
-    checked_pow2, is_power_of_three, log2_ceil_usize, log2_strict_usize, log3_strict_usize,
-    reverse_bits, reverse_bits_len,
+    checked_log_size_sum, checked_pow2, is_power_of_three, log2_ceil_usize, log2_strict_usize,
+    log3_strict_usize, reverse_bits, reverse_bits_len,
 };
 
 /// The least power of two that is `len` or more, to which a transform pads. `None` where that is 2^64.
@@ -102,4 +102,29 @@ pub fn index_there_and_back(i: usize, n: usize) -> usize
     ensures { (k : ℕ) → 1 ≤ k → n ≡ 2 ^ k → result ≡ i }
 {
     reverse_bits(reverse_bits(i, n), n)
+}
+
+/// The next index of a fold that halves: the reverse of half an index is that of the index without its highest digit.
+#[tactic(auto, using(p3_util::proofs::Callers::half))]
+pub fn reverse_of_half(i: usize, k: usize) -> usize
+    requires some { 1 ≤ k }
+    requires few { k < 64 }
+    ensures { result ≡ rev (k + 1) i % 2 ^ k }
+{
+    reverse_bits_len(i / 2, k)
+}
+
+/// How many items a matrix of `2^log_height` rows of `2^log_width` items has, where that fits.
+#[tactic(auto, using(p3_util::proofs::Callers::power_in_parts))]
+pub fn items_of_matrix(log_height: usize, log_width: usize) -> Option<usize>
+    ensures { IfSome result (λ n. n ≡ 2 ^ log_height * 2 ^ log_width) }
+{
+    checked_log_size_sum(log_height, log_width).map(|(_, items)| items)
+}
+
+/// The first index of the pair that `i` belongs to.
+pub fn first_of_pair(i: usize) -> usize
+    ensures { result ≡ 2 * (i / 2) }
+{
+    i & !1
 }

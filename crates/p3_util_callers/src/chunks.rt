@@ -1,10 +1,10 @@
 //! Callers of the chunks of iterators.
 
-ghost use Rattle.std.specs.Prelude.{◌≡◌, ℕ, ◌+◌, ◌*◌, ◌/◌, ◌%◌, ◌^◌, ◌<◌, List, IfOk, fold, length, map, slice_index, sum};
+ghost use Rattle.std.specs.Prelude.{◌≡◌, ℕ, ◌+◌, ◌*◌, ◌/◌, ◌%◌, ◌^◌, ◌<◌, ◌≤◌, ◌++◌, List, IfOk, Some, drop, fold, length, map, replicate, slice_get, slice_index, slice_index_or, sum, take};
 ghost use Rattle.std.specs.Fn.{CalledAt};
 ghost use Rattle.std.specs.List.{FoldsTo};
 ghost use Rattle.p3_util.specs.Flat.{flat};
-ghost use Rattle.p3_util.specs.Pieces.{padded_pieces, pieces};
+ghost use Rattle.p3_util.specs.Pieces.{padded, padded_pieces, pieces};
 
 use p3_util::{apply_to_chunks, iter_array_chunks_padded};
 use std::alloc::{AllocError, Global};
@@ -93,4 +93,67 @@ pub fn sum_by_lanes(alloc: Global, xs: &[u32]) -> Result<u64, AllocError>
 {
     let lanes = lanes(alloc, xs, 0)?;
     Ok(sum_of_lanes(&lanes))
+}
+
+/// `items` and then zeros, `len` in all.
+///
+/// # Errors
+///
+/// `AllocError` where there is no memory for them.
+pub fn padded_to(alloc: Global, items: &[u64], len: usize) -> Result<Vec<u64>, AllocError>
+    requires { length items.now ≤ len }
+    ensures { IfOk result (λ v. v.items ≡ padded len 0 items.now) }
+{
+    let mut padded = Vec::with_capacity(alloc, len)?;
+    padded.extend_from_slice(items)?;
+    padded.resize(len, 0)?;
+    Ok(padded)
+}
+
+/// The same, place by place.
+///
+/// # Errors
+///
+/// `AllocError` where there is no memory for them.
+#[tactic(auto, using(p3_util::proofs::Callers::padded_read))]
+pub fn padded_by_place(alloc: Global, items: &[u64], len: usize) -> Result<Vec<u64>, AllocError>
+    requires { length items.now ≤ len }
+    ensures same { IfOk result (λ v. (i : ℕ) → i < length items.now → slice_get v.items i ≡ slice_get items.now i) }
+    ensures fill { IfOk result (λ v. (i : ℕ) → length items.now ≤ i → i < len → slice_get v.items i ≡ Some 0) }
+{
+    padded_to(alloc, items, len)
+}
+
+/// Item `i` of a list that is padded with `fill`: an item of the list before, or `fill`.
+#[tactic(auto, using(p3_util::proofs::Callers::padded_read))]
+pub fn item_of_padded<T: Copy>(list: &[T], i: usize, fill: T) -> T
+    requires { i < length list.now }
+    ensures { (xs : List T) (n : ℕ) → list.now ≡ xs ++ replicate n fill → result ≡ slice_index_or xs i fill }
+{
+    list[i]
+}
+
+/// A digest of `row`.
+pub fn digest(row: &[u8]) -> u32
+    ensures { result ≡ fold (λ s b. (s * 31 + b) % 2 ^ 32) 7 row.now }
+{
+    row.iter().fold(7u32, |state, byte| {
+        state.wrapping_mul(31).wrapping_add(u32::from(*byte))
+    })
+}
+
+/// The digest of each whole row of `width` bytes.
+///
+/// # Errors
+///
+/// `AllocError` where there is no memory for the digests.
+pub fn digests_of_rows(alloc: Global, bytes: &[u8], width: usize) -> Result<Vec<u32>, AllocError>
+    requires { 0 < width }
+    ensures { IfOk result (λ v. (r : ℕ) → r < length bytes.now / width
+        → slice_get v.items r ≡ Some (fold (λ s b. (s * 31 + b) % 2 ^ 32) 7 (take width (drop (r * width) bytes.now)))) }
+{
+    bytes
+        .chunks_exact(width)
+        .map(|row| digest(row))
+        .collect(alloc)
 }

@@ -1,7 +1,10 @@
 //! Callers of the calls that move the items of vectors.
 
-ghost use Rattle.std.specs.Prelude.{◌≡◌, ◌*◌, ◌%◌, ◌^◌, ◌<◌, ◌≤◌, IfOk, vec_len};
+ghost use Rattle.std.specs.Prelude.{◌≡◌, ◌*◌, ◌/◌, ◌%◌, ◌^◌, ◌<◌, ◌≤◌, IfOk, List, vec_len};
+ghost use Rattle.p3_util.specs.Flat.{IsFlat};
+ghost use Rattle.p3_util.specs.Reversal.{IsReversible, IsRowReversal};
 
+use crate::reverse::reversed;
 use p3_util::{flatten_to_base, reconstitute_from_base};
 use std::alloc::{AllocError, Global};
 
@@ -35,4 +38,41 @@ pub fn reconstituted_and_back(alloc: Global, numbers: Vec<u64>) -> Result<Vec<u6
         return Err(AllocError);
     };
     Ok(again)
+}
+
+/// The items of `rows` after their order was reversed by index bits.
+///
+/// # Errors
+///
+/// `AllocError` where there is no memory for the items.
+#[tactic(auto, using(p3_util::proofs::Callers::elements_reversed))]
+pub fn items_of_reversed<T: Default + Drop, const N: usize>(
+    alloc: Global,
+    rows: Vec<[T; N]>,
+) -> Result<Vec<T>, AllocError>
+    requires fits { vec_len rows * N < 2 ^ 64 }
+    requires power { IsReversible (vec_len rows) }
+    ensures { IfOk result (λ moved. (items : List T) → IsFlat N rows.items items → IsRowReversal N items moved.items) }
+{
+    let Ok(items) = flatten_to_base(alloc, reversed(rows)) else {
+        return Err(AllocError);
+    };
+    Ok(items)
+}
+
+/// The numbers after they were made elements of an extension field, each of four numbers, and these were reversed by index
+/// bits.
+///
+/// # Errors
+///
+/// `AllocError` where there is no memory for the elements or the numbers.
+pub fn reverse_elements(alloc: Global, numbers: Vec<u64>) -> Result<Vec<u64>, AllocError>
+    requires divides { vec_len numbers % 4 ≡ 0 }
+    requires power { IsReversible (vec_len numbers / 4) }
+    ensures { IfOk result (λ moved. IsRowReversal 4 numbers.items moved.items) }
+{
+    let Ok(elements) = reconstitute_from_base::<u64, 4>(alloc, numbers) else {
+        return Err(AllocError);
+    };
+    items_of_reversed(alloc, elements)
 }

@@ -2,6 +2,7 @@
 #![tactic(auto)]
 
 pub mod array_serialization;
+pub mod behind;
 pub mod bits;
 pub mod chunks;
 pub mod columns;
@@ -9,14 +10,14 @@ pub mod compose;
 pub mod flat;
 pub mod from_end;
 pub mod grid;
-pub mod holders;
+pub mod joined;
 pub mod laws;
 pub mod linear_map;
+pub mod pairs;
 pub mod places;
 pub mod reverse;
 pub mod rows;
 pub mod tables;
 pub mod transpose;
-pub mod two_lists;
 pub mod views;
 pub mod zip_eq;

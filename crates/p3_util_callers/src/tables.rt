@@ -1,6 +1,7 @@
-//! Callers that read a table in the order of reversed index bits, or put one into it. None of them has a proof by hand.
+//! Callers that read a table in the order of reversed index bits, or put one into it. All but
+//! the loop are proved with no file.
 
-ghost use Rattle.std.specs.Prelude.{◌≡◌, ℕ, ◌+◌, ◌*◌, ◌^◌, ◌<◌, ◌≤◌, IfOk, List, Some, length, map, slice_get, slice_index, sum};
+ghost use Rattle.std.specs.Prelude.{◌≡◌, ℕ, ◌+◌, ◌*◌, ◌/◌, ◌^◌, ◌<◌, ◌≤◌, IfOk, List, Some, length, map, slice_get, slice_index, sum};
 ghost use Rattle.std.specs.Int.{IsPowerOfTwo};
 ghost use Rattle.std.specs.List.{range_with_len};
 ghost use Rattle.p3_util.specs.Digits.{rev};
@@ -155,4 +156,86 @@ pub fn reverse_columns<T: Copy>(matrix: &mut [T], scratch: &mut [T], width: usiz
     transpose(matrix, scratch, width, height);
     reverse_slice_row_index_bits(scratch, height);
     transpose(scratch, matrix, height, width);
+}
+
+/// The sums of the items at `2i` and `2i + 1`.
+///
+/// # Errors
+///
+/// `AllocError` where there is no memory for the sums.
+pub fn sums_of_neighbours(alloc: Global, evals: &[u32]) -> Result<Vec<u64>, AllocError>
+    ensures len { IfOk result (λ sums. length sums.items ≡ length evals.now / 2) }
+    ensures sums { IfOk result (λ sums. (i : ℕ) → i < length evals.now / 2
+        → slice_index sums.items i ≡ slice_index evals.now (2 * i) + slice_index evals.now (2 * i + 1)) }
+{
+    (0..evals.len() / 2)
+        .map(|i| u64::from(evals[2 * i]) + u64::from(evals[2 * i + 1]))
+        .collect(alloc)
+}
+
+/// Reorders the table, and folds it: each sum is that of an item of one half and one of the other.
+///
+/// # Errors
+///
+/// `AllocError` where there is no memory for the sums. The table is reordered then.
+#[tactic(auto, using(p3_util::proofs::Callers::even_read, p3_util::proofs::Callers::odd_read))]
+pub fn fold_after(alloc: Global, evals: &mut [u32], k: usize) -> Result<Vec<u64>, AllocError>
+    requires { length evals.old ≡ 2 ^ (k + 1) }
+    ensures len { IfOk result (λ sums. length sums.items ≡ 2 ^ k) }
+    ensures sums { IfOk result (λ sums. (i : ℕ) → i < 2 ^ k
+        → slice_index sums.items i ≡ slice_index evals.old (rev k i) + slice_index evals.old (rev k i + 2 ^ k)) }
+{
+    reverse_slice_index_bits(evals);
+    sums_of_neighbours(alloc, evals)
+}
+
+/// Twice each item.
+///
+/// # Errors
+///
+/// `AllocError` where there is no memory for them.
+pub fn doubled_by_place(alloc: Global, items: &[u32]) -> Result<Vec<u64>, AllocError>
+    ensures len { IfOk result (λ twice. length twice.items ≡ length items.now) }
+    ensures places { IfOk result (λ twice. (i : ℕ) → i < length items.now → slice_index twice.items i ≡ 2 * slice_index items.now i) }
+{
+    items.iter().map(|x| 2 * u64::from(*x)).collect(alloc)
+}
+
+/// Reorders the items, and doubles each: a callee with two clauses, one of them by places.
+///
+/// # Errors
+///
+/// `AllocError` where there is no memory for them. The items are reordered then.
+#[tactic(auto, using(p3_util::proofs::Callers::reversed_index))]
+pub fn doubled_after(alloc: Global, items: &mut [u32], k: usize) -> Result<Vec<u64>, AllocError>
+    requires { length items.old ≡ 2 ^ k }
+    ensures len { IfOk result (λ twice. length twice.items ≡ 2 ^ k) }
+    ensures places { IfOk result (λ twice. (i : ℕ) → i < 2 ^ k → slice_index twice.items i ≡ 2 * slice_index items.old (rev k i)) }
+{
+    reverse_slice_index_bits(items);
+    doubled_by_place(alloc, items)
+}
+
+/// Item `i` of a table that somebody has reordered, or `None` where there is none.
+#[tactic(auto, using(p3_util::proofs::Callers::reversed_read))]
+pub fn got_of_reordered<T: Copy>(table: &[T], k: usize, i: usize) -> Option<T>
+    requires len { length table.now ≡ 2 ^ k }
+    requires inside { i < 2 ^ k }
+    ensures { (evals : List T) → IsReversal evals table.now → result ≡ slice_get evals (rev k i) }
+{
+    table.get(i).copied()
+}
+
+/// Puts the items of `table` into `out` by their reversed indices, which makes it the reversal. What the loop keeps is in a
+/// file.
+pub fn reordered_into<T: Copy>(table: &[T], out: &mut [T], k: usize)
+    requires some { 1 ≤ k }
+    requires few { k < 64 }
+    requires len { length table.now ≡ 2 ^ k }
+    requires room { length out.old ≡ 2 ^ k }
+    ensures { IsReversal table.now out.new }
+{
+    for i in 0..table.len() {
+        out[i] = table[reverse_bits_len(i, k)];
+    }
 }

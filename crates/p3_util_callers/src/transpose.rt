@@ -1,8 +1,10 @@
 //! Callers of the transposes.
 
-ghost use Rattle.std.specs.Prelude.{◌≡◌, ◌*◌, ◌^◌, ◌<◌, ◌↔◌, IsTrue, IsFalse, List, OnOk, length};
+ghost use Rattle.std.specs.Prelude.{◌≡◌, ◌+◌, ◌*◌, ◌^◌, ◌<◌, ◌≤◌, ◌↔◌, ℕ, IsTrue, IsFalse, List, OnOk, length, slice_get};
+ghost use Rattle.std.specs.Int.{IsPowerOfTwo};
 ghost use Rattle.p3_util.specs.Levels.{lev, nest};
 ghost use Rattle.p3_util.specs.Region.{IsRegionTransposed, LiesInMatrix, cols_of, items_of, rows_of};
+ghost use Rattle.p3_util.specs.Reversal.{IsReversal};
 ghost use Rattle.p3_util.specs.Square.{IsSquareTransposed};
 ghost use Rattle.p3_util.specs.Steps.{counted};
 ghost use Rattle.p3_util.specs.SwapCounts.{square_swaps};
@@ -10,6 +12,7 @@ ghost use Rattle.p3_util.specs.Transpose.{IsTranspose};
 
 use p3_util::bits::log2_ceil_usize;
 use p3_util::places::{Cells, Places, SliceCells, Swaps, Writes};
+use p3_util::reverse::reverse_slice_row_index_bits;
 use p3_util::transpose::{
     Region, fits_matrix, fits_square, transpose, transpose_counted, transpose_region_counted,
     transpose_region_on, transpose_split_on, transpose_square_on,
@@ -213,4 +216,61 @@ pub fn transpose_block<T: Copy>(
 {
     let mut cells = SliceCells::new(output);
     transpose_region_counted(input, &mut cells, region, width, height)
+}
+
+/// Transposes a matrix of four rows of four items into `scratch` and back. Sides that are written out are arguments of another
+/// function.
+pub fn transpose_four_and_back<T: Copy>(matrix: &mut [T; 16], scratch: &mut [T; 16])
+    ensures { matrix.new ≡ matrix.old }
+{
+    transpose_there_and_back(matrix, scratch, 4, 4);
+}
+
+/// Puts the transpose of `input` into `output`: the first items of its rows were the first row, and its first row was the first
+/// column.
+#[tactic(auto, using(p3_util::proofs::Callers::transposed_first))]
+pub fn transpose_with_first<T: Copy>(input: &[T], output: &mut [T], width: usize, height: usize)
+    requires input_fits { length input.now ≡ width * height }
+    requires output_fits { length output.old ≡ width * height }
+    ensures rows { (x : ℕ) → x < width → 0 < height → slice_get output.new (x * height) ≡ slice_get input.now x }
+    ensures row { (y : ℕ) → y < height → 0 < width → slice_get output.new y ≡ slice_get input.now (y * width) }
+{
+    transpose(input, output, width, height);
+}
+
+/// Puts the transpose of `region` into `output`, of which each other row and column stays. A file names the lemma.
+pub fn transpose_inside<T: Copy>(
+    input: &[T],
+    output: &mut [T],
+    region: Region,
+    width: usize,
+    height: usize,
+)
+    requires input_fits { length input.now ≡ width * height }
+    requires output_fits { length output.old ≡ width * height }
+    requires inside { LiesInMatrix region width height }
+    ensures above { (x y : ℕ) → y < region.row_start → y < height
+        → slice_get output.new (x * height + y) ≡ slice_get output.old (x * height + y) }
+    ensures below { (x y : ℕ) → region.row_end ≤ y → y < height
+        → slice_get output.new (x * height + y) ≡ slice_get output.old (x * height + y) }
+    ensures left { (x y : ℕ) → x < region.col_start → y < height
+        → slice_get output.new (x * height + y) ≡ slice_get output.old (x * height + y) }
+    ensures right { (x y : ℕ) → region.col_end ≤ x → y < height
+        → slice_get output.new (x * height + y) ≡ slice_get output.old (x * height + y) }
+{
+    transpose_block(input, output, region, width, height);
+}
+
+/// Reverses `values` by index bits into `scratch`, by way of a matrix: its rows are reversed, it is transposed, and the rows of the
+/// transpose are reversed. A file names the lemma.
+pub fn reverse_by_sides<T: Copy>(values: &mut [T], scratch: &mut [T], width: usize, height: usize)
+    requires wide { IsPowerOfTwo width }
+    requires tall { IsPowerOfTwo height }
+    requires values_fit { length values.old ≡ width * height }
+    requires scratch_fits { length scratch.old ≡ width * height }
+    ensures { IsReversal values.old scratch.new }
+{
+    reverse_slice_row_index_bits(values, width);
+    transpose(values, scratch, width, height);
+    reverse_slice_row_index_bits(scratch, height);
 }

@@ -6,8 +6,6 @@ ghost use Rattle.p3_util.specs.Flat.{flat};
 ghost use Rattle.p3_util.specs.Reversal.{FitsRows, IsReversal, IsRowReversal, IsZeroOrPowerOfTwo};
 ghost use Rattle.p3_util.specs.Transpose.{IsTranspose};
 
-pub mod four_items;
-
 use p3_util::places::{Cells, Places, Writes};
 use p3_util::reverse::{fits_rows, reverse_counted, reverse_rows_counted};
 use p3_util::transpose::{
@@ -178,24 +176,26 @@ pub fn put_item<T: Copy, const N: usize>(rows: &mut [[T; N]], i: usize, item: T)
 }
 
 /// Puts `item` in row `row` and column `column`.
-pub fn put_at(rows: &mut [[u64; 2]], row: usize, column: usize, item: u64)
-    requires fits { length rows.old * 2 < 2 ^ 64 }
+#[tactic(auto, using(p3_util::proofs::Callers::column_inside))]
+pub fn put_at<T: Copy, const N: usize>(rows: &mut [[T; N]], row: usize, column: usize, item: T)
+    requires fits { length rows.old * N < 2 ^ 64 }
     requires row_inside { row < length rows.old }
-    requires column_inside { column < 2 }
-    ensures { flat rows.new ≡ slice_set (flat rows.old) (row * 2 + column) item }
+    requires column_inside { column < N }
+    ensures { flat rows.new ≡ slice_set (flat rows.old) (row * N + column) item }
 {
-    as_base_slice_mut(rows).put(row * 2 + column, item);
+    as_base_slice_mut(rows).put(row * N + column, item);
 }
 
 /// The same of items that are not `Copy`: what was there is dropped.
-pub fn set_at<T: Drop>(rows: &mut [[T; 2]], row: usize, column: usize, item: T)
-    requires fits { length rows.old * 2 < 2 ^ 64 }
+#[tactic(auto, using(p3_util::proofs::Callers::column_inside))]
+pub fn set_at<T: Drop, const N: usize>(rows: &mut [[T; N]], row: usize, column: usize, item: T)
+    requires fits { length rows.old * N < 2 ^ 64 }
     requires row_inside { row < length rows.old }
-    requires column_inside { column < 2 }
-    ensures { flat rows.new ≡ slice_set (flat rows.old) (row * 2 + column) item }
+    requires column_inside { column < N }
+    ensures { flat rows.new ≡ slice_set (flat rows.old) (row * N + column) item }
 {
     let mut view = as_base_slice_mut(rows);
-    set_item_of_view(&mut view, row * 2 + column, item);
+    set_item_of_view(&mut view, row * N + column, item);
 }
 
 /// Exchanges items `i` and `j`.
@@ -219,4 +219,14 @@ where
     if let Some(place) = view.get_mut(i) {
         *place = item;
     }
+}
+
+/// Reverses the order of rows whose length is written out, by way of their items.
+pub fn reverse_rows_of_four<T>(rows: &mut [[T; 4]])
+    requires fits { length rows.old * 4 < 2 ^ 64 }
+    requires power { FitsRows (length (flat rows.old)) 4 }
+    ensures { IsRowReversal 4 (flat rows.old) (flat rows.new) }
+{
+    let mut view = as_base_slice_mut(rows);
+    reverse_rows_counted(&mut view, 4);
 }

@@ -127,3 +127,30 @@ pub fn inner_product_mod(xs: &[u32], ys: &[u32], m: u32) -> Option<u64>
     let sum = folded_mod(xs, ys, m)?;
     Some(sum)
 }
+
+/// The sums of the items of each pair.
+///
+/// # Errors
+///
+/// `AllocError` where there is no memory for the sums.
+pub fn sums_of_pairs(alloc: Global, pairs: &[(u16, u16)]) -> Result<Vec<u32>, AllocError>
+    ensures { IfOk result (λ sums. (i x y : ℕ) → slice_get pairs.now i ≡ Some (x, y) → slice_get sums.items i ≡ Some (x + y)) }
+{
+    pairs
+        .iter()
+        .map(|p| u32::from(p.0) + u32::from(p.1))
+        .collect(alloc)
+}
+
+/// The sums of the items of two lists, place by place: the pairs come from one function, and their sums from another.
+///
+/// # Errors
+///
+/// `AllocError` where the lengths differ or there is no memory for the pairs or the sums.
+pub fn sums_by_place(alloc: Global, xs: &[u16], ys: &[u16]) -> Result<Vec<u32>, AllocError>
+    ensures { IfOk result (λ sums. (i x y : ℕ) → slice_get xs.now i ≡ Some x → slice_get ys.now i ≡ Some y
+        → slice_get sums.items i ≡ Some (x + y)) }
+{
+    let pairs = paired_by_place(alloc, xs, ys)?;
+    sums_of_pairs(alloc, &pairs)
+}

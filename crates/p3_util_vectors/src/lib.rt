@@ -1,7 +1,7 @@
 //! Worked examples and outside vectors for the crates of this workspace, as tests, and the types that they are made of.
 #![tactic(auto)]
 
-pub use p3_util_callers::holders::joined::Joined;
+pub use p3_util_callers::joined::Joined;
 
 pub mod elements;
 pub mod keys;

@@ -1,11 +1,13 @@
--- Reversed digits of even and odd numbers, and std's test of a power of two.
-use Rattle.std.proofs.Common.{◌≡◌, ℕ, ◌+◌, ◌*◌, ◌^◌, ◌<◌, true, inl, refl, arith}
+-- Reversed digits of even and odd numbers and of half a number, and std's test of a power of two.
+use Rattle.std.proofs.Common.{◌≡◌, ℕ, zero, suc, ◌+◌, ◌*◌, ◌/◌, ◌%◌, ◌^◌, ◌<◌, inl, true, refl, sym, ap, ◌∙◌, arith}
 use Rattle.std.proofs.lemmas.Nat.{pow-add}
 use Rattle.std.specs.Int.{is_power_of_two}
 use Rattle.p3_util_kernels.specs.Digits.{rev}
 use Rattle.p3_util_kernels.specs.Powers.{HasLog2}
 use Rattle.p3_util_kernels.proofs.DigitsLemmas.{rev-parts, rev-shl, rev-suc, rev-zero}
 use Rattle.p3_util_kernels.proofs.PowersLemmas.{power_of_two_test as power_test}
+use Rattle.std.proofs.lemmas.Nat.{mod-mul-add}
+use Rattle.p3_util_kernels.proofs.DigitsLemmas.{rev-lt}
 
 -- the reverse of an even number, and of an odd one
 pub rev_even : (k b : ℕ) → rev (k + 1) (2 * b) ≡ rev k b
@@ -28,3 +30,24 @@ pair_below k i h =
 -- A number that passes std's test has a logarithm. The search knows it; a proof by hand names the lemma.
 pub power_of_two_test : (n : ℕ) → is_power_of_two n ≡ true → HasLog2 n
 power_of_two_test n tested = inl ((power_test n).0 tested)
+
+-- Half an index has the reverse of the index, without its highest digit.
+pub half : (k i : ℕ) → rev k (i / 2) ≡ rev (k + 1) i % 2 ^ k
+half k i =
+    let below : rev k (i / 2) < 2 ^ k = rev-lt k (i / 2) in
+    elim (i % 2) as (λ r. i % 2 ≡ r → rev k (i / 2) ≡ rev (k + 1) i % 2 ^ k) [
+      | zero ↦ λ e.
+          let same : i ≡ 2 * (i / 2) = omega arith in
+          let whole : rev (k + 1) i ≡ 0 * 2 ^ k + rev k (i / 2) = ap (λ n. rev (k + 1) n) same ∙ rev_even k (i / 2) ∙ omega arith in
+          sym (ap (λ n. n % 2 ^ k) whole ∙ mod-mul-add 0 (2 ^ k) (rev k (i / 2)) below)
+      | suc r ↦ λ e.
+          let same : i ≡ 2 * (i / 2) + 1 = omega arith in
+          let whole : rev (k + 1) i ≡ 1 * 2 ^ k + rev k (i / 2) = ap (λ n. rev (k + 1) n) same ∙ rev_odd k (i / 2) ∙ omega arith in
+          sym (ap (λ n. n % 2 ^ k) whole ∙ mod-mul-add 1 (2 ^ k) (rev k (i / 2)) below)
+    ] refl
+
+-- the number of pairs of a list of twice as many
+pub half_length : (n k : ℕ) → n ≡ 2 ^ (k + 1) → n / 2 ≡ 2 ^ k
+half_length n k e =
+    let double : 2 ^ (k + 1) ≡ 2 ^ k * 2 ^ 1 = pow-add 2 k 1 in
+    omega arith

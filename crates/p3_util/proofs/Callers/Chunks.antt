@@ -1,5 +1,5 @@
--- What calls on chunks add up, and what padded lanes do.
-use Rattle.std.proofs.Common.{◌≡◌, ℕ, ◌+◌, ◌-◌, ◌<◌, List, [], ◌∷◌, ◌++◌, length, map, sum, refl, sym, ap, ◌∙◌, arith}
+-- What calls on chunks add up, what padded lanes do, and what a padded list has at a place.
+use Rattle.std.proofs.Common.{◌≡◌, ℕ, zero, suc, ◌+◌, ◌-◌, ◌<◌, ◌≤◌, Some, List, [], ◌∷◌, ◌++◌, length, get_or, map, slice_get, sum, refl, sym, ap, ◌∙◌, arith}
 use Rattle.std.proofs.lemmas.List.Folds.{sum_by-replicate}
 use Rattle.std.proofs.lemmas.List.Sums.{sum-map, sum_by-append, sum_by-cons}
 use Rattle.std.specs.List.{FoldsTo, sum_by}
@@ -7,6 +7,7 @@ use Rattle.std.specs.Prelude.{replicate}
 use Rattle.p3_util.specs.Flat.{flat}
 use Rattle.p3_util.specs.Pieces.{padded, padded_pieces, pieces}
 use Rattle.p3_util.proofs.PiecesLemmas.{joined-pieces}
+use Rattle.p3_util_kernels.proofs.Cuts.{slice_get-append_left, slice_get-append_right}
 
 -- Where each step over a piece adds its bytes to what `total` reads, the steps over all pieces add the bytes of all.
 pub folded_sum : {H : Type 0} (step : H → List ℕ → H → Type 0) (total : H → ℕ) (rows : List (List ℕ)) (f last : H)
@@ -34,3 +35,29 @@ lanes_sum n (row ∷ rows) =
 
 pub padded_sum : (n : ℕ) (xs : List ℕ) → 0 < n → sum (map sum (padded_pieces n 0 xs)) ≡ sum xs
 padded_sum n xs some = sum-map sum (padded_pieces n 0 xs) ∙ rw (lanes_sum n (pieces n xs), joined-pieces n xs some) refl
+
+-- a list that is padded, read
+module _ {A : Type 0} (fill : A) where
+  fill_read : (n i : ℕ) → get_or (replicate n fill) i fill ≡ fill
+  fill_read zero i = refl
+  fill_read (suc n) zero = refl
+  fill_read (suc n) (suc i) = fill_read n i
+
+  fill_place : (n i : ℕ) → i < n → slice_get (replicate n fill) i ≡ Some fill
+  fill_place zero i h = absurd (omega arith)
+  fill_place (suc n) zero h = refl
+  fill_place (suc n) (suc i) h = fill_place n i (omega arith)
+
+  pub padded_index : (xs : List A) (n i : ℕ) → get_or (xs ++ replicate n fill) i fill ≡ get_or xs i fill
+  padded_index [] n i = fill_read n i
+  padded_index (x ∷ xs) n zero = refl
+  padded_index (x ∷ xs) n (suc i) = padded_index xs n i
+
+  pub padded_inside : (xs : List A) (n i : ℕ) → i < length xs → slice_get (xs ++ replicate n fill) i ≡ slice_get xs i
+  padded_inside xs n i = slice_get-append_left xs (replicate n fill) i
+
+  pub padded_beyond : (xs : List A) (n i : ℕ) → length xs ≤ i → i < length xs + n → slice_get (xs ++ replicate n fill) i ≡ Some fill
+  padded_beyond xs n i from to =
+      slice_get-append_right xs (replicate n fill) i (i - length xs) (omega arith) ∙ fill_place n (i - length xs) (omega arith)
+
+pub ruleset padded_read = (padded_index, padded_inside, padded_beyond)

@@ -1,4 +1,4 @@
--- Place i of a reversal, a reversal the other way round, that a list has one, and that two of them are the list again.
+-- Place i of a reversal, from it and to it; the other way round; that a list has one; and that two of them are the list again.
 use Rattle.std.proofs.Common.{◌≡◌, ℕ, ◌+◌, ◌*◌, ◌^◌, ◌<◌, List, length, map, slice_get, sym, ap, ◌∙◌, arith}
 use Rattle.std.proofs.lemmas.List.{length-map}
 use Rattle.std.proofs.lemmas.Option.{slice_get-map}
@@ -8,6 +8,7 @@ use Rattle.p3_util_kernels.specs.Reversal.{IsReversal, IsReversible, IsRowRevers
 use Rattle.p3_util_kernels.proofs.Lengths.{zero_or_power}
 use Rattle.p3_util_kernels.proofs.ReversalLemmas.{IsReversal-places, IsReversal-unique, row_reversed_back, IsRowReversal-unique}
 use Rattle.p3_util.proofs.Callers.Bits.{pair_below, rev_even, rev_odd}
+use Rattle.p3_util_kernels.proofs.ReversalLemmas.{IsReversal-from_power}
 
 module _ {A : Type 0} where
   -- place i of a reversal of 2 ^ k items
@@ -65,3 +66,9 @@ module _ {A B : Type 0} (f : A → B) where
   reversed_worked old mid worked new first same second fits =
       let back : IsReversal worked (map f old) = rw same (reversal_of_worked mid old (row_reversed_back 1 old mid first)) in
       reversed_once worked new (map f old) second back (rw (same, length-map mid f, first.same_length) fits)
+
+module _ {A : Type 0} where
+  -- a list that has at each place what stood at the reverse of the place
+  pub reversed_by_places : (k : ℕ) (old new : List A) → length new ≡ length old → length old ≡ 2 ^ k
+      → ((i : ℕ) → i < 2 ^ k → slice_get new i ≡ slice_get old (rev k i)) → IsReversal old new
+  reversed_by_places k old new same len at = IsReversal-from_power k old new len same (λ i h. at i (omega arith))

@@ -10,6 +10,7 @@ use Rattle.p3_util_kernels.proofs.DigitsLemmas.{rev-lt, rev-rev-below, rev-zero,
 use Rattle.p3_util_kernels.proofs.Lengths.{zero_or_power}
 use Rattle.p3_util.proofs.Callers.Bits.{pair_below, rev_even, rev_odd}
 use Rattle.p3_util.proofs.Callers.Reverse.{reversed_place}
+use Rattle.p3_util.proofs.Callers.Bits.{half_length}
 
 -- a sum by even and odd places
 pub sum_below_halves : (n : ℕ) (f : ℕ → ℕ) → sum_below (2 * n) f ≡ sum_below n (λ j. f (2 * j)) + sum_below n (λ j. f (2 * j + 1))
@@ -123,6 +124,6 @@ reversed_sum old new reversal fits =
 
 pub ruleset reversed_read = (reversed_index, reversed_item, reversed_item_at, reversed_item_from, reversed_some, reversed_some_from)
 
-pub ruleset even_read = (even_index, pair_below)
+pub ruleset even_read = (even_index, pair_below, half_length)
 
-pub ruleset odd_read = (odd_index, pair_below)
+pub ruleset odd_read = (odd_index, pair_below, half_length)

@@ -1,7 +1,15 @@
--- A list has one transpose, and there and back is the list again.
-use Rattle.std.proofs.Common.{◌≡◌, ℕ, ◌*◌, List, length}
+-- That a list has one transpose, there and back, first rows and columns, what a region leaves, and a reversal by way of a transpose.
+use Rattle.std.proofs.Common.{◌≡◌, ℕ, ◌+◌, ◌*◌, ◌/◌, ◌%◌, ◌^◌, ◌<◌, ◌≤◌, List, length, slice_get, refl, sym, ap, ◌∙◌, arith}
 use Rattle.p3_util_kernels.specs.Transpose.{IsTranspose}
 use Rattle.p3_util_kernels.proofs.Matrix.{IsTranspose-twice, IsTranspose-unique}
+use Rattle.std.proofs.lemmas.Nat.{mod_below, pow-add, pow_pos, same_from_place}
+use Rattle.std.proofs.Math.Nat.{div-lt_iff_lt-mul, mod-add-div'}
+use Rattle.p3_util_kernels.specs.Digits.{rev}
+use Rattle.p3_util_kernels.specs.declared.transpose.regions.Region.{Region}
+use Rattle.p3_util_kernels.specs.Region.{IsInRegion, IsRegionTransposed}
+use Rattle.p3_util_kernels.specs.Reversal.{IsReversal, IsRowReversal}
+use Rattle.p3_util_kernels.proofs.DigitsLemmas.{rev-lt, rev-parts}
+use Rattle.p3_util_kernels.proofs.ReversalLemmas.{IsReversal-from_power}
 
 module _ {A : Type 0} where
   -- One transpose, and there and back is the same. The second one comes first, so that a search finds its lists.
@@ -12,3 +20,72 @@ module _ {A : Type 0} where
   pub transposed_back : (width height : ℕ) (old mid new : List A) → IsTranspose width height mid new → IsTranspose height width old mid
       → length old ≡ height * width → new ≡ old
   transposed_back width height old mid new second first fits = IsTranspose-twice height width old mid new fits first second
+
+-- the first row and the first column of a transpose
+module _ {A : Type 0} where
+  pub first_in_rows : (width height x p : ℕ) (old new : List A) → IsTranspose width height old new → p ≡ x * height → x < width → 0 < height
+      → slice_get new p ≡ slice_get old x
+  first_in_rows width height x p old new turned e hx some =
+      let from : x * height + 0 ≡ p = omega arith in
+      let to : 0 * width + x ≡ x = omega arith in
+      rw (from, to) at (turned.places x 0 hx some)
+
+  pub first_row : (width height y q : ℕ) (old new : List A) → IsTranspose width height old new → q ≡ y * width → y < height → 0 < width
+      → slice_get new y ≡ slice_get old q
+  first_row width height y q old new turned e hy some =
+      let from : 0 * height + y ≡ y = omega arith in
+      let to : y * width + 0 ≡ q = omega arith in
+      rw (from, to) at (turned.places 0 y some hy)
+
+pub ruleset transposed_first = (first_in_rows, first_row)
+
+-- what a region leaves, by row and column
+module _ {A : Type 0} (region : Region) (width height : ℕ) (input old new : List A) (put : IsRegionTransposed region width height input old new)
+    (inside : region.row_end ≤ height) (x y : ℕ) (hy : y < height) where
+  pub outside_stays : (IsInRegion region x y → ⊥) → slice_get new (x * height + y) ≡ slice_get old (x * height + y)
+  outside_stays out = put.others (x * height + y) (λ x' y' within e.
+      let same = same_from_place x y x' y' height hy (omega (arith, within.row_to)) e in
+      out (record {
+        row_from = omega (arith, same.1, within.row_from);
+        row_to = omega (arith, same.1, within.row_to);
+        col_from = omega (arith, same.0, within.col_from);
+        col_to = omega (arith, same.0, within.col_to);
+      }))
+
+  pub above_stays : y < region.row_start → slice_get new (x * height + y) ≡ slice_get old (x * height + y)
+  above_stays h = outside_stays (λ within. omega (arith, within.row_from))
+
+  pub below_stays : region.row_end ≤ y → slice_get new (x * height + y) ≡ slice_get old (x * height + y)
+  below_stays h = outside_stays (λ within. omega (arith, within.row_to))
+
+  pub left_stays : x < region.col_start → slice_get new (x * height + y) ≡ slice_get old (x * height + y)
+  left_stays h = outside_stays (λ within. omega (arith, within.col_from))
+
+  pub right_stays : region.col_end ≤ x → slice_get new (x * height + y) ≡ slice_get old (x * height + y)
+  right_stays h = outside_stays (λ within. omega (arith, within.col_to))
+
+pub ruleset region_others = (above_stays, below_stays, left_stays, right_stays)
+
+-- rows reversed, transposed, and rows reversed
+pub reversed_by_sides : {A : Type 0} (a b width height : ℕ) (old mid out new : List A) → IsRowReversal height out new → IsTranspose width height mid out
+    → IsRowReversal width old mid → width ≡ 2 ^ a → height ≡ 2 ^ b → length old ≡ width * height → IsReversal old new
+reversed_by_sides a b width height old mid out new columns turned rows wide tall len =
+    let whole : 2 ^ (a + b) ≡ 2 ^ a * 2 ^ b = pow-add 2 a b in
+    let all : width * height ≡ 2 ^ (a + b) = rw (wide, tall) (sym whole) in
+    let out-len : length out ≡ height * 2 ^ a = turned.same_length ∙ rw wide (omega arith) in
+    let old-len : length old ≡ width * 2 ^ b = len ∙ rw tall refl in
+    IsReversal-from_power (a + b) old new (len ∙ all) (columns.same_length ∙ turned.same_length ∙ sym len) (λ i hi.
+    let x = i / 2 ^ b in
+    let y = i % 2 ^ b in
+    let split : i ≡ x * 2 ^ b + y = sym (mod-add-div' i (2 ^ b)) ∙ omega arith in
+    let below : i < 2 ^ a * 2 ^ b = omega (arith, len, all, whole) in
+    let hx : x < 2 ^ a = (div-lt_iff_lt-mul (pow_pos b)).1 below in
+    let hy : y < 2 ^ b = mod_below i (2 ^ b) (pow_pos b) in
+    let hr : rev a x < width = rw wide (rev-lt a x) in
+    let hy' : y < height = rw tall hy in
+    let reverse : rev (a + b) (x * 2 ^ b + y) ≡ rev b y * 2 ^ a + rev a x = rev-parts a b x y hy in
+    let step1 : slice_get new (x * height + y) ≡ slice_get out (rev a x * height + y) = columns.places a x y out-len hx hy' in
+    let step2 : slice_get out (rev a x * height + y) ≡ slice_get mid (y * width + rev a x) = turned.places (rev a x) y hr hy' in
+    let step3 : slice_get mid (y * width + rev a x) ≡ slice_get old (rev b y * width + rev a x) = rows.places b y (rev a x) old-len hy hr in
+    let all-steps : slice_get new (x * height + y) ≡ slice_get old (rev b y * width + rev a x) = step1 ∙ step2 ∙ step3 in
+    ap (slice_get new) split ∙ (rw (tall, wide) at all-steps) ∙ ap (slice_get old) (sym reverse ∙ ap (λ n. rev (a + b) n) (sym split)))

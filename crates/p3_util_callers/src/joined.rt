@@ -1,9 +1,15 @@
-//! Two slices seen as one list, which a kernel reorders as any other holder.
+//! Two slices seen as one list, which a kernel reorders as any other holder, and callers. Each caller is given the holder, which
+//! another function makes: in the function that makes a struct of two `&mut`, a proof does not know what both end as. The file
+//! needs `p3_util` alone, so it can be copied as it stands.
 
-ghost use Rattle.std.specs.Prelude.{◌≡◌, ◌+◌, ◌++◌, ◌^◌, ◌<◌, length, slice_set, swap};
+ghost use Rattle.std.specs.Prelude.{◌≡◌, ◌+◌, ◌*◌, ◌++◌, ◌^◌, ◌<◌, length, slice_set, swap};
 ghost use Rattle.std.proofs.Common.{rules};
+ghost use Rattle.p3_util.specs.Reversal.{IsReversal, IsReversible};
+ghost use Rattle.p3_util.specs.Transpose.{IsTranspose};
 
 use p3_util::places::{Cells, Places};
+use p3_util::reverse_counted;
+use p3_util::transpose::transpose_counted;
 use std::mem;
 
 /// The items of one slice and then those of another. What it holds is in the two when the borrows end.
@@ -116,4 +122,31 @@ fn exchange_between<F>(front: &mut [F], i: usize, back: &mut [F], j: usize)
     ensures exchanged { front.new ++ back.new ≡ swap (front.old ++ back.old) i (length front.old + j) }
 {
     mem::swap(&mut front[i], &mut back[j]);
+}
+
+/// Reverses by index bits the list that is the front and then the back. Each keeps its length.
+pub fn reverse_joined<F>(joined: &mut Joined<F>)
+    requires { IsReversible (length (joined.old.front.now ++ joined.old.back.now)) }
+    ensures order { IsReversal (joined.old.front.now ++ joined.old.back.now) (joined.new.front.now ++ joined.new.back.now) }
+    ensures front { length joined.new.front.now ≡ length joined.old.front.now }
+    ensures back { length joined.new.back.now ≡ length joined.old.back.now }
+{
+    reverse_counted(joined);
+}
+
+/// Puts the transpose of `input` into the front and then the back, and returns the number of writes. Each keeps its length.
+pub fn transpose_into_joined<T: Copy>(
+    input: &[T],
+    joined: &mut Joined<T>,
+    width: usize,
+    height: usize,
+) -> u128
+    requires input_fits { length input.now ≡ width * height }
+    requires output_fits { length (joined.old.front.now ++ joined.old.back.now) ≡ width * height }
+    ensures order { IsTranspose width height input.now (joined.new.front.now ++ joined.new.back.now) }
+    ensures count { result ≡ width * height }
+    ensures front { length joined.new.front.now ≡ length joined.old.front.now }
+    ensures back { length joined.new.back.now ≡ length joined.old.back.now }
+{
+    transpose_counted(input, joined, width, height)
 }
