@@ -2,7 +2,7 @@
 use Rattle.std.proofs.Common.{◌≡◌, ◌≢◌, ℕ, ◌+◌, ◌-◌, ◌*◌, ◌/◌, ◌%◌, ◌^◌, ◌<◌, ◌≤◌, ◌⊎◌, min, max, List, length, slice_get, inl, inr, refl, sym, ap, ◌∙◌, arith}
 use Rattle.std.proofs.Math.Nat.{mul-le-mul_right}
 use Rattle.std.proofs.lemmas.Bool.{cases_eq}
-use Rattle.std.proofs.lemmas.Nat.{div_below, div-add-mod', pow_pos, same_from_place}
+use Rattle.std.proofs.lemmas.Nat.{div_below, div-add-mod', mod-mul-add, pow_pos, same_from_place}
 use Rattle.p3_util_kernels.specs.declared.transpose.regions.Region.{Region}
 use Rattle.p3_util_kernels.specs.Crossing.{IsCrossed, IsRowItem, line_pairs_of, row_of}
 use Rattle.p3_util_kernels.specs.Digits.{rev}
@@ -152,14 +152,24 @@ module _ (half c : ℕ) (within : half ≤ c) where
                 at r (rw same at h) ∙ ap (λ n. slice_get old (rev n r * row_width + j)) (sym same);
           }
 
--- the middle digit of a line of an even number, and its number y, below which there is room for the next line
-pub line-middle : (digits line side : ℕ) → side ≡ 2 ^ (digits / 2) → line % 2 ≡ 0 → line / 2 < line_pairs_of digits
-    → line / side < 2 ^ (digits - digits / 2 - digits / 2)
-line-middle digits line side is even h = rw is (middle-lt (digits / 2) (digits - digits / 2) (omega arith) line (omega (arith, (line-below digits line even h).1)))
+-- The first line of the middle digit of a line of an even number, all lines of that digit, and the number y of the line, below
+-- which there is room for the next line
+pub line-first : (digits line side : ℕ) → side ≡ 2 ^ (digits / 2) → line / 2 ^ (digits / 2) * side % 2 ^ (digits / 2) ≡ 0
+line-first digits line side is =
+    let half = digits / 2 in
+    let first : line / 2 ^ half * side ≡ line / 2 ^ half * 2 ^ half + 0 = rw is (omega arith) in
+    rw first (mod-mul-add (line / 2 ^ half) (2 ^ half) 0 (pow_pos half))
+
+pub line-inside : (digits line side : ℕ) → side ≡ 2 ^ (digits / 2) → line % 2 ≡ 0 → line / 2 < line_pairs_of digits
+    → line / 2 ^ (digits / 2) * side + 2 ^ (digits / 2) ≤ 2 ^ (digits - digits / 2)
+line-inside digits line side is even h =
+    let half = digits / 2 in
+    let middle = middle-lt half (digits - half) (omega arith) line (omega (arith, (line-below digits line even h).1)) in
+    rw (is, ← row_length (digits - half) half (omega arith)) (omega (arith, mul-le-mul_right {m = line / 2 ^ half + 1} {n = 2 ^ (digits - half - half)} (2 ^ half) (omega arith)))
 
 pub line-next : (digits line side : ℕ) → side ≡ 2 ^ (digits / 2) → line % 2 ≡ 0 → line / 2 < line_pairs_of digits
     → line % side + 1 < 2 ^ (digits / 2)
 line-next digits line side is even h = rw is (line-even (digits / 2) line (omega (arith, (line-below digits line even h).0)) even).0
 
 -- the parts of a line
-pub ruleset line_parts = (line-middle, line-next)
+pub ruleset line_parts = (line-first, line-inside, line-next)

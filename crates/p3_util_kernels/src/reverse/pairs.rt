@@ -13,7 +13,7 @@
 //! `x`: the rows of both lines lie side by side, so that they are in the cache at once where rows are short.
 
 ghost use Rattle.std.specs.Prelude.{◌≡◌, ℕ, ◌+◌, ◌-◌, ◌*◌, ◌/◌, ◌%◌, ◌^◌, ◌<◌, ◌≤◌, ◌⊎◌, length};
-ghost use Rattle.p3_util_kernels.specs.Crossing.{HoldsRows, IsCrossed, line_pairs_of, row_of};
+ghost use Rattle.p3_util_kernels.specs.Crossing.{HoldsRows, IsCrossed, line_pairs_of};
 ghost use Rattle.p3_util_kernels.specs.Digits.{rev};
 ghost use Rattle.p3_util_kernels.specs.Exchanged.{RunsExchanged};
 ghost use Rattle.p3_util_kernels.specs.Levels.{clog};
@@ -106,30 +106,33 @@ fn exchange_lines<M: Places>(m: M, rows: RowDigits, line: usize) -> M
         (record { row_start = 0; row_end = 2 ^ half; col_start = line; col_end = line + 2 }) (M.items m) (M.items result) }
     ensures holder { let y = line % 2 ^ (rows.digits / 2) in M.same_holder (rows.width * (y + (y + 1))) m result }
 {
-    let side = pow2(rows.digits / 2);
-    let middle = line / side;
+    let half = rows.digits / 2;
+    let side = pow2(half);
+    // The shift is a division by `side`. Of `line / side * side` Rattle's compiler makes `line - y`, and a slower loop.
+    let first = (line >> half) * side;
     let y = line % side;
     let mut m = m;
     for x in 0..y {
-        m = exchange_pair(m, rows, middle, x, y);
-        m = exchange_pair(m, rows, middle, x, y + 1);
+        m = exchange_pair(m, rows, first, x, y);
+        m = exchange_pair(m, rows, first, x, y + 1);
     }
-    exchange_pair(m, rows, middle, y, y + 1)
+    exchange_pair(m, rows, first, y, y + 1)
 }
 
-/// Exchanges the row of `x`, `middle` and `y` with the row of `y`, `middle` and `x`.
+/// Exchanges the row of `x` and `y` with the row of `y` and `x`. `first` is the first line of the middle digit of both rows.
 #[inline(always)]
-fn exchange_pair<M: Places>(m: M, rows: RowDigits, middle: usize, x: usize, y: usize) -> M
-    requires middle { let half = rows.digits / 2 in middle < 2 ^ (rows.digits - half - half) }
+fn exchange_pair<M: Places>(m: M, rows: RowDigits, first: usize, x: usize, y: usize) -> M
+    requires first { first % 2 ^ (rows.digits / 2) ≡ 0 }
+    requires inside { first + 2 ^ (rows.digits / 2) ≤ 2 ^ (rows.digits - rows.digits / 2) }
     requires less { x < y }
     requires below { y < 2 ^ (rows.digits / 2) }
     requires ready { HoldsRows rows.width rows.digits (M.items m) }
-    ensures crossed { let half = rows.digits / 2 in let line = middle * 2 ^ half + y in IsCrossed half (rows.digits - half) rows.width
+    ensures crossed { let half = rows.digits / 2 in let line = first + y in IsCrossed half (rows.digits - half) rows.width
         (record { row_start = x; row_end = x + 1; col_start = line; col_end = line + 1 }) (M.items m) (M.items result) }
     ensures holder { M.same_holder rows.width m result }
 {
-    let i = row_at(rows.digits, middle, x, y);
-    let j = row_at(rows.digits, middle, y, x);
+    let i = row_at(rows.digits, x, first + y);
+    let j = row_at(rows.digits, y, first + x);
     exchange_rows(m, rows.width, i, j)
 }
 
@@ -152,18 +155,17 @@ fn exchange_rows<M: Places>(m: M, row_width: usize, i: usize, j: usize) -> M
     m
 }
 
-/// The row of `x`, `middle` and `y`.
+/// The row whose high digits are those of `x` in reversed order, and whose other digits are `low`.
 #[inline(always)]
-fn row_at(digits: usize, middle: usize, x: usize, y: usize) -> usize
+fn row_at(digits: usize, x: usize, low: usize) -> usize
     requires few { digits < 64 }
-    requires middle { let half = digits / 2 in middle < 2 ^ (digits - half - half) }
-    requires high { x < 2 ^ (digits / 2) }
-    requires low { y < 2 ^ (digits / 2) }
-    ensures row { let half = digits / 2 in result ≡ row_of half (digits - half) middle x y }
+    requires x { x < 2 ^ (digits / 2) }
+    requires low { low < 2 ^ (digits - digits / 2) }
+    ensures row { result ≡ rev (digits / 2) x * 2 ^ (digits - digits / 2) + low }
     ensures below { result < 2 ^ digits }
 {
     let half = digits / 2;
-    reverse_digits(x, half) * pow2(digits - half) + (middle * pow2(half) + y)
+    reverse_digits(x, half) * pow2(digits - half) + low
 }
 
 /// `x`, which has at most `digits` binary digits, with so many digits in reversed order: up to six are read from the table,

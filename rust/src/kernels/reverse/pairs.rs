@@ -71,22 +71,24 @@ pub(crate) fn exchange_pairs<M: Places>(m: M, rows: RowDigits, from: usize, to: 
 /// Exchanges the pairs of rows of `line` and of the line after it.
 #[inline(always)]
 fn exchange_lines<M: Places>(m: M, rows: RowDigits, line: usize) -> M {
-    let side = pow2(rows.digits / 2);
-    let middle = line / side;
+    let half = rows.digits / 2;
+    let side = pow2(half);
+    // The shift is a division by `side`. Of `line / side * side` Rattle's compiler makes `line - y`, and a slower loop.
+    let first = (line >> half) * side;
     let y = line % side;
     let mut m = m;
     for x in 0..y {
-        m = exchange_pair(m, rows, middle, x, y);
-        m = exchange_pair(m, rows, middle, x, y + 1);
+        m = exchange_pair(m, rows, first, x, y);
+        m = exchange_pair(m, rows, first, x, y + 1);
     }
-    exchange_pair(m, rows, middle, y, y + 1)
+    exchange_pair(m, rows, first, y, y + 1)
 }
 
-/// Exchanges the row of `x`, `middle` and `y` with the row of `y`, `middle` and `x`.
+/// Exchanges the row of `x` and `y` with the row of `y` and `x`. `first` is the first line of the middle digit of both rows.
 #[inline(always)]
-fn exchange_pair<M: Places>(m: M, rows: RowDigits, middle: usize, x: usize, y: usize) -> M {
-    let i = row_at(rows.digits, middle, x, y);
-    let j = row_at(rows.digits, middle, y, x);
+fn exchange_pair<M: Places>(m: M, rows: RowDigits, first: usize, x: usize, y: usize) -> M {
+    let i = row_at(rows.digits, x, first + y);
+    let j = row_at(rows.digits, y, first + x);
     exchange_rows(m, rows.width, i, j)
 }
 
@@ -102,11 +104,11 @@ fn exchange_rows<M: Places>(m: M, row_width: usize, i: usize, j: usize) -> M {
     m
 }
 
-/// The row of `x`, `middle` and `y`.
+/// The row whose high digits are those of `x` in reversed order, and whose other digits are `low`.
 #[inline(always)]
-fn row_at(digits: usize, middle: usize, x: usize, y: usize) -> usize {
+fn row_at(digits: usize, x: usize, low: usize) -> usize {
     let half = digits / 2;
-    reverse_digits(x, half) * pow2(digits - half) + (middle * pow2(half) + y)
+    reverse_digits(x, half) * pow2(digits - half) + low
 }
 
 /// `x`, which has at most `digits` binary digits, with so many digits in reversed order: up to six are read from the table,
