@@ -3,7 +3,7 @@
 //! say that two parts have no place in common, and that each place is one of some part. `all_parts.rt` has the calls that all parts
 //! together make.
 
-ghost use Rattle.std.specs.Prelude.{◌≡◌, ◌≢◌, ℕ, ◌⊎◌, ◌+◌, ◌-◌, ◌*◌, ◌/◌, ◌^◌, ◌<◌, ◌≤◌, if◌then◌else◌, length};
+ghost use Rattle.std.specs.Prelude.{◌≡◌, ◌≢◌, ℕ, ◌⊎◌, ◌+◌, ◌-◌, ◌*◌, ◌/◌, ◌^◌, ◌<◌, ◌≤◌, ◌↔◌, false, if◌then◌else◌, length};
 ghost use Rattle.p3_util_kernels.specs.Blocks.{IsBlock, blocks_of, swaps_of_block};
 ghost use Rattle.p3_util_kernels.specs.Crossing.{HoldsRows, IsCrossed};
 ghost use Rattle.p3_util_kernels.specs.Diagonal.{SwapsAcross};
@@ -137,6 +137,14 @@ pub(crate) fn parts_of_matrix(
     regions_apart(first, second, width, height);
     (first, second)
 }
+
+/// The cells of a region follow each other where the columns are cut, and those of the next region come next.
+pub(crate) fn cells_follow(plan: TransposePlan, number: usize)
+    requires columns { plan.by_rows ≡ false }
+    requires below { number < parts_in plan.cut.len plan.cut.step }
+    ensures { (p : ℕ) → IsPlaceOfRegion (part_of_matrix plan.width plan.height plan.by_rows plan.cut.len plan.cut.step number) plan.height p
+        ↔ ((start_of plan.cut.len plan.cut.step number * plan.height ≤ p) × (p < start_of plan.cut.len plan.cut.step (number + 1) * plan.height)) }
+{}
 
 /// A block of squares side by side is exchanged with its mirror image by an exact number of exchanges. Where all items of the
 /// list differ, all of them are of places of the block and of its mirror image, and no place is in two of them.
