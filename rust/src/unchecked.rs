@@ -8,8 +8,8 @@
 //! Parts of a call have one list at once. The holder of a part is a pointer and a length, and makes references to one place or
 //! one run at a time, never to the whole list: see `SliceItems`. Which parts there are, and what each one does, is proved code as
 //! the kernels are (`kernels/parts.rs`). Each part makes an exact number of steps, and it is proved
-//! (`crates/p3_util_kernels/src/parts/laws.rt`) that over items that all differ each of them is at another place of the part, and
-//! that two parts of a phase have no place in common.
+//! (`crates/p3_util_kernels/src/parts/laws.rt`) that over items that all differ each of them is at another place of the part, that
+//! two parts of a phase have no place in common, and that all parts are the call, those of each phase in any order.
 //!
 //! Two things are left to reading:
 //!
