@@ -15,8 +15,8 @@ use. [MODEL](MODEL.md) says what the words of a clause mean. The headings are mo
 
 A struct is listed with its private fields too, since a clause may name them. Where a type implements a trait, the lines
 below say what a clause sees of that type. `rt check` in the folder of a crate that calls these proves what they ask, or
-names what is open. [What makes parts safe](#what-makes-parts-safe) is of the kernels' own functions, which no other crate can
-call. The page is made by `python3 tests/contracts.py >docs/CONTRACTS.md`."""
+names what is open. [What makes parts safe](#what-makes-parts-safe) has functions of the kernels alone, which no other
+crate can call. The page is made by `python3 tests/contracts.py >docs/CONTRACTS.md`."""
 PARTS = """
 ## What makes parts safe
 

@@ -1,9 +1,9 @@
 //! Calls that are cut into parts, each of which may run on a thread of its own. No thread is started here.
 //!
-//! What is cut and not yet done is a *plan*: of a transpose the [`TransposePlan`], of a reversal the [`ReversalPlan`]. The regions
-//! of a transpose are put in any order. A reversal has one *phase* or three, each of which is done before the next one, and its
-//! parts are made in any order: all rows at once, ranges of [`LinePairs`], or blocks of [`Squares`]. What is numbered is cut by a
-//! [`Cut`].
+//! What is cut and not yet done is a *plan*: of a transpose the [`TransposePlan`], of a reversal the [`ReversalPlan`]. The
+//! regions of a transpose are put in any order. A reversal has one *phase* or three, and of an empty list none. A phase is
+//! done before the next one, and its parts are made in any order: all rows at once, ranges of [`LinePairs`], or blocks of
+//! [`Squares`]. What is numbered is cut by a [`Cut`].
 
 ghost use Rattle.std.specs.Prelude.{length, ◌≡◌, ℕ, ◌+◌, ◌-◌, ◌*◌, ◌/◌, ◌%◌, ◌^◌, ◌<◌, ◌≤◌, if◌then◌else◌, max};
 ghost use Rattle.p3_util_kernels.specs.Blocks.{IsBlock, blocks_of, swaps_of_block};

@@ -1,7 +1,7 @@
 //! What makes it safe to give the parts of a call to several threads. Nothing calls these functions, and the package is made
-//! without them. Some make a part of a plan over a holder by which its steps exist, and say at which places they are. The others
-//! say that two parts have no place in common, and that each place is one of some part. `all_parts.rt` has the calls that all parts
-//! together make.
+//! without them. Some make a part of a plan over a holder by which its steps exist, and say at which places they are. The
+//! others say that two parts have no place in common, and that each place is one of some part. `all_parts.rt` has the calls
+//! that all parts together make.
 
 ghost use Rattle.std.specs.Prelude.{◌≡◌, ◌≢◌, ℕ, ◌⊎◌, ◌+◌, ◌-◌, ◌*◌, ◌/◌, ◌^◌, ◌<◌, ◌≤◌, ◌↔◌, false, if◌then◌else◌, length};
 ghost use Rattle.p3_util_kernels.specs.Blocks.{IsBlock, blocks_of, swaps_of_block};
@@ -82,8 +82,8 @@ pub(crate) fn changed_places<T>()
     ensures puts { PutsAtChanged T }
 {}
 
-/// A region of a plan is put by as many writes as it has items, by any strips. Where no item of the input is in the output, all
-/// of them are at places of the region's transpose, and at one place each.
+/// A region of a plan is put by as many writes as it has items, by any strips. Where no item of the input is in the output,
+/// all of them are at places of the region's transpose, and at one place each.
 pub(crate) fn put_region<C: Cells, R: Source<Item = C::Item> + Copy>(
     out: C,
     source: R,

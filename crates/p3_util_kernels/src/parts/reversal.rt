@@ -36,8 +36,8 @@ pub(crate) enum ReversalPlan {
 }
 
 impl ReversalPlan {
-    /// Cuts the reversal of the rows of `row_width` items of a list of `len` items. Up to `one_part` items it is one part, and
-    /// beyond that the line pairs, and each side of a square, are cut into at most `parts` parts. 0 parts are 1.
+    /// Cuts the reversal of the rows of `row_width` items of a list of `len` items. Up to `one_part` items it is one part,
+    /// and beyond that the line pairs, and each side of a square, are cut into at most `parts` parts. 0 parts are 1.
     pub(crate) fn new(len: usize, row_width: usize, parts: usize, one_part: usize) -> ReversalPlan
         requires { FitsRows len row_width }
         ensures plan { IsReversalPlan len row_width result }

@@ -14,8 +14,8 @@ pub(crate) struct TransposePlan {
 }
 
 impl TransposePlan {
-    /// Cuts the longer side into at most `parts` parts, at multiples of the side of a tile, or always the columns where the rows may
-    /// not be cut. 0 parts are 1. Of a matrix with no item there is no region.
+    /// Cuts the longer side into at most `parts` parts, at multiples of the side of a tile, or always the columns where the
+    /// rows may not be cut. 0 parts are 1. Of a matrix with no item there is no region.
     pub(crate) fn new(
         width: usize,
         height: usize,
@@ -43,8 +43,8 @@ impl TransposePlan {
         self.cut.count()
     }
 
-    /// The number of items of region `number`. Where the columns are cut, these are put at following cells, behind those of the
-    /// regions before it.
+    /// The number of items of region `number`. Where the columns are cut, these are put at following cells, behind those of
+    /// the regions before it.
     pub(crate) fn items(self, number: usize) -> usize {
         let region = self.cut.region(
             &Matrix::new((), self.width, self.height),

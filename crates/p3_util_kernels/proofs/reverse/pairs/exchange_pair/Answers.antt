@@ -10,7 +10,7 @@ exchange_rows-requires-clause-apart g c =
     let first : c.args.first / 2 ^ half * 2 ^ half ≡ c.args.first = omega (arith, div-add-mod' c.args.first (2 ^ half)) in
     let middle = middle-lt half rest (omega arith) c.args.first (omega (arith, pow_pos half)) in
     let apart : c.row_at-i.result ≢ c.row_at-j.result = rw (c.row_at-i.ensures.row, c.row_at-j.ensures.row)
-        (rw first at (pair-apart half rest (omega arith) (c.args.first / 2 ^ half) c.args.x c.args.y middle c.requires.less c.requires.below)) in
+    (rw first at (pair-apart half rest (omega arith) (c.args.first / 2 ^ half) c.args.x c.args.y middle c.requires.less c.requires.below)) in
     runs-apart c.args.rows.width c.row_at-i.result c.row_at-j.result apart
 
 pub returns-clause-crossed : goal.returns-clause-crossed
