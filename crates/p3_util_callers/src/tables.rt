@@ -1,7 +1,7 @@
-//! Callers that read a table in the order of reversed index bits, or put one into it. All but
-//! the loop are proved with no file.
+//! Callers that read a table in the order of reversed index bits, or put one into it. A loop and a fold have a
+//! proof file.
 
-ghost use Rattle.std.specs.Prelude.{◌≡◌, ℕ, ◌+◌, ◌*◌, ◌/◌, ◌^◌, ◌<◌, ◌≤◌, IfOk, List, Some, length, map, slice_get, slice_index, sum};
+ghost use Rattle.std.specs.Prelude.{◌≡◌, ℕ, ◌+◌, ◌*◌, ◌/◌, ◌%◌, ◌^◌, ◌<◌, ◌≤◌, IfOk, List, Some, fold, length, map, slice_get, slice_index, sum};
 ghost use Rattle.std.specs.Int.{IsPowerOfTwo};
 ghost use Rattle.std.specs.List.{range_with_len};
 ghost use Rattle.p3_util.specs.Digits.{rev};
@@ -214,6 +214,55 @@ pub fn doubled_after(alloc: Global, items: &mut [u32], k: usize) -> Result<Vec<u
 {
     reverse_slice_index_bits(items);
     doubled_by_place(alloc, items)
+}
+
+/// Reverses a table of numbers by index bits, said by place.
+#[tactic(auto, using(p3_util::proofs::Callers::reversed_index))]
+pub fn reorder_numbers(values: &mut [u64], k: usize)
+    requires { length values.old ≡ 2 ^ k }
+    ensures { (i : ℕ) → i < 2 ^ k → slice_index values.new i ≡ slice_index values.old (rev k i) }
+{
+    reverse_slice_index_bits(values);
+}
+
+/// Doubles each item, and reorders what comes of it. Two calls in a row are said by place where the reversal is in a function of
+/// its own.
+///
+/// # Errors
+///
+/// `AllocError` where there is no memory for them.
+#[tactic(auto, using(p3_util::proofs::Callers::rev_below))]
+pub fn doubled_then_reordered(alloc: Global, items: &[u32], k: usize) -> Result<Vec<u64>, AllocError>
+    requires { length items.now ≡ 2 ^ k }
+    ensures { IfOk result (λ twice. (i : ℕ) → i < 2 ^ k → slice_index twice.items i ≡ 2 * slice_index items.now (rev k i)) }
+{
+    let mut twice = doubled_by_place(alloc, items)?;
+    reorder_numbers(&mut twice, k);
+    Ok(twice)
+}
+
+/// The sum of all items as it is folded, which wraps.
+pub fn folded_sum(items: &[u32]) -> u32
+    ensures { result ≡ fold (λ s x. (s + x) % 2 ^ 32) 0 items.now }
+{
+    items.iter().fold(0u32, |s, x| s.wrapping_add(*x))
+}
+
+/// The sum of all items mod 2^32. A file says it of the fold.
+pub fn wrapping_sum(items: &[u32]) -> u32
+    ensures { result ≡ sum items.now % 2 ^ 32 }
+{
+    folded_sum(items)
+}
+
+/// Reorders the table, and returns a checksum of it, which is as it was.
+#[tactic(auto, using(p3_util::proofs::Callers::reversed_sum))]
+pub fn checksum_after(items: &mut [u32]) -> u32
+    requires { IsReversible (length items.old) }
+    ensures { result ≡ sum items.old % 2 ^ 32 }
+{
+    reverse_slice_index_bits(items);
+    wrapping_sum(items)
 }
 
 /// Item `i` of a table that somebody has reordered, or `None` where there is none.
