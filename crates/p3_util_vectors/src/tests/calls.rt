@@ -12,9 +12,9 @@ use p3_util::reverse::{
     reverse_slice_index_bits, reverse_slice_row_index_bits,
 };
 use p3_util::transpose::{
-    Region, fits_matrix, transpose, transpose_counted, transpose_on, transpose_region_counted,
-    transpose_region_on, transpose_source_counted, transpose_source_on, transpose_source_split_on,
-    transpose_split_on, transpose_square_on,
+    Region, fits_matrix, fits_square, transpose, transpose_counted, transpose_on,
+    transpose_region_counted, transpose_region_on, transpose_source_counted, transpose_source_on,
+    transpose_source_split_on, transpose_split_on, transpose_square_on,
 };
 use p3_util_callers::transpose::levels_of;
 use std::process::Abort;
@@ -102,16 +102,7 @@ fn transpose_square<S: Places + Drop>(
     log_stride: usize,
     log_size: usize,
 ) -> u128 {
-    assert!(rt; log_size <= log_stride && log_stride < 64);
-    let side = 1usize << log_size;
-    let stride = 1usize << log_stride;
-    let from_first = (side - 1)
-        .checked_mul(stride + 1)
-        .expect(rt, "the square is too long");
-    let last = from_first
-        .checked_add(base)
-        .expect(rt, "the square is too far");
-    assert!(rt; last < m.len());
+    assert!(rt; fits_square(m.len(), base, log_stride, log_size));
     transpose_square_on(&mut m, base, log_stride, log_size);
     m.swaps()
 }
@@ -165,8 +156,7 @@ pub(crate) fn count_writes<C: Cells>(
             transpose_source_counted(&SliceSource::new(input), cells, width, height)
         }
         Put::CountedRegion(region) => {
-            assert!(rt; region.row_start <= region.row_end && region.row_end <= height);
-            assert!(rt; region.col_start <= region.col_end && region.col_end <= width);
+            assert!(rt; region.fits(width, height));
             transpose_region_counted(input, cells, region, width, height)
         }
         Put::Split(levels) | Put::SourceSplit(levels) => {
@@ -187,8 +177,7 @@ fn put_on<C: Cells + Drop>(
     assert!(rt; fits_matrix(input.len(), out.len(), width, height));
     match call {
         Put::Region(region) => {
-            assert!(rt; region.row_start <= region.row_end && region.row_end <= height);
-            assert!(rt; region.col_start <= region.col_end && region.col_end <= width);
+            assert!(rt; region.fits(width, height));
             transpose_region_on(input, &mut out, region, width, height);
         }
         Put::SourceOn => transpose_source_on(&SliceSource::new(input), &mut out, width, height),

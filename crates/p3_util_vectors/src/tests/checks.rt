@@ -16,10 +16,14 @@ pub(crate) fn same<T: PartialEq + Debug>(rt: &impl Abort, at: usize, got: &T, wa
     assert_eq!(rt; *got, *wanted, "at {at}");
 }
 
-/// Asserts which items a list has at some places.
-pub(crate) fn check_places(rt: &impl Abort, list: &[u64], wanted: &[(usize, u64)]) {
-    for (place, item) in wanted {
-        same(rt, *place, &list.get(*place).copied(), &Some(*item));
+/// Asserts the numbers of the items that a list has at some places.
+pub(crate) fn check_places<T: Item>(rt: &impl Abort, list: &[T], wanted: &[(usize, u64)]) {
+    for (place, number) in wanted {
+        let is_there = match list.get(*place) {
+            Some(item) => item.is(*number as usize),
+            None => false,
+        };
+        assert!(rt; is_there, "at {place}");
     }
 }
 

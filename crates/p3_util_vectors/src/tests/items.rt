@@ -1,5 +1,7 @@
 //! Items of several sizes.
 
+use std::alloc::{AllocError, Global};
+
 /// An item that is made of its number.
 pub(crate) trait Item: Copy {
     fn of(number: usize) -> Self;
@@ -86,4 +88,22 @@ impl Item for [u64; 4] {
         let [x, y, z, w] = <[u64; 4]>::of(number);
         a == x && b == y && c == z && d == w
     }
+}
+
+/// The items with the numbers of a list.
+pub(crate) fn items_of<T: Item>(alloc: Global, numbers: &[u64]) -> Result<Vec<T>, AllocError> {
+    let mut list = Vec::with_capacity(alloc, numbers.len())?;
+    for number in numbers {
+        list.push(T::of(*number as usize))?;
+    }
+    Ok(list)
+}
+
+/// The items with the numbers from 0 to below `count`.
+pub(crate) fn numbered<T: Item>(alloc: Global, count: usize) -> Result<Vec<T>, AllocError> {
+    let mut list = Vec::with_capacity(alloc, count)?;
+    for number in 0..count {
+        list.push(T::of(number))?;
+    }
+    Ok(list)
 }

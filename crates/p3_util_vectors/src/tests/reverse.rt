@@ -2,11 +2,14 @@
 
 use crate::Joined;
 use crate::tests::calls::{Call, count_swaps, reverse_slice};
-use crate::tests::checks::{Shape, check_places, check_transposed, copied, equal, numbers, same};
+use crate::tests::checks::{Shape, check_places, check_transposed, copied, equal, found, same};
+use crate::tests::items::{Item, items_of, numbered};
 use crate::tests::oracle::reversals::REVERSALS;
 use crate::tests::oracle::{hash, items};
 use p3_util::places::{SliceCells, SlicePlaces, Swaps, Writes};
 use p3_util::reverse::fits_rows;
+use std::alloc::Global;
+use std::process::Abort;
 
 const EIGHT: &[u64] = &[0, 1, 2, 3, 4, 5, 6, 7];
 
@@ -40,12 +43,33 @@ const EXAMPLES: [(Call, &[u64], &[u64], u128); 19] = [
     (Call::Square(1, 1, 0), &[7, 8, 9], &[7, 8, 9], 0),
 ];
 
+/// Makes a row's call on items of a type, and asserts which of them are at which place then.
+fn check_example<T: Item>(
+    rt: &impl Abort,
+    alloc: Global,
+    call: Call,
+    list: &[u64],
+    wanted: &[u64],
+) -> u128 {
+    let mut got = found(rt, items_of::<T>(alloc, list));
+    let swaps = count_swaps(rt, &mut SlicePlaces::new(&mut got), call);
+    for (place, number) in wanted.iter().enumerate() {
+        check_places(rt, &got, &[(place, *number)]);
+    }
+    swaps
+}
+
+/// With items of 1, 3, 8 and 32 bytes.
 #[test]
 fn worked_examples(rt: HostRuntime) {
     for (row, (call, list, wanted, swaps)) in EXAMPLES.iter().enumerate() {
-        let mut got = copied(&rt, rt.alloc(), list);
-        let count = count_swaps(&rt, &mut SlicePlaces::new(&mut got), *call);
-        same(&rt, row, &(got.as_slice(), count), &(*wanted, *swaps));
+        let counts = [
+            check_example::<u8>(&rt, rt.alloc(), *call, list, wanted),
+            check_example::<[u8; 3]>(&rt, rt.alloc(), *call, list, wanted),
+            check_example::<u64>(&rt, rt.alloc(), *call, list, wanted),
+            check_example::<[u64; 4]>(&rt, rt.alloc(), *call, list, wanted),
+        ];
+        same(&rt, row, &counts, &[*swaps; 4]);
         let row_width = match call {
             Call::Reversal => 1,
             Call::Rows(row_width) => *row_width,
@@ -83,33 +107,51 @@ const NUMBERED: [(Call, usize, u128, &[(usize, u64)]); 12] = [
     (Call::Square(0, 0, 0), 1, 0, &[(0, 0)]),
 ];
 
+/// Runs the rows with items of one type.
+fn check_numbered<T: Item>(rt: &impl Abort, alloc: Global) {
+    for (row, (call, len, swaps, places)) in NUMBERED.iter().enumerate() {
+        let mut list = found(rt, numbered::<T>(alloc, *len));
+        let count = count_swaps(rt, &mut SlicePlaces::new(&mut list), *call);
+        same(rt, row, &count, swaps);
+        check_places(rt, &list, places);
+    }
+}
+
+/// With items of 1, 3, 8 and 32 bytes.
 #[test]
 fn numbered_items(rt: HostRuntime) {
-    for (row, (call, len, swaps, places)) in NUMBERED.iter().enumerate() {
-        let mut list = numbers(&rt, rt.alloc(), *len);
-        let count = count_swaps(&rt, &mut SlicePlaces::new(&mut list), *call);
-        same(&rt, row, &count, swaps);
-        check_places(&rt, &list, places);
-    }
+    check_numbered::<u8>(&rt, rt.alloc());
+    check_numbered::<[u8; 3]>(&rt, rt.alloc());
+    check_numbered::<u64>(&rt, rt.alloc());
+    check_numbered::<[u64; 4]>(&rt, rt.alloc());
 }
 
 /// The numbers of swaps of whole squares with sides of 2, 4, 8 and so on.
 const SQUARES: [u128; 10] = [1, 6, 28, 120, 496, 2016, 8128, 32640, 130_816, 523_776];
 
-#[test]
-fn whole_squares(rt: HostRuntime) {
+/// Transposes these squares of items of one type.
+fn check_squares<T: Item>(rt: &impl Abort, alloc: Global) {
     for (log, wanted) in (1usize..).zip(SQUARES) {
         let side = 1usize << (log % 64);
         let shape = Shape {
             width: side,
             height: side,
         };
-        let mut list = numbers(&rt, rt.alloc(), shape.len());
+        let mut list = found(rt, numbered::<T>(alloc, shape.len()));
         let call = Call::Square(0, log, log);
-        let swaps = count_swaps(&rt, &mut SlicePlaces::new(&mut list), call);
-        same(&rt, side, &swaps, &wanted);
-        check_transposed(&rt, &list, shape);
+        let swaps = count_swaps(rt, &mut SlicePlaces::new(&mut list), call);
+        same(rt, side, &swaps, &wanted);
+        check_transposed(rt, &list, shape);
     }
+}
+
+/// With items of 1, 3, 8 and 32 bytes.
+#[test]
+fn whole_squares(rt: HostRuntime) {
+    check_squares::<u8>(&rt, rt.alloc());
+    check_squares::<[u8; 3]>(&rt, rt.alloc());
+    check_squares::<u64>(&rt, rt.alloc());
+    check_squares::<[u64; 4]>(&rt, rt.alloc());
 }
 
 /// A second reversal puts all items back.

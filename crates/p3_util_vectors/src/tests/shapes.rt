@@ -2,19 +2,10 @@
 
 use crate::tests::calls::transpose_slice;
 use crate::tests::checks::{Shape, check_transposed, found};
-use crate::tests::items::Item;
+use crate::tests::items::{Item, numbered};
 use crate::tests::oracle::transposes::TRANSPOSES;
-use std::alloc::{AllocError, Global};
+use std::alloc::Global;
 use std::process::Abort;
-
-/// The items with the numbers from 0 to below `count`.
-fn items<T: Item>(alloc: Global, count: usize) -> Result<Vec<T>, AllocError> {
-    let mut list = Vec::with_capacity(alloc, count)?;
-    for number in 0..count {
-        list.push(T::of(number))?;
-    }
-    Ok(list)
-}
 
 /// Transposes a matrix of the first items of `input`, and asserts each place.
 fn check_shape<T: Item>(
@@ -48,7 +39,7 @@ fn check_lines<T: Item>(rt: &impl Abort, input: &[T], output: &mut [T]) {
 
 /// The same, and the shapes of the original's tests.
 fn check_shapes<T: Item>(rt: &impl Abort, alloc: Global) {
-    let input = found(rt, items::<T>(alloc, 2003 * 757));
+    let input = found(rt, numbered::<T>(alloc, 2003 * 757));
     let mut output = found(rt, input.to_vec(alloc));
     check_sides(rt, &input, &mut output);
     check_lines(rt, &input, &mut output);

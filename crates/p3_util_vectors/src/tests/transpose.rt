@@ -5,7 +5,9 @@ use crate::tests::checks::{Shape, check_places, check_transposed, equal, found, 
 use crate::tests::oracle::transposes::TRANSPOSES;
 use crate::tests::oracle::{hash, items};
 use p3_util::places::{SliceCells, Writes};
-use p3_util::transpose::{Region, butterfly_4x4, butterfly_stage1, butterfly_stage2, fits_matrix};
+use p3_util::transpose::{
+    Region, butterfly_4x4, butterfly_stage1, butterfly_stage2, fits_matrix, fits_square,
+};
 use p3_util_callers::transpose::levels_of;
 use std::alloc::Global;
 use std::process::Abort;
@@ -194,5 +196,58 @@ fn products_that_wrap_do_not_fit(rt: HostRuntime) {
             &fits_matrix(input, output, width, height),
             &wanted,
         );
+    }
+}
+
+/// The length of a list, the base of a square, the logarithms of its stride and its side, and whether the square lies in the list.
+const SQUARES: [(usize, usize, usize, usize, bool); 12] = [
+    (0, 0, 0, 0, false),
+    (1, 0, 0, 0, true),
+    (1, 1, 0, 0, false),
+    (8, 2, 2, 1, true),
+    (7, 2, 2, 1, false),
+    (256, 0, 4, 4, true),
+    (255, 0, 4, 4, false),
+    (256, 0, 3, 4, false),
+    (usize::MAX, 0, 64, 0, false),
+    (usize::MAX, usize::MAX - 1, 63, 0, true),
+    (usize::MAX, 0, 63, 63, false),
+    (1, (1 << 63) - (1 << 33) + 1, 63, 33, false),
+];
+
+/// In the last row the sum that is the last place wraps to 0.
+#[test]
+fn sums_that_wrap_do_not_fit(rt: HostRuntime) {
+    for (row, (len, base, log_stride, log_size, wanted)) in SQUARES.into_iter().enumerate() {
+        let fits = fits_square(len, base, log_stride, log_size);
+        same(&rt, row, &fits, &wanted);
+    }
+}
+
+/// The rows and the columns of regions, each from the first to below the other, and whether the region lies in a matrix of 3
+/// rows of 4 items.
+const REGIONS: [([usize; 2], [usize; 2], bool); 8] = [
+    ([0, 3], [0, 4], true),
+    ([1, 1], [4, 4], true),
+    ([3, 3], [0, 4], true),
+    ([0, 4], [0, 4], false),
+    ([0, 3], [0, 5], false),
+    ([2, 1], [0, 4], false),
+    ([0, 3], [3, 2], false),
+    ([4, 4], [0, 0], false),
+];
+
+#[test]
+fn regions_of_a_matrix(rt: HostRuntime) {
+    for (row, ([row_start, row_end], [col_start, col_end], wanted)) in
+        REGIONS.into_iter().enumerate()
+    {
+        let region = Region {
+            row_start,
+            row_end,
+            col_start,
+            col_end,
+        };
+        same(&rt, row, &region.fits(4, 3), &wanted);
     }
 }
