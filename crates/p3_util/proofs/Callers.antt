@@ -15,7 +15,6 @@ mod Tables
 mod Transpose
 mod Views
 mod ZipEq
-
 pub use Rattle.p3_util.proofs.Callers.Behind.{drop_swapped, header_stays}
 pub use Rattle.p3_util.proofs.Callers.Bits.{rev_even, rev_odd, pair_below, power_of_two_test, half, half_length}
 pub use Rattle.p3_util.proofs.Callers.Chunks.{folded_sum, padded_sum, padded_index, padded_inside, padded_beyond, padded_read}
@@ -31,7 +30,6 @@ pub use Rattle.p3_util.proofs.Callers.Tables.{sum_below_halves, reversed_index, 
 pub use Rattle.p3_util.proofs.Callers.Transpose.{transposed_once, transposed_back, first_in_rows, first_row, transposed_first, outside_stays, above_stays, below_stays, left_stays, right_stays, region_others, reversed_by_sides}
 pub use Rattle.p3_util.proofs.Callers.Views.{flat_place, elements_reversed}
 pub use Rattle.p3_util.proofs.Callers.ZipEq.{zip_place, remainders_summed, reduced_summed}
-
 -- The k low digits, reversed, are a number of k digits, of which the reverse is the number again, and a number in two parts, of
 -- high digits and of low ones. A greater exponent has a greater power, and a sum of exponents the product of two. By the
 -- logarithm of a power of two go numbers of swaps.
@@ -39,13 +37,10 @@ pub use Rattle.p3_util_kernels.proofs.DigitsLemmas.{rev-lt as rev_below, rev-rev
 pub use Rattle.std.proofs.Math.Pow.{pow_mono as power_up}
 pub use Rattle.std.proofs.lemmas.Nat.{pow-add as power_in_parts}
 pub use Rattle.p3_util_kernels.proofs.LevelsLemmas.{clog_power as log_of_power, clog-zero as log_of_zero}
-
 -- items of a square exchanged across its diagonal, one more of a row; a place of the square lies before its last one
 pub use Rattle.p3_util_kernels.proofs.DiagonalLemmas.{SwapsAcross-item as item_across, square_place}
-
 -- a list from its end
 pub use Rattle.p3_util.proofs.ItemsAtLemmas.{slice_get-reverse as from_end_place, from_end-swap as from_end_swapped, from_end-set as from_end_written}
-
 -- two lists, one behind the other, as one: an exchange in the first, in the second, and across both, and an item put into it
 pub use Rattle.p3_util.proofs.TwoLists.{in-front as joined_front, in-back as joined_back, swap-sym as swap_turned, put-front as joined_put_front, put-back as joined_put_back}
 pub use Rattle.p3_util_kernels.proofs.Seam.{across as joined_across}

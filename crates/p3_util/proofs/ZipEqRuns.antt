@@ -114,17 +114,31 @@ module _ {S T A B : Type 0} (steps : S → Option A → S → Type 0) (others : 
           | inl both ↦ (u, ap zip_eq_first from, (v, ap zip_eq_second from, record { items = zip-maps p.items; ends = λ whole. inl both }))
           | inr one ↦ elim one [
             | inl m ↦
-                let more = run_of_turn others (zip_eq_second p.from) ys (zip_eq_second t.0) b m.1.0 m.1.1 m.1.2 in
-                (u, ap zip_eq_first from, (more.0, more.1 ∙ ap zip_eq_second from, record {
-                  items = zip-more p.items m.1.0 ∙ ap (λ l. zip xs l) (sym more.2.0);
-                  ends = λ whole. inr (inl (m.0, more.2.1 ∙ ap (λ n. n + 1) (sym lens)));
-                }))
+                let more = run_of_turn others (zip_eq_second p.from) ys (zip_eq_second t.0) b m.1.0 m.1.1 m.1.2 in (
+                  u,
+                  ap zip_eq_first from,
+                  (
+                    more.0,
+                    more.1 ∙ ap zip_eq_second from,
+                    record {
+                      items = zip-more p.items m.1.0 ∙ ap (λ l. zip xs l) (sym more.2.0);
+                      ends = λ whole. inr (inl (m.0, more.2.1 ∙ ap (λ n. n + 1) (sym lens)));
+                    },
+                  ),
+                )
             | inr m ↦
-                let more = run_of_turn steps (zip_eq_first p.from) xs (zip_eq_first t.0) a m.1.0 m.1.1 m.1.2 in
-                (more.0, more.1 ∙ ap zip_eq_first from, (v, ap zip_eq_second from, record {
-                  items = more-zip p.items m.1.0 ∙ ap (λ l. zip l ys) (sym more.2.0);
-                  ends = λ whole. inr (inr (m.0, more.2.1 ∙ ap (λ n. n + 1) lens));
-                }))
+                let more = run_of_turn steps (zip_eq_first p.from) xs (zip_eq_first t.0) a m.1.0 m.1.1 m.1.2 in (
+                  more.0,
+                  more.1 ∙ ap zip_eq_first from,
+                  (
+                    v,
+                    ap zip_eq_second from,
+                    record {
+                      items = more-zip p.items m.1.0 ∙ ap (λ l. zip l ys) (sym more.2.0);
+                      ends = λ whole. inr (inr (m.0, more.2.1 ∙ ap (λ n. n + 1) lens));
+                    },
+                  ),
+                )
           ]
         ]
       ]

@@ -118,13 +118,7 @@ where
 }
 
 /// Puts the transpose of four blocks of 4 by 4 items that lie side by side.
-fn transpose_blocks<R, C>(
-    input: &R,
-    cells: &mut C,
-    blocks: Region,
-    width: usize,
-    height: usize,
-)
+fn transpose_blocks<R, C>(input: &R, cells: &mut C, blocks: Region, width: usize, height: usize)
 where
     C: Cells,
     R: Source<Item = C::Item>,
@@ -149,13 +143,7 @@ where
 }
 
 /// Puts the transpose of a tile of 16 by 16 items as its 16 blocks, in 256 puts.
-pub fn transpose_tile<R, C>(
-    input: &R,
-    cells: &mut C,
-    tile: Region,
-    width: usize,
-    height: usize,
-)
+pub fn transpose_tile<R, C>(input: &R, cells: &mut C, tile: Region, width: usize, height: usize)
 where
     C: Cells,
     R: Source<Item = C::Item>,

@@ -232,7 +232,11 @@ pub fn reorder_numbers(values: &mut [u64], k: usize)
 ///
 /// `AllocError` where there is no memory for them.
 #[tactic(auto, using(p3_util::proofs::Callers::rev_below))]
-pub fn doubled_then_reordered(alloc: Global, items: &[u32], k: usize) -> Result<Vec<u64>, AllocError>
+pub fn doubled_then_reordered(
+    alloc: Global,
+    items: &[u32],
+    k: usize,
+) -> Result<Vec<u64>, AllocError>
     requires { length items.now ≡ 2 ^ k }
     ensures { IfOk result (λ twice. (i : ℕ) → i < 2 ^ k → slice_index twice.items i ≡ 2 * slice_index items.now (rev k i)) }
 {
