@@ -187,7 +187,7 @@ impl<F> ReversalPhases<'_, F> {
         self.0.next_phase().map(ReversalParts)
     }
 
-    /// Gives `run` the parts of each phase, one phase after the other. It returns when they have run.
+    /// Gives `run` the parts of each phase, one phase after the other. A part that `run` drops is not done.
     ///
     /// ```
     /// use std::thread::scope;
