@@ -1,13 +1,11 @@
 -- Reversed digits of even and odd numbers and of half a number, and std's test of a power of two.
 use Rattle.std.proofs.Common.{◌≡◌, ℕ, zero, suc, ◌+◌, ◌*◌, ◌/◌, ◌%◌, ◌^◌, ◌<◌, inl, true, refl, sym, ap, ◌∙◌, arith}
-use Rattle.std.proofs.lemmas.Nat.{pow-add}
+use Rattle.std.proofs.lemmas.Nat.{pow-add, mod-mul-add}
 use Rattle.std.specs.Int.{is_power_of_two}
 use Rattle.p3_util_kernels.specs.Digits.{rev}
 use Rattle.p3_util_kernels.specs.Powers.{HasLog2}
-use Rattle.p3_util_kernels.proofs.DigitsLemmas.{rev-parts, rev-shl, rev-suc, rev-zero}
+use Rattle.p3_util_kernels.proofs.DigitsLemmas.{rev-parts, rev-shl, rev-suc, rev-zero, rev-lt}
 use Rattle.p3_util_kernels.proofs.PowersLemmas.{power_of_two_test as power_test}
-use Rattle.std.proofs.lemmas.Nat.{mod-mul-add}
-use Rattle.p3_util_kernels.proofs.DigitsLemmas.{rev-lt}
 
 -- the reverse of an even number, and of an odd one
 pub rev_even : (k b : ℕ) → rev (k + 1) (2 * b) ≡ rev k b

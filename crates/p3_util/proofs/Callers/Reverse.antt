@@ -6,14 +6,18 @@ use Rattle.std.specs.Option.{option_map}
 use Rattle.p3_util_kernels.specs.Digits.{rev}
 use Rattle.p3_util_kernels.specs.Reversal.{IsReversal, IsReversible, IsRowReversal, IsZeroOrPowerOfTwo}
 use Rattle.p3_util_kernels.proofs.Lengths.{zero_or_power}
-use Rattle.p3_util_kernels.proofs.ReversalLemmas.{IsReversal-places, IsReversal-unique, row_reversed_back, IsRowReversal-unique}
+use Rattle.p3_util_kernels.proofs.ReversalLemmas.{IsReversal-places, IsReversal-unique, row_reversed_back, IsRowReversal-unique, IsReversal-from_power}
 use Rattle.p3_util.proofs.Callers.Bits.{pair_below, rev_even, rev_odd}
-use Rattle.p3_util_kernels.proofs.ReversalLemmas.{IsReversal-from_power}
 
 module _ {A : Type 0} where
   -- place i of a reversal of 2 ^ k items
   pub reversed_place : (k i : ℕ) (old new : List A) → IsReversal old new → length old ≡ 2 ^ k → i < 2 ^ k → slice_get new i ≡ slice_get old (rev k i)
   reversed_place k i old new reversal e h = IsReversal-places old new reversal k i e h
+
+  -- a list that has at each place what stood at the reverse of the place
+  pub reversed_by_places : (k : ℕ) (old new : List A) → length new ≡ length old → length old ≡ 2 ^ k
+      → ((i : ℕ) → i < 2 ^ k → slice_get new i ≡ slice_get old (rev k i)) → IsReversal old new
+  reversed_by_places k old new same len at = IsReversal-from_power k old new len same (λ i h. at i (omega arith))
 
   -- the places 2i and 2i + 1, which are those of one half and of the other
   pub reversed_even : (k i : ℕ) (old new : List A) → IsReversal old new → length old ≡ 2 ^ (k + 1) → i < 2 ^ k → slice_get new (2 * i) ≡ slice_get old (rev k i)
@@ -66,9 +70,3 @@ module _ {A B : Type 0} (f : A → B) where
   reversed_worked old mid worked new first same second fits =
       let back : IsReversal worked (map f old) = rw same (reversal_of_worked mid old (row_reversed_back 1 old mid first)) in
       reversed_once worked new (map f old) second back (rw (same, length-map mid f, first.same_length) fits)
-
-module _ {A : Type 0} where
-  -- a list that has at each place what stood at the reverse of the place
-  pub reversed_by_places : (k : ℕ) (old new : List A) → length new ≡ length old → length old ≡ 2 ^ k
-      → ((i : ℕ) → i < 2 ^ k → slice_get new i ≡ slice_get old (rev k i)) → IsReversal old new
-  reversed_by_places k old new same len at = IsReversal-from_power k old new len same (λ i h. at i (omega arith))

@@ -8,9 +8,8 @@ use Rattle.p3_util_kernels.specs.Digits.{rev, sum_below}
 use Rattle.p3_util_kernels.specs.Reversal.{IsReversal, IsReversible}
 use Rattle.p3_util_kernels.proofs.DigitsLemmas.{rev-lt, rev-rev-below, rev-zero, sum_below-same}
 use Rattle.p3_util_kernels.proofs.Lengths.{zero_or_power}
-use Rattle.p3_util.proofs.Callers.Bits.{pair_below, rev_even, rev_odd}
+use Rattle.p3_util.proofs.Callers.Bits.{pair_below, rev_even, rev_odd, half_length}
 use Rattle.p3_util.proofs.Callers.Reverse.{reversed_place}
-use Rattle.p3_util.proofs.Callers.Bits.{half_length}
 
 -- a sum by even and odd places
 pub sum_below_halves : (n : ℕ) (f : ℕ → ℕ) → sum_below (2 * n) f ≡ sum_below n (λ j. f (2 * j)) + sum_below n (λ j. f (2 * j + 1))

@@ -21,8 +21,7 @@ module _ {A : Type 0} where
       → length old ≡ height * width → new ≡ old
   transposed_back width height old mid new second first fits = IsTranspose-twice height width old mid new fits first second
 
--- the first row and the first column of a transpose
-module _ {A : Type 0} where
+  -- the first row and the first column of a transpose
   pub first_in_rows : (width height x p : ℕ) (old new : List A) → IsTranspose width height old new → p ≡ x * height → x < width → 0 < height
       → slice_get new p ≡ slice_get old x
   first_in_rows width height x p old new turned e hx some =
@@ -84,8 +83,6 @@ reversed_by_sides a b width height old mid out new columns turned rows wide tall
     let hr : rev a x < width = rw wide (rev-lt a x) in
     let hy' : y < height = rw tall hy in
     let reverse : rev (a + b) (x * 2 ^ b + y) ≡ rev b y * 2 ^ a + rev a x = rev-parts a b x y hy in
-    let step1 : slice_get new (x * height + y) ≡ slice_get out (rev a x * height + y) = columns.places a x y out-len hx hy' in
-    let step2 : slice_get out (rev a x * height + y) ≡ slice_get mid (y * width + rev a x) = turned.places (rev a x) y hr hy' in
-    let step3 : slice_get mid (y * width + rev a x) ≡ slice_get old (rev b y * width + rev a x) = rows.places b y (rev a x) old-len hy hr in
-    let all-steps : slice_get new (x * height + y) ≡ slice_get old (rev b y * width + rev a x) = step1 ∙ step2 ∙ step3 in
-    ap (slice_get new) split ∙ (rw (tall, wide) at all-steps) ∙ ap (slice_get old) (sym reverse ∙ ap (λ n. rev (a + b) n) (sym split)))
+    let steps : slice_get new (x * height + y) ≡ slice_get old (rev b y * width + rev a x) =
+    columns.places a x y out-len hx hy' ∙ turned.places (rev a x) y hr hy' ∙ rows.places b y (rev a x) old-len hy hr in
+    ap (slice_get new) split ∙ (rw (tall, wide) at steps) ∙ ap (slice_get old) (sym reverse ∙ ap (λ n. rev (a + b) n) (sym split)))
