@@ -239,8 +239,9 @@ const REGIONS: [([usize; 2], [usize; 2], bool); 8] = [
 
 #[test]
 fn regions_of_a_matrix(rt: HostRuntime) {
-    for (row, ([row_start, row_end], [col_start, col_end], wanted)) in
-        REGIONS.into_iter().enumerate()
+    for (row, ([row_start, row_end], [col_start, col_end], wanted)) in REGIONS
+        .into_iter()
+        .enumerate()
     {
         let region = Region {
             row_start,
