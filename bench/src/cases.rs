@@ -36,6 +36,7 @@ const GROUPS_ON_THREADS: &[Group] = &[
         it.is("transpose", 1 << 18..1 << 22)
     }),
     ("transposes of 2^22 items and more", |it| it.is("transpose", 1 << 22..)),
+    ("all of these", |_| true),
 ];
 
 pub fn groups() -> &'static [Group] {

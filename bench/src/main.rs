@@ -1,6 +1,7 @@
 //! Measures the proved calls beside the original's, where it is linked. Those on slices are measured beside a copy of
 //! the same bytes too.
 
+mod busy;
 mod cases;
 mod counts;
 mod items;
@@ -15,6 +16,7 @@ mod words;
 
 use std::process::ExitCode;
 
+use busy::Busy;
 use measure::measured;
 use options::Options;
 use table::Row;
@@ -37,6 +39,7 @@ fn main() -> ExitCode {
 }
 
 fn run(options: &Options) -> Result<(), String> {
+    let _busy = Busy::start(options.busy)?;
     if options.words {
         return words::run(options);
     }
@@ -51,9 +54,10 @@ fn run(options: &Options) -> Result<(), String> {
         .collect();
     let table = if options.wide { table::wide } else { table::long };
     print!(
-        "{}{}",
+        "{}{}{}",
         table(&rows, options.unit()),
-        table::summaries(&rows, &options.items)
+        table::summaries(&rows, &options.items),
+        table::slower(&rows, &options.build())
     );
     if let Some(file) = &options.svg {
         let svg = picture::svg(&rows, options.cpu.as_deref());

@@ -29,6 +29,8 @@ pub struct Options {
     pub wide: bool,
     pub svg: Option<PathBuf>,
     pub cpu: Option<String>,
+    /// The number of other processes that are busy meanwhile.
+    pub busy: usize,
 }
 
 /// Bytes of a row, and rows. The greatest list has 256 KB.
@@ -74,6 +76,7 @@ impl Options {
             wide: false,
             svg: None,
             cpu: None,
+            busy: 0,
         })
     }
 
@@ -96,6 +99,7 @@ impl Options {
                 "--wide" => options.wide = true,
                 "--svg" => options.svg = Some(value()?.into()),
                 "--cpu" => options.cpu = Some(value()?),
+                "--busy" => options.busy = number(&value()?)?,
                 "--count" => options.mode = Mode::Count(list(&value()?, number)?),
                 "--counted" => options.mode = Mode::Counted(value()?.into()),
                 _ => return Err(format!("unknown option {word}")),
@@ -105,6 +109,18 @@ impl Options {
             options.items.push(vec![1, 4, 8, 32]);
         }
         Ok(options)
+    }
+
+    /// What the measured code was built as.
+    pub fn build(&self) -> String {
+        let cpu = self.cpu.clone().unwrap_or(std::env::consts::ARCH.replace('_', "-"));
+        if cfg!(library) {
+            format!("library for {cpu}")
+        } else if cfg!(parallel) {
+            format!("{cpu}, on all threads")
+        } else {
+            cpu
+        }
     }
 
     /// What is measured.

@@ -176,6 +176,35 @@ fn summary(name: &str, rows: &[Row], sizes: &[usize]) -> String {
     out
 }
 
+/// A case is among the slower ones where it takes more than this, the original taking 1.
+const SLOWER: f64 = 1.2;
+
+/// For each call and shape the sizes of items for which the original is the faster one by a fifth and more, with the ratios. Empty
+/// without the original.
+pub fn slower(rows: &[Row], build: &str) -> String {
+    let slower: Vec<(&Row, f64)> = rows
+        .iter()
+        .filter_map(|row| row.ratio().map(|ratio| (row, ratio)))
+        .filter(|&(_, ratio)| ratio > SLOWER)
+        .collect();
+    let mut out = format!("| slower than {SLOWER} | call | items of so many bytes: time |\n|---|---|---|\n");
+    for work in distinct(slower.iter().map(|(row, _)| row.case.work)) {
+        let cells: Vec<String> = slower
+            .iter()
+            .filter(|(row, _)| row.case.work == work)
+            .map(|(row, ratio)| format!("{}: {ratio:.2}", row.case.item_size))
+            .collect();
+        let _ = writeln!(
+            out,
+            "| {build} | {} of {} | {} |",
+            work.call(),
+            work.shape(),
+            cells.join(", ")
+        );
+    }
+    if slower.is_empty() { String::new() } else { out }
+}
+
 /// The mean and the worst of a group, and the mean for each size.
 fn line(out: &mut String, name: &str, group: &[&Row], sizes: &[usize]) {
     let Some(worst) = group.iter().max_by(|a, b| a.relative().total_cmp(&b.relative())) else {

@@ -1,0 +1,30 @@
+//! Other processes that are busy while something is measured.
+
+use std::process::{Child, Command};
+
+/// What such a process does until it is ended, or until this one is gone.
+const WORK: &str = "while kill -0 $PPID; do n=0; while [ $n -lt 100000 ]; do n=$((n + 1)); done; done";
+
+/// Busy processes, which end when this is dropped.
+pub struct Busy(Vec<Child>);
+
+impl Busy {
+    pub fn start(processes: usize) -> Result<Self, String> {
+        let mut busy = Busy(Vec::new());
+        for _ in 0..processes {
+            let child = Command::new("sh").args(["-c", WORK]).spawn();
+            busy.0.push(child.map_err(|e| format!("sh: {e}"))?);
+        }
+        Ok(busy)
+    }
+}
+
+impl Drop for Busy {
+    fn drop(&mut self) {
+        for child in &mut self.0 {
+            // One that has ended already is no fault.
+            let _ = child.kill();
+            let _ = child.wait();
+        }
+    }
+}
