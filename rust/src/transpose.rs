@@ -10,8 +10,9 @@ const WIDE_ITEMS: usize = 1 << 20;
 /// The least number of columns of such a matrix.
 const WIDE_COLUMNS: usize = 16;
 
-/// What its number of rows is a multiple of.
-const WIDE_ROWS: usize = 64;
+/// What the bytes of its columns are a multiple of. Each becomes a row of the output, and items of such rows that stand in one
+/// column meet in one set of the first cache.
+const WIDE_COLUMN_BYTES: usize = 4096;
 
 /// Writes to `output` the transpose of `input`, a matrix of `height` rows of `width` items.
 ///
@@ -47,12 +48,13 @@ pub(crate) fn refuse(input: usize, output: usize, width: usize, height: usize) -
 }
 
 /// The strips by which a matrix is put, whole or in parts. They are those of the kernels' own choice, which is by the shape alone,
-/// but for a large matrix of items of 32 or 64 bytes that has at least 16 columns and a multiple of 64 rows. There it takes less time
-/// to put 16 columns at a time, row after row. Strips choose the order of the puts and nothing else.
+/// but for a large matrix of items of 32 or 64 bytes that has at least 16 columns, each of a multiple of 4096 bytes. There it takes
+/// less time to put 16 columns at a time, row after row. Strips choose the order of the puts and nothing else.
 pub(crate) fn strips_of<R: Source + Copy>(matrix: Matrix<R>) -> Strips {
-    let is_wide = matches!(size_of::<R::Item>(), 32 | 64);
+    let item_size = size_of::<R::Item>();
+    let is_wide = matches!(item_size, 32 | 64) && matrix.height % (WIDE_COLUMN_BYTES / item_size) == 0;
     let is_large = matrix.source.len() > WIDE_ITEMS;
-    if is_wide && is_large && matrix.width >= WIDE_COLUMNS && matrix.height % WIDE_ROWS == 0 {
+    if is_wide && is_large && matrix.width >= WIDE_COLUMNS {
         Strips::Wide
     } else {
         Strips::of(matrix)

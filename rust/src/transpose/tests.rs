@@ -44,9 +44,16 @@ fn is_wide<T: Copy>(width: usize, height: usize) -> bool {
 
 #[test]
 fn wide_items_of_large_matrices() {
-    for (width, height) in [(1025, 1024), (16, 65_600), (100, 16_384), (16_400, 64)] {
+    for (width, height) in [(1025, 1024), (16, 65_664), (100, 16_384), (16_400, 128)] {
         assert!(
             is_wide::<[u8; 32]>(width, height) && is_wide::<[u64; 8]>(width, height),
+            "{width} by {height}"
+        );
+    }
+    // Columns of a multiple of 2048 bytes, and of 4096.
+    for (width, height) in [(1000, 1600), (16_400, 64)] {
+        assert!(
+            !is_wide::<[u8; 32]>(width, height) && is_wide::<[u64; 8]>(width, height),
             "{width} by {height}"
         );
     }
