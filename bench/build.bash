@@ -49,7 +49,8 @@ if [ -n "$library" ]; then
     link+=(-L "native=$crate/out" -l static=p3_util_c --cfg library)
 fi
 if [ -n "$original" ]; then
-    link+=(--extern "p3_util=$original" --cfg original)
+    # What the original needs lies beside it, where cargo built it.
+    link+=(--extern "p3_util=$original" -L "dependency=$(dirname "$original")" --cfg original)
 fi
 if [ -n "$parallel" ]; then
     # The overlay over the package and the original, as cargo builds it with the feature.
