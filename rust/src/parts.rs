@@ -29,29 +29,28 @@
 //!
 //! # How many parts
 //!
-//! The number of parts that a call asks for is a wish, and 0 is 1. It is the greatest number of parts of a transpose, and of the
-//! first and the last phase of a reversal. In the second phase it is the greatest number P that the side of a square is cut into, and
-//! the phase has P(P + 1) / 2 parts, or twice as many where there are two squares:
+//! The number of parts that a call asks for is a wish, and 0 is 1. It is the greatest number of parts of a transpose. Of a reversal it
+//! is the greatest number P that the side of a square is cut into, and a phase has P(P + 1) / 2 parts, or twice as many where there
+//! are two squares:
 //!
 //! | Items | Wish | Parts of the phases |
 //! |---|---|---|
-//! | 2^20 | 16 | 16, 136 and 16 |
-//! | 2^21 | 16 | 16, 272 and 16 |
-//! | 2^20 | 64 | 16, 2080 and 16 |
-//! | 2^24 | 64 | 32, 2080 and 32 |
+//! | 2^20 | 16 | 136, 136 and 136 |
+//! | 2^21 | 16 | 136, 272 and 136 |
+//! | 2^20 | 64 | 136, 2080 and 136 |
+//! | 2^24 | 64 | 528, 2080 and 528 |
 //!
 //! Four for each thread are a good wish, since parts are of unequal size. A list that is empty, or whose items have no bytes, has
 //! no part, and a reversal of it no phase.
 //!
 //! - A transpose is cut along its longer side, at multiples of 16 rows or columns.
 //! - A reversal of up to [`one_part_reversal`] items is one part, since there the call itself is faster. A longer one, of 2^k items,
-//!   has three phases. In the second, each square of 2^(k / 2) rows is cut into a grid, and a part is one of its blocks on or above
-//!   the diagonal. There is one square where k is even, and two where it is odd. In the first and the third, a part is a range of
-//!   line pairs. These are few, and the last of them are the largest: 2^20 items have 16 line pairs, of which the largest makes an
-//!   eighth of the exchanges, so more than 8 threads do not shorten these phases. With 2^22 and 2^24 items they are 32, and the
-//!   largest makes a sixteenth.
-//! - A reversal of longer rows has one phase, of line pairs of its rows: 2^k rows have about 2^(k / 2 - 1). Where it has no more
-//!   items than are one part, it is one, and 4 rows have one line pair.
+//!   has three phases. In the second, each square of 2^(k / 2) rows is cut into a grid, at multiples of 16, and a part is one of its
+//!   blocks on or above the diagonal. There is one square where k is even, and two where it is odd. In the first and the third, the
+//!   pairs of the 2^(k / 2) runs that are reversed are cut as so many items are in the second, but at multiples of 2, and into at most
+//!   32 parts of a side.
+//! - A reversal of longer rows has one phase, whose pairs of rows are cut in the same way. Where it has no more items than are one
+//!   part, it is one, and so are 4 rows, which have one pair.
 //! - With the feature `checked` a transpose is cut along its columns, and a reversal is one part.
 //!
 //! # What is not run

@@ -5,7 +5,7 @@ use std::collections::BTreeSet;
 use std::vec::Vec;
 
 use super::one_part_reversal;
-use crate::kernels::parts::{Cut, LinePairs, Phase, ReversalPlan, Squares, TransposePlan};
+use crate::kernels::parts::{Cut, Phase, ReversalPlan, RowPairs, Squares, TransposePlan};
 use crate::kernels::places::{Cells, Places, SliceSource, Source};
 use crate::kernels::reverse::RowDigits;
 use crate::kernels::transpose::{Matrix, Strips};
@@ -174,25 +174,30 @@ fn reversed(digits: usize, i: usize) -> usize {
     (0..digits).fold(0, |rev, place| rev << 1 | i >> place & 1)
 }
 
-/// The line of a row whose index has so many digits. Of its high half, reversed, and its low half the greater one is in the
-/// line's name, and the middle digit.
-fn line(digits: usize, row: usize) -> usize {
+/// The middle digit of a row whose index has so many digits, its high half reversed, and its low half.
+fn names(digits: usize, row: usize) -> (usize, usize, usize) {
     let half = digits / 2;
     let (high, rest) = (row >> (digits - half), row % (1 << (digits - half)));
-    let (middle, low) = (rest >> half, rest % (1 << half));
-    (middle << half) + low.max(reversed(half, high))
+    (rest >> half, reversed(half, high), rest % (1 << half))
+}
+
+/// Whether block `number` of the squares whose sides are cut so has this row and column of a square, or has them mirrored.
+fn is_in_block(cut: Cut, number: usize, square: usize, row: usize, col: usize) -> bool {
+    let (first, second) = cut.pair(number % cut.pairs());
+    let is_in = |part, i| (cut.part(part).0..cut.part(part).1).contains(&i);
+    is_in(first, row.min(col)) && is_in(second, row.max(col)) && number / cut.pairs() == square
 }
 
 #[test]
-fn ranges_of_line_pairs() {
+fn blocks_of_pairs_of_rows() {
     let cases = (0..=9).flat_map(|digits| (0..=9).map(move |parts| (digits, parts)));
     for ((digits, parts), width) in cases.flat_map(|case| [(case, 1), (case, 3)]) {
-        let rows = RowDigits { width, digits };
-        let phase = Phase::Ranges(LinePairs::new(rows, parts));
-        let cut = Cut::new(rows.line_pairs(), parts, 1);
+        let phase = Phase::Pairs(RowPairs::new(RowDigits { width, digits }, parts));
+        let cut = Cut::new(1 << (digits / 2), parts, 2);
         let wanted = |number, place: usize| {
-            let (row, (from, to)) = (place / width, cut.part(number));
-            let is_inside = (from..to).contains(&(line(digits, row) / 2));
+            let row = place / width;
+            let (middle, x, y) = names(digits, row);
+            let is_inside = is_in_block(cut, number, middle, x, y);
             let row = if is_inside { reversed(digits, row) } else { row };
             row * width + place % width
         };
@@ -210,19 +215,13 @@ fn ranges_of_line_pairs() {
 
 #[test]
 fn blocks_of_squares() {
-    for (side, count, parts) in [16, 32, 64]
-        .iter()
-        .flat_map(|side| (0..=9).map(move |parts| (*side, parts % 2 + 1, parts)))
-    {
-        let stride = side * count;
+    for (digits, parts) in (8..14).flat_map(|digits| (0..=9).map(move |parts| (digits, parts))) {
+        let (side, stride) = (1 << (digits / 2), 1 << (digits - digits / 2));
         let cut = Cut::new(side, parts, 16);
-        let phase = Phase::Blocks(Squares::new(stride, cut));
-        let wanted = |number: usize, place: usize| {
+        let phase = Phase::Blocks(Squares::new(digits, parts, 16));
+        let wanted = |number, place: usize| {
             let (square, row, col) = (place % stride / side, place / stride, place % side);
-            let (first, second) = cut.pair(number % cut.pairs());
-            let is_in = |part, i| (cut.part(part).0..cut.part(part).1).contains(&i);
-            let is_inside = is_in(first, row.min(col)) && is_in(second, row.max(col)) && number / cut.pairs() == square;
-            if is_inside {
+            if is_in_block(cut, number, square, row, col) {
                 col * stride + square * side + row
             } else {
                 place
@@ -234,7 +233,7 @@ fn blocks_of_squares() {
             |noted, number| _ = phase.exchange(noted, number),
             wanted,
         );
-        assert_eq!(moved, side * (side - 1) * count, "side {side} in {parts} parts");
+        assert_eq!(moved, (side - 1) * stride, "side {side} in {parts} parts");
     }
 }
 
