@@ -1,6 +1,7 @@
 -- Parts that are made in any order: what is done of the first ones, and of all, for `src/parts/laws/all_parts.rt`.
-use Rattle.std.proofs.Common.{◌≡◌, ◌≢◌, ℕ, Bool, true, IsTrue, zero, suc, ◌+◌, ◌*◌, ◌<◌, ◌==◌, if◌then◌else◌, List, [], length, slice_get, inl, inr, refl, sym, ◌∙◌, ap, arith}
+use Rattle.std.proofs.Common.{◌≡◌, ◌≢◌, ℕ, Bool, true, IsTrue, zero, suc, ◌+◌, ◌*◌, ◌<◌, ◌==◌, if◌then◌else◌, List, [], Some, length, slice_get, inl, inr, refl, sym, ◌∙◌, ap, arith}
 use Rattle.std.proofs.lemmas.Bool.{both_ways, cases_Bool, cases_eq, cases_lt, eq-eqb, ne_eqb}
+use Rattle.std.proofs.lemmas.Option.{get_or_from_slice_get}
 use Rattle.p3_util_kernels.specs.AnyOrder.{IsOrder, order_of, turn_of}
 use Rattle.p3_util_kernels.specs.Digits.{sum_below}
 use Rattle.p3_util_kernels.specs.Mirrored.{Mirrored}
@@ -14,6 +15,17 @@ pub orders-plain : (number count : ℕ) → IsOrder count (turn_of (order_of [] 
 orders-plain zero count = turns-plain count
 orders-plain (suc zero) count = turns-plain count
 orders-plain (suc (suc _)) count = turns-plain count
+
+-- a list of parts whose turn j is that of part `turn j`, where turn `turn j` is that of part j
+pub order-from : (count : ℕ) (order : List ℕ) (turn : ℕ → ℕ) → ((j : ℕ) → j < count → slice_get order j ≡ Some (turn j))
+    → ((j : ℕ) → j < count → (turn j < count) × (turn (turn j) ≡ j)) → IsOrder count (turn_of order)
+order-from count order turn at back =
+    let is : (j : ℕ) → j < count → turn_of order j ≡ turn j = λ j less. get_or_from_slice_get order j (turn j) j (at j less) in
+    record {
+      below = λ j less. omega (arith, is j less, (back j less).0);
+      each = λ k less. let (within, e) = back k less in (turn k, within, is (turn k) within ∙ e);
+      once = λ i j hi hj e. sym (back i hi).1 ∙ ap turn (sym (is i hi) ∙ e ∙ is j hj) ∙ (back j hj).1;
+    }
 
 -- part k has one of the first n turns
 abbrev pub IsDone : (turn : ℕ → ℕ) (n k : ℕ) → Type 0

@@ -16,6 +16,8 @@ ghost use Rattle.p3_util_kernels.specs.Parts.{number_of_pair, pairs_of, part_of_
 ghost use Rattle.p3_util_kernels.specs.Region.{IsRegionTransposed, LiesInMatrix, items_of};
 
 mod all_parts;
+mod interleaved;
+mod witnesses;
 
 use crate::parts::{Cut, Phase, RowPairs, Squares, TransposePlan};
 use crate::places::{Cells, Places, Source};
