@@ -56,10 +56,10 @@ beyond : (len one_part : ℕ) → one_part < len → nat_le len one_part ≡ fal
 beyond len one_part less = false_from_ne_true (nat_le len one_part) (λ t. omega (arith, less, leb-true len one_part t))
 
 -- how many exchanges a plan takes that is cut as it was asked for
-pub plan-swaps : (len row_width parts one_part : ℕ) (plan : ReversalPlan) → IsReversalPlan len row_width plan → IsCutAsAsked len row_width parts one_part plan
+pub plan-swaps : (len row_width parts one_part unit : ℕ) (plan : ReversalPlan) → IsReversalPlan len row_width plan → IsCutAsAsked len row_width parts one_part unit plan
     → swaps_of_plan plan len ≡ swaps_in_parts len row_width one_part
-plan-swaps len row_width parts one_part Nothing is cut = rw (is, le-leb 0 one_part (omega arith)) (sym (call_swaps-none row_width))
-plan-swaps len row_width parts one_part (OnePart rows) is cut = rw (is.1, le-leb len one_part cut) refl
-plan-swaps len row_width parts one_part (ByPairs pairs) is cut =
+plan-swaps len row_width parts one_part unit Nothing is cut = rw (is, le-leb 0 one_part (omega arith)) (sym (call_swaps-none row_width))
+plan-swaps len row_width parts one_part unit (OnePart rows) is cut = rw (is.1, le-leb len one_part cut) refl
+plan-swaps len row_width parts one_part unit (ByPairs pairs) is cut =
     rw (is.1, beyond len one_part cut.0, ne_eqb row_width 1 (λ e. omega (arith, e, cut.1))) refl
-plan-swaps len row_width parts one_part (Long pairs squares) is cut = rw (beyond len one_part cut.0, eq-eqb row_width 1 is.1) refl
+plan-swaps len row_width parts one_part unit (Long pairs squares) is cut = rw (beyond len one_part cut.0, eq-eqb row_width 1 is.1) refl

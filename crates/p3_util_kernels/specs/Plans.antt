@@ -11,7 +11,7 @@ use Rattle.p3_util_kernels.specs.Crossing.{IsCrossed}
 use Rattle.p3_util_kernels.specs.Diagonal.{SwapsAcross}
 use Rattle.p3_util_kernels.specs.Levels.{clog}
 use Rattle.p3_util_kernels.specs.Mirrored.{Mirrored}
-use Rattle.p3_util_kernels.specs.Parts.{parts_in}
+use Rattle.p3_util_kernels.specs.Parts.{IsLeastStep, parts_in}
 use Rattle.p3_util_kernels.specs.Reversal.{FitsRows, IsRowReversal}
 use Rattle.p3_util_kernels.specs.SwapCounts.{long_swaps, reversal_swaps, row_swaps, short_swaps, square_swaps}
 
@@ -33,15 +33,20 @@ IsReversalPlan len row_width (Long pairs squares) =
     (0 < len) × (row_width ≡ 1) × (pairs.rows.width ≡ 2 ^ (digits - half)) × (pairs.rows.digits ≡ half) × (squares.stride ≡ 2 ^ (digits - half))
     × (squares.cut.len ≡ 2 ^ half)
 
--- Up to `one_part` items the plan is one part. Beyond that the sides of the squares are cut into at most `parts` parts,
--- where 0 is 1.
-abbrev pub IsCutAsAsked : (len row_width parts one_part : ℕ) (plan : ReversalPlan) → Type 0
-IsCutAsAsked len row_width parts one_part Nothing = len ≡ 0
-IsCutAsAsked len row_width parts one_part (OnePart rows) = len ≤ one_part
-IsCutAsAsked len row_width parts one_part (ByPairs pairs) = (one_part < len) × (1 < row_width) × (parts_in pairs.squares.cut.len pairs.squares.cut.step ≤ max parts 1)
-IsCutAsAsked len row_width parts one_part (Long pairs squares) =
-    (one_part < len) × (row_width ≡ 1) × (parts_in pairs.squares.cut.len pairs.squares.cut.step ≤ max parts 1)
-    × (parts_in squares.cut.len squares.cut.step ≤ max parts 1)
+-- Up to `one_part` items the plan is one part. Beyond that the sides of the squares are cut into at most `parts` parts, where
+-- 0 is 1, and into parts that are no longer than they have to be: those of pairs of rows at even numbers, and those of squares of
+-- items at multiples of `unit`.
+abbrev pub IsCutAsAsked : (len row_width parts one_part unit : ℕ) (plan : ReversalPlan) → Type 0
+IsCutAsAsked len row_width parts one_part unit Nothing = len ≡ 0
+IsCutAsAsked len row_width parts one_part unit (OnePart rows) = len ≤ one_part
+IsCutAsAsked len row_width parts one_part unit (ByPairs pairs) =
+    let cut = pairs.squares.cut in
+    (one_part < len) × (1 < row_width) × (parts_in cut.len cut.step ≤ max parts 1) × IsLeastStep parts 2 cut.len cut.step
+IsCutAsAsked len row_width parts one_part unit (Long pairs squares) =
+    let of_pairs = pairs.squares.cut in
+    let of_squares = squares.cut in
+    (one_part < len) × (row_width ≡ 1) × (parts_in of_pairs.len of_pairs.step ≤ max parts 1) × IsLeastStep parts 2 of_pairs.len of_pairs.step
+    × (parts_in of_squares.len of_squares.step ≤ max parts 1) × IsLeastStep parts unit of_squares.len of_squares.step
 
 -- how many parts a phase has
 abbrev pub parts_of : (phase : Phase) → ℕ

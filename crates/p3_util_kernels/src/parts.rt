@@ -9,7 +9,7 @@ ghost use Rattle.std.specs.Prelude.{length, ◌≡◌, ℕ, ◌+◌, ◌-◌, �
 ghost use Rattle.p3_util_kernels.specs.Blocks.{IsBlock, blocks_of, swaps_of_block};
 ghost use Rattle.p3_util_kernels.specs.Crossing.{HoldsRows, IsCrossed};
 ghost use Rattle.p3_util_kernels.specs.Diagonal.{SwapsAcross};
-ghost use Rattle.p3_util_kernels.specs.Parts.{FollowEachOther, number_of_pair, pairs_of, part_of_matrix, parts_in, start_of};
+ghost use Rattle.p3_util_kernels.specs.Parts.{FollowEachOther, IsLeastStep, number_of_pair, pairs_of, part_of_matrix, parts_in, start_of};
 ghost use Rattle.p3_util_kernels.specs.Region.{LiesInMatrix};
 
 mod laws;
@@ -39,7 +39,7 @@ impl Cut {
         ensures len { result.len ≡ len }
         ensures few { parts_in result.len result.step ≤ max parts 1 }
         ensures units { (k : ℕ) → k < parts_in result.len result.step → start_of result.len result.step k % unit ≡ 0 }
-        ensures least { (units : ℕ) → 0 < units → parts_in len (units * unit) ≤ max parts 1 → result.step ≤ units * unit }
+        ensures least { IsLeastStep parts unit result.len result.step }
     {
         let units = len.div_ceil(unit).div_ceil(parts.max(1));
         Cut {
@@ -126,6 +126,7 @@ impl Squares {
         ensures stride { result.stride ≡ 2 ^ (digits - digits / 2) }
         ensures side { result.cut.len ≡ 2 ^ (digits / 2) }
         ensures few { parts_in result.cut.len result.cut.step ≤ max parts 1 }
+        ensures least { IsLeastStep parts unit result.cut.len result.cut.step }
         ensures units { (k : ℕ) → k < parts_in result.cut.len result.cut.step → start_of result.cut.len result.cut.step k % unit ≡ 0 }
     {
         let half = digits / 2;
@@ -182,10 +183,6 @@ impl Squares {
     }
 }
 
-/// The greatest number of parts that a side of pairs of rows is cut into. They make 528 blocks, of which the largest has about a
-/// 500th of the exchanges, and with more of them the blocks of short rows are small.
-const MOST_SIDE_PARTS: usize = 32;
-
 /// The pairs by which `rows` are reversed. The two numbers of a pair are a row and a column of a square, of which there is one for
 /// each middle digit, and so the pairs are cut as the squares are.
 #[derive(Clone, Copy)]
@@ -198,15 +195,16 @@ pub(crate) struct RowPairs {
 }
 
 impl RowPairs {
-    /// The pairs of `rows`. Each side is cut into at most `parts` parts, where 0 parts are 1.
+    /// The pairs of `rows`. Each side is cut into at most `parts` parts, at even numbers. 0 parts are 1.
     pub(crate) fn new(rows: RowDigits, parts: usize) -> RowPairs
         requires { rows.digits < 64 }
         ensures rows { result.rows ≡ rows }
         ensures few { parts_in result.squares.cut.len result.squares.cut.step ≤ max parts 1 }
+        ensures least { IsLeastStep parts 2 result.squares.cut.len result.squares.cut.step }
     {
         RowPairs {
             rows,
-            squares: Squares::new(rows.digits, parts.min(MOST_SIDE_PARTS), 2),
+            squares: Squares::new(rows.digits, parts, 2),
         }
     }
 

@@ -124,10 +124,6 @@ impl Squares {
     }
 }
 
-/// The greatest number of parts that a side of pairs of rows is cut into. They make 528 blocks, of which the largest has about a
-/// 500th of the exchanges, and with more of them the blocks of short rows are small.
-const MOST_SIDE_PARTS: usize = 32;
-
 /// The pairs by which `rows` are reversed. The two numbers of a pair are a row and a column of a square, of which there is one for
 /// each middle digit, and so the pairs are cut as the squares are.
 #[derive(Clone, Copy)]
@@ -137,11 +133,11 @@ pub(crate) struct RowPairs {
 }
 
 impl RowPairs {
-    /// The pairs of `rows`. Each side is cut into at most `parts` parts, where 0 parts are 1.
+    /// The pairs of `rows`. Each side is cut into at most `parts` parts, at even numbers. 0 parts are 1.
     pub(crate) fn new(rows: RowDigits, parts: usize) -> RowPairs {
         RowPairs {
             rows,
-            squares: Squares::new(rows.digits, parts.min(MOST_SIDE_PARTS), 2),
+            squares: Squares::new(rows.digits, parts, 2),
         }
     }
 

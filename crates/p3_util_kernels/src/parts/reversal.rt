@@ -1,7 +1,7 @@
 //! The phases that a reversal is cut into, and their parts.
 
 ghost use Rattle.std.specs.Prelude.{◌≡◌, ℕ, ◌-◌, ◌/◌, ◌^◌, ◌<◌, ◌≤◌, Some, length, max, slice_get};
-ghost use Rattle.p3_util_kernels.specs.Parts.{parts_in};
+ghost use Rattle.p3_util_kernels.specs.Parts.{IsLeastStep, parts_in};
 ghost use Rattle.p3_util_kernels.specs.Plans.{IsCutAsAsked, IsPartMade, IsPhaseOf, IsReversalPlan, parts_of, phases_of};
 ghost use Rattle.p3_util_kernels.specs.Reversal.{FitsRows};
 
@@ -40,7 +40,7 @@ impl ReversalPlan {
     pub(crate) fn new(len: usize, row_width: usize, parts: usize, one_part: usize) -> ReversalPlan
         requires { FitsRows len row_width }
         ensures plan { IsReversalPlan len row_width result }
-        ensures cut { IsCutAsAsked len row_width parts one_part result }
+        ensures cut { IsCutAsAsked len row_width parts one_part TILE_SIDE result }
         ensures phases { (k : ℕ) (phase : Phase) → slice_get (phases_of result) k ≡ Some phase → IsPhaseOf phase len }
     {
         if len == 0 {
@@ -77,9 +77,11 @@ fn chunks_and_squares(digits: usize, parts: usize) -> (RowPairs, Squares)
     ensures width { result.0.rows.width ≡ 2 ^ (digits - digits / 2) }
     ensures chunks { result.0.rows.digits ≡ digits / 2 }
     ensures pairs { parts_in result.0.squares.cut.len result.0.squares.cut.step ≤ max parts 1 }
+    ensures least_pairs { IsLeastStep parts 2 result.0.squares.cut.len result.0.squares.cut.step }
     ensures stride { result.1.stride ≡ 2 ^ (digits - digits / 2) }
     ensures side { result.1.cut.len ≡ 2 ^ (digits / 2) }
     ensures blocks { parts_in result.1.cut.len result.1.cut.step ≤ max parts 1 }
+    ensures least_blocks { IsLeastStep parts TILE_SIDE result.1.cut.len result.1.cut.step }
 {
     let chunks = RowDigits::chunks(digits / 2, digits - digits / 2);
     let squares = Squares::new(digits, parts, TILE_SIDE);
