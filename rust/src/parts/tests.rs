@@ -4,7 +4,7 @@
 use std::collections::BTreeSet;
 use std::vec::Vec;
 
-use super::one_part_reversal;
+use super::{one_part_reversal, parts_of_side};
 use crate::kernels::parts::{Cut, Phase, ReversalPlan, RowPairs, Squares, TransposePlan};
 use crate::kernels::places::{Cells, Places, SliceSource, Source};
 use crate::kernels::reverse::RowDigits;
@@ -261,6 +261,99 @@ fn long_lists() {
             *item == reversed(digits, place / row_width) * row_width + place % row_width
         };
         assert!(noted.items.iter().enumerate().all(is_reversed));
+    }
+}
+
+/// A list of `len` items that counts its exchanges.
+struct Counted {
+    len: usize,
+    exchanges: usize,
+}
+
+impl Places for &mut Counted {
+    type Item = ();
+
+    fn len(&self) -> usize {
+        self.len
+    }
+
+    fn exchange(&mut self, i: usize, j: usize) {
+        assert!(i < self.len && j < self.len && i != j);
+        self.exchanges += 1;
+    }
+
+    fn exchange_runs(&mut self, i: usize, j: usize, len: usize) {
+        assert!(i.abs_diff(j) >= len && i.max(j) + len <= self.len);
+        self.exchanges += len;
+    }
+}
+
+/// How many there are, and how many thousandths of all of them the largest is, rounded up.
+fn count_and_share(sizes: impl IntoIterator<Item = usize>) -> (usize, usize) {
+    let sizes: Vec<usize> = sizes.into_iter().collect();
+    let largest = sizes.iter().max().copied().unwrap_or(0);
+    (sizes.len(), (largest * 1000).div_ceil(sizes.iter().sum()))
+}
+
+/// The number of parts of each phase of a reversal, and the largest part's share of the exchanges, by running each part alone. A list
+/// that is not cut, or is cut into parts of unlike size, is seen here alone.
+#[test]
+fn shares_of_reversals() {
+    let cases: [(usize, usize, usize, &[(usize, usize)]); 16] = [
+        (20, 1, 0, &[(1, 1000), (1, 1000), (1, 1000)]),
+        (20, 1, 2, &[(6, 291), (6, 237), (6, 291)]),
+        (20, 1, 16, &[(36, 33), (36, 32), (36, 33)]),
+        (20, 1, 40, &[(36, 33), (91, 13), (36, 33)]),
+        (20, 1, 64, &[(136, 9), (136, 8), (136, 9)]),
+        (20, 1, 256, &[(136, 9), (528, 2), (136, 9)]),
+        (21, 1, 16, &[(36, 33), (72, 16), (36, 33)]),
+        (21, 1, 64, &[(136, 9), (272, 4), (136, 9)]),
+        (10, 300, 16, &[(36, 33)]),
+        (10, 300, 64, &[(136, 9)]),
+        (11, 200, 64, &[(272, 5)]),
+        (12, 100, 16, &[(36, 32)]),
+        (12, 100, 64, &[(136, 8)]),
+        (12, 100, 1000, &[(528, 2)]),
+        (16, 16, 64, &[(136, 8)]),
+        (2, 1 << 17, 64, &[(1, 1000)]),
+    ];
+    for (digits, row_width, wish, wanted) in cases {
+        let len = row_width << digits;
+        let plan = ReversalPlan::new(len, row_width, parts_of_side(wish), 1 << 18);
+        let exchanges_of = |phase: Phase, number| {
+            let mut counted = Counted { len, exchanges: 0 };
+            let _ = phase.exchange(&mut counted, number);
+            counted.exchanges
+        };
+        let phases = (0..4).map_while(|number| plan.phase(number));
+        let got: Vec<_> = phases
+            .map(|phase| count_and_share((0..phase.count()).map(|number| exchanges_of(phase, number))))
+            .collect();
+        assert_eq!(got, wanted, "2^{digits} rows of {row_width} by a wish of {wish}");
+        let most = match (digits, wish) {
+            (10.., 64..) => 20,
+            (10.., 16..) => 40,
+            _ => 1000,
+        };
+        assert!(got.iter().all(|(_, share)| *share <= most));
+    }
+}
+
+/// The same of a transpose, whose parts are cut along the longer side at multiples of 16.
+#[test]
+fn shares_of_transposes() {
+    let cases = [
+        (1000, 30, 16, (16, 64)),
+        (30, 1000, 64, (63, 16)),
+        (1 << 20, 3, 64, (64, 16)),
+        (3, 1 << 20, 256, (256, 4)),
+        (1024, 1024, 16, (16, 63)),
+        (100, 100, 64, (7, 160)),
+    ];
+    for (width, height, wish, wanted) in cases {
+        let plan = TransposePlan::new(width, height, wish, true);
+        let got = count_and_share((0..plan.count()).map(|number| plan.items(number)));
+        assert_eq!(got, wanted, "{width} by {height} by a wish of {wish}");
     }
 }
 
