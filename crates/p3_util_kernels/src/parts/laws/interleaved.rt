@@ -1,4 +1,4 @@
-//! Steps of several lists that are made in turns, as threads make those of several parts.
+//! Steps of several lists that are interleaved, as threads interleave the steps of several parts.
 
 ghost use Rattle.std.specs.Prelude.{◌≡◌, ℕ, ◌*◌, ◌^◌, ◌<◌, List, length};
 ghost use Rattle.p3_util_kernels.specs.Interleaved.{AreApartBelow, AreMadeInterleaved, IsInterleaved, IsMadeAlone, IsPutAlone, MakeAlone, PutAlone, SameInTurn, in_turn};
@@ -14,7 +14,7 @@ use crate::parts::{Phase, ReversalPlan, TransposePlan};
 use crate::places::{Cells, Places, Source};
 use crate::transpose::Strips;
 
-/// Where no two lists have a place in common, every interleaving of them leaves what they leave one after the other. That is an
+/// If no two lists have a place in common, every interleaving of them leaves what they leave one after the other, which is an
 /// interleaving too.
 pub(crate) fn interleaved<T>()
     ensures puts { SameInTurn {A = T} after_puts places_put }
@@ -22,8 +22,8 @@ pub(crate) fn interleaved<T>()
     ensures in_turn { (lists : List (List T)) → IsInterleaved lists (in_turn lists) }
 {}
 
-/// Writes that put each region of a plan alone, where no item of the input is in the output, are apart, and every interleaving
-/// of them puts the transpose.
+/// If no item of the input is in the output, lists of writes that put the regions of a plan alone have no place in common, and
+/// every interleaving of them puts the transpose.
 pub(crate) fn regions_interleaved<T>(plan: TransposePlan)
     ensures { (input old : List T) (lists : List (List (ℕ × T)))
         → length input ≡ plan.width * plan.height → length old ≡ plan.width * plan.height → NoItemInCommon input old
@@ -32,7 +32,7 @@ pub(crate) fn regions_interleaved<T>(plan: TransposePlan)
         × ((all : List (ℕ × T)) → IsInterleaved lists all → IsTranspose plan.width plan.height input (after_puts old all)) }
 {}
 
-/// The writes that a region of a plan makes, put it alone.
+/// A region of a plan is put by writes that put it alone.
 pub(crate) fn region_alone<C: Cells, R: Source<Item = C::Item> + Copy>(
     out: C,
     source: R,
@@ -49,13 +49,13 @@ pub(crate) fn region_alone<C: Cells, R: Source<Item = C::Item> + Copy>(
     put_region(out, source, plan, number, strips)
 }
 
-/// Of exchanges that make each part of a phase alone, where all items differ, every interleaving makes the phase.
+/// If all items differ, every interleaving of exchanges that make the parts of a phase alone makes the phase.
 pub(crate) fn parts_interleaved<T>(phase: Phase)
     ensures { (old : List T) (lists : List (List (ℕ × ℕ))) (all : List (ℕ × ℕ)) → IsPhaseOf phase (length old) → AllDiffer old
         → MakeAlone phase old lists → IsInterleaved lists all → IsPhaseMade phase old (after_swaps old all) }
 {}
 
-/// The exchanges that a part of a phase makes, make it alone.
+/// A part of a phase is made by exchanges that make it alone.
 pub(crate) fn part_alone<M: Places>(m: M, phase: Phase, number: usize) -> M
     requires below { number < parts_of phase }
     requires list { IsPhaseOf phase (length (M.items m)) }
@@ -65,7 +65,8 @@ pub(crate) fn part_alone<M: Places>(m: M, phase: Phase, number: usize) -> M
     phase.exchange(SwapSteps { places: m }, number).places
 }
 
-/// The phases of a plan one after the other, and the exchanges of each one's parts in any interleaving, are the reversal.
+/// If all items differ, the phases of a plan, one after the other and the exchanges of each one's parts interleaved in any way,
+/// reverse the rows.
 pub(crate) fn phases_interleaved<T>(row_width: usize, plan: ReversalPlan)
     ensures { (old new : List T) → FitsRows (length old) row_width → IsReversalPlan (length old) row_width plan → length old < 2 ^ 64
         → AllDiffer old → AreMadeInterleaved (phases_of plan) old new → IsRowReversal row_width old new }
