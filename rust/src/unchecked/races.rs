@@ -103,10 +103,10 @@ fn overlapping_regions() {
     run_both(parts, cuts, Parts::put);
 }
 
-/// Of 8 line pairs the first 4, and of the last of these and of two more, in rows of three items.
+/// Of the pairs of 2^8 rows of three items, a block of those of the numbers below 8, and one of those from 6 to below 12.
 #[test]
 #[ignore = "a race, which a detector has to report"]
-fn overlapping_ranges() {
+fn overlapping_pairs() {
     exchanges_both(3 << 8, 3, 0, [(2, 0), (3, 1)]);
 }
 

@@ -1,7 +1,10 @@
 //! What makes it safe to give the parts of a call to several threads. Nothing calls these functions, and the package is made
-//! without them. Some make a part of a plan over a holder by which its steps exist, and say at which places they are. The
-//! others say that two parts have no place in common, and that each place is one of some part. `all_parts.rt` has the calls
-//! that all parts together make.
+//! without them.
+//!
+//! Some run a part of a plan on a holder whose contract says that its steps exist, and state which places the steps are at. The
+//! others state that two parts have no place in common, and that each place belongs to some part. `all_parts.rt` has the calls that
+//! run all parts in any order, `interleaved.rt` says the same of their steps interleaved, and `witnesses.rt` has lists and orders
+//! that meet the conditions of these laws.
 
 ghost use Rattle.std.specs.Prelude.{◌≡◌, ◌≢◌, ℕ, ◌⊎◌, ◌+◌, ◌-◌, ◌*◌, ◌/◌, ◌^◌, ◌<◌, ◌≤◌, ◌↔◌, false, if◌then◌else◌, length};
 ghost use Rattle.p3_util_kernels.specs.Blocks.{IsBlock, blocks_of, swaps_of_block};
