@@ -118,7 +118,7 @@
 //! | `long_swaps k` | the swaps of `2 ^ k` items by way of chunks, squares and chunks, with `h = k / 2` and `c = k - h`: `2 * short_swaps h * 2 ^ c + 2 ^ (c - h) * square_swaps (2 ^ h)` |
 //! | `reversal_swaps items` | the swaps of `items` items, zero or a power of two: `short_swaps (clog items)` up to 8192 items, and `long_swaps (clog items)` beyond |
 //! | `counted c s` | the count c after s more steps: `min (2 ^ 128 - 1) (c + s)` |
-//! | `same_holder n a b` | b is a after n exchanges. A holder that borrows its items says that b still borrows the same slice, so what changes in the holder changes in that slice; one that does not count ignores n. Of `Cells`: b is a after n puts, as in `Places` |
+//! | `same_holder n a b` | b is a after n exchanges. If the holder borrows its items, it also says that b borrows the same slice as a, so a change to the holder is a change to that slice. A holder that does not count its exchanges ignores n. Of `Cells`: b is a after n puts. The rest is the same as for `Places` |
 //!
 //! # Words of the chunks, the map and `zip_eq`
 //!
