@@ -1,9 +1,9 @@
--- Two runs of places exchanged, place by place.
+-- Two runs of places, exchanged place by place.
 -- Source: new.
 use Rattle.std.specs.Prelude.{ℕ, ◌≡◌, ◌+◌, ◌<◌, ◌≤◌, ◌⊎◌, List, length, slice_get}
 
--- the `len` items from place i on and the `len` items from place j on are exchanged, each with its counterpart, and all
--- other items stay
+-- the `len` items from place i on are exchanged with the `len` items from place j on, in order, and
+-- all other items stay
 pub record RunsExchanged {A : Type 0} (i j len : ℕ) (old new : List A) : Type 0 where
   pub same_length : length new ≡ length old
   pub first : (t : ℕ) → t < len → slice_get new (i + t) ≡ slice_get old (j + t)
