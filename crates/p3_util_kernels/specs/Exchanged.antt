@@ -1,4 +1,4 @@
--- Two runs of places, exchanged place by place.
+-- Two runs of places exchanged, place by place.
 -- Source: new.
 use Rattle.std.specs.Prelude.{ℕ, ◌≡◌, ◌+◌, ◌<◌, ◌≤◌, ◌⊎◌, List, length, slice_get}
 

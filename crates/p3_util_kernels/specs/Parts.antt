@@ -18,7 +18,7 @@ pub record FollowEachOther (count len : ℕ) (start : ℕ → ℕ) : Type 0 wher
 abbrev pub parts_in : (len step : ℕ) → ℕ
 parts_in len step = div_ceil len step
 
--- where part k of these begins: at `k * step`, but at most at `len`
+-- where part k of these begins: at `k * step`, and at most at `len`
 abbrev pub start_of : (len step k : ℕ) → ℕ
 start_of len step k = min (k * step) len
 

@@ -26,8 +26,8 @@ line_swaps digits line_pairs =
     let lines = line_pairs * 2 in
     lines / side * square_swaps side + square_swaps (lines % side)
 
--- the number of swaps for `2 ^ k` items by chunks, squares and chunks, with `h = k / 2` and `c = k
--- - h`: `2 * short_swaps h * 2 ^ c + 2 ^ (c - h) * square_swaps (2 ^ h)`
+-- the swaps of `2 ^ k` items by way of chunks, squares and chunks, with `h = k / 2` and `c = k - h`: `2 * short_swaps h * 2
+-- ^ c + 2 ^ (c - h) * square_swaps (2 ^ h)`
 abbrev pub long_swaps : ℕ → ℕ
 long_swaps k = 2 * (short_swaps (k / 2) * 2 ^ (k - k / 2)) + 2 ^ (k - k / 2 - k / 2) * square_swaps (2 ^ (k / 2))
 

@@ -115,7 +115,7 @@
 //! | `short_swaps k` | the number of pairs of different numbers of k bits that are each other's reverse: `(2 ^ k - 2 ^ ceil(k / 2)) / 2`, since `2 ^ ceil(k / 2)` of the `2 ^ k` numbers are their own reverse |
 //! | `row_swaps items row_width` | the number of swaps for `items` items in rows of `row_width`: one for each item of a row and each pair of rows, `row_width * short_swaps (clog (items / row_width))` |
 //! | `square_swaps side` | the number of pairs of places of a square of `side` rows that mirror each other across its diagonal: `side * (side - 1) / 2` |
-//! | `long_swaps k` | the number of swaps for `2 ^ k` items by chunks, squares and chunks, with `h = k / 2` and `c = k - h`: `2 * short_swaps h * 2 ^ c + 2 ^ (c - h) * square_swaps (2 ^ h)` |
+//! | `long_swaps k` | the swaps of `2 ^ k` items by way of chunks, squares and chunks, with `h = k / 2` and `c = k - h`: `2 * short_swaps h * 2 ^ c + 2 ^ (c - h) * square_swaps (2 ^ h)` |
 //! | `reversal_swaps items` | the number of swaps for `items` items, zero or a power of two: `short_swaps (clog items)` up to 8192 items, and `long_swaps (clog items)` beyond |
 //! | `counted c s` | the count c after s more steps, which is `min (2 ^ 128 - 1) (c + s)` |
 //! | `same_holder n a b` | b is a after n exchanges. If the holder borrows its items, it also says that b borrows the same slice as a, so a change to the holder is a change to that slice. A holder that does not count its exchanges ignores n. Of `Cells`: b is a after n puts. The rest is the same as for `Places` |

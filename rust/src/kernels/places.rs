@@ -28,7 +28,7 @@ mod slices;
 pub use counters::{Swaps, Writes};
 pub use slices::{SliceCells, SlicePlaces, SliceSource};
 
-/// A list whose items can be exchanged. They can be neither read nor moved in another way.
+/// A list whose items can be exchanged, and neither read nor moved in another way.
 ///
 /// A contract sees an implementation as the list of its items. `same_holder n a b` says that b is a
 /// after n exchanges. If the holder borrows its items, it also says that b borrows the same slice

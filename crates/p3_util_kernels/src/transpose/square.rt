@@ -148,7 +148,7 @@ pub(crate) fn exchange_region<M: Places>(m: M, square: Square, region: Region) -
     }
 }
 
-/// Does the same as [`exchange_region`], row after row.
+/// As [`exchange_region`], row after row.
 #[inline(always)]
 fn exchange_leaf<M: Places>(m: M, square: Square, region: Region) -> M
     requires rows_in_order { region.row_start ≤ region.row_end }
