@@ -155,7 +155,7 @@ fn shown(bytes: &[u8]) -> &str {
     str::from_utf8(bytes).unwrap_or("bytes that are no UTF-8")
 }
 
-/// Asserts that a run on readers and writers in memory writes `output` with status 0, or that its
+/// Asserts that a run on readers and writers in memory produces `output` with status 0, or that its
 /// fault has this text and status. A failure prints the arguments, the input and both.
 fn prints(
     rt: &impl Abort,
