@@ -23,6 +23,7 @@
 use core::ops::Range;
 
 use crate::kernels::parts::{Phase, ReversalPlan, TransposePlan};
+use crate::kernels::places::Source;
 use crate::kernels::reverse::{self, RowDigits, fits_rows, reverse_index_bits};
 use crate::kernels::transpose::{Matrix, Strips, fits_matrix, transpose_matrix};
 use crate::transpose::strips_of;
@@ -160,10 +161,18 @@ impl<T, P: Copy> Parts<'_, T, P> {
 
 impl<T: Copy> Parts<'_, T, Regions<&[T]>> {
     /// Puts the regions that are left.
-    pub(crate) fn put(mut self) {
-        let Regions { source, plan, strips } = self.phase;
+    pub(crate) fn put(self) {
+        let source = SliceSource::new(self.phase.source);
+        self.put_from(source);
+    }
+}
+
+impl<T: Copy, R> Parts<'_, T, Regions<R>> {
+    /// Puts the regions that are left, as `source` has their items.
+    fn put_from(mut self, source: impl Source<Item = T> + Copy) {
+        let Regions { plan, strips, .. } = self.phase;
         self.numbers
-            .for_each(|number| _ = plan.put(self.items.share(), SliceSource::new(source), number, strips));
+            .for_each(|number| _ = plan.put(self.items.share(), source, number, strips));
     }
 }
 
@@ -307,6 +316,9 @@ mod slices {
 
 #[cfg(test)]
 mod tests;
+
+#[cfg(test)]
+mod regions;
 
 #[cfg(all(test, not(feature = "checked")))]
 mod races;
