@@ -1,35 +1,37 @@
 """For tests/agree: compares the exports of crates/p3_util_c, with their arguments and clauses, to the list tests/exports.txt, which
 is written by hand."""
+import dataclasses
 import difflib
 import glob
 import math
 import re
 
-from contracts import declarations, function, read
+from contracts import function
+from rattle_source import declarations, read
 
 LIST = "tests/exports.txt"
 
 
-def entry(head, clauses):
+def entry(export):
     """The lines of an export as the list has them, and the size in its name. Where there is one, SIZE stands for it, and ITEM
     for a type of items of so many bytes."""
-    size = (re.search(r"_(\d+)\(", head) or [None, ""])[1]
+    size = (re.search(r"_(\d+)\(", export.head) or [None, ""])[1]
 
     def items(found):
         bytes_of_item = math.prod(map(int, re.findall(r"\d+(?=\])", found[1])))
         return "[ITEM]" if str(bytes_of_item) == size else found[0]
 
-    head = re.sub(r"\[(\[*u8(?:; \d+\])*)\]", items, head).replace(f"_{size}(", "_SIZE(" if size else "_(")
-    return "\n".join(function(0, "", head, clauses)), size
+    head = re.sub(r"\[(\[*u8(?:; \d+\])*)\]", items, export.head).replace(f"_{size}(", "_SIZE(" if size else "_(")
+    return "\n".join(function(0, "", dataclasses.replace(export, head=head))), size
 
 
 def exported():
     """The sizes of each entry that the crate exports."""
     found = {}
     for path in sorted(glob.glob("crates/p3_util_c/src/*.rt")):
-        for public, kind, head, clauses, _ in declarations(read(path), 0):
-            if public and kind == "fn":
-                lines, size = entry(head, clauses)
+        for export in declarations(read(path), 0):
+            if export.seen_by == "pub" and export.kind == "fn":
+                lines, size = entry(export)
                 found.setdefault(lines, []).append(size)
     return found
 

@@ -3,7 +3,11 @@ fields, and the public traits with what their implementations say of them, all a
 condition that comes, is seen. The parts that calls are cut into, which are no public calls, have a section of their own."""
 import glob
 import re
+import sys
 import textwrap
+
+sys.dont_write_bytecode = True
+from rattle_source import declarations, read
 
 MODULES = ["reverse", "transpose", "places", "bits", "laws", "chunks", "views", "linear_map", "zip_eq", "array_serialization"]
 HEAD = """# Contracts
@@ -16,7 +20,7 @@ use. [MODEL](MODEL.md) says what the words of a clause mean. The headings are mo
 A struct is listed with its private fields too, since a clause may name them. Where a type implements a trait, the lines
 below say what a clause sees of that type. `rt check` in the folder of a crate that calls these proves what they ask, or
 names what is open. [What makes parts safe](#what-makes-parts-safe) has functions of the kernels alone, which no other
-crate can call. The page is made by `python3 tests/contracts.py >docs/CONTRACTS.md`."""
+crate can call. The page is made by `python3 docs/make/contracts.py >docs/CONTRACTS.md`."""
 PARTS = """
 ## What makes parts safe
 
@@ -29,23 +33,6 @@ WORDS = """
 A crate that says one of these words in a clause imports it by `ghost use MODULE.{WORD};`.
 
 ```text"""
-CLAUSE = re.compile(r"\s*(requires|ensures)(\*?) ?(\w*) \{")
-HEAD_ENDS = re.compile(r"\n\s*(?:requires|ensures)\b|\{|;$", re.M)
-
-
-def read(path):
-    with open(path, encoding="utf-8") as text:
-        return re.sub(r"^ *(//.*|#!?\[.*\])\n", "", text.read(), flags=re.M)
-
-
-def closed(text, opened):
-    """What stands between the brace at `opened` and the one that closes it, and the place after that."""
-    depth = 1
-    for at in range(opened + 1, len(text)):
-        depth += {"{": 1, "}": -1}.get(text[at], 0)
-        if depth == 0:
-            return text[opened + 1:at], at + 1
-    raise ValueError(text[opened:opened + 40])
 
 
 def line(indent, code):
@@ -53,29 +40,20 @@ def line(indent, code):
     return textwrap.fill(code, 118, initial_indent=" " * indent, subsequent_indent=" " * (indent + 4), break_long_words=False)
 
 
-def declarations(text, indent):
-    """Of each declaration at this indent: whether it is public, its kind, its head, its clauses and what its braces hold."""
-    kinds = rf"^ {{{indent}}}(pub )?(?:const |extern \"C\" )?(fn|struct|enum|trait|type|impl|ghost(?! use))\b"
-    for start in re.finditer(kinds, text, re.M):
-        end = HEAD_ENDS.search(text, start.end()).start()
-        head, clauses = " ".join(text[start.start(2):end].split()), []
-        while start[2] == "fn" and (clause := CLAUSE.match(text, end)):
-            said, end = closed(text, clause.end() - 1)
-            clauses.append((f"{clause[1]}{clause[2]} {clause[3]}".rstrip(), said))
-        yield start[1], start[2], head, clauses, closed(text, end)[0] if text[end] == "{" else ""
-
-
-def function(indent, owner, head, clauses):
-    return [line(indent, f"fn {owner}{head[3:]}")] + [line(indent + 2, f"{name}: {said}") for name, said in clauses]
+def function(indent, owner, declared):
+    """The lines of a function: its head, with what it belongs to before its name, and its clauses."""
+    lines = [line(indent, f"fn {owner}{declared.head[3:]}")]
+    return lines + [line(indent + 2, f"{title}: {said}") for title, said in declared.clauses]
 
 
 def members(body):
     """What a trait or an implementation of one says, without its laws."""
-    for _, kind, head, clauses, said in declarations(body, 4):
-        if kind == "fn" and clauses:
-            yield from function(2, "", head, clauses)
-        elif kind == "ghost" and not re.match(r"ghost (laws|\w+_(refl|trans)) =", head) or kind == "type" and "=" not in head:
-            yield line(2, f"{head} {said}")
+    for inner in declarations(body, 4):
+        is_law = re.match(r"ghost (laws|\w+_(refl|trans)) =", inner.head)
+        if inner.kind == "fn" and inner.clauses:
+            yield from function(2, "", inner)
+        elif inner.kind == "ghost" and not is_law or inner.kind == "type" and "=" not in inner.head:
+            yield line(2, f"{inner.head} {inner.body}")
 
 
 def is_private(head, text):
@@ -84,20 +62,23 @@ def is_private(head, text):
     return bool(name and re.search(rf"^(?:pub\(crate\) )?(?:struct|enum) {name[1]}\b", text, re.M))
 
 
-def items(text, names):
+def items(text, names, seen_by=("pub",)):
     """The contracts of a file, of which others see the functions and types in `names`."""
-    for public, kind, head, clauses, body in declarations(text, 0):
-        owner = re.match(r"(?:impl(?:<.*?>)? (?=\w)|\w+ )(\w+)", head)[1]
-        if kind == "impl" and " for " not in head:
-            for inner_public, inner, inner_head, inner_clauses, _ in declarations(body, 4):
-                if inner_public and inner == "fn":
-                    yield from function(0, f"{owner}::", inner_head, inner_clauses)
-        elif kind == "impl" and not is_private(head, text) and (said := list(members(body))):
+    for outer in declarations(text, 0):
+        head, name = outer.head, outer.name()
+        if outer.kind == "impl" and " for " not in head:
+            for inner in declarations(outer.body, 4):
+                if inner.seen_by in seen_by and inner.kind == "fn":
+                    yield from function(0, f"{name}::", inner)
+        elif outer.kind == "impl" and not is_private(head, text) and (said := list(members(outer.body))):
             yield from [line(0, head), *said]
-        elif public and owner in names and kind == "fn":
-            yield from function(0, "", head, clauses)
-        elif public and owner in names:
-            yield from [line(0, head), *members(body)] if kind == "trait" else [line(0, f"{head} {{ {body} }}" if body else head)]
+        elif outer.seen_by in seen_by and name in names:
+            if outer.kind == "fn":
+                yield from function(0, "", outer)
+            elif outer.kind == "trait":
+                yield from [line(0, head), *members(outer.body)]
+            else:
+                yield line(0, f"{head} {{ {outer.body} }}" if outer.body else head)
 
 
 def modules_of_words():
@@ -150,8 +131,9 @@ def parts():
     yield PARTS
     below = glob.glob(folder + "parts/**/*.rt", recursive=True)
     for path in [folder + "parts.rt", *sorted(below, key=lambda path: ("laws" in path, path))]:
-        text = read(path).replace("pub(crate) ", "pub ")
-        yield from [f"\nIn `{path.removeprefix(folder)}`:\n\n```text", *items(text, re.findall(r"\w+", text)), "```"]
+        text = read(path)
+        said = items(text, re.findall(r"\w+", text), ("pub", "pub(crate)"))
+        yield from [f"\nIn `{path.removeprefix(folder)}`:\n\n```text", *said, "```"]
 
 
 def page():

@@ -5,6 +5,8 @@ import os
 import re
 import subprocess
 
+import rattle_source
+
 # Names of std, of the original, of the kit and of the system that pages speak of, and no source has.
 OUTSIDE = set("""
     as_chunks as_flattened_mut bytemuck DisjointMutPtr gcd_inner gcd_inversion_prime_field_32 get_disjoint_mut into_flattened
@@ -12,7 +14,7 @@ OUTSIDE = set("""
     axioms holes incremental Invariants LEMMA libraries statements tidy
 """.split())
 # These pages speak of names that are not here, or are here no more, so none is looked up.
-ELSEWHERE = {"CHANGELOG.md", "bench/TRIED.md", "docs/DIFFERENCES.md"}
+ELSEWHERE = {"CHANGELOG.md", "docs/TRIED.md", "docs/DIFFERENCES.md"}
 TABLE_ROW = r"^\| (`[A-Z_`, ]+`) \| ([\d, ^+]+) \| `([^`]+)` \|.*$"
 FILE = r"[\w.-]+(/[\w.-]+)+/?|[\w-]+\.(md|rt|antt|sh|py|rs|h|c|tsv|svg|txt|toml)"
 
@@ -84,17 +86,16 @@ def check_edits():
 
 def check_clauses():
     """The clauses that a row of MODEL names in brackets are clauses of the calls that it names beside them."""
-    page = "docs/MODEL.md"
+    page, labels = "docs/MODEL.md", {}
+    for _, function in (found for path in sources for found in rattle_source.functions(rattle_source.read(path))):
+        labels.setdefault(function.name(), set()).update(function.labels())
     for row in re.finditer(r"^\|([^|\n]*)\|([^|\n]*)\|$", pages[page], re.M):
         named = {label for brackets in re.findall(r"\((`[a-z_`, ]+`)\)", row.group()) for label in re.findall(r"\w+", brackets)}
         calls = re.findall(r"(?<=`)(?:\w+::)?([a-z_]\w*)(?=`)", re.sub(r"\([^)]*\)", "", row.group(2)))
-        heads = {call: [head for text in sources.values() for head in re.findall(
-            rf"^ *(?:pub(?:\(crate\))? )?(?:const )?fn {call}\b(.*?)(?:\n *\{{|;$)", text, re.M | re.S)] for call in calls if named}
-        for call in (call for call, found in heads.items() if not found):
+        for call in (call for call in calls if named and call not in labels):
             yield place(page, row.start(), f"no source has a call {call}")
-        for label in sorted(named):
-            if not any(re.search(rf"(requires|ensures)\*? {label} \{{", head) for found in heads.values() for head in found):
-                yield place(page, row.start(), f"no call of {', '.join(calls) or 'no name'} has a clause {label}")
+        for label in sorted(named - {label for call in calls for label in labels.get(call, ())}):
+            yield place(page, row.start(), f"no call of {', '.join(calls) or 'no name'} has a clause {label}")
 
 
 def number(text):
@@ -162,7 +163,7 @@ def anchors(page):
 
 def check_links_and_names():
     """Each link leads to a file and its heading, and each file and name in backquotes is there."""
-    words = {word for path in tracked if not path.endswith((".md", ".svg", ".tsv")) and path != "tests/facts.py"
+    words = {word for path in tracked if not path.endswith((".md", ".svg", ".tsv")) and path != "tests/pages.py"
              for word in re.findall(r"\w+", read(path))} | OUTSIDE
     paths = {"/" + "/".join(path.split("/")[:k]) for path in tracked for k in range(1, path.count("/") + 2)}
     for page, text in pages.items():
@@ -185,7 +186,7 @@ def check_links_and_names():
                 for name in re.findall(r"(?<!\w)[A-Za-z]\w*", code):
                     # An N at the end stands for the size of an item.
                     if len(name) > 3 and re.sub("_N$", "_8", name) not in words and not re.fullmatch("[0-9a-f]{16}", name):
-                        yield place(page, token.start(), f"no name {name}. Where it is none of this repository, tests/facts.py names it")
+                        yield place(page, token.start(), f"no name {name}. Where it is none of this repository, tests/pages.py names it")
 
 
 def check_modules():
