@@ -7,8 +7,9 @@ import sys
 import textwrap
 
 sys.dont_write_bytecode = True
-from rattle_source import declarations, read
+from rattle_source import declarations, definition_texts, functions, read
 
+KERNELS = "crates/p3_util_kernels/src/"
 MODULES = ["reverse", "transpose", "places", "bits", "laws", "chunks", "views", "linear_map", "zip_eq", "array_serialization"]
 HEAD = """# Contracts
 
@@ -24,9 +25,17 @@ crate can call. The page is made by `python3 docs/make/contracts.py >docs/CONTRA
 PARTS = """
 ## What makes parts safe
 
-A call that is cut into parts is made of these functions of `p3_util_kernels`, and no other crate can call them. Those of
-`parts/laws.rt`, and of the file below it, are called by nothing: each is there for its contract. What it runs are the
-functions that make a part of a call, so what it says of the places of their steps is said of the parts of that call."""
+The package calls these functions of `p3_util_kernels` from its unsafe code, which tests no index: it relies on their conditions
+and on what they promise. The list has each function that `rust/src/unchecked.rs` calls, directly or by way of `kernels/parts.rs`,
+except the public ones above. No other crate can call them. The functions of `parts/laws.rt`, and of the files below it, are there
+for their contracts. Each runs parts of a call by the functions that the call uses, so what it says of the indices of their steps
+holds for the parts of that call."""
+CITED = """
+### Definitions that these clauses stand on
+
+They are given without their comments. [MODEL](MODEL.md) says what they mean.
+
+```text"""
 WORDS = """
 ## Where the words of clauses are
 
@@ -62,23 +71,30 @@ def is_private(head, text):
     return bool(name and re.search(rf"^(?:pub\(crate\) )?(?:struct|enum) {name[1]}\b", text, re.M))
 
 
-def items(text, names, seen_by=("pub",)):
-    """The contracts of a file, of which others see the functions and types in `names`."""
+def items(text, is_listed):
+    """The contracts of a file, as far as `is_listed` says so of the owner's name, which may be empty, and the declaration."""
     for outer in declarations(text, 0):
-        head, name = outer.head, outer.name()
+        head = outer.head
         if outer.kind == "impl" and " for " not in head:
             for inner in declarations(outer.body, 4):
-                if inner.seen_by in seen_by and inner.kind == "fn":
-                    yield from function(0, f"{name}::", inner)
-        elif outer.kind == "impl" and not is_private(head, text) and (said := list(members(outer.body))):
-            yield from [line(0, head), *said]
-        elif outer.seen_by in seen_by and name in names:
-            if outer.kind == "fn":
-                yield from function(0, "", outer)
-            elif outer.kind == "trait":
-                yield from [line(0, head), *members(outer.body)]
-            else:
-                yield line(0, f"{head} {{ {outer.body} }}" if outer.body else head)
+                if inner.kind == "fn" and is_listed(outer.name(), inner):
+                    yield from function(0, f"{outer.name()}::", inner)
+        elif not is_listed("", outer):
+            continue
+        elif outer.kind == "impl":
+            if not is_private(head, text) and (said := list(members(outer.body))):
+                yield from [line(0, head), *said]
+        elif outer.kind == "fn":
+            yield from function(0, "", outer)
+        elif outer.kind == "trait":
+            yield from [line(0, head), *members(outer.body)]
+        else:
+            yield line(0, f"{head} {{ {outer.body} }}" if outer.body else head)
+
+
+def is_public(names):
+    """Whether other crates see a declaration of a file whose parent hands on `names`."""
+    return lambda owner, declared: declared.kind == "impl" or declared.seen_by == "pub" and (owner != "" or declared.name() in names)
 
 
 def modules_of_words():
@@ -115,30 +131,79 @@ def sections():
     for module in MODULES:
         path = (glob.glob(f"crates/p3_util_kernels/src/{module}.rt") + glob.glob(f"crates/p3_util/src/{module}.rt"))[0]
         parent = read(path)
-        lines = list(items(parent, re.findall(r"\w+", parent)))
+        lines = list(items(parent, is_public(re.findall(r"\w+", parent))))
         for child in sorted(glob.glob(path.replace(".rt", "/*.rt"))):
-            lines += items(read(child), names_of(parent, re.search(r"(\w+)\.rt", child)[1]))
+            lines += items(read(child), is_public(names_of(parent, re.search(r"(\w+)\.rt", child)[1])))
         yield from [f"\n## `{module}`\n\n```text", *lines, "```"]
     root = read("crates/p3_util/src/lib.rt")
     files = [path for path in sorted(glob.glob("crates/p3_util/src/*.rt")) if re.search(r"(\w+)\.rt", path)[1] not in (*MODULES, "lib")]
-    lines = [said for path in files for said in items(read(path), names_of(root, re.search(r"(\w+)\.rt", path)[1]))]
+    lines = [said for path in files for said in items(read(path), is_public(names_of(root, re.search(r"(\w+)\.rt", path)[1])))]
     yield from ["\n## The root\n\n```text", *lines, "```"]
 
 
-def parts():
-    """The section of the parts that calls are cut into, with all that other files of the crate see."""
-    folder = "crates/p3_util_kernels/src/"
-    yield PARTS
-    below = glob.glob(folder + "parts/**/*.rt", recursive=True)
-    for path in [folder + "parts.rt", *sorted(below, key=lambda path: ("laws" in path, path))]:
-        text = read(path)
-        said = items(text, re.findall(r"\w+", text), ("pub", "pub(crate)"))
-        yield from [f"\nIn `{path.removeprefix(folder)}`:\n\n```text", *said, "```"]
+def calls(text):
+    """What a text of Rust calls: of each call its name, and before that the type it is called by, a dot, or nothing."""
+    found = re.findall(r"(?:(\w+)::|(\.))?\b([a-z]\w*)(?:::<[^()]*>)?\(", text)
+    return {(dot or (owner if owner[:1].isupper() else ""), name) for owner, dot, name in found}
+
+
+def callers():
+    """The files of the package whose calls of kernels are listed: `unchecked.rs`, what is below it, and what it uses."""
+    files = ["rust/src/unchecked.rs", *sorted(glob.glob("rust/src/unchecked/*.rs"))]
+    used = re.findall(r"^use crate::(\w+)", read(files[0]), re.M)
+    files += [file for name in sorted(set(used) - {"kernels"}) for file in glob.glob(f"rust/src/{name}.rs")]
+    return [file for file in files if not file.endswith(("/tests.rs", "/races.rs"))]
+
+
+def called_kernels():
+    """Each function of the kernels that the package calls, directly or by way of parts: its file, its owner's name and itself."""
+    paths = [path for path in sorted(glob.glob(f"{KERNELS}**/*.rt", recursive=True)) if "laws" not in path]
+    known = [(path, owner, declared) for path in paths for owner, declared in functions(read(path)) if declared.seen_by or not owner]
+    found, texts = [], [(read(path), read(path)) for path in callers()]
+    for body, file in texts:
+        called, words = calls(body), set(re.findall(r"\w+", file))
+        for path, owner, declared in known:
+            ways = {(way, declared.name()) for way in ((owner, ".", "Self") if owner else ("",))}
+            if called & ways and {declared.name() if not owner else owner} <= words and (path, owner, declared) not in found:
+                found.append((path, owner, declared))
+                if path.startswith(f"{KERNELS}parts"):
+                    texts.append((declared.body, read(path)))
+    return found
+
+
+def cited(clauses):
+    """The text of each definition of the kernels that clauses cite, or that such a definition cites."""
+    texts = {name: text for path in sorted(glob.glob(f"{KERNELS}../specs/*.antt")) for name, text in definition_texts(path)}
+    names, more = set(), set(re.findall(r"(?<![.\w])\w+", clauses))
+    while more := {name for name in more if name in texts} - names:
+        names |= more
+        more = {word for name in more for word in re.findall(r"(?<![.\w])\w+", texts[name])}
+    return [textwrap.fill(row.strip(), 118, initial_indent=row[:len(row) - len(row.lstrip())], subsequent_indent="        ",
+                          break_long_words=False, break_on_hyphens=False)
+            for name in texts if name in names for row in texts[name].split("\n")]
+
+
+def parts(public):
+    """The section of the functions that the package relies on, without those whose lines are in `public`."""
+    found = [(path, owner, declared) for path, owner, declared in called_kernels()
+             if function(0, owner and f"{owner}::", declared)[0] not in public]
+    types = {word for _, owner, declared in found for word in (owner, *re.findall(r"\w+", declared.head))}
+    laws = sorted(glob.glob(f"{KERNELS}parts/laws*.rt") + glob.glob(f"{KERNELS}parts/laws/**/*.rt", recursive=True))
+    listed = []
+    for path in [*sorted({path for path, _, _ in found}, key=lambda path: (f"{KERNELS}parts" in path, path)), *laws]:
+        def is_listed(owner, declared):
+            if path not in laws and declared.kind == "fn":
+                return (path, owner, declared) in found
+            return declared.seen_by != "" and (path in laws or declared.kind in ("struct", "enum") and declared.name() in types)
+
+        lines = [said for said in items(read(path), is_listed) if said[0] == " " or said not in public]
+        listed += [f"\nIn `{path.removeprefix(KERNELS)}`:\n\n```text", *lines, "```"]
+    yield from [PARTS, *listed, CITED, *cited("\n".join(listed)), "```"]
 
 
 def page():
     said = list(sections())
-    return "\n".join([HEAD, *said, *parts(), WORDS, *words_by_module("\n".join(said)), "```"])
+    return "\n".join([HEAD, *said, *parts(set(said)), WORDS, *words_by_module("\n".join(said)), "```"])
 
 
 if __name__ == "__main__":

@@ -11,7 +11,7 @@ import sys
 
 sys.dont_write_bytecode = True
 from contracts import sections
-from rattle_source import closed, functions, read
+from rattle_source import DEFINITION, closed, functions, read
 
 PAGE = "docs/MODEL.md"
 # The files of specs/ of each crate that has a table, in the order of reading. Files that are not named come last.
@@ -87,7 +87,7 @@ def definitions(crate):
         with open(paths[file], encoding="utf-8") as found:
             text = found.read()
         head = comment(re.match(r"(?:--.*\n)*", text)[0].splitlines())
-        for found in re.finditer(r"^( *)(?:(?:abbrev|unfoldable) pub|pub (?:record|data)) (\w+)", text, re.M):
+        for found in DEFINITION.finditer(text):
             yield Definition(file, head, text, found)
 
 

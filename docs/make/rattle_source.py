@@ -180,6 +180,25 @@ def functions(text):
             yield from ((outer.name(), inner) for inner in declarations(outer.body, 4) if inner.kind == "fn")
 
 
+DEFINITION = re.compile(r"^( *)(?:(?:abbrev|unfoldable) pub|pub (?:record|data)) (\w+)", re.M)
+
+
+def definition_texts(path):
+    """Of each public definition in a file of specs/ its name, and its text without comments."""
+    with open(path, encoding="utf-8") as source:
+        text = source.read()
+    for found in DEFINITION.finditer(text):
+        first, *following = text[found.start():].split("\n")
+        lines = [first]
+        for line in following:
+            indent = len(line) - len(line.lstrip())
+            if line.strip() and indent <= len(found[1]) and not re.match(rf" *{found[2]}\b", line):
+                break
+            if line.strip() and not line.strip().startswith("--"):
+                lines.append(line)
+        yield found[2], "\n".join(lines)
+
+
 def function_at(text, number):
     """The last function that begins at or above the line of this number. An attribute belongs to the function below it."""
     lines = text.split("\n")
