@@ -1,11 +1,13 @@
 """For tests/agree: compares the pages with the code: the functions that blocks of Rust quote, the clauses that MODEL names, the
 constants of ARCHITECTURE's table and of sentences, and each link, file and name; and the modules with the files."""
+import functools
 import itertools
 import os
 import re
 import subprocess
 
-import rattle_source
+from rattle_source import functions
+from rattle_source import read as read_source
 
 # Names of std, of the original, of the kit and of the system that pages speak of, and no source has.
 OUTSIDE = set("""
@@ -15,6 +17,7 @@ OUTSIDE = set("""
 """.split())
 # These pages speak of names that are not here, or are here no more, so none is looked up.
 ELSEWHERE = {"CHANGELOG.md", "docs/TRIED.md", "docs/DIFFERENCES.md"}
+TABLE_IS_ABOUT = r"rust/|crates/p3_util(_kernels|_c|_run)?/"
 TABLE_ROW = r"^\| (`[A-Z_`, ]+`) \| ([\d, ^+]+) \| `([^`]+)` \|.*$"
 FILE = r"[\w.-]+(/[\w.-]+)+/?|[\w-]+\.(md|rt|antt|sh|py|rs|h|c|tsv|svg|txt|toml)"
 
@@ -30,6 +33,11 @@ tracked = [path for path in tracked if os.path.isfile(path)]
 pages = {path: read(path) for path in tracked if path.endswith(".md")}
 sources = {path: read(path) for path in tracked if re.fullmatch(r"crates/\w+/src/.*\.rt", path)}
 sources = {path: text for path, text in sources.items() if not re.search(r"/tests(\.rt|/)", path)}
+
+
+@functools.cache
+def functions_of(path):
+    return list(functions(read_source(path)))
 
 
 def place(page, start, text):
@@ -87,7 +95,7 @@ def check_edits():
 def check_clauses():
     """The clauses that a row of MODEL names in brackets are clauses of the calls that it names beside them."""
     page, labels = "docs/MODEL.md", {}
-    for _, function in (found for path in sources for found in rattle_source.functions(rattle_source.read(path))):
+    for _, function in (found for path in sources for found in functions_of(path)):
         labels.setdefault(function.name(), set()).update(function.labels())
     for row in re.finditer(r"^\|([^|\n]*)\|([^|\n]*)\|$", pages[page], re.M):
         named = {label for brackets in re.findall(r"\((`[a-z_`, ]+`)\)", row.group()) for label in re.findall(r"\w+", brackets)}
@@ -126,8 +134,35 @@ def check_table_of_constants(known):
                 yield place(page, row.start(), f"{name} is {value} in {row.group(3)}, and the code has "
                             + (", ".join(f"{there} in {path}" for path, there in found) or "no such constant there"))
     for name, path, value in known:
-        if re.match(r"rust/|crates/p3_util(_kernels|_c|_run)?/", path) and (name, path) not in listed:
+        if re.match(TABLE_IS_ABOUT, path) and (name, path) not in listed:
             yield f"{page}: its table has no row for {name}, which is {value} in {path}"
+
+
+def values_of(name, crate, known):
+    """The values of a constant: of this crate, or else of the crates and the package that ARCHITECTURE's table is about. Or the
+    numbers of a clause, if the name is FUNCTION.CLAUSE."""
+    function, _, clause = name.partition(".")
+    if clause:
+        said = {text for path in sources if f"fn {function}" in sources[path] for _, declared in functions_of(path)
+                if declared.name() == function for title, text in declared.clauses if title.endswith(f" {clause}")}
+        return [int(digits) for digits in re.findall(r"\b\d+\b", said.pop())] if len(said) == 1 else []
+    where = f"crates/{crate}/" if crate else TABLE_IS_ABOUT
+    return sorted({value for other, path, value in known if other == name and re.match(where, path)})
+
+
+def wanted_number(expression, known, clauses):
+    """The number of an expression over names, and the names that have not one value. Each name of a clause takes its next number."""
+    unknown = []
+
+    def value(found):
+        values = clauses[found[2]] if found[2] in clauses else values_of(found[2], found[1], known)
+        if "." in found[2]:
+            clauses[found[2]] = values[1:]
+            values = values[:1]
+        unknown.extend([found[0]] * (len(values) != 1))
+        return str(max(values, default=0))
+
+    return number(re.sub(r"(?:(\w+)::)?([a-z]\w+\.\w+|[A-Z_]{2,})", value, expression)), unknown
 
 
 def check_constants():
@@ -138,15 +173,13 @@ def check_constants():
     texts = {path: re.sub(r"(?<=\s)(?://[/!]?|--)(?=\s)", lambda sign: " " * len(sign[0]), read(path)) for path in tracked
              if re.fullmatch(r".*\.(md|rt|antt|rs|h)", path) and not re.match("rust/src/kernels/|bench/|CHANGELOG|docs/PERF", path)}
     for line in (line for line in read("tests/constants.txt").splitlines() if line and not line.startswith("#")):
-        parts = re.split(r"\{([^}]*)\}", line)
-        pattern = r"(\d[\d_]*(?:\^\d+)?|\w+)".join(re.escape(part).replace(r"\ ", r"\s+") for part in parts[::2])
-        wanted = []
-        for part in parts[1::2]:
-            name, _, more = part.partition(" ")
-            values = {value for other, _, value in known if other == name}
-            if len(values) != 1:
-                yield f"tests/constants.txt: {name} has the values {values or 'of no constant'}, and not one"
-            wanted.append(max(values, default=0) + (number(more) if more else 0))
+        parts, clauses = re.split(r"\{([^}]*)\}", line), {}
+        literal = (re.escape(part).replace(r"\ \.\.\ ", r"[^|]{0,60}?\s").replace(r"\ ", r"\s+") for part in parts[::2])
+        pattern = r"(\d[\d_]*(?:\^\d+)?|\w+)".join(literal)
+        answers = [wanted_number(part, known, clauses) for part in parts[1::2]]
+        for name in (name for _, unknown in answers for name in unknown):
+            yield f"tests/constants.txt: {name} has no value, or more than one"
+        wanted = [value for value, _ in answers]
         found = [(path, there) for path, text in texts.items() for there in re.finditer(pattern, text)]
         if not found:
             yield f"tests/constants.txt: no page, source or definition says '{line}'"
