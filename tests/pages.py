@@ -6,7 +6,8 @@ import os
 import re
 import subprocess
 
-from rattle_source import functions
+from contracts import items
+from rattle_source import definition_texts, functions, stood_on
 from rattle_source import read as read_source
 
 # Names of std, of the original, of the kit and of the system that pages speak of, and no source has.
@@ -235,7 +236,20 @@ def check_modules():
             yield f"{path}: no file above it has it as a module"
 
 
+def check_specs():
+    """A file of specs/ says in its first lines that it serves private contracts if no public one stands on it, and only then."""
+    files = {path: dict(definition_texts(path)) for path in tracked if re.fullmatch(r"crates/\w+/specs/\w+\.antt", path)}
+    public = " ".join(said for path in sources if "/parts" not in path
+                      for said in items(read_source(path), lambda owner, declared: declared.kind == "impl" or declared.seen_by == "pub"))
+    used = stood_on(public, {name: text for texts in files.values() for name, text in texts.items()})
+    for path, texts in files.items():
+        says_private = "private" in re.match(r"(?:--.*\n)*", read(path))[0]
+        if texts and says_private == any(name in used for name in texts):
+            yield f"{path}:1: its first lines say that it serves private contracts, and a public one stands on it" if says_private \
+                else f"{path}:1: no public contract stands on it, and its first lines do not say that it serves private ones"
+
+
 def wrong():
     """A line for each thing that is wrong."""
-    for check in (check_quotations, check_edits, check_clauses, check_constants, check_links_and_names, check_modules):
+    for check in (check_quotations, check_edits, check_clauses, check_constants, check_links_and_names, check_modules, check_specs):
         yield from check()

@@ -7,7 +7,7 @@ import sys
 import textwrap
 
 sys.dont_write_bytecode = True
-from rattle_source import declarations, definition_texts, functions, read
+from rattle_source import declarations, definition_texts, functions, read, stood_on
 
 KERNELS = "crates/p3_util_kernels/src/"
 MODULES = ["reverse", "transpose", "places", "bits", "laws", "chunks", "views", "linear_map", "zip_eq", "array_serialization"]
@@ -174,10 +174,7 @@ def called_kernels():
 def cited(clauses):
     """The text of each definition of the kernels that clauses cite, or that such a definition cites."""
     texts = {name: text for path in sorted(glob.glob(f"{KERNELS}../specs/*.antt")) for name, text in definition_texts(path)}
-    names, more = set(), set(re.findall(r"(?<![.\w])\w+", clauses))
-    while more := {name for name in more if name in texts} - names:
-        names |= more
-        more = {word for name in more for word in re.findall(r"(?<![.\w])\w+", texts[name])}
+    names = stood_on(clauses, texts)
     return [textwrap.fill(row.strip(), 118, initial_indent=row[:len(row) - len(row.lstrip())], subsequent_indent="        ",
                           break_long_words=False, break_on_hyphens=False)
             for name in texts if name in names for row in texts[name].split("\n")]

@@ -199,6 +199,16 @@ def definition_texts(path):
         yield found[2], "\n".join(lines)
 
 
+def stood_on(text, texts):
+    """The names of the definitions of `texts` that a text cites, and of those that such definitions cite."""
+    names, more = set(), {text}
+    while more:
+        cited = {name for said in more for name in re.findall(r"(?<![.\w])\w+", said) if name in texts} - names
+        names |= cited
+        more = {texts[name] for name in cited}
+    return names
+
+
 def function_at(text, number):
     """The last function that begins at or above the line of this number. An attribute belongs to the function below it."""
     lines = text.split("\n")
