@@ -3,7 +3,7 @@ of their arguments, and what they return. Neither a C compiler nor the linker se
 import glob
 import re
 
-from contracts import declarations, read
+from rattle_source import declarations, read
 
 HEADER = "c/p3_util.h"
 TYPES = {"usize": "size_t", "bool": "bool"}
@@ -25,9 +25,9 @@ def arguments(text):
 
 def exported():
     for path in sorted(glob.glob("crates/p3_util_c/src/*.rt")):
-        for public, kind, head, _, _ in declarations(read(path), 0):
-            if public and kind == "fn":
-                name, given, returned = re.fullmatch(r"fn (\w+)\(\s*(.*?),?\s*\) -> (\w+)", head).groups()
+        for found in declarations(read(path), 0):
+            if found.seen_by == "pub" and found.kind == "fn":
+                name, given, returned = re.fullmatch(r"fn (\w+)\(\s*(.*?),?\s*\) -> (\w+)", found.head).groups()
                 yield f"{TYPES[returned]} {name}({', '.join(arguments(given)) or 'void'});"
 
 

@@ -1,4 +1,4 @@
--- Parts that are made in any order, for the contracts of `src/parts/laws/all_parts.rt`.
+-- Parts that are made in any order, for the private contracts of `src/parts/laws/all_parts.rt`.
 -- Source: new.
 use Rattle.std.specs.Prelude.{ℕ, zero, suc, ◌≡◌, ◌<◌, List, Some, slice_get}
 

@@ -1,4 +1,4 @@
--- Pairs of rows exchanged, for the contracts of the kernels in `reverse/pairs`.
+-- Pairs of rows exchanged, for the private contracts of the kernels in `reverse/pairs`.
 --
 -- There are 2 ^ (half + c) rows of `row_width` items, where c is `half` or half + 1. As `src/reverse/pairs.rt` explains, the
 -- index of a row has three parts: `half` digits, of which `x` is the reverse, c - half digits `middle`, and `half` digits `y`.

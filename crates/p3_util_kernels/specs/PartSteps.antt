@@ -1,4 +1,4 @@
--- Steps that lead from one list to another, and the places that they are at, for the contracts of `src/parts/laws.rt`. The
+-- Steps from one list to another, and the places that they are at, for the private contracts of `src/parts/laws.rt`. The
 -- lemmas are those by which a holder says that such steps exist.
 -- Source: new.
 use Rattle.std.proofs.Common.{◌≡◌, ◌≢◌, ℕ, ◌+◌, ◌*◌, ◌/◌, ◌^◌, ◌<◌, min, max, List, [], ◌∷◌, ◌++◌, length, slice_get, slice_set, length-append, refl, sym, ◌∙◌, ap, arith}

@@ -1,4 +1,5 @@
--- Neighbouring numbers cut into parts, for the contracts of `src/parts.rt`.
+-- Consecutive numbers cut into parts. These definitions serve private contracts: those of
+-- `src/parts.rt` and of the files below it.
 -- Source: new.
 use Rattle.std.specs.Prelude.{ℕ, Bool, ◌≡◌, ◌+◌, ◌-◌, ◌*◌, ◌/◌, ◌<◌, min, nat_le, if◌then◌else◌}
 use Rattle.std.specs.Int.{div_ceil}

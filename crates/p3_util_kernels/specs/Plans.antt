@@ -1,4 +1,4 @@
--- Plans of reversals, their phases and the parts of these, for the contracts of `src/parts/reversal.rt`.
+-- Plans of reversals, their phases and the parts of these, for the private contracts of `src/parts/reversal.rt`.
 -- Source: new.
 use Rattle.std.specs.Prelude.{ℕ, ◌≡◌, ◌+◌, ◌-◌, ◌*◌, ◌/◌, ◌^◌, ◌<◌, ◌≤◌, ◌==◌, nat_le, if◌then◌else◌, max, List, [], ◌∷◌, length}
 use Rattle.p3_util_kernels.specs.declared.parts.reversal.Phase.{Phase}
