@@ -1,24 +1,17 @@
 //! The kernels over slices: all that is unsafe is in this file.
 //!
-//! A kernel is proved to keep the conditions of `exchange`, `put` and `at` for every holder, where its own condition holds.
-//! So the holders here test no index, as long as each function below tests its kernel's condition before it makes one.
-//! They are private to this file, so that nothing else can make one. The feature `checked` puts holders that test each index
-//! in their place.
+//! A kernel is proved to keep the conditions of `exchange`, `put` and `at` for every holder, as long as its own condition
+//! holds. So the holders here test no index. `reverse`, `reverse_rows`, `transpose`, `transpose_in_parts` and `Phases::new`
+//! test the condition first. `next_phase`, `split_first`, `put` and `exchange` test nothing: their conditions follow from
+//! private fields that these functions set together, and a comment beside each says which field gives which clause. The holders
+//! are private to this file, so nothing else can make one. With the feature `checked` there are holders instead that test each
+//! index.
 //!
 //! Parts of a call have one list at once. The holder of a part is a pointer and a length, and makes references to one place or
-//! one run at a time, never to the whole list: see `SliceItems`. Which parts there are, and what each one does, is proved code as
-//! the kernels are (`kernels/parts.rs`). Each part makes an exact number of steps, and it is proved
-//! (`crates/p3_util_kernels/src/parts/laws.rt`) that over items that all differ each of them is at another place of the part, that
-//! two parts of a phase have no place in common, and that all parts are the call, those of each phase in any order.
-//!
-//! Two things are left to reading:
-//!
-//! - that a generic body steps at the same places whatever its items and its holder are. A kernel calls no `clone`, `size_of`,
-//!   `type_name` or `needs_drop`, and a script looks for such words in the kernels' sources. So what is proved over one list and
-//!   one holder, by which steps are counted or noted, holds over all.
-//! - that this file gives each number of a phase out once, and one phase after the other, which rustc's borrow checker sees to:
-//!   [`Parts`] takes numbers from a range and is not cloned, and the parts of a phase borrow the [`Phases`] that the next one is
-//!   asked of.
+//! one run at a time, never to the whole list: see `SliceItems`. Which parts there are, and what each one does, is proved code
+//! as the kernels are (`kernels/parts.rs`). It is proved (`crates/p3_util_kernels/src/parts/laws.rt`) that two parts of a phase
+//! have no place in common, and that the steps of all parts, interleaved in any way, are the call. The package's README lists
+//! under "Of threads" what of this is not proved but checked by review.
 
 use core::ops::Range;
 
@@ -68,6 +61,9 @@ pub(crate) fn transpose<T: Copy>(input: &[T], output: &mut [T], width: usize, he
 }
 
 /// Those parts of a phase over a list that have these numbers. No others have one of them.
+///
+/// The fields are set together, by `transpose_in_parts` and by `Phases::next_phase`: `items` is the list that `phase` was made
+/// for, and `numbers` are below the number of its parts. They are private, and there is no `Clone`, so that stays true.
 pub(crate) struct Parts<'a, T, P> {
     items: PartItems<'a, T>,
     phase: P,
@@ -93,6 +89,8 @@ pub(crate) fn transpose_in_parts<'a, T: Copy>(
     if !fits_matrix(source.len(), output.len(), width, height) {
         return None;
     }
+    // Both lengths are `width * height`, which is below 2^64 as a length. These are `input_fits` and `output_fits` of
+    // `TransposePlan::put`, for the plan of this width and height.
     let plan = TransposePlan::new(width, height, parts, cfg!(not(feature = "checked")));
     let strips = strips_of(Matrix::new(SliceSource::new(source), width, height));
     let count = if size_of::<T>() == 0 { 0 } else { plan.count() };
@@ -105,7 +103,8 @@ pub(crate) fn transpose_in_parts<'a, T: Copy>(
     })
 }
 
-/// A list whose rows are reversed in phases, and the number of the next one.
+/// A list whose rows are reversed in phases, and the number of the next one. The plan is one of this list, as `Phases::new`
+/// made it, or has no phase.
 pub(crate) struct Phases<'a, F> {
     vals: &'a mut [F],
     plan: ReversalPlan,
@@ -128,6 +127,9 @@ impl<'a, F> Phases<'a, F> {
     pub(crate) fn next_phase(&mut self) -> Option<Parts<'_, F, Phase>> {
         let phase = self.plan.phase(self.next)?;
         self.next += 1;
+        // `plan` was made for the length of `vals`, so by the clause `phases` of `ReversalPlan::new` this phase is one of a
+        // list of so many items: the clause `list` of `Phase::exchange`. Where it was made for 0 items, there is no phase. The
+        // parts borrow `self`, so the next phase is not asked for before they are gone.
         let len = self.vals.len();
         Some(Parts {
             items: PartItems::in_shares(self.vals, len),
@@ -145,6 +147,8 @@ impl<'a, F> Phases<'a, F> {
 impl<T, P: Copy> Parts<'_, T, P> {
     /// Takes the first part away.
     pub(crate) fn split_first(&mut self) -> Option<Self> {
+        // `Range::next` gives a number out once, so no two parts have the same one, and parts with different numbers have no
+        // place in common. That is what lets a part have a share of `items`.
         let number = self.numbers.next()?;
         Some(Parts {
             items: self.items.share(),
@@ -170,6 +174,8 @@ impl<T: Copy> Parts<'_, T, Regions<&[T]>> {
 impl<T: Copy, R> Parts<'_, T, Regions<R>> {
     /// Puts the regions that are left, as `source` has their items.
     fn put_from(mut self, source: impl Source<Item = T> + Copy) {
+        // The clause `below` of `TransposePlan::put` holds because `numbers` are below the plan's count. `input_fits` and
+        // `output_fits` hold because `source` and `items` are the lists that `transpose_in_parts` tested for this plan.
         let Regions { plan, strips, .. } = self.phase;
         self.numbers
             .for_each(|number| _ = plan.put(self.items.share(), source, number, strips));
@@ -179,6 +185,8 @@ impl<T: Copy, R> Parts<'_, T, Regions<R>> {
 impl<F> Parts<'_, F, Phase> {
     /// Makes the exchanges of the parts that are left.
     pub(crate) fn exchange(mut self) {
+        // The clause `below` of `Phase::exchange` holds because `numbers` are below the phase's count, and `list` because
+        // `items` is the list that the phase was made for. `len_fits` holds of every slice.
         self.numbers
             .for_each(|number| _ = self.phase.exchange(self.items.share(), number));
     }
@@ -278,9 +286,9 @@ mod slices {
             // SAFETY: the place is within the slice, by the `requires` of `Cells::put`.
             unsafe { *self.first.add(i) = v }
             // An input and an output are known to be apart, so the compiler would read eight items at once before it writes
-            // them. For processors with AVX-512 it makes one gather of these reads, which lie in eight rows, and that takes
-            // two to four times as long as item by item, for items of 4 and 8 bytes. A fence of the compiler keeps each read behind the write before it.
-            // The processor sees nothing of it.
+            // them. For processors with AVX-512 it makes one gather of these reads, which lie in eight rows, and that takes two
+            // to four times as long as item by item, for items of 4 and 8 bytes. A fence of the compiler keeps each read behind
+            // the write before it. The processor sees nothing of it.
             compiler_fence(Ordering::SeqCst);
         }
     }
