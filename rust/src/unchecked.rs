@@ -1,4 +1,5 @@
-//! The kernels over slices: all that is unsafe is in this file.
+//! The kernels over slices. All unsafe code of the package is in this file and in `unchecked/vectors.rs`, which turns squares of items
+//! of 4 and of 8 bytes in vector registers and is used by this file alone.
 //!
 //! A kernel is proved to keep the conditions of `exchange`, `put` and `at` for every holder, as long as its own condition
 //! holds. So the holders here test no index. `reverse`, `reverse_rows`, `transpose`, `transpose_in_parts` and `Phases::new`
@@ -59,6 +60,12 @@ pub(crate) fn transpose<T: Copy>(input: &[T], output: &mut [T], width: usize, he
     }
     fits
 }
+
+/// Whether the holders of this file turn blocks of items of 4 and of 8 bytes in registers.
+#[cfg(not(feature = "checked"))]
+pub(crate) use vectors::HERE as TURNS_IN_REGISTERS;
+#[cfg(feature = "checked")]
+pub(crate) const TURNS_IN_REGISTERS: bool = false;
 
 /// Those parts of a phase over a list that have these numbers. No others have one of them.
 ///
@@ -199,7 +206,8 @@ mod slices {
     use core::slice::from_raw_parts_mut;
     use core::sync::atomic::{Ordering, compiler_fence};
 
-    use crate::kernels::places::{Cells, Places, Source};
+    use super::vectors;
+    use crate::kernels::places::{Cells, Four, Places, Source};
 
     /// The items of a slice, as places or as cells, for one kernel or for one part.
     ///
@@ -270,6 +278,36 @@ mod slices {
             let run = |start| unsafe { from_raw_parts_mut(self.first.add(start), len) };
             run(i).swap_with_slice(run(j));
         }
+
+        /// By squares that are turned in registers, for items of 4 and of 8 bytes. For others a square is one item.
+        #[inline(always)]
+        fn exchange_blocks(&mut self, i: usize, j: usize, stride: usize) {
+            let (n, size) = (self.len, stride.saturating_mul(3).saturating_add(4));
+            debug_assert!(stride >= 4 && size <= n && i <= n - size && j <= n - size && i + size <= j);
+            let side = vectors::side::<F>();
+            for row in (0..4).step_by(side) {
+                for col in (0..4).step_by(side) {
+                    let (i, j) = (i + row * stride + col, j + col * stride + row);
+                    // SAFETY: the squares lie in two blocks that are within the slice, by the clause `second` of
+                    // `Places::exchange_blocks`, and have no place in common, by `apart`. Rows of a block do not overlap, by
+                    // `rows`, and a row of a square has 16 bytes: four items of 4, or two of 8.
+                    match side {
+                        4 => unsafe {
+                            vectors::exchange(self.first.add(i), self.first.add(j), stride, vectors::turned_4)
+                        },
+                        2 => unsafe {
+                            vectors::exchange(self.first.add(i), self.first.add(j), stride, vectors::turned_8)
+                        },
+                        _ => self.exchange_ordered(i, j),
+                    }
+                }
+            }
+        }
+
+        #[inline(always)]
+        fn by_blocks(&self) -> bool {
+            vectors::side::<F>() > 1
+        }
     }
 
     impl<T: Copy> Cells for SliceItems<'_, T> {
@@ -290,6 +328,19 @@ mod slices {
             // to four times as long as item by item, for items of 4 and 8 bytes. A fence of the compiler keeps each read behind
             // the write before it. The processor sees nothing of it.
             compiler_fence(Ordering::SeqCst);
+        }
+
+        #[inline(always)]
+        fn put_four(&mut self, i: usize, four: &Four<T>) {
+            debug_assert!(self.len >= 4 && i <= self.len - 4);
+            // SAFETY: the four places are within the slice, by the `requires` of `Cells::put_four`. A `Four` lies in memory as
+            // four items of a slice do, since it is `repr(C)`.
+            unsafe { self.first.add(i).cast::<Four<T>>().write(*four) }
+        }
+
+        #[inline(always)]
+        fn turned(rows: &Four<Four<T>>) -> Four<Four<T>> {
+            vectors::turned(rows)
         }
     }
 
@@ -319,6 +370,32 @@ mod slices {
             // SAFETY: the place is within the slice, by the `requires` of `Source::at`.
             unsafe { *self.items.get_unchecked(i) }
         }
+
+        #[inline(always)]
+        fn four(&self, i: usize) -> Four<T> {
+            debug_assert!(self.items.len() >= 4 && i <= self.items.len() - 4);
+            // SAFETY: the four places are within the slice, by the `requires` of `Source::four`. A `Four` lies in memory
+            // as four items of a slice do, since it is `repr(C)`.
+            unsafe { self.items.as_ptr().add(i).cast::<Four<T>>().read() }
+        }
+    }
+}
+
+#[cfg(not(feature = "checked"))]
+mod vectors;
+
+/// What a shuffle makes of two registers with these items.
+#[cfg(all(test, not(feature = "checked")))]
+fn shuffled<T: Copy, const N: usize>(
+    shuffle: fn(vectors::Register, vectors::Register) -> vectors::Register,
+    operands: [[T; N]; 2],
+) -> [T; N] {
+    const { assert!(size_of::<[T; N]>() == size_of::<vectors::Register>()) };
+    let [a, b] = operands;
+    // SAFETY: so many items fill a register, and a shuffle keeps items whole.
+    unsafe {
+        use core::mem::transmute_copy;
+        transmute_copy(&shuffle(transmute_copy(&a), transmute_copy(&b)))
     }
 }
 

@@ -49,7 +49,8 @@ impl<C: Cells> Cells for PutSteps<C> {
     ghost same_holder_trans = { λ m n all a b c. more_puts m n all (C.items a.cells) (C.items b.cells) (C.items c.cells) };
 }
 
-/// A holder by which steps exist: `same_holder n a b` says that n exchanges lead from the items of `a` to those of `b`.
+/// A holder by which steps exist: `same_holder n a b` says that n exchanges lead from the items of `a` to those of `b`. The holder
+/// in it is any, so what is proved over this one holds whatever `by_blocks` says.
 #[derive(Drop)]
 struct SwapSteps<S> {
     places: S,
@@ -68,6 +69,10 @@ impl<S: Places> Places for SwapSteps<S> {
 
     fn exchange(&mut self, i: usize, j: usize) {
         self.places.exchange(i, j);
+    }
+
+    fn by_blocks(&self) -> bool {
+        self.places.by_blocks()
     }
 
     ghost same_holder_refl = { λ a. no_swaps (S.items a.places) };
