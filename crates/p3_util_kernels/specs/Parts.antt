@@ -18,12 +18,13 @@ pub record FollowEachOther (count len : ℕ) (start : ℕ → ℕ) : Type 0 wher
 abbrev pub parts_in : (len step : ℕ) → ℕ
 parts_in len step = div_ceil len step
 
--- Parts of `step` numbers are no longer than they have to be: parts of any whole number of units that are at most `parts` parts
--- of the numbers below `len`, where 0 parts are 1, are no shorter.
+-- Parts of `step` numbers are no longer than necessary. If parts of some whole number of units are
+-- at most `parts` parts of the numbers below `len`, then they are at least as long. Here 0 for
+-- `parts` counts as 1.
 abbrev pub IsLeastStep : (parts unit len step : ℕ) → Type 0
 IsLeastStep parts unit len step = (units : ℕ) → 0 < units → parts_in len (units * unit) ≤ max parts 1 → step ≤ units * unit
 
--- where part k of these begins: at `k * step`, and at most at `len`
+-- where part k of these begins: at `k * step`, but at most at `len`
 abbrev pub start_of : (len step k : ℕ) → ℕ
 start_of len step k = min (k * step) len
 

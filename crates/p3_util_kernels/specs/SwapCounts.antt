@@ -18,8 +18,8 @@ row_swaps items row_width = row_width * short_swaps (clog (items / row_width))
 abbrev pub square_swaps : ℕ → ℕ
 square_swaps side = side * (side - 1) / 2
 
--- the swaps of `2 ^ k` items by way of chunks, squares and chunks, with `h = k / 2` and `c = k - h`: `2 * short_swaps h * 2
--- ^ c + 2 ^ (c - h) * square_swaps (2 ^ h)`
+-- the number of swaps for `2 ^ k` items by chunks, squares and chunks, with `h = k / 2` and `c = k
+-- - h`: `2 * short_swaps h * 2 ^ c + 2 ^ (c - h) * square_swaps (2 ^ h)`
 abbrev pub long_swaps : ℕ → ℕ
 long_swaps k = 2 * (short_swaps (k / 2) * 2 ^ (k - k / 2)) + 2 ^ (k - k / 2 - k / 2) * square_swaps (2 ^ (k / 2))
 

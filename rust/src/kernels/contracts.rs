@@ -102,15 +102,15 @@
 //! | `IsRowReversal row_width old new` | With `2 ^ k` rows of `row_width` items, row r of `new` is row `rev k r` of `old`, item by item, and the length stays the same |
 //! | `IsReversal old new` | With `2 ^ k` items, place i of `new` holds the item from place `rev k i` of `old`. This is `IsRowReversal` for rows of one item |
 //! | `RunsExchanged i j len old new` | the `len` items from place i on are exchanged with the `len` items from place j on, in order, and all other items stay |
-//! | `BlocksExchanged n i j stride old new` | The items of two blocks of 4 by 4 are exchanged, whose rows begin `stride` places apart: the first n items of the block that begins at place i, row after row, with their mirror images in the block that begins at place j, where row r and column c of the one is column r and row c of the other. All other items stay |
+//! | `BlocksExchanged n i j stride old new` | The first n items of a block of 4 by 4 items are exchanged with their mirror images in another block. The rows of both blocks begin `stride` places apart, and the blocks begin at places i and j. Row r and column c of one block correspond to column r and row c of the other, and items are counted row after row. All other items stay |
 //! | `IsTranspose width height old new` | `old` has `height` rows of `width` items, and `new` is its transpose, `width` rows of `height` items. Place `x * height + y` of `new` holds the item at place `y * width + x` of `old`, for x < width and y < height |
 //! | `LiesInMatrix region width height` | the region lies in a matrix of `height` rows of `width` items |
 //! | `rows_of region` | the number of rows of the region |
 //! | `cols_of region` | the number of columns of the region |
 //! | `items_of region` | the number of items of the region |
 //! | `IsRegionTransposed region width height input old new` | `input` has `height` rows of `width` items. For each row y and column x of the region, place `x * height + y` of `new` holds the item at place `y * width + x` of `input`. Every other place holds what it held in `old` |
-//! | `IsStageOne old new` | of a block of 4 by 4 items, the lowest bit of each item's row number is exchanged with that of its column number |
-//! | `IsStageTwo old new` | of a block of 4 by 4 items, the next bit of each item's row number is exchanged with that of its column number |
+//! | `IsStageOne old new` | in a block of 4 by 4 items, the lowest bit of each item's row number is exchanged with the lowest bit of its column number |
+//! | `IsStageTwo old new` | in a block of 4 by 4 items, the higher bit of each item's row number is exchanged with the higher bit of its column number |
 //! | `IsBlockTransposed old new` | a block of 4 by 4 items is transposed |
 //! | `in_order four` | four items as a list |
 //! | `rows_in_order rows` | the rows of a block of 4 by 4 items as lists |
@@ -118,7 +118,7 @@
 //! | `short_swaps k` | the number of pairs of different numbers of k bits that are each other's reverse: `(2 ^ k - 2 ^ ceil(k / 2)) / 2`, since `2 ^ ceil(k / 2)` of the `2 ^ k` numbers are their own reverse |
 //! | `row_swaps items row_width` | the number of swaps for `items` items in rows of `row_width`: one for each item of a row and each pair of rows, `row_width * short_swaps (clog (items / row_width))` |
 //! | `square_swaps side` | the number of pairs of places of a square of `side` rows that mirror each other across its diagonal: `side * (side - 1) / 2` |
-//! | `long_swaps k` | the swaps of `2 ^ k` items by way of chunks, squares and chunks, with `h = k / 2` and `c = k - h`: `2 * short_swaps h * 2 ^ c + 2 ^ (c - h) * square_swaps (2 ^ h)` |
+//! | `long_swaps k` | the number of swaps for `2 ^ k` items by chunks, squares and chunks, with `h = k / 2` and `c = k - h`: `2 * short_swaps h * 2 ^ c + 2 ^ (c - h) * square_swaps (2 ^ h)` |
 //! | `reversal_swaps items` | the number of swaps for `items` items, zero or a power of two: `short_swaps (clog items)` up to 8192 items, and `long_swaps (clog items)` beyond |
 //! | `counted c s` | the count c after s more steps, which is `min (2 ^ 128 - 1) (c + s)` |
 //! | `same_holder n a b` | b is a after n exchanges. If the holder borrows its items, it also says that b borrows the same slice as a, so a change to the holder is a change to that slice. A holder that does not count its exchanges ignores n. Of `Cells`: b is a after n puts. The rest is the same as for `Places` |

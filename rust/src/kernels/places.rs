@@ -28,12 +28,12 @@ mod slices;
 pub use counters::{Swaps, Writes};
 pub use slices::{SliceCells, SlicePlaces, SliceSource};
 
-/// Four items that lie together in memory.
+/// Four items that are next to each other in memory.
 #[derive(Clone, Copy, Debug)]
 #[repr(C)]
 pub struct Four<T>(pub T, pub T, pub T, pub T);
 
-/// A list whose items can be exchanged, and neither read nor moved in another way.
+/// A list whose items can be exchanged. They can be neither read nor moved in another way.
 ///
 /// A contract sees an implementation as the list of its items. `same_holder n a b` says that b is a
 /// after n exchanges. If the holder borrows its items, it also says that b borrows the same slice
@@ -110,9 +110,10 @@ pub trait Places {
         }
     }
 
-    /// Exchanges a block of 4 by 4 items with the mirror image of another one. The rows of both begin `stride` places apart, and
-    /// the blocks at places `i` and `j`: the item of row r and column c of the one goes to row c and column r of the other. The
-    /// two have no place in common. A kernel calls it where the holder's `by_blocks` says so.
+    /// Exchanges a block of 4 by 4 items with the mirror image of another one. The rows of both
+    /// begin `stride` places apart, and the blocks begin at places `i` and `j`. The item in row r
+    /// and column c of each block goes to row c and column r of the other. The two blocks must not
+    /// overlap. A kernel calls this only if the holder's `by_blocks` says so.
     ///
     /// # Contract
     ///
@@ -127,7 +128,7 @@ pub trait Places {
     /// ```
     #[inline(always)]
     fn exchange_blocks(&mut self, i: usize, j: usize, stride: usize) {
-        // Called so that the proof knows that the length fits a usize.
+        // `len` is called for its contract, which tells the proof that the length fits a usize.
         let _ = self.len();
         for r in 0..4 {
             for c in 0..4 {
@@ -136,7 +137,7 @@ pub trait Places {
         }
     }
 
-    /// Whether `exchange_blocks` is faster than to exchange the same items row after row.
+    /// Whether `exchange_blocks` is faster than exchanging the same items row after row.
     #[inline(always)]
     fn by_blocks(&self) -> bool {
         false
@@ -175,7 +176,8 @@ pub trait Cells {
     /// ```
     fn put(&mut self, i: usize, v: Self::Item);
 
-    /// Puts four items at the places from `i` on. All other items stay. A holder may do so in a faster way than by its `put`.
+    /// Writes four items at the places from `i` on. All other items stay. A holder may do this in a
+    /// faster way than by its `put`.
     ///
     /// # Contract
     ///
@@ -190,7 +192,7 @@ pub trait Cells {
     /// ```
     #[inline(always)]
     fn put_four(&mut self, i: usize, four: &Four<Self::Item>) {
-        // Called so that the proof knows that the length fits a usize.
+        // `len` is called for its contract, which tells the proof that the length fits a usize.
         let _ = self.len();
         self.put(i, four.0);
         self.put(i + 1, four.1);
@@ -198,7 +200,8 @@ pub trait Cells {
         self.put(i + 3, four.3);
     }
 
-    /// The columns of a block of 4 by 4 items that has these rows. A holder may make them in a faster way.
+    /// The columns of a block of 4 by 4 items that has these rows. A holder may compute them in a
+    /// faster way.
     ///
     /// # Contract
     ///
@@ -255,7 +258,7 @@ pub trait Source {
     /// ```
     #[inline(always)]
     fn four(&self, i: usize) -> Four<Self::Item> {
-        // Called so that the proof knows that the length fits a usize.
+        // `len` is called for its contract, which tells the proof that the length fits a usize.
         let _ = self.len();
         Four(self.at(i), self.at(i + 1), self.at(i + 2), self.at(i + 3))
     }

@@ -133,7 +133,8 @@ pub(crate) fn exchange_region<M: Places>(m: M, square: Square, region: Region) -
     }
 }
 
-/// As [`exchange_region`], row after row, or by blocks where the holder is faster so.
+/// Does the same as [`exchange_region`], row after row, or by blocks if that is faster for the
+/// holder.
 #[inline(always)]
 fn exchange_leaf<M: Places>(m: M, square: Square, region: Region) -> M {
     let mut m = m;
@@ -150,8 +151,8 @@ fn exchange_leaf<M: Places>(m: M, square: Square, region: Region) -> M {
     m
 }
 
-/// Exchanges the four rows from `row` on of the columns of `region`, which are right of the diagonal, with their mirror image, by
-/// blocks of 4 by 4 items.
+/// Exchanges the items of the four rows from `row` on in the columns of `region`, which are to the
+/// right of the diagonal, with their mirror images, by blocks of 4 by 4 items.
 #[inline(always)]
 fn exchange_block_row<M: Places>(m: M, square: Square, row: usize, region: Region) -> M {
     let Square { base, stride } = square;
