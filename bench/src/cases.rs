@@ -14,7 +14,7 @@ pub type Group = (&'static str, fn(Work) -> bool);
 const GROUPS: &[Group] = &[
     ("reversals of up to 2^13 items", |it| it.is("reverse", ..=1 << 13)),
     ("reversals of more items", |it| it.is("reverse", 1 << 14..)),
-    ("rows, beside a copy", |it| it.is("rows", ..)),
+    ("rows, compared with a copy", |it| it.is("rows", ..)),
     ("transposes of up to 8x8 items", |it| it.is("transpose", ..=64)),
     ("transposes of 65 to 2^20 items", |it| it.is("transpose", 65..=1 << 20)),
     ("transposes of up to 2^20 items", |it| it.is("transpose", ..=1 << 20)),
