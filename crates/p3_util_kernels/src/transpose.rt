@@ -110,7 +110,7 @@ where
 }
 
 /// Writes the transpose of `input` to `out`, as [`transpose`] does, in exactly `width * height`
-/// writes. Both lengths must be `width * height`, which [`fits_matrix`] checks. Where 16 divides
+/// writes. Both lengths must be `width * height`, which [`fits_matrix`] checks. If 16 divides
 /// `width`, up to 1024 items are put by blocks of 4 by 4, as far as there are 16 whole rows. No
 /// clause says so, but tests of the order of writes show it.
 pub fn transpose_on<C: Cells>(input: &[C::Item], out: &mut Writes<C>, width: usize, height: usize)
