@@ -1,4 +1,5 @@
--- Lists of exchanges and of writes, and the least number of steps in which a list can be rearranged.
+-- Lists of exchanges and of writes, and the least number of steps in which a list can be
+-- rearranged.
 -- Source: new.
 use Rattle.std.specs.Prelude.{ℕ, Bool, ◌==◌, ◌≡◌, ◌≢◌, ◌↔◌, ◌+◌, ◌-◌, ◌*◌, ◌/◌, ◌^◌, ◌<◌, ◌≤◌, IsTrue, if◌then◌else◌, List, [], ◌∷◌, All, AllPairs, length, slice_get, slice_set, swap}
 use Rattle.p3_util_kernels.specs.Digits.{rev, sum_below}
@@ -101,7 +102,8 @@ abbrev pub ReversalDiffers : Type 0 → Type 0
 ReversalDiffers A = (k : ℕ) (old new : List A) → length old ≡ 2 ^ k → AllDiffer old
     → IsReversal old new → DifferAt (2 ^ k) (2 * short_swaps k) old new
 
--- a square of different items differs from its transpose at `side * (side - 1)` places, all but those on the diagonal
+-- a square of different items differs from its transpose at `side * (side - 1)` places, all but
+-- those on the diagonal
 abbrev pub SquareDiffers : Type 0 → Type 0
 SquareDiffers A = (side : ℕ) (old new : List A) → length old ≡ side * side → AllDiffer old
     → IsTranspose side side old new → DifferAt (side * side) (side * (side - 1)) old new

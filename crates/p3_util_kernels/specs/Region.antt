@@ -1,4 +1,5 @@
--- A region of a matrix, transposed into an output that has room for the transpose of the whole matrix.
+-- A region of a matrix, transposed into an output that has room for the transpose of the whole
+-- matrix.
 -- Source: new.
 use Rattle.std.specs.Prelude.{ℕ, ◌≡◌, ◌≢◌, ◌+◌, ◌-◌, ◌*◌, ◌^◌, ◌<◌, ◌≤◌, List, length, slice_get}
 use Rattle.p3_util_kernels.specs.declared.transpose.regions.Region.{Region}

@@ -117,7 +117,8 @@ pub(crate) fn put_region<C: Cells, R: Source<Item = C::Item> + Copy>(
         .cells
 }
 
-/// Two regions of one matrix that have no row, or no column, in common have no place of the transpose in common.
+/// Two regions of one matrix that have no row, or no column, in common have no place of the
+/// transpose in common.
 pub(crate) fn regions_apart(first: Region, second: Region, width: usize, height: usize)
     requires first { LiesInMatrix first width height }
     requires second { LiesInMatrix second width height }
@@ -125,7 +126,8 @@ pub(crate) fn regions_apart(first: Region, second: Region, width: usize, height:
     ensures { NoPlaceInCommon (IsPlaceOfRegion first height) (IsPlaceOfRegion second height) }
 {}
 
-/// Two parts of a matrix that is cut along its rows or along its columns have no place of the transpose in common.
+/// Two parts of a matrix that is cut along its rows or along its columns have no place of the
+/// transpose in common.
 pub(crate) fn parts_of_matrix(
     width: usize,
     height: usize,
