@@ -16,13 +16,6 @@ fail() {
     bad=1
 }
 
-# The last function that begins at or above a line of a source file. An attribute belongs to the function below it.
-function_at() {
-    local line=$2
-    while sed -n "${line}p" "$1" | grep -q '^ *#\['; do line=$((line + 1)); done
-    head -n "$line" "$1" | sed -nE 's/^ *(pub(\([a-z]+\))? )?(const )?(extern "C" )?fn ([a-z0-9_]+).*/\5/p' | tail -n 1
-}
-
 edit_line='must-fail ([a-z0-9_]+)/([A-Za-z0-9_.-]+)\.edit: (.*)'
 in_proof='proofs/(.+)/[A-Z][a-z]+\.antt:[0-9:]+ error: `([^`]+)(`?)'
 in_source='src/(.+)\.rt:([0-9]+):[0-9]+: .*\(`([^`]+)(`?)'
@@ -37,7 +30,7 @@ while IFS= read -r line; do
         function=${BASH_REMATCH[1]} goal=${BASH_REMATCH[2]} end=${BASH_REMATCH[3]}
     elif [[ $said =~ $in_source ]]; then
         file=${BASH_REMATCH[1]} number=${BASH_REMATCH[2]} goal=${BASH_REMATCH[3]} end=${BASH_REMATCH[4]}
-        function=$file/$(function_at "crates/$crate/src/$file.rt" "$number")
+        function=$file/$(python3 -B docs/make/rattle_source.py "crates/$crate/src/$file.rt" "$number")
     else
         function='' goal=$said end='`'
     fi

@@ -1,4 +1,5 @@
--- Squares side by side, cut into blocks, for the contracts of `src/parts.rt`.
+-- Squares side by side, cut into blocks. These definitions serve private contracts: those of
+-- `src/parts.rt` and of the files below it.
 -- Source: new.
 use Rattle.std.specs.Prelude.{ℕ, ◌≡◌, ◌+◌, ◌*◌, ◌/◌, ◌<◌, ◌≤◌, ◌==◌, if◌then◌else◌}
 use Rattle.p3_util_kernels.specs.declared.transpose.regions.Region.{Region}

@@ -1,0 +1,156 @@
+"""Writes the tables of definitions in docs/MODEL.md, from the comments above these definitions in crates/*/specs/.
+
+    python3 docs/make/definitions.py
+
+A table has each word of its crate that a clause of a public call, or of a law on parts, names, and each that the comment of
+such a word names in backquotes. The comment is the row's text. Its last sentence `Source: ..` says what the definition was made
+from, and else that of the file's head does."""
+import glob
+import re
+import sys
+
+sys.dont_write_bytecode = True
+from contracts import sections
+from rattle_source import DEFINITION, closed, functions, read
+
+PAGE = "docs/MODEL.md"
+# The files of specs/ of each crate that has a table, in the order of reading. Files that are not named come last.
+ORDER = {
+    "p3_util_kernels": ["Digits", "Powers", "Levels", "Names", "Reversal", "Exchanged", "Transpose", "Region", "Stages", "Square",
+                        "SwapCounts", "Steps", "Least", "Parts", "Blocks", "Plans", "AnyOrder", "PartSteps", "Crossing",
+                        "Diagonal"],
+    "p3_util": ["Flat", "ItemsAt", "ViewLends", "Pieces", "PaddedPieces", "ZipEq", "LinearMap", "MapIter", "MapLends", "JsonArray",
+                "JsonElements"],
+    "p3_util_run": ["Words", "Program", "Arrays", "Texts", "Watch"],
+    "p3_util_c": ["Tried"],
+}
+# The sources whose public clauses docs/CONTRACTS.md does not list.
+OTHERS = ["p3_util_kernels/src/parts.rt", "p3_util_kernels/src/parts/*.rt", "p3_util_kernels/src/parts/laws/*.rt",
+          "p3_util_run/src/program.rt", "p3_util_run/src/fault.rt", "p3_util_c/src/*.rt"]
+# The files of words that no call has in a clause, and that callers need.
+FOR_CALLERS = {"ItemsAt"}
+# What each holder says of itself, and where the comments on its traits say what that is.
+OF_HOLDERS, TRAITS = "same_holder n a b", "crates/p3_util_kernels/src/places.rt"
+BEGIN = "<!-- Made of the comments in crates/{}/specs/ by docs/make/definitions.py. -->"
+END = "<!-- The end of what is made. -->"
+OF_ORIGINAL = " of p3-util 0.8.0"
+
+
+def comment(lines):
+    """The text of lines of comment, and its source, or None where it has none."""
+    text = " ".join(line.strip().removeprefix("--").strip() for line in lines)
+    said, _, source = text.partition("Source: ")
+    return said.strip().removesuffix("."), source.replace(OF_ORIGINAL, "").removesuffix(".") or None
+
+
+def names_in(groups):
+    """The names of groups as `(x y : A)`."""
+    return re.findall(r"\w+", " ".join(re.findall(r"\(((?:\w+ )+):", groups)))
+
+
+def arguments(text, start, name):
+    """The arguments of a definition: those that its type names, or those of its equation, if it has one alone and that more."""
+    head = text[start:text.index("\n", start)]
+    if head.startswith(("pub record", "pub data")):
+        return names_in(head)
+    named = re.match(r"[^:]*: (?:\{[^}]*\} → )?((?:\((?:\w+ )+: (?:[^()]|\([^()]*\))*\) ?→? ?)+)", head)
+    equations = re.findall(rf"^ *{name}\b(.*?) =(?: |$)", re.sub(r"\{[^}\n]*\}", "", text[start:]), re.M)
+    plain = equations[0].split() if len(equations) == 1 else []
+    return max(names_in(named[1]) if named else [], plain, key=len)
+
+
+class Definition:
+    """A definition of a file of specs/: its name and arguments, what its comment says, and its file and source."""
+
+    def __init__(self, file, head, text, found):
+        self.name, self.file = found[2], file
+        above = re.search(rf"((?:^{found[1]}--.*\n)*)\Z", text[:found.start()], re.M)[0]
+        self.meaning, source = comment(above.splitlines())
+        self.source = source or head[1]
+        modules = re.finditer(r"^( *)module _ (.*) where$", text[:found.start()], re.M)
+        outer = {len(module[1]): module[2] for module in modules}
+        given = "".join(said for indent, said in outer.items() if indent < len(found[1]))
+        self.words = names_in(given) + arguments(text, found.start(), self.name)
+
+    def row(self, before):
+        """The row of the table, after the row of the definition `before`."""
+        where = f"`{self.file}`: {self.source}" if not before or self.file != before.file else self.source
+        if before and (self.file, self.source) == (before.file, before.source):
+            where = "the same"
+        return f"| `{' '.join([self.name, *self.words])}` | {self.meaning} | {where} |"
+
+
+def definitions(crate):
+    """Those of a crate's files, in the order of reading."""
+    paths = {re.search(r"(\w+)\.antt", path)[1]: path for path in sorted(glob.glob(f"crates/{crate}/specs/*.antt"))}
+    for file in [*ORDER[crate], *(file for file in paths if file not in {*ORDER[crate], "Lib"})]:
+        with open(paths[file], encoding="utf-8") as found:
+            text = found.read()
+        head = comment(re.match(r"(?:--.*\n)*", text)[0].splitlines())
+        for found in DEFINITION.finditer(text):
+            yield Definition(file, head, text, found)
+
+
+def clauses():
+    """What the clauses say that a reader of the tables may meet."""
+    yield from sections()
+    for path in sorted(path for pattern in OTHERS for path in glob.glob(f"crates/{pattern}")):
+        text = read(path)
+        yield from (said for _, function in functions(text) if function.seen_by for _, said in function.clauses)
+        for ghost in re.finditer(r"^ *ghost \w+ = \{", text, re.M):
+            yield closed(text, ghost.end() - 1)[0]
+
+
+def listed(known):
+    """The names of `known` that have a row."""
+    rows, said = set(), " ".join(clauses())
+    words = {word for word in re.findall(r"(?<![.\w])\w+", said)} | {d.name for d in known if d.file in FOR_CALLERS}
+    while more := {d.name for d in known if d.name in words} - rows:
+        rows |= more
+        meanings = " ".join(d.meaning for d in known if d.name in more)
+        words = {word for code in re.findall(r"`([^`]*)`", meanings) for word in re.findall(r"\w+", code)}
+    return rows
+
+
+def of_holders():
+    """The row of what each holder says of itself: of places, and of cells."""
+    with open(TRAITS, encoding="utf-8") as found:
+        text = " ".join(found.read().replace("///", " ").split())
+    places, cells = re.findall(rf"`{OF_HOLDERS}` says that (.*?)\.? pub trait (?:Places|Cells) ", text)
+    cells = re.sub(r"\[(`\w+`)\]", r"\1", cells)
+    return f"| `{OF_HOLDERS}` | {places}. Of `Cells`: {cells} | `src/places.rt`: new |"
+
+
+def tables():
+    """The rows of each crate's table, by the crate."""
+    known = {crate: list(definitions(crate)) for crate in ORDER}
+    names = listed([d for crate in known.values() for d in crate])
+    for crate, all_of_it in known.items():
+        rows, before = [], None
+        for definition in (d for d in all_of_it if d.name in names):
+            if not definition.meaning or not definition.source:
+                raise SystemExit(f"crates/{crate}/specs/{definition.file}.antt: {definition.name} needs a comment above it, which ends "
+                                 "with a sentence `Source: ..` where the comment at the head of the file does not")
+            rows.append(definition.row(before))
+            before = definition
+        yield crate, rows + [of_holders()] * (crate == "p3_util_kernels")
+
+
+def page():
+    """The page with the tables that the comments give."""
+    with open(PAGE, encoding="utf-8") as found:
+        text = found.read()
+    for crate, rows in tables():
+        begin = BEGIN.format(crate)
+        before, marked, rest = text.partition(begin)
+        if not marked or END not in rest:
+            raise SystemExit(f"{PAGE}: no lines '{begin}' and '{END}', between which the table of {crate} stands")
+        made = ["", "", "| Name | Meaning | File in `specs/`, and source |", "|---|---|---|", *rows, "", ""]
+        text = before + begin + "\n".join(made) + END + rest.partition(END)[2]
+    return text
+
+
+if __name__ == "__main__":
+    made = page()
+    with open(PAGE, "w", encoding="utf-8") as found:
+        found.write(made)

@@ -1,0 +1,123 @@
+"""The text of src/kernels/contracts.rs: what the words of the contracts in the package's documentation mean.
+
+The rows of its tables are those of docs/CALLING.md and docs/MODEL.md, as they stand there, for each word that is used. The
+contract that it reads is the one that docs/CALLING.md reads."""
+import re
+from dataclasses import dataclass
+
+# These two are at the head of the page, and between them is the paragraph under the first table's heading.
+HEAD = "What the words of the contracts mean."
+END = """Nothing tests a `requires` here. The repository has each definition as the checker reads it, in the folders `specs` of
+its crates."""
+# The page and the heading under which a contract is read.
+READ_ALOUD = "docs/CALLING.md", "A contract, word by word"
+# Each table here: its title and the head of its first column, and the page and the heading under which its rows are.
+TABLES = [
+    ("Marks, and words of Rust and its std", "In a clause", "docs/CALLING.md", "How a clause is read"),
+    ("Words of this package's kernels", "Name", "docs/MODEL.md", "Definitions of `p3_util_kernels`, in `specs/`"),
+    ("Words of the chunks, the map and `zip_eq`", "Name", "docs/MODEL.md", "Definitions of `p3_util`, in `specs/`"),
+]
+CONTRACT = re.compile(r"^ */// ```text\n(?P<clauses>(?: *///.*\n)*?) */// ```\n(?: *#\[.*\n)*(?P<head>(?:; \w+\]|[^;{])*)", re.M)
+OWNER = re.compile(r"^(?:impl|pub trait)\b[^{]*", re.M)
+TOKEN = re.compile(r"\.\w+|\w+|[^\s\w]")
+
+
+class Undefined(Exception):
+    """A word of a contract that no row defines: its place and the word."""
+
+
+@dataclass
+class Row:
+    """A row of a table: its first two cells, and the words and the marks that the first one defines."""
+    name: str
+    meaning: str
+    words: set
+
+
+def section(page, heading):
+    """What is under a heading of a page."""
+    return page.partition(f"\n## {heading}\n")[2].partition("\n## ")[0]
+
+
+def rows(text):
+    """The rows of the table of a section."""
+    for name, meaning in re.findall(r"^\|([^|\n]*)\|([^|\n]*)\|", text, re.M)[2:]:
+        words = {word for code in re.findall(r"`([^`]*)`", name) for word in defined(code)}
+        yield Row(name.strip(), unlinked(meaning.strip()), words)
+
+
+def unlinked(text):
+    """The text without links, since a page of the repository is not where the documentation is."""
+    return re.sub(r"\[([^]]*)\]\([^)]*\)", r"\1", text)
+
+
+def defined(code):
+    """What a piece of code in a first cell defines: its first word, names after a dot, and marks. Its other words, and those of
+    one letter, are arguments."""
+    first, *others = TOKEN.findall(code)
+    words = {first, *(token for token in others if not re.fullmatch(r"\w+", token, re.A))}
+    return {bare(word) for word in words if not re.fullmatch(r"[A-Za-z]", word)}
+
+
+def bare(token):
+    return token[1:] if token[0] == "." and len(token) > 1 else token
+
+
+def contracts(text):
+    """Of each contract in a file that `erase` wrote: its clauses, and the heads of its function and of the impl or trait around
+    that."""
+    for contract in CONTRACT.finditer(text):
+        owners = [owner[0] for owner in OWNER.finditer(text, 0, contract.start())]
+        inner = contract["head"].startswith(" ")
+        yield re.sub(r"^ */// ?", "", contract["clauses"], flags=re.M), (owners[-1] if inner else "") + contract["head"]
+
+
+def used(clauses, head):
+    """The words and the marks of clauses, but for comments, the clauses' names, numbers, and what the heads or the clauses
+    bind."""
+    clauses = re.sub(r"//.*|^(requires|ensures)\*? ?\w* \{|\}(?=\s*^(requires|ensures|//)|\s*\Z)", "", clauses, flags=re.M)
+    bound = set(re.findall(r"\w+", head)) | set(re.findall(r"(?<=[({])\w+(?= [:=])|(?<=let )\w+", clauses))
+    bound |= {name for names in re.findall(r"λ ([\w ]+)\.", clauses) for name in names.split()}
+    return {bare(token) for token in TOKEN.findall(clauses) if not token.isdigit() and token not in bound}
+
+
+def undefined(written, tables):
+    """A line for each word of a contract that has no row."""
+    known = {word for table in tables for row in table for word in row.words}
+    for path, text in written.items():
+        for clauses, head in contracts(text):
+            for word in sorted(used(clauses, head) - known):
+                function = re.search(r"fn (\w+)", head)[1]
+                yield f"{path}: no row of docs/CALLING.md or docs/MODEL.md defines `{word}`, which the contract of {function} has"
+
+
+def shown(written, tables):
+    """The rows of each table for the words of the contracts, and for those that such rows have in backquotes."""
+    words = {word for text in written.values() for clauses, head in contracts(text) for word in used(clauses, head)}
+    before = None
+    while words != before:
+        before = set(words)
+        for row in (row for table in tables for row in table if row.words & before):
+            words |= {word for code in re.findall(r"`[^`]*`", row.meaning) for word in re.findall(r"\w\w+", code)}
+    return [[row for row in table if row.words & words] for table in tables]
+
+
+def read_aloud(text):
+    """Of the section that reads a contract: its first sentence, the contract, and the list of what each clause says."""
+    parts = "\n\n".join(text.strip().split("\n\n")[:3]).replace("```rust\n", "```text\n")
+    return unlinked(parts).split("\n")
+
+
+def page(written, read):
+    """The text of the page for the files that `erase` wrote, where `read` gives the text of a page of the repository. A word
+    without a row ends it."""
+    sections = [section(read(source), heading) for *_, source, heading in TABLES]
+    tables = [list(rows(text)) for text in sections]
+    for line in undefined(written, tables):
+        raise Undefined(line)
+    lines = [HEAD, "", *sections[0].strip().split("\n\n")[0].split("\n"), "", *END.split("\n")]
+    aloud, heading = READ_ALOUD
+    lines += ["", f"# {heading}", "", *read_aloud(section(read(aloud), heading))]
+    for (title, column, *_), table in zip(TABLES, shown(written, tables)):
+        lines += ["", f"# {title}", "", f"| {column} | Meaning |", "|---|---|", *(f"| {row.name} | {row.meaning} |" for row in table)]
+    return "".join(f"//! {line}".rstrip() + "\n" for line in lines)

@@ -1,0 +1,255 @@
+"""For tests/agree: compares the pages with the code: the functions that blocks of Rust quote, the clauses that MODEL names, the
+constants of ARCHITECTURE's table and of sentences, and each link, file and name; and the modules with the files."""
+import functools
+import itertools
+import os
+import re
+import subprocess
+
+from contracts import items
+from rattle_source import definition_texts, functions, stood_on
+from rattle_source import read as read_source
+
+# Names of std, of the original, of the kit and of the system that pages speak of, and no source has.
+OUTSIDE = set("""
+    as_chunks as_flattened_mut bytemuck DisjointMutPtr gcd_inner gcd_inversion_prime_field_32 get_disjoint_mut into_flattened
+    p3_maybe_rayon relatively_prime_u64 transparent TransparentWrapper try_from_fn
+    axioms holes incremental Invariants LEMMA libraries statements tidy
+""".split())
+# These pages speak of names that are not here, or are here no more, so none is looked up.
+ELSEWHERE = {"CHANGELOG.md", "docs/TRIED.md", "docs/DIFFERENCES.md"}
+TABLE_IS_ABOUT = r"rust/|crates/p3_util(_kernels|_c|_run)?/"
+TABLE_ROW = r"^\| (`[A-Z_`, ]+`) \| ([\d, ^+]+) \| `([^`]+)` \|.*$"
+FILE = r"[\w.-]+(/[\w.-]+)+/?|[\w-]+\.(md|rt|antt|sh|py|rs|h|c|tsv|svg|txt|toml)"
+
+
+def read(path):
+    with open(path, encoding="utf-8", errors="replace") as text:
+        return text.read()
+
+
+listing = ["git", "ls-files", "--cached", "--others", "--exclude-standard"]
+tracked = subprocess.run(listing, capture_output=True, text=True, check=True).stdout.split("\n")
+tracked = [path for path in tracked if os.path.isfile(path)]
+pages = {path: read(path) for path in tracked if path.endswith(".md")}
+sources = {path: read(path) for path in tracked if re.fullmatch(r"crates/\w+/src/.*\.rt", path)}
+sources = {path: text for path, text in sources.items() if not re.search(r"/tests(\.rt|/)", path)}
+
+
+@functools.cache
+def functions_of(path):
+    return list(functions(read_source(path)))
+
+
+def place(page, start, text):
+    return f"{page}:{pages[page].count(chr(10), 0, start) + 1}: {text}"
+
+
+def in_one_line(code):
+    """Code without attributes, and with no sign of where its lines were broken."""
+    code = " ".join(re.sub(r"^\s*#\[.*\]$", "", code, flags=re.M).split())
+    return code.replace("( ", "(").replace(", )", ")")
+
+
+bare = {path: in_one_line(text) for path, text in sources.items()}
+
+
+def difference(quoted, name):
+    """Where a quoted function departs from the source that agrees with it longest, and None where it is the source's."""
+    one_line = in_one_line(quoted)
+    has_body = re.search(r"^\{\n(.*\n)*\}$", quoted, re.M)
+    said = one_line[re.search(rf"(?<=fn ){name}\b", one_line).start():]
+    longest, departs = -1, f"no source has a function {name}"
+    for path, source in bare.items():
+        at = source.find(one_line)
+        if at >= 0 and (has_body or source[at + len(one_line):].startswith((" {", ";"))):
+            return None
+        for there in re.finditer(rf"(?<=fn ){name}\b", source):
+            same = len(os.path.commonprefix([said, source[there.start():]]))
+            if same > longest:
+                longest = same
+                departs = f"after '..{said[:same][-40:]}' {path} has '{source[there.start() + same:][:60]}..'"
+    return departs
+
+
+def check_quotations():
+    """Each function in a block of Rust is as a source has it, with its comment, all its clauses, and its body if it is there.
+    A reader's own `main` is of no source."""
+    for page, text in pages.items():
+        for block in re.finditer(r"^```rust\n(.*?)^```", text, re.M | re.S):
+            for part in re.split(r"\n\s*\n", block.group(1)):
+                name = re.search(r"^(?:pub )?(?:const )?fn (?!main\b)(\w+)", part, re.M)
+                departs = name and difference(part, name.group(1))
+                if departs:
+                    yield place(page, block.start(), f"{name.group(1)} is not as in the sources: {departs}")
+
+
+def check_edits():
+    """A block that has the lines of a must-fail edit is the text of one."""
+    edits = [read(path) for path in tracked if path.endswith(".edit")]
+    for page, text in pages.items():
+        for block in re.finditer(r"^```text\n(.*?)^```", text, re.M | re.S):
+            if re.search("^file: .*\nold: ", block[1], re.M) and block[1] not in edits:
+                yield place(page, block.start(), "no edit of must-fail/ has this text")
+
+
+def check_clauses():
+    """The clauses that a row of MODEL names in brackets are clauses of the calls that it names beside them."""
+    page, labels = "docs/MODEL.md", {}
+    for _, function in (found for path in sources for found in functions_of(path)):
+        labels.setdefault(function.name(), set()).update(function.labels())
+    for row in re.finditer(r"^\|([^|\n]*)\|([^|\n]*)\|$", pages[page], re.M):
+        named = {label for brackets in re.findall(r"\((`[a-z_`, ]+`)\)", row.group()) for label in re.findall(r"\w+", brackets)}
+        calls = re.findall(r"(?<=`)(?:\w+::)?([a-z_]\w*)(?=`)", re.sub(r"\([^)]*\)", "", row.group(2)))
+        for call in (call for call in calls if named and call not in labels):
+            yield place(page, row.start(), f"no source has a call {call}")
+        for label in sorted(named - {label for call in calls for label in labels.get(call, ())}):
+            yield place(page, row.start(), f"no call of {', '.join(calls) or 'no name'} has a clause {label}")
+
+
+def number(text):
+    """The number that an expression of Rust, a page or a comment writes, and None where it is none."""
+    text = {"two": "2", "three": "3", "four": "4", "eight": "8", "sixteen": "16"}.get(text, text).replace("_", "").replace("^", "**")
+    return eval(text) if re.fullmatch(r"[\d ()<*+-]+", text) else None
+
+
+def constants():
+    """Of each constant of the sources, of the package and of its overlay: its name, file and number."""
+    for path in tracked:
+        if path in sources or re.fullmatch(r"rust/(overlay/)?src/\w+\.rs", path):
+            for name, value in re.findall(r"^ *(?:pub(?:\(\w+\))? )?const ([A-Z_]+): \w+ = ([^;]+);", read(path), re.M):
+                if number(value) is not None:
+                    yield name, path, number(value)
+
+
+def check_table_of_constants(known):
+    """ARCHITECTURE's table has each constant of the kernels, the exports, the program, the package and its overlay, with its file
+    and its number."""
+    page, listed = "docs/ARCHITECTURE.md", set()
+    for row in re.finditer(TABLE_ROW, pages[page], re.M):
+        names, values = re.findall(r"\w+", row.group(1)), row.group(2).split(", ")
+        for name, value in itertools.zip_longest(names, values):
+            found = [(path, there) for other, path, there in known if other == name and path.endswith(row.group(3))]
+            listed.update((name, path) for path, _ in found)
+            if [there for _, there in found] != [number(value or "")]:
+                yield place(page, row.start(), f"{name} is {value} in {row.group(3)}, and the code has "
+                            + (", ".join(f"{there} in {path}" for path, there in found) or "no such constant there"))
+    for name, path, value in known:
+        if re.match(TABLE_IS_ABOUT, path) and (name, path) not in listed:
+            yield f"{page}: its table has no row for {name}, which is {value} in {path}"
+
+
+def values_of(name, crate, known):
+    """The values of a constant: of this crate, or else of the crates and the package that ARCHITECTURE's table is about. Or the
+    numbers of a clause, if the name is FUNCTION.CLAUSE."""
+    function, _, clause = name.partition(".")
+    if clause:
+        said = {text for path in sources if f"fn {function}" in sources[path] for _, declared in functions_of(path)
+                if declared.name() == function for title, text in declared.clauses if title.endswith(f" {clause}")}
+        return [int(digits) for digits in re.findall(r"\b\d+\b", said.pop())] if len(said) == 1 else []
+    where = f"crates/{crate}/" if crate else TABLE_IS_ABOUT
+    return sorted({value for other, path, value in known if other == name and re.match(where, path)})
+
+
+def wanted_number(expression, known, clauses):
+    """The number of an expression over names, and the names that have not one value. Each name of a clause takes its next number."""
+    unknown = []
+
+    def value(found):
+        values = clauses[found[2]] if found[2] in clauses else values_of(found[2], found[1], known)
+        if "." in found[2]:
+            clauses[found[2]] = values[1:]
+            values = values[:1]
+        unknown.extend([found[0]] * (len(values) != 1))
+        return str(max(values, default=0))
+
+    return number(re.sub(r"(?:(\w+)::)?([a-z]\w+\.\w+|[A-Z_]{2,})", value, expression)), unknown
+
+
+def check_constants():
+    """What states a constant has its number: ARCHITECTURE's table, and the sentences of tests/constants.txt."""
+    known = list(constants())
+    yield from check_table_of_constants(known)
+    # Each text in one line, in which signs of comments are blanks.
+    texts = {path: re.sub(r"(?<=\s)(?://[/!]?|--)(?=\s)", lambda sign: " " * len(sign[0]), read(path)) for path in tracked
+             if re.fullmatch(r".*\.(md|rt|antt|rs|h)", path) and not re.match("rust/src/kernels/|bench/|CHANGELOG|docs/PERF", path)}
+    for line in (line for line in read("tests/constants.txt").splitlines() if line and not line.startswith("#")):
+        parts, clauses = re.split(r"\{([^}]*)\}", line), {}
+        literal = (re.escape(part).replace(r"\ \.\.\ ", r"[^|]{0,60}?\s").replace(r"\ ", r"\s+") for part in parts[::2])
+        pattern = r"(\d[\d_]*(?:\^\d+)?|\w+)".join(literal)
+        answers = [wanted_number(part, known, clauses) for part in parts[1::2]]
+        for name in (name for _, unknown in answers for name in unknown):
+            yield f"tests/constants.txt: {name} has no value, or more than one"
+        wanted = [value for value, _ in answers]
+        found = [(path, there) for path, text in texts.items() for there in re.finditer(pattern, text)]
+        if not found:
+            yield f"tests/constants.txt: no page, source or definition says '{line}'"
+        for path, there in found:
+            if [number(said) for said in there.groups()] != wanted:
+                said = f"'{' '.join(there[0].split())}', and the code has {', '.join(map(str, wanted))}: see {', '.join(parts[1::2])}"
+                yield f"{path}:{texts[path].count(chr(10), 0, there.start()) + 1}: {said}"
+
+
+def anchors(page):
+    """The anchors of a page's headings, as they are made from their words."""
+    return {re.sub(r"[^\w -]", "", heading).lower().replace(" ", "-") for heading in re.findall(r"^#+ (.*)$", read(page), re.M)}
+
+
+def check_links_and_names():
+    """Each link leads to a file and its heading, and each file and name in backquotes is there."""
+    words = {word for path in tracked if not path.endswith((".md", ".svg", ".tsv")) and path != "tests/pages.py"
+             for word in re.findall(r"\w+", read(path))} | OUTSIDE
+    paths = {"/" + "/".join(path.split("/")[:k]) for path in tracked for k in range(1, path.count("/") + 2)}
+    for page, text in pages.items():
+        # Blocks of code are blank here, and as long.
+        text = re.sub(r"^```.*?^```", lambda block: re.sub(r"[^\n]", " ", block.group()), text, flags=re.M | re.S)
+        for link in re.finditer(r"\]\(([^)#]*)#?([^)]*)\)", text):
+            file = os.path.normpath(os.path.join(os.path.dirname(page), link.group(1))) if link.group(1) else page
+            if "://" in link.group(1):
+                continue
+            if not os.path.exists(file):
+                yield place(page, link.start(), f"no file {link.group(1)}")
+            elif link.group(2) and link.group(2) not in anchors(file):
+                yield place(page, link.start(), f"{file} has no heading {link.group(2)}")
+        for token in re.finditer(r"`([^`]+)`", text):
+            code = token.group(1)
+            if re.fullmatch(FILE, code):
+                if not any(path.endswith("/" + code.rstrip("/")) for path in paths):
+                    yield place(page, token.start(), f"no file {code}")
+            elif page not in ELSEWHERE:
+                for name in re.findall(r"(?<!\w)[A-Za-z]\w*", code):
+                    # An N at the end stands for the size of an item.
+                    if len(name) > 3 and re.sub("_N$", "_8", name) not in words and not re.fullmatch("[0-9a-f]{16}", name):
+                        yield place(page, token.start(), f"no name {name}. Where it is none of this repository, tests/pages.py names it")
+
+
+def check_modules():
+    """Each source is a module of the file above it. Else it would not be compiled, and its tests would not run. What `rust/test`
+    compiles alone is none."""
+    for path in tracked:
+        file = re.fullmatch(r"((?:crates/\w+|rust|tests/unproved)/(?:src|tests)\b.*)/(?!(?:lib|main|mod)\.)(\w+)(\.rt|\.rs|\.rt\.in)", path)
+        if not file or path.startswith("rust/tests/assembly/"):
+            continue
+        folder, name, end = file.groups()
+        above = {folder + end, *(f"{folder}/{root}{end}" for root in ("lib", "main", "mod"))}.intersection(tracked)
+        if not any(re.search(rf"^(pub(\(crate\))? )?mod {name};", read(parent), re.M) for parent in above):
+            yield f"{path}: no file above it has it as a module"
+
+
+def check_specs():
+    """A file of specs/ says in its first lines that it serves private contracts if no public one stands on it, and only then."""
+    files = {path: dict(definition_texts(path)) for path in tracked if re.fullmatch(r"crates/\w+/specs/\w+\.antt", path)}
+    public = " ".join(said for path in sources if "/parts" not in path
+                      for said in items(read_source(path), lambda owner, declared: declared.kind == "impl" or declared.seen_by == "pub"))
+    used = stood_on(public, {name: text for texts in files.values() for name, text in texts.items()})
+    for path, texts in files.items():
+        says_private = "private" in re.match(r"(?:--.*\n)*", read(path))[0]
+        if texts and says_private == any(name in used for name in texts):
+            yield f"{path}:1: its first lines say that it serves private contracts, and a public one stands on it" if says_private \
+                else f"{path}:1: no public contract stands on it, and its first lines do not say that it serves private ones"
+
+
+def wrong():
+    """A line for each thing that is wrong."""
+    for check in (check_quotations, check_edits, check_clauses, check_constants, check_links_and_names, check_modules, check_specs):
+        yield from check()
