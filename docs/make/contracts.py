@@ -31,8 +31,8 @@ need and on what they promise. The list has each function that `rust/src/uncheck
 `kernels/parts.rs`, except for the public ones above.
 
 The functions of `parts/laws.rt` and of the files below it are theorems: each is there for its contract, and no call of the
-package runs it. Each runs parts of a call by the same functions as the call does, so what it says of the indices of their steps
-holds for the parts of that call."""
+package runs it. Those that run parts of a call do so by the same functions as the call, so what they say of the indices of their
+steps holds for the parts of that call."""
 CITED = """
 ### Definitions that these clauses stand on
 
