@@ -18,7 +18,7 @@ TABLES = [
     ("Words of this package's kernels", "Name", "docs/MODEL.md", "Definitions of `p3_util_kernels`, in `specs/`"),
     ("Words of the chunks, the map and `zip_eq`", "Name", "docs/MODEL.md", "Definitions of `p3_util`, in `specs/`"),
 ]
-CONTRACT = re.compile(r"^ */// ```text\n(?P<clauses>(?: *///.*\n)*?) */// ```\n(?: *#\[.*\n)*(?P<head>[^;{]*)", re.M)
+CONTRACT = re.compile(r"^ */// ```text\n(?P<clauses>(?: *///.*\n)*?) */// ```\n(?: *#\[.*\n)*(?P<head>(?:; \w+\]|[^;{])*)", re.M)
 OWNER = re.compile(r"^(?:impl|pub trait)\b[^{]*", re.M)
 TOKEN = re.compile(r"\.\w+|\w+|[^\s\w]")
 

@@ -1,8 +1,8 @@
 //! Transposes and reversals in parts, for threads of your own. This package starts none.
 //!
 //! A call is cut into parts, each of which may run on any thread. The parts of a transpose may run in any order. A reversal has
-//! phases: the parts of one phase may run in any order, and all of them have to be done before the next phase, which the
-//! borrow of the phases sees to. All parts together do what the call itself does. Nothing is allocated.
+//! phases: the parts of one phase may run in any order, and all of them have to be done before the next phase begins. All parts
+//! together have the same effect as the call. Nothing is allocated.
 //!
 //! ```
 //! use std::thread::scope;
@@ -19,47 +19,74 @@
 //! assert_eq!(columns[..3], [0, 60, 120]);
 //!
 //! let mut list: Vec<u32> = (0..1 << 20).collect();
-//! parts::reversal(&mut list, 16).for_each_phase(|parts| {
-//!     scope(|threads| parts.for_each(|part| _ = threads.spawn(|| part.run())));
+//! parts::reversal(&mut list, 16).for_each_phase(|phase| {
+//!     scope(|threads| phase.for_each(|part| _ = threads.spawn(|| part.run())));
 //! });
 //! assert_eq!(list[..3], [0, 1 << 19, 1 << 18]);
 //! ```
 //!
-//! With rayon, a phase is `parts.collect::<Vec<_>>().into_par_iter().for_each(ReversalPart::run)`.
+//! Each phase has a scope of its own, inside the closure. A scope waits for its threads, so when the closure returns, the phase
+//! is done. One scope around all phases does not compile: its threads could still run parts of one phase when the next one
+//! begins.
+//!
+//! With rayon, a phase is `phase.par_bridge().for_each(ReversalPart::run)`, or
+//! `phase.collect::<Vec<_>>().into_par_iter().for_each(ReversalPart::run)`. The first needs no list of the parts: each thread
+//! takes the next one behind a lock. Both return when all parts are done.
 //!
 //! # How many parts
 //!
-//! The number of parts that a call asks for is a wish, and 0 is 1. It is the greatest number of parts of a transpose, and of the
-//! first and the last phase of a reversal. In the second phase it is the greatest number P that the side of a square is cut into, and
-//! the phase has P(P + 1) / 2 parts, or twice as many where there are two squares:
+//! The number of parts that a call asks for is a wish. 0 is 1. A transpose has at most as many parts.
 //!
-//! | Items | Wish | Parts of the phases |
-//! |---|---|---|
-//! | 2^20 | 16 | 16, 136 and 16 |
-//! | 2^21 | 16 | 16, 272 and 16 |
-//! | 2^20 | 64 | 16, 2080 and 16 |
-//! | 2^24 | 64 | 32, 2080 and 32 |
+//! A reversal is cut by a grid. By a wish of N, each side of a square is cut into at most P = 1 + ⌊2√(N − 1)⌋ parts, and a
+//! phase has P(P + 1) / 2 parts: about two for each that was asked for. It has twice as many if there are two squares. A short
+//! side has fewer parts.
 //!
-//! Four for each thread are a good wish, since parts are of unequal size. A list that is empty, or whose items have no bytes, has
-//! no part, and a reversal of it no phase.
+//! ```
+//! use p3_util_proved::parts::reversal;
+//!
+//! // The number of items, the wish, and how many parts each phase has.
+//! let table = [
+//!     (1 << 20, 16, [36, 36, 36]),
+//!     (1 << 21, 16, [36, 72, 36]),
+//!     (1 << 20, 64, [136, 136, 136]),
+//!     (1 << 20, 256, [136, 528, 136]),
+//!     (1 << 24, 256, [528, 528, 528]),
+//! ];
+//! # if cfg!(not(feature = "checked")) {
+//! for (items, wish, parts) in table {
+//!     let mut list = vec![0u8; items];
+//!     let mut phases = reversal(&mut list, wish);
+//!     assert_eq!(parts.map(|_| phases.next_phase().unwrap().len()), parts);
+//! }
+//! # }
+//! ```
+//!
+//! Four for each thread are a good wish. Parts are of unequal size: a block on a diagonal has about half as many exchanges as
+//! another. A list that is empty, or whose items have no bytes, has no part, and a reversal of it no phase.
 //!
 //! - A transpose is cut along its longer side, at multiples of 16 rows or columns.
-//! - A reversal of up to [`one_part_reversal`] items is one part, since there the call itself is faster. A longer one, of 2^k items,
-//!   has three phases. In the second, each square of 2^(k / 2) rows is cut into a grid, and a part is one of its blocks on or above
-//!   the diagonal. There is one square where k is even, and two where it is odd. In the first and the third, a part is a range of
-//!   line pairs. These are few, and the last of them are the largest: 2^20 items have 16 line pairs, of which the largest makes an
-//!   eighth of the exchanges, so more than 8 threads do not shorten these phases. With 2^22 and 2^24 items they are 32, and the
-//!   largest makes a sixteenth.
-//! - A reversal of longer rows has one phase, of line pairs of its rows: 2^k rows have about 2^(k / 2 - 1). Where it has no more
-//!   items than are one part, it is one, and 4 rows have one line pair.
+//! - A reversal of up to [`one_part_reversal`] items is one part, since there the call itself is faster. A longer one, of 2^k
+//!   items, has three phases. In the second, each square of 2^(k / 2) rows is cut into a grid, at multiples of 16, and a part
+//!   is one of its blocks on or above the diagonal. There is one square if k is even, and two if it is odd. In the first and
+//!   the third, the pairs of the 2^(k / 2) runs that are reversed are cut as the items of a square of so many items are, at
+//!   multiples of 2.
+//! - A reversal of longer rows has one phase, whose pairs of rows are cut in the same way. It is one part if the list has no
+//!   more items than [`one_part_reversal`] says. 4 rows are one part too, since they have one pair.
 //! - With the feature `checked` a transpose is cut along its columns, and a reversal is one part.
 //!
 //! # What is not run
 //!
-//! A part that is dropped leaves its cells, or its pairs of items, as they are. Memory is safe whatever is dropped, forgotten or
-//! run in another order, and wherever a panic comes from. A reversal then leaves the items in some order, each of them once.
+//! A part that is dropped leaves its cells, or its pairs of items, as they are. `for _part in parts {}` drops all of them, and
+//! the compiler does not warn of it. Memory is safe whatever is dropped, forgotten or run in another order, and wherever a
+//! panic comes from. A reversal then leaves the items in some order, each of them once.
 //!
-//! `unchecked.rs` says why two parts of one phase never touch one place.
+//! # Why this is safe
+//!
+//! Two parts that may run at the same time never touch the same index. Each part makes an exact number of steps, each of them
+//! at an index of that part, and no index belongs to two parts of a phase. That is proved for lists whose items all differ. A
+//! part touches the same indices whatever its items are: a kernel cannot look at an item. A part is run at most once, because
+//! running it consumes it, and a phase begins after the one before it, because its parts borrow the phases. The package's
+//! README says under "Of threads" what of this is proved, and what is checked by review.
 use core::fmt;
 use core::iter::FusedIterator;
 
@@ -104,7 +131,7 @@ pub const fn one_part_reversal<F>() -> usize {
 #[must_use = "a part that is not run leaves its cells as they are"]
 pub struct TransposeParts<'a, T>(Parts<'a, T, Regions<&'a [T]>>);
 
-/// A part of a transpose. It is `Send` where its items are `Send` and `Sync`, and it cannot be cloned.
+/// A part of a transpose. It is `Send` if its items are `Send` and `Sync`, and it cannot be cloned.
 #[must_use = "a part that is not run leaves its cells as they are"]
 pub struct TransposePart<'a, T>(Parts<'a, T, Regions<&'a [T]>>);
 
@@ -116,9 +143,16 @@ pub struct ReversalPhases<'a, F>(Phases<'a, F>);
 #[must_use = "a part that is not run leaves the list neither as it was nor reversed"]
 pub struct ReversalParts<'a, F>(Parts<'a, F, Phase>);
 
-/// A part of a phase of a reversal. It is `Send` where its items are, and it cannot be cloned.
+/// A part of a phase of a reversal. It is `Send` if its items are, and it cannot be cloned.
 #[must_use = "a part that is not run leaves the list neither as it was nor reversed"]
 pub struct ReversalPart<'a, F>(Parts<'a, F, Phase>);
+
+/// The greatest number of parts that a side is cut into, by a wish of so many parts. P parts of a side make P(P + 1) / 2
+/// blocks. They are about two for each part of the wish, so that threads which take one after the other end at about the same
+/// time. More of them would be smaller, and small blocks make less use of the caches.
+const fn parts_of_side(wish: usize) -> usize {
+    1 + wish.saturating_sub(1).saturating_mul(4).isqrt()
+}
 
 /// Cuts [`transpose::transpose`](crate::transpose::transpose) into at most `parts` parts.
 ///
@@ -144,20 +178,25 @@ pub fn transpose<'a, T: Copy + Send + Sync>(
 /// Cuts [`reverse_slice_index_bits`](crate::reverse_slice_index_bits) into phases, by the wish of `parts` parts: see
 /// [how many there are](self#how-many-parts).
 ///
+/// Items go to other threads, and none is shared by two, so they need not be `Sync`.
+///
 /// # Panics
 ///
 /// As the call itself, before there is a phase.
 #[track_caller]
 #[must_use = "the list is reversed by the parts of its phases, and none has run yet"]
-pub fn reversal<F: Send + Sync>(vals: &mut [F], parts: usize) -> ReversalPhases<'_, F> {
+pub fn reversal<F: Send>(vals: &mut [F], parts: usize) -> ReversalPhases<'_, F> {
     let len = vals.len();
-    match Phases::new(vals, 1, parts, one_part_reversal::<F>()) {
+    match Phases::new(vals, 1, parts_of_side(parts), one_part_reversal::<F>()) {
         Some(phases) => ReversalPhases(phases),
         None => crate::refuse_items(len),
     }
 }
 
-/// Cuts [`reverse_slice_row_index_bits`](crate::reverse_slice_row_index_bits) into phases of at most `parts` parts.
+/// Cuts [`reverse_slice_row_index_bits`](crate::reverse_slice_row_index_bits) into phases, by the wish of `parts` parts: see
+/// [how many there are](self#how-many-parts).
+///
+/// Items go to other threads, and none is shared by two, so they need not be `Sync`.
 ///
 /// # Panics
 ///
@@ -166,7 +205,7 @@ pub fn reversal<F: Send + Sync>(vals: &mut [F], parts: usize) -> ReversalPhases<
 #[must_use = "the list is reversed by the parts of its phases, and none has run yet"]
 pub fn row_reversal<F: Send>(vals: &mut [F], row_width: usize, parts: usize) -> ReversalPhases<'_, F> {
     let len = vals.len();
-    match Phases::new(vals, row_width, parts, one_part_reversal::<F>()) {
+    match Phases::new(vals, row_width, parts_of_side(parts), one_part_reversal::<F>()) {
         Some(phases) => ReversalPhases(phases),
         None => crate::refuse_rows(len, row_width),
     }
@@ -189,18 +228,20 @@ impl<F> ReversalPhases<'_, F> {
 
     /// Gives `run` the parts of each phase, one phase after the other. A part that `run` drops is not done.
     ///
+    /// A scope of threads stands inside `run`. It waits for its threads, so the phase is done when `run` returns.
+    ///
     /// ```
     /// use std::thread::scope;
     ///
     /// let mut list: Vec<u32> = (0..1 << 19).collect();
-    /// p3_util_proved::parts::reversal(&mut list, 16).for_each_phase(|parts| {
-    ///     scope(|threads| parts.for_each(|part| _ = threads.spawn(|| part.run())));
+    /// p3_util_proved::parts::reversal(&mut list, 16).for_each_phase(|phase| {
+    ///     scope(|threads| phase.for_each(|part| _ = threads.spawn(|| part.run())));
     /// });
     /// assert_eq!(list[..3], [0, 1 << 18, 1 << 17]);
     /// ```
     pub fn for_each_phase(mut self, mut run: impl FnMut(ReversalParts<'_, F>)) {
-        while let Some(parts) = self.next_phase() {
-            run(parts);
+        while let Some(phase) = self.next_phase() {
+            run(phase);
         }
     }
 }

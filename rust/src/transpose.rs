@@ -47,14 +47,38 @@ pub(crate) fn refuse(input: usize, output: usize, width: usize, height: usize) -
     unreachable!("lengths that fit are not refused");
 }
 
-/// The strips by which a matrix is put, whole or in parts. They are those of the kernels' own choice, which is by the shape alone,
-/// but for a large matrix of items of 32 or 64 bytes that has at least 16 columns, each of a multiple of 4096 bytes. There it takes
-/// less time to put 16 columns at a time, row after row. Strips choose the order of the puts and nothing else.
+/// The least number of rows and of columns of a matrix that is put by blocks in registers.
+const BLOCKS_SIDE: usize = 8;
+
+/// The least number of items of such a matrix, where blocks leave a row or a column.
+const BLOCKS_ITEMS: usize = 128;
+
+/// The greatest number of items of 8 bytes of such a matrix.
+const BLOCKS_LONG_ITEMS: usize = 1 << 15;
+
+/// As many items of 4 bytes, up to the number above which a matrix is split, are put by blocks only where 16 divides the width.
+const BLOCKS_GAP: core::ops::RangeInclusive<usize> = (1 << 18) + 1..=1 << 20;
+
+/// The strips by which a matrix is put, whole or in parts: those of the kernels' own choice, which is by the shape alone, but for two
+/// kinds of matrices that take less time in another order. Strips choose the order of the puts and nothing else.
+///
+/// - Items of 4 bytes, and up to 32768 items of 8, are put by blocks that are turned in registers, where no side is below 8. Below 128
+///   items the blocks have to be whole. From 262145 to 1048576 items of 4 bytes, 16 has to divide the width.
+/// - More than 1048576 items of 32 or of 64 bytes are put 16 columns at a time, row after row, where there are 16 and each is of a
+///   multiple of 4096 bytes.
 pub(crate) fn strips_of<R: Source + Copy>(matrix: Matrix<R>) -> Strips {
+    let (width, height, items) = (matrix.width, matrix.height, matrix.source.len());
     let item_size = size_of::<R::Item>();
-    let is_wide = matches!(item_size, 32 | 64) && matrix.height % (WIDE_COLUMN_BYTES / item_size) == 0;
-    let is_large = matrix.source.len() > WIDE_ITEMS;
-    if is_wide && is_large && matrix.width >= WIDE_COLUMNS {
+    let fits_registers = match item_size {
+        4 => !BLOCKS_GAP.contains(&items) || width % 16 == 0,
+        8 => items <= BLOCKS_LONG_ITEMS,
+        _ => false,
+    };
+    let has_blocks = width.min(height) >= BLOCKS_SIDE && (items >= BLOCKS_ITEMS || (width | height) % 4 == 0);
+    let is_wide = matches!(item_size, 32 | 64) && height % (WIDE_COLUMN_BYTES / item_size) == 0;
+    if unchecked::TURNS_IN_REGISTERS && fits_registers && has_blocks {
+        Strips::Blocks
+    } else if is_wide && items > WIDE_ITEMS && width >= WIDE_COLUMNS {
         Strips::Wide
     } else {
         Strips::of(matrix)

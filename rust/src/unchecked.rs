@@ -1,28 +1,23 @@
-//! The kernels over slices: all that is unsafe is in this file.
+//! The kernels over slices. All unsafe code of the package is in this file and in `unchecked/vectors.rs`, which turns squares of items
+//! of 4 and of 8 bytes in vector registers and is used by this file alone.
 //!
-//! A kernel is proved to keep the conditions of `exchange`, `put` and `at` for every holder, where its own condition holds.
-//! So the holders here test no index, as long as each function below tests its kernel's condition before it makes one.
-//! They are private to this file, so that nothing else can make one. The feature `checked` puts holders that test each index
-//! in their place.
+//! A kernel is proved to keep the conditions of `exchange`, `put` and `at` for every holder, as long as its own condition
+//! holds. So the holders here test no index. `reverse`, `reverse_rows`, `transpose`, `transpose_in_parts` and `Phases::new`
+//! test the condition first. `next_phase`, `split_first`, `put` and `exchange` test nothing: their conditions follow from
+//! private fields that these functions set together, and a comment beside each says which field gives which clause. The holders
+//! are private to this file, so nothing else can make one. With the feature `checked` there are holders instead that test each
+//! index.
 //!
 //! Parts of a call have one list at once. The holder of a part is a pointer and a length, and makes references to one place or
-//! one run at a time, never to the whole list: see `SliceItems`. Which parts there are, and what each one does, is proved code as
-//! the kernels are (`kernels/parts.rs`). Each part makes an exact number of steps, and it is proved
-//! (`crates/p3_util_kernels/src/parts/laws.rt`) that over items that all differ each of them is at another place of the part, that
-//! two parts of a phase have no place in common, and that all parts are the call, those of each phase in any order.
-//!
-//! Two things are left to reading:
-//!
-//! - that a generic body steps at the same places whatever its items and its holder are. A kernel calls no `clone`, `size_of`,
-//!   `type_name` or `needs_drop`, and a script looks for such words in the kernels' sources. So what is proved over one list and
-//!   one holder, by which steps are counted or noted, holds over all.
-//! - that this file gives each number of a phase out once, and one phase after the other, which rustc's borrow checker sees to:
-//!   [`Parts`] takes numbers from a range and is not cloned, and the parts of a phase borrow the [`Phases`] that the next one is
-//!   asked of.
+//! one run at a time, never to the whole list: see `SliceItems`. Which parts there are, and what each one does, is proved code
+//! as the kernels are (`kernels/parts.rs`). It is proved (`crates/p3_util_kernels/src/parts/laws.rt`) that two parts of a phase
+//! have no place in common, and that the steps of all parts, interleaved in any way, are the call. The package's README lists
+//! under "Of threads" what of this is not proved but checked by review.
 
 use core::ops::Range;
 
 use crate::kernels::parts::{Phase, ReversalPlan, TransposePlan};
+use crate::kernels::places::Source;
 use crate::kernels::reverse::{self, RowDigits, fits_rows, reverse_index_bits};
 use crate::kernels::transpose::{Matrix, Strips, fits_matrix, transpose_matrix};
 use crate::transpose::strips_of;
@@ -66,7 +61,16 @@ pub(crate) fn transpose<T: Copy>(input: &[T], output: &mut [T], width: usize, he
     fits
 }
 
+/// Whether the holders of this file turn blocks of items of 4 and of 8 bytes in registers.
+#[cfg(not(feature = "checked"))]
+pub(crate) use vectors::HERE as TURNS_IN_REGISTERS;
+#[cfg(feature = "checked")]
+pub(crate) const TURNS_IN_REGISTERS: bool = false;
+
 /// Those parts of a phase over a list that have these numbers. No others have one of them.
+///
+/// The fields are set together, by `transpose_in_parts` and by `Phases::next_phase`: `items` is the list that `phase` was made
+/// for, and `numbers` are below the number of its parts. They are private, and there is no `Clone`, so that stays true.
 pub(crate) struct Parts<'a, T, P> {
     items: PartItems<'a, T>,
     phase: P,
@@ -92,6 +96,8 @@ pub(crate) fn transpose_in_parts<'a, T: Copy>(
     if !fits_matrix(source.len(), output.len(), width, height) {
         return None;
     }
+    // Both lengths are `width * height`, which is below 2^64 as a length. These are `input_fits` and `output_fits` of
+    // `TransposePlan::put`, for the plan of this width and height.
     let plan = TransposePlan::new(width, height, parts, cfg!(not(feature = "checked")));
     let strips = strips_of(Matrix::new(SliceSource::new(source), width, height));
     let count = if size_of::<T>() == 0 { 0 } else { plan.count() };
@@ -104,7 +110,8 @@ pub(crate) fn transpose_in_parts<'a, T: Copy>(
     })
 }
 
-/// A list whose rows are reversed in phases, and the number of the next one.
+/// A list whose rows are reversed in phases, and the number of the next one. The plan is one of this list, as `Phases::new`
+/// made it, or has no phase.
 pub(crate) struct Phases<'a, F> {
     vals: &'a mut [F],
     plan: ReversalPlan,
@@ -127,6 +134,9 @@ impl<'a, F> Phases<'a, F> {
     pub(crate) fn next_phase(&mut self) -> Option<Parts<'_, F, Phase>> {
         let phase = self.plan.phase(self.next)?;
         self.next += 1;
+        // `plan` was made for the length of `vals`, so by the clause `phases` of `ReversalPlan::new` this phase is one of a
+        // list of so many items: the clause `list` of `Phase::exchange`. Where it was made for 0 items, there is no phase. The
+        // parts borrow `self`, so the next phase is not asked for before they are gone.
         let len = self.vals.len();
         Some(Parts {
             items: PartItems::in_shares(self.vals, len),
@@ -144,6 +154,8 @@ impl<'a, F> Phases<'a, F> {
 impl<T, P: Copy> Parts<'_, T, P> {
     /// Takes the first part away.
     pub(crate) fn split_first(&mut self) -> Option<Self> {
+        // `Range::next` gives a number out once, so no two parts have the same one, and parts with different numbers have no
+        // place in common. That is what lets a part have a share of `items`.
         let number = self.numbers.next()?;
         Some(Parts {
             items: self.items.share(),
@@ -160,16 +172,28 @@ impl<T, P: Copy> Parts<'_, T, P> {
 
 impl<T: Copy> Parts<'_, T, Regions<&[T]>> {
     /// Puts the regions that are left.
-    pub(crate) fn put(mut self) {
-        let Regions { source, plan, strips } = self.phase;
+    pub(crate) fn put(self) {
+        let source = SliceSource::new(self.phase.source);
+        self.put_from(source);
+    }
+}
+
+impl<T: Copy, R> Parts<'_, T, Regions<R>> {
+    /// Puts the regions that are left, as `source` has their items.
+    fn put_from(mut self, source: impl Source<Item = T> + Copy) {
+        // The clause `below` of `TransposePlan::put` holds because `numbers` are below the plan's count. `input_fits` and
+        // `output_fits` hold because `source` and `items` are the lists that `transpose_in_parts` tested for this plan.
+        let Regions { plan, strips, .. } = self.phase;
         self.numbers
-            .for_each(|number| _ = plan.put(self.items.share(), SliceSource::new(source), number, strips));
+            .for_each(|number| _ = plan.put(self.items.share(), source, number, strips));
     }
 }
 
 impl<F> Parts<'_, F, Phase> {
     /// Makes the exchanges of the parts that are left.
     pub(crate) fn exchange(mut self) {
+        // The clause `below` of `Phase::exchange` holds because `numbers` are below the phase's count, and `list` because
+        // `items` is the list that the phase was made for. `len_fits` holds of every slice.
         self.numbers
             .for_each(|number| _ = self.phase.exchange(self.items.share(), number));
     }
@@ -182,7 +206,8 @@ mod slices {
     use core::slice::from_raw_parts_mut;
     use core::sync::atomic::{Ordering, compiler_fence};
 
-    use crate::kernels::places::{Cells, Places, Source};
+    use super::vectors;
+    use crate::kernels::places::{Cells, Four, Places, Source};
 
     /// The items of a slice, as places or as cells, for one kernel or for one part.
     ///
@@ -253,6 +278,36 @@ mod slices {
             let run = |start| unsafe { from_raw_parts_mut(self.first.add(start), len) };
             run(i).swap_with_slice(run(j));
         }
+
+        /// By squares that are turned in registers, for items of 4 and of 8 bytes. For others a square is one item.
+        #[inline(always)]
+        fn exchange_blocks(&mut self, i: usize, j: usize, stride: usize) {
+            let (n, size) = (self.len, stride.saturating_mul(3).saturating_add(4));
+            debug_assert!(stride >= 4 && size <= n && i <= n - size && j <= n - size && i + size <= j);
+            let side = vectors::side::<F>();
+            for row in (0..4).step_by(side) {
+                for col in (0..4).step_by(side) {
+                    let (i, j) = (i + row * stride + col, j + col * stride + row);
+                    // SAFETY: the squares lie in two blocks that are within the slice, by the clause `second` of
+                    // `Places::exchange_blocks`, and have no place in common, by `apart`. Rows of a block do not overlap, by
+                    // `rows`, and a row of a square has 16 bytes: four items of 4, or two of 8.
+                    match side {
+                        4 => unsafe {
+                            vectors::exchange(self.first.add(i), self.first.add(j), stride, vectors::turned_4)
+                        },
+                        2 => unsafe {
+                            vectors::exchange(self.first.add(i), self.first.add(j), stride, vectors::turned_8)
+                        },
+                        _ => self.exchange_ordered(i, j),
+                    }
+                }
+            }
+        }
+
+        #[inline(always)]
+        fn by_blocks(&self) -> bool {
+            vectors::side::<F>() > 1
+        }
     }
 
     impl<T: Copy> Cells for SliceItems<'_, T> {
@@ -269,10 +324,23 @@ mod slices {
             // SAFETY: the place is within the slice, by the `requires` of `Cells::put`.
             unsafe { *self.first.add(i) = v }
             // An input and an output are known to be apart, so the compiler would read eight items at once before it writes
-            // them. For processors with AVX-512 it makes one gather of these reads, which lie in eight rows, and that takes
-            // two to four times as long as item by item, for items of 4 and 8 bytes. A fence of the compiler keeps each read behind the write before it.
-            // The processor sees nothing of it.
+            // them. For processors with AVX-512 it makes one gather of these reads, which lie in eight rows, and that takes two
+            // to four times as long as item by item, for items of 4 and 8 bytes. A fence of the compiler keeps each read behind
+            // the write before it. The processor sees nothing of it.
             compiler_fence(Ordering::SeqCst);
+        }
+
+        #[inline(always)]
+        fn put_four(&mut self, i: usize, four: &Four<T>) {
+            debug_assert!(self.len >= 4 && i <= self.len - 4);
+            // SAFETY: the four places are within the slice, by the `requires` of `Cells::put_four`. A `Four` lies in memory as
+            // four items of a slice do, since it is `repr(C)`.
+            unsafe { self.first.add(i).cast::<Four<T>>().write(*four) }
+        }
+
+        #[inline(always)]
+        fn turned(rows: &Four<Four<T>>) -> Four<Four<T>> {
+            vectors::turned(rows)
         }
     }
 
@@ -302,11 +370,40 @@ mod slices {
             // SAFETY: the place is within the slice, by the `requires` of `Source::at`.
             unsafe { *self.items.get_unchecked(i) }
         }
+
+        #[inline(always)]
+        fn four(&self, i: usize) -> Four<T> {
+            debug_assert!(self.items.len() >= 4 && i <= self.items.len() - 4);
+            // SAFETY: the four places are within the slice, by the `requires` of `Source::four`. A `Four` lies in memory
+            // as four items of a slice do, since it is `repr(C)`.
+            unsafe { self.items.as_ptr().add(i).cast::<Four<T>>().read() }
+        }
+    }
+}
+
+#[cfg(not(feature = "checked"))]
+mod vectors;
+
+/// What a shuffle makes of two registers with these items.
+#[cfg(all(test, not(feature = "checked")))]
+fn shuffled<T: Copy, const N: usize>(
+    shuffle: fn(vectors::Register, vectors::Register) -> vectors::Register,
+    operands: [[T; N]; 2],
+) -> [T; N] {
+    const { assert!(size_of::<[T; N]>() == size_of::<vectors::Register>()) };
+    let [a, b] = operands;
+    // SAFETY: so many items fill a register, and a shuffle keeps items whole.
+    unsafe {
+        use core::mem::transmute_copy;
+        transmute_copy(&shuffle(transmute_copy(&a), transmute_copy(&b)))
     }
 }
 
 #[cfg(test)]
 mod tests;
+
+#[cfg(test)]
+mod regions;
 
 #[cfg(all(test, not(feature = "checked")))]
 mod races;

@@ -1,30 +1,31 @@
 -- Parts that are made in any order: what is done of the first ones, and of all, for `src/parts/laws/all_parts.rt`.
-use Rattle.std.proofs.Common.{◌≡◌, ◌≢◌, ℕ, Bool, true, IsTrue, zero, suc, ◌+◌, ◌*◌, ◌<◌, ◌==◌, if◌then◌else◌, List, Some, length, slice_get, slice_index_or, inl, inr, refl, sym, ◌∙◌, ap, arith}
+use Rattle.std.proofs.Common.{◌≡◌, ◌≢◌, ℕ, Bool, true, IsTrue, zero, suc, ◌+◌, ◌*◌, ◌<◌, ◌==◌, if◌then◌else◌, List, [], Some, length, slice_get, inl, inr, refl, sym, ◌∙◌, ap, arith}
 use Rattle.std.proofs.lemmas.Bool.{both_ways, cases_Bool, cases_eq, cases_lt, eq-eqb, ne_eqb}
-use Rattle.std.proofs.lemmas.Option.{get_or_from_slice_get, slice_get-get_or, slice_get_within}
-use Rattle.p3_util_kernels.specs.AnyOrder.{IsOrder}
+use Rattle.std.proofs.lemmas.Option.{get_or_from_slice_get}
+use Rattle.p3_util_kernels.specs.AnyOrder.{IsOrder, order_of, turn_of}
 use Rattle.p3_util_kernels.specs.Digits.{sum_below}
 use Rattle.p3_util_kernels.specs.Mirrored.{Mirrored}
 use Rattle.p3_util_kernels.proofs.DigitsLemmas.{sum_below-same}
 
--- Turn j is that of part `turn j`. Each part below `count` has one turn below `len`.
-pub record IsTurns (count len : ℕ) (turn : ℕ → ℕ) : Type 0 where
-  pub below : (j : ℕ) → j < len → turn j < count
-  pub each : (k : ℕ) → k < count → (j : ℕ) × (j < len) × (turn j ≡ k)
-  pub once : (i j : ℕ) → i < len → j < len → turn i ≡ turn j → i ≡ j
-
--- the turns that a slice of numbers says, and those from 0 on
-pub turns-of : (order : List ℕ) (count : ℕ) → IsOrder count order → IsTurns count (length order) (λ j. slice_index_or order j 0)
-turns-of order count is =
-    let at : (j : ℕ) → j < length order → slice_get order j ≡ Some (slice_index_or order j 0) = λ j less. slice_get-get_or order j 0 less in
-    record {
-      below = λ j less. is.below j _ (at j less);
-      each = λ k less. let (j, e) = is.each k less in (j, slice_get_within order j k e, get_or_from_slice_get order j k 0 e);
-      once = λ i j hi hj e. is.once i j _ (at i hi) (rw (← e) at (at j hj));
-    }
-
-pub turns-plain : (count : ℕ) → IsTurns count count (λ j. j)
+-- where no list says a turn, the numbers do
+pub turns-plain : (count : ℕ) → IsOrder count (turn_of [])
 turns-plain count = record { below = λ j less. less; each = λ k less. (k, less, refl); once = λ i j hi hj e. e }
+
+pub orders-plain : (number count : ℕ) → IsOrder count (turn_of (order_of [] [] [] number))
+orders-plain zero count = turns-plain count
+orders-plain (suc zero) count = turns-plain count
+orders-plain (suc (suc _)) count = turns-plain count
+
+-- a list of parts whose turn j is that of part `turn j`, where turn `turn j` is that of part j
+pub order-from : (count : ℕ) (order : List ℕ) (turn : ℕ → ℕ) → ((j : ℕ) → j < count → slice_get order j ≡ Some (turn j))
+    → ((j : ℕ) → j < count → (turn j < count) × (turn (turn j) ≡ j)) → IsOrder count (turn_of order)
+order-from count order turn at back =
+    let is : (j : ℕ) → j < count → turn_of order j ≡ turn j = λ j less. get_or_from_slice_get order j (turn j) j (at j less) in
+    record {
+      below = λ j less. omega (arith, is j less, (back j less).0);
+      each = λ k less. let (within, e) = back k less in (turn k, within, is (turn k) within ∙ e);
+      once = λ i j hi hj e. sym (back i hi).1 ∙ ap turn (sym (is i hi) ∙ e ∙ is j hj) ∙ (back j hj).1;
+    }
 
 -- part k has one of the first n turns
 abbrev pub IsDone : (turn : ℕ → ℕ) (n k : ℕ) → Type 0
@@ -121,14 +122,14 @@ module _ (n : ℕ) (f : ℕ → ℕ) (test : ℕ → Bool) (to : ℕ → ℕ) wh
       let all = sum-so_far m inside once in
       sym all.total ∙ sum_below-same n all.so_far f (λ k less. let at = each k less in rw (← at.3) (all.done at.0 at.1 at.2))
 
-module _ (count len : ℕ) (turn : ℕ → ℕ) (is : IsTurns count len turn) where
-  last-alone : (n : ℕ) → n < len → IsDone turn n (turn n) → ⊥
+module _ (count : ℕ) (turn : ℕ → ℕ) (is : IsOrder count turn) where
+  last-alone : (n : ℕ) → n < count → IsDone turn n (turn n) → ⊥
   last-alone n less (j, before, e) = omega (arith, before, is.once j n (omega arith) less e)
 
   -- the numbers of steps of all parts, in this order
-  pub turns-sum : (steps : ℕ → ℕ) → sum_below len (λ j. steps (turn j)) ≡ sum_below count steps
+  pub turns-sum : (steps : ℕ → ℕ) → sum_below count (λ j. steps (turn j)) ≡ sum_below count steps
   turns-sum steps =
-      sum-turns count steps (λ j. true) turn len (λ j less t. is.below j less) (λ i j hi hj ti tj e. is.once i j hi hj e)
+      sum-turns count steps (λ j. true) turn count (λ j less t. is.below j less) (λ i j hi hj ti tj e. is.once i j hi hj e)
       (λ k less. let (j, within, e) = is.each k less in (j, within, refl, e))
 
 -- where one of the first n parts of the order has x and y
@@ -150,20 +151,20 @@ pub mirrored-none : {A M : Type 0} (place : M → ℕ → ℕ → ℕ) (turn : �
     → Mirrored place (AnyOf turn part 0) xs xs
 mirrored-none place turn part xs = record { same_length = refl; crossed = λ m x y h. absurd (omega (arith, h.1.1)); others = λ p out. refl }
 
-module _ (count len : ℕ) (turn : ℕ → ℕ) (is : IsTurns count len turn) where
+module _ (count : ℕ) (turn : ℕ → ℕ) (is : IsOrder count turn) where
   -- regions that are put
   module _ {A : Type 0} (width height : ℕ) (input : List A) (part : ℕ → ℕ → ℕ → Type 0)
       (apart : (k l x y v w : ℕ) → part k x y → part l v w → x * height + y ≡ v * height + w → k ≡ l) where
     abbrev PutFirst : ℕ → List A → List A → Type 0
     PutFirst n = PutWhere (λ x y. (k : ℕ) × IsDone turn n k × part k x y) width height input
 
-    pub put-more : (n : ℕ) (xs ys zs : List A) → n < len → PutFirst n xs ys → PutWhere (part (turn n)) width height input ys zs → PutFirst (n + 1) xs zs
+    pub put-more : (n : ℕ) (xs ys zs : List A) → n < count → PutFirst n xs ys → PutWhere (part (turn n)) width height input ys zs → PutFirst (n + 1) xs zs
     put-more n xs ys zs less done next = record {
       same_length = next.same_length ∙ done.same_length;
       places = λ x y h.
           elim (cases_lt h.1.0 n) [
             | inl before ↦
-                next.others (x * height + y) (λ v w s e. let same : h.0 ≡ turn n = apart h.0 (turn n) x y v w h.2 s e in last-alone count len turn is n less (h.1.0, before, h.1.2 ∙ same))
+                next.others (x * height + y) (λ v w s e. let same : h.0 ≡ turn n = apart h.0 (turn n) x y v w h.2 s e in last-alone count turn is n less (h.1.0, before, h.1.2 ∙ same))
                 ∙ done.places x y (h.0, (h.1.0, before, h.1.2), h.2)
             | inr last ↦ let one : h.1.0 ≡ n = omega (arith, last, h.1.1) in let same : h.0 ≡ turn n = sym h.1.2 ∙ ap turn one in next.places x y (rw same at h.2)
           ];
@@ -173,7 +174,7 @@ module _ (count len : ℕ) (turn : ℕ → ℕ) (is : IsTurns count len turn) wh
     }
 
     pub put-all : (Whole : ℕ → ℕ → Type 0) (xs ys : List A) → ((x y : ℕ) → Whole x y → (k : ℕ) × (k < count) × part k x y)
-        → ((k x y : ℕ) → part k x y → Whole x y) → PutFirst len xs ys → PutWhere Whole width height input xs ys
+        → ((k x y : ℕ) → part k x y → Whole x y) → PutFirst count xs ys → PutWhere Whole width height input xs ys
     put-all Whole xs ys cover inside done = record {
       same_length = done.same_length;
       places = λ x y h.
@@ -187,7 +188,7 @@ module _ (count len : ℕ) (turn : ℕ → ℕ) (is : IsTurns count len turn) wh
   module _ {A M : Type 0} (place : M → ℕ → ℕ → ℕ) (part : ℕ → M → ℕ → ℕ → Type 0)
       (turned : (k : ℕ) (m : M) (x y : ℕ) → part k m x y → part k m y x)
       (apart : (k l : ℕ) (m n : M) (x y v w : ℕ) → part k m x y → part l n v w → place m x y ≡ place n v w → k ≡ l) where
-    pub mirrored-more : (n : ℕ) (xs ys zs : List A) → n < len → Mirrored place (AnyOf turn part n) xs ys
+    pub mirrored-more : (n : ℕ) (xs ys zs : List A) → n < count → Mirrored place (AnyOf turn part n) xs ys
         → Mirrored place (part (turn n)) ys zs → Mirrored place (AnyOf turn part (n + 1)) xs zs
     mirrored-more n xs ys zs less done next = record {
       same_length = next.same_length ∙ done.same_length;
@@ -195,7 +196,7 @@ module _ (count len : ℕ) (turn : ℕ → ℕ) (is : IsTurns count len turn) wh
           elim (cases_lt h.1.0 n) [
             | inl before ↦
                 next.others (place m x y)
-                (λ o v w s e. let same : h.0 ≡ turn n = apart h.0 (turn n) m o x y v w h.2 s e in last-alone count len turn is n less (h.1.0, before, h.1.2 ∙ same))
+                (λ o v w s e. let same : h.0 ≡ turn n = apart h.0 (turn n) m o x y v w h.2 s e in last-alone count turn is n less (h.1.0, before, h.1.2 ∙ same))
                 ∙ done.crossed m x y (h.0, (h.1.0, before, h.1.2), h.2)
             | inr last ↦
                 let one : h.1.0 ≡ n = omega (arith, last, h.1.1) in
@@ -203,7 +204,7 @@ module _ (count len : ℕ) (turn : ℕ → ℕ) (is : IsTurns count len turn) wh
                 let here : part (turn n) m x y = rw same at h.2 in
                 next.crossed m x y here
                 ∙ done.others (place m y x)
-                (λ o v w s e. let that : turn n ≡ s.0 = apart (turn n) s.0 m o y x v w (turned (turn n) m x y here) s.2 e in last-alone count len turn is n less (s.1.0, s.1.1, s.1.2 ∙ sym that))
+                (λ o v w s e. let that : turn n ≡ s.0 = apart (turn n) s.0 m o y x v w (turned (turn n) m x y here) s.2 e in last-alone count turn is n less (s.1.0, s.1.1, s.1.2 ∙ sym that))
           ];
       others = λ p out.
           next.others p (λ m x y s. out m x y (turn n, (n, omega arith, refl), s))
@@ -211,7 +212,7 @@ module _ (count len : ℕ) (turn : ℕ → ℕ) (is : IsTurns count len turn) wh
     }
 
     pub mirrored-all : (Whole : M → ℕ → ℕ → Type 0) (xs ys : List A) → ((m : M) (x y : ℕ) → Whole m x y → (k : ℕ) × (k < count) × part k m x y)
-        → ((k : ℕ) (m : M) (x y : ℕ) → part k m x y → Whole m x y) → Mirrored place (AnyOf turn part len) xs ys → Mirrored place Whole xs ys
+        → ((k : ℕ) (m : M) (x y : ℕ) → part k m x y → Whole m x y) → Mirrored place (AnyOf turn part count) xs ys → Mirrored place Whole xs ys
     mirrored-all Whole xs ys cover inside done = record {
       same_length = done.same_length;
       crossed = λ m x y h.

@@ -1,92 +1,129 @@
--- The places of a square that are exchanged across its diagonal, and the exchanges at them.
-use Rattle.std.proofs.Common.{◌≡◌, ℕ, Bool, true, nat_lt, ltb-true, ◌+◌, ◌-◌, ◌*◌, ◌/◌, ◌%◌, ◌^◌, ◌<◌, ◌≤◌, IsTrue, List, length, max, min, inl, inr, refl, ◌∙◌, arith}
+-- The places of a block that are exchanged with their mirror images, and the exchanges at them.
+use Rattle.std.proofs.Common.{◌≡◌, ℕ, Bool, true, nat_lt, ltb-true, ◌+◌, ◌-◌, ◌*◌, ◌/◌, ◌%◌, ◌^◌, ◌<◌, ◌≤◌, IsTrue, List, length, max, min, inl, inr, refl, arith}
 use Rattle.std.proofs.lemmas.Bool.{cases_eq, eq-eqb, ne_eqb}
-use Rattle.std.proofs.lemmas.Nat.{same_from_place}
+use Rattle.std.proofs.lemmas.Nat.{mul-add-lt, pow-add}
+use Rattle.std.proofs.Math.Nat.{mul-le-mul_right}
 use Rattle.std.specs.Prelude.{⊤}
 use Rattle.p3_util_kernels.specs.declared.transpose.regions.Region.{Region}
 use Rattle.p3_util_kernels.specs.Blocks.{IsBlock, swaps_of_block}
-use Rattle.p3_util_kernels.specs.Diagonal.{HoldsSquare, SwapsAcross}
-use Rattle.p3_util_kernels.specs.Least.{AllDiffer, count_below, places_swapped}
-use Rattle.p3_util_kernels.specs.PartSteps.{IsPlaceAcross, IsPlaceOfBlock, SwapsStay}
+use Rattle.p3_util_kernels.specs.Crossing.{IsCrossed, row_of}
+use Rattle.p3_util_kernels.specs.Diagonal.{SwapsAcross}
+use Rattle.p3_util_kernels.specs.Digits.{rev}
+use Rattle.p3_util_kernels.specs.Least.{AllDiffer, count_below}
+use Rattle.p3_util_kernels.specs.Mirrored.{Mirrored}
+use Rattle.p3_util_kernels.specs.PartSteps.{IsInBlock, IsPlaceOfBlock, IsPlaceOfPairs, SwapsStay}
 use Rattle.p3_util_kernels.specs.Region.{IsInRegion, cols_of, items_of, rows_of}
 use Rattle.p3_util_kernels.specs.SwapCounts.{square_swaps}
-use Rattle.p3_util_kernels.proofs.BlocksLemmas.{block-above, block-cols, block-diagonal, block-ready, block-rows}
-use Rattle.p3_util_kernels.proofs.Counts.{count-all, count-first}
-use Rattle.p3_util_kernels.proofs.DiagonalLemmas.{square_place}
+use Rattle.p3_util_kernels.proofs.BlocksLemmas.{block-above, block-cols, block-diagonal, block-rows, block-sides, block-turned, square-same}
+use Rattle.p3_util_kernels.proofs.Counts.{count-all, count-first, count-times}
+use Rattle.p3_util_kernels.proofs.DigitsLemmas.{rev-lt}
 use Rattle.p3_util_kernels.proofs.Matrix.{row_and_column, same_number}
 use Rattle.p3_util_kernels.proofs.MirrorSteps.{mirrored-stays}
+use Rattle.p3_util_kernels.proofs.OrderedParts.{InPairs, block-exchanged, pairs-exchanged, pairs-item, pairs-same, pairs-turned}
 use Rattle.p3_util_kernels.proofs.Pairs.{square_swaps-next}
-use Rattle.p3_util_kernels.proofs.Written.{AreOnceAmong-weaker}
+use Rattle.p3_util_kernels.proofs.SideBySideLemmas.{in_row}
 
-module _ {A : Type 0} (base stride last : ℕ) (region : Region) (old new : List A) (ready : HoldsSquare base stride last old)
-    (differ : AllDiffer old) (across : SwapsAcross base stride region old new) (end : region.col_end ≤ last + 1) where
-  -- the numbers below n that pass the test name the items of the region above the diagonal
-  across-stays : (n : ℕ) (test : ℕ → Bool) (row col : ℕ → ℕ)
-      → ((i : ℕ) → i < n → IsTrue (test i) → (row i < col i) × (col i < stride) × IsInRegion region (col i) (row i))
+-- `width` items for each row and column of the block
+module _ (side stride step number base : ℕ) (region : Region) (some : 0 < step) (block : IsBlock side stride step number base region)
+    {A M : Type 0} (place : M → ℕ → ℕ → ℕ) (S : M → ℕ → ℕ → Type 0) (Same : M → M → Type 0)
+    (turned : (m : M) (a b : ℕ) → S m a b → S m b a)
+    (parts : (k l : M) (a b v w : ℕ) → S k a b → S l v w → place k a b ≡ place l v w → Same k l × (a ≡ v) × (b ≡ w))
+    (width : ℕ) (item : ℕ → M) (into : (t a b : ℕ) → t < width → IsInBlock side stride step number block.square a b → S (item t) a b)
+    (differ_items : (t u : ℕ) → t < width → u < width → Same (item t) (item u) → t ≡ u)
+    (old new : List A) (among : ℕ → Type 0) (at : (k : M) (v w : ℕ) → S k v w → (place k v w < length old) × among (place k v w))
+    (differ : AllDiffer old) (mirrored : Mirrored place S old new) where
+  -- the numbers below n that pass the test name the rows and columns above the diagonal
+  named-stay : (n : ℕ) (test : ℕ → Bool) (row col : ℕ → ℕ)
+      → ((i : ℕ) → i < n → IsTrue (test i) → (row i < col i) × IsInRegion region (col i) (row i))
       → ((i j : ℕ) → i < n → j < n → IsTrue (test i) → IsTrue (test j) → row i ≡ row j → col i ≡ col j → i ≡ j)
-      → SwapsStay (IsPlaceAcross base stride region) (count_below n test) old new
-  across-stays n test row col known one =
-      mirrored-stays (λ m a b. base + a * stride + b) (λ m a b. (a < stride) × (b < stride)) (λ m a b. IsInRegion region (max a b) (min a b)) (λ k l. ⊤)
-      (λ m a b h. (h.1, h.0)) (λ k l a b v w h g e. let same = same_from_place a b v w stride h.1 g.1 (omega arith) in (tt, same.0, same.1))
-      n test (λ i. 0) row col
+      → SwapsStay among (width * count_below n test) old new
+  named-stay n test row col known one =
+      rw (count-times n width test) at
+      (mirrored-stays place S Same turned parts (n * width) (λ i. test (i / width)) (λ i. item (i % width)) (λ i. row (i / width)) (λ i. col (i / width))
       (λ i hi ti.
-      let (above, right, at) = known i hi ti in
-      let upper : (max (row i) (col i) ≡ col i) × (min (row i) (col i) ≡ row i) = (omega arith, omega arith) in
-      let lower : (max (col i) (row i) ≡ col i) × (min (col i) (row i) ≡ row i) = (omega arith, omega arith) in
-      ((omega arith, right), above, rw (upper.0, upper.1) at, rw (lower.0, lower.1) at))
-      (λ i j hi hj ti tj same. one i j hi hj ti tj)
-      old new (IsPlaceAcross base stride region)
-      (λ m a b h at. (square_place base stride a b last (length old) (omega (arith, at.col_to, end)) (omega (arith, at.col_to, end)) ready.room, (a, b, h, at, refl)))
-      differ across
+      let (of_pair, of_item) = row_and_column i n width hi in
+      let (above, inside) = known (i / width) of_pair ti in
+      let greater : max (row (i / width)) (col (i / width)) ≡ col (i / width) = omega arith in
+      let smaller : min (row (i / width)) (col (i / width)) ≡ row (i / width) = omega arith in
+      (into (i % width) (row (i / width)) (col (i / width)) of_item (base, region, block, block.base_is, rw (greater, smaller) inside), above))
+      (λ i j hi hj ti tj same same_row same_col.
+      let (pair_i, item_i) = row_and_column i n width hi in
+      let (pair_j, item_j) = row_and_column j n width hj in
+      same_number i j width (one (i / width) (j / width) pair_i pair_j ti tj same_row same_col) (differ_items (i % width) (j % width) item_i item_j same))
+      old new among at differ mirrored)
 
-  -- a region above the diagonal
-  pub block-stays : region.row_end ≤ region.col_start → region.col_end ≤ stride → SwapsStay (IsPlaceAcross base stride region) (items_of region) old new
-  block-stays above within =
-      let cols : ℕ = cols_of region in
-      rw (count-all (items_of region)) at
-      (across-stays (items_of region) (λ i. true) (λ i. region.row_start + i / cols) (λ i. region.col_start + i % cols)
-      (λ i less t.
-      let at = row_and_column i (rows_of region) cols less in
-      (omega arith, omega arith, record { row_from = omega arith; row_to = omega arith; col_from = omega arith; col_to = omega arith }))
-      (λ i j hi hj ti tj same_row same_col.
-      same_number i j cols (omega arith) (omega arith)))
+  pub part-stays : SwapsStay among (width * swaps_of_block region) old new
+  part-stays =
+      let rows = block-rows side stride step number base region some block in
+      let cols = block-cols side stride step number base region some block in
+      elim (cases_eq region.row_start region.col_start) [
+        | inl same ↦
+            let end = block-diagonal side stride step number base region some block same in
+            let size : ℕ = rows_of region in
+            let count = count-first size size (λ n. n) square_swaps (λ n less. (omega arith, square_swaps-next n)) in
+            let pairs : count_below (size * size) (λ i. nat_lt (i % size) (i / size)) ≡ square_swaps size = omega (arith, count) in
+            let swaps : swaps_of_block region ≡ square_swaps size = rw (eq-eqb region.row_start region.col_start same) refl in
+            rw (swaps, ← pairs)
+            (named-stay (size * size) (λ i. nat_lt (i % size) (i / size)) (λ i. region.row_start + i % size) (λ i. region.row_start + i / size)
+            (λ i less t.
+            let place = row_and_column i size size less in
+            let above : i % size < i / size = ltb-true (i % size) (i / size) t in
+            (omega arith, record { row_from = omega arith; row_to = omega arith; col_from = omega arith; col_to = omega arith }))
+            (λ i j hi hj ti tj same_row same_col. same_number i j size (omega arith) (omega arith)))
+        | inr other ↦
+            let above = block-above side stride step number base region some block other in
+            let swaps : swaps_of_block region ≡ items_of region = rw (ne_eqb region.row_start region.col_start other) refl in
+            rw (swaps, ← count-all (items_of region))
+            (named-stay (items_of region) (λ i. true) (λ i. region.row_start + i / cols_of region) (λ i. region.col_start + i % cols_of region)
+            (λ i less t.
+            let place = row_and_column i (rows_of region) (cols_of region) less in
+            (omega arith, record { row_from = omega arith; row_to = omega arith; col_from = omega arith; col_to = omega arith }))
+            (λ i j hi hj ti tj same_row same_col. same_number i j (cols_of region) (omega arith) (omega arith)))
+      ]
 
-module _ {A : Type 0} (base stride last : ℕ) (region : Region) (old new : List A) (ready : HoldsSquare base stride last old)
-    (differ : AllDiffer old) (across : SwapsAcross base stride region old new) (end : region.col_end ≤ last + 1) where
-  -- a square on the diagonal
-  pub square-stays : region.row_start ≡ region.col_start → region.row_end ≡ region.col_end → region.row_start ≤ region.row_end → region.col_end ≤ stride
-      → SwapsStay (IsPlaceAcross base stride region) (square_swaps (rows_of region)) old new
-  square-stays same_start same_end in_order within =
-      let size : ℕ = rows_of region in
-      let count = count-first size size (λ n. n) square_swaps (λ n less. (omega arith, square_swaps-next n)) in
-      let pairs : count_below (size * size) (λ i. nat_lt (i % size) (i / size)) ≡ square_swaps size = omega (arith, count) in
-      rw pairs at
-      (across-stays base stride last region old new ready differ across end (size * size) (λ i. nat_lt (i % size) (i / size))
-      (λ i. region.row_start + i % size) (λ i. region.row_start + i / size)
-      (λ i less t.
-      let at = row_and_column i size size less in
-      let above : i % size < i / size = ltb-true (i % size) (i / size) t in
-      (omega arith, omega arith, record { row_from = omega arith; row_to = omega arith; col_from = omega arith; col_to = omega arith }))
-      (λ i j hi hj ti tj same_row same_col.
-      same_number i j size (omega arith) (omega arith)))
+-- the places of a block are in the list
+pub block-inside : (side stride step len number s a b : ℕ) → 0 < step → len ≡ side * stride → IsInBlock side stride step number s a b → s * side + a * stride + b < len
+block-inside side stride step len number s a b some whole h =
+    let sides = block-sides side stride step some number s a b h in
+    let rows : (a + 1) * stride ≤ side * stride = mul-le-mul_right stride (omega arith) in
+    omega (arith, sides, rows, whole)
+
+pub pairs-inside : (digits width step len number : ℕ) (within : digits / 2 ≤ digits - digits / 2) (some : 0 < step) (m : ℕ × ℕ) (x y : ℕ) → len ≡ width * 2 ^ digits
+    → InPairs (digits / 2) (digits - digits / 2) width step within some number m x y → row_of (digits / 2) (digits - digits / 2) m.0 x y * width + m.1 < len
+pairs-inside digits width step len number within some m x y fits h =
+    let half : ℕ = digits / 2 in
+    let c : ℕ = digits - half in
+    let whole : half + c ≡ digits = omega arith in
+    let own = pairs-item half c width step within some number m x y h in
+    let row = mul-add-lt (rev half x) (2 ^ c) (m.0 * 2 ^ half + y) (2 ^ half) (rev-lt half x) (in_row c half within m.0 y own.middle own.low) in
+    let below : row_of half c m.0 x y < 2 ^ (half + c) = rw (pow-add 2 half c) (omega (arith, row)) in
+    rw fits (mul-add-lt (row_of half c m.0 x y) width m.1 (2 ^ digits) (rw whole at below) h.0)
 
 -- a block of squares side by side
 pub block-steps : {A : Type 0} (side stride step number base : ℕ) (region : Region) (old new : List A) → 0 < step
-    → IsBlock side stride step number base region → length old ≡ side * stride → side * stride < 2 ^ 64 → AllDiffer old → SwapsAcross base stride region old new
+    → IsBlock side stride step number base region → length old ≡ side * stride → AllDiffer old → SwapsAcross base stride region old new
     → SwapsStay (IsPlaceOfBlock side stride step number) (swaps_of_block region) old new
-block-steps side stride step number base region old new some block whole fits differ across steps many leads =
-    let rows = block-rows side stride step number base region some block in
-    let cols = block-cols side stride step number base region some block in
-    let ready = block-ready side stride step number base region some block old (region.col_end - 1) whole fits (omega (arith, cols)) in
-    let end : region.col_end ≤ region.col_end - 1 + 1 = omega arith in
-    let within : region.col_end ≤ stride = omega (arith, cols, block.inside) in
-    AreOnceAmong-weaker (IsPlaceAcross base stride region) (IsPlaceOfBlock side stride step number) (places_swapped steps)
-    (λ p at. (base, region, block, at))
-    (elim (cases_eq region.row_start region.col_start) [
-      | inl same ↦
-          square-stays base stride (region.col_end - 1) region old new ready differ across end same (block-diagonal side stride step number base region some block same)
-          (omega (arith, rows)) within steps (many ∙ rw (eq-eqb region.row_start region.col_start same) refl) leads
-      | inr other ↦
-          block-stays base stride (region.col_end - 1) region old new ready differ across end (block-above side stride step number base region some block other)
-          within steps (many ∙ rw (ne_eqb region.row_start region.col_start other) refl) leads
-    ])
+block-steps side stride step number base region old new some block whole differ across =
+    let one : 1 * swaps_of_block region ≡ swaps_of_block region = omega arith in
+    rw one at
+    (part-stays side stride step number base region some block (λ s a b. s * side + a * stride + b) (IsInBlock side stride step number) (λ s t. ⊤)
+    (block-turned side stride step number)
+    (λ s t a b v w h k e. let same = square-same side stride step some number number s t a b v w h k e in (tt, same.1, same.2))
+    1 (λ t. block.square) (λ t a b less h. h) (λ t u ht hu same. omega arith) old new (IsPlaceOfBlock side stride step number)
+    (λ s a b h. (block-inside side stride step (length old) number s a b some whole h, (s, a, b, h, refl)))
+    differ (block-exchanged side stride step some number base region old new block across))
+
+-- a block of pairs of rows
+pub pairs-steps : {A : Type 0} (digits width step number base : ℕ) (region : Region) (old new : List A) → 0 < step
+    → IsBlock (2 ^ (digits / 2)) (2 ^ (digits - digits / 2)) step number base region → length old ≡ width * 2 ^ digits → AllDiffer old
+    → IsCrossed (digits / 2) (digits - digits / 2) width (record region { col_start = base + region.col_start; col_end = base + region.col_end }) old new
+    → SwapsStay (IsPlaceOfPairs digits width step number) (width * swaps_of_block region) old new
+pairs-steps digits width step number base region old new some block fits differ crossed =
+    let half : ℕ = digits / 2 in
+    let c : ℕ = digits - half in
+    let within : half ≤ c = omega arith in
+    part-stays (2 ^ half) (2 ^ c) step number base region some block (λ m x y. row_of half c m.0 x y * width + m.1) (InPairs half c width step within some number)
+    (λ m n. (m.0 ≡ n.0) × (m.1 ≡ n.1)) (pairs-turned half c width step within some number) (pairs-same half c width step within some number number)
+    width (λ t. (block.square, t)) (λ t x y less h. (less, h)) (λ t u ht hu same. same.1) old new (IsPlaceOfPairs digits width step number)
+    (λ m x y h. (pairs-inside digits width step (length old) number within some m x y fits h, (m.0, m.1, x, y, h.0, h.1, refl)))
+    differ (pairs-exchanged half c width step within some number base region old new block crossed)

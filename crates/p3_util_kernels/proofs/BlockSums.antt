@@ -1,5 +1,5 @@
 -- The exchanges of all blocks of squares add up to those of the squares, for `src/parts/laws/all_parts.rt`.
-use Rattle.std.proofs.Common.{◌≡◌, ◌≢◌, ℕ, zero, suc, ◌+◌, ◌-◌, ◌*◌, ◌/◌, ◌%◌, ◌<◌, ◌≤◌, if◌then◌else◌, nat_le, min, max, inl, inr, refl, sym, ap, ◌∙◌, arith, le-leb, leb-true, eq-eqb, ne_eqb}
+use Rattle.std.proofs.Common.{◌≡◌, ◌≢◌, ℕ, suc, ◌+◌, ◌-◌, ◌*◌, ◌/◌, ◌%◌, ◌<◌, ◌≤◌, if◌then◌else◌, nat_le, min, max, inl, inr, refl, sym, ap, ◌∙◌, arith, le-leb, leb-true, eq-eqb, ne_eqb}
 use Rattle.std.proofs.lemmas.Bool.{cases_eq, cases_lt, false_from_ne_true}
 use Rattle.std.proofs.lemmas.Nat.{div_below, div-add-mod', div-mul-add, mod-mul-add, mod_below}
 use Rattle.std.proofs.Math.Nat.{mul-le-mul_right, pos_of_ne-zero}
@@ -9,30 +9,10 @@ use Rattle.p3_util_kernels.specs.Digits.{sum_below}
 use Rattle.p3_util_kernels.specs.Parts.{number_of_pair, pairs_of, parts_in, start_of}
 use Rattle.p3_util_kernels.specs.SwapCounts.{square_swaps}
 use Rattle.p3_util_kernels.proofs.AnyOrderLemmas.{sum_below-steps, sum-turns}
-use Rattle.p3_util_kernels.proofs.CutParts.{pair-alone, pair-below, pair-number, start-below, start-rising}
+use Rattle.p3_util_kernels.proofs.CutParts.{pair-alone, pair-below, pair-number, start-below, start-end, start-next, start-rising}
 use Rattle.p3_util_kernels.proofs.DigitsLemmas.{sum_below-same}
-use Rattle.p3_util_kernels.proofs.OrderedParts.{start-end, start-next}
 use Rattle.p3_util_kernels.proofs.Pairs.{mul-parts_left, pairs-add}
-
-sum-add : (a b : ℕ) (f : ℕ → ℕ) → sum_below (a + b) f ≡ sum_below a f + sum_below b (λ i. f (a + i))
-unfolding sum_below
-sum-add a zero f = let e : a + 0 ≡ a = omega arith in rw e (omega arith)
-sum-add a (suc b) f = let e : a + suc b ≡ suc (a + b) = omega arith in rw e (omega (arith, sum-add a b f))
-
--- row after row
-sum-rows : (rows side : ℕ) (g : ℕ → ℕ → ℕ) → sum_below (rows * side) (λ q. g (q / side) (q % side)) ≡ sum_below rows (λ r. sum_below side (g r))
-unfolding sum_below
-sum-rows zero side g = let e : zero * side ≡ 0 = omega arith in rw e refl
-sum-rows (suc r) side g =
-    let e : suc r * side ≡ r * side + side = omega arith in
-    let row : sum_below side (λ i. g ((r * side + i) / side) ((r * side + i) % side)) ≡ sum_below side (g r) =
-    sum_below-same side (λ i. g ((r * side + i) / side) ((r * side + i) % side)) (g r) (λ i h. rw (div-mul-add r side i h, mod-mul-add r side i h) refl) in
-    rw e (omega (arith, sum-add (r * side) side (λ q. g (q / side) (q % side)), sum-rows r side g, row))
-
-sum-constant : (n c : ℕ) → sum_below n (λ i. c) ≡ n * c
-unfolding sum_below
-sum-constant zero c = omega arith
-sum-constant (suc n) c = omega (arith, sum-constant n c)
+use Rattle.p3_util_kernels.proofs.Sums.{sum-constant, sum-rows}
 
 -- the parts of the pair of this number
 abbrev first_of : (n number : ℕ) → ℕ

@@ -6,7 +6,7 @@ use Rattle.std.proofs.Math.Nat.{div-mul-le_self, mul-le-mul, mul-le-mul_left, mu
 use Rattle.p3_util_kernels.specs.declared.transpose.regions.Region.{Region}
 use Rattle.p3_util_kernels.specs.Blocks.{IsBlock, blocks_of}
 use Rattle.p3_util_kernels.specs.Diagonal.{HoldsSquare}
-use Rattle.p3_util_kernels.specs.PartSteps.{IsPlaceOfBlock, NoPlaceInCommon}
+use Rattle.p3_util_kernels.specs.PartSteps.{IsInBlock, IsPlaceOfBlock, NoPlaceInCommon}
 use Rattle.p3_util_kernels.specs.Parts.{number_of_pair, pairs_of, parts_in, start_of}
 use Rattle.p3_util_kernels.proofs.CutParts.{pair-alone, pair-below, parts-within, start-below, start-rising}
 use Rattle.p3_util_kernels.proofs.Matrix.{row_and_column}
@@ -70,6 +70,10 @@ module _ (side stride step number base : ℕ) (region : Region) (some : 0 < step
       let start = start-below side step some block.col block.below in
       rw block.region_is (omega (arith, start), omega arith)
 
+  pub block-ordered : region.row_start ≤ region.col_start
+  block-ordered =
+      let rows : block.row * step ≤ block.col * step = mul-le-mul_right step block.in_order in rw block.region_is (omega (arith, rows))
+
   pub block-diagonal : region.row_start ≡ region.col_start → region.row_end ≡ region.col_end
   block-diagonal same =
       elim (cases_lt block.row block.col) [
@@ -102,19 +106,48 @@ part-same len step k l v k_from k_to l_from l_to =
       ]
     ]
 
--- a place is in one block alone
+-- a place of a square is in one block alone
+module _ (side stride step : ℕ) where
+  pub block-turned : (k s a b : ℕ) → IsInBlock side stride step k s a b → IsInBlock side stride step k s b a
+  block-turned k s a b (base, region, block, e, at) =
+      let greater : max b a ≡ max a b = omega arith in
+      let smaller : min b a ≡ min a b = omega arith in
+      (base, region, block, e, rw (greater, smaller) at)
+
+  module _ (some : 0 < step) where
+    pub block-sides : (k s a b : ℕ) → IsInBlock side stride step k s a b → (s * side + side ≤ stride) × (a < side) × (b < side)
+    block-sides k s a b (base, region, block, e, at) =
+        let cols = block-cols side stride step k base region some block in
+        (omega (arith, e, block.inside), omega (arith, at.col_to, cols), omega (arith, at.col_to, cols))
+
+    pub block-same : (k l s a b : ℕ) → IsInBlock side stride step k s a b → IsInBlock side stride step l s a b → k ≡ l
+    block-same k l s a b (base, region, block, e, at) (base', region', block', e', at') =
+        let some_side : 0 < side = omega (arith, (block-sides k s a b (base, region, block, e, at)).1) in
+        let squares = same_from_place block.square 0 block'.square 0 side some_side some_side (omega (arith, e, e', block.base_is, block'.base_is)) in
+        let here = rw block.region_is at at in
+        let there = rw block'.region_is at at' in
+        let row : block.row ≡ block'.row = part-same side step block.row block'.row (min a b) here.row_from here.row_to there.row_from there.row_to in
+        let col : block.col ≡ block'.col = part-same side step block.col block'.col (max a b) here.col_from here.col_to there.col_from there.col_to in
+        block.number_is ∙ rw (squares.0, row, col) (sym block'.number_is)
+
+    -- the parts of a place
+    pub square-same : (k l s t a b c d : ℕ) → IsInBlock side stride step k s a b → IsInBlock side stride step l t c d
+        → s * side + a * stride + b ≡ t * side + c * stride + d → (s ≡ t) × (a ≡ c) × (b ≡ d)
+    square-same k l s t a b c d here there e =
+        let in_here = block-sides k s a b here in
+        let in_there = block-sides l t c d there in
+        let rows = same_from_place a (s * side + b) c (t * side + d) stride (omega (arith, in_here)) (omega (arith, in_there)) (omega (arith, e)) in
+        let square = same_from_place s b t d side in_here.2 in_there.2 rows.1 in
+        (square.0, rows.0, square.1)
+
+    pub block-apart : (k l s t a b c d : ℕ) → IsInBlock side stride step k s a b → IsInBlock side stride step l t c d
+        → s * side + a * stride + b ≡ t * side + c * stride + d → k ≡ l
+    block-apart k l s t a b c d here there e =
+        let same = square-same k l s t a b c d here there e in
+        block-same k l s a b here (rw (same.0, same.1, same.2) there)
+
+-- two blocks have no place in common
 pub blocks-apart : (side stride step first second : ℕ) → 0 < step → first ≢ second
     → NoPlaceInCommon (IsPlaceOfBlock side stride step first) (IsPlaceOfBlock side stride step second)
-blocks-apart side stride step first second some other p (base, region, block, (a, b, within, at, e)) (base', region', block', (a', b', within', at', e')) =
-    let cols = block-cols side stride step first base region some block in
-    let cols' = block-cols side stride step second base' region' some block' in
-    let same = same_from_place a (base + b) a' (base' + b') stride (omega (arith, at.col_to, cols, block.inside)) (omega (arith, at'.col_to, cols', block'.inside)) (omega (arith, e, e')) in
-    let squares = same_from_place block.square b block'.square b' side (omega (arith, at.col_to, cols)) (omega (arith, at'.col_to, cols'))
-    (omega (arith, same.1, block.base_is, block'.base_is)) in
-    let here = rw block.region_is at at in
-    let there = rw block'.region_is at at' in
-    let greater : max a' b' ≡ max a b = omega (arith, same.0, squares.1) in
-    let smaller : min a' b' ≡ min a b = omega (arith, same.0, squares.1) in
-    let row : block.row ≡ block'.row = part-same side step block.row block'.row (min a b) here.row_from here.row_to (omega (arith, there.row_from, smaller)) (omega (arith, there.row_to, smaller)) in
-    let col : block.col ≡ block'.col = part-same side step block.col block'.col (max a b) here.col_from here.col_to (omega (arith, there.col_from, greater)) (omega (arith, there.col_to, greater)) in
-    other (block.number_is ∙ rw (squares.0, row, col) (sym block'.number_is))
+blocks-apart side stride step first second some other p (s, a, b, here, e) (t, c, d, there, e') =
+    other (block-apart side stride step some first second s t a b c d here there (sym e ∙ e'))

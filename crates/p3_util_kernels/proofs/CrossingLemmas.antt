@@ -1,10 +1,10 @@
 -- Pairs of rows exchanged, line after line, and that all pairs make the reversal of rows.
 use Rattle.std.proofs.Common.{◌≡◌, ◌≢◌, ℕ, ◌+◌, ◌-◌, ◌*◌, ◌/◌, ◌%◌, ◌^◌, ◌<◌, ◌≤◌, ◌⊎◌, min, max, List, length, slice_get, inl, inr, refl, sym, ap, ◌∙◌, arith}
 use Rattle.std.proofs.Math.Nat.{mul-le-mul_right}
-use Rattle.std.proofs.lemmas.Bool.{cases_eq}
+use Rattle.std.proofs.lemmas.Bool.{cases_lt}
 use Rattle.std.proofs.lemmas.Nat.{div_below, div-add-mod', mod-mul-add, pow_pos, same_from_place}
 use Rattle.p3_util_kernels.specs.declared.transpose.regions.Region.{Region}
-use Rattle.p3_util_kernels.specs.Crossing.{IsCrossed, IsRowItem, line_pairs_of, row_of}
+use Rattle.p3_util_kernels.specs.Crossing.{IsCrossed, IsRowItem, lines_of, row_of}
 use Rattle.p3_util_kernels.specs.Digits.{rev}
 use Rattle.p3_util_kernels.specs.Exchanged.{RunsExchanged}
 use Rattle.p3_util_kernels.specs.Halves.{IsCut}
@@ -12,7 +12,7 @@ use Rattle.p3_util_kernels.specs.Region.{IsInRegion}
 use Rattle.p3_util_kernels.specs.Reversal.{IsRowReversal}
 use Rattle.p3_util_kernels.proofs.DigitsLemmas.{rev-lt, rev-rev-below, rev-around}
 use Rattle.p3_util_kernels.proofs.Lengths.{rows-same}
-use Rattle.p3_util_kernels.proofs.Lines.{line-below, line-even}
+use Rattle.p3_util_kernels.proofs.Lines.{line-even, lines_of-all, lines_of-inside}
 use Rattle.p3_util_kernels.proofs.MirroredLemmas.{Mirrored-cut, Mirrored-none}
 use Rattle.p3_util_kernels.proofs.RegionLemmas.{IsCut-cols, IsCut-rows}
 use Rattle.p3_util_kernels.proofs.SideBySideLemmas.{each_part, in_row, row_length}
@@ -37,6 +37,15 @@ module _ (half c : ℕ) (within : half ≤ c) where
       let outer = same_from_place (rev half x) (middle * 2 ^ half + y) (rev half x') (middle' * 2 ^ half + y') (2 ^ c) (in_row c half within middle y hm hy) (in_row c half within middle' y' hm' hy') e in
       let inner = same_from_place middle y middle' y' (2 ^ half) hy hy' outer.1 in
       (inner.0, sym (rev-rev-below half x hx) ∙ ap (rev half) outer.0 ∙ rev-rev-below half x' hx', inner.1)
+
+  -- the greater number of a pair on a line, or on the next one
+  greater : (line m v w : ℕ) → line % 2 ^ half + 1 < 2 ^ half → v < 2 ^ half → w < 2 ^ half → line ≤ m * 2 ^ half + max v w → m * 2 ^ half + max v w < line + 2
+      → max v w ≡ line % 2 ^ half + (m * 2 ^ half + max v w - line)
+  greater line m v w fits hv hw above below =
+      let y = line % 2 ^ half in
+      let split : line / 2 ^ half * 2 ^ half + y ≡ line = div-add-mod' line (2 ^ half) in
+      let inner : m * 2 ^ half + max v w ≡ line / 2 ^ half * 2 ^ half + (y + (m * 2 ^ half + max v w - line)) = omega arith in
+      (same_from_place m (max v w) (line / 2 ^ half) (y + (m * 2 ^ half + max v w - line)) (2 ^ half) (omega arith) (omega arith) inner).1
 
   -- the rows of a pair differ
   pub pair-apart : (middle x y : ℕ) → middle < 2 ^ (c - half) → x < y → y < 2 ^ half → row_of half c middle x y ≢ row_of half c middle y x
@@ -89,68 +98,75 @@ module _ (half c : ℕ) (within : half ≤ c) where
       }
 
       -- the pairs of two lines that have one x more
-      pub IsCrossed-more : (line x : ℕ) (xs ys zs ws : List A)
-          → IsCrossed half c row_width (record { row_start = 0; row_end = x; col_start = line; col_end = line + 2 }) xs ys
+      pub IsCrossed-more : (line from x : ℕ) (xs ys zs ws : List A) → from ≤ x
+          → IsCrossed half c row_width (record { row_start = from; row_end = x; col_start = line; col_end = line + 2 }) xs ys
           → IsCrossed half c row_width (record { row_start = x; row_end = x + 1; col_start = line; col_end = line + 1 }) ys zs
           → IsCrossed half c row_width (record { row_start = x; row_end = x + 1; col_start = line + 1; col_end = line + 1 + 1 }) zs ws
-          → IsCrossed half c row_width (record { row_start = 0; row_end = x + 1; col_start = line; col_end = line + 2 }) xs ws
-      IsCrossed-more line x xs ys zs ws before first second =
-          let lines : Region = record { row_start = 0; row_end = x + 1; col_start = line; col_end = line + 2 } in
+          → IsCrossed half c row_width (record { row_start = from; row_end = x + 1; col_start = line; col_end = line + 2 }) xs ws
+      IsCrossed-more line from x xs ys zs ws in_order before first second =
+          let lines : Region = record { row_start = from; row_end = x + 1; col_start = line; col_end = line + 2 } in
           let end : line + 1 + 1 ≡ line + 2 = omega arith in
-          IsCrossed-cut lines _ _ xs ys ws (IsCut-rows lines x (omega arith) (omega arith)) before
+          IsCrossed-cut lines _ _ xs ys ws (IsCut-rows lines x in_order (omega arith)) before
           (IsCrossed-cut (record lines { row_start = x }) _ _ ys zs ws (IsCut-cols (record lines { row_start = x }) (line + 1) (omega arith) (omega arith)) first (rw end at second))
 
-      -- After the pairs whose x is below y, each pair that is left on both lines is a row and itself, but for y and y + 1.
-      pub IsCrossed-last : (line : ℕ) (xs ys zs : List A) → line % 2 ^ half + 1 < 2 ^ half
-          → IsCrossed half c row_width (record { row_start = 0; row_end = line % 2 ^ half; col_start = line; col_end = line + 2 }) xs ys
-          → IsCrossed half c row_width (record { row_start = line % 2 ^ half; row_end = line % 2 ^ half + 1; col_start = line + 1; col_end = line + 1 + 1 }) ys zs
-          → IsCrossed half c row_width (record { row_start = 0; row_end = 2 ^ half; col_start = line; col_end = line + 2 }) xs zs
-      IsCrossed-last line xs ys zs fits before pair =
-          let y = line % 2 ^ half in
-          let lines : Region = record { row_start = 0; row_end = 2 ^ half; col_start = line; col_end = line + 2 } in
-          let rest : Region = record lines { row_start = y } in
-          let second : Region = record rest { col_start = line + 1 } in
-          let end : line + 1 + 1 ≡ line + 2 = omega arith in
-          let greater : (m : ℕ × ℕ) (v w : ℕ) → IsRowItem half c row_width m.0 m.1 v w → line ≤ m.0 * 2 ^ half + max v w → m.0 * 2 ^ half + max v w < line + 2
-          → max v w ≡ y + (m.0 * 2 ^ half + max v w - line) =
-          λ m v w own from to.
-          (same_from_place m.0 (max v w) (line / 2 ^ half) (y + (m.0 * 2 ^ half + max v w - line)) (2 ^ half) (omega (arith, own.high, own.low)) (omega arith) (omega (arith, div-add-mod' line (2 ^ half)))).1 in
-          IsCrossed-cut lines _ _ xs ys zs (IsCut-rows lines y (omega arith) (omega arith)) before
-          (IsCrossed-cut rest _ _ ys ys zs (IsCut-cols rest (line + 1) (omega arith) (omega arith))
-          (IsCrossed-none _ ys (λ m v w own h. omega (arith, greater m v w own h.col_from (omega (arith, h.col_to)), h.row_from, h.col_to)))
-          (IsCrossed-cut second _ _ ys zs zs (IsCut-rows second (y + 1) (omega arith) (omega arith)) (rw end at pair)
-          (IsCrossed-none _ zs (λ m v w own h. omega (arith, greater m v w own (omega (arith, h.col_from)) h.col_to, h.row_from, h.col_to)))))
+      module _ (line from to : ℕ) (fits : line % 2 ^ half + 1 < 2 ^ half) where
+        -- After the pairs whose x is below y, each pair that is left on both lines is a row and itself, but for y and y + 1.
+        pub IsCrossed-last : (xs ys zs : List A) → from ≤ line % 2 ^ half → line % 2 ^ half < to
+            → IsCrossed half c row_width (record { row_start = from; row_end = line % 2 ^ half; col_start = line; col_end = line + 2 }) xs ys
+            → IsCrossed half c row_width (record { row_start = line % 2 ^ half; row_end = line % 2 ^ half + 1; col_start = line + 1; col_end = line + 1 + 1 }) ys zs
+            → IsCrossed half c row_width (record { row_start = from; row_end = to; col_start = line; col_end = line + 2 }) xs zs
+        IsCrossed-last xs ys zs above below before pair =
+            let y = line % 2 ^ half in
+            let lines : Region = record { row_start = from; row_end = to; col_start = line; col_end = line + 2 } in
+            let rest : Region = record lines { row_start = y } in
+            let second : Region = record rest { col_start = line + 1 } in
+            let end : line + 1 + 1 ≡ line + 2 = omega arith in
+            IsCrossed-cut lines _ _ xs ys zs (IsCut-rows lines y above (omega arith)) before
+            (IsCrossed-cut rest _ _ ys ys zs (IsCut-cols rest (line + 1) (omega arith) (omega arith))
+            (IsCrossed-none _ ys (λ m v w own h. omega (arith, greater line m.0 v w fits own.high own.low h.col_from (omega (arith, h.col_to)), h.row_from, h.col_to)))
+            (IsCrossed-cut second _ _ ys zs zs (IsCut-rows second (y + 1) (omega arith) (omega arith)) (rw end at pair)
+            (IsCrossed-none _ zs (λ m v w own h. omega (arith, greater line m.0 v w fits own.high own.low (omega (arith, h.col_from)) h.col_to, h.row_from, h.col_to)))))
 
       -- all pairs came up: each row is the reverse of its own
-      pub IsRowReversal-crossed : (old new : List A) (lines : ℕ) → c ≤ half + 1 → lines ≤ 2 ^ c → (0 < half → lines ≡ 2 ^ c) → length old ≡ row_width * 2 ^ (half + c)
-          → IsCrossed half c row_width (record { row_start = 0; row_end = 2 ^ half; col_start = 0; col_end = lines }) old new
-          → IsRowReversal row_width old new
-      IsRowReversal-crossed old new lines few inside whole fits crossed =
-          let all : Region = record { row_start = 0; row_end = 2 ^ half; col_start = 0; col_end = 2 ^ c } in
-          let every = IsCrossed-cut all _ _ old new new (IsCut-cols all lines (omega arith) inside) crossed
-          (IsCrossed-none _ new
-          (λ m x y own pair.
-          elim (cases_eq half 0) [
-            | inl none ↦ let one : 2 ^ half ≡ 1 = rw none refl in omega (arith, own.high, own.low)
-            | inr some ↦ absurd (omega (arith, whole (omega arith), pair.col_from, pair.col_to))
-          ])) in
-          record {
-            same_length = every.same_length;
-            places = λ k r j e h hj.
-                let same : k ≡ half + c = rows-same row_width k (half + c) (omega arith) (sym e ∙ fits) in
-                let at = each_part c half within (λ r. slice_get new (r * row_width + j) ≡ slice_get old (rev (half + c) r * row_width + j))
-                (λ a middle y ha hm hy.
-                let x = rev half a in
-                let hx : x < 2 ^ half = rev-lt half a in
-                let back : rev half x ≡ a = rev-rev-below half a ha in
-                let parts : c - half + half ≡ c = omega arith in
-                let turned = rw parts at (rev-around half (c - half) a middle y (omega arith) hm hy) in
-                let line : middle * 2 ^ half + max x y < 2 ^ c = in_row c half within middle (max x y) hm (omega arith) in
-                rw back at (every.crossed (middle, j) x y
-                (grind (arith, line)))
-                ∙ ap (λ n. slice_get old (n * row_width + j)) (sym turned)) in
-                at r (rw same at h) ∙ ap (λ n. slice_get old (rev n r * row_width + j)) (sym same);
-          }
+      pub IsRowReversal-crossed : (old new : List A) (pairs : Region) → c ≤ half + 1 → length old ≡ row_width * 2 ^ (half + c)
+          → ((x y : ℕ) → x < 2 ^ c → y < 2 ^ half → IsInRegion pairs x y)
+          → IsCrossed half c row_width pairs old new → IsRowReversal row_width old new
+      IsRowReversal-crossed old new pairs few fits all every = record {
+        same_length = every.same_length;
+        places = λ k r j e h hj.
+            let same : k ≡ half + c = rows-same row_width k (half + c) (omega arith) (sym e ∙ fits) in
+            let at = each_part c half within (λ r. slice_get new (r * row_width + j) ≡ slice_get old (rev (half + c) r * row_width + j))
+            (λ a middle y ha hm hy.
+            let x = rev half a in
+            let hx : x < 2 ^ half = rev-lt half a in
+            let back : rev half x ≡ a = rev-rev-below half a ha in
+            let parts : c - half + half ≡ c = omega arith in
+            let turned = rw parts at (rev-around half (c - half) a middle y (omega arith) hm hy) in
+            let line : middle * 2 ^ half + max x y < 2 ^ c = in_row c half within middle (max x y) hm (omega arith) in
+            rw back at (every.crossed (middle, j) x y (record { middle = hm; item = hj; high = hx; low = hy }, all _ _ line (omega arith)))
+            ∙ ap (λ n. slice_get old (n * row_width + j)) (sym turned)) in
+            at r (rw same at h) ∙ ap (λ n. slice_get old (rev n r * row_width + j)) (sym same);
+      }
+
+-- one row or two have no pairs
+pub IsCrossed-few : {A : Type 0} (digits row_width : ℕ) (pairs : Region) (xs : List A) → digits < 2
+    → IsCrossed (digits / 2) (digits - digits / 2) row_width pairs xs xs
+IsCrossed-few digits row_width pairs xs few =
+    let one : 2 ^ (digits / 2) ≡ 1 = let none : digits / 2 ≡ 0 = omega arith in rw none refl in
+    IsCrossed-none (digits / 2) (digits - digits / 2) (omega arith) row_width pairs xs (λ m x y own h. omega (arith, own.high, own.low, one))
+
+-- the pairs of lines have all pairs
+pub IsCrossed-lines : {A : Type 0} (digits row_width rows : ℕ) (old new : List A)
+    → IsCrossed (digits / 2) (digits - digits / 2) row_width (record { row_start = 0; row_end = rows; col_start = 0; col_end = lines_of digits }) old new
+    → IsCrossed (digits / 2) (digits - digits / 2) row_width (record { row_start = 0; row_end = rows; col_start = 0; col_end = 2 ^ (digits - digits / 2) }) old new
+IsCrossed-lines digits row_width rows old new crossed =
+    elim (cases_lt digits 2) [
+      | inl few ↦
+          let all : Region = record { row_start = 0; row_end = rows; col_start = 0; col_end = 2 ^ (digits - digits / 2) } in
+          IsCrossed-cut (digits / 2) (digits - digits / 2) (omega arith) row_width all _ _ old new new (IsCut-cols all (lines_of digits) (omega arith) (lines_of-inside digits))
+          crossed (IsCrossed-few digits row_width _ new few)
+      | inr several ↦ rw (lines_of-all digits several) at crossed
+    ]
 
 -- The first line of the middle digit of a line of an even number, all lines of that digit, and the number y of the line, below
 -- which there is room for the next line
@@ -160,16 +176,15 @@ line-first digits line side is =
     let first : line / 2 ^ half * side ≡ line / 2 ^ half * 2 ^ half + 0 = rw is (omega arith) in
     rw first (mod-mul-add (line / 2 ^ half) (2 ^ half) 0 (pow_pos half))
 
-pub line-inside : (digits line side : ℕ) → side ≡ 2 ^ (digits / 2) → line % 2 ≡ 0 → line / 2 < line_pairs_of digits
+pub line-inside : (digits line side : ℕ) → side ≡ 2 ^ (digits / 2) → line < 2 ^ (digits - digits / 2)
     → line / 2 ^ (digits / 2) * side + 2 ^ (digits / 2) ≤ 2 ^ (digits - digits / 2)
-line-inside digits line side is even h =
+line-inside digits line side is h =
     let half = digits / 2 in
-    let middle = middle-lt half (digits - half) (omega arith) line (omega (arith, (line-below digits line even h).1)) in
+    let middle = middle-lt half (digits - half) (omega arith) line h in
     rw (is, ← row_length (digits - half) half (omega arith)) (omega (arith, mul-le-mul_right {m = line / 2 ^ half + 1} {n = 2 ^ (digits - half - half)} (2 ^ half) (omega arith)))
 
-pub line-next : (digits line side : ℕ) → side ≡ 2 ^ (digits / 2) → line % 2 ≡ 0 → line / 2 < line_pairs_of digits
-    → line % side + 1 < 2 ^ (digits / 2)
-line-next digits line side is even h = rw is (line-even (digits / 2) line (omega (arith, (line-below digits line even h).0)) even).0
+pub line-next : (digits line side : ℕ) → side ≡ 2 ^ (digits / 2) → line % 2 ≡ 0 → 2 ≤ digits → line % side + 1 < 2 ^ (digits / 2)
+line-next digits line side is even some = rw is (line-even (digits / 2) line (omega arith) even).0
 
 -- the parts of a line
 pub ruleset line_parts = (line-first, line-inside, line-next)

@@ -82,6 +82,13 @@ module _ (len unit units step : ℕ) (some : 0 < unit) (most : 0 < units) (fits 
 pub start-rising : (len step k l : ℕ) → k < l → start_of len step (k + 1) ≤ start_of len step l
 start-rising len step k l less = let rows : suc k * step ≤ l * step = mul-le-mul_right step less in omega (arith, rows)
 
+-- a later part begins no earlier, and the last one ends at the length
+pub start-next : (len step k : ℕ) → start_of len step k ≤ start_of len step (k + 1)
+start-next len step k = omega arith
+
+pub start-end : (len step : ℕ) → 0 < step → start_of len step (parts_in len step) ≡ len
+start-end len step some = omega (arith, (div_ceil_times len step some).0)
+
 -- a part of a matrix lies in it
 pub part-inside : (width height : ℕ) (by_rows : Bool) (len step k : ℕ) → len ≡ (if by_rows then height else width)
     → LiesInMatrix (part_of_matrix width height by_rows len step k) width height

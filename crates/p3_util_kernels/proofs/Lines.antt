@@ -1,11 +1,21 @@
--- How many pairs of rows the first lines have: line l has l mod 2^q pairs, where one middle digit has 2^q lines.
-use Rattle.std.proofs.Common.{◌≡◌, ℕ, zero, suc, ◌+◌, ◌-◌, ◌*◌, ◌/◌, ◌%◌, ◌^◌, ◌<◌, ◌≤◌, inl, inr, refl, ap, ◌∙◌, arith}
-use Rattle.std.proofs.lemmas.Bool.{cases_lt}
-use Rattle.std.proofs.lemmas.Nat.{div-add-mod', div-mul-add, mod-mul-add, mod_below, pow-add, pow_pos}
-use Rattle.p3_util_kernels.specs.Crossing.{line_pairs_of}
-use Rattle.p3_util_kernels.specs.SwapCounts.{line_swaps, short_swaps, square_swaps}
+-- How many pairs of rows lines have: line l has l mod 2^q pairs, where one middle digit has 2^q lines.
+use Rattle.std.proofs.Common.{◌≡◌, ℕ, zero, suc, ◌+◌, ◌-◌, ◌*◌, ◌/◌, ◌%◌, ◌^◌, ◌<◌, ◌≤◌, min, inl, inr, refl, ap, ◌∙◌, arith}
+use Rattle.std.proofs.Math.Pow.{pow_mono}
+use Rattle.std.proofs.lemmas.Bool.{cases_eq, cases_lt, eq-eqb, ne_eqb}
+use Rattle.std.proofs.lemmas.Nat.{div-add-mod', mod-mul-add, mod_below, pow-add, pow_pos}
+use Rattle.p3_util_kernels.specs.declared.transpose.regions.Region.{Region}
+use Rattle.p3_util_kernels.specs.Blocks.{IsBlock, swaps_of_block}
+use Rattle.p3_util_kernels.specs.Crossing.{AreLinePairs, lines_of, pairs_in}
+use Rattle.p3_util_kernels.specs.Digits.{sum_below}
+use Rattle.p3_util_kernels.specs.Parts.{parts_in, start_of}
+use Rattle.p3_util_kernels.specs.Region.{cols_of, items_of, rows_of}
+use Rattle.p3_util_kernels.specs.SwapCounts.{short_swaps, square_swaps}
+use Rattle.p3_util_kernels.proofs.BlocksLemmas.{block-above, block-cols, block-diagonal, block-ordered, block-rows}
+use Rattle.p3_util_kernels.proofs.CutParts.{start-end}
+use Rattle.p3_util_kernels.proofs.DigitsLemmas.{sum_below-same}
 use Rattle.p3_util_kernels.proofs.Pairs.{square_swaps-next, twice-pairs}
 use Rattle.p3_util_kernels.proofs.PowersLemmas.{power-even}
+use Rattle.p3_util_kernels.proofs.Sums.{sum-constant, sum-rows}
 
 -- the number of a line's pairs where the line has an even number, and one more for the line after it
 pub line-even : (q line : ℕ) → 0 < q → line % 2 ≡ 0 → (line % 2 ^ q + 1 < 2 ^ q) × ((line + 1) % 2 ^ q ≡ line % 2 ^ q + 1)
@@ -17,45 +27,51 @@ line-even q line some even =
     let next : line + 1 ≡ line / 2 ^ q * 2 ^ q + (y + 1) = omega arith in
     (below, rw next (mod-mul-add (line / 2 ^ q) (2 ^ q) (y + 1) below))
 
--- the pairs of the first lines, where line l has l % side of them
-abbrev pub pairs_before : (side line : ℕ) → ℕ
-pairs_before side line = line / side * square_swaps side + square_swaps (line % side)
+-- The pairs of lines are all lines where a middle digit has more than one line. Elsewhere there are none.
+lines_of-few : (digits : ℕ) → digits < 2 → lines_of digits ≡ 0
+lines_of-few digits few = let none : digits / 2 ≡ 0 = omega arith in rw none (omega arith)
 
-pub pairs_before-next : (side line : ℕ) → 0 < side → pairs_before side (suc line) ≡ pairs_before side line + line % side
-pairs_before-next side line some =
-    let e : ℕ = line / side in
-    let j : ℕ = line % side in
-    let split : e * side + j ≡ line = div-add-mod' line side in
-    let below : j < side = mod_below line side some in
-    elim (cases_lt (suc j) side) [
-      | inl more ↦
-          let next : suc line ≡ e * side + suc j = omega arith in
-          rw (next, div-mul-add e side (suc j) more, mod-mul-add e side (suc j) more) (omega (arith, square_swaps-next j))
-      | inr last ↦
-          let next : suc line ≡ suc e * side + 0 = omega arith in
-          let whole : square_swaps side ≡ square_swaps j + j = let end : side ≡ suc j = omega arith in ap square_swaps end ∙ square_swaps-next j in
-          rw (next, div-mul-add (suc e) side 0 some, mod-mul-add (suc e) side 0 some) (omega (arith, whole))
-    ]
+pub lines_of-all : (digits : ℕ) → 2 ≤ digits → lines_of digits ≡ 2 ^ (digits - digits / 2)
+lines_of-all digits several =
+    let parts : digits - digits / 2 ≡ digits % 2 + digits / 2 = omega arith in
+    rw (parts, pow-add 2 (digits % 2) (digits / 2), power-even (digits / 2) (omega arith)) (grind arith)
 
--- those of some whole squares of lines, of none, and of one pair of lines more
-pairs_before-whole : (side line e : ℕ) → 0 < side → line ≡ e * side + 0 → pairs_before side line ≡ e * square_swaps side
-pairs_before-whole side line e some is = rw (is, div-mul-add e side 0 some, mod-mul-add e side 0 some) (omega arith)
+pub lines_of-inside : (digits : ℕ) → lines_of digits ≤ 2 ^ (digits - digits / 2)
+lines_of-inside digits = grind (arith, lines_of-few digits, lines_of-all digits)
 
-pub line_swaps-none : (digits : ℕ) → line_swaps digits 0 ≡ 0
-line_swaps-none digits = pairs_before-whole (2 ^ (digits / 2)) 0 0 (pow_pos (digits / 2)) (omega arith) ∙ omega arith
+pub lines_of-several : (digits : ℕ) → 0 < lines_of digits → 2 ≤ digits
+lines_of-several digits some = grind (arith, lines_of-few digits)
 
-pub line_swaps-more : (digits line_pair : ℕ) → 2 ≤ digits
-    → line_swaps digits (line_pair + 1) ≡ line_swaps digits line_pair + (line_pair * 2 % 2 ^ (digits / 2) + (line_pair * 2 % 2 ^ (digits / 2) + 1))
-line_swaps-more digits line_pair some =
-    let side = 2 ^ (digits / 2) in
-    let line = line_pair * 2 in
-    let two : (line_pair + 1) * 2 ≡ suc (suc line) = omega arith in
-    let odd : line + 1 ≡ suc line = omega arith in
-    let next = rw odd at (line-even (digits / 2) line (omega arith) (omega arith)).1 in
-    rw two (omega (arith, next, pairs_before-next side line (pow_pos (digits / 2)), pairs_before-next side (suc line) (pow_pos (digits / 2))))
+-- two lines more
+pub pairs_in-more : (q : ℕ) (pairs : Region) (line : ℕ) → 0 < q → line % 2 ≡ 0 → pairs.col_start ≤ line
+    → pairs_in (2 ^ q) (record pairs { col_end = line + 2 })
+    ≡ pairs_in (2 ^ q) (record pairs { col_end = line })
+    + ((min pairs.row_end (line % 2 ^ q) - pairs.row_start) + (min pairs.row_end (line % 2 ^ q + 1) - pairs.row_start))
+unfolding sum_below
+pairs_in-more q pairs line some even from =
+    let count : line + 2 - pairs.col_start ≡ suc (suc (line - pairs.col_start)) = omega arith in
+    let first : pairs.col_start + (line - pairs.col_start) ≡ line = omega arith in
+    let second : pairs.col_start + suc (line - pairs.col_start) ≡ line + 1 = omega arith in
+    rw (count, first, second, (line-even q line some even).1) (omega arith)
 
--- the pairs of all lines
-pub lines-short : (q d : ℕ) → d ≤ 1 → 2 ^ d * square_swaps (2 ^ q) ≡ short_swaps (q + (d + q))
+-- no lines have none
+pub pairs_in-none : (side : ℕ) (pairs : Region) → pairs.col_end ≤ pairs.col_start → pairs_in side pairs ≡ 0
+unfolding sum_below
+pairs_in-none side pairs none = let count : pairs.col_end - pairs.col_start ≡ 0 = omega arith in rw count refl
+
+-- nor has one row or two
+pub pairs_in-few : (digits : ℕ) (pairs : Region) → digits < 2 → pairs_in (2 ^ (digits / 2)) pairs ≡ 0
+pairs_in-few digits pairs few =
+    let one : digits / 2 ≡ 0 = omega arith in
+    rw one (sum_below-same _ _ (λ i. 0) (λ i less. omega arith) ∙ sum-constant _ 0 ∙ omega arith)
+
+-- the pairs of one middle digit are those of a square above its diagonal
+numbers-sum : (n : ℕ) → sum_below n (λ i. i) ≡ square_swaps n
+unfolding sum_below
+numbers-sum zero = refl
+numbers-sum (suc n) = omega (arith, numbers-sum n, square_swaps-next n)
+
+lines-short : (q d : ℕ) → d ≤ 1 → 2 ^ d * square_swaps (2 ^ q) ≡ short_swaps (q + (d + q))
 lines-short q d few =
     let n = 2 ^ q in
     let e = 2 ^ d in
@@ -65,32 +81,87 @@ lines-short q d few =
     let lines : 2 ^ (d + q) ≡ e * n = pow-add 2 d q in
     rw (half, whole, lines) (omega arith)
 
--- The pairs of lines are all lines where a middle digit has more than one line. Elsewhere there are none.
-line_pairs-all : (digits : ℕ) → 2 ≤ digits → line_pairs_of digits * 2 ≡ 2 ^ (digits % 2) * 2 ^ (digits / 2)
-line_pairs-all digits some =
-    rw (power-even (digits / 2) (omega arith)) (grind arith)
-
-line_pairs-few : (digits : ℕ) → digits < 2 → line_pairs_of digits ≡ 0
-line_pairs-few digits few =
-    let none : digits / 2 ≡ 0 = omega arith in rw none (omega arith)
-
-pub line_pairs-whole : (digits : ℕ) → 0 < digits / 2 → line_pairs_of digits * 2 ≡ 2 ^ (digits - digits / 2)
-line_pairs-whole digits some =
-    let parts : digits - digits / 2 ≡ digits % 2 + digits / 2 = omega arith in
-    rw (parts, pow-add) (line_pairs-all digits (omega arith))
-
-pub line_pairs-inside : (digits : ℕ) → line_pairs_of digits * 2 ≤ 2 ^ (digits - digits / 2)
-line_pairs-inside digits = grind (arith, line_pairs-few digits, line_pairs-whole digits)
-
--- so the lines of a pair of lines lie below all lines
-pub line-below : (digits line : ℕ) → line % 2 ≡ 0 → line / 2 < line_pairs_of digits → (2 ≤ digits) × (line + 1 < 2 ^ (digits - digits / 2))
-line-below digits line even h = grind (arith, line_pairs-few digits, line_pairs-inside digits)
-
-pub line_swaps-all : (digits : ℕ) → line_swaps digits (line_pairs_of digits) ≡ short_swaps digits
-line_swaps-all zero = refl
-line_swaps-all (suc zero) = refl
-line_swaps-all (suc (suc d)) =
-    let digits = suc (suc d) in
+-- those of all middle digits
+pub squares-short : (digits : ℕ) → 2 ^ (digits - digits / 2 - digits / 2) * square_swaps (2 ^ (digits / 2)) ≡ short_swaps digits
+squares-short digits =
+    let rest : digits - digits / 2 - digits / 2 ≡ digits % 2 = omega arith in
     let parts : digits / 2 + (digits % 2 + digits / 2) ≡ digits = omega arith in
-    let short = rw parts at (lines-short (digits / 2) (digits % 2) (omega arith)) in
-    pairs_before-whole (2 ^ (digits / 2)) _ (2 ^ (digits % 2)) (pow_pos (digits / 2)) (omega (arith, line_pairs-all digits (omega arith))) ∙ omega (arith, short)
+    rw rest (rw parts at (lines-short (digits / 2) (digits % 2) (omega arith)))
+
+-- so many pairs have all lines
+pub pairs_in-all : (digits : ℕ) → digits < 64
+    → pairs_in (2 ^ (digits / 2)) (record { row_start = 0; row_end = 2 ^ 64 - 1; col_start = 0; col_end = lines_of digits }) ≡ short_swaps digits
+pairs_in-all digits fits =
+    let half = digits / 2 in
+    let side = 2 ^ half in
+    let squares = 2 ^ (digits - half - half) in
+    let small : side ≤ 2 ^ 63 = pow_mono {j = 63} (omega arith) in
+    let rest : digits - half ≡ digits - half - half + half = omega arith in
+    elim (cases_lt digits 2) [
+      | inl few ↦ pairs_in-few digits _ few ∙ (let half_up : (digits + 1) / 2 ≡ digits = omega arith in rw half_up (omega arith))
+      | inr several ↦
+          let lines : lines_of digits - 0 ≡ squares * side = omega (arith, lines_of-all digits several, ap (λ n. 2 ^ n) rest, pow-add 2 (digits - half - half) half) in
+          let each : (i : ℕ) → min (2 ^ 64 - 1) ((0 + i) % side) - 0 ≡ i % side =
+          λ i. let plain : 0 + i ≡ i = omega arith in rw plain (omega (arith, small, mod_below i side (pow_pos half))) in
+          rw lines
+          (sum_below-same _ _ (λ i. i % side) (λ i less. each i) ∙ sum-rows squares side (λ r y. y) ∙ sum-constant squares (sum_below side (λ y. y))
+          ∙ ap (λ n. squares * n) (numbers-sum side) ∙ squares-short digits)
+    ]
+
+-- so many has a block: its numbers above the diagonal of its square
+pub pairs_in-block : (side stride step number base : ℕ) (region : Region) → 0 < step → IsBlock side stride step number base region
+    → pairs_in side (record region { col_start = base + region.col_start; col_end = base + region.col_end }) ≡ swaps_of_block region
+pairs_in-block side stride step number base region some block =
+    let rows = block-rows side stride step number base region some block in
+    let cols = block-cols side stride step number base region some block in
+    let count : base + region.col_end - (base + region.col_start) ≡ cols_of region = omega arith in
+    let at : (i : ℕ) → i < cols_of region → (base + region.col_start + i) % side ≡ region.col_start + i =
+    λ i less.
+    let place : base + region.col_start + i ≡ block.square * side + (region.col_start + i) = omega (arith, block.base_is) in
+    rw place (mod-mul-add block.square side (region.col_start + i) (omega (arith, cols))) in
+    elim (cases_eq region.row_start region.col_start) [
+      | inl same ↦
+          let end = block-diagonal side stride step number base region some block same in
+          let diagonal : swaps_of_block region ≡ square_swaps (rows_of region) = rw (eq-eqb region.row_start region.col_start same) refl in
+          let size : cols_of region ≡ rows_of region = omega (arith, same, end) in
+          rw (count, diagonal)
+          (sum_below-same (cols_of region) _ (λ i. i) (λ i less. omega (arith, at i less, less, same, end)) ∙ numbers-sum (cols_of region) ∙ ap square_swaps size)
+      | inr other ↦
+          let above = block-above side stride step number base region some block other in
+          let all : swaps_of_block region ≡ items_of region = rw (ne_eqb region.row_start region.col_start other) refl in
+          rw (count, all)
+          (sum_below-same (cols_of region) _ (λ i. rows_of region) (λ i less. omega (arith, at i less, above)) ∙ sum-constant (cols_of region) (rows_of region) ∙ omega arith)
+    ]
+
+-- Parts that begin at even numbers end at some.
+start-even : (side step k : ℕ) → 0 < step → side % 2 ≡ 0 → ((j : ℕ) → j < parts_in side step → start_of side step j % 2 ≡ 0) → k ≤ parts_in side step → start_of side step k % 2 ≡ 0
+start-even side step k some even starts within =
+    elim (cases_lt k (parts_in side step)) [
+      | inl inner ↦ starts k inner
+      | inr last ↦ let end : start_of side step k ≡ side = omega (arith, start-end side step some, let all : k ≡ parts_in side step = omega (arith, last, within) in ap (start_of side step) all) in rw end even
+    ]
+
+-- the lines of a block are pairs of lines
+pub AreLinePairs-block : (digits side stride step number base : ℕ) (region : Region) → 0 < step → IsBlock side stride step number base region
+    → side ≡ 2 ^ (digits / 2) → stride ≡ 2 ^ (digits - digits / 2) → ((k : ℕ) → k < parts_in side step → start_of side step k % 2 ≡ 0) → 2 ≤ digits
+    → AreLinePairs digits (record region { col_start = base + region.col_start; col_end = base + region.col_end })
+AreLinePairs-block digits side stride step number base region some block side_is stride_is starts several =
+    let rows = block-rows side stride step number base region some block in
+    let cols = block-cols side stride step number base region some block in
+    let before = block-ordered side stride step number base region some block in
+    let half : side ≡ 2 * 2 ^ (digits / 2 - 1) = side_is ∙ power-even (digits / 2) (omega arith) in
+    let even : side % 2 ≡ 0 = omega (arith, half) in
+    let first : base ≡ 2 * (block.square * 2 ^ (digits / 2 - 1)) = block.base_is ∙ ap (λ n. block.square * n) half ∙ omega arith in
+    let from : region.col_start % 2 ≡ 0 = rw block.region_is (starts block.col block.below) in
+    let to : region.col_end % 2 ≡ 0 = rw block.region_is (start-even side step (block.col + 1) some even starts (omega (arith, block.below))) in
+    record {
+      rows_in_order = omega (arith, rows);
+      cols_in_order = omega (arith, cols);
+      first_even = omega (arith, first, from);
+      last_even = omega (arith, first, to);
+      inside = omega (arith, cols, block.inside, stride_is, lines_of-all digits several);
+      above = λ line from to.
+          let at : line ≡ block.square * side + (line - base) = omega (arith, from, block.base_is) in
+          let number : line % side ≡ line - base = ap (λ n. n % side) at ∙ mod-mul-add block.square side (line - base) (omega (arith, to, cols)) in
+          rw (← side_is) (omega (arith, number, from, before));
+    }

@@ -57,15 +57,14 @@ module _ (n : ℕ) (test : ℕ → Bool) (upper lower : ℕ → ℕ)
       (λ p (k, less, t, e). rw e (each (λ k p. among p) (λ i hi ti. (known i hi ti).2) (λ i hi ti. (known i hi ti).3) k less t)) at
 
 -- The same of items that are exchanged as `Mirrored` says: number i names the place of `m i`, `x i` and the greater `y i`.
-module _ {A M : Type 0} (place : M → ℕ → ℕ → ℕ) (Within Inside : M → ℕ → ℕ → Type 0) (Same : M → M → Type 0)
-    (turned : (m : M) (x y : ℕ) → Within m x y → Within m y x)
-    (parts : (k l : M) (x y v w : ℕ) → Within k x y → Within l v w → place k x y ≡ place l v w → Same k l × (x ≡ v) × (y ≡ w))
+module _ {A M : Type 0} (place : M → ℕ → ℕ → ℕ) (S : M → ℕ → ℕ → Type 0) (Same : M → M → Type 0)
+    (turned : (m : M) (x y : ℕ) → S m x y → S m y x)
+    (parts : (k l : M) (x y v w : ℕ) → S k x y → S l v w → place k x y ≡ place l v w → Same k l × (x ≡ v) × (y ≡ w))
     (n : ℕ) (test : ℕ → Bool) (m : ℕ → M) (x y : ℕ → ℕ)
-    (known : (i : ℕ) → i < n → IsTrue (test i) → Within (m i) (x i) (y i) × (x i < y i) × Inside (m i) (x i) (y i) × Inside (m i) (y i) (x i))
+    (known : (i : ℕ) → i < n → IsTrue (test i) → S (m i) (x i) (y i) × (x i < y i))
     (one : (i j : ℕ) → i < n → j < n → IsTrue (test i) → IsTrue (test j) → Same (m i) (m j) → x i ≡ x j → y i ≡ y j → i ≡ j) where
-  pub mirrored-stays : (old new : List A) (among : ℕ → Type 0)
-      → ((k : M) (v w : ℕ) → Within k v w → Inside k v w → (place k v w < length old) × among (place k v w))
-      → AllDiffer old → Mirrored place (λ k v w. Within k v w × Inside k v w) old new → SwapsStay among (count_below n test) old new
+  pub mirrored-stays : (old new : List A) (among : ℕ → Type 0) → ((k : M) (v w : ℕ) → S k v w → (place k v w < length old) × among (place k v w))
+      → AllDiffer old → Mirrored place S old new → SwapsStay among (count_below n test) old new
   mirrored-stays old new among at differ mirrored =
       mirror-stays n test (λ i. place (m i) (x i) (y i)) (λ i. place (m i) (y i) (x i))
       (λ i j hi hj ti tj e.
@@ -79,8 +78,8 @@ module _ {A M : Type 0} (place : M → ℕ → ℕ → ℕ) (Within Inside : M �
       omega (arith, (known i hi ti).1, (known j hj tj).1, same.1, same.2))
       old new among differ
       (λ i hi ti.
-      let (within, less, upper, lower) = known i hi ti in
-      let back = turned (m i) (x i) (y i) within in
-      let first = at (m i) (x i) (y i) within upper in
-      let second = at (m i) (y i) (x i) back lower in
-      (first.0, second.0, first.1, second.1, mirrored.crossed (m i) (x i) (y i) (within, upper), mirrored.crossed (m i) (y i) (x i) (back, lower)))
+      let upper = (known i hi ti).0 in
+      let lower = turned (m i) (x i) (y i) upper in
+      let first = at (m i) (x i) (y i) upper in
+      let second = at (m i) (y i) (x i) lower in
+      (first.0, second.0, first.1, second.1, mirrored.crossed (m i) (x i) (y i) upper, mirrored.crossed (m i) (y i) (x i) lower))

@@ -1,15 +1,18 @@
 -- The parts of a phase have all of its places.
-use Rattle.std.proofs.Common.{◌≡◌, ℕ, suc, Bool, true, false, if◌then◌else◌, ◌+◌, ◌*◌, ◌/◌, ◌%◌, ◌^◌, ◌<◌, ◌≤◌, max, min, refl, sym, arith}
+use Rattle.std.proofs.Common.{◌≡◌, ℕ, suc, Bool, true, false, if◌then◌else◌, ◌+◌, ◌-◌, ◌*◌, ◌/◌, ◌%◌, ◌^◌, ◌<◌, ◌≤◌, max, min, refl, sym, arith}
 use Rattle.std.proofs.lemmas.Grind.{div_ceil_times}
 use Rattle.std.proofs.lemmas.Nat.{div-add-mod', le-div, mod_below}
 use Rattle.std.proofs.Math.Nat.{div-mul-le_self, lt_of_mul-lt-mul_right, mul-le-mul_right}
 use Rattle.p3_util_kernels.specs.declared.transpose.regions.Region.{Region}
 use Rattle.p3_util_kernels.specs.Blocks.{blocks_of}
+use Rattle.p3_util_kernels.specs.Digits.{rev}
 use Rattle.p3_util_kernels.specs.Parts.{number_of_pair, pairs_of, part_of_matrix, parts_in, start_of}
-use Rattle.p3_util_kernels.specs.PartSteps.{IsPlaceOfBlock, IsPlaceOfRegion, IsPlaceOfRows, IsPlaceOfSquares, PartsCover}
+use Rattle.p3_util_kernels.specs.PartSteps.{IsInBlock, IsPlaceOfBlock, IsPlaceOfPairs, IsPlaceOfRegion, IsPlaceOfSquares, PartsCover}
 use Rattle.p3_util_kernels.specs.Region.{IsInRegion}
 use Rattle.p3_util_kernels.proofs.CutParts.{pair-below}
+use Rattle.p3_util_kernels.proofs.DigitsLemmas.{rev-lt, rev-rev-below}
 use Rattle.p3_util_kernels.proofs.Matrix.{row_and_column}
+use Rattle.p3_util_kernels.proofs.SideBySideLemmas.{each_part, squares_of}
 
 -- each number below the length is in a part
 pub number-covered : (len step v : ℕ) → 0 < step → v < len
@@ -33,9 +36,10 @@ matrix-covered width height false len step some side p below =
     let inside : IsInRegion (part_of_matrix width height false len step (p / height / step)) (p / height) (p % height) = record { row_from = omega arith; row_to = y_below; col_from = at.1; col_to = at.2 } in
     (p / height / step, at.0, (p / height, p % height, inside, sym (div-add-mod' p height)))
 
-pub squares-covered : (side stride step : ℕ) → 0 < step
-    → PartsCover (IsPlaceOfSquares side stride) (blocks_of side stride step) (IsPlaceOfBlock side stride step)
-squares-covered side stride step some p (square, a, b, square_below, a_below, b_below, e) =
+-- each row and column of a square is in a block
+pub block-covered : (side stride step s a b : ℕ) → 0 < step → s < stride / side → a < side → b < side
+    → (k : ℕ) × (k < blocks_of side stride step) × IsInBlock side stride step k s a b
+block-covered side stride step s a b some square_below a_below b_below =
     let n : ℕ = parts_in side step in
     let row : ℕ = min a b / step in
     let col : ℕ = max a b / step in
@@ -44,26 +48,34 @@ squares-covered side stride step some p (square, a, b, square_below, a_below, b_
     let region : Region =
     record { row_start = start_of side step row; row_end = start_of side step (row + 1); col_start = start_of side step col; col_end = start_of side step (col + 1) } in
     let in_order : row ≤ col = le-div row (max a b) step some (omega (arith, div-mul-le_self (min a b) step)) in
-    let more : suc square * pairs_of n ≤ stride / side * pairs_of n = mul-le-mul_right (pairs_of n) square_below in
-    let wide : suc square * side ≤ stride / side * side = mul-le-mul_right side square_below in
-    let inside : square * side + side ≤ stride = omega (arith, wide, div-mul-le_self stride side) in (
-      square * pairs_of n + number_of_pair n row col,
+    let more : suc s * pairs_of n ≤ stride / side * pairs_of n = mul-le-mul_right (pairs_of n) square_below in
+    let wide : suc s * side ≤ stride / side * side = mul-le-mul_right side square_below in
+    let inside : s * side + side ≤ stride = omega (arith, wide, div-mul-le_self stride side) in (
+      s * pairs_of n + number_of_pair n row col,
       omega (arith, more, pair-below n row col in_order cols.0),
       (
-        square * side,
+        s * side,
         region,
-        record { square = square; row = row; col = col; in_order = in_order; below = cols.0; number_is = refl; base_is = refl; inside = inside; region_is = refl },
-        (a, b, (omega arith, omega arith), record { row_from = rows.1; row_to = rows.2; col_from = cols.1; col_to = cols.2 }, e),
+        record { square = s; row = row; col = col; in_order = in_order; below = cols.0; number_is = refl; base_is = refl; inside = inside; region_is = refl },
+        refl,
+        record { row_from = rows.1; row_to = rows.2; col_from = cols.1; col_to = cols.2 },
       ),
     )
 
-pub rows-covered : (half c width len step : ℕ) → 0 < step
-    → PartsCover (IsPlaceOfRows half c width (record { row_start = 0; row_end = 2 ^ half; col_start = 0; col_end = len * 2 })) (parts_in len step)
-    (λ k. IsPlaceOfRows half c width (record { row_start = 0; row_end = 2 ^ half; col_start = start_of len step k * 2; col_end = start_of len step (k + 1) * 2 }))
-rows-covered half c width len step some p (m, t, x, y, item, at, e) =
-    let line : ℕ = m * 2 ^ half + max x y in
-    let here = number-covered len step (line / 2) some (omega (arith, at.col_to)) in
-    let pairs : Region = record { row_start = 0; row_end = 2 ^ half; col_start = start_of len step (line / 2 / step) * 2; col_end = start_of len step (line / 2 / step + 1) * 2 } in
-    let inside : IsInRegion pairs (m * 2 ^ half + max x y) (min x y) =
-    record { row_from = at.row_from; row_to = at.row_to; col_from = omega (arith, here.1); col_to = omega (arith, here.2) } in
-    (line / 2 / step, here.0, (m, t, x, y, item, inside, e))
+pub squares-covered : (side stride step : ℕ) → 0 < step
+    → PartsCover (IsPlaceOfSquares side stride) (blocks_of side stride step) (IsPlaceOfBlock side stride step)
+squares-covered side stride step some p (s, a, b, square_below, a_below, b_below, e) =
+    let (k, below, at) = block-covered side stride step s a b some square_below a_below b_below in (k, below, (s, a, b, at, e))
+
+pub rows-covered : (digits width step : ℕ) → 0 < step
+    → PartsCover (λ p. p < width * 2 ^ digits) (blocks_of (2 ^ (digits / 2)) (2 ^ (digits - digits / 2)) step) (IsPlaceOfPairs digits width step)
+rows-covered digits width step some p inside =
+    let half : ℕ = digits / 2 in
+    let c : ℕ = digits - half in
+    let whole : half + c ≡ digits = omega arith in
+    let (row_below, t_below) = row_and_column p (2 ^ digits) width (omega arith) in
+    let of_row = each_part c half (omega arith) (λ r. (k : ℕ) × (k < blocks_of (2 ^ half) (2 ^ c) step) × IsPlaceOfPairs digits width step k (r * width + p % width))
+    (λ a s y ha hs hy.
+    let (k, below, at) = block-covered (2 ^ half) (2 ^ c) step s (rev half a) y some (rw (squares_of half c (omega arith)) hs) (rev-lt half a) hy in
+    (k, below, (s, p % width, rev half a, y, t_below, at, rw (rev-rev-below half a ha) refl))) in
+    rw div-add-mod' at (of_row (p / width) (rw whole row_below))

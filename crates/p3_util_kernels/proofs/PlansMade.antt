@@ -1,12 +1,12 @@
 -- The phases of a plan, done one after the other, for `src/parts/laws/all_parts.rt`.
 use Rattle.std.proofs.Common.{◌≡◌, ℕ, zero, suc, ◌+◌, ◌-◌, ◌*◌, ◌/◌, ◌^◌, ◌<◌, ◌≤◌, List, Some, length, slice_get, inl, inr, refl, subst, sym, ap, ◌∙◌, arith}
 use Rattle.std.proofs.lemmas.Option.{slice_get_cases}
-use Rattle.std.proofs.lemmas.Nat.{div-mul-add, pow_pos}
+use Rattle.std.proofs.lemmas.Nat.{pow_pos}
 use Rattle.std.proofs.Math.Nat.{mul-pos}
 use Rattle.p3_util_kernels.specs.declared.parts.reversal.Phase.{Phase}
-use Rattle.p3_util_kernels.specs.declared.parts.reversal.Phase.TheVariants.{Blocks, Ranges, Rows}
+use Rattle.p3_util_kernels.specs.declared.parts.reversal.Phase.TheVariants.{Blocks, Pairs, Rows}
 use Rattle.p3_util_kernels.specs.declared.parts.reversal.ReversalPlan.{ReversalPlan}
-use Rattle.p3_util_kernels.specs.declared.parts.reversal.ReversalPlan.TheVariants.{Nothing, OnePart, ByRanges, Long}
+use Rattle.p3_util_kernels.specs.declared.parts.reversal.ReversalPlan.TheVariants.{Nothing, OnePart, ByPairs, Long}
 use Rattle.p3_util_kernels.specs.Levels.{clog}
 use Rattle.p3_util_kernels.specs.Mirrored.{Mirrored}
 use Rattle.p3_util_kernels.specs.Plans.{IsPhaseMade, IsReversalPlan, phases_of, swaps_of_phase, swaps_of_plan}
@@ -16,7 +16,7 @@ use Rattle.p3_util_kernels.specs.SwapCounts.{short_swaps}
 use Rattle.p3_util_kernels.proofs.Lengths.{IsDigitsOfRows-from}
 use Rattle.p3_util_kernels.proofs.LongPath.{IsReversal-composed}
 use Rattle.p3_util_kernels.proofs.PlansLemmas.{clog_of_ones}
-use Rattle.p3_util_kernels.proofs.SideBySideLemmas.{row_length}
+use Rattle.p3_util_kernels.proofs.SideBySideLemmas.{squares_of}
 
 -- the first n phases of a plan are made, by so many exchanges
 abbrev pub AreDone : {A : Type 0} → (plan : ReversalPlan) (n : ℕ) (old new : List A) (steps : ℕ) → Type 0
@@ -24,12 +24,6 @@ AreDone plan zero old new steps = (new ≡ old) × (steps ≡ 0)
 AreDone {A} plan (suc n) old new steps =
     (mid : List A) × (done more : ℕ) × AreDone plan n old mid done × (done + more ≡ steps)
     × ((phase : Phase) → slice_get (phases_of plan) n ≡ Some phase → IsPhaseMade phase mid new × (more ≡ swaps_of_phase phase (length mid)))
-
--- how many squares lie side by side
-squares_of : (half c : ℕ) → half ≤ c → 2 ^ c / 2 ^ half ≡ 2 ^ (c - half)
-squares_of half c from =
-    let whole : 2 ^ c ≡ 2 ^ (c - half) * 2 ^ half + 0 = omega (arith, row_length c half from) in
-    rw whole (div-mul-add (2 ^ (c - half)) (2 ^ half) 0 (pow_pos half))
 
 -- places exchanged in all squares
 transposed : {A : Type 0} (half c side stride : ℕ) (old new : List A) → half ≤ c → side ≡ 2 ^ half → stride ≡ 2 ^ c
@@ -49,14 +43,14 @@ transposed half c side stride old new from side_is stride_is done =
 -- a phase that is made keeps the length
 pub made_length : {A : Type 0} (phase : Phase) (old new : List A) → IsPhaseMade phase old new → length new ≡ length old
 made_length (Rows rows) old new made = made.same_length
-made_length (Ranges pairs) old new made = made.same_length
+made_length (Pairs pairs) old new made = made.same_length
 made_length (Blocks squares) old new made = made.same_length
 
 -- there are at most three phases
 pub phases-few : (plan : ReversalPlan) → length (phases_of plan) ≤ 3
 phases-few Nothing = omega arith
 phases-few (OnePart rows) = omega arith
-phases-few (ByRanges pairs) = omega arith
+phases-few (ByPairs pairs) = omega arith
 phases-few (Long pairs squares) = omega arith
 
 -- one phase more
@@ -96,8 +90,8 @@ done-all row_width (OnePart rows) old new steps is fits (mid, done, more, start,
     let (made, number) = phase (Rows rows) refl in
     let total : steps ≡ more = omega (arith, start.1, sum) in
     (rw (← is.1, ← start.0) made, total ∙ rw start.0 at number)
-done-all row_width (ByRanges pairs) old new steps is fits (mid, done, more, start, sum, phase) =
-    let (made, number) = phase (Ranges pairs) refl in
+done-all row_width (ByPairs pairs) old new steps is fits (mid, done, more, start, sum, phase) =
+    let (made, number) = phase (Pairs pairs) refl in
     let total : steps ≡ more = omega (arith, start.1, sum) in
     (rw (← is.1, ← start.0) made, total ∙ number ∙ ap (λ d. pairs.rows.width * short_swaps d) (rw (← is.1) at is.2))
 done-all row_width (Long pairs squares) old new steps is fits
@@ -105,9 +99,9 @@ done-all row_width (Long pairs squares) old new steps is fits
     let k = clog (length old) in
     let half = k / 2 in
     let c = k - half in
-    let (made, number) = phase (Ranges pairs) refl in
+    let (made, number) = phase (Pairs pairs) refl in
     let (made', number') = phase' (Blocks squares) refl in
-    let (made'', number'') = phase'' (Ranges pairs) refl in
+    let (made'', number'') = phase'' (Pairs pairs) refl in
     let rows = IsDigitsOfRows-from (length old) row_width k (λ e. omega (arith, e, is.0)) fits (clog_of_ones (length old) row_width is.1) in
     let digits : half + c ≡ k = omega arith in
     let whole : length old ≡ 2 ^ (half + c) = rw digits (rows.whole ∙ rw is.1 (omega arith)) in

@@ -6,11 +6,11 @@
 -- greater one of x and y. So a pair is named by its line and by the smaller one, and pairs are given as a region is: its
 -- columns are lines, and its rows the smaller numbers.
 -- Source: new.
-use Rattle.std.specs.Prelude.{ℕ, ◌≡◌, ◌+◌, ◌-◌, ◌*◌, ◌/◌, ◌%◌, ◌^◌, ◌<◌, min, max, List, length}
+use Rattle.std.specs.Prelude.{ℕ, ◌≡◌, ◌+◌, ◌-◌, ◌*◌, ◌/◌, ◌%◌, ◌^◌, ◌<◌, ◌≤◌, min, max, List, length}
 use Rattle.p3_util_kernels.specs.declared.transpose.regions.Region.{Region}
-use Rattle.p3_util_kernels.specs.Digits.{rev}
+use Rattle.p3_util_kernels.specs.Digits.{rev, sum_below}
 use Rattle.p3_util_kernels.specs.Mirrored.{Mirrored}
-use Rattle.p3_util_kernels.specs.Region.{IsInRegion}
+use Rattle.p3_util_kernels.specs.Region.{IsInRegion, cols_of}
 
 -- the index of the row of three parts: x reversed, `middle` and y
 abbrev pub row_of : (half c middle x y : ℕ) → ℕ
@@ -29,9 +29,23 @@ IsCrossed half c row_width pairs old new =
     Mirrored {M = ℕ × ℕ} (λ m x y. row_of half c m.0 x y * row_width + m.1)
     (λ m x y. IsRowItem half c row_width m.0 m.1 x y × IsInRegion pairs (m.0 * 2 ^ half + max x y) (min x y)) old new
 
--- how many pairs of neighbouring lines `2 ^ digits` rows have
-abbrev pub line_pairs_of : (digits : ℕ) → ℕ
-line_pairs_of digits = 2 ^ (digits % 2) * (2 ^ (digits / 2) / 2)
+-- how many lines the pairs of neighbouring lines of `2 ^ digits` rows have: all of them, or none where they are one row or two
+abbrev pub lines_of : (digits : ℕ) → ℕ
+lines_of digits = 2 ^ (digits % 2) * (2 ^ (digits / 2) / 2) * 2
+
+-- the pairs are those of pairs of neighbouring lines, of `2 ^ digits` rows, and each of these lines has all the smaller numbers or
+-- begins with them
+pub record AreLinePairs (digits : ℕ) (pairs : Region) : Type 0 where
+  pub rows_in_order : pairs.row_start ≤ pairs.row_end
+  pub cols_in_order : pairs.col_start ≤ pairs.col_end
+  pub first_even : pairs.col_start % 2 ≡ 0
+  pub last_even : pairs.col_end % 2 ≡ 0
+  pub inside : pairs.col_end ≤ lines_of digits
+  pub above : (line : ℕ) → pairs.col_start ≤ line → line < pairs.col_end → pairs.row_start ≤ line % 2 ^ (digits / 2)
+
+-- how many pairs these are, where each middle digit has `side` lines: a line has those of its smaller numbers that are rows
+abbrev pub pairs_in : (side : ℕ) (pairs : Region) → ℕ
+pairs_in side pairs = sum_below (cols_of pairs) (λ i. min pairs.row_end ((pairs.col_start + i) % side) - pairs.row_start)
 
 -- the list is `2 ^ digits` rows of `row_width` items, and the machine can hold its places
 pub record HoldsRows {A : Type 0} (row_width digits : ℕ) (items : List A) : Type 0 where

@@ -6,6 +6,7 @@ pub mod Diagonal
 pub mod Digits
 pub mod Exchanged
 pub mod Halves
+pub mod Interleaved
 pub mod Least
 pub mod Levels
 pub mod Mirrored

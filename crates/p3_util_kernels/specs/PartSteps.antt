@@ -1,11 +1,11 @@
 -- Steps from one list to another, and the places that they are at, for the private contracts of `src/parts/laws.rt`. The
 -- lemmas are those by which a holder says that such steps exist.
 -- Source: new.
-use Rattle.std.proofs.Common.{◌≡◌, ◌≢◌, ℕ, ◌+◌, ◌*◌, ◌/◌, ◌^◌, ◌<◌, min, max, List, [], ◌∷◌, ◌++◌, length, slice_get, slice_set, length-append, refl, sym, ◌∙◌, ap, arith}
+use Rattle.std.proofs.Common.{◌≡◌, ◌≢◌, ℕ, ◌+◌, ◌-◌, ◌*◌, ◌/◌, ◌^◌, ◌<◌, min, max, List, [], ◌∷◌, ◌++◌, length, slice_get, slice_set, length-append, refl, sym, ◌∙◌, ap, arith}
 use Rattle.std.specs.Prelude.{swap}
 use Rattle.p3_util_kernels.specs.declared.transpose.regions.Region.{Region}
 use Rattle.p3_util_kernels.specs.Blocks.{IsBlock}
-use Rattle.p3_util_kernels.specs.Crossing.{IsRowItem, row_of}
+use Rattle.p3_util_kernels.specs.Crossing.{row_of}
 use Rattle.p3_util_kernels.specs.Least.{AreOnceAmong, after_puts, after_swaps, places_put, places_swapped}
 use Rattle.p3_util_kernels.specs.Region.{IsInRegion}
 
@@ -49,25 +49,26 @@ NoItemInCommon xs ys = (i j : ℕ) → i < length xs → j < length ys → slice
 abbrev pub IsPlaceOfRegion : (region : Region) (height p : ℕ) → Type 0
 IsPlaceOfRegion region height p = (x y : ℕ) × IsInRegion region x y × (p ≡ x * height + y)
 
--- p is a place of a region above the diagonal of a square, or on it, or its mirror image, as in `SwapsAcross`
-abbrev pub IsPlaceAcross : (base stride : ℕ) (region : Region) (p : ℕ) → Type 0
-IsPlaceAcross base stride region p =
-    (a b : ℕ) × ((a < stride) × (b < stride)) × IsInRegion region (max a b) (min a b) × (p ≡ base + a * stride + b)
+-- a and b are a row and a column of square s, one of squares side by side, in the block of this number or in its mirror image
+abbrev pub IsInBlock : (side stride step number s a b : ℕ) → Type 0
+IsInBlock side stride step number s a b =
+    (base : ℕ) × (region : Region) × IsBlock side stride step number base region × (base ≡ s * side) × IsInRegion region (max a b) (min a b)
 
--- p is a place of the block of this number, of squares side by side, or its mirror image
+-- p is a place of the block of this number, of squares side by side in rows of `stride` items, or of its mirror image
 abbrev pub IsPlaceOfBlock : (side stride step number p : ℕ) → Type 0
-IsPlaceOfBlock side stride step number p =
-    (base : ℕ) × (region : Region) × IsBlock side stride step number base region × IsPlaceAcross base stride region p
+IsPlaceOfBlock side stride step number p = (s a b : ℕ) × IsInBlock side stride step number s a b × (p ≡ s * side + a * stride + b)
 
 -- p is a place of one of the squares that fit side by side into rows of `stride` items
 abbrev pub IsPlaceOfSquares : (side stride p : ℕ) → Type 0
 IsPlaceOfSquares side stride p =
     (square a b : ℕ) × (square < stride / side) × (a < side) × (b < side) × (p ≡ square * side + a * stride + b)
 
--- p is a place of one of the rows of these pairs, as in `IsCrossed`
-abbrev pub IsPlaceOfRows : (half c row_width : ℕ) (pairs : Region) (p : ℕ) → Type 0
-IsPlaceOfRows half c row_width pairs p =
-    (m t x y : ℕ) × IsRowItem half c row_width m t x y × IsInRegion pairs (m * 2 ^ half + max x y) (min x y) × (p ≡ row_of half c m x y * row_width + t)
+-- p is a place of one of the rows of the pairs of the block of this number, of `2 ^ digits` rows, as in `IsCrossed`
+abbrev pub IsPlaceOfPairs : (digits row_width step number p : ℕ) → Type 0
+IsPlaceOfPairs digits row_width step number p =
+    let half = digits / 2 in
+    let c = digits - half in
+    (m t x y : ℕ) × (t < row_width) × IsInBlock (2 ^ half) (2 ^ c) step number m x y × (p ≡ row_of half c m x y * row_width + t)
 
 more_steps : {A S : Type 0} (after : List A → List S → List A) → ((xs : List A) (s t : List S) → after xs (s ++ t) ≡ after (after xs s) t)
     → (m n all : ℕ) (a b c : List A) → StepsLead after m a b → StepsLead after n b c → m + n ≡ all → StepsLead after all a c

@@ -1,7 +1,7 @@
 -- Consecutive numbers cut into parts. These definitions serve private contracts: those of
 -- `src/parts.rt` and of the files below it.
 -- Source: new.
-use Rattle.std.specs.Prelude.{ℕ, Bool, ◌≡◌, ◌+◌, ◌-◌, ◌*◌, ◌/◌, ◌<◌, min, nat_le, if◌then◌else◌}
+use Rattle.std.specs.Prelude.{ℕ, Bool, ◌≡◌, ◌+◌, ◌-◌, ◌*◌, ◌/◌, ◌<◌, ◌≤◌, max, min, nat_le, if◌then◌else◌}
 use Rattle.std.specs.Int.{div_ceil}
 use Rattle.p3_util_kernels.specs.declared.transpose.regions.Region.{Region}
 
@@ -15,6 +15,11 @@ pub record FollowEachOther (count len : ℕ) (start : ℕ → ℕ) : Type 0 wher
 -- how many parts of `step` numbers there are of the numbers below `len`, where the last one may have fewer
 abbrev pub parts_in : (len step : ℕ) → ℕ
 parts_in len step = div_ceil len step
+
+-- Parts of `step` numbers are no longer than they have to be: parts of any whole number of units that are at most `parts` parts
+-- of the numbers below `len`, where 0 parts are 1, are no shorter.
+abbrev pub IsLeastStep : (parts unit len step : ℕ) → Type 0
+IsLeastStep parts unit len step = (units : ℕ) → 0 < units → parts_in len (units * unit) ≤ max parts 1 → step ≤ units * unit
 
 -- where part k of these begins: at `k * step`, and at most at `len`
 abbrev pub start_of : (len step k : ℕ) → ℕ

@@ -1,6 +1,6 @@
 -- How many swaps a bit reversal of 2 ^ k items makes: closed forms, and no loop of the code.
 -- Source: a closed form.
-use Rattle.std.specs.Prelude.{ℕ, ◌+◌, ◌-◌, ◌*◌, ◌/◌, ◌%◌, ◌^◌, nat_le, if◌then◌else◌}
+use Rattle.std.specs.Prelude.{ℕ, ◌+◌, ◌-◌, ◌*◌, ◌/◌, ◌^◌, nat_le, if◌then◌else◌}
 use Rattle.p3_util_kernels.specs.Levels.{clog}
 
 -- how many pairs of different numbers of k bits are each other's reverse: `(2 ^ k - 2 ^ ceil(k / 2)) / 2`, since `2 ^ ceil(k
@@ -16,14 +16,6 @@ row_swaps items row_width = row_width * short_swaps (clog (items / row_width))
 -- how many pairs of places of a square of `side` rows mirror each other across its diagonal: `side * (side - 1) / 2`
 abbrev pub square_swaps : ℕ → ℕ
 square_swaps side = side * (side - 1) / 2
-
--- how many pairs of rows the first `line_pairs` pairs of lines have, of `2 ^ digits` rows: line l has `l % 2 ^ (digits / 2)`
--- of them
-abbrev pub line_swaps : (digits line_pairs : ℕ) → ℕ
-line_swaps digits line_pairs =
-    let side = 2 ^ (digits / 2) in
-    let lines = line_pairs * 2 in
-    lines / side * square_swaps side + square_swaps (lines % side)
 
 -- the swaps of `2 ^ k` items by way of chunks, squares and chunks, with `h = k / 2` and `c = k - h`: `2 * short_swaps h * 2
 -- ^ c + 2 ^ (c - h) * square_swaps (2 ^ h)`

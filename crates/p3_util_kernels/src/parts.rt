@@ -2,21 +2,21 @@
 //!
 //! What is cut and not yet done is a *plan*: of a transpose the [`TransposePlan`], of a reversal the [`ReversalPlan`]. The
 //! regions of a transpose are put in any order. A reversal has one *phase* or three, and of an empty list none. A phase is
-//! done before the next one, and its parts are made in any order: all rows at once, ranges of [`LinePairs`], or blocks of
-//! [`Squares`]. What is numbered is cut by a [`Cut`].
+//! done before the next one, and its parts are made in any order: all rows at once, or blocks of [`RowPairs`] or of [`Squares`].
+//! What is numbered is cut by a [`Cut`].
 
 ghost use Rattle.std.specs.Prelude.{length, ◌≡◌, ℕ, ◌+◌, ◌-◌, ◌*◌, ◌/◌, ◌%◌, ◌^◌, ◌<◌, ◌≤◌, if◌then◌else◌, max};
 ghost use Rattle.p3_util_kernels.specs.Blocks.{IsBlock, blocks_of, swaps_of_block};
-ghost use Rattle.p3_util_kernels.specs.Crossing.{HoldsRows, IsCrossed, line_pairs_of};
+ghost use Rattle.p3_util_kernels.specs.Crossing.{HoldsRows, IsCrossed};
 ghost use Rattle.p3_util_kernels.specs.Diagonal.{SwapsAcross};
-ghost use Rattle.p3_util_kernels.specs.Parts.{FollowEachOther, number_of_pair, pairs_of, part_of_matrix, parts_in, start_of};
+ghost use Rattle.p3_util_kernels.specs.Parts.{FollowEachOther, IsLeastStep, number_of_pair, pairs_of, part_of_matrix, parts_in, start_of};
 ghost use Rattle.p3_util_kernels.specs.Region.{LiesInMatrix};
-ghost use Rattle.p3_util_kernels.specs.SwapCounts.{line_swaps};
 
 mod laws;
 mod reversal;
 mod transpose;
 
+use crate::bits::pow2;
 use crate::places::Places;
 use crate::reverse::{RowDigits, exchange_pairs};
 use crate::transpose::{Matrix, Region, Square, exchange_region, transpose_diagonal};
@@ -39,7 +39,7 @@ impl Cut {
         ensures len { result.len ≡ len }
         ensures few { parts_in result.len result.step ≤ max parts 1 }
         ensures units { (k : ℕ) → k < parts_in result.len result.step → start_of result.len result.step k % unit ≡ 0 }
-        ensures least { (units : ℕ) → 0 < units → parts_in len (units * unit) ≤ max parts 1 → result.step ≤ units * unit }
+        ensures least { IsLeastStep parts unit result.len result.step }
     {
         let units = len.div_ceil(unit).div_ceil(parts.max(1));
         Cut {
@@ -118,15 +118,22 @@ pub(crate) struct Squares {
 }
 
 impl Squares {
-    /// The squares whose sides are cut by `cut`.
-    pub(crate) fn new(stride: usize, cut: Cut) -> Squares
-        requires some { 0 < cut.len }
-        requires few { cut.len < 2 ^ 32 }
-        requires fits { cut.len * stride < 2 ^ 64 }
-        ensures stride { result.stride ≡ stride }
-        ensures cut { result.cut ≡ cut }
+    /// The squares of 2^(`digits` / 2) rows and columns in rows of 2^(`digits` - `digits` / 2) items. The sides are cut into at most
+    /// `parts` parts, at multiples of `unit`. 0 parts are 1.
+    pub(crate) fn new(digits: usize, parts: usize, unit: usize) -> Squares
+        requires unit { 0 < unit }
+        requires digits { digits < 64 }
+        ensures stride { result.stride ≡ 2 ^ (digits - digits / 2) }
+        ensures side { result.cut.len ≡ 2 ^ (digits / 2) }
+        ensures few { parts_in result.cut.len result.cut.step ≤ max parts 1 }
+        ensures least { IsLeastStep parts unit result.cut.len result.cut.step }
+        ensures units { (k : ℕ) → k < parts_in result.cut.len result.cut.step → start_of result.cut.len result.cut.step k % unit ≡ 0 }
     {
-        Squares { stride, cut }
+        let half = digits / 2;
+        Squares {
+            stride: pow2(digits - half),
+            cut: Cut::new(pow2(half), parts, unit),
+        }
     }
 
     /// The number of blocks on the diagonals and above them.
@@ -176,38 +183,46 @@ impl Squares {
     }
 }
 
-/// The pairs of neighbouring lines of `rows`, by which the rows are reversed. They are cut into ranges.
+/// The pairs by which `rows` are reversed. The two numbers of a pair are a row and a column of a square, of which there is one for
+/// each middle digit, and so the pairs are cut as the squares are.
 #[derive(Clone, Copy)]
-pub(crate) struct LinePairs {
+pub(crate) struct RowPairs {
     rows: RowDigits,
-    cut: Cut,
-    pub ghost all: { cut.len ≡ line_pairs_of rows.digits },
+    squares: Squares,
+    pub ghost side: { squares.cut.len ≡ 2 ^ (rows.digits / 2) },
+    pub ghost stride: { squares.stride ≡ 2 ^ (rows.digits - rows.digits / 2) },
+    pub ghost even: { (k : ℕ) → k < parts_in squares.cut.len squares.cut.step → start_of squares.cut.len squares.cut.step k % 2 ≡ 0 },
 }
 
-impl LinePairs {
-    /// Cuts the line pairs of `rows` into at most `parts` ranges. 0 ranges are 1.
-    pub(crate) fn new(rows: RowDigits, parts: usize) -> LinePairs
+impl RowPairs {
+    /// The pairs of `rows`. Each side is cut into at most `parts` parts, at even numbers. 0 parts are 1.
+    pub(crate) fn new(rows: RowDigits, parts: usize) -> RowPairs
         requires { rows.digits < 64 }
         ensures rows { result.rows ≡ rows }
-        ensures few { parts_in result.cut.len result.cut.step ≤ max parts 1 }
+        ensures few { parts_in result.squares.cut.len result.squares.cut.step ≤ max parts 1 }
+        ensures least { IsLeastStep parts 2 result.squares.cut.len result.squares.cut.step }
     {
-        LinePairs {
+        RowPairs {
             rows,
-            cut: Cut::new(rows.line_pairs(), parts, 1),
+            squares: Squares::new(rows.digits, parts, 2),
         }
     }
 
-    /// Exchanges the pairs of rows of range `number`.
+    /// Exchanges the pairs of rows of block `number`.
     pub(crate) fn exchange<M: Places>(self, m: M, number: usize) -> M
-        requires below { number < parts_in self.cut.len self.cut.step }
+        requires below { number < blocks_of self.squares.cut.len self.squares.stride self.squares.cut.step }
         requires ready { HoldsRows self.rows.width self.rows.digits (M.items m) }
-        ensures crossed { let half = self.rows.digits / 2 in IsCrossed half (self.rows.digits - half) self.rows.width
-            (record { row_start = 0; row_end = 2 ^ half; col_start = start_of self.cut.len self.cut.step number * 2; col_end = start_of self.cut.len self.cut.step (number + 1) * 2 })
-            (M.items m) (M.items result) }
-        ensures holder { M.same_holder (self.rows.width * (line_swaps self.rows.digits (start_of self.cut.len self.cut.step (number + 1))
-            - line_swaps self.rows.digits (start_of self.cut.len self.cut.step number))) m result }
+        ensures block { (base : ℕ) × (region : Region) × IsBlock self.squares.cut.len self.squares.stride self.squares.cut.step number base region
+            × IsCrossed (self.rows.digits / 2) (self.rows.digits - self.rows.digits / 2) self.rows.width
+            (record region { col_start = base + region.col_start; col_end = base + region.col_end }) (M.items m) (M.items result)
+            × M.same_holder (self.rows.width * swaps_of_block region) m result }
     {
-        let (from, to) = self.cut.part(number);
-        exchange_pairs(m, self.rows, from, to)
+        let (square, region) = self.squares.block(number);
+        // One row or two have no pairs.
+        if self.rows.digits < 2 {
+            return m;
+        }
+        let lines = region.with_cols(square.base + region.col_start, square.base + region.col_end);
+        exchange_pairs(m, self.rows, lines)
     }
 }

@@ -13,7 +13,8 @@
 //!   that it is given, and an `_on` call runs it over a counter that goes on from the caller's count.
 
 ghost use Rattle.std.specs.Prelude.{◌≡◌, ℕ, ◌+◌, ◌-◌, ◌*◌, ◌<◌, ◌≤◌, ◌⊎◌, List, Some, length, swap, slice_get, slice_set};
-ghost use Rattle.p3_util_kernels.specs.Exchanged.{RunsExchanged};
+ghost use Rattle.p3_util_kernels.specs.Exchanged.{BlocksExchanged, RunsExchanged};
+ghost use Rattle.p3_util_kernels.specs.Stages.{IsBlockTransposed, in_order, rows_in_order};
 
 mod counters;
 mod references;
@@ -21,6 +22,11 @@ mod slices;
 
 pub use counters::{Swaps, Writes};
 pub use slices::{SliceCells, SlicePlaces, SliceSource};
+
+/// Four items that lie together in memory.
+#[derive(Clone, Copy, Debug)]
+#[repr(C)]
+pub struct Four<T>(pub T, pub T, pub T, pub T);
 
 /// A list whose items can be exchanged, and neither read nor moved in another way.
 ///
@@ -74,6 +80,32 @@ pub trait Places {
         }
     }
 
+    /// Exchanges a block of 4 by 4 items with the mirror image of another one. The rows of both begin `stride` places apart, and
+    /// the blocks at places `i` and `j`: the item of row r and column c of the one goes to row c and column r of the other. The
+    /// two have no place in common. A kernel calls it where the holder's `by_blocks` says so.
+    #[inline(always)]
+    fn exchange_blocks(&mut self, i: usize, j: usize, stride: usize)
+        requires rows { 4 ≤ stride }
+        requires apart { i + 3 * stride + 4 ≤ j }
+        requires second { j + 3 * stride + 4 ≤ length (items self.old) }
+        ensures exchanged { BlocksExchanged 16 i j stride (items self.old) (items self.new) }
+        ensures holder { same_holder 16 self.old self.new }
+    {
+        // Called so that the proof knows that the length fits a usize.
+        let _ = self.len();
+        for r in 0..4 {
+            for c in 0..4 {
+                self.exchange_ordered(i + r * stride + c, j + c * stride + r);
+            }
+        }
+    }
+
+    /// Whether `exchange_blocks` is faster than to exchange the same items row after row.
+    #[inline(always)]
+    fn by_blocks(&self) -> bool {
+        false
+    }
+
     ghost same_holder_refl: { (a : Self) → same_holder 0 a a };
 
     ghost same_holder_trans: { (m n all : ℕ) (a b c : Self) → same_holder m a b → same_holder n b c → m + n ≡ all → same_holder all a c };
@@ -101,6 +133,31 @@ pub trait Cells {
         ensures written { items self.new ≡ slice_set (items self.old) i v }
         ensures holder { same_holder 1 self.old self.new };
 
+    /// Puts four items at the places from `i` on. All other items stay. A holder may do so in a faster way than by its `put`.
+    #[inline(always)]
+    fn put_four(&mut self, i: usize, four: &Four<Self::Item>)
+        requires { i + 4 ≤ length (items self.old) }
+        ensures same_length { length (items self.new) ≡ length (items self.old) }
+        ensures places { (t : ℕ) → t < 4 → slice_get (items self.new) (i + t) ≡ slice_get (in_order four.now) t }
+        ensures others { (p : ℕ) → (p < i) ⊎ (i + 4 ≤ p) → slice_get (items self.new) p ≡ slice_get (items self.old) p }
+        ensures holder { same_holder 4 self.old self.new }
+    {
+        // Called so that the proof knows that the length fits a usize.
+        let _ = self.len();
+        self.put(i, four.0);
+        self.put(i + 1, four.1);
+        self.put(i + 2, four.2);
+        self.put(i + 3, four.3);
+    }
+
+    /// The columns of a block of 4 by 4 items that has these rows. A holder may make them in a faster way.
+    #[inline(always)]
+    fn turned(rows: &Four<Four<Self::Item>>) -> Four<Four<Self::Item>>
+        ensures { IsBlockTransposed (rows_in_order rows.now) (rows_in_order result) }
+    {
+        turned_block(rows)
+    }
+
     ghost same_holder_refl: { (a : Self) → same_holder 0 a a };
 
     ghost same_holder_trans: { (m n all : ℕ) (a b c : Self) → same_holder m a b → same_holder n b c → m + n ≡ all → same_holder all a c };
@@ -123,4 +180,29 @@ pub trait Source {
     fn at(&self, i: usize) -> Self::Item
         requires { i < length (items self.now) }
         ensures { slice_get (items self.now) i ≡ Some result };
+
+    /// The four items from place `i` on. A holder may read them in a faster way than by its `at`.
+    #[inline(always)]
+    fn four(&self, i: usize) -> Four<Self::Item>
+        requires { i + 4 ≤ length (items self.now) }
+        ensures { (t : ℕ) → t < 4 → slice_get (in_order result) t ≡ slice_get (items self.now) (i + t) }
+    {
+        // Called so that the proof knows that the length fits a usize.
+        let _ = self.len();
+        Four(self.at(i), self.at(i + 1), self.at(i + 2), self.at(i + 3))
+    }
+}
+
+/// The columns of a block of 4 by 4 items that has these rows.
+#[inline(always)]
+pub(crate) fn turned_block<T: Copy>(rows: &Four<Four<T>>) -> Four<Four<T>>
+    ensures { IsBlockTransposed (rows_in_order rows.now) (rows_in_order result) }
+{
+    let Four(a, b, c, d) = *rows;
+    Four(
+        Four(a.0, b.0, c.0, d.0),
+        Four(a.1, b.1, c.1, d.1),
+        Four(a.2, b.2, c.2, d.2),
+        Four(a.3, b.3, c.3, d.3),
+    )
 }

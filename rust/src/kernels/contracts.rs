@@ -38,7 +38,7 @@
 //! | `x.now` | what is behind the `&` x |
 //! | `x.old`, `x.new` | what is behind the `&mut` x before the call, and after it |
 //! | `x.entry` | x itself, as the call was given it |
-//! | `x.0`, `x.1`, `(x, y)` | the first of a pair, the second, and the pair |
+//! | `x.0`, `x.1`, `x.2`, `x.3`, `(x, y)` | the parts of a tuple, from the first on, and a pair |
 //! | `x.items`, `x.slice`, `x.values`, `x.holder`, `x.count`, `x.given` | the field of that name, which may be private |
 //! | `S.items x` | the list that a holder or a source x of the type S has; in a trait `items` alone |
 //! | `A ≡ B` | A and B are equal |
@@ -53,7 +53,7 @@
 //! | `<`, `≤`, `A == B` | A is less than B; at most B; the `bool` that says whether two numbers are equal |
 //! | `IsTrue b`, `IsFalse b` | b is `true`; b is `false` |
 //! | `Some`, `None`, `true`, `false` | as in Rust |
-//! | `[]` | the list of no items |
+//! | `[]`, `x ∷ xs` | the list of no items; the list of x and then the items of xs |
 //! | `length xs` | how many items a list has |
 //! | `slice_get xs i` | `Some` of item i of a list, and `None` where there is none |
 //! | `slice_index xs i` | item i of a list of numbers, and 0 where there is none |
@@ -102,6 +102,7 @@
 //! | `IsRowReversal row_width old new` | With `2 ^ k` rows of `row_width` items, row r of `new` is row `rev k r` of `old`, item by item, and the length is the same |
 //! | `IsReversal old new` | With `2 ^ k` items, place i of `new` holds what stood at place `rev k i` of `old`: it is `IsRowReversal` of rows of one item |
 //! | `RunsExchanged i j len old new` | the `len` items from place i on and the `len` items from place j on are exchanged, each with its counterpart, and all other items stay |
+//! | `BlocksExchanged n i j stride old new` | The items of two blocks of 4 by 4 are exchanged, whose rows begin `stride` places apart: the first n items of the block that begins at place i, row after row, with their mirror images in the block that begins at place j, where row r and column c of the one is column r and row c of the other. All other items stay |
 //! | `IsTranspose width height old new` | `old` has `height` rows of `width` items, and `new` is its transpose, `width` rows of `height` items: place `x * height + y` of `new` holds what is at place `y * width + x` of `old`, for x < width and y < height |
 //! | `LiesInMatrix region width height` | the region lies in a matrix of `height` rows of `width` items |
 //! | `rows_of region` | how many rows the region has |
@@ -111,6 +112,8 @@
 //! | `IsStageOne old new` | of a block of 4 by 4 items, the lowest bit of each item's row number is exchanged with that of its column number |
 //! | `IsStageTwo old new` | of a block of 4 by 4 items, the next bit of each item's row number is exchanged with that of its column number |
 //! | `IsBlockTransposed old new` | a block of 4 by 4 items is transposed |
+//! | `in_order four` | four items as a list |
+//! | `rows_in_order rows` | the rows of a block of 4 by 4 items as lists |
 //! | `IsSquareTransposed base log_stride log_size old new` | The square has `2 ^ log_size` rows of as many items. Its first place is `base`, and each row begins `2 ^ log_stride` places after the row before. Row a and column b of `new` hold what stood at row b and column a, and all else stays |
 //! | `short_swaps k` | how many pairs of different numbers of k bits are each other's reverse: `(2 ^ k - 2 ^ ceil(k / 2)) / 2`, since `2 ^ ceil(k / 2)` of the `2 ^ k` numbers are their own reverse |
 //! | `row_swaps items row_width` | the swaps of `items` items in rows of `row_width`: as many for each item of a row as there are pairs of rows, `row_width * short_swaps (clog (items / row_width))` |

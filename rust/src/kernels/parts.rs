@@ -2,12 +2,13 @@
 //!
 //! What is cut and not yet done is a *plan*: of a transpose the [`TransposePlan`], of a reversal the [`ReversalPlan`]. The
 //! regions of a transpose are put in any order. A reversal has one *phase* or three, and of an empty list none. A phase is
-//! done before the next one, and its parts are made in any order: all rows at once, ranges of [`LinePairs`], or blocks of
-//! [`Squares`]. What is numbered is cut by a [`Cut`].
+//! done before the next one, and its parts are made in any order: all rows at once, or blocks of [`RowPairs`] or of [`Squares`].
+//! What is numbered is cut by a [`Cut`].
 
 mod reversal;
 mod transpose;
 
+use crate::kernels::bits::pow2;
 use crate::kernels::places::Places;
 use crate::kernels::reverse::{RowDigits, exchange_pairs};
 use crate::kernels::transpose::{Matrix, Region, Square, exchange_region, transpose_diagonal};
@@ -78,9 +79,14 @@ pub(crate) struct Squares {
 }
 
 impl Squares {
-    /// The squares whose sides are cut by `cut`.
-    pub(crate) fn new(stride: usize, cut: Cut) -> Squares {
-        Squares { stride, cut }
+    /// The squares of 2^(`digits` / 2) rows and columns in rows of 2^(`digits` - `digits` / 2) items. The sides are cut into at most
+    /// `parts` parts, at multiples of `unit`. 0 parts are 1.
+    pub(crate) fn new(digits: usize, parts: usize, unit: usize) -> Squares {
+        let half = digits / 2;
+        Squares {
+            stride: pow2(digits - half),
+            cut: Cut::new(pow2(half), parts, unit),
+        }
     }
 
     /// The number of blocks on the diagonals and above them.
@@ -118,25 +124,31 @@ impl Squares {
     }
 }
 
-/// The pairs of neighbouring lines of `rows`, by which the rows are reversed. They are cut into ranges.
+/// The pairs by which `rows` are reversed. The two numbers of a pair are a row and a column of a square, of which there is one for
+/// each middle digit, and so the pairs are cut as the squares are.
 #[derive(Clone, Copy)]
-pub(crate) struct LinePairs {
+pub(crate) struct RowPairs {
     rows: RowDigits,
-    cut: Cut,
+    squares: Squares,
 }
 
-impl LinePairs {
-    /// Cuts the line pairs of `rows` into at most `parts` ranges. 0 ranges are 1.
-    pub(crate) fn new(rows: RowDigits, parts: usize) -> LinePairs {
-        LinePairs {
+impl RowPairs {
+    /// The pairs of `rows`. Each side is cut into at most `parts` parts, at even numbers. 0 parts are 1.
+    pub(crate) fn new(rows: RowDigits, parts: usize) -> RowPairs {
+        RowPairs {
             rows,
-            cut: Cut::new(rows.line_pairs(), parts, 1),
+            squares: Squares::new(rows.digits, parts, 2),
         }
     }
 
-    /// Exchanges the pairs of rows of range `number`.
+    /// Exchanges the pairs of rows of block `number`.
     pub(crate) fn exchange<M: Places>(self, m: M, number: usize) -> M {
-        let (from, to) = self.cut.part(number);
-        exchange_pairs(m, self.rows, from, to)
+        let (square, region) = self.squares.block(number);
+        // One row or two have no pairs.
+        if self.rows.digits < 2 {
+            return m;
+        }
+        let lines = region.with_cols(square.base + region.col_start, square.base + region.col_end);
+        exchange_pairs(m, self.rows, lines)
     }
 }

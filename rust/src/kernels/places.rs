@@ -19,6 +19,11 @@ mod slices;
 pub use counters::{Swaps, Writes};
 pub use slices::{SliceCells, SlicePlaces, SliceSource};
 
+/// Four items that lie together in memory.
+#[derive(Clone, Copy, Debug)]
+#[repr(C)]
+pub struct Four<T>(pub T, pub T, pub T, pub T);
+
 /// A list whose items can be exchanged, and neither read nor moved in another way.
 ///
 /// Contracts see an implementation as the list of its items. `same_holder n a b` says that b is a after n exchanges. A holder
@@ -92,6 +97,38 @@ pub trait Places {
             self.exchange(i + t, j + t);
         }
     }
+
+    /// Exchanges a block of 4 by 4 items with the mirror image of another one. The rows of both begin `stride` places apart, and
+    /// the blocks at places `i` and `j`: the item of row r and column c of the one goes to row c and column r of the other. The
+    /// two have no place in common. A kernel calls it where the holder's `by_blocks` says so.
+    ///
+    /// # Contract
+    ///
+    /// In the words of [`contracts`](crate::kernels::contracts):
+    ///
+    /// ```text
+    /// requires rows { 4 ≤ stride }
+    /// requires apart { i + 3 * stride + 4 ≤ j }
+    /// requires second { j + 3 * stride + 4 ≤ length (items self.old) }
+    /// ensures exchanged { BlocksExchanged 16 i j stride (items self.old) (items self.new) }
+    /// ensures holder { same_holder 16 self.old self.new }
+    /// ```
+    #[inline(always)]
+    fn exchange_blocks(&mut self, i: usize, j: usize, stride: usize) {
+        // Called so that the proof knows that the length fits a usize.
+        let _ = self.len();
+        for r in 0..4 {
+            for c in 0..4 {
+                self.exchange_ordered(i + r * stride + c, j + c * stride + r);
+            }
+        }
+    }
+
+    /// Whether `exchange_blocks` is faster than to exchange the same items row after row.
+    #[inline(always)]
+    fn by_blocks(&self) -> bool {
+        false
+    }
 }
 
 /// A list whose places can be written, and not read.
@@ -125,6 +162,43 @@ pub trait Cells {
     /// ensures holder { same_holder 1 self.old self.new }
     /// ```
     fn put(&mut self, i: usize, v: Self::Item);
+
+    /// Puts four items at the places from `i` on. All other items stay. A holder may do so in a faster way than by its `put`.
+    ///
+    /// # Contract
+    ///
+    /// In the words of [`contracts`](crate::kernels::contracts):
+    ///
+    /// ```text
+    /// requires { i + 4 ≤ length (items self.old) }
+    /// ensures same_length { length (items self.new) ≡ length (items self.old) }
+    /// ensures places { (t : ℕ) → t < 4 → slice_get (items self.new) (i + t) ≡ slice_get (in_order four.now) t }
+    /// ensures others { (p : ℕ) → (p < i) ⊎ (i + 4 ≤ p) → slice_get (items self.new) p ≡ slice_get (items self.old) p }
+    /// ensures holder { same_holder 4 self.old self.new }
+    /// ```
+    #[inline(always)]
+    fn put_four(&mut self, i: usize, four: &Four<Self::Item>) {
+        // Called so that the proof knows that the length fits a usize.
+        let _ = self.len();
+        self.put(i, four.0);
+        self.put(i + 1, four.1);
+        self.put(i + 2, four.2);
+        self.put(i + 3, four.3);
+    }
+
+    /// The columns of a block of 4 by 4 items that has these rows. A holder may make them in a faster way.
+    ///
+    /// # Contract
+    ///
+    /// In the words of [`contracts`](crate::kernels::contracts):
+    ///
+    /// ```text
+    /// ensures { IsBlockTransposed (rows_in_order rows.now) (rows_in_order result) }
+    /// ```
+    #[inline(always)]
+    fn turned(rows: &Four<Four<Self::Item>>) -> Four<Four<Self::Item>> {
+        turned_block(rows)
+    }
 }
 
 /// A list whose items can be read, and not changed.
@@ -156,4 +230,33 @@ pub trait Source {
     /// ensures { slice_get (items self.now) i ≡ Some result }
     /// ```
     fn at(&self, i: usize) -> Self::Item;
+
+    /// The four items from place `i` on. A holder may read them in a faster way than by its `at`.
+    ///
+    /// # Contract
+    ///
+    /// In the words of [`contracts`](crate::kernels::contracts):
+    ///
+    /// ```text
+    /// requires { i + 4 ≤ length (items self.now) }
+    /// ensures { (t : ℕ) → t < 4 → slice_get (in_order result) t ≡ slice_get (items self.now) (i + t) }
+    /// ```
+    #[inline(always)]
+    fn four(&self, i: usize) -> Four<Self::Item> {
+        // Called so that the proof knows that the length fits a usize.
+        let _ = self.len();
+        Four(self.at(i), self.at(i + 1), self.at(i + 2), self.at(i + 3))
+    }
+}
+
+/// The columns of a block of 4 by 4 items that has these rows.
+#[inline(always)]
+pub(crate) fn turned_block<T: Copy>(rows: &Four<Four<T>>) -> Four<Four<T>> {
+    let Four(a, b, c, d) = *rows;
+    Four(
+        Four(a.0, b.0, c.0, d.0),
+        Four(a.1, b.1, c.1, d.1),
+        Four(a.2, b.2, c.2, d.2),
+        Four(a.3, b.3, c.3, d.3),
+    )
 }

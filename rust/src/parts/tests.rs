@@ -4,8 +4,8 @@
 use std::collections::BTreeSet;
 use std::vec::Vec;
 
-use super::one_part_reversal;
-use crate::kernels::parts::{Cut, LinePairs, Phase, ReversalPlan, Squares, TransposePlan};
+use super::{one_part_reversal, parts_of_side};
+use crate::kernels::parts::{Cut, Phase, ReversalPlan, RowPairs, Squares, TransposePlan};
 use crate::kernels::places::{Cells, Places, SliceSource, Source};
 use crate::kernels::reverse::RowDigits;
 use crate::kernels::transpose::{Matrix, Strips};
@@ -174,25 +174,30 @@ fn reversed(digits: usize, i: usize) -> usize {
     (0..digits).fold(0, |rev, place| rev << 1 | i >> place & 1)
 }
 
-/// The line of a row whose index has so many digits. Of its high half, reversed, and its low half the greater one is in the
-/// line's name, and the middle digit.
-fn line(digits: usize, row: usize) -> usize {
+/// The middle digit of a row whose index has so many digits, its high half reversed, and its low half.
+fn names(digits: usize, row: usize) -> (usize, usize, usize) {
     let half = digits / 2;
     let (high, rest) = (row >> (digits - half), row % (1 << (digits - half)));
-    let (middle, low) = (rest >> half, rest % (1 << half));
-    (middle << half) + low.max(reversed(half, high))
+    (rest >> half, reversed(half, high), rest % (1 << half))
+}
+
+/// Whether block `number` of the squares whose sides are cut so has this row and column of a square, or has them mirrored.
+fn is_in_block(cut: Cut, number: usize, square: usize, row: usize, col: usize) -> bool {
+    let (first, second) = cut.pair(number % cut.pairs());
+    let is_in = |part, i| (cut.part(part).0..cut.part(part).1).contains(&i);
+    is_in(first, row.min(col)) && is_in(second, row.max(col)) && number / cut.pairs() == square
 }
 
 #[test]
-fn ranges_of_line_pairs() {
+fn blocks_of_pairs_of_rows() {
     let cases = (0..=9).flat_map(|digits| (0..=9).map(move |parts| (digits, parts)));
     for ((digits, parts), width) in cases.flat_map(|case| [(case, 1), (case, 3)]) {
-        let rows = RowDigits { width, digits };
-        let phase = Phase::Ranges(LinePairs::new(rows, parts));
-        let cut = Cut::new(rows.line_pairs(), parts, 1);
+        let phase = Phase::Pairs(RowPairs::new(RowDigits { width, digits }, parts));
+        let cut = Cut::new(1 << (digits / 2), parts, 2);
         let wanted = |number, place: usize| {
-            let (row, (from, to)) = (place / width, cut.part(number));
-            let is_inside = (from..to).contains(&(line(digits, row) / 2));
+            let row = place / width;
+            let (middle, x, y) = names(digits, row);
+            let is_inside = is_in_block(cut, number, middle, x, y);
             let row = if is_inside { reversed(digits, row) } else { row };
             row * width + place % width
         };
@@ -210,19 +215,13 @@ fn ranges_of_line_pairs() {
 
 #[test]
 fn blocks_of_squares() {
-    for (side, count, parts) in [16, 32, 64]
-        .iter()
-        .flat_map(|side| (0..=9).map(move |parts| (*side, parts % 2 + 1, parts)))
-    {
-        let stride = side * count;
+    for (digits, parts) in (8..14).flat_map(|digits| (0..=9).map(move |parts| (digits, parts))) {
+        let (side, stride) = (1 << (digits / 2), 1 << (digits - digits / 2));
         let cut = Cut::new(side, parts, 16);
-        let phase = Phase::Blocks(Squares::new(stride, cut));
-        let wanted = |number: usize, place: usize| {
+        let phase = Phase::Blocks(Squares::new(digits, parts, 16));
+        let wanted = |number, place: usize| {
             let (square, row, col) = (place % stride / side, place / stride, place % side);
-            let (first, second) = cut.pair(number % cut.pairs());
-            let is_in = |part, i| (cut.part(part).0..cut.part(part).1).contains(&i);
-            let is_inside = is_in(first, row.min(col)) && is_in(second, row.max(col)) && number / cut.pairs() == square;
-            if is_inside {
+            if is_in_block(cut, number, square, row, col) {
                 col * stride + square * side + row
             } else {
                 place
@@ -234,7 +233,7 @@ fn blocks_of_squares() {
             |noted, number| _ = phase.exchange(noted, number),
             wanted,
         );
-        assert_eq!(moved, side * (side - 1) * count, "side {side} in {parts} parts");
+        assert_eq!(moved, (side - 1) * stride, "side {side} in {parts} parts");
     }
 }
 
@@ -262,6 +261,99 @@ fn long_lists() {
             *item == reversed(digits, place / row_width) * row_width + place % row_width
         };
         assert!(noted.items.iter().enumerate().all(is_reversed));
+    }
+}
+
+/// A list of `len` items that counts its exchanges.
+struct Counted {
+    len: usize,
+    exchanges: usize,
+}
+
+impl Places for &mut Counted {
+    type Item = ();
+
+    fn len(&self) -> usize {
+        self.len
+    }
+
+    fn exchange(&mut self, i: usize, j: usize) {
+        assert!(i < self.len && j < self.len && i != j);
+        self.exchanges += 1;
+    }
+
+    fn exchange_runs(&mut self, i: usize, j: usize, len: usize) {
+        assert!(i.abs_diff(j) >= len && i.max(j) + len <= self.len);
+        self.exchanges += len;
+    }
+}
+
+/// How many there are, and how many thousandths of all of them the largest is, rounded up.
+fn count_and_share(sizes: impl IntoIterator<Item = usize>) -> (usize, usize) {
+    let sizes: Vec<usize> = sizes.into_iter().collect();
+    let largest = sizes.iter().max().copied().unwrap_or(0);
+    (sizes.len(), (largest * 1000).div_ceil(sizes.iter().sum()))
+}
+
+/// The number of parts of each phase of a reversal, and the largest part's share of the exchanges, by running each part alone. A list
+/// that is not cut, or is cut into parts of unlike size, is seen here alone.
+#[test]
+fn shares_of_reversals() {
+    let cases: [(usize, usize, usize, &[(usize, usize)]); 16] = [
+        (20, 1, 0, &[(1, 1000), (1, 1000), (1, 1000)]),
+        (20, 1, 2, &[(6, 291), (6, 237), (6, 291)]),
+        (20, 1, 16, &[(36, 33), (36, 32), (36, 33)]),
+        (20, 1, 40, &[(36, 33), (91, 13), (36, 33)]),
+        (20, 1, 64, &[(136, 9), (136, 8), (136, 9)]),
+        (20, 1, 256, &[(136, 9), (528, 2), (136, 9)]),
+        (21, 1, 16, &[(36, 33), (72, 16), (36, 33)]),
+        (21, 1, 64, &[(136, 9), (272, 4), (136, 9)]),
+        (10, 300, 16, &[(36, 33)]),
+        (10, 300, 64, &[(136, 9)]),
+        (11, 200, 64, &[(272, 5)]),
+        (12, 100, 16, &[(36, 32)]),
+        (12, 100, 64, &[(136, 8)]),
+        (12, 100, 1000, &[(528, 2)]),
+        (16, 16, 64, &[(136, 8)]),
+        (2, 1 << 17, 64, &[(1, 1000)]),
+    ];
+    for (digits, row_width, wish, wanted) in cases {
+        let len = row_width << digits;
+        let plan = ReversalPlan::new(len, row_width, parts_of_side(wish), 1 << 18);
+        let exchanges_of = |phase: Phase, number| {
+            let mut counted = Counted { len, exchanges: 0 };
+            let _ = phase.exchange(&mut counted, number);
+            counted.exchanges
+        };
+        let phases = (0..4).map_while(|number| plan.phase(number));
+        let got: Vec<_> = phases
+            .map(|phase| count_and_share((0..phase.count()).map(|number| exchanges_of(phase, number))))
+            .collect();
+        assert_eq!(got, wanted, "2^{digits} rows of {row_width} by a wish of {wish}");
+        let most = match (digits, wish) {
+            (10.., 64..) => 20,
+            (10.., 16..) => 40,
+            _ => 1000,
+        };
+        assert!(got.iter().all(|(_, share)| *share <= most));
+    }
+}
+
+/// The same of a transpose, whose parts are cut along the longer side at multiples of 16.
+#[test]
+fn shares_of_transposes() {
+    let cases = [
+        (1000, 30, 16, (16, 64)),
+        (30, 1000, 64, (63, 16)),
+        (1 << 20, 3, 64, (64, 16)),
+        (3, 1 << 20, 256, (256, 4)),
+        (1024, 1024, 16, (16, 63)),
+        (100, 100, 64, (7, 160)),
+    ];
+    for (width, height, wish, wanted) in cases {
+        let plan = TransposePlan::new(width, height, wish, true);
+        let got = count_and_share((0..plan.count()).map(|number| plan.items(number)));
+        assert_eq!(got, wanted, "{width} by {height} by a wish of {wish}");
     }
 }
 

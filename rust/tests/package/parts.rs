@@ -154,7 +154,7 @@ fn none_and_one() {
         let mut list = vec![0u8; 1 << 19];
         let mut phases = reversal(&mut list, parts);
         let lens: Vec<usize> = std::iter::from_fn(|| phases.next_phase().map(|parts| parts.len())).collect();
-        let wanted: &[usize] = if cfg!(feature = "checked") { &[1] } else { &[1, 2, 1] };
+        let wanted: &[usize] = if cfg!(feature = "checked") { &[1] } else { &[2, 2, 2] };
         assert_eq!(lens, wanted, "a square and the one beside it are two parts");
     }
 }
@@ -164,10 +164,10 @@ fn none_and_one() {
 #[cfg(not(feature = "checked"))]
 fn parts_of_phases() {
     let cases = [
-        (20, 16, [16, 136, 16]),
-        (21, 16, [16, 272, 16]),
-        (20, 64, [16, 2080, 16]),
-        (24, 64, [32, 2080, 32]),
+        (20, 16, [36, 36, 36]),
+        (21, 16, [36, 72, 36]),
+        (20, 64, [136, 136, 136]),
+        (20, 256, [136, 528, 136]),
     ];
     for (bits, wish, wanted) in cases {
         let mut list = vec![0u8; 1 << bits];

@@ -8,19 +8,19 @@ ghost use Rattle.p3_util_kernels.specs.Blocks.{IsBlock, blocks_of, swaps_of_bloc
 ghost use Rattle.p3_util_kernels.specs.Crossing.{HoldsRows, IsCrossed};
 ghost use Rattle.p3_util_kernels.specs.Diagonal.{SwapsAcross};
 ghost use Rattle.p3_util_kernels.specs.Least.{AllDiffer, PutsAtChanged, SwapsAtChanged};
-ghost use Rattle.p3_util_kernels.specs.PartSteps.{IsPlaceOfBlock, IsPlaceOfRegion, IsPlaceOfRows, IsPlaceOfSquares, NoItemInCommon, NoPlaceInCommon};
+ghost use Rattle.p3_util_kernels.specs.PartSteps.{IsPlaceOfBlock, IsPlaceOfPairs, IsPlaceOfRegion, IsPlaceOfSquares, NoItemInCommon, NoPlaceInCommon};
 ghost use Rattle.p3_util_kernels.specs.PartSteps.{PartsCover};
 ghost use Rattle.p3_util_kernels.specs.PartSteps.{PutsLead, PutsStay, more_puts, no_puts, one_put};
 ghost use Rattle.p3_util_kernels.specs.PartSteps.{SwapsLead, SwapsStay, more_swaps, no_swaps, one_swap};
 ghost use Rattle.p3_util_kernels.specs.Parts.{number_of_pair, pairs_of, part_of_matrix, parts_in, start_of};
 ghost use Rattle.p3_util_kernels.specs.Region.{IsRegionTransposed, LiesInMatrix, items_of};
-ghost use Rattle.p3_util_kernels.specs.SwapCounts.{line_swaps};
 
 mod all_parts;
+mod interleaved;
+mod witnesses;
 
-use crate::parts::{Cut, LinePairs, Phase, Squares, TransposePlan};
+use crate::parts::{Cut, Phase, RowPairs, Squares, TransposePlan};
 use crate::places::{Cells, Places, Source};
-use crate::reverse::RowDigits;
 use crate::transpose::{Matrix, Region, Strips};
 
 /// A holder by which steps exist: `same_holder n a b` says that n puts lead from the items of `a` to those of `b`.
@@ -49,7 +49,8 @@ impl<C: Cells> Cells for PutSteps<C> {
     ghost same_holder_trans = { λ m n all a b c. more_puts m n all (C.items a.cells) (C.items b.cells) (C.items c.cells) };
 }
 
-/// A holder by which steps exist: `same_holder n a b` says that n exchanges lead from the items of `a` to those of `b`.
+/// A holder by which steps exist: `same_holder n a b` says that n exchanges lead from the items of `a` to those of `b`. The holder
+/// in it is any, so what is proved over this one holds whatever `by_blocks` says.
 #[derive(Drop)]
 struct SwapSteps<S> {
     places: S,
@@ -68,6 +69,10 @@ impl<S: Places> Places for SwapSteps<S> {
 
     fn exchange(&mut self, i: usize, j: usize) {
         self.places.exchange(i, j);
+    }
+
+    fn by_blocks(&self) -> bool {
+        self.places.by_blocks()
     }
 
     ghost same_holder_refl = { λ a. no_swaps (S.items a.places) };
@@ -184,44 +189,30 @@ pub(crate) fn blocks_apart(squares: Squares, first: usize, second: usize)
         (IsPlaceOfBlock squares.cut.len squares.stride squares.cut.step second) }
 {}
 
-/// The pairs of rows of a range of line pairs are exchanged by an exact number of exchanges. Where all items of the list differ,
-/// all of them are of places of these rows, and no place is in two of them.
-pub(crate) fn exchange_range<S: Places>(places: S, pairs: LinePairs, number: usize) -> S
-    requires below { number < parts_in pairs.cut.len pairs.cut.step }
+/// The pairs of rows of a block are exchanged by an exact number of exchanges. Where all items of the list differ, all of them are
+/// of places of these rows, and no place is in two of them.
+pub(crate) fn exchange_row_pairs<S: Places>(places: S, pairs: RowPairs, number: usize) -> S
+    requires below { number < blocks_of pairs.squares.cut.len pairs.squares.stride pairs.squares.cut.step }
     requires ready { HoldsRows pairs.rows.width pairs.rows.digits (S.items places) }
-    ensures crossed { let from = start_of pairs.cut.len pairs.cut.step number in let to = start_of pairs.cut.len pairs.cut.step (number + 1) in
-        let half = pairs.rows.digits / 2 in IsCrossed half (pairs.rows.digits - half) pairs.rows.width
-        (record { row_start = 0; row_end = 2 ^ half; col_start = from * 2; col_end = to * 2 }) (S.items places) (S.items result) }
-    ensures steps { let from = start_of pairs.cut.len pairs.cut.step number in let to = start_of pairs.cut.len pairs.cut.step (number + 1) in
-        SwapsLead (pairs.rows.width * (line_swaps pairs.rows.digits to - line_swaps pairs.rows.digits from)) (S.items places) (S.items result) }
-    ensures stay { let from = start_of pairs.cut.len pairs.cut.step number in let to = start_of pairs.cut.len pairs.cut.step (number + 1) in
-        AllDiffer (S.items places) → let half = pairs.rows.digits / 2 in SwapsStay (IsPlaceOfRows half (pairs.rows.digits - half) pairs.rows.width
-        (record { row_start = 0; row_end = 2 ^ half; col_start = from * 2; col_end = to * 2 }))
-        (pairs.rows.width * (line_swaps pairs.rows.digits to - line_swaps pairs.rows.digits from)) (S.items places) (S.items result) }
+    ensures block { (base : ℕ) × (region : Region) × IsBlock pairs.squares.cut.len pairs.squares.stride pairs.squares.cut.step number base region
+        × SwapsLead (pairs.rows.width * swaps_of_block region) (S.items places) (S.items result)
+        × (AllDiffer (S.items places) → SwapsStay (IsPlaceOfPairs pairs.rows.digits pairs.rows.width pairs.squares.cut.step number)
+        (pairs.rows.width * swaps_of_block region) (S.items places) (S.items result)) }
+    ensures crossed { (base : ℕ) → (region : Region) → IsBlock pairs.squares.cut.len pairs.squares.stride pairs.squares.cut.step number base region
+        → let half = pairs.rows.digits / 2 in IsCrossed half (pairs.rows.digits - half) pairs.rows.width
+        (record region { col_start = base + region.col_start; col_end = base + region.col_end }) (S.items places) (S.items result) }
 {
-    Phase::Ranges(pairs)
+    Phase::Pairs(pairs)
         .exchange(SwapSteps { places }, number)
         .places
 }
 
-/// Two ranges of line pairs that are parts of one cut have no place in common.
-pub(crate) fn ranges_apart(
-    rows: RowDigits,
-    cut: Cut,
-    parts: (usize, usize),
-) -> ((usize, usize), (usize, usize))
-    requires in_order { parts.0 < parts.1 }
-    requires below { parts.1 < parts_in cut.len cut.step }
-    ensures first_is { result.0 ≡ (start_of cut.len cut.step parts.0, start_of cut.len cut.step (parts.0 + 1)) }
-    ensures second_is { result.1 ≡ (start_of cut.len cut.step parts.1, start_of cut.len cut.step (parts.1 + 1)) }
-    ensures apart { let half = rows.digits / 2 in NoPlaceInCommon
-        (IsPlaceOfRows half (rows.digits - half) rows.width
-        (record { row_start = 0; row_end = 2 ^ half; col_start = result.0.0 * 2; col_end = result.0.1 * 2 }))
-        (IsPlaceOfRows half (rows.digits - half) rows.width
-        (record { row_start = 0; row_end = 2 ^ half; col_start = result.1.0 * 2; col_end = result.1.1 * 2 })) }
-{
-    (cut.part(parts.0), cut.part(parts.1))
-}
+/// The pairs of rows of two blocks have no place in common.
+pub(crate) fn row_pairs_apart(pairs: RowPairs, first: usize, second: usize)
+    requires { first ≢ second }
+    ensures { NoPlaceInCommon (IsPlaceOfPairs pairs.rows.digits pairs.rows.width pairs.squares.cut.step first)
+        (IsPlaceOfPairs pairs.rows.digits pairs.rows.width pairs.squares.cut.step second) }
+{}
 
 /// Each place of the transpose of a matrix is a place of one of the parts that its rows or its columns are cut into.
 pub(crate) fn parts_cover_matrix(width: usize, height: usize, by_rows: bool, cut: Cut)
@@ -236,10 +227,8 @@ pub(crate) fn blocks_cover_squares(squares: Squares)
         (IsPlaceOfBlock squares.cut.len squares.stride squares.cut.step) }
 {}
 
-/// Each place of the rows of all line pairs is a place of one of the ranges that these are cut into.
-pub(crate) fn ranges_cover_rows(rows: RowDigits, cut: Cut)
-    ensures { let half = rows.digits / 2 in PartsCover
-        (IsPlaceOfRows half (rows.digits - half) rows.width (record { row_start = 0; row_end = 2 ^ half; col_start = 0; col_end = cut.len * 2 }))
-        (parts_in cut.len cut.step) (λ k. IsPlaceOfRows half (rows.digits - half) rows.width
-        (record { row_start = 0; row_end = 2 ^ half; col_start = start_of cut.len cut.step k * 2; col_end = start_of cut.len cut.step (k + 1) * 2 })) }
+/// Each place of a list of rows is a place of the pairs of rows of one of the blocks, where a row that stays is a pair with itself.
+pub(crate) fn blocks_cover_rows(pairs: RowPairs)
+    ensures { PartsCover (λ p. p < pairs.rows.width * 2 ^ pairs.rows.digits) (blocks_of pairs.squares.cut.len pairs.squares.stride pairs.squares.cut.step)
+        (IsPlaceOfPairs pairs.rows.digits pairs.rows.width pairs.squares.cut.step) }
 {}

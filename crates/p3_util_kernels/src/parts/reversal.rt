@@ -1,12 +1,11 @@
 //! The phases that a reversal is cut into, and their parts.
 
 ghost use Rattle.std.specs.Prelude.{◌≡◌, ℕ, ◌-◌, ◌/◌, ◌^◌, ◌<◌, ◌≤◌, Some, length, max, slice_get};
-ghost use Rattle.p3_util_kernels.specs.Parts.{parts_in};
+ghost use Rattle.p3_util_kernels.specs.Parts.{IsLeastStep, parts_in};
 ghost use Rattle.p3_util_kernels.specs.Plans.{IsCutAsAsked, IsPartMade, IsPhaseOf, IsReversalPlan, parts_of, phases_of};
 ghost use Rattle.p3_util_kernels.specs.Reversal.{FitsRows};
 
-use crate::bits::pow2;
-use crate::parts::{Cut, LinePairs, Squares};
+use crate::parts::{RowPairs, Squares};
 use crate::places::Places;
 use crate::reverse::{RowDigits, reverse_index_bits, reverse_rows};
 use crate::transpose::TILE_SIDE;
@@ -16,8 +15,8 @@ use crate::transpose::TILE_SIDE;
 pub(crate) enum Phase {
     /// The reversal of all rows is one part.
     Rows(RowDigits),
-    /// The exchange of all pairs of rows, by ranges of line pairs.
-    Ranges(LinePairs),
+    /// The exchange of all pairs of rows, by blocks.
+    Pairs(RowPairs),
     /// The transpose of squares, by blocks.
     Blocks(Squares),
 }
@@ -29,19 +28,19 @@ pub(crate) enum ReversalPlan {
     Nothing,
     /// A short list, as one part.
     OnePart(RowDigits),
-    /// A long list of rows of several items, by ranges of line pairs.
-    ByRanges(LinePairs),
-    /// A long list of rows of one item: the line pairs of its chunks, its squares, and the same line pairs once more.
-    Long(LinePairs, Squares),
+    /// A long list of rows of several items, by blocks of its pairs of rows.
+    ByPairs(RowPairs),
+    /// A long list of rows of one item: the pairs of its chunks, its squares, and the same pairs once more.
+    Long(RowPairs, Squares),
 }
 
 impl ReversalPlan {
     /// Cuts the reversal of the rows of `row_width` items of a list of `len` items. Up to `one_part` items it is one part,
-    /// and beyond that the line pairs, and each side of a square, are cut into at most `parts` parts. 0 parts are 1.
+    /// and beyond that each side of a square, of pairs of rows too, is cut into at most `parts` parts. 0 parts are 1.
     pub(crate) fn new(len: usize, row_width: usize, parts: usize, one_part: usize) -> ReversalPlan
         requires { FitsRows len row_width }
         ensures plan { IsReversalPlan len row_width result }
-        ensures cut { IsCutAsAsked len row_width parts one_part result }
+        ensures cut { IsCutAsAsked len row_width parts one_part TILE_SIDE result }
         ensures phases { (k : ℕ) (phase : Phase) → slice_get (phases_of result) k ≡ Some phase → IsPhaseOf phase len }
     {
         if len == 0 {
@@ -51,7 +50,7 @@ impl ReversalPlan {
         if len <= one_part {
             ReversalPlan::OnePart(rows)
         } else if row_width > 1 {
-            ReversalPlan::ByRanges(LinePairs::new(rows, parts))
+            ReversalPlan::ByPairs(RowPairs::new(rows, parts))
         } else {
             let (chunks, squares) = chunks_and_squares(rows.digits, parts);
             ReversalPlan::Long(chunks, squares)
@@ -64,29 +63,29 @@ impl ReversalPlan {
     {
         match (self, number) {
             (ReversalPlan::OnePart(rows), 0) => Some(Phase::Rows(rows)),
-            (ReversalPlan::ByRanges(pairs), 0) => Some(Phase::Ranges(pairs)),
-            (ReversalPlan::Long(pairs, _), 0 | 2) => Some(Phase::Ranges(pairs)),
+            (ReversalPlan::ByPairs(pairs), 0) => Some(Phase::Pairs(pairs)),
+            (ReversalPlan::Long(pairs, _), 0 | 2) => Some(Phase::Pairs(pairs)),
             (ReversalPlan::Long(_, squares), 1) => Some(Phase::Blocks(squares)),
             _ => None,
         }
     }
 }
 
-/// The line pairs of the chunks of 2^`digits` items, and their squares.
-fn chunks_and_squares(digits: usize, parts: usize) -> (LinePairs, Squares)
+/// The pairs of the chunks of 2^`digits` items, and their squares.
+fn chunks_and_squares(digits: usize, parts: usize) -> (RowPairs, Squares)
     requires { digits < 64 }
     ensures width { result.0.rows.width ≡ 2 ^ (digits - digits / 2) }
     ensures chunks { result.0.rows.digits ≡ digits / 2 }
-    ensures ranges { parts_in result.0.cut.len result.0.cut.step ≤ max parts 1 }
+    ensures pairs { parts_in result.0.squares.cut.len result.0.squares.cut.step ≤ max parts 1 }
+    ensures least_pairs { IsLeastStep parts 2 result.0.squares.cut.len result.0.squares.cut.step }
     ensures stride { result.1.stride ≡ 2 ^ (digits - digits / 2) }
     ensures side { result.1.cut.len ≡ 2 ^ (digits / 2) }
     ensures blocks { parts_in result.1.cut.len result.1.cut.step ≤ max parts 1 }
+    ensures least_blocks { IsLeastStep parts TILE_SIDE result.1.cut.len result.1.cut.step }
 {
-    let half = digits / 2;
-    let chunks = RowDigits::chunks(half, digits - half);
-    let sides = Cut::new(pow2(half), parts, TILE_SIDE);
-    let squares = Squares::new(pow2(digits - half), sides);
-    (LinePairs::new(chunks, parts), squares)
+    let chunks = RowDigits::chunks(digits / 2, digits - digits / 2);
+    let squares = Squares::new(digits, parts, TILE_SIDE);
+    (RowPairs::new(chunks, parts), squares)
 }
 
 impl Phase {
@@ -96,7 +95,7 @@ impl Phase {
     {
         match self {
             Phase::Rows(_) => 1,
-            Phase::Ranges(pairs) => pairs.cut.count(),
+            Phase::Pairs(pairs) => pairs.squares.count(),
             Phase::Blocks(squares) => squares.count(),
         }
     }
@@ -111,7 +110,7 @@ impl Phase {
         match self {
             Phase::Rows(rows) if rows.width == 1 => reverse_index_bits(m),
             Phase::Rows(rows) => reverse_rows(m, rows),
-            Phase::Ranges(pairs) => pairs.exchange(m, number),
+            Phase::Pairs(pairs) => pairs.exchange(m, number),
             Phase::Blocks(squares) => squares.exchange(m, number),
         }
     }

@@ -1,7 +1,7 @@
 //! The regions that the transpose of a matrix is cut into.
 
 ghost use Rattle.std.specs.Prelude.{◌≡◌, ℕ, ◌+◌, ◌*◌, ◌%◌, ◌^◌, ◌<◌, ◌≤◌, ◌↔◌, IsTrue, if◌then◌else◌, length, max};
-ghost use Rattle.p3_util_kernels.specs.Parts.{part_of_matrix, parts_in, start_of};
+ghost use Rattle.p3_util_kernels.specs.Parts.{IsLeastStep, part_of_matrix, parts_in, start_of};
 ghost use Rattle.p3_util_kernels.specs.Region.{IsRegionTransposed, items_of};
 
 use crate::parts::Cut;
@@ -35,6 +35,7 @@ impl TransposePlan {
         ensures by_rows { IsTrue result.by_rows ↔ (IsTrue may_cut_rows × (width < height)) }
         ensures empty { width * height ≡ 0 → parts_in result.cut.len result.cut.step ≡ 0 }
         ensures few { parts_in result.cut.len result.cut.step ≤ max parts 1 }
+        ensures least { IsLeastStep parts TILE_SIDE result.cut.len result.cut.step }
         ensures units { (k : ℕ) → k < parts_in result.cut.len result.cut.step
             → start_of result.cut.len result.cut.step k % TILE_SIDE ≡ 0 }
     {

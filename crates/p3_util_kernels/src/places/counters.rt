@@ -6,7 +6,7 @@
 
 ghost use Rattle.std.specs.Prelude.{◌≡◌, ℕ, ◌+◌, ◌-◌, ◌*◌, ◌^◌, ◌<◌, ◌≤◌, ◌⊎◌, List, length, swap, slice_set};
 ghost use Rattle.std.proofs.Common.{rules};
-ghost use Rattle.p3_util_kernels.specs.Exchanged.{RunsExchanged};
+ghost use Rattle.p3_util_kernels.specs.Exchanged.{BlocksExchanged, RunsExchanged};
 ghost use Rattle.p3_util_kernels.specs.Steps.{counted};
 
 use crate::places::{Cells, Places};
@@ -169,6 +169,17 @@ impl<S: Places> Places for Swaps<S> {
     fn exchange_runs(&mut self, i: usize, j: usize, len: usize) {
         self.holder.exchange_runs(i, j, len);
         self.count = self.count.saturating_add(len as u128);
+    }
+
+    #[inline(always)]
+    fn exchange_blocks(&mut self, i: usize, j: usize, stride: usize) {
+        self.holder.exchange_blocks(i, j, stride);
+        self.count = self.count.saturating_add(16);
+    }
+
+    #[inline(always)]
+    fn by_blocks(&self) -> bool {
+        self.holder.by_blocks()
     }
 
     ghost same_holder_refl = { Prim.search rules };

@@ -32,6 +32,16 @@ impl<S: Places> Places for &mut S {
         S::exchange_runs(self, i, j, len);
     }
 
+    #[inline(always)]
+    fn exchange_blocks(&mut self, i: usize, j: usize, stride: usize) {
+        S::exchange_blocks(self, i, j, stride);
+    }
+
+    #[inline(always)]
+    fn by_blocks(&self) -> bool {
+        S::by_blocks(self)
+    }
+
     ghost same_holder_refl = { Prim.search rules };
 
     ghost same_holder_trans = { Prim.search rules };

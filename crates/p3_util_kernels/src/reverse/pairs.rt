@@ -12,16 +12,16 @@
 //! *line* is all pairs that share the middle digit and `y`. The pairs of two neighbouring lines are exchanged in one loop over
 //! `x`: the rows of both lines lie side by side, so that they are in the cache at once where rows are short.
 
-ghost use Rattle.std.specs.Prelude.{◌≡◌, ℕ, ◌+◌, ◌-◌, ◌*◌, ◌/◌, ◌%◌, ◌^◌, ◌<◌, ◌≤◌, ◌⊎◌, length};
-ghost use Rattle.p3_util_kernels.specs.Crossing.{HoldsRows, IsCrossed, line_pairs_of};
+ghost use Rattle.std.specs.Prelude.{◌≡◌, ℕ, ◌+◌, ◌-◌, ◌*◌, ◌/◌, ◌%◌, ◌^◌, ◌<◌, ◌≤◌, ◌⊎◌, length, min};
+ghost use Rattle.p3_util_kernels.specs.Crossing.{AreLinePairs, HoldsRows, IsCrossed, lines_of, pairs_in};
 ghost use Rattle.p3_util_kernels.specs.Digits.{rev};
 ghost use Rattle.p3_util_kernels.specs.Exchanged.{RunsExchanged};
 ghost use Rattle.p3_util_kernels.specs.Levels.{clog};
 ghost use Rattle.p3_util_kernels.specs.Reversal.{FitsRows};
-ghost use Rattle.p3_util_kernels.specs.SwapCounts.{line_swaps};
 
 use crate::bits::{log2_strict_usize, pow2, reverse_bits_len};
 use crate::places::Places;
+use crate::transpose::Region;
 
 /// Each number below 64 with its six binary digits in reversed order. One read of this table is faster than the reversal of so
 /// few digits by halves.
@@ -67,44 +67,53 @@ impl RowDigits {
         }
     }
 
-    /// The number of pairs of neighbouring lines: for each middle digit, half as many as there are numbers `y`. One row or
-    /// two have none.
+    /// All pairs of rows. Each smaller number is below `usize::MAX`, and the compiler leaves out the test for that.
     #[inline(always)]
-    pub(crate) fn line_pairs(self) -> usize
+    pub(crate) fn all_pairs(self) -> Region
         requires { self.digits < 64 }
-        ensures { result ≡ line_pairs_of self.digits }
+        ensures { result ≡ record { row_start = 0; row_end = 2 ^ 64 - 1; col_start = 0; col_end = lines_of self.digits } }
     {
-        pow2(self.digits % 2) * (pow2(self.digits / 2) / 2)
+        // One row or two have one line for each middle digit, and no pair of lines.
+        let line_pairs = pow2(self.digits % 2) * (pow2(self.digits / 2) / 2);
+        Region {
+            row_start: 0,
+            row_end: usize::MAX,
+            col_start: 0,
+            col_end: line_pairs * 2,
+        }
     }
 }
 
-/// Exchanges the pairs of rows of the pairs of lines from `from` to below `to`.
+/// Exchanges these pairs of rows: a column of `pairs` is a line, and a row is the smaller number of a pair. The lines go two by
+/// two.
 #[inline(always)]
-pub(crate) fn exchange_pairs<M: Places>(m: M, rows: RowDigits, from: usize, to: usize) -> M
-    requires in_order { from ≤ to }
-    requires within { to ≤ line_pairs_of rows.digits }
-    requires ready { from < to → HoldsRows rows.width rows.digits (M.items m) }
-    ensures crossed { let half = rows.digits / 2 in IsCrossed half (rows.digits - half) rows.width
-        (record { row_start = 0; row_end = 2 ^ half; col_start = from * 2; col_end = to * 2 }) (M.items m) (M.items result) }
-    ensures holder { M.same_holder (rows.width * (line_swaps rows.digits to - line_swaps rows.digits from)) m result }
+pub(crate) fn exchange_pairs<M: Places>(m: M, rows: RowDigits, pairs: Region) -> M
+    requires lines { AreLinePairs rows.digits pairs }
+    requires ready { pairs.col_start < pairs.col_end → HoldsRows rows.width rows.digits (M.items m) }
+    ensures crossed { let half = rows.digits / 2 in IsCrossed half (rows.digits - half) rows.width pairs (M.items m) (M.items result) }
+    ensures holder { M.same_holder (rows.width * pairs_in (2 ^ (rows.digits / 2)) pairs) m result }
 {
     let mut m = m;
-    for line_pair in from..to {
-        m = exchange_lines(m, rows, line_pair * 2);
+    for line_pair in pairs.col_start / 2..pairs.col_end / 2 {
+        m = exchange_lines(m, rows, line_pair * 2, pairs.row_start, pairs.row_end);
     }
     m
 }
 
-/// Exchanges the pairs of rows of `line` and of the line after it.
+/// Exchanges the pairs of rows of `line` and of the line after it whose smaller numbers are from `from` to below `to`.
 #[tactic(auto, using(crate::proofs::CrossingLemmas::line_parts))]
 #[inline(always)]
-fn exchange_lines<M: Places>(m: M, rows: RowDigits, line: usize) -> M
+fn exchange_lines<M: Places>(m: M, rows: RowDigits, line: usize, from: usize, to: usize) -> M
+    requires in_order { from ≤ to }
+    requires above { from ≤ line % 2 ^ (rows.digits / 2) }
     requires even { line % 2 ≡ 0 }
-    requires line { line / 2 < line_pairs_of rows.digits }
+    requires some { 2 ≤ rows.digits }
+    requires line { line < 2 ^ (rows.digits - rows.digits / 2) }
     requires ready { HoldsRows rows.width rows.digits (M.items m) }
     ensures crossed { let half = rows.digits / 2 in IsCrossed half (rows.digits - half) rows.width
-        (record { row_start = 0; row_end = 2 ^ half; col_start = line; col_end = line + 2 }) (M.items m) (M.items result) }
-    ensures holder { let y = line % 2 ^ (rows.digits / 2) in M.same_holder (rows.width * (y + (y + 1))) m result }
+        (record { row_start = from; row_end = to; col_start = line; col_end = line + 2 }) (M.items m) (M.items result) }
+    ensures holder { let y = line % 2 ^ (rows.digits / 2) in
+        M.same_holder (rows.width * ((min to y - from) + (min to (y + 1) - from))) m result }
 {
     let half = rows.digits / 2;
     let side = pow2(half);
@@ -112,11 +121,15 @@ fn exchange_lines<M: Places>(m: M, rows: RowDigits, line: usize) -> M
     let first = (line >> half) * side;
     let y = line % side;
     let mut m = m;
-    for x in 0..y {
+    for x in from..to.min(y) {
         m = exchange_pair(m, rows, first, x, y);
         m = exchange_pair(m, rows, first, x, y + 1);
     }
-    exchange_pair(m, rows, first, y, y + 1)
+    if y < to {
+        exchange_pair(m, rows, first, y, y + 1)
+    } else {
+        m
+    }
 }
 
 /// Exchanges the row of `x` and `y` with the row of `y` and `x`. `first` is the first line of the middle digit of both rows.

@@ -106,5 +106,5 @@ fn exchange_all<M: Places>(m: M, rows: RowDigits) -> M
     ensures order { IsRowReversal rows.width (M.items m) (M.items result) }
     ensures holder { M.same_holder (rows.width * short_swaps rows.digits) m result }
 {
-    exchange_pairs(m, rows, 0, rows.line_pairs())
+    exchange_pairs(m, rows, rows.all_pairs())
 }

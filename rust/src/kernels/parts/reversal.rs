@@ -1,7 +1,6 @@
 //! The phases that a reversal is cut into, and their parts.
 
-use crate::kernels::bits::pow2;
-use crate::kernels::parts::{Cut, LinePairs, Squares};
+use crate::kernels::parts::{RowPairs, Squares};
 use crate::kernels::places::Places;
 use crate::kernels::reverse::{RowDigits, reverse_index_bits, reverse_rows};
 use crate::kernels::transpose::TILE_SIDE;
@@ -11,8 +10,8 @@ use crate::kernels::transpose::TILE_SIDE;
 pub(crate) enum Phase {
     /// The reversal of all rows is one part.
     Rows(RowDigits),
-    /// The exchange of all pairs of rows, by ranges of line pairs.
-    Ranges(LinePairs),
+    /// The exchange of all pairs of rows, by blocks.
+    Pairs(RowPairs),
     /// The transpose of squares, by blocks.
     Blocks(Squares),
 }
@@ -24,15 +23,15 @@ pub(crate) enum ReversalPlan {
     Nothing,
     /// A short list, as one part.
     OnePart(RowDigits),
-    /// A long list of rows of several items, by ranges of line pairs.
-    ByRanges(LinePairs),
-    /// A long list of rows of one item: the line pairs of its chunks, its squares, and the same line pairs once more.
-    Long(LinePairs, Squares),
+    /// A long list of rows of several items, by blocks of its pairs of rows.
+    ByPairs(RowPairs),
+    /// A long list of rows of one item: the pairs of its chunks, its squares, and the same pairs once more.
+    Long(RowPairs, Squares),
 }
 
 impl ReversalPlan {
     /// Cuts the reversal of the rows of `row_width` items of a list of `len` items. Up to `one_part` items it is one part,
-    /// and beyond that the line pairs, and each side of a square, are cut into at most `parts` parts. 0 parts are 1.
+    /// and beyond that each side of a square, of pairs of rows too, is cut into at most `parts` parts. 0 parts are 1.
     pub(crate) fn new(len: usize, row_width: usize, parts: usize, one_part: usize) -> ReversalPlan {
         if len == 0 {
             return ReversalPlan::Nothing;
@@ -41,7 +40,7 @@ impl ReversalPlan {
         if len <= one_part {
             ReversalPlan::OnePart(rows)
         } else if row_width > 1 {
-            ReversalPlan::ByRanges(LinePairs::new(rows, parts))
+            ReversalPlan::ByPairs(RowPairs::new(rows, parts))
         } else {
             let (chunks, squares) = chunks_and_squares(rows.digits, parts);
             ReversalPlan::Long(chunks, squares)
@@ -52,21 +51,19 @@ impl ReversalPlan {
     pub(crate) fn phase(self, number: usize) -> Option<Phase> {
         match (self, number) {
             (ReversalPlan::OnePart(rows), 0) => Some(Phase::Rows(rows)),
-            (ReversalPlan::ByRanges(pairs), 0) => Some(Phase::Ranges(pairs)),
-            (ReversalPlan::Long(pairs, _), 0 | 2) => Some(Phase::Ranges(pairs)),
+            (ReversalPlan::ByPairs(pairs), 0) => Some(Phase::Pairs(pairs)),
+            (ReversalPlan::Long(pairs, _), 0 | 2) => Some(Phase::Pairs(pairs)),
             (ReversalPlan::Long(_, squares), 1) => Some(Phase::Blocks(squares)),
             _ => None,
         }
     }
 }
 
-/// The line pairs of the chunks of 2^`digits` items, and their squares.
-fn chunks_and_squares(digits: usize, parts: usize) -> (LinePairs, Squares) {
-    let half = digits / 2;
-    let chunks = RowDigits::chunks(half, digits - half);
-    let sides = Cut::new(pow2(half), parts, TILE_SIDE);
-    let squares = Squares::new(pow2(digits - half), sides);
-    (LinePairs::new(chunks, parts), squares)
+/// The pairs of the chunks of 2^`digits` items, and their squares.
+fn chunks_and_squares(digits: usize, parts: usize) -> (RowPairs, Squares) {
+    let chunks = RowDigits::chunks(digits / 2, digits - digits / 2);
+    let squares = Squares::new(digits, parts, TILE_SIDE);
+    (RowPairs::new(chunks, parts), squares)
 }
 
 impl Phase {
@@ -74,7 +71,7 @@ impl Phase {
     pub(crate) fn count(self) -> usize {
         match self {
             Phase::Rows(_) => 1,
-            Phase::Ranges(pairs) => pairs.cut.count(),
+            Phase::Pairs(pairs) => pairs.squares.count(),
             Phase::Blocks(squares) => squares.count(),
         }
     }
@@ -84,7 +81,7 @@ impl Phase {
         match self {
             Phase::Rows(rows) if rows.width == 1 => reverse_index_bits(m),
             Phase::Rows(rows) => reverse_rows(m, rows),
-            Phase::Ranges(pairs) => pairs.exchange(m, number),
+            Phase::Pairs(pairs) => pairs.exchange(m, number),
             Phase::Blocks(squares) => squares.exchange(m, number),
         }
     }

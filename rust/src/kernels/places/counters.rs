@@ -211,6 +211,17 @@ impl<S: Places> Places for Swaps<S> {
         self.holder.exchange_runs(i, j, len);
         self.count = self.count.saturating_add(len as u128);
     }
+
+    #[inline(always)]
+    fn exchange_blocks(&mut self, i: usize, j: usize, stride: usize) {
+        self.holder.exchange_blocks(i, j, stride);
+        self.count = self.count.saturating_add(16);
+    }
+
+    #[inline(always)]
+    fn by_blocks(&self) -> bool {
+        self.holder.by_blocks()
+    }
 }
 
 /// Each put is made by the holder inside, and is counted.

@@ -24,6 +24,16 @@ impl<S: Places> Places for &mut S {
     fn exchange_runs(&mut self, i: usize, j: usize, len: usize) {
         S::exchange_runs(self, i, j, len);
     }
+
+    #[inline(always)]
+    fn exchange_blocks(&mut self, i: usize, j: usize, stride: usize) {
+        S::exchange_blocks(self, i, j, stride);
+    }
+
+    #[inline(always)]
+    fn by_blocks(&self) -> bool {
+        S::by_blocks(self)
+    }
 }
 
 /// The puts are those of the holder behind the reference.

@@ -14,6 +14,7 @@
 
 use crate::kernels::bits::{log2_strict_usize, pow2, reverse_bits_len};
 use crate::kernels::places::Places;
+use crate::kernels::transpose::Region;
 
 /// Each number below 64 with its six binary digits in reversed order. One read of this table is faster than the reversal of so
 /// few digits by halves.
@@ -50,38 +51,49 @@ impl RowDigits {
         }
     }
 
-    /// The number of pairs of neighbouring lines: for each middle digit, half as many as there are numbers `y`. One row or
-    /// two have none.
+    /// All pairs of rows. Each smaller number is below `usize::MAX`, and the compiler leaves out the test for that.
     #[inline(always)]
-    pub(crate) fn line_pairs(self) -> usize {
-        pow2(self.digits % 2) * (pow2(self.digits / 2) / 2)
+    pub(crate) fn all_pairs(self) -> Region {
+        // One row or two have one line for each middle digit, and no pair of lines.
+        let line_pairs = pow2(self.digits % 2) * (pow2(self.digits / 2) / 2);
+        Region {
+            row_start: 0,
+            row_end: usize::MAX,
+            col_start: 0,
+            col_end: line_pairs * 2,
+        }
     }
 }
 
-/// Exchanges the pairs of rows of the pairs of lines from `from` to below `to`.
+/// Exchanges these pairs of rows: a column of `pairs` is a line, and a row is the smaller number of a pair. The lines go two by
+/// two.
 #[inline(always)]
-pub(crate) fn exchange_pairs<M: Places>(m: M, rows: RowDigits, from: usize, to: usize) -> M {
+pub(crate) fn exchange_pairs<M: Places>(m: M, rows: RowDigits, pairs: Region) -> M {
     let mut m = m;
-    for line_pair in from..to {
-        m = exchange_lines(m, rows, line_pair * 2);
+    for line_pair in pairs.col_start / 2..pairs.col_end / 2 {
+        m = exchange_lines(m, rows, line_pair * 2, pairs.row_start, pairs.row_end);
     }
     m
 }
 
-/// Exchanges the pairs of rows of `line` and of the line after it.
+/// Exchanges the pairs of rows of `line` and of the line after it whose smaller numbers are from `from` to below `to`.
 #[inline(always)]
-fn exchange_lines<M: Places>(m: M, rows: RowDigits, line: usize) -> M {
+fn exchange_lines<M: Places>(m: M, rows: RowDigits, line: usize, from: usize, to: usize) -> M {
     let half = rows.digits / 2;
     let side = pow2(half);
     // The shift is a division by `side`. Of `line / side * side` Rattle's compiler makes `line - y`, and a slower loop.
     let first = (line >> half) * side;
     let y = line % side;
     let mut m = m;
-    for x in 0..y {
+    for x in from..to.min(y) {
         m = exchange_pair(m, rows, first, x, y);
         m = exchange_pair(m, rows, first, x, y + 1);
     }
-    exchange_pair(m, rows, first, y, y + 1)
+    if y < to {
+        exchange_pair(m, rows, first, y, y + 1)
+    } else {
+        m
+    }
 }
 
 /// Exchanges the row of `x` and `y` with the row of `y` and `x`. `first` is the first line of the middle digit of both rows.

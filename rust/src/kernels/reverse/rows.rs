@@ -93,5 +93,5 @@ pub(crate) fn reverse_rows<M: Places>(m: M, rows: RowDigits) -> M {
 /// Exchanges the pairs of rows of all lines.
 #[inline(always)]
 fn exchange_all<M: Places>(m: M, rows: RowDigits) -> M {
-    exchange_pairs(m, rows, 0, rows.line_pairs())
+    exchange_pairs(m, rows, rows.all_pairs())
 }

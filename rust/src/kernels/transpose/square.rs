@@ -124,12 +124,32 @@ pub(crate) fn exchange_region<M: Places>(m: M, square: Square, region: Region) -
     }
 }
 
-/// As [`exchange_region`], row after row.
+/// As [`exchange_region`], row after row, or by blocks where the holder is faster so.
 #[inline(always)]
 fn exchange_leaf<M: Places>(m: M, square: Square, region: Region) -> M {
     let mut m = m;
-    for row in region.row_start..region.row_end {
-        m = exchange_row(m, square, row, region);
+    let mut row = region.row_start;
+    while row < region.row_end {
+        if m.by_blocks() && region.cols() % 4 == 0 && region.row_end - row >= 4 {
+            m = exchange_block_row(m, square, row, region);
+            row += 4;
+        } else {
+            m = exchange_row(m, square, row, region);
+            row += 1;
+        }
+    }
+    m
+}
+
+/// Exchanges the four rows from `row` on of the columns of `region`, which are right of the diagonal, with their mirror image, by
+/// blocks of 4 by 4 items.
+#[inline(always)]
+fn exchange_block_row<M: Places>(m: M, square: Square, row: usize, region: Region) -> M {
+    let Square { base, stride } = square;
+    let mut m = m;
+    for k in 0..region.cols() / 4 {
+        let col = region.col_start + 4 * k;
+        m.exchange_blocks(base + row * stride + col, base + col * stride + row, stride);
     }
     m
 }

@@ -8,7 +8,7 @@
 //!
 //! Each function is given the holder by value and gives it back, so that it stays in registers in the loops.
 
-use crate::kernels::places::{Cells, Source};
+use crate::kernels::places::{Cells, Four, Source};
 use crate::kernels::transpose::regions::{Matrix, Region};
 
 /// The greatest number of items of a small matrix, which is put by tiles where 16 divides its width.
@@ -38,6 +38,9 @@ pub(crate) enum Strips {
     /// At most 16 rows, put tile after tile, and each tile row after row. It is for items of 32 and of 64 bytes, and whoever
     /// calls a kernel chooses it.
     Wide,
+    /// At most 128 rows, put 4 columns at a time by blocks that are turned in registers. It is for items of 4 and of 8 bytes, and
+    /// whoever calls a kernel chooses it.
+    Blocks,
 }
 
 impl Strips {
@@ -62,12 +65,32 @@ impl Strips {
     #[inline(always)]
     fn rows(self) -> usize {
         match self {
-            Strips::High => STRIP_ROWS,
+            Strips::High | Strips::Blocks => STRIP_ROWS,
             Strips::Low | Strips::Tiles | Strips::Wide => TILE_SIDE,
         }
     }
 
-    /// The number of rows of a block of a tile.
+    /// The end of the strip that begins at row `row`, where the region ends at row `end`. A strip of blocks has some of 4 rows, as
+    /// long as there are so many.
+    #[inline(always)]
+    fn end(self, row: usize, end: usize) -> usize {
+        match self {
+            Strips::Blocks if end - row < STRIP_ROWS && end - row >= BLOCK_SIDE => end
+                - (end - row) % BLOCK_SIDE,
+            _ => end.min(row.saturating_add(self.rows())),
+        }
+    }
+
+    /// Whether a strip of so many rows is put by blocks, where they are whole. A tile has all of its 16 rows.
+    #[inline(always)]
+    fn has_blocks(self, rows: usize) -> bool {
+        match self {
+            Strips::Blocks => true,
+            _ => rows == TILE_SIDE,
+        }
+    }
+
+    /// The number of rows of a block.
     #[inline(always)]
     fn block_rows(self) -> usize {
         match self {
@@ -76,7 +99,7 @@ impl Strips {
         }
     }
 
-    /// The number of columns of a block of a tile.
+    /// The number of columns of a block.
     #[inline(always)]
     fn block_cols(self) -> usize {
         match self {
@@ -101,7 +124,7 @@ pub(crate) fn put_strips<M: Cells, R: Source<Item = M::Item> + Copy>(
     let mut out = out;
     let mut row = region.row_start;
     while row < region.row_end {
-        let end = region.row_end.min(row.saturating_add(strips.rows()));
+        let end = strips.end(row, region.row_end);
         out = put_strip(out, matrix, region.with_rows(row, end), strips);
         row = end;
     }
@@ -121,6 +144,7 @@ fn put_strip<M: Cells, R: Source<Item = M::Item> + Copy>(
         // The compiler knows the strips, and so the loops.
         Strips::Tiles => put_tiles(out, matrix, region, Strips::Tiles),
         Strips::Wide => put_tiles(out, matrix, region, Strips::Wide),
+        Strips::Blocks => put_tiles(out, matrix, region, Strips::Blocks),
         // The compiler knows how many rows most low strips have.
         Strips::Low if rows == TILE_SIDE => put_columns(
             out,
@@ -131,8 +155,7 @@ fn put_strip<M: Cells, R: Source<Item = M::Item> + Copy>(
     }
 }
 
-/// Puts a strip of at most 16 rows by as many columns at a time as a block of `strips` has. No function puts a tile: some such
-/// steps do.
+/// Puts a strip by as many columns at a time as a block of `strips` has. No function puts a tile: some such steps do.
 #[inline(always)]
 fn put_tiles<M: Cells, R: Source<Item = M::Item> + Copy>(
     out: M,
@@ -159,15 +182,61 @@ fn put_blocks<M: Cells, R: Source<Item = M::Item> + Copy>(
     strips: Strips,
 ) -> M {
     let (rows, cols) = (strips.block_rows(), strips.block_cols());
-    if region.rows() != TILE_SIDE || region.cols() != cols {
+    let height = region.rows();
+    if !strips.has_blocks(height) || height % rows != 0 || region.cols() != cols {
         return put_columns(out, matrix, region);
     }
     let mut out = out;
-    for k in 0..TILE_SIDE / rows {
+    for k in 0..height / rows {
         let row = region.row_start + k * rows;
         let block = region.with_rows(row, row + rows);
-        out = put_columns(out, matrix, block.with_known_sides(rows, cols));
+        out = put_block(out, matrix, block.with_known_sides(rows, cols), strips);
     }
+    out
+}
+
+/// Puts a block: in registers, or column after column.
+#[inline(always)]
+fn put_block<M: Cells, R: Source<Item = M::Item> + Copy>(
+    out: M,
+    matrix: Matrix<R>,
+    region: Region,
+    strips: Strips,
+) -> M {
+    match strips {
+        Strips::Blocks if region.rows() == BLOCK_SIDE && region.cols() == BLOCK_SIDE => put_turned(
+            out, matrix, region,
+        ),
+        _ => put_columns(out, matrix, region),
+    }
+}
+
+/// Puts a block of 4 by 4 items by whole rows, which a holder may turn in registers.
+#[inline(always)]
+fn put_turned<M: Cells, R: Source<Item = M::Item> + Copy>(
+    out: M,
+    matrix: Matrix<R>,
+    region: Region,
+) -> M {
+    let Matrix {
+        source,
+        width,
+        height,
+    } = matrix;
+    let from = region.row_start * width + region.col_start;
+    let to = region.col_start * height + region.row_start;
+    let rows = Four(
+        source.four(from),
+        source.four(from + width),
+        source.four(from + 2 * width),
+        source.four(from + 3 * width),
+    );
+    let cols = M::turned(&rows);
+    let mut out = out;
+    out.put_four(to, &cols.0);
+    out.put_four(to + height, &cols.1);
+    out.put_four(to + 2 * height, &cols.2);
+    out.put_four(to + 3 * height, &cols.3);
     out
 }
 

@@ -1,7 +1,8 @@
-//! All parts of a call, one after the other or in any order, are the call, in as many steps.
+//! All parts of a call are the call, in as many steps, and those of a phase may be made in any order. An order is a slice of
+//! numbers of parts. After these each turn is that of the part of its number, and so the empty slice is the order of the numbers.
 
 ghost use Rattle.std.specs.Prelude.{◌≡◌, ℕ, ◌*◌, ◌^◌, ◌<◌, Some, length, slice_get};
-ghost use Rattle.p3_util_kernels.specs.AnyOrder.{IsOrder, order_of};
+ghost use Rattle.p3_util_kernels.specs.AnyOrder.{IsOrder, order_of, turn_of};
 ghost use Rattle.p3_util_kernels.specs.Parts.{parts_in};
 ghost use Rattle.p3_util_kernels.specs.Plans.{IsPhaseMade, IsPhaseOf, IsReversalPlan, parts_of, phases_of, swaps_in_parts, swaps_of_phase, swaps_of_plan};
 ghost use Rattle.p3_util_kernels.specs.Reversal.{FitsRows, IsRowReversal};
@@ -11,88 +12,48 @@ use crate::parts::{Phase, ReversalPlan, TransposePlan};
 use crate::places::{Cells, Places, Source};
 use crate::transpose::{Matrix, Strips};
 
-/// Puts all regions of a plan, from the first one on.
-pub(crate) fn put_regions<C: Cells, R: Source<Item = C::Item> + Copy>(
-    out: C,
-    source: R,
-    plan: TransposePlan,
-    strips: Strips,
-) -> C
-    requires input_fits { length (R.items source) ≡ plan.width * plan.height }
-    requires output_fits { length (C.items out) ≡ plan.width * plan.height }
-    ensures order { IsTranspose plan.width plan.height (R.items source) (C.items result) }
-    ensures holder { C.same_holder (plan.width * plan.height) out result }
+/// The part whose turn `j` is.
+fn turn(order: &[usize], j: usize) -> usize
+    ensures { result ≡ turn_of order.now j }
 {
-    let mut out = out;
-    for number in 0..plan.count() {
-        out = plan.put(out, source, number, strips);
+    match order.get(j) {
+        Some(number) => *number,
+        None => j,
     }
-    out
 }
 
 /// Puts the regions of a plan in this order.
-pub(crate) fn put_regions_in_order<C: Cells, R: Source<Item = C::Item> + Copy>(
+pub(crate) fn put_regions<C: Cells, R: Source<Item = C::Item> + Copy>(
     out: C,
     source: R,
     plan: TransposePlan,
     strips: Strips,
     order: &[usize],
 ) -> C
-    requires order { IsOrder (parts_in plan.cut.len plan.cut.step) order.now }
+    requires order { IsOrder (parts_in plan.cut.len plan.cut.step) (turn_of order.now) }
     requires input_fits { length (R.items source) ≡ plan.width * plan.height }
     requires output_fits { length (C.items out) ≡ plan.width * plan.height }
     ensures order { IsTranspose plan.width plan.height (R.items source) (C.items result) }
     ensures holder { C.same_holder (plan.width * plan.height) out result }
 {
     let mut out = out;
-    for i in 0..order.len() {
-        out = plan.put(out, source, order[i], strips);
+    for i in 0..plan.count() {
+        out = plan.put(out, source, turn(order, i), strips);
     }
     out
 }
 
-/// Makes all parts of a phase, from the first one on.
-pub(crate) fn make_parts<M: Places>(m: M, phase: Phase) -> M
-    requires list { IsPhaseOf phase (length (M.items m)) }
-    requires len_fits { length (M.items m) < 2 ^ 64 }
-    ensures made { IsPhaseMade phase (M.items m) (M.items result) }
-    ensures holder { M.same_holder (swaps_of_phase phase (length (M.items m))) m result }
-{
-    let mut m = m;
-    for number in 0..phase.count() {
-        m = phase.exchange(m, number);
-    }
-    m
-}
-
 /// Makes the parts of a phase in this order.
-pub(crate) fn make_parts_in_order<M: Places>(m: M, phase: Phase, order: &[usize]) -> M
-    requires order { IsOrder (parts_of phase) order.now }
+pub(crate) fn make_parts<M: Places>(m: M, phase: Phase, order: &[usize]) -> M
+    requires order { IsOrder (parts_of phase) (turn_of order.now) }
     requires list { IsPhaseOf phase (length (M.items m)) }
     requires len_fits { length (M.items m) < 2 ^ 64 }
     ensures made { IsPhaseMade phase (M.items m) (M.items result) }
     ensures holder { M.same_holder (swaps_of_phase phase (length (M.items m))) m result }
 {
     let mut m = m;
-    for i in 0..order.len() {
-        m = phase.exchange(m, order[i]);
-    }
-    m
-}
-
-/// Makes all phases of a plan of a reversal, and of each all parts from the first one on.
-pub(crate) fn make_phases<M: Places>(m: M, row_width: usize, plan: ReversalPlan) -> M
-    requires fits { FitsRows (length (M.items m)) row_width }
-    requires plan { IsReversalPlan (length (M.items m)) row_width plan }
-    requires len_fits { length (M.items m) < 2 ^ 64 }
-    ensures order { IsRowReversal row_width (M.items m) (M.items result) }
-    ensures holder { M.same_holder (swaps_of_plan plan (length (M.items m))) m result }
-{
-    let mut m = m;
-    let mut number = 0;
-    while let Some(phase) = plan.phase(number) {
-        m = make_parts(m, phase);
-        number += 1;
+    for i in 0..phase.count() {
+        m = phase.exchange(m, turn(order, i));
     }
     m
 }
@@ -119,7 +80,7 @@ impl<'a> Orders<'a> {
 }
 
 /// Makes all phases of a plan of a reversal, and the parts of each in an order of its own.
-pub(crate) fn make_phases_in_order<M: Places>(
+pub(crate) fn make_phases<M: Places>(
     m: M,
     row_width: usize,
     plan: ReversalPlan,
@@ -129,14 +90,14 @@ pub(crate) fn make_phases_in_order<M: Places>(
     requires plan { IsReversalPlan (length (M.items m)) row_width plan }
     requires len_fits { length (M.items m) < 2 ^ 64 }
     requires orders { (number : ℕ) (phase : Phase) → slice_get (phases_of plan) number ≡ Some phase
-        → IsOrder (parts_of phase) (order_of orders.first.now orders.second.now orders.third.now number) }
+        → IsOrder (parts_of phase) (turn_of (order_of orders.first.now orders.second.now orders.third.now number)) }
     ensures order { IsRowReversal row_width (M.items m) (M.items result) }
     ensures holder { M.same_holder (swaps_of_plan plan (length (M.items m))) m result }
 {
     let mut m = m;
     let mut number = 0;
     while let Some(phase) = plan.phase(number) {
-        m = make_parts_in_order(m, phase, orders.of_phase(number));
+        m = make_parts(m, phase, orders.of_phase(number));
         number += 1;
     }
     m
@@ -157,7 +118,7 @@ pub(crate) fn transpose_in_parts<C: Cells, R: Source<Item = C::Item> + Copy>(
 {
     let _ = out.len();
     let plan = TransposePlan::new(matrix.width, matrix.height, parts, may_cut_rows);
-    put_regions(out, matrix.source, plan, strips)
+    put_regions(out, matrix.source, plan, strips, &[])
 }
 
 /// Reverses rows by the phases of a plan that is made for them, under the condition of the call alone.
@@ -172,5 +133,10 @@ pub(crate) fn reverse_in_parts<M: Places>(
     ensures holder { M.same_holder (swaps_in_parts (length (M.items m)) row_width one_part) m result }
 {
     let plan = ReversalPlan::new(m.len(), row_width, parts, one_part);
-    make_phases(m, row_width, plan)
+    let plain = Orders {
+        first: &[],
+        second: &[],
+        third: &[],
+    };
+    make_phases(m, row_width, plan, plain)
 }

@@ -14,7 +14,7 @@ returns g c =
         steps,
         λ differ.
             block-steps squares.cut.len squares.stride squares.cut.step c.args.number base region _ _ squares.cut.some_step block c.requires.whole
-            squares.fits differ across,
+            differ across,
       );
       across = λ base' region' block'.
           let same = block-alone squares.cut.len squares.stride squares.cut.step c.args.number base' base region' region block' block in

@@ -1,21 +1,20 @@
-use Rattle.std.proofs.Common.{◌≡◌, ℕ, ◌+◌, ◌-◌, ◌*◌, ◌/◌, ◌^◌, ◌<◌, List, length, inl, inr, arith}
+use Rattle.std.proofs.Common.{◌≡◌, ℕ, ◌+◌, ◌-◌, ◌/◌, ◌^◌, ◌<◌, ◌≤◌, List, length, inl, inr, refl, arith}
 use Rattle.std.proofs.Math.Nat.{mul-pos}
+use Rattle.std.proofs.Math.Pow.{pow_mono}
 use Rattle.std.proofs.lemmas.Bool.{cases_eq}
 use Rattle.std.proofs.lemmas.Nat.{pow_pos}
-use Rattle.p3_util_kernels.specs.Crossing.{HoldsRows, line_pairs_of}
+use Rattle.p3_util_kernels.specs.Crossing.{HoldsRows}
 use Rattle.p3_util_kernels.specs.Levels.{clog}
 use Rattle.p3_util_kernels.specs.Reversal.{FitsRows}
-use Rattle.p3_util_kernels.specs.SwapCounts.{line_swaps, short_swaps}
-use Rattle.p3_util_kernels.proofs.CrossingLemmas.{IsRowReversal-crossed}
+use Rattle.p3_util_kernels.proofs.CrossingLemmas.{IsCrossed-lines, IsRowReversal-crossed}
 use Rattle.p3_util_kernels.proofs.Lengths.{IsDigitsOfRows-from, no_digits}
-use Rattle.p3_util_kernels.proofs.Lines.{line-below, line_pairs-inside, line_pairs-whole, line_swaps-all, line_swaps-none}
+use Rattle.p3_util_kernels.proofs.Lines.{lines_of-several, pairs_in-all}
 use Rattle.p3_util_kernels.proofs.reverse.rows.exchange_all.Goals as goal
 
--- where there is a pair of lines there are rows
+-- two rows or more are the rows of a list
 ready : {A : Type 0} (row_width digits : ℕ) (xs : List A) → FitsRows (length xs) row_width → digits ≡ clog (length xs / row_width)
-    → length xs < 2 ^ 64 → 0 < line_pairs_of digits → HoldsRows row_width digits xs
-ready row_width digits xs fits counted small pairs =
-    let several = (line-below digits 0 (omega arith) (omega arith)).0 in
+    → length xs < 2 ^ 64 → 2 ≤ digits → HoldsRows row_width digits xs
+ready row_width digits xs fits counted small several =
     let some : length xs ≡ 0 → ⊥ = λ e. absurd (omega (arith, counted, no_digits (length xs) row_width e)) in
     let rows = IsDigitsOfRows-from (length xs) row_width digits some fits counted in
     record { wide = rows.wide; few = rows.few small; rows = rows.whole; length_fits = small }
@@ -28,18 +27,24 @@ few len row_width digits fits counted small =
       | inr some ↦ (IsDigitsOfRows-from len row_width digits some fits counted).few small
     ]
 
-pub line_pairs-requires : goal.line_pairs-requires
-line_pairs-requires g c = few _ _ _ c.requires.fits c.requires.digits c.requires.len_fits
+pub all_pairs-requires : goal.all_pairs-requires
+all_pairs-requires g c = few _ _ _ c.requires.fits c.requires.digits c.requires.len_fits
 
 pub exchange_pairs-requires-clause-ready : goal.exchange_pairs-requires-clause-ready
-exchange_pairs-requires-clause-ready g c some = ready _ _ _ c.requires.fits c.requires.digits c.requires.len_fits (omega arith)
+exchange_pairs-requires-clause-ready g c some =
+    ready _ _ _ c.requires.fits c.requires.digits c.requires.len_fits (lines_of-several c.args.rows.digits (rw c.all_pairs.ensures at some))
+
+pub exchange_pairs-requires-clause-lines : goal.exchange_pairs-requires-clause-lines
+exchange_pairs-requires-clause-lines g c =
+    rw c.all_pairs.ensures
+    (record { rows_in_order = omega arith; cols_in_order = omega arith; first_even = refl; last_even = omega arith; inside = omega arith; above = λ line from to. omega arith })
 
 pub returns-clause-order : goal.returns-clause-order
 returns-clause-order g c =
     let x = c.args.rows.digits in
     let half = x / 2 in
     let xs = g.M.Places.items c.args.m in
-    let crossed = rw c.line_pairs.ensures at c.exchange_pairs.ensures.crossed in
+    let crossed = rw c.all_pairs.ensures at c.exchange_pairs.ensures.crossed in
     elim (cases_eq (length xs) 0) [
       | inl none ↦ record {
         same_length = crossed.same_length;
@@ -48,12 +53,13 @@ returns-clause-order g c =
       | inr some ↦
           let rows = IsDigitsOfRows-from (length xs) c.args.rows.width x some c.requires.fits c.requires.digits in
           let parts : half + (x - half) ≡ x = omega arith in
-          IsRowReversal-crossed half (x - half) (omega arith) c.args.rows.width _ _ (line_pairs_of x * 2) (omega arith) (line_pairs-inside x) (line_pairs-whole x)
-          (rw parts rows.whole) crossed
+          let small : 2 ^ half ≤ 2 ^ 63 = pow_mono {j = 63} (omega (arith, rows.few c.requires.len_fits)) in
+          IsRowReversal-crossed half (x - half) (omega arith) c.args.rows.width _ _ _ (omega arith) (rw parts rows.whole)
+          (λ v y hv hy. record { row_from = omega arith; row_to = omega (arith, small); col_from = omega arith; col_to = hv })
+          (IsCrossed-lines x c.args.rows.width _ _ _ crossed)
     ]
 
 pub returns-clause-holder : goal.returns-clause-holder
 returns-clause-holder g c =
-    let x = c.args.rows.digits in
-    let all : line_swaps x (line_pairs_of x) - line_swaps x 0 ≡ short_swaps x = omega (arith, line_swaps-none x, line_swaps-all x) in
-    rw (c.line_pairs.ensures, all) at c.exchange_pairs.ensures.holder
+    let fits = few _ _ _ c.requires.fits c.requires.digits c.requires.len_fits in
+    rw (c.all_pairs.ensures, pairs_in-all c.args.rows.digits fits) at c.exchange_pairs.ensures.holder

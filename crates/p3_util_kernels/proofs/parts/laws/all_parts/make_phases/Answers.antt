@@ -8,6 +8,10 @@ use Rattle.p3_util_kernels.proofs.parts.laws.all_parts.make_phases.Goals as goal
 pub loop-phase-init : goal.loop-phase-init
 loop-phase-init g c = record { few = omega arith; same_length = refl; done = (0, (refl, refl), g.met.M.Places.same_holder_refl _) }
 
+pub make_parts-m-requires-clause-order : goal.make_parts-m-requires-clause-order
+make_parts-m-requires-clause-order g c =
+    rw c.of_phase.ensures (c.requires.orders c.loop-phase.number c.in-Some.phase (sym c.phase.ensures ∙ c.in-Some.is))
+
 pub make_parts-m-requires-clause-list : goal.make_parts-m-requires-clause-list
 make_parts-m-requires-clause-list g c =
     rw c.loop-phase.invariant.same_length

@@ -1,13 +1,13 @@
 use Rattle.std.proofs.Common.{◌≡◌, sym, ◌∙◌, arith}
 use Rattle.p3_util_kernels.specs.Levels.{clog}
-use Rattle.p3_util_kernels.specs.declared.parts.reversal.ReversalPlan.TheVariants.{ByRanges, Long}
+use Rattle.p3_util_kernels.specs.declared.parts.reversal.ReversalPlan.TheVariants.{ByPairs, Long}
 use Rattle.p3_util_kernels.proofs.Lengths.{IsDigitsOfRows-from}
 use Rattle.p3_util_kernels.proofs.PlansLemmas.{clog_of_ones, plan-phases}
 use Rattle.p3_util_kernels.proofs.parts.reversal.ReversalPlan.new.Goals as goal
 
 pub returns-then-row_width-gt1-clause-phases : goal.returns-then-row_width-gt1-clause-phases
 returns-then-row_width-gt1-clause-phases c k phase =
-    plan-phases c.args.len phase c.args.row_width (ByRanges c.new.result)
+    plan-phases c.args.len phase c.args.row_width (ByPairs c.new.result)
     (omega arith, rw c.new.ensures.rows c.of-rows.ensures.width, rw c.new.ensures.rows c.of-rows.ensures.digits) c.requires (omega arith) k
 
 pub returns-else-row_width-gt1-clause-plan : goal.returns-else-row_width-gt1-clause-plan

@@ -1,0 +1,72 @@
+//! Steps of several lists that are made in turns, as threads make those of several parts.
+
+ghost use Rattle.std.specs.Prelude.{◌≡◌, ℕ, ◌*◌, ◌^◌, ◌<◌, List, length};
+ghost use Rattle.p3_util_kernels.specs.Interleaved.{AreApartBelow, AreMadeInterleaved, IsInterleaved, IsMadeAlone, IsPutAlone, MakeAlone, PutAlone, SameInTurn, in_turn};
+ghost use Rattle.p3_util_kernels.specs.Least.{AllDiffer, after_puts, after_swaps, places_put, places_swapped};
+ghost use Rattle.p3_util_kernels.specs.PartSteps.{NoItemInCommon};
+ghost use Rattle.p3_util_kernels.specs.Parts.{parts_in};
+ghost use Rattle.p3_util_kernels.specs.Plans.{IsPhaseMade, IsPhaseOf, IsReversalPlan, parts_of, phases_of};
+ghost use Rattle.p3_util_kernels.specs.Reversal.{FitsRows, IsRowReversal};
+ghost use Rattle.p3_util_kernels.specs.Transpose.{IsTranspose};
+
+use crate::parts::laws::{SwapSteps, put_region};
+use crate::parts::{Phase, ReversalPlan, TransposePlan};
+use crate::places::{Cells, Places, Source};
+use crate::transpose::Strips;
+
+/// Where no two lists have a place in common, every interleaving of them leaves what they leave one after the other. That is an
+/// interleaving too.
+pub(crate) fn interleaved<T>()
+    ensures puts { SameInTurn {A = T} after_puts places_put }
+    ensures swaps { SameInTurn {A = T} after_swaps places_swapped }
+    ensures in_turn { (lists : List (List T)) → IsInterleaved lists (in_turn lists) }
+{}
+
+/// Writes that put each region of a plan alone, where no item of the input is in the output, are apart, and every interleaving
+/// of them puts the transpose.
+pub(crate) fn regions_interleaved<T>(plan: TransposePlan)
+    ensures { (input old : List T) (lists : List (List (ℕ × T)))
+        → length input ≡ plan.width * plan.height → length old ≡ plan.width * plan.height → NoItemInCommon input old
+        → PutAlone plan.width plan.height plan.by_rows plan.cut.len plan.cut.step input old lists
+        → AreApartBelow places_put (length old) lists
+        × ((all : List (ℕ × T)) → IsInterleaved lists all → IsTranspose plan.width plan.height input (after_puts old all)) }
+{}
+
+/// The writes that a region of a plan makes, put it alone.
+pub(crate) fn region_alone<C: Cells, R: Source<Item = C::Item> + Copy>(
+    out: C,
+    source: R,
+    plan: TransposePlan,
+    number: usize,
+    strips: Strips,
+) -> C
+    requires below { number < parts_in plan.cut.len plan.cut.step }
+    requires input_fits { length (R.items source) ≡ plan.width * plan.height }
+    requires output_fits { length (C.items out) ≡ plan.width * plan.height }
+    ensures { (steps : List (ℕ × C.Item)) × (C.items result ≡ after_puts (C.items out) steps)
+        × IsPutAlone plan.width plan.height plan.by_rows plan.cut.len plan.cut.step number (R.items source) (C.items out) steps }
+{
+    put_region(out, source, plan, number, strips)
+}
+
+/// Of exchanges that make each part of a phase alone, where all items differ, every interleaving makes the phase.
+pub(crate) fn parts_interleaved<T>(phase: Phase)
+    ensures { (old : List T) (lists : List (List (ℕ × ℕ))) (all : List (ℕ × ℕ)) → IsPhaseOf phase (length old) → AllDiffer old
+        → MakeAlone phase old lists → IsInterleaved lists all → IsPhaseMade phase old (after_swaps old all) }
+{}
+
+/// The exchanges that a part of a phase makes, make it alone.
+pub(crate) fn part_alone<M: Places>(m: M, phase: Phase, number: usize) -> M
+    requires below { number < parts_of phase }
+    requires list { IsPhaseOf phase (length (M.items m)) }
+    requires len_fits { length (M.items m) < 2 ^ 64 }
+    ensures { (steps : List (ℕ × ℕ)) × (M.items result ≡ after_swaps (M.items m) steps) × IsMadeAlone phase number (M.items m) steps }
+{
+    phase.exchange(SwapSteps { places: m }, number).places
+}
+
+/// The phases of a plan one after the other, and the exchanges of each one's parts in any interleaving, are the reversal.
+pub(crate) fn phases_interleaved<T>(row_width: usize, plan: ReversalPlan)
+    ensures { (old new : List T) → FitsRows (length old) row_width → IsReversalPlan (length old) row_width plan → length old < 2 ^ 64
+        → AllDiffer old → AreMadeInterleaved (phases_of plan) old new → IsRowReversal row_width old new }
+{}
