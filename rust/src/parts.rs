@@ -96,14 +96,14 @@ use crate::unchecked::{self, Parts, Phases, Regions};
 /// The number of items above which a reversal is cut, whatever their size.
 const CUT_ITEMS: usize = 1 << 18;
 
-/// The number of bytes above which a reversal is cut where it has more than [`CUT_WIDE_ITEMS`] items.
+/// The number of bytes above which a reversal is cut if it has more than [`CUT_WIDE_ITEMS`] items.
 const CUT_BYTES: usize = 1 << 21;
 
 /// The number of items up to which a reversal is one part, however many bytes they have.
 const CUT_WIDE_ITEMS: usize = 1 << 16;
 
-/// The greatest number of items of this type that [`reversal`] and [`row_reversal`] leave as one part: 2^18, or as many as 2^21
-/// bytes hold, but 2^16 at the least. Up to that the call itself takes less time than its parts.
+/// The greatest number of items of this type that [`reversal`] and [`row_reversal`] leave as one part: 2^18, or as many
+/// as 2^21 bytes hold, but 2^16 at the least. Up to that number the call itself is faster than its parts.
 ///
 /// ```
 /// use p3_util_proved::parts::one_part_reversal;
@@ -114,7 +114,7 @@ const CUT_WIDE_ITEMS: usize = 1 << 16;
 /// # }
 /// ```
 ///
-/// With the feature `checked` each reversal is one part, of however many items.
+/// With the feature `checked` each reversal is one part, however many items it has.
 #[must_use]
 pub const fn one_part_reversal<F>() -> usize {
     if cfg!(feature = "checked") {
@@ -127,7 +127,7 @@ pub const fn one_part_reversal<F>() -> usize {
     }
 }
 
-/// The parts of a transpose that are left, as an iterator of known length.
+/// The remaining parts of a transpose, as an iterator of known length.
 #[must_use = "a part that is not run leaves its cells as they are"]
 pub struct TransposeParts<'a, T>(Parts<'a, T, Regions<&'a [T]>>);
 
@@ -135,11 +135,12 @@ pub struct TransposeParts<'a, T>(Parts<'a, T, Regions<&'a [T]>>);
 #[must_use = "a part that is not run leaves its cells as they are"]
 pub struct TransposePart<'a, T>(Parts<'a, T, Regions<&'a [T]>>);
 
-/// The phases of a reversal that are left. A phase has to be done before the next one.
+/// The remaining phases of a reversal. A phase must be done before the next one begins.
 #[must_use = "a reversal is done by the parts of its phases, and none has run yet"]
 pub struct ReversalPhases<'a, F>(Phases<'a, F>);
 
-/// The parts of a phase that are left, as an iterator of known length. While one of them is there, no other phase is.
+/// The remaining parts of a phase, as an iterator of known length. As long as one of them exists, there is no other
+/// phase.
 #[must_use = "a part that is not run leaves the list neither as it was nor reversed"]
 pub struct ReversalParts<'a, F>(Parts<'a, F, Phase>);
 
@@ -158,7 +159,7 @@ const fn parts_of_side(wish: usize) -> usize {
 ///
 /// # Panics
 ///
-/// As the call itself, before there is a part.
+/// In the same cases as the call itself, before any part is returned.
 #[track_caller]
 #[must_use = "the transpose is put by its parts, and none has run yet"]
 pub fn transpose<'a, T: Copy + Send + Sync>(
@@ -178,11 +179,11 @@ pub fn transpose<'a, T: Copy + Send + Sync>(
 /// Cuts [`reverse_slice_index_bits`](crate::reverse_slice_index_bits) into phases, by the wish of `parts` parts: see
 /// [how many there are](self#how-many-parts).
 ///
-/// Items go to other threads, and none is shared by two, so they need not be `Sync`.
+/// Items go to other threads, but no two threads share one, so they need not be `Sync`.
 ///
 /// # Panics
 ///
-/// As the call itself, before there is a phase.
+/// In the same cases as the call itself, before any phase is returned.
 #[track_caller]
 #[must_use = "the list is reversed by the parts of its phases, and none has run yet"]
 pub fn reversal<F: Send>(vals: &mut [F], parts: usize) -> ReversalPhases<'_, F> {
@@ -196,11 +197,11 @@ pub fn reversal<F: Send>(vals: &mut [F], parts: usize) -> ReversalPhases<'_, F> 
 /// Cuts [`reverse_slice_row_index_bits`](crate::reverse_slice_row_index_bits) into phases, by the wish of `parts` parts: see
 /// [how many there are](self#how-many-parts).
 ///
-/// Items go to other threads, and none is shared by two, so they need not be `Sync`.
+/// Items go to other threads, but no two threads share one, so they need not be `Sync`.
 ///
 /// # Panics
 ///
-/// As the call itself, before there is a phase.
+/// In the same cases as the call itself, before any phase is returned.
 #[track_caller]
 #[must_use = "the list is reversed by the parts of its phases, and none has run yet"]
 pub fn row_reversal<F: Send>(vals: &mut [F], row_width: usize, parts: usize) -> ReversalPhases<'_, F> {
@@ -212,7 +213,7 @@ pub fn row_reversal<F: Send>(vals: &mut [F], row_width: usize, parts: usize) -> 
 }
 
 impl<T: Copy> TransposePart<'_, T> {
-    /// Puts the items of this part into the output.
+    /// Writes the items of this part to the output.
     #[inline]
     pub fn run(self) {
         self.0.put();
@@ -220,13 +221,13 @@ impl<T: Copy> TransposePart<'_, T> {
 }
 
 impl<F> ReversalPhases<'_, F> {
-    /// The parts of the next phase, or `None` after the last one. The parts of the phase before it have to be done.
+    /// The parts of the next phase, or `None` after the last one. The parts of the phase before it must be done.
     #[must_use = "the list is reversed by the parts of each phase, and none of this one has run yet"]
     pub fn next_phase(&mut self) -> Option<ReversalParts<'_, F>> {
         self.0.next_phase().map(ReversalParts)
     }
 
-    /// Gives `run` the parts of each phase, one phase after the other. A part that `run` drops is not done.
+    /// Passes the parts of each phase to `run`, one phase after the other. A part that `run` drops is not done.
     ///
     /// A scope of threads stands inside `run`. It waits for its threads, so the phase is done when `run` returns.
     ///

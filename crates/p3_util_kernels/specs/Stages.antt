@@ -8,12 +8,14 @@ use Rattle.p3_util_kernels.specs.declared.places.Four.{Four}
 abbrev pub item_at : {A : Type 0} → List (List A) → ℕ → ℕ → Option A
 item_at rows r c = option_and_then (λ row. slice_get row c) (slice_get rows r)
 
--- of a block of 4 by 4 items, the lowest bit of each item's row number is exchanged with that of its column number
+-- in a block of 4 by 4 items, the lowest bit of each item's row number is exchanged with the lowest
+-- bit of its column number
 abbrev pub IsStageOne : {A : Type 0} → List (List A) → List (List A) → Type 0
 IsStageOne old new =
     (P p Q q : ℕ) → P < 2 → p < 2 → Q < 2 → q < 2 → item_at new (2 * P + p) (2 * Q + q) ≡ item_at old (2 * P + q) (2 * Q + p)
 
--- of a block of 4 by 4 items, the next bit of each item's row number is exchanged with that of its column number
+-- in a block of 4 by 4 items, the higher bit of each item's row number is exchanged with the higher
+-- bit of its column number
 abbrev pub IsStageTwo : {A : Type 0} → List (List A) → List (List A) → Type 0
 IsStageTwo old new =
     (P p Q q : ℕ) → P < 2 → p < 2 → Q < 2 → q < 2 → item_at new (2 * P + p) (2 * Q + q) ≡ item_at old (2 * Q + p) (2 * P + q)

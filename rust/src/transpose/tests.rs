@@ -1,4 +1,4 @@
-//! Which strips a matrix is put by, and in which order those do it that only this package chooses.
+//! The strips that a matrix is put by, and the order of the writes for those that only this package chooses.
 
 use core::marker::PhantomData;
 use std::vec::Vec;
@@ -7,7 +7,7 @@ use super::*;
 use crate::kernels::places::{Cells, Four, SliceSource, turned_block};
 use crate::kernels::transpose::transpose_matrix;
 
-/// So many items, of which none is read.
+/// A number of items that are never read.
 struct Unread<T>(usize, PhantomData<T>);
 
 impl<T> Clone for Unread<T> {
@@ -47,7 +47,7 @@ fn has_blocks<T: Copy>(width: usize, height: usize) -> bool {
     matches!(strips::<T>(width, height), Strips::Blocks)
 }
 
-/// Whether a matrix of such items is put as Rattle's own calls put it.
+/// Whether a matrix of such items is put in the same way as by the calls in Rattle.
 fn is_by_shape<T: Copy>(width: usize, height: usize) -> bool {
     let matrix = Matrix::new(Unread(width * height, PhantomData::<T>), width, height);
     core::mem::discriminant(&strips_of(matrix)) == core::mem::discriminant(&Strips::of(matrix))
@@ -102,7 +102,7 @@ fn wide_items_of_large_matrices() {
     assert!(!is_wide::<[u64; 5]>(2048, 2048) && !is_wide::<[u64; 16]>(2048, 2048));
 }
 
-/// The cells of a transpose, which note the order of the puts.
+/// The cells of a transpose, which note the order of the writes.
 struct Noted {
     items: Vec<usize>,
     puts: Vec<usize>,
@@ -121,8 +121,8 @@ impl Cells for Noted {
     }
 }
 
-/// The columns and rows of a matrix in the order of wide strips: 16 rows at a time, of these 16 columns at a time, and such a
-/// tile row after row. A lower or narrower one is put column after column.
+/// The columns and rows of a matrix in the order of wide strips: 16 rows at a time, of these 16 columns at a time, and
+/// each such tile row after row. A lower or narrower piece is put column after column.
 fn by_wide_strips(width: usize, height: usize) -> Vec<(usize, usize)> {
     let mut places = Vec::new();
     for top in (0..height).step_by(16) {
@@ -164,7 +164,8 @@ fn wide_strips_in_order() {
     }
 }
 
-/// Cells that put four items themselves, and count how often. They may change two columns of each block that they turn.
+/// Cells that write four items at once in their own way, and count how often. They can be set to change two columns of
+/// each block that they transpose.
 struct ByFours<const CHANGED: bool> {
     items: Vec<usize>,
     fours: usize,
@@ -192,7 +193,7 @@ impl<const CHANGED: bool> Cells for ByFours<CHANGED> {
     }
 }
 
-/// Numbers that are read four at a time wherever blocks are whole.
+/// Numbers that are read four at a time where blocks are whole.
 #[derive(Clone, Copy)]
 struct Numbers {
     width: usize,
@@ -217,7 +218,7 @@ impl Source for Numbers {
     }
 }
 
-/// What cells have after a transpose by blocks.
+/// The contents of the cells after a transpose by blocks.
 fn put_by_fours<const CHANGED: bool>(width: usize, height: usize) -> ByFours<CHANGED> {
     let source = Numbers { width, height };
     let blank = ByFours {
@@ -234,7 +235,7 @@ fn blocks_by_holders_of_ones_own() {
         let right = put_by_fours::<false>(width, height);
         assert!(right.items.into_iter().eq((0..width * height).map(transposed)));
         assert_eq!(right.fours, width / 4 * (height / 4) * 4, "{width} by {height}");
-        // A block whose columns are changed is seen.
+        // A block whose columns are changed is noticed.
         let wrong = put_by_fours::<true>(width, height);
         assert!(!wrong.items.into_iter().eq((0..width * height).map(transposed)));
     }

@@ -1,5 +1,5 @@
-//! Parts on several threads, of lists that are cut however short they are. `rust/test` has a race detector look at this, and at
-//! cuts that overlap, of which it has to report each.
+//! Parts on several threads, for lists that are cut even if they are short. `rust/test` runs these tests with a race
+//! detector. It also runs cuts that overlap, each of which the detector must report.
 
 use std::iter::from_fn;
 use std::thread::scope;
@@ -14,12 +14,12 @@ fn run_all<P: Send>(shares: impl IntoIterator<Item = Vec<P>>, run: fn(P)) {
             .into_iter()
             .map(|share| scope.spawn(move || share.into_iter().for_each(run)))
             .collect();
-        // The detector sees that a thread is done where it is joined, and not where the scope waits for it.
+        // The detector sees that a thread is done when the thread is joined, but not when the scope waits for it.
         threads.into_iter().for_each(|thread| thread.join().unwrap());
     });
 }
 
-/// Runs all parts, dealt out to so many threads.
+/// Runs all parts, distributed to so many threads.
 fn run_on<'a, T: Send, P: Copy + Send>(threads: usize, mut parts: Parts<'a, T, P>, run: fn(Parts<'a, T, P>)) {
     let mut shares: Vec<Vec<_>> = from_fn(|| Some(Vec::new())).take(threads).collect();
     for (turn, part) in from_fn(|| parts.split_first()).enumerate() {
@@ -60,7 +60,7 @@ fn parts_on_threads() {
     }
 }
 
-/// Runs on two threads a part of each of two phases over one list.
+/// Runs a part of each of two phases of one list, on two threads.
 fn run_both<'a, T: Send, P: Copy + Send>(
     mut parts: Parts<'a, T, P>,
     phases: [(P, usize); 2],
@@ -77,7 +77,7 @@ fn run_both<'a, T: Send, P: Copy + Send>(
     run_all(shares, run);
 }
 
-/// Runs on two threads a part of each of two cuts of a phase of a reversal.
+/// Runs a part of each of two cuts of a phase of a reversal, on two threads.
 fn exchanges_both(len: usize, row_width: usize, number: usize, parts: [(usize, usize); 2]) {
     let mut list: Vec<usize> = (0..len).collect();
     let mut phases = Phases::new(&mut list, row_width, 1, 0).unwrap();
@@ -89,7 +89,7 @@ fn exchanges_both(len: usize, row_width: usize, number: usize, parts: [(usize, u
     run_both(phases.next_phase().unwrap(), cuts, Parts::exchange);
 }
 
-/// Of 64 columns the first 32, and of these the last 16.
+/// The first 32 of 64 columns, and the last 16 of these.
 #[test]
 #[ignore = "a race, which a detector has to report"]
 fn overlapping_regions() {
@@ -103,14 +103,14 @@ fn overlapping_regions() {
     run_both(parts, cuts, Parts::put);
 }
 
-/// Of 8 line pairs the first 4, and of the last of these and of two more, in rows of three items.
+/// The first 4 of 8 line pairs, and the last of these with two more, in rows of three items.
 #[test]
 #[ignore = "a race, which a detector has to report"]
 fn overlapping_ranges() {
     exchanges_both(3 << 8, 3, 0, [(2, 0), (3, 1)]);
 }
 
-/// Of a square of 64 by 64 items a block of 32 by 32 on the diagonal, and one of 16 by 16 within it.
+/// In a square of 64 by 64 items, a block of 32 by 32 on the diagonal, and a block of 16 by 16 within it.
 #[test]
 #[ignore = "a race, which a detector has to report"]
 fn overlapping_blocks() {

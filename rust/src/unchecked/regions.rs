@@ -1,4 +1,4 @@
-//! What the parts of a transpose read: each item once, in the order of their strips. No test of results sees either.
+//! What the parts of a transpose read: each item once, in the order of their strips. Tests of results notice neither.
 
 use core::cell::RefCell;
 use core::mem::discriminant;
@@ -27,7 +27,7 @@ impl Source for Noted<'_> {
     }
 }
 
-/// The places that `call` reads, in order, of the numbers below `len`.
+/// The places of the numbers below `len` that `call` reads, in order.
 fn reads(len: usize, call: impl FnOnce(&[usize], &mut [usize], Noted)) -> Vec<usize> {
     let items: Vec<usize> = (0..len).collect();
     let mut output = items.clone();
@@ -72,7 +72,7 @@ fn strips_of_the_parts() {
     }
 }
 
-/// The parts have the strips of the call, which for large items are others than the kernels' own.
+/// The parts have the strips of the call, which are not the kernels' own for large items.
 #[test]
 fn strips_of_the_call() {
     fn is_of_call<T: Copy>(item: T, width: usize, height: usize) -> bool {

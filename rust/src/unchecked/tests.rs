@@ -1,5 +1,5 @@
-//! What each step of a holder of a slice does, and that its condition is tested: with debug assertions, and where the feature
-//! `checked` is on.
+//! What each step of a holder of a slice does, and that its precondition is checked with debug assertions and with the
+//! feature `checked`.
 
 use std::boxed::Box;
 use std::fmt::Debug;
@@ -9,8 +9,8 @@ use super::{SliceCells, SlicePlaces, SliceSource};
 use crate::kernels::places::{Cells, Four, Places, Source};
 use crate::kernels::transpose::{Matrix, Strips, transpose_matrix, transpose_square};
 
-/// What a call leaves of the numbers below 6, each as an item of five bytes. Of these std tests, where it is asked to, that no
-/// place is borrowed twice.
+/// The result of a call on the numbers below 6, each as an item of five bytes. If it is asked to, std checks for these
+/// that no place is borrowed twice.
 fn left(call: impl FnOnce(&mut SlicePlaces<[u8; 5]>)) -> [u8; 6] {
     let mut list = [0, 1, 2, 3, 4, 5].map(|number| [number; 5]);
     call(&mut SlicePlaces::new(&mut list));
@@ -32,7 +32,7 @@ fn exchanges_of_runs() {
     assert_eq!(left(|places| places.exchange_runs(6, 0, 0)), [0, 1, 2, 3, 4, 5]);
 }
 
-/// Compares what a call leaves of the first `len` items with those that `wanted` numbers.
+/// Compares the result of a call on the first `len` items with the items that `wanted` numbers.
 fn leaves<T: Debug + PartialEq>(
     len: usize,
     item: impl Fn(usize) -> T,
@@ -80,7 +80,7 @@ fn turns<T: Debug + PartialEq>(item: impl Fn(usize) -> T) {
     }
 }
 
-/// Floats that are the same where their bits are.
+/// Floats that are equal if their bits are.
 #[derive(Clone, Copy, Debug)]
 struct Float(f32);
 
@@ -88,7 +88,7 @@ struct Float(f32);
 struct Double(f64);
 
 impl Float {
-    /// Most of these are no numbers, with bits that a calculation would change.
+    /// Most of these are NaNs, with bits that a calculation would change.
     fn odd(number: usize) -> Self {
         Float(f32::from_bits(0x7f80_0000 ^ number as u32))
     }
@@ -142,7 +142,7 @@ fn four_at_once() {
     assert_eq!(list, [0, 6, 7, 8, 9, 5]);
 }
 
-/// Whether a block of such items is turned.
+/// Whether a block of such items is transposed.
 fn is_turned<T: Copy + PartialEq>(item: impl Fn(u8) -> T) -> bool {
     let four = |items: [u8; 4]| {
         let [a, b, c, d] = items.map(&item);
@@ -166,7 +166,8 @@ fn is_turned<T: Copy + PartialEq>(item: impl Fn(u8) -> T) -> bool {
 fn turned_blocks() {
     let names: Vec<_> = (0..16).map(|number| std::format!("{number}")).collect();
     assert!(is_turned(|i| i) && is_turned(u128::from));
-    // All bytes of an item differ from those of others, and some items have bytes that are never written, or are references.
+    // All bytes of an item differ from those of the others. Some items have bytes that are never written, and some are
+    // references.
     assert!(is_turned(|i| [i, i + 16, i + 32, i + 48]) && is_turned(|i| (i, u16::from(i) << 4)));
     assert!(
         is_turned(|i| [0, 16, 32, 48, 64, 80, 96, 112].map(|part| i + part)) && is_turned(|i| (i, u32::from(i) << 9))
@@ -240,8 +241,8 @@ fn blocks_of_parts() {
     }
 }
 
-/// Each shuffle alone. The items of the first operand are named by the first numbers, and no two bytes are the same. So the result
-/// says of each place of both operands where it goes.
+/// Each shuffle alone. The items of the first operand have the first numbers, and no two bytes are equal. So the result
+/// shows where each item of both operands goes.
 #[cfg(not(feature = "checked"))]
 #[test]
 fn shuffles() {
@@ -313,7 +314,7 @@ mod refused {
         ] {
             assert!(blocks(i, j, stride), "{i} {j} {stride}");
         }
-        // Blocks that overlap are refused where no feature exchanges them item by item.
+        // Blocks that overlap are refused, unless the feature `checked` exchanges them item by item.
         #[cfg(not(feature = "checked"))]
         for (i, j, stride) in [(0, 15, 4), (16, 0, 4), (0, 0, 4), (0, 16, 3), (0, 0, 0)] {
             assert!(blocks(i, j, stride), "{i} {j} {stride}");
@@ -343,7 +344,7 @@ mod refused {
     }
 }
 
-/// With the feature `checked` a share of a list has its own places alone, by their numbers in the list.
+/// With the feature `checked` a share of a list has only its own places, with the numbers that they have in the list.
 #[cfg(feature = "checked")]
 #[test]
 fn shares() {

@@ -1,8 +1,9 @@
-//! A reference to a holder is a holder too: what is done to the reference is done to the holder behind it.
+//! References to holders. Such a reference is a holder too: whatever is done to the reference is
+//! done to the holder behind it.
 
 use crate::kernels::places::{Cells, Places, Source};
 
-/// The exchanges are those of the holder behind the reference.
+/// The holder behind the reference makes the exchanges.
 impl<S: Places> Places for &mut S {
     type Item = S::Item;
 
@@ -36,7 +37,7 @@ impl<S: Places> Places for &mut S {
     }
 }
 
-/// The puts are those of the holder behind the reference.
+/// The holder behind the reference makes the puts.
 impl<C: Cells> Cells for &mut C {
     type Item = C::Item;
 
@@ -50,7 +51,7 @@ impl<C: Cells> Cells for &mut C {
     }
 }
 
-/// The items are those of the source behind the reference.
+/// The items are read from the source behind the reference.
 impl<R: Source> Source for &R {
     type Item = R::Item;
 
