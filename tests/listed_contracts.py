@@ -3,7 +3,7 @@ hand. tests/contracts.txt has the public contracts of the crates that docs/CONTR
 
     python3 tests/listed_contracts.py >tests/contracts.txt
 
-writes the second one anew, after each line that differs was looked at."""
+writes the second list again. Look at each line that differs first."""
 import dataclasses
 import difflib
 import glob

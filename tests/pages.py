@@ -1,5 +1,6 @@
 """For tests/agree: compares the pages with the code: the functions that blocks of Rust quote, the clauses that MODEL names, the
-constants of ARCHITECTURE's table and of sentences, and each link, file and name; and the modules with the files."""
+numbers of ARCHITECTURE's table and of sentences, and each link, file and name; the modules with the files; and the heads of
+specs with the contracts that stand on them."""
 import functools
 import itertools
 import os
@@ -55,7 +56,7 @@ bare = {path: in_one_line(text) for path, text in sources.items()}
 
 
 def difference(quoted, name):
-    """Where a quoted function departs from the source that agrees with it longest, and None where it is the source's."""
+    """Where a quoted function departs from the source that agrees with it longest, and None if it is the source's."""
     one_line = in_one_line(quoted)
     has_body = re.search(r"^\{\n(.*\n)*\}$", quoted, re.M)
     said = one_line[re.search(rf"(?<=fn ){name}\b", one_line).start():]
@@ -94,7 +95,7 @@ def check_edits():
 
 
 def check_clauses():
-    """The clauses that a row of MODEL names in brackets are clauses of the calls that it names beside them."""
+    """The clauses that a row of MODEL names in brackets are clauses of the calls that it names."""
     page, labels = "docs/MODEL.md", {}
     for _, function in (found for path in sources for found in functions_of(path)):
         labels.setdefault(function.name(), set()).update(function.labels())
@@ -108,7 +109,7 @@ def check_clauses():
 
 
 def number(text):
-    """The number that an expression of Rust, a page or a comment writes, and None where it is none."""
+    """The number that an expression of Rust, a page or a comment writes, and None if it writes none."""
     text = {"two": "2", "three": "3", "four": "4", "eight": "8", "sixteen": "16"}.get(text, text).replace("_", "").replace("^", "**")
     return eval(text) if re.fullmatch(r"[\d ()<*+-]+", text) else None
 
@@ -140,8 +141,8 @@ def check_table_of_constants(known):
 
 
 def values_of(name, crate, known):
-    """The values of a constant: of this crate, or else of the crates and the package that ARCHITECTURE's table is about. Or the
-    numbers of a clause, if the name is FUNCTION.CLAUSE."""
+    """The values of a constant of this crate, or, if no crate is given, of what ARCHITECTURE's table is about. For a name as
+    FUNCTION.CLAUSE these are the numbers of the clause."""
     function, _, clause = name.partition(".")
     if clause:
         said = {text for path in sources if f"fn {function}" in sources[path] for _, declared in functions_of(path)
@@ -152,7 +153,7 @@ def values_of(name, crate, known):
 
 
 def wanted_number(expression, known, clauses):
-    """The number of an expression over names, and the names that have not one value. Each name of a clause takes its next number."""
+    """The number of an expression over names, and the names that do not have one value. A clause gives its numbers in order."""
     unknown = []
 
     def value(found):
@@ -220,12 +221,12 @@ def check_links_and_names():
                 for name in re.findall(r"(?<!\w)[A-Za-z]\w*", code):
                     # An N at the end stands for the size of an item.
                     if len(name) > 3 and re.sub("_N$", "_8", name) not in words and not re.fullmatch("[0-9a-f]{16}", name):
-                        yield place(page, token.start(), f"no name {name}. Where it is none of this repository, tests/pages.py names it")
+                        yield place(page, token.start(), f"no name {name}. If it is not of this repository, add it to tests/pages.py")
 
 
 def check_modules():
-    """Each source is a module of the file above it. Else it would not be compiled, and its tests would not run. What `rust/test`
-    compiles alone is none."""
+    """Each source is a module of the file above it. Otherwise it would not be compiled, and its tests would not run. What
+    `rust/test` compiles alone is no module."""
     for path in tracked:
         file = re.fullmatch(r"((?:crates/\w+|rust|tests/unproved)/(?:src|tests)\b.*)/(?!(?:lib|main|mod)\.)(\w+)(\.rt|\.rs|\.rt\.in)", path)
         if not file or path.startswith("rust/tests/assembly/"):

@@ -1,11 +1,11 @@
 #!/usr/bin/env bash
-# Compares what refuses each edit with the line `# refused by FUNCTION GOAL` of its head, in what `rt ci` or `rt must-fail`
-# prints, and lists them as `crate/edit  function  goal`:
+# Compares what refuses each edit with the line `# refused by FUNCTION GOAL` in its head. It reads what `rt ci` or `rt must-fail`
+# prints, and lists the refusals as `crate/edit  function  goal`:
 #   rt must-fail p3_util | tests/refusals.sh
 #   rt ci | tests/refusals.sh CRATE..
-# Of several open goals it is the first that `rt` names. `rt check --only FUNCTION` over the edited source names all. An edit
-# fails that has no such line, or that something else refuses, or of which nothing is said. Each edit is looked for of the
-# crates that are named, and with no name of those of which anything is said.
+# If several goals are open, `rt` names the first. `rt check --only FUNCTION` over the edited source names all of them. An edit fails
+# if it has no such line, if something else refuses it, or if the output does not mention it. The edits of the crates that are named
+# are looked for, or, if none is named, those of each crate that the output mentions.
 set -euo pipefail
 cd "$(dirname "$0")/.."
 bad=0

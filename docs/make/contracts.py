@@ -1,6 +1,7 @@
 """Prints docs/CONTRACTS.md: the public calls of p3_util and p3_util_kernels with their clauses, the public types with their
 fields, and the public traits with what their implementations say of them, all as the sources have it. So a clause that goes, or a
-condition that comes, is seen. The parts that calls are cut into, which are no public calls, have a section of their own."""
+condition that comes, is seen. Functions that no other crate can call, but that the package's unsafe code calls, have a section
+of their own, with the definitions that their clauses stand on."""
 import glob
 import re
 import sys
@@ -13,35 +14,38 @@ KERNELS = "crates/p3_util_kernels/src/"
 MODULES = ["reverse", "transpose", "places", "bits", "laws", "chunks", "views", "linear_map", "zip_eq", "array_serialization"]
 HEAD = """# Contracts
 
-This page lists each public call of `p3_util` with its arguments, its conditions (`requires`) and what it promises
-(`ensures`), as the sources have them. [CALLING](CALLING.md) says how such a clause is read, and shows each module in
-use. [MODEL](MODEL.md) says what the words of a clause mean. The headings are modules of `p3_util`, and what its
-`lib.rt` uses from them is at its root too.
+This page lists each public call of `p3_util` with its arguments, its preconditions (`requires`) and its promises
+(`ensures`), as the sources have them. [CALLING](CALLING.md) explains how to read a clause, and shows each module in use.
+[MODEL](MODEL.md) defines the names that clauses use. The headings are the modules of `p3_util`. What its `lib.rt`
+re-exports is at its root too.
 
-A struct is listed with its private fields too, since a clause may name them. Where a type implements a trait, the lines
-below say what a clause sees of that type. `rt check` in the folder of a crate that calls these proves what they ask, or
-names what is open. [What makes parts safe](#what-makes-parts-safe) has functions of the kernels alone, which no other
-crate can call. The page is made by `python3 docs/make/contracts.py >docs/CONTRACTS.md`."""
+A struct is listed with its private fields too, since a clause may name them. If a type implements a trait, the lines below
+the implementation say what a clause sees of that type. In a crate that calls these functions, `rt check` proves their
+preconditions, or names those that are open. The section [What makes parts safe](#what-makes-parts-safe) lists functions of
+the kernels that no other crate can call. The page is made by `python3 docs/make/contracts.py >docs/CONTRACTS.md`."""
 PARTS = """
 ## What makes parts safe
 
-The package calls these functions of `p3_util_kernels` from its unsafe code, which tests no index: it relies on their conditions
-and on what they promise. The list has each function that `rust/src/unchecked.rs` calls, directly or by way of `kernels/parts.rs`,
-except the public ones above. No other crate can call them. The functions of `parts/laws.rt`, and of the files below it, are there
-for their contracts. Each runs parts of a call by the functions that the call uses, so what it says of the indices of their steps
-holds for the parts of that call."""
+The package calls these functions of `p3_util_kernels` from its unsafe code, which does not test indices. It relies on what they
+need and on what they promise. The list has each function that `rust/src/unchecked.rs` calls, directly or through
+`kernels/parts.rs`, except for the public ones above.
+
+The functions of `parts/laws.rt` and of the files below it are theorems: each is there for its contract, and no call of the
+package runs it. Those that run parts of a call do so by the same functions as the call, so what they say of the indices of their
+steps holds for the parts of that call."""
 CITED = """
 ### Definitions that these clauses stand on
 
-They are given without their comments. [MODEL](MODEL.md) says what they mean.
+They are given without their comments. [MODEL](MODEL.md) explains them.
 
 ```text"""
 WORDS = """
-## Where the words of clauses are
+## Where the names in clauses come from
 
-A crate that says one of these words in a clause imports it by `ghost use MODULE.{WORD};`.
+A crate that uses one of these names in a clause imports it by `ghost use MODULE.{NAME};`.
 
 ```text"""
+CALL = re.compile(r"(?:(\w+)::|(\.))?\b([a-z]\w*)(?:::<[^()]*>)?\(")
 
 
 def line(indent, code):
@@ -143,8 +147,7 @@ def sections():
 
 def calls(text):
     """What a text of Rust calls: of each call its name, and before that the type it is called by, a dot, or nothing."""
-    found = re.findall(r"(?:(\w+)::|(\.))?\b([a-z]\w*)(?:::<[^()]*>)?\(", text)
-    return {(dot or (owner if owner[:1].isupper() else ""), name) for owner, dot, name in found}
+    return {(dot or (owner if owner[:1].isupper() else ""), name) for owner, dot, name in CALL.findall(text)}
 
 
 def callers():
@@ -156,7 +159,8 @@ def callers():
 
 
 def called_kernels():
-    """Each function of the kernels that the package calls, directly or by way of parts: its file, its owner's name and itself."""
+    """Each function of the kernels that the package calls, directly or through parts: its file, its owner's name and itself. A
+    method is found by its name, if the file that calls it names its type."""
     paths = [path for path in sorted(glob.glob(f"{KERNELS}**/*.rt", recursive=True)) if "laws" not in path]
     known = [(path, owner, declared) for path in paths for owner, declared in functions(read(path)) if declared.seen_by or not owner]
     found, texts = [], [(read(path), read(path)) for path in callers()]
@@ -164,7 +168,7 @@ def called_kernels():
         called, words = calls(body), set(re.findall(r"\w+", file))
         for path, owner, declared in known:
             ways = {(way, declared.name()) for way in ((owner, ".", "Self") if owner else ("",))}
-            if called & ways and {declared.name() if not owner else owner} <= words and (path, owner, declared) not in found:
+            if called & ways and (owner or declared.name()) in words and (path, owner, declared) not in found:
                 found.append((path, owner, declared))
                 if path.startswith(f"{KERNELS}parts"):
                     texts.append((declared.body, read(path)))

@@ -2,9 +2,9 @@
 
     python3 docs/make/definitions.py
 
-A table has each word of its crate that a clause of a public call, or of a law on parts, names, and each that the comment of
-such a word names in backquotes. The comment is the row's text. Its last sentence `Source: ..` says what the definition was made
-from, and else that of the file's head does."""
+A table has each definition of its crate that a clause of a public call, or of a law on parts, names, and each that the comment of
+such a definition names in backquotes. The comment is the row's text. Its last sentence `Source: ..` says what the definition was
+made from. If there is none, that of the file's head does."""
 import glob
 import re
 import sys

@@ -1,7 +1,8 @@
-"""The text of src/kernels/contracts.rs: what the words of the contracts in the package's documentation mean.
+"""Makes the text of rust/src/kernels/contracts.rs, for rust/erase: what the names in the contracts of the package's documentation
+mean.
 
-The rows of its tables are those of docs/CALLING.md and docs/MODEL.md, as they stand there, for each word that is used. The
-contract that it reads is the one that docs/CALLING.md reads."""
+The rows of its tables are those of docs/CALLING.md and docs/MODEL.md, for each name that a contract uses. The contract that it
+explains clause by clause is the one that docs/CALLING.md explains."""
 import re
 from dataclasses import dataclass
 

@@ -17,7 +17,7 @@ pub use no_room::NoRoom;
 
 pub mod contracts;
 
-/// What a call takes or returns that may need memory, written by hand in the place of Rattle's std.
+/// What a call takes or returns that may need memory, written by hand instead of Rattle's std.
 pub mod memory {
     pub use crate::memory::{AllocError, Global, String};
 }
