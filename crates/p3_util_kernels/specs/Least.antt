@@ -85,8 +85,8 @@ abbrev pub LeastReversal : Type 0 → Type 0
 LeastReversal A = (k : ℕ) (xs : List A) (steps : List (ℕ × ℕ)) → length xs ≡ 2 ^ k → AllDiffer xs
     → IsReversal xs (after_swaps xs steps) → short_swaps k ≤ length steps
 
--- any list of exchanges that transposes a square of different items has at least `square_swaps
--- side` exchanges
+-- any list of exchanges that transposes a square of different items has at least
+-- `square_swaps side` exchanges
 abbrev pub LeastSquare : Type 0 → Type 0
 LeastSquare A = (side : ℕ) (xs : List A) (steps : List (ℕ × ℕ)) → length xs ≡ side * side → AllDiffer xs
     → IsTranspose side side xs (after_swaps xs steps) → square_swaps side ≤ length steps

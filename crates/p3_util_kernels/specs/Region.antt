@@ -30,9 +30,9 @@ cols_of region = region.col_end - region.col_start
 abbrev pub items_of : Region → ℕ
 items_of region = rows_of region * cols_of region
 
--- `input` has `height` rows of `width` items. For each row y and column x of the region, place `x *
--- height + y` of `new` holds the item at place `y * width + x` of `input`. Every other place holds
--- what it held in `old`.
+-- `input` has `height` rows of `width` items. For each row y and column x of the region, place
+-- `x * height + y` of `new` holds the item at place `y * width + x` of `input`. Every other place
+-- holds what it held in `old`.
 -- Source: the rectangular transposes of p3-util 0.8.0.
 pub record IsRegionTransposed {A : Type 0} (region : Region) (width height : ℕ) (input old new : List A) : Type 0 where
   pub same_length : length new ≡ length old
