@@ -73,14 +73,16 @@ const BLOCKS_GAP: core::ops::RangeInclusive<usize> = (1 << 18) + 1..=1 << 20;
 pub(crate) fn strips_of<R: Source + Copy>(matrix: Matrix<R>) -> Strips {
     let (width, height, items) = (matrix.width, matrix.height, matrix.source.len());
     let item_size = size_of::<R::Item>();
-    let fits_registers = match item_size {
-        4 => !BLOCKS_GAP.contains(&items) || width % 16 == 0,
-        8 => items <= BLOCKS_LONG_ITEMS,
-        _ => false,
-    };
-    let has_blocks = width.min(height) >= BLOCKS_SIDE && (items >= BLOCKS_ITEMS || (width | height) % 4 == 0);
+    // The side is asked first, since it is all that small matrices wait for.
+    let has_blocks = width.min(height) >= BLOCKS_SIDE
+        && match item_size {
+            4 => !BLOCKS_GAP.contains(&items) || width % 16 == 0,
+            8 => items <= BLOCKS_LONG_ITEMS,
+            _ => false,
+        }
+        && (items >= BLOCKS_ITEMS || (width | height) % 4 == 0);
     let is_wide = matches!(item_size, 32 | 64) && height % (WIDE_COLUMN_BYTES / item_size) == 0;
-    if unchecked::TURNS_IN_REGISTERS && fits_registers && has_blocks {
+    if unchecked::TURNS_IN_REGISTERS && has_blocks {
         Strips::Blocks
     } else if is_wide && items > WIDE_ITEMS && width >= WIDE_COLUMNS {
         Strips::Wide
