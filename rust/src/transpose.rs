@@ -19,9 +19,24 @@ const WIDE_COLUMN_BYTES: usize = 4096;
 /// The item at `input[y * width + x]` is written to `output[x * height + y]`. The kernel is that of
 /// [`kernels::transpose::transpose`](crate::kernels::transpose::transpose), whose contract says this.
 ///
+/// ```
+/// use p3_util_proved::transpose::transpose;
+///
+/// // Two rows of three items become three rows of two.
+/// let input = [1, 2, 3, 4, 5, 6];
+/// let mut output = [0; 6];
+/// transpose(&input, &mut output, 3, 2);
+/// assert_eq!(output, [1, 4, 2, 5, 3, 6]);
+/// ```
+///
 /// # Panics
 ///
-/// If one of the lengths is not `width * height`, or if that product overflows.
+/// If one of the lengths is not `width * height`, or if that product overflows:
+///
+/// ```should_panic
+/// // The output has room for five items.
+/// p3_util_proved::transpose::transpose(&[1, 2, 3, 4, 5, 6], &mut [0; 5], 3, 2);
+/// ```
 #[inline]
 #[track_caller]
 pub fn transpose<T: Copy + Send + Sync>(input: &[T], output: &mut [T], width: usize, height: usize) {
