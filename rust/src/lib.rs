@@ -196,9 +196,21 @@ pub const fn assert_sync<T: Sync>() {}
 /// With 2^k items, index `i` gets the item from the index that has the k bits of `i` in reversed order. No item is
 /// cloned or dropped. The kernel is that of [`kernels::reverse::reverse_slice_index_bits`], whose contract says this.
 ///
+/// ```
+/// use p3_util_proved::reverse_slice_index_bits;
+///
+/// let mut list = ["000", "001", "010", "011", "100", "101", "110", "111"];
+/// reverse_slice_index_bits(&mut list);
+/// assert_eq!(list, ["000", "100", "010", "110", "001", "101", "011", "111"]);
+/// ```
+///
 /// # Panics
 ///
-/// If the length is neither zero nor a power of two.
+/// If the length is neither zero nor a power of two:
+///
+/// ```should_panic
+/// p3_util_proved::reverse_slice_index_bits(&mut [0, 1, 2, 3, 4, 5]);
+/// ```
 #[inline]
 #[track_caller]
 pub fn reverse_slice_index_bits<F: Send + Sync>(vals: &mut [F]) {
