@@ -44,8 +44,8 @@
 //! - `checked`: the kernels check each index of a slice, and this crate has no unsafe code. Results are the same. Cargo
 //!   enables a feature for the whole program if one crate asks for it.
 //!
-//! No feature is on by default. The crate is `no_std` with `alloc`, has no dependency and no build script, and starts no
-//! thread. [`parts`] cuts a call into parts for threads of your own.
+//! No feature is on by default. The crate is `no_std` with `alloc`, has no dependency and no build script, and starts
+//! no thread. [`parts`] cuts a call into parts for threads of your own.
 #![no_std]
 #![cfg_attr(feature = "checked", forbid(unsafe_code))]
 #![cfg_attr(not(feature = "checked"), deny(unsafe_code))]
