@@ -1,7 +1,7 @@
-//! A plugin of qemu-aarch64. Each time that the program writes to its output, it logs how many instructions the program
-//! has executed.
+//! A plugin for qemu-aarch64. Each time the program writes to its output, the plugin logs how many instructions the
+//! program has executed.
 //!
-//! Debian has no header of qemu's for plugins, so what is used of it is declared here, as qemu 7.2 has it.
+//! Debian has no header for qemu's plugins, so the parts that are used are declared here, as in qemu 7.2.
 
 use std::ffi::{CString, c_char, c_int, c_uint, c_void};
 use std::ptr::without_provenance_mut;
@@ -26,13 +26,13 @@ unsafe extern "C" {
     fn qemu_plugin_outs(text: *const c_char);
 }
 
-/// The numbers of the system's call `write` on aarch64, and of the program's output.
+/// The number of the system call `write` on aarch64, and the file descriptor of the program's output.
 const WRITE: i64 = 64;
 const OUTPUT: u64 = 1;
 
 static EXECUTED: AtomicU64 = AtomicU64::new(0);
 
-/// The version of qemu's interface.
+/// The version of qemu's plugin interface.
 #[unsafe(no_mangle)]
 pub static qemu_plugin_version: c_int = 1;
 
@@ -43,7 +43,8 @@ pub extern "C" fn qemu_plugin_install(plugin: Plugin, _: *const c_void, _: c_int
     0
 }
 
-/// Asks to be called whenever the block of instructions is executed, with their number in the place of a pointer.
+/// Asks qemu to call `executed` whenever the block of instructions is executed, and to pass the number of instructions
+/// instead of a pointer.
 extern "C" fn translated(_: Plugin, block: *mut Block) {
     const NO_REGISTERS: c_int = 0;
     // SAFETY: qemu lends the block while this function runs, and nothing reads through `data`.

@@ -113,8 +113,20 @@ static int check_bits(void) {
     CHECK(p3_util_log2_strict(1024, &number) && number == 10);
     CHECK(p3_util_log3_strict(531441, &number) && number == 12);
     CHECK(p3_util_log3_strict(1594323, &number) && number == 13);
-    CHECK(p3_util_log3_strict(12157665459056928801ULL, &number) && number == 40);
     CHECK(p3_util_reverse_bits_len(11, 5, &number) && number == 26);
+    return 0;
+}
+
+/* Numbers of more than 32 digits, as arguments and as an answer. */
+static int check_long_words(void) {
+    size_t long_word = (size_t)1 << 40, number = 7;
+    CHECK(p3_util_log2_ceil(long_word) == 40 && p3_util_log2_ceil(long_word + 1) == 41);
+    CHECK(p3_util_log2_floor(long_word) == 40 && p3_util_log2_floor(long_word - 1) == 39);
+    CHECK(p3_util_log2_strict(long_word, &number) && number == 40 && !p3_util_log2_strict(long_word + 1, &number));
+    CHECK(p3_util_log3_strict(12157665459056928801ULL, &number) && number == 40);
+    CHECK(!p3_util_log3_strict(long_word + 1, &number) && number == 40);
+    CHECK(p3_util_reverse_bits_len(long_word + 1, 42, &number) && number == long_word * 2 + 2);
+    CHECK(!p3_util_reverse_bits_len(1, long_word, &number) && number == long_word * 2 + 2);
     return 0;
 }
 
@@ -140,6 +152,9 @@ static int check_split(size_t size, transpose_call *transpose) {
 
 int main(void) {
     int status = check_bits();
+    if (!status) {
+        status = check_long_words();
+    }
     if (status) {
         return status;
     }

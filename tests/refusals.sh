@@ -1,11 +1,11 @@
 #!/usr/bin/env bash
-# Compares what refuses each edit with the line `# refused by FUNCTION GOAL` of its head, in what `rt ci` or `rt must-fail`
-# prints, and lists them as `crate/edit  function  goal`:
+# Compares what refuses each edit with the line `# refused by FUNCTION GOAL` in its head. It reads what `rt ci` or `rt must-fail`
+# prints, and lists the refusals as `crate/edit  function  goal`:
 #   rt must-fail p3_util | tests/refusals.sh
 #   rt ci | tests/refusals.sh CRATE..
-# Of several open goals it is the first that `rt` names. `rt check --only FUNCTION` over the edited source names all. An edit
-# fails that has no such line, or that something else refuses, or of which nothing is said. Each edit is looked for of the
-# crates that are named, and with no name of those of which anything is said.
+# If several goals are open, `rt` names the first. `rt check --only FUNCTION` over the edited source names all of them. An edit fails
+# if it has no such line, if something else refuses it, or if the output does not mention it. The edits of the crates that are named
+# are looked for, or, if none is named, those of each crate that the output mentions.
 set -euo pipefail
 cd "$(dirname "$0")/.."
 bad=0
@@ -14,13 +14,6 @@ bad=0
 fail() {
     echo "$1: ${*:2}" >&2
     bad=1
-}
-
-# The last function that begins at or above a line of a source file. An attribute belongs to the function below it.
-function_at() {
-    local line=$2
-    while sed -n "${line}p" "$1" | grep -q '^ *#\['; do line=$((line + 1)); done
-    head -n "$line" "$1" | sed -nE 's/^ *(pub(\([a-z]+\))? )?(const )?(extern "C" )?fn ([a-z0-9_]+).*/\5/p' | tail -n 1
 }
 
 edit_line='must-fail ([a-z0-9_]+)/([A-Za-z0-9_.-]+)\.edit: (.*)'
@@ -37,7 +30,7 @@ while IFS= read -r line; do
         function=${BASH_REMATCH[1]} goal=${BASH_REMATCH[2]} end=${BASH_REMATCH[3]}
     elif [[ $said =~ $in_source ]]; then
         file=${BASH_REMATCH[1]} number=${BASH_REMATCH[2]} goal=${BASH_REMATCH[3]} end=${BASH_REMATCH[4]}
-        function=$file/$(function_at "crates/$crate/src/$file.rt" "$number")
+        function=$file/$(python3 -B docs/make/rattle_source.py "crates/$crate/src/$file.rt" "$number")
     else
         function='' goal=$said end='`'
     fi

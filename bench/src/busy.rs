@@ -1,11 +1,11 @@
-//! Other processes that are busy while something is measured.
+//! Other processes that keep the processors busy during a measurement.
 
 use std::process::{Child, Command};
 
-/// What such a process does until it is ended, or until this one is gone.
+/// What such a process does until it is killed, or until this program ends.
 const WORK: &str = "while kill -0 $PPID; do n=0; while [ $n -lt 100000 ]; do n=$((n + 1)); done; done";
 
-/// Busy processes, which end when this is dropped.
+/// Busy processes, which are killed when this value is dropped.
 pub struct Busy(Vec<Child>);
 
 impl Busy {
@@ -22,7 +22,7 @@ impl Busy {
 impl Drop for Busy {
     fn drop(&mut self) {
         for child in &mut self.0 {
-            // One that has ended already is no fault.
+            // A process that has already ended is not an error.
             let _ = child.kill();
             let _ = child.wait();
         }

@@ -1,4 +1,4 @@
-//! What is measured of the calls on slices: a call, an item's size and a shape.
+//! The cases that are measured for the calls on slices: a call, an item's size and a shape.
 
 use std::ops::RangeBounds;
 
@@ -7,14 +7,14 @@ use crate::options::{Options, SHAPES, WIDE_SHAPES};
 /// The names of the calls.
 pub const CALLS: [&str; 3] = ["reverse", "rows", "transpose"];
 
-/// The name of a group that cases are summed up in, and whether a case is in it.
+/// The name of a group of cases that are summarized together, and whether a case is in it.
 pub type Group = (&'static str, fn(Work) -> bool);
 
 /// A case may be in several groups.
 const GROUPS: &[Group] = &[
     ("reversals of up to 2^13 items", |it| it.is("reverse", ..=1 << 13)),
     ("reversals of more items", |it| it.is("reverse", 1 << 14..)),
-    ("rows, beside a copy", |it| it.is("rows", ..)),
+    ("rows, compared with a copy", |it| it.is("rows", ..)),
     ("transposes of up to 8x8 items", |it| it.is("transpose", ..=64)),
     ("transposes of 65 to 2^20 items", |it| it.is("transpose", 65..=1 << 20)),
     ("transposes of up to 2^20 items", |it| it.is("transpose", ..=1 << 20)),
@@ -24,7 +24,7 @@ const GROUPS: &[Group] = &[
     ("transposes of wide matrices", |it| it.is_among(WIDE_SHAPES)),
 ];
 
-/// What is summed up of calls on several threads.
+/// The groups for calls on several threads.
 const GROUPS_ON_THREADS: &[Group] = &[
     ("reversals of up to 2^18 items", |it| it.is("reverse", ..=1 << 18)),
     ("reversals of 2^19 items", |it| it.is("reverse", 1 << 19..1 << 20)),
@@ -75,7 +75,7 @@ impl Case {
         }
     }
 
-    /// Whether a row is of whole items.
+    /// Whether a row consists of whole items.
     fn is_whole(&self) -> bool {
         match self.work {
             Work::Rows { bytes, .. } => bytes.is_multiple_of(self.item_size),
@@ -83,7 +83,7 @@ impl Case {
         }
     }
 
-    /// The number of items of a row that moves as one: of more than one for rows alone.
+    /// The number of items of a row that moves as a whole. Only the call on rows has more than one.
     pub fn row_width(&self) -> usize {
         match self.work {
             Work::Rows { bytes, .. } => bytes / self.item_size,
@@ -91,7 +91,7 @@ impl Case {
         }
     }
 
-    /// The index that the item at place `i` comes from, by the definitions alone.
+    /// The index that the item at index `i` comes from, computed from the definitions alone.
     pub fn source(&self, i: usize) -> usize {
         let row_width = self.row_width();
         self.work.source(i / row_width) * row_width + i % row_width
@@ -107,7 +107,7 @@ impl Work {
         }
     }
 
-    /// The number of items, or of rows, that move.
+    /// The number of items that move, or of rows.
     pub fn units(self) -> usize {
         match self {
             Work::Reverse { log } | Work::Rows { log, .. } => 1 << log,
@@ -115,7 +115,7 @@ impl Work {
         }
     }
 
-    /// Whether this is such a call with so many units.
+    /// Whether this is the given call with a number of units in the given range.
     fn is(self, call: &str, units: impl RangeBounds<usize>) -> bool {
         self.call() == call && units.contains(&self.units())
     }
@@ -128,7 +128,7 @@ impl Work {
         }
     }
 
-    /// The shape, and of a transpose the number of its items in brackets.
+    /// The shape, and for a transpose also the number of its items in brackets.
     pub fn sized_shape(self) -> String {
         match self {
             Work::Transpose { .. } => format!("{} ({})", self.shape(), self.units()),
@@ -136,12 +136,12 @@ impl Work {
         }
     }
 
-    /// Whether this is a transpose of one of these shapes, as the command line gives them.
+    /// Whether this is a transpose of one of these shapes, which are written as on the command line.
     fn is_among(self, shapes: &str) -> bool {
         self.is("transpose", ..) && shapes.split(',').any(|shape| shape == self.shape())
     }
 
-    /// The index that the item, or the row, at place `i` comes from.
+    /// The index that the item, or the row, at index `i` comes from.
     fn source(self, i: usize) -> usize {
         match self {
             Work::Reverse { log: 0 } | Work::Rows { log: 0, .. } => i,
@@ -173,7 +173,7 @@ pub fn chosen(options: &Options) -> Vec<Case> {
     cases
 }
 
-/// The different values, in the order in which they first come.
+/// The distinct values, in the order of their first occurrences.
 pub fn distinct<T: PartialEq>(values: impl Iterator<Item = T>) -> Vec<T> {
     let mut list = Vec::new();
     for value in values {

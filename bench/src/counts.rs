@@ -1,9 +1,9 @@
-//! Instructions, which others count while the calls are made: callgrind, or the emulator's plugin.
+//! Counts of instructions. Another program counts them while the calls are made: callgrind, or the emulator's plugin.
 
 use std::path::Path;
 
-/// Has each contender do its task as many times as each number of `calls` says. Prints a line before each of these and
-/// one after the last, for whoever counts from line to line.
+/// Lets each contender do its task as many times as each number of `calls` says. Prints a line before each of these
+/// runs and one after the last, for a program that counts from line to line.
 pub fn count(contenders: usize, calls: &[u32], runner: &mut dyn FnMut(usize, u32)) {
     for contender in 0..contenders {
         for &times in calls {
@@ -14,14 +14,14 @@ pub fn count(contenders: usize, calls: &[u32], runner: &mut dyn FnMut(usize, u32
     }
 }
 
-/// callgrind collects inside this function alone.
+/// callgrind counts only inside this function.
 #[unsafe(no_mangle)]
 #[inline(never)]
 fn bench_counted(work: &mut dyn FnMut()) {
     work();
 }
 
-/// The numbers of the file, which has a line for each contender of each task.
+/// The numbers in the file, which has a line for each contender of each task.
 pub fn read(contenders: impl Iterator<Item = usize>, file: &Path) -> Result<Vec<Vec<f64>>, String> {
     let fault = |what: String| format!("{}: {what}", file.display());
     let text = std::fs::read_to_string(file).map_err(|e| fault(e.to_string()))?;

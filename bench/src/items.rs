@@ -13,7 +13,7 @@ use p3_util_proved::reverse_slice_row_index_bits as reverse_rows;
 #[cfg(not(any(library, parallel)))]
 use p3_util_proved::{reverse_slice_index_bits as reverse, transpose::transpose};
 
-/// The calls of the static library, whose conditions hold for each case.
+/// The calls of the static library. Their conditions hold for each case.
 #[cfg(library)]
 mod over_library {
     use crate::library;
@@ -112,7 +112,7 @@ enum Contender {
     Copy,
 }
 
-/// What takes turns at a call. The original has no call for rows.
+/// The contenders for a call, which take turns. The original has no call for rows.
 fn contenders(work: Work) -> &'static [Contender] {
     match work {
         Work::Rows { .. } => &[Contender::Proved, Contender::Copy],
@@ -137,7 +137,7 @@ impl<T: Item> Lists<T> {
         }
     }
 
-    /// Makes the contender's call so many times, each on what the one before left.
+    /// Makes the contender's call so many times, each time on the result of the call before.
     fn run(&mut self, contender: Contender, times: u32) {
         let (from, to, row_width) = (self.from.as_slice(), self.to.as_mut_slice(), self.case.row_width());
         match (contender, self.case.work) {
@@ -176,7 +176,7 @@ impl<T: Item> Lists<T> {
         }
     }
 
-    /// Runs once from the same start and compares the list with what the definition says, item by item.
+    /// Makes one call from the same start and compares the list with the definition, item by item.
     fn check(&mut self, contender: Contender) {
         self.to.copy_from_slice(&self.from);
         self.run(contender, 1);
@@ -198,7 +198,7 @@ fn copy<T: Item>(to: &mut [T], from: &[T]) {
     to.copy_from_slice(from);
 }
 
-/// A copy on all threads.
+/// Copies the list on all threads.
 #[cfg(parallel)]
 fn copy<T: Item>(to: &mut [T], from: &[T]) {
     use rayon::prelude::*;
@@ -208,8 +208,8 @@ fn copy<T: Item>(to: &mut [T], from: &[T]) {
     chunks.for_each(|(to, from)| to.copy_from_slice(from));
 }
 
-/// Makes the call so many times. Each call has a loop of its own, so that little time goes to anything else, and the
-/// compiler cannot know what the call is given.
+/// Makes the call so many times. Each call has a loop of its own, so that little time is spent elsewhere, and the
+/// compiler cannot know the call's arguments.
 #[inline(never)]
 fn repeat<T, R: Copy>(times: u32, to: &mut [T], rest: R, call: impl Fn(&mut [T], R)) {
     for _ in 0..times {

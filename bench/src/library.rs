@@ -1,6 +1,6 @@
 //! The calls of the static library on slices, for a program in Rust. Each returns whether its condition holds.
 //!
-//! `release/users/both.rs` includes it too.
+//! `release/users/both.rs` includes this file too.
 
 use std::ffi::c_void;
 
@@ -51,22 +51,23 @@ calls! { 1 2 4 8 12 16 20 24 32 40 48 64 96 128 160 256 }
 /// Reverses the order of `vals` by index bits.
 pub fn reverse<T: Copy>(vals: &mut [T]) -> bool {
     let calls = const { calls_for(size_of::<T>()) };
-    // SAFETY: the pointer and the length are those of one exclusive slice, whose items have the size in the call's name.
+    // SAFETY: the pointer and the length are those of one exclusive slice, whose items have the size in the function's
+    // name.
     unsafe { (calls.reverse)(vals.as_mut_ptr().cast(), vals.len()) }
 }
 
-/// Reverses the order of the rows of `vals`, each of `row_width` items.
+/// Reverses the order of the rows of `vals`, of `row_width` items each, by index bits.
 pub fn reverse_rows<T: Copy>(vals: &mut [T], row_width: usize) -> bool {
     let calls = const { calls_for(size_of::<T>()) };
     // SAFETY: as in `reverse`.
     unsafe { (calls.reverse_rows)(vals.as_mut_ptr().cast(), vals.len(), row_width) }
 }
 
-/// Writes to `output` the transpose of `input`, a matrix of `height` rows of `width` items.
+/// Writes the transpose of `input`, a matrix of `height` rows of `width` items, to `output`.
 pub fn transpose<T: Copy>(input: &[T], output: &mut [T], width: usize, height: usize) -> bool {
     let calls = const { calls_for(size_of::<T>()) };
     let (from, to) = (input.as_ptr().cast(), output.as_mut_ptr().cast());
-    // SAFETY: the pointers and lengths are those of a shared and of an exclusive slice, whose items have the size in the
-    // call's name.
+    // SAFETY: the pointers and lengths are those of a shared and of an exclusive slice, whose items have the size in
+    // the function's name.
     unsafe { (calls.transpose)(from, input.len(), to, output.len(), width, height) }
 }

@@ -1,5 +1,5 @@
-//! Measures the proved calls beside the original's, where it is linked. Those on slices are measured beside a copy of
-//! the same bytes too.
+//! Measures the proved calls, and compares them with the original's if it is linked. The calls on slices are also
+//! compared with a copy of the same bytes.
 
 mod busy;
 mod cases;

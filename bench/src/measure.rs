@@ -1,20 +1,21 @@
-//! Measures tasks, whatever they are: calls on slices or on words.
+//! Measures tasks, which are calls on slices or calls on integers.
 
 use crate::options::{Mode, Options};
 use crate::{counts, timing};
 
-/// Something that each of several contenders can do, the proved code first.
+/// Something that each of several contenders can do. The first contender is the proved code.
 pub trait Task {
     fn contenders(&self) -> usize;
 
-    /// Makes what the task works on, and looks whether all contenders do the same.
+    /// Prepares the task's data, and checks that all contenders compute the same result.
     fn prepare(&self) -> Runner;
 }
 
-/// Has the contender of this number, from 0 on, do its task so many times.
+/// Lets the contender with this number, counted from 0, do its task so many times.
 pub type Runner = Box<dyn FnMut(usize, u32)>;
 
-/// What each contender takes to do each task: nanoseconds or instructions. `None` where others count the instructions.
+/// What each contender needs for each task: nanoseconds or instructions. `None` if another program counts the
+/// instructions.
 pub fn measured<T: Task>(tasks: &[T], options: &Options) -> Result<Option<Vec<Vec<f64>>>, String> {
     let time = |task: &T| timing::least(task.contenders(), options.runs, &mut *task.prepare());
     let count = |task: &T, calls| counts::count(task.contenders(), calls, &mut *task.prepare());

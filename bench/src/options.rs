@@ -1,4 +1,4 @@
-//! The words of the command line, which `bench/run --help` explains.
+//! The options of the command line, which `bench/run --help` explains.
 
 use std::path::PathBuf;
 use std::str::FromStr;
@@ -10,9 +10,9 @@ use crate::table::Unit;
 pub enum Mode {
     /// Measures times.
     Time,
-    /// Makes so many calls of each contender, and so many, while others count the instructions.
+    /// Makes each of these numbers of calls for each contender while another program counts the instructions.
     Count(Vec<u32>),
-    /// Prints what was counted and is in this file.
+    /// Prints the counts that this file has.
     Counted(PathBuf),
 }
 
@@ -20,7 +20,7 @@ pub struct Options {
     pub mode: Mode,
     pub words: bool,
     pub calls: Vec<String>,
-    /// Sets of sizes, each summed up by itself.
+    /// Sets of sizes, each of which is summarized on its own.
     pub items: Vec<Vec<usize>>,
     pub sizes: Vec<u32>,
     pub rows: Vec<(usize, usize)>,
@@ -29,11 +29,11 @@ pub struct Options {
     pub wide: bool,
     pub svg: Option<PathBuf>,
     pub cpu: Option<String>,
-    /// The number of other processes that are busy meanwhile.
+    /// The number of other processes that are busy during the measurement.
     pub busy: usize,
 }
 
-/// Bytes of a row, and rows. The greatest list has 256 KB.
+/// Bytes of a row, and the number of rows. The greatest list has 256 KB.
 const ROWS: &str = "64x16,64x64,64x256,64x1024,64x4096,128x16,128x64,128x256,128x1024,128x2048,256x16,256x64,256x256,\
     256x1024,1024x16,1024x64,1024x256";
 
@@ -42,7 +42,7 @@ pub const SHAPES: &str = "2x2,3x3,4x4,5x5,6x6,7x7,8x8,15x17,16x16,17x19,64x64,63
     1025x1024,2048x2048,2003x757,4096x16,16x65536,1000x1024,300x4096,100x16384,40x65536,12x262144,65536x40,4096x4096,\
     262144x12";
 
-/// Columns and rows of matrices whose rows are long. Some are among `SHAPES` too.
+/// Columns and rows of matrices with long rows. Some are also in `SHAPES`.
 pub const WIDE_SHAPES: &str = "1024x2048,2048x1024,2048x2048,4096x512,4096x4096,8192x256,8192x1024,16384x128,16384x256,\
     16384x100,32768x64,32768x100,65536x20,65536x40,65536x100,131072x24,262144x12,6144x700,12288x300,20000x100,50000x37";
 
@@ -52,7 +52,7 @@ const SHAPES_ON_THREADS: &str = "256x256,512x512,64x4096,4096x64,1000x300,1024x1
     3000x2000,100x65536";
 
 impl Options {
-    /// What is measured on several threads, where the command line says nothing else.
+    /// What is measured on several threads if the command line says nothing else.
     fn on_threads() -> Result<Self, String> {
         Ok(Options {
             calls: vec!["reverse".into(), "transpose".into()],
@@ -111,7 +111,7 @@ impl Options {
         Ok(options)
     }
 
-    /// What the measured code was built as.
+    /// How the measured code was built.
     pub fn build(&self) -> String {
         let cpu = self.cpu.clone().unwrap_or(std::env::consts::ARCH.replace('_', "-"));
         if cfg!(library) {

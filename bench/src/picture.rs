@@ -1,5 +1,5 @@
-//! The table as a picture: for each call a panel, in it a row for each shape, and in the row a point for each size of an
-//! item.
+//! The table as a picture. Each call has a panel, each shape a row in its panel, and each size of an item a point in
+//! the row.
 
 use std::fmt::Write;
 
@@ -7,10 +7,10 @@ use crate::cases::{Work, distinct};
 use crate::table::Row;
 
 const WIDTH: f64 = 900.0;
-/// Where the points begin and end, with the names of the shapes on the left.
+/// Where the points begin and end. The names of the shapes are to the left of them.
 const LEFT: f64 = 160.0;
 const RIGHT: f64 = 880.0;
-/// The height of a panel's head, of a row, and of what is empty below the rows.
+/// The heights of a panel's head, of a row, and of the empty space below the rows.
 const HEAD: f64 = 62.0;
 const ROW: f64 = 14.0;
 const FOOT: f64 = 30.0;
@@ -33,8 +33,8 @@ const COLORS: [(usize, &str); 16] = [
     (128, "#000000"),
 ];
 
-/// The time of each row beside the original's, or beside a copy's where the original was not measured. The heads of the
-/// panels name the processor that the code was built for.
+/// Draws the time of each row compared with the original's, or with a copy's if the original was not measured. The
+/// heads of the panels name the processor that the code was built for.
 pub fn svg(rows: &[Row], cpu: Option<&str>) -> String {
     let threads = if cfg!(parallel) { " on all threads" } else { "" };
     let build = cpu.map_or(String::new(), |cpu| format!(", built for {cpu}"));
@@ -54,7 +54,8 @@ pub fn svg(rows: &[Row], cpu: Option<&str>) -> String {
     )
 }
 
-/// What was measured of one call. Shapes go from above by their sizes, and the logarithm of the relative time from the left.
+/// The measurements of one call. Shapes go from top to bottom by size, and the logarithm of the relative time goes from
+/// left to right.
 struct Panel<'a> {
     rows: Vec<&'a Row>,
     works: Vec<Work>,
@@ -97,7 +98,7 @@ impl<'a> Panel<'a> {
         }
     }
 
-    /// Which color has which size of an item.
+    /// Writes which color stands for which size of an item.
     fn colors(&self, out: &mut String) {
         let _ = writeln!(out, "<text x=\"8\" y=\"34\">bytes of an item:</text>");
         let mut x = 110.0;
@@ -117,7 +118,7 @@ impl<'a> Panel<'a> {
         COLORS.into_iter().filter(move |&(size, _)| is_here(size))
     }
 
-    /// Lines from above to below at the powers of two, and their numbers.
+    /// Draws vertical lines at the powers of two, with their numbers.
     fn scale(&self, out: &mut String) {
         let bottom = self.height() - FOOT;
         let mut log = self.low;
@@ -134,7 +135,7 @@ impl<'a> Panel<'a> {
         }
     }
 
-    /// The row of a shape: its name, a thin line, and the points.
+    /// Draws the row of a shape: its name, a thin line, and the points.
     fn shape(&self, out: &mut String, work: Work, y: f64) {
         let _ = writeln!(
             out,

@@ -1,4 +1,4 @@
-//! The table, and what it comes to.
+//! The table, and its summaries.
 
 use std::fmt::Write;
 
@@ -10,18 +10,18 @@ pub enum Unit {
     Instructions,
 }
 
-/// What one case took, in all: nanoseconds or instructions.
+/// The total cost of one case: nanoseconds or instructions.
 pub struct Row {
     pub case: Case,
     proved: f64,
     original: Option<f64>,
-    /// The package's call on one thread, where `proved` is of several.
+    /// The package's call on one thread, if `proved` is on several threads.
     one_thread: Option<f64>,
     copy: f64,
 }
 
 impl Row {
-    /// A row of what each contender took.
+    /// A row with what each contender took.
     pub fn new(case: &Case, took: &[f64]) -> Self {
         let (first, last) = (took[0], took[took.len() - 1]);
         Row {
@@ -43,7 +43,7 @@ impl Row {
         })
     }
 
-    /// What an item took, or a row where rows move.
+    /// What one item took, or one row if rows move.
     fn an_item(&self) -> f64 {
         self.proved / self.case.work.units() as f64
     }
@@ -56,12 +56,12 @@ impl Row {
         self.case.work.call()
     }
 
-    /// What the proved call took, where the original's took 1.
+    /// What the proved call took, if the original's time is 1.
     fn ratio(&self) -> Option<f64> {
         self.original.map(|original| self.proved / original)
     }
 
-    /// The ratio to what [`Row::beside`] names.
+    /// The ratio to the contender that [`Row::beside`] names.
     pub fn relative(&self) -> f64 {
         self.ratio().unwrap_or_else(|| self.copies())
     }
@@ -107,9 +107,9 @@ pub fn long(rows: &[Row], unit: Unit) -> String {
     out
 }
 
-/// One table for each call, one line for each shape, and in it for each size of an item the ratio to the original,
-/// and in brackets what an item takes and the times of a copy. Without the original, the times of a copy come
-/// first.
+/// One table for each call, with one line for each shape. For each size of an item the line has the ratio to the
+/// original, and in brackets the cost of an item and the ratio to a copy. Without the original, the ratio to a copy
+/// comes first.
 pub fn wide(rows: &[Row], unit: Unit) -> String {
     let mut out = String::new();
     for call in CALLS {
@@ -135,7 +135,7 @@ pub fn wide(rows: &[Row], unit: Unit) -> String {
     out
 }
 
-/// The cell of a shape and a size, empty where none of the rows is theirs.
+/// The cell for a shape and a size, which is empty if no row has both.
 fn cell(rows: &[&Row], shape: &str, size: usize, unit: Unit) -> String {
     let is_here = |case: Case| case.item_size == size && case.work.shape() == shape;
     let Some(row) = rows.iter().find(|row| is_here(row.case)) else {
@@ -148,8 +148,8 @@ fn cell(rows: &[&Row], shape: &str, size: usize, unit: Unit) -> String {
     }
 }
 
-/// For each set of sizes a table of what each group of rows comes to, in all and for each size. Where calls ran on several
-/// threads, another one is of those on one thread.
+/// A table for each set of sizes, with the summary of each group of rows, in all and for each size. If calls ran on
+/// several threads, another table has those on one thread.
 pub fn summaries(rows: &[Row], sets: &[Vec<usize>]) -> String {
     let one_thread: Vec<Row> = rows.iter().filter_map(Row::on_one_thread).collect();
     let name = if one_thread.is_empty() { "" } else { "on all threads, " };
@@ -176,11 +176,11 @@ fn summary(name: &str, rows: &[Row], sizes: &[usize]) -> String {
     out
 }
 
-/// A case is among the slower ones where it takes more than this, the original taking 1.
+/// A case is listed as slower if it takes more than this, the original's time being 1.
 const SLOWER: f64 = 1.2;
 
-/// For each call and shape the sizes of items for which the original is the faster one by a fifth and more, with the ratios. Empty
-/// without the original.
+/// For each call and shape, the sizes of items for which the original is faster by a fifth or more, with the ratios.
+/// Empty without the original.
 pub fn slower(rows: &[Row], build: &str) -> String {
     let slower: Vec<(&Row, f64)> = rows
         .iter()
@@ -205,7 +205,7 @@ pub fn slower(rows: &[Row], build: &str) -> String {
     if slower.is_empty() { String::new() } else { out }
 }
 
-/// The mean and the worst of a group, and the mean for each size.
+/// The mean and the worst ratio of a group, and the mean for each size.
 fn line(out: &mut String, name: &str, group: &[&Row], sizes: &[usize]) {
     let Some(worst) = group.iter().max_by(|a, b| a.relative().total_cmp(&b.relative())) else {
         return;
@@ -226,7 +226,7 @@ fn line(out: &mut String, name: &str, group: &[&Row], sizes: &[usize]) {
     out.push('\n');
 }
 
-/// The geometric mean as text, empty for no rows.
+/// The geometric mean as text, which is empty if there are no rows.
 fn mean<'a>(rows: impl Iterator<Item = &'a &'a Row>) -> String {
     let logs: Vec<f64> = rows.map(|row| row.relative().ln()).collect();
     match logs.len() {

@@ -1,15 +1,15 @@
-//! Times: the least of many runs, in which the contenders take turns.
+//! Times: the shortest of many runs, in which the contenders take turns.
 
 use std::time::Duration;
 
 /// A run repeats its task until it takes at least this long.
 const LEAST_RUN: Duration = Duration::from_micros(100);
 
-/// The runs of a task go on for this long, where the least number of them takes less.
+/// The runs of a task go on for at least this long, even if the least number of runs takes less.
 const TASK: Duration = Duration::from_millis(60);
 
-/// The nanoseconds that each contender takes at the least, in so many runs or more. `runner` has the contender of this
-/// number, from 0 on, do its task so many times.
+/// The least nanoseconds that each contender takes for its task, in at least so many runs. `runner` lets the contender
+/// with this number, counted from 0, do its task so many times.
 pub fn least(contenders: usize, runs: usize, runner: &mut dyn FnMut(usize, u32)) -> Vec<f64> {
     let repeats: Vec<u32> = (0..contenders).map(|k| repeats(runner, k)).collect();
     let mut least = vec![f64::INFINITY; contenders];
@@ -18,7 +18,7 @@ pub fn least(contenders: usize, runs: usize, runner: &mut dyn FnMut(usize, u32))
     while done < runs || processor_time() - start < TASK {
         for k in turn(done, contenders) {
             let time = run(runner, k, repeats[k]).as_secs_f64() * 1e9;
-            // On a virtual machine the clock may stay for a while.
+            // On a virtual machine the clock may stand still for a while.
             if time > 0.0 {
                 least[k] = least[k].min(time / f64::from(repeats[k]));
             }
@@ -28,8 +28,9 @@ pub fn least(contenders: usize, runs: usize, runner: &mut dyn FnMut(usize, u32))
     least
 }
 
-/// The order of `len` contenders in a round: each one comes first in turn, and each other round goes backwards, so that
-/// each comes after each other one. What the one before left in the caches is thus shared out evenly.
+/// The order of `len` contenders in a round. Each contender in turn comes first, and every other round goes backwards,
+/// so that each comes after each other one. This spreads the effect of what the previous contender left in the caches
+/// evenly.
 fn turn(round: usize, len: usize) -> impl Iterator<Item = usize> {
     let step = if round.is_multiple_of(2) { 1 } else { len - 1 };
     (0..len).map(move |i| (round / 2 + i * step) % len)
@@ -60,8 +61,8 @@ unsafe extern "C" {
     fn clock_gettime(clock: i32, time: *mut TimeSpec) -> i32;
 }
 
-/// The time that the processor worked for this thread, so that other programs do not count. Where there are several threads
-/// it is the time of a clock.
+/// The processor time of this thread, so that the time of other programs does not count. With several threads it is the
+/// time of a clock.
 fn processor_time() -> Duration {
     const CLOCK: i32 = if cfg!(parallel) { 1 } else { 3 };
     let mut time = TimeSpec {

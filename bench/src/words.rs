@@ -1,5 +1,5 @@
-//! The calls on words, as a program makes them that is built without link-time optimization. The package and the
-//! original are crates of their own, and the compiler inlines what they let it inline.
+//! The calls on integers, made by a program that is built without link-time optimization. The package and the original
+//! are crates of their own, and the compiler inlines what they allow it to inline.
 
 use std::fmt::Debug;
 use std::hint::black_box;
@@ -9,10 +9,10 @@ use crate::options::Options;
 
 const INPUTS: u64 = 4096;
 
-/// What a call is made of; some calls take the first word alone.
+/// The arguments of a call. Some calls take only the first one.
 type Input = [usize; 2];
 
-/// A call on words, of each crate that has it.
+/// A call on integers, for each crate that has it.
 struct Word {
     name: &'static str,
     /// An input, made from 64 random digits.
@@ -23,8 +23,8 @@ struct Word {
 trait Call {
     fn answers(&self, inputs: &[Input]) -> Vec<String>;
 
-    /// Calls once for each input. The inputs come from memory and the answers go there one by one, so the compiler
-    /// cannot make several calls at once by vectors.
+    /// Makes one call for each input. The inputs are read from memory and the results are written there one by one, so
+    /// the compiler cannot vectorize several calls.
     fn pass(&self, inputs: &[Input]);
 }
 
@@ -40,7 +40,7 @@ impl<A: Debug, F: Fn(Input) -> A> Call for F {
     }
 }
 
-/// A word of this name. Its call is written once, and is made of the package and of the original.
+/// A `Word` with this name. Its call is written once, and is made with the package and with the original.
 macro_rules! word {
     ($name:literal, $call:ident $arguments:tt for $words:pat_param in $input:expr) => {
         Word {
@@ -68,7 +68,7 @@ const WORDS: [Word; 10] = [
     word!("reverse_bits", reverse_bits(x, n) for [x, n] in below_power),
 ];
 
-/// A word and how many digits it has at the most, from 1 to 64.
+/// An integer and the greatest number of digits that it may have, from 1 to 64.
 fn of_any_length(random: u64) -> Input {
     let digits = random as usize % 64 + 1;
     [(random.reverse_bits() >> (64 - digits)) as usize, digits]
@@ -82,12 +82,12 @@ fn power_of_three(random: u64) -> Input {
     [3_usize.pow((random % 41) as u32), 0]
 }
 
-/// Two numbers up to 39, whose sum is below 64 as a rule.
+/// Two numbers up to 39, whose sum is usually below 64.
 fn short_sum(random: u64) -> Input {
     [random as usize % 40, (random >> 32) as usize % 40]
 }
 
-/// A word, and a power of two above it.
+/// An integer, and a power of two above it.
 fn below_power(random: u64) -> Input {
     let n = 2 << (random % 63);
     [(random.reverse_bits() as usize) % n, n]
@@ -111,7 +111,7 @@ impl Task for Word {
     }
 }
 
-/// The `i`th of a list of numbers that is always the same.
+/// The `i`th number of a fixed list.
 fn random(i: u64) -> u64 {
     let mixed = (i + 1).wrapping_mul(0x9e37_79b9_7f4a_7c15);
     (mixed ^ (mixed >> 32))
@@ -119,7 +119,7 @@ fn random(i: u64) -> u64 {
         .rotate_left(32)
 }
 
-/// Measures all words and prints a line for each.
+/// Measures all calls and prints a line for each.
 pub fn run(options: &Options) -> Result<(), String> {
     let Some(took) = measured(&WORDS, options)? else {
         return Ok(());

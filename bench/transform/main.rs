@@ -1,4 +1,4 @@
-//! How long a transform of the columns of a matrix takes, and the reversal of the rows in it.
+//! Measures a transform of the columns of a matrix, and the reversal of the rows in it.
 
 #[path = "../src/timing.rs"]
 mod timing;
@@ -13,7 +13,7 @@ unsafe extern "C" {
 const PRIME: u64 = 2_013_265_921;
 const RUNS: usize = 9;
 
-/// The number at place `i` of a matrix.
+/// The number at index `i` of a matrix.
 fn number(i: usize) -> u32 {
     ((i as u64 * i as u64 + 12_345) % PRIME) as u32
 }
@@ -31,11 +31,12 @@ fn check(rows: usize, width: usize) {
     assert_eq!(u64::from(values[width]), sum);
 }
 
-/// The least milliseconds of one transform, of two in one call, of the reversal in one, and of the original's reversal.
+/// The least milliseconds for one transform, for two in one call, for the reversal in one, and for the original's
+/// reversal.
 fn least<const WIDTH: usize>(rows: usize) -> Vec<f64> {
     let mut values: Vec<u32> = (0..rows * WIDTH).map(number).collect();
     let (at, len) = (black_box(values.as_mut_ptr()), rows * WIDTH);
-    // `at` is to `rows` rows of WIDTH numbers, and one form at a time refers to them.
+    // `at` points to `rows` rows of WIDTH numbers, and only one form at a time uses it.
     let forms: &[&dyn Fn()] = &[
         &|| assert!(unsafe { transform(at, len, WIDTH, 1) }),
         &|| assert!(unsafe { transform(at, len, WIDTH, 2) }),
@@ -56,7 +57,7 @@ fn print<const WIDTH: usize>(log_rows: u32) {
     let rows = 1 << log_rows;
     check(rows, WIDTH);
     let least = least::<WIDTH>(rows);
-    // Two transforms in one call less one in another: the copies in and out do not count.
+    // Two transforms in one call, minus one in another call, so that the copies in and out do not count.
     let (transform, reversal) = (least[1] - least[0], least[2]);
     let share = 100.0 * reversal / transform;
     print!("2^{log_rows} rows of {WIDTH:<2}  transform {transform:8.2} ms, reversal {reversal:6.2} ms, {share:4.1} %");

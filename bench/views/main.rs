@@ -1,5 +1,5 @@
-//! How long kernels take over views of rows of four numbers, and with a counter that goes on, beside the slice form on
-//! the same bytes.
+//! Measures kernels on views of rows of four numbers, and kernels with a counter that continues, compared with the call
+//! on slices on the same bytes.
 
 #[path = "../src/timing.rs"]
 mod timing;
@@ -46,7 +46,7 @@ unsafe extern "C" {
 
 const RUNS: usize = 400;
 
-/// The least nanoseconds of a form and of the slice form, of many runs in which they take turns.
+/// The least nanoseconds of a form and of the call on slices, in many runs in which they take turns.
 fn least(form: impl Fn() -> bool, slice: impl Fn() -> bool) -> [f64; 2] {
     let times = timing::least(2, RUNS, &mut |k, times| {
         (0..times).for_each(|_| assert!(if k == 0 { form() } else { slice() }))
@@ -69,7 +69,7 @@ fn main() {
         let len = 1 << log_len;
         let mut items: Vec<u64> = (0..len as u64).collect();
         let at = black_box(items.as_mut_ptr());
-        // The pointer is to `len` numbers, which are rows of four too.
+        // The pointer points to `len` numbers, which are also rows of four.
         let view = least(
             || unsafe { reverse_view(at.cast(), len / 4) },
             || unsafe { reverse_slice(at, len) },
@@ -83,7 +83,7 @@ fn main() {
         let input: Vec<u64> = (0..len as u64).collect();
         let mut output = vec![0u64; len];
         let (from, to) = (black_box(input.as_ptr()), black_box(output.as_mut_ptr()));
-        // The pointers are to `len` numbers each.
+        // Each pointer points to `len` numbers.
         let slice = || unsafe { transpose_slice(from, len, to, len, side, side) };
         let view = least(
             || unsafe { transpose_view(from, len, to.cast(), len / 4, side, side) },

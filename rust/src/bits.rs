@@ -1,33 +1,33 @@
-//! The calls on single words that test a condition, and then call the proved one. Those without a condition are the proved
-//! ones themselves.
+//! The calls on integers that check a condition and then call the proved function. Calls without a condition are the
+//! proved functions themselves.
 
 use crate::kernels::bits as proved;
 
-/// The logarithm to base 2 of a power of two, which is what [`kernels::bits::log2_strict_usize`](proved::log2_strict_usize)
-/// returns.
+/// The logarithm to base 2 of a power of two. It is computed by
+/// [`kernels::bits::log2_strict_usize`](proved::log2_strict_usize).
 ///
-/// The compiler can tell that `1 << log2_strict_usize(n)` is `n`, so that `&v[..1 << log2_strict_usize(v.len())]` needs no test of
-/// its bound.
+/// The compiler can tell that `1 << log2_strict_usize(n)` is `n`, so `&v[..1 << log2_strict_usize(v.len())]` needs no
+/// bounds check.
 ///
 /// # Panics
 ///
-/// Where `n` is no power of two.
+/// If `n` is not a power of two.
 #[inline]
 #[must_use]
 #[track_caller]
 pub const fn log2_strict_usize(n: usize) -> usize {
-    // The call below is proved for every power of two. This test for these is also a hint: by it the compiler knows what
-    // `1 << log2_strict_usize(n)` is. For 0 the shift by 64 is one by 0, and 1 is not 0.
+    // The call below is proved for every power of two. This check for powers of two is also a hint to the compiler,
+    // which learns from it what `1 << log2_strict_usize(n)` is. For 0, the shift by 64 is a shift by 0, and 1 is not 0.
     assert!(1_usize.wrapping_shl(n.trailing_zeros()) == n, "Not a power of two");
     proved::log2_strict_usize(n)
 }
 
-/// The logarithm to base 3 of a power of three, which is what [`kernels::bits::log3_strict_usize`](proved::log3_strict_usize)
-/// returns.
+/// The logarithm to base 3 of a power of three. It is computed by
+/// [`kernels::bits::log3_strict_usize`](proved::log3_strict_usize).
 ///
 /// # Panics
 ///
-/// Where `n` is no power of three.
+/// If `n` is not a power of three.
 #[inline]
 #[must_use]
 #[track_caller]
@@ -40,13 +40,13 @@ pub const fn log3_strict_usize(n: usize) -> usize {
     proved::log3_strict_usize(n)
 }
 
-/// Reverses as many low binary digits of `x` as `n`, a power of two, has below its set digit, and drops the others. For
-/// an `n` of 1 it reverses the whole word, as [`reverse_bits_len`] does for no digits. For a power of two it is
-/// [`kernels::bits::reverse_bits`](proved::reverse_bits).
+/// Reverses the low binary digits of `x` and drops the others: as many digits as `n`, a power of two, has below its set
+/// digit. An `n` of 1 reverses all 64 digits, as a `bit_len` of 0 does in [`reverse_bits_len`]. For a power of two this
+/// is [`kernels::bits::reverse_bits`](proved::reverse_bits).
 ///
 /// # Panics
 ///
-/// With debug assertions, where `n` is no power of two. Without them such an `n` counts as its lowest set digit.
+/// With debug assertions, if `n` is not a power of two. Without them, the lowest set digit of `n` is used.
 #[inline]
 #[track_caller]
 pub const fn reverse_bits(x: usize, n: usize) -> usize {
@@ -54,12 +54,12 @@ pub const fn reverse_bits(x: usize, n: usize) -> usize {
     proved::reverse_bits(x, n)
 }
 
-/// Reverses the `bit_len` low binary digits of `x` and drops the others. For a `bit_len` of 0 it reverses the whole word. Up to
-/// 64 digits it is [`kernels::bits::reverse_bits_len`](proved::reverse_bits_len).
+/// Reverses the `bit_len` low binary digits of `x` and drops the others. A `bit_len` of 0 reverses all 64 digits. For
+/// up to 64 digits this is [`kernels::bits::reverse_bits_len`](proved::reverse_bits_len).
 ///
 /// # Panics
 ///
-/// With debug assertions, where `bit_len` is above 64. Without them its remainder by 64 counts.
+/// With debug assertions, if `bit_len` is above 64. Without them, `bit_len % 64` is used.
 #[inline]
 #[track_caller]
 pub const fn reverse_bits_len(x: usize, bit_len: usize) -> usize {

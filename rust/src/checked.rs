@@ -1,12 +1,12 @@
-//! The holders of slices where the feature `checked` is on. They test each index, and in the place of a list that parts have in
-//! common, each part has a run of its own.
+//! The holders of slices when the feature `checked` is on. They check each index. The parts of a call do not share one
+//! list: each part has a range of its own.
 
 use core::mem::take;
 
 use crate::kernels::places::{Cells, Places};
 pub(crate) use crate::kernels::places::{SliceCells, SlicePlaces, SliceSource};
 
-/// A run of places of a list, which begins at place `before` of it. The places have the list's numbers.
+/// A range of a list that begins at place `before`. Its places keep the numbers that they have in the whole list.
 pub(crate) struct PartItems<'a, T> {
     items: &'a mut [T],
     before: usize,
@@ -15,7 +15,7 @@ pub(crate) struct PartItems<'a, T> {
 }
 
 impl<'a, T> PartItems<'a, T> {
-    /// The whole list, and how many places each share of it has. The last one may have fewer.
+    /// The whole list, which is cut into shares of `share` places each. The last share may have fewer.
     pub(crate) fn in_shares(items: &'a mut [T], share: usize) -> Self {
         PartItems {
             before: 0,
@@ -25,7 +25,7 @@ impl<'a, T> PartItems<'a, T> {
         }
     }
 
-    /// Takes the next share away.
+    /// Removes the next share and returns it.
     pub(crate) fn share(&mut self) -> Self {
         let middle = self.share.min(self.items.len());
         let (items, rest) = take(&mut self.items).split_at_mut(middle);

@@ -1,10 +1,11 @@
-//! Bit reversal, transposes and the other small calls of `p3-util` 0.8.0, under its names, over sources that are proved.
+//! Bit reversal, transposes and the other small functions of `p3-util` 0.8.0, under the original's names, built on
+//! proved sources.
 //!
-//! What [`kernels`] has was proved as Rust with contracts, and here has the contracts as documentation. The calls beside it
-//! are the original's. One that has no condition is a proved function itself, or calls one. The others test their condition, panic
-//! where it does not hold, and call the proved function, to which their documentation leads: [`reverse_bits`] and
-//! [`reverse_bits_len`] test it where debug assertions are on, and the others always. [`kernels::contracts`] says how a contract
-//! is read.
+//! The module [`kernels`] has the proved code: it was proved as Rust with contracts, which it keeps as documentation.
+//! The functions next to it are those of the original. A function without a condition is a proved function itself or
+//! calls one. The others check their condition, panic if it does not hold, and call the proved function, to which their
+//! documentation links. [`reverse_bits`] and [`reverse_bits_len`] check it only with debug assertions, and the others
+//! always. [`kernels::contracts`] says how to read a contract.
 //!
 //! ```
 //! use p3_util_proved::{reverse_slice_index_bits, transpose::transpose};
@@ -18,7 +19,7 @@
 //! assert_eq!(columns, [0, 1, 4, 5, 2, 3, 6, 7]);
 //! ```
 //!
-//! Bytes in chunks, two iterators of one length, and a map that keeps the order of its keys:
+//! Bytes in chunks, two iterators of equal length, and a map that keeps the order of its keys:
 //!
 //! ```
 //! use p3_util_proved::linear_map::LinearMap;
@@ -40,11 +41,11 @@
 //!
 //! # Features
 //!
-//! - `checked`: slices whose kernels test each index, in place of those that test none, and no unsafe code in this crate.
-//!   Results are the same. Cargo turns a feature on for the whole program where one crate asks for it.
+//! - `checked`: the kernels check each index of a slice, and this crate has no unsafe code. Results are the same. Cargo
+//!   enables a feature for the whole program if one crate asks for it.
 //!
-//! No feature is on by default. The crate is `no_std` with `alloc`, has no dependency and no build script, and starts no
-//! thread. [`parts`] cuts a call into parts for threads of your own.
+//! No feature is on by default. The crate is `no_std` with `alloc`, has no dependency and no build script, and starts
+//! no thread. [`parts`] cuts a call into parts for threads of your own.
 #![no_std]
 #![cfg_attr(feature = "checked", forbid(unsafe_code))]
 #![cfg_attr(not(feature = "checked"), deny(unsafe_code))]
@@ -62,11 +63,12 @@ use core::any::type_name;
 mod bits;
 #[cfg(feature = "checked")]
 mod checked;
-/// The proved sources themselves, with their contracts as documentation: every call over a holder of your own, and with the
-/// exact number of its steps. [`contracts`](kernels::contracts) says what the words of a contract mean.
+/// The proved sources themselves, with their contracts as documentation. Every call is here for holders of your own,
+/// and with the exact number of its steps. [`contracts`](kernels::contracts) says what the names in a contract mean.
 ///
-/// Nothing here tests a condition. Where one does not hold, a call leaves another order, panics or does not end; it never
-/// touches memory outside the lists. What a caller tests beforehand, where `len` is the length of the holder:
+/// Nothing here checks a condition. If a condition does not hold, a call leaves another order, panics or does not end,
+/// but it never touches memory outside the lists. A caller checks the condition beforehand, where `len` is the length
+/// of the holder:
 ///
 /// | Call of [`reverse`](kernels::reverse) or [`transpose`](kernels::transpose) | Test |
 /// |---|---|
@@ -79,7 +81,7 @@ mod checked;
 /// | `transpose_split_on`, `transpose_source_split_on` | the same as for a region; `levels` of 64 are always enough |
 /// | `transpose_square_on` | `fits_square(len, base, log_stride, log_size)` |
 ///
-/// A container of one's own is reversed by an impl of [`Places`](kernels::places::Places), and the swaps are counted:
+/// To reverse a container of your own, implement [`Places`](kernels::places::Places) for it. The swaps are counted:
 ///
 /// ```
 /// use p3_util_proved::kernels::{places::Places, reverse::reverse_counted};
@@ -104,8 +106,8 @@ mod checked;
 /// assert_eq!(list[..8], [0, 1, 8, 3, 4, 5, 12, 7]);
 /// ```
 ///
-/// A transpose reads from a [`Source`](kernels::places::Source) and puts into [`Cells`](kernels::places::Cells). Here the input
-/// is made as it is read, the output is a list of columns, and the puts are counted:
+/// A transpose reads from a [`Source`](kernels::places::Source) and writes to [`Cells`](kernels::places::Cells). Here
+/// the input is computed when it is read, the output is a list of columns, and the writes are counted:
 ///
 /// ```
 /// use p3_util_proved::kernels::places::{Cells, Source};
@@ -173,7 +175,7 @@ pub use kernels::bits::{
 #[doc(inline)]
 pub use kernels::chunks::apply_to_chunks;
 
-/// Does nothing. A call shows that `T` is `Send`, and one that is not is refused:
+/// Does nothing. A call compiles only if `T` is `Send`:
 ///
 /// ```compile_fail,E0277
 /// p3_util_proved::assert_send::<std::rc::Rc<u8>>();
@@ -181,7 +183,7 @@ pub use kernels::chunks::apply_to_chunks;
 #[inline]
 pub const fn assert_send<T: Send>() {}
 
-/// Does nothing. A call shows that `T` is `Sync`, and one that is not is refused:
+/// Does nothing. A call compiles only if `T` is `Sync`:
 ///
 /// ```compile_fail,E0277
 /// p3_util_proved::assert_sync::<std::cell::Cell<u8>>();
@@ -189,14 +191,26 @@ pub const fn assert_send<T: Send>() {}
 #[inline]
 pub const fn assert_sync<T: Sync>() {}
 
-/// Reverses the order of `vals` by index bits, and panics where the length is neither zero nor a power of two.
+/// Reverses the order of `vals` by index bits.
 ///
-/// With 2^k items, place `i` gets the item from the place whose index has the k bits of `i` in reversed order. No item is
-/// cloned or dropped. Its kernel is that of [`kernels::reverse::reverse_slice_index_bits`], whose contract says this.
+/// With 2^k items, index `i` gets the item from the index that has the k bits of `i` in reversed order. No item is
+/// cloned or dropped. The kernel is that of [`kernels::reverse::reverse_slice_index_bits`], whose contract says this.
+///
+/// ```
+/// use p3_util_proved::reverse_slice_index_bits;
+///
+/// let mut list = ["000", "001", "010", "011", "100", "101", "110", "111"];
+/// reverse_slice_index_bits(&mut list);
+/// assert_eq!(list, ["000", "100", "010", "110", "001", "101", "011", "111"]);
+/// ```
 ///
 /// # Panics
 ///
-/// Where the length is neither zero nor a power of two.
+/// If the length is neither zero nor a power of two:
+///
+/// ```should_panic
+/// p3_util_proved::reverse_slice_index_bits(&mut [0, 1, 2, 3, 4, 5]);
+/// ```
 #[inline]
 #[track_caller]
 pub fn reverse_slice_index_bits<F: Send + Sync>(vals: &mut [F]) {
@@ -205,7 +219,7 @@ pub fn reverse_slice_index_bits<F: Send + Sync>(vals: &mut [F]) {
     }
 }
 
-/// Panics with a length that is neither zero nor a power of two.
+/// Panics with a message about the length, which is neither zero nor a power of two.
 #[cold]
 #[inline(never)]
 #[track_caller]
@@ -213,11 +227,10 @@ fn refuse_items(len: usize) -> ! {
     panic!("Not a power of two: {len} items")
 }
 
-/// Reverses the order of the rows of `vals`, of `row_width` items each, by index bits, and panics where their number is neither
-/// zero nor a power of two.
+/// Reverses the order of the rows of `vals`, of `row_width` items each, by index bits.
 ///
-/// With 2^k rows, row `r` becomes the row whose index has the k bits of `r` in reversed order. No item is cloned or dropped.
-/// Its kernel is that of [`kernels::reverse::reverse_slice_row_index_bits`], whose contract says this.
+/// With 2^k rows, row `r` becomes the row whose index has the k bits of `r` in reversed order. No item is cloned or
+/// dropped. The kernel is that of [`kernels::reverse::reverse_slice_row_index_bits`], whose contract says this.
 ///
 /// ```
 /// let mut rows = [0, 1, 10, 11, 20, 21, 30, 31];
@@ -227,7 +240,7 @@ fn refuse_items(len: usize) -> ! {
 ///
 /// # Panics
 ///
-/// Where the length is not `row_width` times zero or a power of two. With a `row_width` of 0 the length has to be 0.
+/// If the length is not `row_width` times zero or a power of two. With a `row_width` of 0 the length must be 0.
 #[inline]
 #[track_caller]
 pub fn reverse_slice_row_index_bits<F>(vals: &mut [F], row_width: usize) {
@@ -236,7 +249,7 @@ pub fn reverse_slice_row_index_bits<F>(vals: &mut [F], row_width: usize) {
     }
 }
 
-/// Panics with the length and the width that do not fit.
+/// Panics with a message about the length and the width, which do not fit.
 #[cold]
 #[inline(never)]
 #[track_caller]
@@ -248,8 +261,9 @@ fn refuse_rows(len: usize, row_width: usize) -> ! {
     }
 }
 
-/// Cuts what `iter` gives up to its first `None` into arrays of `N` items. The last one is filled with `default` where they
-/// do not divide. Where `N` is 0 there is no array. This is the proved [`kernels::chunks::iter_array_chunks_padded`].
+/// Cuts the items of `iter` up to its first `None` into arrays of `N` items. If `N` does not divide their number, the
+/// last array is filled with `default`. If `N` is 0, there is no array. This is the proved
+/// [`kernels::chunks::iter_array_chunks_padded`].
 #[inline]
 pub fn iter_array_chunks_padded<T: Copy, const N: usize>(
     iter: impl IntoIterator<Item = T>,
@@ -258,12 +272,12 @@ pub fn iter_array_chunks_padded<T: Copy, const N: usize>(
     kernels::chunks::iter_array_chunks_padded(iter, default)
 }
 
-/// The short name of `T`: `alloc::vec::Vec<core::option::Option<u32>>` becomes `Vec<Option<u32>>`. It is what
+/// The short name of `T`: `alloc::vec::Vec<core::option::Option<u32>>` becomes `Vec<Option<u32>>`. This is what
 /// [`kernels::bits::pretty_name`] returns for the name that the compiler gives.
 ///
 /// # Panics
 ///
-/// Where memory runs out.
+/// If memory runs out.
 #[track_caller]
 pub fn pretty_name<T>() -> String {
     memory::granted(kernels::bits::pretty_name(memory::Global, type_name::<T>())).into()

@@ -1,4 +1,4 @@
-//! A map that keeps its pairs in the order of insertion and finds a key by comparing it with each.
+//! A map that keeps its pairs in the order of insertion. It finds a key by comparing it with each stored key.
 
 use core::alloc::Layout;
 use core::fmt::{self, Debug, Formatter};
@@ -9,11 +9,12 @@ use crate::kernels::linear_map as proved;
 pub use crate::kernels::linear_map::{Iter, Keys, Values};
 use crate::memory::{Global, granted};
 
-/// A map in insertion order, for few keys. A look-up compares each stored key with the given one, as
-/// `stored == given`, so it takes time in proportion to the number of pairs, and n insertions of new keys to n^2.
+/// A map in insertion order, for few keys. A lookup compares each stored key with the given one, as in
+/// `stored == given`. So it takes time proportional to the number of pairs, and inserting n new keys takes time
+/// proportional to n^2.
 ///
-/// Each call is the proved one of the same name of [`kernels::linear_map::LinearMap`](proved::LinearMap), whose contract says
-/// what it does. That one returns a refusal where memory runs out, and this one panics.
+/// Each method calls the proved one of the same name of [`kernels::linear_map::LinearMap`](proved::LinearMap), whose
+/// contract says what it does. The proved method returns an error if memory runs out, and this one panics.
 ///
 /// ```
 /// use p3_util_proved::linear_map::LinearMap;
@@ -27,7 +28,7 @@ use crate::memory::{Global, granted};
 pub struct LinearMap<K: Eq, V>(proved::LinearMap<K, V>);
 
 impl<K: Eq, V> LinearMap<K, V> {
-    /// An empty map, which takes no memory until the first pair.
+    /// An empty map. It allocates nothing until the first pair is inserted.
     pub fn new() -> Self {
         LinearMap(proved::LinearMap::new(Global))
     }
@@ -36,41 +37,41 @@ impl<K: Eq, V> LinearMap<K, V> {
     ///
     /// # Panics
     ///
-    /// With `capacity overflow`, as the original, where so many pairs are more than `isize::MAX` bytes, and where memory runs
-    /// out.
+    /// With `capacity overflow`, as the original does, if so many pairs take more than `isize::MAX` bytes, and if
+    /// memory runs out.
     #[track_caller]
     pub fn with_capacity(capacity: usize) -> Self {
         assert!(Layout::array::<(K, V)>(capacity).is_ok(), "capacity overflow");
         LinearMap(granted(proved::LinearMap::with_capacity(Global, capacity)))
     }
 
-    /// The value of the pair whose key equals `k`, or `None` where there is none.
+    /// The value of the pair whose key equals `k`, or `None` if there is no such pair.
     pub fn get(&self, k: &K) -> Option<&V> {
         self.0.get(k)
     }
 
-    /// The same value, to write to.
+    /// A mutable reference to the value of the pair whose key equals `k`, or `None` if there is no such pair.
     pub fn get_mut(&mut self, k: &K) -> Option<&mut V> {
         self.0.get_mut(k)
     }
 
-    /// Gives `k` the value `v`, and returns the value that it had. A known key keeps its place and its stored spelling, and a
-    /// new pair goes last.
+    /// Gives `k` the value `v`, and returns the value that it had before. A known key keeps its place and its stored
+    /// spelling. A new pair goes to the end.
     ///
     /// # Panics
     ///
-    /// Where memory runs out.
+    /// If memory runs out.
     #[track_caller]
     pub fn insert(&mut self, k: K, v: V) -> Option<V> {
         granted(self.0.insert(k, v))
     }
 
-    /// The value at the key `k`, to write to. A new key is added last, with what `f` returns. Under a known one `f` is not
-    /// called.
+    /// A mutable reference to the value of `k`. A new key is added at the end, with the value that `f` returns. For a
+    /// known key `f` is not called.
     ///
     /// # Panics
     ///
-    /// Where memory runs out.
+    /// If memory runs out.
     #[track_caller]
     pub fn get_or_insert_with(&mut self, k: K, f: impl FnOnce() -> V) -> &mut V {
         granted(self.0.get_or_insert_with(k, f))
@@ -104,11 +105,11 @@ impl<K: Eq, V> Default for LinearMap<K, V> {
     }
 }
 
-/// Inserts each pair in turn.
+/// Inserts the pairs one after the other.
 ///
 /// # Panics
 ///
-/// Where memory runs out.
+/// If memory runs out.
 impl<K: Eq, V> FromIterator<(K, V)> for LinearMap<K, V> {
     #[track_caller]
     fn from_iter<I: IntoIterator<Item = (K, V)>>(pairs: I) -> Self {
@@ -120,7 +121,7 @@ impl<K: Eq, V> FromIterator<(K, V)> for LinearMap<K, V> {
 ///
 /// # Panics
 ///
-/// Where there is none.
+/// If there is no such pair.
 impl<K: Eq, V> Index<&K> for LinearMap<K, V> {
     type Output = V;
 
@@ -130,7 +131,7 @@ impl<K: Eq, V> Index<&K> for LinearMap<K, V> {
     }
 }
 
-/// The pairs by value, in order.
+/// Iterates over the pairs by value, in order.
 impl<K: Eq, V> IntoIterator for LinearMap<K, V> {
     type Item = (K, V);
 
@@ -141,7 +142,7 @@ impl<K: Eq, V> IntoIterator for LinearMap<K, V> {
     }
 }
 
-/// References to the pairs, in order.
+/// Iterates over references to the pairs, in order.
 impl<'a, K: Eq, V> IntoIterator for &'a LinearMap<K, V> {
     type Item = &'a (K, V);
 

@@ -1,5 +1,5 @@
-//! The forms of `Vec` and `String` that the proved sources are written over, whose calls return a refusal where memory
-//! runs out, and what Rust asks of the types of such refusals.
+//! The types that the proved sources use instead of `Vec` and `String`. Their calls return an error if memory runs out,
+//! and the error types implement the traits that Rust expects of them.
 
 use core::error::Error;
 use core::fmt::{self, Debug, Display, Formatter};
@@ -7,11 +7,11 @@ use core::ops::{Deref, DerefMut};
 
 use crate::kernels::NoRoom;
 
-/// The program's allocator, which a call that takes memory is given.
+/// The program's allocator. A call that allocates takes it as an argument.
 #[derive(Clone, Copy, Debug)]
 pub struct Global;
 
-/// A refusal where memory runs out.
+/// The error of a call for which there was no memory.
 #[derive(Clone, Copy, Debug, PartialEq, Eq)]
 pub struct AllocError;
 
@@ -31,18 +31,18 @@ impl<G> Display for NoRoom<G> {
 
 impl<G: Debug> Error for NoRoom<G> {}
 
-/// A refusal where memory runs out, with the item that was not added.
+/// The error of a call for which there was no memory, with the item that was not added.
 #[derive(Debug)]
 pub struct PushError<T> {
-    /// The item.
+    /// The item that was not added.
     pub value: T,
 }
 
-/// The value that a call returned which asked for memory.
+/// The value of the result of a call that allocates.
 ///
 /// # Panics
 ///
-/// Where the memory was refused.
+/// If the call failed because there was no memory.
 #[track_caller]
 pub(crate) fn granted<T, E>(answer: Result<T, E>) -> T {
     match answer {
@@ -51,19 +51,20 @@ pub(crate) fn granted<T, E>(answer: Result<T, E>) -> T {
     }
 }
 
-/// A text that grows where there is memory. It is read as a `str`, and turned into the `String` of `alloc` by `into`.
+/// A string whose calls fail if there is no memory to grow. It is read as a `str`, and `into` turns it into the
+/// `String` of `alloc`.
 #[derive(Clone, PartialEq, Eq)]
 pub struct String(alloc::string::String);
 
 impl String {
-    /// An empty text with room for `bytes`.
+    /// An empty string with room for `bytes` bytes.
     pub fn with_capacity(_: Global, bytes: usize) -> Result<Self, AllocError> {
         let mut text = alloc::string::String::new();
         text.try_reserve_exact(bytes).map_err(|_| AllocError)?;
         Ok(String(text))
     }
 
-    /// Adds `more` at the end.
+    /// Appends `more`.
     pub fn push_str(&mut self, more: &str) -> Result<(), AllocError> {
         self.0.try_reserve(more.len()).map_err(|_| AllocError)?;
         self.0.push_str(more);
@@ -103,29 +104,29 @@ impl From<String> for alloc::string::String {
     }
 }
 
-/// A list that grows where there is memory.
+/// A vector whose calls fail if there is no memory to grow.
 #[derive(Debug, PartialEq, Eq)]
 pub struct Vec<T>(alloc::vec::Vec<T>);
 
 impl<T> Vec<T> {
-    /// An empty list, which takes no memory.
+    /// An empty vector. It allocates nothing.
     pub fn new(_: Global) -> Self {
         Vec(alloc::vec::Vec::new())
     }
 
-    /// An empty list with room for `items`.
+    /// An empty vector with room for `items` items.
     pub fn with_capacity(_: Global, items: usize) -> Result<Self, AllocError> {
         let mut list = Vec::new(Global);
         list.0.try_reserve_exact(items).map_err(|_| AllocError)?;
         Ok(list)
     }
 
-    /// Makes room for as many `items` more.
+    /// Makes room for `items` more items.
     pub fn reserve(&mut self, items: usize) -> Result<(), AllocError> {
         self.0.try_reserve(items).map_err(|_| AllocError)
     }
 
-    /// Adds `value` at the end.
+    /// Appends `value`.
     pub fn push(&mut self, value: T) -> Result<(), PushError<T>> {
         match self.reserve(1) {
             Ok(()) => {
@@ -136,12 +137,12 @@ impl<T> Vec<T> {
         }
     }
 
-    /// Adds `value` at the end, where there is room for it.
+    /// Appends `value`. There must be room for it.
     pub fn push_reserved(&mut self, value: T) {
         self.0.push(value);
     }
 
-    /// The items.
+    /// The items as a slice.
     pub fn as_slice(&self) -> &[T] {
         &self.0
     }

@@ -1,5 +1,6 @@
-//! What the compiler refuses: types, by the bounds of proved calls, and parts that would run twice, out of their phase, or while
-//! their list is used. Each block that fails to compile would compile without one bound or one lifetime.
+//! What does not compile: types that do not meet the bounds of proved calls, and parts that would run twice, in the
+//! wrong phase, or while their list is in use. Each block marked `compile_fail` would compile if one bound or one
+//! lifetime were missing.
 //!
 //! ```
 //! use p3_util_proved::{assert_clone, zip_eq::ZipEq};
@@ -42,7 +43,7 @@
 //!
 //! # Parts
 //!
-//! Parts, and what gives them, go to other threads with their items:
+//! Parts, and the iterators over them, can be sent to other threads together with their items:
 //!
 //! ```
 //! use p3_util_proved::assert_send;
@@ -73,7 +74,7 @@
 //! p3_util_proved::assert_send::<p3_util_proved::parts::ReversalPart<'_, std::rc::Rc<u8>>>();
 //! ```
 //!
-//! None of them is cloned, so no part runs twice:
+//! None of them can be cloned, so no part can run twice:
 //!
 //! ```compile_fail,E0277
 //! p3_util_proved::assert_clone::<p3_util_proved::parts::TransposeParts<'_, u8>>();
@@ -104,7 +105,7 @@
 //! part.run();
 //! ```
 //!
-//! While one is there, its list is borrowed, and of a transpose the input too:
+//! As long as one of them exists, its list is borrowed, and for a transpose the input too:
 //!
 //! ```
 //! use p3_util_proved::parts::{reversal, transpose};
@@ -163,7 +164,7 @@
 //! phases.for_each_phase(|parts| parts.for_each(|part| part.run()));
 //! ```
 //!
-//! No phase begins while a part of the one before is there:
+//! No phase can begin as long as a part of the phase before it exists:
 //!
 //! ```compile_fail,E0499
 //! let mut list = [0, 1, 2, 3];

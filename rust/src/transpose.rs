@@ -1,4 +1,4 @@
-//! Transposes of matrices that are held as flat slices, row after row.
+//! Transposes of matrices that are stored as flat slices, row after row.
 
 use crate::kernels::places::Source;
 use crate::kernels::transpose::{Matrix, Strips};
@@ -10,18 +10,33 @@ const WIDE_ITEMS: usize = 1 << 20;
 /// The least number of columns of such a matrix.
 const WIDE_COLUMNS: usize = 16;
 
-/// What the bytes of its columns are a multiple of. Each becomes a row of the output, and items of such rows that stand in one
-/// column meet in one set of the first cache.
+/// The number of bytes that each of its columns is a multiple of. A column becomes a row of the output, and items of
+/// such rows that are in the same column compete for one set of the first-level cache.
 const WIDE_COLUMN_BYTES: usize = 4096;
 
-/// Writes to `output` the transpose of `input`, a matrix of `height` rows of `width` items.
+/// Writes the transpose of `input`, a matrix of `height` rows of `width` items, to `output`.
 ///
-/// What is at `input[y * width + x]` is put at `output[x * height + y]`. Its kernel is that of
+/// The item at `input[y * width + x]` is written to `output[x * height + y]`. The kernel is that of
 /// [`kernels::transpose::transpose`](crate::kernels::transpose::transpose), whose contract says this.
+///
+/// ```
+/// use p3_util_proved::transpose::transpose;
+///
+/// // Two rows of three items become three rows of two.
+/// let input = [1, 2, 3, 4, 5, 6];
+/// let mut output = [0; 6];
+/// transpose(&input, &mut output, 3, 2);
+/// assert_eq!(output, [1, 4, 2, 5, 3, 6]);
+/// ```
 ///
 /// # Panics
 ///
-/// Panics unless both lengths are `width * height`, a product that does not wrap.
+/// If one of the lengths is not `width * height`, or if that product overflows:
+///
+/// ```should_panic
+/// // The output has room for five items.
+/// p3_util_proved::transpose::transpose(&[1, 2, 3, 4, 5, 6], &mut [0; 5], 3, 2);
+/// ```
 #[inline]
 #[track_caller]
 pub fn transpose<T: Copy + Send + Sync>(input: &[T], output: &mut [T], width: usize, height: usize) {
@@ -30,7 +45,8 @@ pub fn transpose<T: Copy + Send + Sync>(input: &[T], output: &mut [T], width: us
     }
 }
 
-/// Panics with the original's text on the first length that is not the product, which does not wrap here.
+/// Panics with the original's message about the first length that is not the product. Here the product is computed
+/// without overflow.
 #[cold]
 #[inline(never)]
 #[track_caller]
@@ -47,14 +63,43 @@ pub(crate) fn refuse(input: usize, output: usize, width: usize, height: usize) -
     unreachable!("lengths that fit are not refused");
 }
 
-/// The strips by which a matrix is put, whole or in parts. They are those of the kernels' own choice, which is by the shape alone,
-/// but for a large matrix of items of 32 or 64 bytes that has at least 16 columns, each of a multiple of 4096 bytes. There it takes
-/// less time to put 16 columns at a time, row after row. Strips choose the order of the puts and nothing else.
+/// The least number of rows and of columns of a matrix that is put by blocks in registers.
+const BLOCKS_SIDE: usize = 8;
+
+/// The least number of items of such a matrix if its blocks leave a row or a column over.
+const BLOCKS_ITEMS: usize = 128;
+
+/// The greatest number of items of 8 bytes of such a matrix.
+const BLOCKS_LONG_ITEMS: usize = 1 << 15;
+
+/// Matrices with these numbers of items of 4 bytes, up to the number above which a matrix is split, are put by blocks
+/// only if 16 divides the width.
+const BLOCKS_GAP: core::ops::RangeInclusive<usize> = (1 << 18) + 1..=1 << 20;
+
+/// The strips by which a matrix is put, as a whole or in parts. They are the kernels' own choice, which depends on the
+/// shape alone, except for two kinds of matrices that take less time in another order. Strips only determine the order
+/// of the writes.
+///
+/// - Items of 4 bytes, and up to 32768 items of 8 bytes, are put by blocks that are transposed in registers, if no side
+///   is below 8. With less than 128 items the blocks must be whole. With 262145 to 1048576 items of 4 bytes, 16 must
+///   divide the width.
+/// - More than 1048576 items of 32 or of 64 bytes are put 16 columns at a time, row after row, if there are at least 16
+///   columns and each has a multiple of 4096 bytes.
 pub(crate) fn strips_of<R: Source + Copy>(matrix: Matrix<R>) -> Strips {
+    let (width, height, items) = (matrix.width, matrix.height, matrix.source.len());
     let item_size = size_of::<R::Item>();
-    let is_wide = matches!(item_size, 32 | 64) && matrix.height % (WIDE_COLUMN_BYTES / item_size) == 0;
-    let is_large = matrix.source.len() > WIDE_ITEMS;
-    if is_wide && is_large && matrix.width >= WIDE_COLUMNS {
+    // The side is asked first, since it is all that small matrices wait for.
+    let has_blocks = width.min(height) >= BLOCKS_SIDE
+        && match item_size {
+            4 => !BLOCKS_GAP.contains(&items) || width % 16 == 0,
+            8 => items <= BLOCKS_LONG_ITEMS,
+            _ => false,
+        }
+        && (items >= BLOCKS_ITEMS || (width | height) % 4 == 0);
+    let is_wide = matches!(item_size, 32 | 64) && height % (WIDE_COLUMN_BYTES / item_size) == 0;
+    if unchecked::TURNS_IN_REGISTERS && has_blocks {
+        Strips::Blocks
+    } else if is_wide && items > WIDE_ITEMS && width >= WIDE_COLUMNS {
         Strips::Wide
     } else {
         Strips::of(matrix)

@@ -3,7 +3,7 @@
 #[doc(inline)]
 pub use crate::kernels::zip_eq::ZipEq;
 
-/// Pairs the items of `a` and `b` by place, or returns `err` where their lengths differ. This is the proved
+/// Pairs the items of `a` and `b` in order, or returns `err` if their lengths differ. This is the proved
 /// [`kernels::zip_eq::zip_eq`](crate::kernels::zip_eq::zip_eq), with the original's type parameters.
 ///
 /// ```

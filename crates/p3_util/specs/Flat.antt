@@ -1,4 +1,4 @@
--- A list of rows as one list.
+-- A list of rows, seen as one list.
 -- Source: the documentation of `as_base_slice` and `flatten_to_base` of p3-util 0.8.0.
 use Rattle.std.specs.Prelude.{ℕ, ◌≡◌, ◌*◌, ◌/◌, ◌%◌, ◌^◌, ◌<◌, if◌then◌else◌, nat_lt, List, [], length, slice_get, slice_index_or}
 use Rattle.std.specs.List.{flat_map}
@@ -7,11 +7,12 @@ use Rattle.std.specs.List.{flat_map}
 abbrev pub flat : {A : Type 0} → List (List A) → List A
 flat rows = flat_map (λ row. row) rows
 
--- the items of the rows where a `usize` can count them, and none where it cannot
+-- the items of the rows if a `usize` can count them, and otherwise no items
 abbrev pub countable_items : {A : Type 0} → List (List A) → List A
 countable_items rows = if nat_lt (length (flat rows)) (2 ^ 64) then flat rows else []
 
--- `items` are those of the rows, place by place, where rows have n items: item i is item `i % n` of row `i / n`
+-- `items` are the items of the rows in order, if each row has n items: item i is item `i % n` of
+-- row `i / n`
 pub record IsFlat {A : Type 0} (n : ℕ) (rows : List (List A)) (items : List A) : Type 0 where
   pub len : length items ≡ length rows * n
   pub places : (i : ℕ) → i < length items → slice_get items i ≡ slice_get (slice_index_or rows (i / n) []) (i % n)

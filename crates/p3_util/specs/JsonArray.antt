@@ -1,4 +1,4 @@
--- An array as a JSON list: what it is written as, and what a value is read as.
+-- An array as a JSON list: how it is written, and how a value is read.
 -- Source: the documentation and the tests of `array_serialization` of p3-util 0.8.0.
 use Rattle.std.specs.Prelude.{ℕ, ◌≡◌, ◌≢◌, ◌<◌, List, [], ◌∷◌, length, map, take, Bool, IsTrue, Some, Result, Ok, Err, MatchOption, option_map, slice_get}
 use Rattle.serde_json.specs.Data.{Data, Items, no_items, item}
@@ -8,7 +8,8 @@ use Rattle.p3_util.specs.declared.array_serialization.ElementError.TheVariants.{
 use Rattle.p3_util.specs.declared.array_serialization.ArrayError.{ArrayError}
 use Rattle.p3_util.specs.declared.array_serialization.ArrayError.TheVariants.{NotArray, Element, Length}
 
--- why a value is no element of a type: its kind, its range, or that it is a float
+-- why a value is not an element of a type: because of its kind or its range, or because it is a
+-- float
 pub data Refusal : Type 0 where
   wrong_kind : Refusal
   out_of_range : Refusal
@@ -20,14 +21,16 @@ listed no_items = []
 listed (item d ds) = d ∷ listed ds
 
 module _ {T : Type 0} (wants_memory : Bool) where
-  -- an error that the reading of one value explains; running out of memory comes only where the type may need it
+  -- an error that the reading of one value explains; out of memory occurs only for a type that may
+  -- need memory
   abbrev pub IsCause : Result T Refusal → ElementError → Type 0
   IsCause r Kind = r ≡ Err wrong_kind
   IsCause r Range = r ≡ Err out_of_range
   IsCause r Float = r ≡ Err a_float
   IsCause r Memory = IsTrue wants_memory
 
-  -- what may be returned where one value is read: the element, a `Refusal`, or out of memory where the type may need some
+  -- what may be returned when one value is read: the element, a `Refusal`, or out of memory if the
+  -- type may need some
   abbrev pub IsElementAnswer : Result T Refusal → Result T ElementError → Type 0
   IsElementAnswer r (Ok x) = r ≡ Ok x
   IsElementAnswer r (Err e) = IsCause r e
@@ -38,20 +41,21 @@ module _ {T : Type 0} (reading : Data → Result T Refusal) where
   AreReadAs ds xs = map reading ds ≡ map Ok xs
 
   module _ (wants_memory : Bool) (n : ℕ) where
-    -- What may be returned where a JSON list is read as n elements. In this order: the first refused item among the first n,
-    -- with its cause; another length; the elements.
+    -- What may be returned when a JSON list is read as n elements. The first that applies: the
+    -- first refused item among the first n, with its cause; a wrong length; the elements.
     abbrev pub IsListAnswer : List Data → Result (List T) ArrayError → Type 0
     IsListAnswer ds (Err NotArray) = ⊥
     IsListAnswer ds (Err (Element i e)) = (i < n) × ((xs : List T) × AreReadAs (take i ds) xs) × ((d : Data) × (slice_get ds i ≡ Some d) × IsCause wants_memory (reading d) e)
     IsListAnswer ds (Err (Length got)) = ((xs : List T) × AreReadAs (take n ds) xs) × (got ≡ length ds) × (got ≢ n)
     IsListAnswer ds (Ok xs) = AreReadAs ds xs × (length ds ≡ n)
 
-    -- What may be returned where any value is read as n elements. In this order: that it is no list; the first refused item
-    -- among the first n, with its cause; another length; the elements.
+    -- What may be returned when any value is read as n elements. The first that applies: that it is
+    -- not a list; the first refused item among the first n, with its cause; a wrong length; the
+    -- elements.
     abbrev pub IsArrayAnswer : Data → Result (List T) ArrayError → Type 0
     IsArrayAnswer d r = MatchOption (option_map listed (as_array d)) (r ≡ Err NotArray) (λ ds. IsListAnswer ds r)
 
--- the elements themselves, or out of memory at one whose type may need some
+-- the elements themselves, or out of memory at an element whose type may need memory
 abbrev pub IsSameOrMemory : {T : Type 0} → Bool → List T → Result (List T) ArrayError → Type 0
 IsSameOrMemory wants_memory xs (Ok ys) = ys ≡ xs
 IsSameOrMemory wants_memory xs (Err (Element i Memory)) = IsTrue wants_memory

@@ -1,12 +1,12 @@
--- The four element types: what one JSON value is read as.
--- Source: new, since the original takes any type of serde.
+-- The four element types, and how one JSON value is read as each of them.
+-- Source: new, since the original accepts any type of serde.
 use Rattle.std.specs.Prelude.{ℕ, ◌^◌, ℤ, pos, negsuc, Bool, nat_lt, Option, Some, None, Result, Ok, Err, if◌then◌else◌}
 use Rattle.std.specs.Option.{ok_or}
 use Rattle.serde_json.specs.Data.{Data, null, boolean, number, string, array, object}
 use Rattle.serde_json.specs.Find.{as_integer, is_float}
 use Rattle.p3_util.specs.JsonArray.{Refusal, wrong_kind, out_of_range, a_float}
 
--- the whole number that a value is; each number of JSON that is neither a u64 nor an i64 is a float
+-- the integer that a value is; a JSON number that is neither a u64 nor an i64 is a float
 abbrev pub whole_number : Data → Result ℤ Refusal
 whole_number null = Err wrong_kind
 whole_number (boolean b) = Err wrong_kind
@@ -15,12 +15,12 @@ whole_number (string s) = Err wrong_kind
 whole_number (array ds) = Err wrong_kind
 whole_number (object ms) = Err wrong_kind
 
--- the number, where the type has it, by its function from whole numbers
+-- the integer as a value of the type, by the type's function from integers, if the type has it
 abbrev pub in_type : {T : Type 0} → (ℤ → Option T) → Result ℤ Refusal → Result T Refusal
 in_type has (Ok z) = ok_or (has z) out_of_range
 in_type has (Err r) = Err r
 
--- a number of an unsigned type of `bits` bits
+-- an integer of an unsigned type of `bits` bits
 abbrev pub unsigned_of : ℕ → ℤ → Option ℕ
 unsigned_of bits (pos n) = if nat_lt n (2 ^ bits) then Some n else None
 unsigned_of bits (negsuc n) = None

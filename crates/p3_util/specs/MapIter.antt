@@ -1,4 +1,4 @@
--- What the iterators that `std` makes of a `Vec`'s pairs, by value or by reference, give of a map.
+-- What std's iterators over the pairs of a `Vec`, by value or by reference, yield for a map.
 -- Source: the documentation of `LinearMap` of p3-util 0.8.0.
 use Rattle.std.specs.Prelude.{◌≡◌, ◌<◌, ◌^◌, List, length}
 use Rattle.std.specs.Iterator.Runs.{EveryRun, ItemsAre, ItemsMapTo}
@@ -8,12 +8,12 @@ use Rattle.std.specs.declared.alloc.Global.{Global}
 use Rattle.std.specs.declared.slice.Iter.{Iter}
 use Rattle.std.specs.declared.vec.IntoIter.{IntoIter}
 
--- the iterator r has the items of xs left, in order, and gives them by value
+-- the iterator r still has the items of xs, in order, and yields them by value
 abbrev pub OwnsInOrder : {X : Type 0} → List X → IntoIter X Global → Type 0
 OwnsInOrder {X} xs r =
     (into_iter_items r ≡ xs) × (into_iter_len r ≡ length xs) × (length xs < 2 ^ 64) × EveryRun (into_iter_steps {X = X} {Z = Global}) (λ run. ItemsAre run (into_iter_items run.from))
 
--- the iterator r has the items of xs left, in order, and lends them
+-- the iterator r still has the items of xs, in order, and lends them
 abbrev pub LendsInOrder : {X : Type 0} → List X → Iter X → Type 0
 LendsInOrder {X} xs r =
     (iter_rest r ≡ xs) × (length (iter_rest r) < 2 ^ 64) × EveryRun (iter_steps {A = X}) (λ run. ItemsMapTo run (λ item. item.now) (iter_rest run.from))

@@ -1,4 +1,4 @@
--- What an iterator over padded pieces takes from its source and gives.
+-- What an iterator over padded pieces takes from its source, and what it yields.
 -- Source: the documentation and the tests of `iter_array_chunks_padded` of p3-util 0.8.0.
 use Rattle.std.specs.Prelude.{◌≡◌, ℕ, ◌-◌, ◌*◌, ◌<◌, ◌==◌, if◌then◌else◌, Bool, true, false, List, ◌++◌, length, replicate, Option, None, MatchBool, MatchOption}
 use Rattle.std.specs.Iterator.{Yields, YieldsThen, Count, count_map, count_unless}
@@ -7,17 +7,17 @@ use Rattle.std.specs.List.{flat_map}
 use Rattle.p3_util.specs.Pieces.{piece_count, padded, padded_pieces}
 use Rattle.p3_util.specs.declared.chunks.ArrayChunksPadded.{ArrayChunksPadded}
 
--- Calls from s gave the items xs of one piece, at least one of them and at most n, and left t. Where they are fewer than n,
--- a further call gave `None`, and that is the end.
+-- Calls from state s yielded the items xs of one piece, at least one and at most n of them, and led
+-- to state t. If they are fewer than n, a further call yielded `None`, which ends the iteration.
 abbrev pub TakesPiece : {S A : Type 0} → (S → Option A → S → Type 0) → (n : ℕ) → S → List A → (ended : Bool) → S → Type 0
 TakesPiece steps n s xs ended t = (0 < length xs) × MatchBool ended ((length xs < n) × YieldsThen steps s xs None t) ((length xs ≡ n) × Yields steps s xs t)
 
 module _ {S A : Type 0} {n : ℕ} where
-  -- of an `ArrayChunksPadded`, the iterator inside
+  -- the iterator inside an `ArrayChunksPadded`
   abbrev pub padded_source : ArrayChunksPadded S A n → S
   padded_source s = s.iter
 
-  -- whether the iterator inside has returned `None`, after which it is not asked again
+  -- whether the iterator inside has returned `None`; after that it is not called again
   abbrev pub padded_done : ArrayChunksPadded S A n → Bool
   padded_done s = s.done
 
@@ -25,36 +25,38 @@ module _ {S A : Type 0} {n : ℕ} where
   abbrev pub padded_fill : ArrayChunksPadded S A n → A
   padded_fill s = s.default
 
-  -- the iterator inside may be asked, or is not asked at all, since pieces have no item or it has ended
+  -- the iterator inside may be called, or will not be called because pieces have no items or it has
+  -- ended
   abbrev pub padded_can : (S → Type 0) → ArrayChunksPadded S A n → Type 0
   padded_can can s = 0 < n → padded_done s ≡ false → can (padded_source s)
 
-  -- there is no piece: nothing is asked, or the answer is `None`, and that is the end
+  -- there is no further piece: the iterator inside is not called, or returns `None` and ends
   abbrev pub HasNoPiece : (S → Option A → S → Type 0) → ArrayChunksPadded S A n → ArrayChunksPadded S A n → Type 0
   HasNoPiece steps s t = MatchBool (if n == 0 then true else padded_done s) (t ≡ s) (steps (padded_source s) None (padded_source t) × (padded_done t ≡ true))
 
-  -- a call gives the next piece, filled to n items, or `None` where no item is left
+  -- a call yields the next piece, filled to n items, or `None` if no item is left
   abbrev pub padded_steps : (S → Option A → S → Type 0) → ArrayChunksPadded S A n → Option (List A) → ArrayChunksPadded S A n → Type 0
   padded_steps steps s r t = (padded_fill t ≡ padded_fill s) × MatchOption r (HasNoPiece steps s t)
       (λ piece. (padded_done s ≡ false) × ((xs : List A) × TakesPiece steps n (padded_source s) xs (padded_done t) (padded_source t) × (piece ≡ padded n (padded_fill s) xs)))
 
-  -- as many pieces are left as the items that are left make
+  -- the number of pieces that are left, which the items that are left make
   abbrev pub padded_left : (S → Count) → ArrayChunksPadded S A n → Count
   padded_left left s = count_unless (n == 0) (count_map (piece_count n) (count_unless (padded_done s) (left (padded_source s))))
 
--- Behind the run p of padded pieces is the run q of the iterator inside: p gave the pieces of the items of q, each filled to
--- n items. So there are as many as the quotient rounded up, and their items are those of q and then `fill`. Where p went on
--- to `None`, so did q, unless n is 0.
+-- The run p of padded pieces comes from the run q of the iterator inside: p yielded the pieces of
+-- the items of q, each filled to n items. So the number of pieces is the quotient rounded up, and
+-- their items are those of q and then `fill`. If p went on to `None`, so did q, unless n is 0.
 pub record IsPaddedRun {S T A : Type 0} {steps : S → Option (List A) → S → Type 0} {source : T → Option A → T → Type 0} (n : ℕ) (fill : A) (p : Run steps) (q : Run source) : Type 0 where
   pub items : p.items ≡ padded_pieces n fill q.items
   pub whole : p.whole ≡ true → 0 < n → q.whole ≡ true
   pub count : p.len ≡ piece_count n q.len
   pub joined : flat_map (λ piece. piece) p.items ≡ q.items ++ replicate (p.len * n - q.len) fill
 
--- behind each run of calls is a run of the iterator inside, and the pieces are `padded_pieces` of its items
+-- each run of calls comes from a run of the iterator inside, and its pieces are `padded_pieces` of
+-- that run's items
 abbrev pub PadsRuns : {S A : Type 0} {n : ℕ} → (S → Option A → S → Type 0) → A → ArrayChunksPadded S A n → Type 0
 PadsRuns {n = n} steps fill s = EachRunFrom (padded_steps steps) s (λ p. SomeRun steps (padded_source s) (IsPaddedRun n fill p))
 
--- after `None` comes nothing but `None`
+-- after `None` only `None` follows
 abbrev pub EndsForGood : {S A : Type 0} → (S → Option A → S → Type 0) → Type 0
 EndsForGood {S} {A} steps = (s t u : S) (r : Option A) → steps s None t → steps t r u → r ≡ None

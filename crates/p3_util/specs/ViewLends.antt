@@ -1,19 +1,19 @@
--- What the holder of rows ends as where a `&mut` to one of their items is returned.
+-- What a holder of rows becomes when a `&mut` to one of their items was returned.
 -- Source: new.
 use Rattle.std.specs.Prelude.{ℕ, Option, List, ◌≡◌, slice_set}
 use Rattle.std.specs.Option.{OnSome}
 use Rattle.std.specs.Borrow.{LendsSo, MutBor, Fml, RattleType}
 
 module _ (S T : RattleType) (items : S.Denot → List T.Denot) (same_rows : S.Denot → S.Denot → Type 0) (rows : MutBor S.Denot) (i : ℕ) (l : Option (MutBor T.Denot)) where
-  -- where l has an item, the same rows end with item i set to w, and every other item as it was
+  -- if l has an item, the same rows end up with item i set to w, and every other item is unchanged
   abbrev pub HasWritten : S.Denot → T.Denot → Type 0
   HasWritten last w = OnSome l (same_rows rows.now last × (items last ≡ slice_set (items rows.now) i w))
 
-  -- the same rows end with the items they had
+  -- the same rows end up with the items that they had
   abbrev pub HasKept : S.Denot → Type 0
   HasKept last = same_rows rows.now last × (items last ≡ items rows.now)
 
-  -- the rows end with item i as it was last written through l and every other item as it was, and where l has none with all
-  -- as they were
+  -- the rows end up with item i as it was last written through l, and every other item is
+  -- unchanged; if l has no item, all items are unchanged
   abbrev pub lends_item : Fml
   lends_item = LendsSo S T rows l HasWritten HasKept

@@ -1,30 +1,30 @@
--- What an iterator over pairs from two iterators of one length takes from them and gives.
+-- What an iterator over pairs takes from two iterators of one length, and what it yields.
 -- Source: the documentation and the tests of `zip_eq` of p3-util 0.8.0.
 use Rattle.std.specs.Prelude.{◌≡◌, ◌+◌, ◌⊎◌, true, Option, Some, None, MatchOption, List, zip}
 use Rattle.std.specs.Iterator.{Yields, Count, size}
 use Rattle.std.specs.Iterator.Runs.{Run, SomeRun, EachRunFrom, ProjectsRun}
 use Rattle.p3_util.specs.declared.zip_eq.ZipEq.{ZipEq}
 
--- the length that an iterator states is true, now and after any calls: each item lowers it by one, and `None` comes where it
--- is 0
+-- the length that an iterator states is true, now and after any calls: each item lowers it by one,
+-- and `None` comes when it is 0
 pub record HasTrueLength {S A : Type 0} (steps : S → Option A → S → Type 0) (left : S → Count) (s : S) : Type 0 where
   pub item : (xs : List A) (t : S) (x : A) (u : S) → Yields steps s xs t → steps t (Some x) u → size (left t) ≡ size (left u) + 1
   pub none : (xs : List A) (t u : S) → Yields steps s xs t → steps t None u → size (left t) ≡ 0
 
--- a run from the same state has one item more
+-- some run from the same state has one item more
 abbrev pub HasMore : {S A : Type 0} {steps : S → Option A → S → Type 0} → Run steps → Type 0
 HasMore {steps = steps} u = SomeRun steps u.from (λ more. more.len ≡ u.len + 1)
 
--- p gave the pairs of the items of u and v, place by place. Where it ended, both sides had ended, or one had, and the other
--- had an item more.
+-- p yielded the pairs of the items of u and v, in order. If p ended, then both sides had ended, or
+-- one had ended and the other had one item more.
 pub record IsPairsRun {S T U A B : Type 0} {steps : S → Option (A × B) → S → Type 0} {first : T → Option A → T → Type 0} {second : U → Option B → U → Type 0} (p : Run steps) (u : Run first) (v : Run second) : Type 0 where
   pub items : p.items ≡ zip u.items v.items
   pub firsts : ProjectsRun p u (λ x. x.0)
   pub seconds : ProjectsRun p v (λ x. x.1)
   pub ends : p.whole ≡ true → ((u.whole ≡ true) × (v.whole ≡ true)) ⊎ ((u.whole ≡ true) × HasMore v) ⊎ ((v.whole ≡ true) × HasMore u)
 
--- p gave the pairs of the items of u and v, which are all that it asked the two sides for. Where it ended, both sides had
--- ended, or one had, and the other had given an item more.
+-- p yielded the pairs of the items of u and v, and called the two sides for no others. If p ended,
+-- then both sides had ended, or one had ended and the other had given one item more.
 pub record IsAskedRun {S T U A B : Type 0} {steps : S → Option (A × B) → S → Type 0} {first : T → Option A → T → Type 0} {second : U → Option B → U → Type 0} (p : Run steps) (u : Run first) (v : Run second) : Type 0 where
   pub items : p.items ≡ zip u.items v.items
   pub ends : p.whole ≡ true → ((u.whole ≡ true) × (v.whole ≡ true)) ⊎ ((u.whole ≡ true) × (v.len ≡ u.len + 1)) ⊎ ((v.whole ≡ true) × (u.len ≡ v.len + 1))
@@ -39,19 +39,21 @@ module _ {S T : Type 0} where
   zip_eq_second z = z.second
 
   module _ {A B : Type 0} (steps : S → Option A → S → Type 0) (others : T → Option B → T → Type 0) where
-    -- a call asks both iterators, and gives a pair where both give an item, else `None`
+    -- a call calls both iterators, and yields a pair if both yield an item and otherwise `None`
     abbrev pub zip_eq_steps : ZipEq S T → Option (A × B) → ZipEq S T → Type 0
     zip_eq_steps s r t = (o : Option A) × (p : Option B) × steps (zip_eq_first s) o (zip_eq_first t) × others (zip_eq_second s) p (zip_eq_second t)
         × MatchOption r ((o ≡ None) ⊎ (p ≡ None)) (λ x. (o ≡ Some x.0) × (p ≡ Some x.1))
 
-    -- behind each run of calls are a run of the first iterator and one of the second, whose items it pairs by place
+    -- each run of calls comes from a run of the first iterator and a run of the second, and pairs
+    -- their items in order
     abbrev pub PairsRuns : ZipEq S T → Type 0
     PairsRuns z = EachRunFrom zip_eq_steps z (λ p. SomeRun steps (zip_eq_first z) (λ u. SomeRun others (zip_eq_second z) (λ v. IsPairsRun p u v)))
 
-    -- behind each run of calls are runs of both iterators, of all that the two were asked for
+    -- each run of calls comes from runs of both iterators, which have all that the two were called
+    -- for
     abbrev pub AskedRuns : ZipEq S T → Type 0
     AskedRuns z = EachRunFrom zip_eq_steps z (λ p. SomeRun steps (zip_eq_first z) (λ u. SomeRun others (zip_eq_second z) (λ v. IsAskedRun p u v)))
 
--- as many pairs are left as the first iterator has items left
+-- the number of pairs that are left, which is the number of items left in the first iterator
 abbrev pub zip_eq_left : {S T : Type 0} → (S → Count) → ZipEq S T → Count
 zip_eq_left left z = left (zip_eq_first z)

@@ -1,4 +1,4 @@
-//! Arrays as JSON lists: each element is written as one JSON value, and read back from one.
+//! Arrays as JSON lists. Each element is written as one JSON value and read back from one.
 ghost use Rattle.std.specs.Prelude.{◌≡◌, Bool, false, List, map, Result, Ok, IsOk, IsTrue, IfOk, OnErr};
 ghost use Rattle.serde_json.specs.Data.{Data, boolean, number, array, unsigned};
 ghost use Rattle.serde_json.specs.Find.{of_integer};
@@ -10,12 +10,12 @@ ghost use Rattle.p3_util.specs.JsonElements.{whole_number, u32_reading, u64_read
 use serde_json::{Number, Value};
 use std::alloc::{AllocError, Global};
 
-/// Why one item of a list is not read as an element.
+/// Why an item of a list cannot be read as an element.
 #[derive(Debug, PartialEq, Eq, Drop)]
 pub enum ElementError {
-    /// The value is of another kind: not a number, or not a truth value.
+    /// The value is of another kind: not a number, or not a boolean.
     Kind,
-    /// The value is a whole number of 64 bits that the type does not have.
+    /// The value is an integer of 64 bits that is out of the type's range.
     Range,
     /// The value is a number that is neither a `u64` nor an `i64`.
     Float,
@@ -23,23 +23,24 @@ pub enum ElementError {
     Memory,
 }
 
-/// Why a value is not read as an array.
+/// Why a value cannot be read as an array.
 #[derive(Debug, PartialEq, Eq, Drop)]
 pub enum ArrayError {
-    /// The value is no list.
+    /// The value is not a list.
     NotArray,
-    /// The item at `index`, counted from 0, is refused, and no item before it is.
+    /// The item at `index`, counted from 0, is refused, for the reason `cause`. No item before it
+    /// is refused.
     Element { index: usize, cause: ElementError },
-    /// The list has `got` items, which is not the array's length.
+    /// The list has `got` items, which is not the length of the array.
     Length { got: usize },
 }
 
 /// An element of an array that is written to JSON and read back.
 pub trait ArrayElement: Default {
-    // The JSON value as which an element is written.
+    // The JSON value that an element is written as.
     ghost written: { Self → Data };
 
-    // The element as which a JSON value is read, or why it is none.
+    // The element that a JSON value is read as, or why it cannot be read.
     ghost reading: { Data → Result Self Refusal };
 
     // Whether the calls below may fail because memory runs out.
@@ -49,36 +50,37 @@ pub trait ArrayElement: Default {
     ///
     /// # Errors
     ///
-    /// `AllocError` where the type may need memory and none is found.
+    /// `AllocError` if the type needs memory and there is none.
     fn to_value(&self, alloc: Global) -> Result<Value, AllocError>
         ensures ok { IfOk result (λ v. view v ≡ written self.now) }
         ensures memory { OnErr result (IsTrue wants_memory) }
 
-        // The law of the trait: the reading of a written element is that element.
+        // The law of the trait: a written element is read back as the same element.
         ensures reads_back { reading (written self.now) ≡ Ok self.now };
 
     /// Reads an element from a JSON value.
     ///
     /// # Errors
     ///
-    /// `Kind`, `Range` or `Float` where the value is no element of the type, and `Memory` where the type may want
-    /// memory and none is found.
+    /// `Kind`, `Range` or `Float` if the value is not an element of the type. `Memory` if the type
+    /// needs memory and there is none.
     fn from_value(alloc: Global, v: &Value) -> Result<Self, ElementError>
         ensures { IsElementAnswer wants_memory (reading (view v.now)) result };
 }
 
-/// Writes an array as the JSON list of its written elements, in order.
+/// Writes an array as a JSON list: each element in order, written by `to_value`.
 ///
 /// # Errors
 ///
-/// `AllocError` where no memory is found, for the list or for an element. None is wanted for an array of no items.
+/// `AllocError` if there is no memory for the list or for an element. An array without items needs
+/// no memory.
 pub fn serialize<T: ArrayElement, const N: usize>(
     alloc: Global,
     items: &[T; N],
 ) -> Result<Value, AllocError>
     ensures ok { IfOk result (λ v. view v ≡ array (items_of (map T.written items.now))) }
 
-    // Each answer that `deserialize` may give of it is the array, or running out of memory.
+    // If `deserialize` reads the result, it can only return the array or run out of memory.
     ensures reads_back { IfOk result (λ v. (r : Result (List T) ArrayError)
         → IsArrayAnswer T.reading T.wants_memory N (view v) r
         → IsSameOrMemory T.wants_memory items.now r) }
@@ -93,20 +95,20 @@ pub fn serialize<T: ArrayElement, const N: usize>(
 
 /// Reads an array of `N` elements from a JSON list.
 ///
-/// It takes no memory of its own.
+/// The call itself allocates nothing.
 ///
 /// # Errors
 ///
-/// In this order: `NotArray` where the value is no list; `Element` for the first item among the first `N` that is
-/// refused, with its cause; `Length` where the list does not have `N` items. `Element` with the cause `Memory` comes
-/// only where the element's type may need memory.
+/// In this order: `NotArray` if the value is not a list; `Element`, with its cause, for the first
+/// refused item among the first `N`; `Length` if the list does not have `N` items. The cause
+/// `Memory` occurs only if the element's type may need memory.
 pub fn deserialize<T: ArrayElement + Drop, const N: usize>(
     alloc: Global,
     v: &Value,
 ) -> Result<[T; N], ArrayError>
     ensures answer { IsArrayAnswer T.reading T.wants_memory N (view v.now) result }
 
-    // Where the element's type never needs memory, no other answer may be given.
+    // If the element's type never needs memory, no other answer is possible.
     ensures only { ¬ IsTrue T.wants_memory → (r : Result (List T) ArrayError)
         → IsArrayAnswer T.reading T.wants_memory N (view v.now) r → r ≡ result }
 {
@@ -126,7 +128,7 @@ pub fn deserialize<T: ArrayElement + Drop, const N: usize>(
     Ok(items)
 }
 
-/// The whole number of 64 bits that a value is.
+/// The value as an integer, if it is a `u64` or an `i64`.
 fn whole(v: &Value) -> Result<i128, ElementError>
     ensures { IsElementAnswer false (whole_number (view v.now)) result }
 {

@@ -1,4 +1,5 @@
-//! Slices of arrays seen as one list of their items, and vectors moved between the two shapes.
+//! Slices of arrays viewed as one list of their items, and vectors that are moved between the two
+//! shapes.
 
 ghost use Rattle.std.specs.Prelude.{◌*◌, ◌^◌, ◌<◌, SomeIff};
 
@@ -16,7 +17,7 @@ pub use base_slice_mut::{BaseSliceMut, Flattened, as_base_slice_mut};
 pub use rows::Rows;
 pub use vectors::{flatten_to_base, reconstitute_from_base};
 
-/// The number of items in `count` arrays of `n` items, or `None` where a `usize` cannot hold it.
+/// The number of items in `count` arrays of `n` items, or `None` if it does not fit a `usize`.
 pub fn flat_len(count: usize, n: usize) -> Option<usize>
     ensures { SomeIff result (count * n < 2 ^ 64) (count * n) }
 {

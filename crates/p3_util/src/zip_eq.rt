@@ -6,7 +6,7 @@ ghost use Rattle.p3_util.specs.ZipEq.{HasTrueLength, zip_eq_first, zip_eq_second
 
 use std::iter::FusedIterator;
 
-/// Pairs the items of `a` and `b` by place, or returns `err` where their lengths differ.
+/// Pairs the items of `a` and `b` in order, or returns `err` if their lengths differ.
 pub fn zip_eq<A, B, Error>(a: A, b: B, err: Error) -> Result<ZipEq<A::IntoIter, B::IntoIter>, Error>
 where
     A: IntoIterator,
@@ -24,10 +24,11 @@ where
         (λ e. (e ≡ err) × ¬ same)) }
     ensures runs { IfOk result (PairsRuns A.IntoIter.next_gives B.IntoIter.next_gives) }
 
-    // The clause `runs` with all calls of `next` on both iterators. By it a caller's search finds the list of the pairs.
+    // The clause `runs`, with all calls of `next` on both iterators. It lets the proof search of a
+    // caller find the list of the pairs.
     ensures asked { IfOk result (AskedRuns A.IntoIter.next_gives B.IntoIter.next_gives) }
 
-    // Where the lengths that both iterators state are true, the length that the pairs state is true.
+    // If the lengths that both iterators state are true, the length that the pairs state is true.
     ensures length { IfOk result (λ z.
         HasTrueLength A.IntoIter.next_gives A.IntoIter.remaining (zip_eq_first z)
         → HasTrueLength B.IntoIter.next_gives B.IntoIter.remaining (zip_eq_second z)
@@ -42,7 +43,7 @@ where
     Ok(ZipEq { first, second })
 }
 
-/// The iterator that [`zip_eq`] makes.
+/// The iterator that [`zip_eq`] returns.
 #[derive(Clone, Debug, Drop)]
 #[must_use = "iterators are lazy and do nothing unless consumed"]
 pub struct ZipEq<A, B> {

@@ -1,4 +1,4 @@
-//! Logarithms of single words, and the reversal of their binary digits.
+//! Logarithms of integers, and the reversal of their binary digits.
 
 ghost use Rattle.std.specs.Prelude.{◌≡◌, ℕ, ◌^◌, ◌<◌, ◌≤◌, IsTrue, ◌↔◌};
 ghost use Rattle.std.specs.Int.{IsPowerOfTwo};
@@ -11,7 +11,7 @@ use p3_util_kernels::bits::{
     reverse_bits_len,
 };
 
-/// The least `e` with `n <= 2^e`, which is 0 for 0 and 1.
+/// The logarithm of `n` to base 2, rounded up: the least `e` with `n <= 2^e`. It is 0 for 0 and 1.
 #[unsafe(no_mangle)]
 pub extern "C" fn p3_util_log2_ceil(n: usize) -> usize
     ensures enough { n ≤ 2 ^ result }
@@ -20,7 +20,7 @@ pub extern "C" fn p3_util_log2_ceil(n: usize) -> usize
     log2_ceil_usize(n)
 }
 
-/// The greatest `e` with `2^e <= n`, and 0 for 0.
+/// The logarithm of `n` to base 2, rounded down: the greatest `e` with `2^e <= n`. It is 0 for 0.
 #[unsafe(no_mangle)]
 pub extern "C" fn p3_util_log2_floor(n: usize) -> usize
     ensures zero { n ≡ 0 → result ≡ 0 }
@@ -30,7 +30,8 @@ pub extern "C" fn p3_util_log2_floor(n: usize) -> usize
     log2_floor_usize(n)
 }
 
-/// Writes to `exponent` the logarithm to base 2 of `n`, where `n` is a power of two. Returns whether it is.
+/// Writes the logarithm to base 2 of `n` to `exponent` if `n` is a power of two. Returns whether it
+/// is.
 #[unsafe(no_mangle)]
 pub extern "C" fn p3_util_log2_strict(n: usize, exponent: &mut usize) -> bool
     ensures { IsTried result (IsPowerOfTwo n) (n ≡ 2 ^ exponent.new) (exponent.new ≡ exponent.old) }
@@ -42,7 +43,8 @@ pub extern "C" fn p3_util_log2_strict(n: usize, exponent: &mut usize) -> bool
     fits
 }
 
-/// Writes to `exponent` the logarithm to base 3 of `n`, where `n` is a power of three. Returns whether it is.
+/// Writes the logarithm to base 3 of `n` to `exponent` if `n` is a power of three. Returns whether
+/// it is.
 #[unsafe(no_mangle)]
 pub extern "C" fn p3_util_log3_strict(n: usize, exponent: &mut usize) -> bool
     ensures { IsTried result (IsPowerOfThree n) (n ≡ 3 ^ exponent.new) (exponent.new ≡ exponent.old) }
@@ -54,8 +56,9 @@ pub extern "C" fn p3_util_log3_strict(n: usize, exponent: &mut usize) -> bool
     fits
 }
 
-/// Writes to `reversed` the `bit_len` low binary digits of `x` in reversed order, and for a `bit_len` of 0 the whole
-/// word of 64 digits in reversed order, where `bit_len` is at most 64. Returns whether it is.
+/// Writes the `bit_len` low binary digits of `x` in reversed order to `reversed` if `bit_len` is at
+/// most 64. For a `bit_len` of 0 all 64 digits are reversed. Returns whether `bit_len` is at most
+/// 64.
 #[unsafe(no_mangle)]
 pub extern "C" fn p3_util_reverse_bits_len(x: usize, bit_len: usize, reversed: &mut usize) -> bool
     ensures { IsTried result (bit_len ≤ 64) (reversed.new ≡ rev_word bit_len x) (reversed.new ≡ reversed.old) }

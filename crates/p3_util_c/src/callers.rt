@@ -1,5 +1,6 @@
-//! A caller of one export of each kind, which no program calls. Its clauses are the parts of what the export ensures, so a
-//! weaker word in `specs/Tried.antt` leaves one of them unproved.
+//! Callers of one export of each kind. No program calls them. Their clauses are the parts of what
+//! the export guarantees, so if a definition in `specs/Tried.antt` is weakened, one of them is no
+//! longer proved.
 
 ghost use Rattle.std.specs.Prelude.{◌≡◌, ◌*◌, ◌^◌, ◌↔◌, IsTrue, length};
 ghost use Rattle.std.specs.Bool.{OnTrue, OnFalse};

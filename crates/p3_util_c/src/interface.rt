@@ -1,5 +1,6 @@
-//! The name of the interface. Bindings refer to it, so that they do not link with a library of another version, and
-//! the linker's error says why. A change to an export, or a new one that bindings use, changes the number in the name.
+//! The name of the interface. Bindings refer to it, so that they cannot be linked with a library of
+//! another version, and the linker's error says why. The number in the name changes if an export
+//! changes or if a new export is used by bindings.
 
 ghost use Rattle.std.specs.Prelude.{◌≡◌};
 

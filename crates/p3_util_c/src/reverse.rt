@@ -1,6 +1,8 @@
-//! Bit reversal of lists, by the size of an item in bytes. `p3_util_reverse_8` is for items of 8 bytes, and so on.
+//! Bit reversal of lists, by the size of an item in bytes. `p3_util_reverse_8` is for items of 8
+//! bytes, and so on.
 //!
-//! Each call reverses the order of `vals` by index bits where the length is zero or a power of two, and returns whether it is.
+//! Each call reverses the order of `vals` by index bits if the length is zero or a power of two,
+//! and returns whether it is.
 
 ghost use Rattle.std.specs.Prelude.{◌≡◌, ◌↔◌, IsTrue, length};
 ghost use Rattle.std.specs.Bool.{OnTrue, OnFalse};
@@ -121,7 +123,7 @@ pub extern "C" fn p3_util_reverse_256(vals: &mut [[[u8; 8]; 32]]) -> bool
     reverse_where_it_fits(vals)
 }
 
-/// The parts of [`IsTriedReversal`], each a clause.
+/// Has each part of [`IsTriedReversal`] as a clause.
 fn reverse_where_it_fits<T>(vals: &mut [T]) -> bool
     ensures held { IsTrue result ↔ IsZeroOrPowerOfTwo (length vals.old) }
     ensures done { OnTrue result (IsReversal vals.old vals.new) }

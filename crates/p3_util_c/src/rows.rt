@@ -1,7 +1,8 @@
-//! Bit reversal of rows, by the size of an item in bytes: each row moves as one item.
+//! Bit reversal of rows, by the size of an item in bytes. `p3_util_reverse_rows_8` is for items of
+//! 8 bytes, and so on. Each row moves as a whole.
 //!
-//! Each call reverses the order of the rows of `vals`, each of `row_width` items, by index bits where the length is `row_width`
-//! times zero or a power of two, and returns whether it is.
+//! Each call reverses the order of the rows of `vals`, of `row_width` items each, by index bits if
+//! the length is `row_width` times zero or a power of two, and returns whether it is.
 
 ghost use Rattle.std.specs.Prelude.{◌≡◌, ◌↔◌, IsTrue, length};
 ghost use Rattle.std.specs.Bool.{OnTrue, OnFalse};
@@ -122,7 +123,7 @@ pub extern "C" fn p3_util_reverse_rows_256(vals: &mut [[[u8; 8]; 32]], row_width
     reverse_rows_where_they_fit(vals, row_width)
 }
 
-/// The parts of [`IsTriedRowReversal`], each a clause.
+/// Has each part of [`IsTriedRowReversal`] as a clause.
 fn reverse_rows_where_they_fit<T>(vals: &mut [T], row_width: usize) -> bool
     ensures held { IsTrue result ↔ FitsRows (length vals.old) row_width }
     ensures done { OnTrue result (IsRowReversal row_width vals.old vals.new) }

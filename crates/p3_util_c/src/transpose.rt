@@ -1,7 +1,8 @@
-//! Transposes of matrices that are held as flat lists, row after row, by the size of an item in bytes.
+//! Transposes of matrices that are stored as flat lists, row after row, by the size of an item in
+//! bytes.
 //!
-//! Each call writes to `output` the transpose of `input`, `height` rows of `width` items, where both lengths are `width` times
-//! `height`, and returns whether they are.
+//! Each call writes the transpose of `input`, a matrix of `height` rows of `width` items, to
+//! `output` if both lengths are `width` times `height`, and returns whether they are.
 
 ghost use Rattle.std.specs.Prelude.{◌≡◌, ◌*◌, ◌↔◌, IsTrue, length};
 ghost use Rattle.std.specs.Bool.{OnTrue, OnFalse};
@@ -202,7 +203,7 @@ pub extern "C" fn p3_util_transpose_256(
     transpose_where_it_fits(input, output, width, height)
 }
 
-/// The parts of [`IsTriedTranspose`], each a clause.
+/// Has each part of [`IsTriedTranspose`] as a clause.
 fn transpose_where_it_fits<T: Copy>(
     input: &[T],
     output: &mut [T],

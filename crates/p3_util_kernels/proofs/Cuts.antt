@@ -1,4 +1,4 @@
--- What is at each place of two lists joined, of the first items of a list, and of the rest.
+-- Lists that are joined, and lists that are cut in two: what is at each place. How a length is cut into parts is in CutParts.
 use Rattle.std.proofs.Common.{◌≡◌, ℕ, ◌+◌, ◌<◌, List, ◌++◌, length, slice_get, take, drop, arith}
 use Rattle.std.proofs.lemmas.Grind.{common_steps}
 use Rattle.std.proofs.lemmas.Option.{gets}

@@ -1,4 +1,4 @@
--- A list that is joined of two, with an item exchanged across the seam.
+-- Two lists that are joined, and an exchange of an item of the first one with an item of the second.
 use Rattle.std.proofs.Common.{ℕ, ◌≡◌, ◌+◌, ◌-◌, ◌<◌, List, ◌++◌, length, get_or, set, sym, ap, ◌∙◌, arith, length-append}
 use Rattle.std.proofs.lemmas.List.{get_or_append_left, get_or-append-add, get_or_read, length-set, set-append_left, set-append_right}
 use Rattle.std.proofs.lemmas.List.Edits.{swap_is}

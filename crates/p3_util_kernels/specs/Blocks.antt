@@ -1,4 +1,5 @@
--- Squares side by side, cut into blocks, for the contracts of `src/parts.rt`.
+-- Squares side by side, cut into blocks. These definitions serve private contracts: those of
+-- `src/parts.rt` and of the files below it.
 -- Source: new.
 use Rattle.std.specs.Prelude.{ℕ, ◌≡◌, ◌+◌, ◌*◌, ◌/◌, ◌<◌, ◌≤◌, ◌==◌, if◌then◌else◌}
 use Rattle.p3_util_kernels.specs.declared.transpose.regions.Region.{Region}
@@ -6,12 +7,14 @@ use Rattle.p3_util_kernels.specs.Parts.{number_of_pair, pairs_of, parts_in, star
 use Rattle.p3_util_kernels.specs.Region.{items_of, rows_of}
 use Rattle.p3_util_kernels.specs.SwapCounts.{square_swaps}
 
--- how many blocks on the diagonals and above them the squares of `side` rows have, side by side in rows of `stride` items
+-- the number of blocks on the diagonals and above them, for squares of `side` rows that lie side by
+-- side in rows of `stride` items
 abbrev pub blocks_of : (side stride step : ℕ) → ℕ
 blocks_of side stride step = stride / side * pairs_of (parts_in side step)
 
--- The block of this number is the region, of the square whose first place is `base`: the rows of one part of the side, and
--- the columns of the same part or of a later one. The blocks of one square have following numbers, and so have the squares.
+-- The block with this number is `region` in the square that begins at place `base`. It has the rows
+-- of one part of the side, and the columns of the same part or of a later one. Blocks are numbered
+-- square by square: those of a square have consecutive numbers.
 pub record IsBlock (side stride step number base : ℕ) (region : Region) : Type 0 where
   pub square : ℕ
   pub row : ℕ
@@ -23,6 +26,7 @@ pub record IsBlock (side stride step number base : ℕ) (region : Region) : Type
   pub inside : base + side ≤ stride
   pub region_is : region ≡ record { row_start = start_of side step row; row_end = start_of side step (row + 1); col_start = start_of side step col; col_end = start_of side step (col + 1) }
 
--- how many exchanges a block takes, where it is on the diagonal, and where it is above
+-- the number of exchanges for a block: for a block on the diagonal those of a square's transpose,
+-- and for one above it one for each item
 abbrev pub swaps_of_block : Region → ℕ
 swaps_of_block region = if region.row_start == region.col_start then square_swaps (rows_of region) else items_of region

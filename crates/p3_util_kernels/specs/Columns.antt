@@ -1,15 +1,16 @@
--- Neighbouring items of a column of a matrix, put at following cells. It serves the private contracts of the transposes alone.
+-- Neighbouring items of a column of a matrix, put at consecutive cells. These definitions serve the
+-- private contracts of the transposes alone.
 use Rattle.std.specs.Prelude.{ℕ, ◌≡◌, ◌+◌, ◌*◌, ◌^◌, ◌<◌, ◌≤◌, ◌⊎◌, List, length, slice_get}
 
--- The `rows` items of `input` from `from` on, `width` places apart, and as many cells from `to` on lie in the lists, and the
--- machine can hold their places.
+-- The lists are long enough for `rows` items of `input`, at `from` and then every `width` places,
+-- and for as many cells of `out` from `to` on. Both lengths fit a usize.
 pub record HoldsColumn {A : Type 0} (rows from width to : ℕ) (input out : List A) : Type 0 where
   pub inside : (t : ℕ) → t < rows → from + t * width < length input
   pub room : to + rows ≤ length out
   pub input_fits : length input < 2 ^ 64
   pub out_fits : length out < 2 ^ 64
 
--- Item t of the column is in cell `to + t`, and every other cell holds what it held.
+-- Cell `to + t` holds item t of the column, and every other cell holds what it held before.
 pub record IsColumnPut {A : Type 0} (rows from width to : ℕ) (input old new : List A) : Type 0 where
   pub same_length : length new ≡ length old
   pub places : (t : ℕ) → t < rows → slice_get new (to + t) ≡ slice_get input (from + t * width)

@@ -1,10 +1,12 @@
--- Pairs of rows exchanged, for the contracts of the kernels in `reverse/pairs`.
+-- Exchanged pairs of rows. These definitions serve private contracts: those of the kernels in
+-- `src/reverse/pairs.rt`.
 --
--- There are 2 ^ (half + c) rows of `row_width` items, where c is `half` or half + 1. As `src/reverse/pairs.rt` explains, the
--- index of a row has three parts: `half` digits, of which `x` is the reverse, c - half digits `middle`, and `half` digits `y`.
--- The row is exchanged with the row that has x and y in each other's place. A line is all pairs that share `middle` and the
--- greater one of x and y. So a pair is named by its line and by the smaller one, and pairs are given as a region is: its
--- columns are lines, and its rows the smaller numbers.
+-- There are 2 ^ (half + c) rows of `row_width` items, where c is `half` or half + 1. As
+-- `src/reverse/pairs.rt` explains, the index of a row has three parts: `half` digits, whose reverse
+-- is `x`, then c - half digits `middle`, and then `half` digits `y`. The row is exchanged with the
+-- row for which x and y are swapped. A line is all pairs that have the same `middle` and the same
+-- greater number of x and y. So a line and the smaller number determine a pair. A set of pairs is
+-- given as a region: its columns are lines, and its rows are the smaller numbers.
 -- Source: new.
 use Rattle.std.specs.Prelude.{ℕ, ◌≡◌, ◌+◌, ◌-◌, ◌*◌, ◌/◌, ◌%◌, ◌^◌, ◌<◌, ◌≤◌, min, max, List, length}
 use Rattle.p3_util_kernels.specs.declared.transpose.regions.Region.{Region}
@@ -12,29 +14,31 @@ use Rattle.p3_util_kernels.specs.Digits.{rev, sum_below}
 use Rattle.p3_util_kernels.specs.Mirrored.{Mirrored}
 use Rattle.p3_util_kernels.specs.Region.{IsInRegion, cols_of}
 
--- the index of the row of three parts: x reversed, `middle` and y
+-- the index of the row with these three parts: x reversed, `middle` and y
 abbrev pub row_of : (half c middle x y : ℕ) → ℕ
 row_of half c middle x y = rev half x * 2 ^ c + (middle * 2 ^ half + y)
 
--- x, y and a middle part m of a row, and item t of it
+-- m, x and y are the parts of a row's index, and t is an item of the row
 pub record IsRowItem (half c row_width m t x y : ℕ) : Type 0 where
   pub middle : m < 2 ^ (c - half)
   pub item : t < row_width
   pub high : x < 2 ^ half
   pub low : y < 2 ^ half
 
--- the pairs of these lines are exchanged, each item with its counterpart, and all other rows stay
+-- the pairs of rows that `pairs` has are exchanged, each item with its counterpart, and all other
+-- rows stay
 abbrev pub IsCrossed : {A : Type 0} (half c row_width : ℕ) (pairs : Region) (old new : List A) → Type 0
 IsCrossed half c row_width pairs old new =
     Mirrored {M = ℕ × ℕ} (λ m x y. row_of half c m.0 x y * row_width + m.1)
     (λ m x y. IsRowItem half c row_width m.0 m.1 x y × IsInRegion pairs (m.0 * 2 ^ half + max x y) (min x y)) old new
 
--- how many lines the pairs of neighbouring lines of `2 ^ digits` rows have: all of them, or none where they are one row or two
+-- the number of lines that belong to pairs of neighbouring lines, for `2 ^ digits` rows: all lines,
+-- or none for one or two rows
 abbrev pub lines_of : (digits : ℕ) → ℕ
 lines_of digits = 2 ^ (digits % 2) * (2 ^ (digits / 2) / 2) * 2
 
--- the pairs are those of pairs of neighbouring lines, of `2 ^ digits` rows, and each of these lines has all the smaller numbers or
--- begins with them
+-- the lines of `pairs` are pairs of neighbouring lines, for `2 ^ digits` rows, and its first row is
+-- at most the greater number y of each of these lines
 pub record AreLinePairs (digits : ℕ) (pairs : Region) : Type 0 where
   pub rows_in_order : pairs.row_start ≤ pairs.row_end
   pub cols_in_order : pairs.col_start ≤ pairs.col_end
@@ -43,11 +47,12 @@ pub record AreLinePairs (digits : ℕ) (pairs : Region) : Type 0 where
   pub inside : pairs.col_end ≤ lines_of digits
   pub above : (line : ℕ) → pairs.col_start ≤ line → line < pairs.col_end → pairs.row_start ≤ line % 2 ^ (digits / 2)
 
--- how many pairs these are, where each middle digit has `side` lines: a line has those of its smaller numbers that are rows
+-- the number of these pairs, if each middle digit has `side` lines: each line counts those of its
+-- smaller numbers that are rows of `pairs`
 abbrev pub pairs_in : (side : ℕ) (pairs : Region) → ℕ
 pairs_in side pairs = sum_below (cols_of pairs) (λ i. min pairs.row_end ((pairs.col_start + i) % side) - pairs.row_start)
 
--- the list is `2 ^ digits` rows of `row_width` items, and the machine can hold its places
+-- the list is `2 ^ digits` rows of `row_width` items, and its length fits a usize
 pub record HoldsRows {A : Type 0} (row_width digits : ℕ) (items : List A) : Type 0 where
   pub wide : 0 < row_width
   pub few : digits < 64

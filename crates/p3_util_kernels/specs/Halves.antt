@@ -1,10 +1,12 @@
--- Two parts of a region, for the private contracts of the split.
+-- A region cut into two parts. These definitions serve the private contracts of the split and of
+-- the regions that it cuts.
 use Rattle.std.specs.Prelude.{ℕ, ◌≡◌, ◌+◌, ◌<◌, ◌≤◌, ◌⊎◌, max}
 use Rattle.p3_util_kernels.specs.declared.transpose.regions.Region.{Region}
 use Rattle.p3_util_kernels.specs.Levels.{lev, nest}
 use Rattle.p3_util_kernels.specs.Region.{IsInRegion, cols_of, items_of, rows_of}
 
--- The part lies in the whole, and its rows and columns are in order where those of the whole are.
+-- The part lies in the whole. If the rows of the whole are in order, so are those of the part, and
+-- the same holds for the columns.
 pub record IsPart (whole part : Region) : Type 0 where
   pub row_from : whole.row_start ≤ part.row_start
   pub row_to : part.row_end ≤ whole.row_end
@@ -13,7 +15,8 @@ pub record IsPart (whole part : Region) : Type 0 where
   pub rows : whole.row_start ≤ whole.row_end → part.row_start ≤ part.row_end
   pub cols : whole.col_start ≤ whole.col_end → part.col_start ≤ part.col_end
 
--- One region is cut into two: each place of it lies in one of them, and in one alone, and they have as many items as it has.
+-- One region is cut into two. Each place of it lies in exactly one of them, and together they have
+-- as many items as it has.
 pub record IsCut (whole first second : Region) : Type 0 where
   pub parts : (x y : ℕ) → IsInRegion whole x y → (IsInRegion first x y) ⊎ (IsInRegion second x y)
   pub apart : (x y : ℕ) → IsInRegion first x y → IsInRegion second x y → ⊥
@@ -21,7 +24,8 @@ pub record IsCut (whole first second : Region) : Type 0 where
   pub second_inside : IsPart whole second
   pub items : items_of first + items_of second ≡ items_of whole
 
--- One region is cut into two. The splits of each nest at least one level less, and those of one of them just one less.
+-- One region is cut into two. The splits of each part nest at least one level less deep, and those
+-- of one of them exactly one level less.
 pub record AreHalves (whole first second : Region) : Type 0 where
   pub cut : IsCut whole first second
   pub first_levels : lev (rows_of first) (cols_of first) < lev (rows_of whole) (cols_of whole)

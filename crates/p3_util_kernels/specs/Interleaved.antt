@@ -1,5 +1,5 @@
--- Steps of several lists that are interleaved, as the steps of several threads are, for the contracts of
--- `src/parts/laws/interleaved.rt`.
+-- Steps of several lists that are interleaved, as several threads make them. These definitions
+-- serve private contracts: those of `src/parts/laws/interleaved.rt`.
 -- Source: new.
 use Rattle.std.specs.Prelude.{ℕ, Bool, ◌≡◌, ◌≢◌, ◌<◌, List, [], ◌∷◌, All, Contains, Some, flat_map, length, slice_get, slice_set}
 use Rattle.p3_util_kernels.specs.declared.parts.reversal.Phase.{Phase}
@@ -9,8 +9,8 @@ use Rattle.p3_util_kernels.specs.PartSteps.{NoPlaceInCommon}
 use Rattle.p3_util_kernels.specs.Plans.{IsPartMade, parts_of}
 use Rattle.p3_util_kernels.specs.Region.{IsRegionTransposed, items_of}
 
--- `all` is an interleaving of the lists: each step of it is the first step left of some list, and is taken from that list. At the
--- end no list has a step left.
+-- `all` is an interleaving of the lists: each of its steps is the first remaining step of one list,
+-- and at the end no list has a step left.
 unfoldable pub IsInterleaved : {S : Type 0} → (lists : List (List S)) (all : List S) → Type 0
 IsInterleaved lists [] = All (λ steps. steps ≡ []) lists
 IsInterleaved {S} lists (step ∷ all) = (k : ℕ) × (rest : List S) × (slice_get lists k ≡ Some (step ∷ rest)) × IsInterleaved (slice_set lists k rest) all
@@ -25,33 +25,35 @@ pub record AreApartBelow {S : Type 0} (places : List S → List ℕ) (n : ℕ) (
   pub apart : (i j : ℕ) (first second : List S) → i ≢ j → slice_get lists i ≡ Some first → slice_get lists j ≡ Some second
       → NoPlaceInCommon (Contains (places first)) (Contains (places second))
 
--- every interleaving of lists that are apart leaves what the lists leave one after the other
+-- every interleaving of such lists has the same result as the lists one after the other
 abbrev pub SameInTurn : {A S : Type 0} → (List A → List S → List A) → (List S → List ℕ) → Type 0
 SameInTurn {A} {S} after places = (xs : List A) (lists : List (List S)) (all : List S) → AreApartBelow places (length xs) lists
     → IsInterleaved lists all → after xs all ≡ after xs (in_turn lists)
 
--- alone, these writes put the region of part k of a matrix, and there are as many of them as the region has items
+-- these writes alone put the region of part k of a matrix, and there is one write for each of its
+-- items
 abbrev pub IsPutAlone : {A : Type 0} (width height : ℕ) (by_rows : Bool) (len step k : ℕ) (input old : List A) (steps : List (ℕ × A)) → Type 0
 IsPutAlone width height by_rows len step k input old steps =
     let region = part_of_matrix width height by_rows len step k in
     (length steps ≡ items_of region) × IsRegionTransposed region width height input old (after_puts old steps)
 
--- each region has one list of writes, which put it alone
+-- there is one such list for each region
 abbrev pub PutAlone : {A : Type 0} (width height : ℕ) (by_rows : Bool) (len step : ℕ) (input old : List A) (lists : List (List (ℕ × A))) → Type 0
 PutAlone {A} width height by_rows len step input old lists =
     (length lists ≡ parts_in len step)
     × ((k : ℕ) (steps : List (ℕ × A)) → slice_get lists k ≡ Some steps → IsPutAlone width height by_rows len step k input old steps)
 
--- alone, these exchanges make part k of a phase, and there are as many of them as the part takes
+-- these exchanges alone make part k of a phase, and there are as many as the part takes
 abbrev pub IsMadeAlone : {A : Type 0} (phase : Phase) (k : ℕ) (old : List A) (steps : List (ℕ × ℕ)) → Type 0
 IsMadeAlone phase k old steps = IsPartMade phase k old (after_swaps old steps) (λ n. length steps ≡ n)
 
--- each part of the phase has one list of exchanges, which make it alone
+-- there is one such list for each part
 abbrev pub MakeAlone : {A : Type 0} (phase : Phase) (old : List A) (lists : List (List (ℕ × ℕ))) → Type 0
 MakeAlone phase old lists =
     (length lists ≡ parts_of phase) × ((k : ℕ) (steps : List (ℕ × ℕ)) → slice_get lists k ≡ Some steps → IsMadeAlone phase k old steps)
 
--- the phases are made one after the other, each by some interleaving of exchanges that make its parts alone
+-- the phases are made one after the other, and the exchanges of each phase's parts in any
+-- interleaving
 abbrev pub AreMadeInterleaved : {A : Type 0} (phases : List Phase) (old new : List A) → Type 0
 AreMadeInterleaved [] old new = new ≡ old
 AreMadeInterleaved (phase ∷ phases) old new =

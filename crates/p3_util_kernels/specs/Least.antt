@@ -1,4 +1,5 @@
--- Lists of exchanges and of writes, and the least number of steps in which a list can be rearranged.
+-- Lists of exchanges and of writes, and the least number of steps in which a list can be
+-- rearranged.
 -- Source: new.
 use Rattle.std.specs.Prelude.{ℕ, Bool, ◌==◌, ◌≡◌, ◌≢◌, ◌↔◌, ◌+◌, ◌-◌, ◌*◌, ◌/◌, ◌^◌, ◌<◌, ◌≤◌, IsTrue, if◌then◌else◌, List, [], ◌∷◌, All, AllPairs, length, slice_get, slice_set, swap}
 use Rattle.p3_util_kernels.specs.Digits.{rev, sum_below}
@@ -6,22 +7,23 @@ use Rattle.p3_util_kernels.specs.Reversal.{IsReversal}
 use Rattle.p3_util_kernels.specs.SwapCounts.{short_swaps, square_swaps}
 use Rattle.p3_util_kernels.specs.Transpose.{IsTranspose}
 
--- the list after a list of exchanges, each a pair of places: the items at the two places of each are exchanged in turn
+-- the list after exchanges made one after the other: each is a pair of places, whose items are
+-- exchanged
 unfoldable pub after_swaps : {A : Type 0} → List A → List (ℕ × ℕ) → List A
 after_swaps xs [] = xs
 after_swaps xs (pair ∷ steps) = after_swaps (swap xs pair.0 pair.1) steps
 
--- the list after a list of writes, each a place with an item: the items are put in turn
+-- the list after writes made one after the other: each is a place and the item that is put there
 unfoldable pub after_puts : {A : Type 0} → List A → List (ℕ × A) → List A
 after_puts xs [] = xs
 after_puts xs (put ∷ steps) = after_puts (slice_set xs put.0 put.1) steps
 
--- the places of a list of exchanges in turn, two of each
+-- the places of a list of exchanges in order, two for each exchange
 unfoldable pub places_swapped : List (ℕ × ℕ) → List ℕ
 places_swapped [] = []
 places_swapped (pair ∷ steps) = pair.0 ∷ pair.1 ∷ places_swapped steps
 
--- the places of a list of writes in turn
+-- the places of a list of writes in order
 unfoldable pub places_put : {A : Type 0} → List (ℕ × A) → List ℕ
 places_put [] = []
 places_put (put ∷ steps) = put.0 ∷ places_put steps
@@ -39,11 +41,11 @@ abbrev pub DifferAt : {A : Type 0} → (n count : ℕ) → List A → List A →
 DifferAt n count old new = (test : ℕ → Bool) × (count_below n test ≡ count)
     × ((i : ℕ) → i < n → IsTrue (test i) ↔ (slice_get old i ≢ slice_get new i))
 
--- the places with the numbers below n are n different ones
+-- `place 0` to `place (n - 1)` are n different places
 abbrev pub AreApart : ℕ → (ℕ → ℕ) → Type 0
 AreApart n place = (i j : ℕ) → i < n → j < n → place i ≡ place j → i ≡ j
 
--- the items at different places differ
+-- no two places of the list have equal items
 abbrev pub AllDiffer : {A : Type 0} → List A → Type 0
 AllDiffer xs = (i j : ℕ) → i < length xs → j < length xs → slice_get xs i ≡ slice_get xs j → i ≡ j
 
@@ -57,17 +59,18 @@ abbrev pub PutsChange : Type 0 → Type 0
 PutsChange A = (xs : List A) (steps : List (ℕ × A)) (n : ℕ) (test : ℕ → Bool)
     → DifferWhere n test xs (after_puts xs steps) → count_below n test ≤ length steps
 
--- each of these places has the property `among`, and they all differ
+-- each of these places has the property `among`, and no place is listed twice
 pub record AreOnceAmong (among : ℕ → Type 0) (places : List ℕ) : Type 0 where
   pub inside : All among places
   pub once : AllPairs (λ a b. a ≢ b) places
 
--- where m exchanges change `2 * m` places, these are the places of the exchanges, each in one of them
+-- if m exchanges change `2 * m` places, the exchanges are at exactly these places, and each place
+-- belongs to one exchange
 abbrev pub SwapsAtChanged : Type 0 → Type 0
 SwapsAtChanged A = (xs : List A) (steps : List (ℕ × ℕ)) (n : ℕ) (test : ℕ → Bool) → DifferWhere n test xs (after_swaps xs steps)
     → count_below n test ≡ 2 * length steps → AreOnceAmong (λ p. (p < n) × IsTrue (test p)) (places_swapped steps)
 
--- where m writes change m places, these are the places of the writes
+-- if m writes change m places, there is exactly one write at each of these places
 abbrev pub PutsAtChanged : Type 0 → Type 0
 PutsAtChanged A = (xs : List A) (steps : List (ℕ × A)) (n : ℕ) (test : ℕ → Bool) → DifferWhere n test xs (after_puts xs steps)
     → count_below n test ≡ length steps → AreOnceAmong (λ p. (p < n) × IsTrue (test p)) (places_put steps)
@@ -76,28 +79,31 @@ PutsAtChanged A = (xs : List A) (steps : List (ℕ × A)) (n : ℕ) (test : ℕ 
 abbrev pub Palindromes : Type 0
 Palindromes = (k : ℕ) → count_below (2 ^ k) (λ i. rev k i == i) ≡ 2 ^ ((k + 1) / 2)
 
--- every list of exchanges that reverses `2 ^ k` different items has at least `short_swaps k` of them
+-- any list of exchanges that reverses `2 ^ k` different items has at least `short_swaps k`
+-- exchanges
 abbrev pub LeastReversal : Type 0 → Type 0
 LeastReversal A = (k : ℕ) (xs : List A) (steps : List (ℕ × ℕ)) → length xs ≡ 2 ^ k → AllDiffer xs
     → IsReversal xs (after_swaps xs steps) → short_swaps k ≤ length steps
 
--- every list of exchanges that transposes a square of different items has at least `square_swaps side` of them
+-- any list of exchanges that transposes a square of different items has at least
+-- `square_swaps side` exchanges
 abbrev pub LeastSquare : Type 0 → Type 0
 LeastSquare A = (side : ℕ) (xs : List A) (steps : List (ℕ × ℕ)) → length xs ≡ side * side → AllDiffer xs
     → IsTranspose side side xs (after_swaps xs steps) → square_swaps side ≤ length steps
 
--- every list of writes that leaves another item at each of n different places has at least n of them
+-- any list of writes that leaves another item at each of n different places has at least n writes
 abbrev pub LeastPuts : Type 0 → Type 0
 LeastPuts A = (n : ℕ) (place : ℕ → ℕ) (xs : List A) (steps : List (ℕ × A)) → AreApart n place
     → ((i : ℕ) → i < n → slice_get xs (place i) ≢ slice_get (after_puts xs steps) (place i)) → n ≤ length steps
 
--- a list of `2 ^ k` different items differs from its reversal at `2 * short_swaps k` places, two for each exchange of the
--- least list
+-- a list of `2 ^ k` different items differs from its reversal at `2 * short_swaps k` places, two
+-- for each exchange of the shortest list
 abbrev pub ReversalDiffers : Type 0 → Type 0
 ReversalDiffers A = (k : ℕ) (old new : List A) → length old ≡ 2 ^ k → AllDiffer old
     → IsReversal old new → DifferAt (2 ^ k) (2 * short_swaps k) old new
 
--- a square of different items differs from its transpose at `side * (side - 1)` places, all but those on the diagonal
+-- a square of different items differs from its transpose at `side * (side - 1)` places, all but
+-- those on the diagonal
 abbrev pub SquareDiffers : Type 0 → Type 0
 SquareDiffers A = (side : ℕ) (old new : List A) → length old ≡ side * side → AllDiffer old
     → IsTranspose side side old new → DifferAt (side * side) (side * (side - 1)) old new

@@ -1,8 +1,10 @@
--- Items of a list exchanged with their mirror images. A place is named by a part `m`, which stays, and by two numbers, which
--- the place that it mirrors has in the other order. It serves private contracts alone.
+-- Items of a list exchanged with their mirror images. A place has a fixed part `m` and two numbers,
+-- and its mirror image has the same two numbers in the other order. This definition serves private
+-- contracts alone.
 use Rattle.std.specs.Prelude.{ℕ, ◌≡◌, ◌≢◌, List, length, slice_get}
 
--- Where S holds of m, x and y, the item at `place m x y` comes from `place m y x`, and every other place keeps its item.
+-- If S holds for m, x and y, the item at `place m x y` comes from `place m y x`. Every other place
+-- keeps its item.
 pub record Mirrored {A M : Type 0} (place : M → ℕ → ℕ → ℕ) (S : M → ℕ → ℕ → Type 0) (old new : List A) : Type 0 where
   pub same_length : length new ≡ length old
   pub crossed : (m : M) (x y : ℕ) → S m x y → slice_get new (place m x y) ≡ slice_get old (place m y x)

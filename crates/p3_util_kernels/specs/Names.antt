@@ -3,7 +3,7 @@
 use Rattle.std.specs.Prelude.{ℕ, Bool, ◌==◌, ◌&&◌, ◌||◌, if◌then◌else◌, List, [], ◌∷◌}
 use Rattle.std.specs.List.{flat_map}
 
--- one of the marks after which a name is cut: `<`, `>` and `,`
+-- a mark after which a name is cut: `<`, `>` or `,`
 abbrev pub is_mark : ℕ → Bool
 is_mark b = b == 60 || b == 62 || b == 44
 
@@ -12,22 +12,23 @@ unfoldable pub in_front : ℕ → List (List ℕ) → List (List ℕ)
 in_front b [] = (b ∷ []) ∷ []
 in_front b (piece ∷ rest) = (b ∷ piece) ∷ rest
 
--- the pieces of a name, which is cut after each mark
+-- the pieces of a name that is cut after each mark
 unfoldable pub name_pieces : List ℕ → List (List ℕ)
 name_pieces [] = [] ∷ []
 name_pieces (b ∷ t) = if is_mark b then (b ∷ []) ∷ name_pieces t else in_front b (name_pieces t)
 
--- what follows the last `::` of the text, where each `::` is found from the left, and `whole` where there is none
+-- the part after the last `::` of the text, where each `::` is found from the left, or `whole` if
+-- there is none
 unfoldable pub after_colons : (whole text : List ℕ) → List ℕ
 after_colons whole [] = whole
 after_colons whole (b ∷ []) = whole
 after_colons whole (b ∷ c ∷ t) = if b == 58 && c == 58 then after_colons t t else after_colons whole (c ∷ t)
 
--- what follows the last `::` of the text, and all of it where there is none
+-- the part after the last `::` of the text, or all of the text if there is none
 abbrev pub last_part : List ℕ → List ℕ
 last_part t = after_colons t t
 
--- the text cut after each `<`, `>` and `,`, and of each piece what follows its last `::`, joined in order. Each `::` is
--- found from the left, so `a:::b` gives `:b`
+-- the text is cut after each `<`, `>` and `,`, and the parts of the pieces after their last `::`
+-- are joined in order. Each `::` is found from the left, so `a:::b` gives `:b`
 unfoldable pub short_name : List ℕ → List ℕ
 short_name t = flat_map last_part (name_pieces t)

@@ -1,5 +1,6 @@
--- Steps that lead from one list to another, and the places that they are at, for the contracts of `src/parts/laws.rt`. The
--- lemmas are those by which a holder says that such steps exist.
+-- Steps from one list to another, and the places that they change. These definitions serve private
+-- contracts: those of `src/parts/laws.rt` and of the files below it. The lemmas let a holder state
+-- that such steps exist.
 -- Source: new.
 use Rattle.std.proofs.Common.{◌≡◌, ◌≢◌, ℕ, ◌+◌, ◌-◌, ◌*◌, ◌/◌, ◌^◌, ◌<◌, min, max, List, [], ◌∷◌, ◌++◌, length, slice_get, slice_set, length-append, refl, sym, ◌∙◌, ap, arith}
 use Rattle.std.specs.Prelude.{swap}
@@ -9,27 +10,31 @@ use Rattle.p3_util_kernels.specs.Crossing.{row_of}
 use Rattle.p3_util_kernels.specs.Least.{AreOnceAmong, after_puts, after_swaps, places_put, places_swapped}
 use Rattle.p3_util_kernels.specs.Region.{IsInRegion}
 
--- some n steps turn the one list into the other, where `after xs steps` is the list xs after the steps
+-- some n steps turn the first list into the second, where `after xs steps` is the list xs after the
+-- steps
 abbrev pub StepsLead : {A S : Type 0} → (List A → List S → List A) → ℕ → List A → List A → Type 0
 StepsLead {A} {S} after n old new = (steps : List S) × (length steps ≡ n) × (after old steps ≡ new)
 
--- all n steps that turn the one list into the other are at different places, each with the property `among`
+-- any n steps that turn the first list into the second are at different places, each of which has
+-- the property `among`
 abbrev pub StepsStay : {A S : Type 0} → (List A → List S → List A) → (List S → List ℕ) → (ℕ → Type 0) → ℕ → List A → List A → Type 0
 StepsStay {A} {S} after places among n old new = (steps : List S) → length steps ≡ n → after old steps ≡ new → AreOnceAmong among (places steps)
 
--- some n writes turn the one list into the other, by `after_puts`
+-- some n writes turn the first list into the second, by `after_puts`
 abbrev pub PutsLead : {A : Type 0} → ℕ → List A → List A → Type 0
 PutsLead = StepsLead after_puts
 
--- all n writes that turn the one list into the other are at different places, each with the property that is given
+-- any n writes that turn the first list into the second are at different places, each of which has
+-- the given property
 abbrev pub PutsStay : {A : Type 0} → (ℕ → Type 0) → ℕ → List A → List A → Type 0
 PutsStay = StepsStay after_puts places_put
 
--- some n exchanges turn the one list into the other, by `after_swaps`
+-- some n exchanges turn the first list into the second, by `after_swaps`
 abbrev pub SwapsLead : {A : Type 0} → ℕ → List A → List A → Type 0
 SwapsLead = StepsLead after_swaps
 
--- all n exchanges that turn the one list into the other are at different places, each with the property that is given
+-- any n exchanges that turn the first list into the second are at different places, each of which
+-- has the given property
 abbrev pub SwapsStay : {A : Type 0} → (ℕ → Type 0) → ℕ → List A → List A → Type 0
 SwapsStay = StepsStay after_swaps places_swapped
 
@@ -37,24 +42,26 @@ SwapsStay = StepsStay after_swaps places_swapped
 abbrev pub NoPlaceInCommon : (ℕ → Type 0) → (ℕ → Type 0) → Type 0
 NoPlaceInCommon first second = (p : ℕ) → first p → second p → ⊥
 
--- each place of the whole is a place of one of `count` parts, which are numbered from 0
+-- each place of the whole belongs to one of `count` parts, which are numbered from 0
 abbrev pub PartsCover : (whole : ℕ → Type 0) (count : ℕ) (part : ℕ → ℕ → Type 0) → Type 0
 PartsCover whole count part = (p : ℕ) → whole p → (k : ℕ) × (k < count) × part k p
 
--- no item of the one list is an item of the other
+-- the two lists have no item in common
 abbrev pub NoItemInCommon : {A : Type 0} → List A → List A → Type 0
 NoItemInCommon xs ys = (i j : ℕ) → i < length xs → j < length ys → slice_get xs i ≢ slice_get ys j
 
--- p is where an item of the region is in the transpose of a matrix of `height` rows
+-- p is the place of an item of the region in the transpose of a matrix of `height` rows
 abbrev pub IsPlaceOfRegion : (region : Region) (height p : ℕ) → Type 0
 IsPlaceOfRegion region height p = (x y : ℕ) × IsInRegion region x y × (p ≡ x * height + y)
 
--- a and b are a row and a column of square s, one of squares side by side, in the block of this number or in its mirror image
+-- row a and column b of square s lie in the block with this number or in its mirror image; the
+-- squares lie side by side
 abbrev pub IsInBlock : (side stride step number s a b : ℕ) → Type 0
 IsInBlock side stride step number s a b =
     (base : ℕ) × (region : Region) × IsBlock side stride step number base region × (base ≡ s * side) × IsInRegion region (max a b) (min a b)
 
--- p is a place of the block of this number, of squares side by side in rows of `stride` items, or of its mirror image
+-- p is a place of the block with this number or of its mirror image, for squares side by side in
+-- rows of `stride` items
 abbrev pub IsPlaceOfBlock : (side stride step number p : ℕ) → Type 0
 IsPlaceOfBlock side stride step number p = (s a b : ℕ) × IsInBlock side stride step number s a b × (p ≡ s * side + a * stride + b)
 
@@ -63,7 +70,8 @@ abbrev pub IsPlaceOfSquares : (side stride p : ℕ) → Type 0
 IsPlaceOfSquares side stride p =
     (square a b : ℕ) × (square < stride / side) × (a < side) × (b < side) × (p ≡ square * side + a * stride + b)
 
--- p is a place of one of the rows of the pairs of the block of this number, of `2 ^ digits` rows, as in `IsCrossed`
+-- p is a place of a row that belongs to the pairs of the block with this number, for `2 ^ digits`
+-- rows, as in `IsCrossed`
 abbrev pub IsPlaceOfPairs : (digits row_width step number p : ℕ) → Type 0
 IsPlaceOfPairs digits row_width step number p =
     let half = digits / 2 in

@@ -1,4 +1,5 @@
--- Plans of reversals, their phases and the parts of these, for the contracts of `src/parts/reversal.rt`.
+-- Plans of reversals, their phases and the parts of the phases. These definitions serve private
+-- contracts: those of `src/parts/reversal.rt` and of the files below `src/parts/laws`.
 -- Source: new.
 use Rattle.std.specs.Prelude.{ℕ, ◌≡◌, ◌+◌, ◌-◌, ◌*◌, ◌/◌, ◌^◌, ◌<◌, ◌≤◌, ◌==◌, nat_le, if◌then◌else◌, max, List, [], ◌∷◌, length}
 use Rattle.p3_util_kernels.specs.declared.parts.reversal.Phase.{Phase}
@@ -22,7 +23,7 @@ phases_of (OnePart rows) = Rows rows ∷ []
 phases_of (ByPairs pairs) = Pairs pairs ∷ []
 phases_of (Long pairs squares) = Pairs pairs ∷ Blocks squares ∷ Pairs pairs ∷ []
 
--- the plan is of a reversal of the rows of a list of `len` items
+-- the plan is one for the reversal of the rows of a list of `len` items
 abbrev pub IsReversalPlan : (len row_width : ℕ) (plan : ReversalPlan) → Type 0
 IsReversalPlan len row_width Nothing = len ≡ 0
 IsReversalPlan len row_width (OnePart rows) = (0 < len) × (rows.width ≡ row_width) × (rows.digits ≡ clog (len / row_width))
@@ -33,9 +34,9 @@ IsReversalPlan len row_width (Long pairs squares) =
     (0 < len) × (row_width ≡ 1) × (pairs.rows.width ≡ 2 ^ (digits - half)) × (pairs.rows.digits ≡ half) × (squares.stride ≡ 2 ^ (digits - half))
     × (squares.cut.len ≡ 2 ^ half)
 
--- Up to `one_part` items the plan is one part. Beyond that the sides of the squares are cut into at most `parts` parts, where
--- 0 is 1, and into parts that are no longer than they have to be: those of pairs of rows at even numbers, and those of squares of
--- items at multiples of `unit`.
+-- Up to `one_part` items the plan is one part. Beyond that, the sides of the squares are cut into
+-- at most `parts` parts, where 0 counts as 1, and the parts are no longer than necessary. The parts
+-- of pairs of rows begin at even numbers, and those of squares of items at multiples of `unit`.
 abbrev pub IsCutAsAsked : (len row_width parts one_part unit : ℕ) (plan : ReversalPlan) → Type 0
 IsCutAsAsked len row_width parts one_part unit Nothing = len ≡ 0
 IsCutAsAsked len row_width parts one_part unit (OnePart rows) = len ≤ one_part
@@ -48,24 +49,25 @@ IsCutAsAsked len row_width parts one_part unit (Long pairs squares) =
     (one_part < len) × (row_width ≡ 1) × (parts_in of_pairs.len of_pairs.step ≤ max parts 1) × IsLeastStep parts 2 of_pairs.len of_pairs.step
     × (parts_in of_squares.len of_squares.step ≤ max parts 1) × IsLeastStep parts unit of_squares.len of_squares.step
 
--- how many parts a phase has
+-- the number of parts of a phase
 abbrev pub parts_of : (phase : Phase) → ℕ
 parts_of (Rows rows) = 1
 parts_of (Pairs pairs) = blocks_of pairs.squares.cut.len pairs.squares.stride pairs.squares.cut.step
 parts_of (Blocks squares) = blocks_of squares.cut.len squares.stride squares.cut.step
 
--- the phase is one of a list of `len` items
+-- the phase is one for a list of `len` items
 abbrev pub IsPhaseOf : (phase : Phase) (len : ℕ) → Type 0
 IsPhaseOf (Rows rows) len = FitsRows len rows.width × (rows.digits ≡ clog (len / rows.width))
 IsPhaseOf (Pairs pairs) len = (0 < pairs.rows.width) × (pairs.rows.digits < 64) × (len ≡ pairs.rows.width * 2 ^ pairs.rows.digits)
 IsPhaseOf (Blocks squares) len = len ≡ squares.cut.len * squares.stride
 
--- how many exchanges the reversal of rows of `row_width` items takes as one call
+-- the number of exchanges for the reversal of rows of `row_width` items by one call
 abbrev pub call_swaps : (len row_width : ℕ) → ℕ
 call_swaps len row_width = if row_width == 1 then reversal_swaps len else row_swaps len row_width
 
--- Part `number` of a phase is made, by steps of which `Steps` says how many they are: all rows are reversed, the pairs of
--- rows of a block are exchanged, or a block is exchanged with its mirror image.
+-- Part `number` of a phase is made, and `Steps` holds for its number of steps: all rows are
+-- reversed, the pairs of rows of a block are exchanged, or a block is exchanged with its mirror
+-- image.
 abbrev pub IsPartMade : {A : Type 0} → (phase : Phase) (number : ℕ) (old new : List A) (Steps : ℕ → Type 0) → Type 0
 IsPartMade (Rows rows) number old new Steps =
     IsRowReversal rows.width old new × Steps (call_swaps (length old) rows.width)
@@ -86,21 +88,22 @@ IsPhaseMade (Blocks squares) old new =
     let side = squares.cut.len in
     Mirrored {M = ℕ} (λ s a b. s * side + a * squares.stride + b) (λ s a b. (s < squares.stride / side) × (a < side) × (b < side)) old new
 
--- how many exchanges the parts of a phase take, of a list of `len` items
+-- the number of exchanges for all parts of a phase, for a list of `len` items
 abbrev pub swaps_of_phase : (phase : Phase) (len : ℕ) → ℕ
 swaps_of_phase (Rows rows) len = call_swaps len rows.width
 swaps_of_phase (Pairs pairs) len = pairs.rows.width * short_swaps pairs.rows.digits
 swaps_of_phase (Blocks squares) len = squares.stride / squares.cut.len * square_swaps squares.cut.len
 
--- how many exchanges the phases of a plan take, of a list of `len` items: as many as the call makes on the same path
+-- the number of exchanges for all phases of a plan, for a list of `len` items: as many as the call
+-- makes on the same path
 abbrev pub swaps_of_plan : (plan : ReversalPlan) (len : ℕ) → ℕ
 swaps_of_plan Nothing len = 0
 swaps_of_plan (OnePart rows) len = call_swaps len rows.width
 swaps_of_plan (ByPairs pairs) len = row_swaps len pairs.rows.width
 swaps_of_plan (Long pairs squares) len = long_swaps (clog len)
 
--- How many exchanges the reversal of rows takes in parts: up to `one_part` items as many as the call, and beyond that those of
--- the rows, or of rows of one item those of the long path.
+-- The number of exchanges for the reversal of rows in parts. Up to `one_part` items it is that of
+-- the call. Beyond that it is that of the rows, or for rows of one item that of the long path.
 abbrev pub swaps_in_parts : (len row_width one_part : ℕ) → ℕ
 swaps_in_parts len row_width one_part =
     if nat_le len one_part then call_swaps len row_width else if row_width == 1 then long_swaps (clog len) else row_swaps len row_width

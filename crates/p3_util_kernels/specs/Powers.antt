@@ -12,14 +12,15 @@ abbrev pub any_below : ℕ → (ℕ → Bool) → Bool
 any_below zero test = false
 any_below (suc n) test = any_below n test || test n
 
--- n is a power of two, by std's `IsPowerOfTwo` or by either of two tests, so that callers need no proof: one test computes
--- for a number that is written out, and the other is std's `is_power_of_two`.
+-- n is a power of two, either by std's `IsPowerOfTwo` or by one of two tests. The tests spare
+-- callers a proof: one evaluates for a number that is written out, and the other is std's
+-- `is_power_of_two`.
 -- Source: new.
 abbrev pub HasLog2 : ℕ → Type 0
 HasLog2 n = IsPowerOfTwo n ⊎ IsTrue (not (n == 0) && bit_and n (n - 1) == 0 || is_power_of_two n)
 
--- n is a power of three, by definition or by a test of the 41 such powers that a word holds, which computes for a number
--- that is written out.
+-- n is a power of three, either by definition or by a test against the 41 powers that fit a usize.
+-- The test evaluates for a number that is written out.
 -- Source: new.
 abbrev pub HasLog3 : ℕ → Type 0
 HasLog3 n = IsPowerOfThree n ⊎ IsTrue (any_below 41 (λ e. n == 3 ^ e))

@@ -1,4 +1,5 @@
--- A region of a matrix, transposed into an output that has room for the transpose of the whole matrix.
+-- A region of a matrix, transposed into an output that has room for the transpose of the whole
+-- matrix.
 -- Source: new.
 use Rattle.std.specs.Prelude.{ℕ, ◌≡◌, ◌≢◌, ◌+◌, ◌-◌, ◌*◌, ◌^◌, ◌<◌, ◌≤◌, List, length, slice_get}
 use Rattle.p3_util_kernels.specs.declared.transpose.regions.Region.{Region}
@@ -17,28 +18,29 @@ pub record LiesInMatrix (region : Region) (width height : ℕ) : Type 0 where
   pub cols_in_order : region.col_start ≤ region.col_end
   pub cols_inside : region.col_end ≤ width
 
--- how many rows the region has
+-- the number of rows of the region
 abbrev pub rows_of : Region → ℕ
 rows_of region = region.row_end - region.row_start
 
--- how many columns the region has
+-- the number of columns of the region
 abbrev pub cols_of : Region → ℕ
 cols_of region = region.col_end - region.col_start
 
--- how many items the region has
+-- the number of items of the region
 abbrev pub items_of : Region → ℕ
 items_of region = rows_of region * cols_of region
 
--- `input` has `height` rows of `width` items. For each row y and column x of the region, place `x * height + y` of `new`
--- holds what is at place `y * width + x` of `input`, and every other place what it held in `old`.
+-- `input` has `height` rows of `width` items. For each row y and column x of the region, place
+-- `x * height + y` of `new` holds the item at place `y * width + x` of `input`. Every other place
+-- holds what it held in `old`.
 -- Source: the rectangular transposes of p3-util 0.8.0.
 pub record IsRegionTransposed {A : Type 0} (region : Region) (width height : ℕ) (input old new : List A) : Type 0 where
   pub same_length : length new ≡ length old
   pub places : (x y : ℕ) → IsInRegion region x y → slice_get new (x * height + y) ≡ slice_get input (y * width + x)
   pub others : (p : ℕ) → ((x y : ℕ) → IsInRegion region x y → p ≢ x * height + y) → slice_get new p ≡ slice_get old p
 
--- both lists have `width * height` items, fewer than `2 ^ 64`, and the region lies in a matrix of that width and height. It
--- is a condition of private functions alone.
+-- both lists have `width * height` items, fewer than `2 ^ 64`, and the region lies in a matrix of
+-- that width and height. Only private functions have this precondition.
 pub record IsReady {A : Type 0} (region : Region) (width height : ℕ) (input out : List A) : Type 0 where
   pub inside : LiesInMatrix region width height
   pub input_fits : length input ≡ width * height

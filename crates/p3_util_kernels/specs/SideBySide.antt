@@ -1,9 +1,10 @@
--- Squares side by side in a list, the first of which are transposed. It serves the private contract of the long path's
--- `transpose_squares`, and callers that make such a path of public calls.
+-- Squares side by side in a list, of which the first ones are transposed. This definition serves
+-- the private contract of the long path's `transpose_squares`, and callers that build such a path
+-- from public calls.
 use Rattle.std.specs.Prelude.{ℕ, ◌≡◌, ◌+◌, ◌-◌, ◌*◌, ◌^◌, ◌<◌, ◌≤◌, List, length, slice_get}
 
--- The list is 2 ^ log_size rows of 2 ^ log_stride items, so that squares lie side by side in it. The first `count` of them
--- are transposed, and the others are as they were.
+-- The list is 2 ^ log_size rows of 2 ^ log_stride items, so squares lie side by side in it. The
+-- first `count` of them are transposed, and the others are unchanged.
 pub record AreTransposed {A : Type 0} (count log_stride log_size : ℕ) (old new : List A) : Type 0 where
   pub same_length : length new ≡ length old
   pub crossed : (s a b : ℕ) → s < count → a < 2 ^ log_size → b < 2 ^ log_size

@@ -1,18 +1,21 @@
 -- The two stages of the transpose of a block of 4 by 4 items.
 -- Source: the block transposes of p3-util 0.8.0.
-use Rattle.std.specs.Prelude.{ℕ, ◌≡◌, ◌+◌, ◌*◌, ◌<◌, List, Option, slice_get}
+use Rattle.std.specs.Prelude.{ℕ, ◌≡◌, ◌+◌, ◌*◌, ◌<◌, List, [], ◌∷◌, Option, slice_get}
 use Rattle.std.specs.Option.{option_and_then}
+use Rattle.p3_util_kernels.specs.declared.places.Four.{Four}
 
 -- the item in row r and column c
 abbrev pub item_at : {A : Type 0} → List (List A) → ℕ → ℕ → Option A
 item_at rows r c = option_and_then (λ row. slice_get row c) (slice_get rows r)
 
--- of a block of 4 by 4 items, the lowest bit of each item's row number is exchanged with that of its column number
+-- in a block of 4 by 4 items, the lowest bit of each item's row number is exchanged with the lowest
+-- bit of its column number
 abbrev pub IsStageOne : {A : Type 0} → List (List A) → List (List A) → Type 0
 IsStageOne old new =
     (P p Q q : ℕ) → P < 2 → p < 2 → Q < 2 → q < 2 → item_at new (2 * P + p) (2 * Q + q) ≡ item_at old (2 * P + q) (2 * Q + p)
 
--- of a block of 4 by 4 items, the next bit of each item's row number is exchanged with that of its column number
+-- in a block of 4 by 4 items, the higher bit of each item's row number is exchanged with the higher
+-- bit of its column number
 abbrev pub IsStageTwo : {A : Type 0} → List (List A) → List (List A) → Type 0
 IsStageTwo old new =
     (P p Q q : ℕ) → P < 2 → p < 2 → Q < 2 → q < 2 → item_at new (2 * P + p) (2 * Q + q) ≡ item_at old (2 * Q + p) (2 * P + q)
@@ -20,3 +23,13 @@ IsStageTwo old new =
 -- a block of 4 by 4 items is transposed
 abbrev pub IsBlockTransposed : {A : Type 0} → List (List A) → List (List A) → Type 0
 IsBlockTransposed old new = (r c : ℕ) → r < 4 → c < 4 → item_at new r c ≡ item_at old c r
+
+-- four items as a list
+-- Source: new.
+abbrev pub in_order : {A : Type 0} → Four A → List A
+in_order four = four.0 ∷ four.1 ∷ four.2 ∷ four.3 ∷ []
+
+-- the rows of a block of 4 by 4 items as lists
+-- Source: new.
+abbrev pub rows_in_order : {A : Type 0} → Four (Four A) → List (List A)
+rows_in_order rows = in_order rows.0 ∷ in_order rows.1 ∷ in_order rows.2 ∷ in_order rows.3 ∷ []

@@ -1,7 +1,7 @@
--- How counts add up: a count stays at the largest u128 once it is there.
+-- How counts add up: a count stops at the largest u128.
 -- Source: new.
 use Rattle.std.specs.Prelude.{ℕ, ◌+◌, ◌-◌, ◌^◌, min}
 
--- the count c after s more steps: `min (2 ^ 128 - 1) (c + s)`
+-- the count c after s more steps, which is `min (2 ^ 128 - 1) (c + s)`
 abbrev pub counted : (c s : ℕ) → ℕ
 counted c s = min (2 ^ 128 - 1) (c + s)

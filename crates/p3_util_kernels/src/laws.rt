@@ -1,9 +1,9 @@
-//! Laws of the definitions. Each is the contract of a call that does nothing.
+//! Statements about the definitions. Each of them is the contract of a function that does nothing.
 
 ghost use Rattle.std.specs.Prelude.{ℕ};
 ghost use Rattle.p3_util_kernels.specs.Least.{LeastPuts, LeastReversal, LeastSquare, Palindromes, PutsChange, ReversalDiffers, SquareDiffers, SwapsChange};
 
-/// The law of least numbers, over lists of numbers: that of [`least_runs_of`] for them.
+/// The statements of [`least_runs_of`] for lists of numbers.
 pub fn least_runs()
     ensures swaps_change { SwapsChange ℕ }
     ensures puts_change { PutsChange ℕ }
@@ -17,16 +17,17 @@ pub fn least_runs()
     least_runs_of::<usize>();
 }
 
-/// The law of least numbers, over lists of any items that differ from each other. A step is one exchange of any two places or
-/// one write to any place, and steps are done in turn.
+/// The least numbers of steps that rearrange a list whose items all differ. A step is one exchange
+/// of any two places or one write to any place. Steps are made one after the other.
 ///
-/// - m exchanges change at most 2m places, and m writes at most m.
-/// - 2^ceil(k/2) numbers of k bits are their own reverse.
-/// - So 2^k items and their reversal by index bits differ at exactly `2 * short_swaps k` places, and a square of `side` rows
-///   and its transpose at exactly `side * (side - 1)`.
-/// - So every list of exchanges that reverses 2^k items has at least `short_swaps k` exchanges, and every list of exchanges
-///   that transposes a square has at least `side * (side - 1) / 2`. Every list of writes that changes any n places has at least
-///   n writes. The short path, a whole square and the transpose meet these numbers.
+/// - m exchanges change at most 2m places, and m writes change at most m places.
+/// - Of the numbers of k bits, 2^ceil(k/2) are their own reverse.
+/// - So 2^k items and their reversal by index bits differ at exactly `2 * short_swaps k` places. A
+///   square of `side` rows and its transpose differ at exactly `side * (side - 1)` places.
+/// - So any list of exchanges that reverses 2^k items has at least `short_swaps k` exchanges, and
+///   any list of exchanges that transposes a square has at least `side * (side - 1) / 2`. Any list
+///   of writes that changes n places has at least n writes. The short path, a whole square and the
+///   transpose make exactly these numbers of steps.
 pub fn least_runs_of<T>()
     ensures swaps_change { SwapsChange T }
     ensures puts_change { PutsChange T }

@@ -1,4 +1,5 @@
-//! Bit reversal and transposes of large slices, and the counted traits that their kernels are written over.
+//! Bit reversal and transposes of large slices, and the traits of the lists that their kernels
+//! change and count.
 #![tactic(auto)]
 
 pub mod bits;

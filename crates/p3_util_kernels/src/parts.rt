@@ -1,9 +1,16 @@
-//! Calls that are cut into parts, each of which may run on a thread of its own. No thread is started here.
+//! Calls that are cut into parts, each of which may run on a thread of its own. No thread is
+//! started here.
 //!
-//! What is cut and not yet done is a *plan*: of a transpose the [`TransposePlan`], of a reversal the [`ReversalPlan`]. The
-//! regions of a transpose are put in any order. A reversal has one *phase* or three, and of an empty list none. A phase is
-//! done before the next one, and its parts are made in any order: all rows at once, or blocks of [`RowPairs`] or of [`Squares`].
-//! What is numbered is cut by a [`Cut`].
+//! - A *plan* says how a call is cut: a [`TransposePlan`] or a [`ReversalPlan`].
+//! - A transpose is cut into regions, which may be put in any order.
+//! - A reversal is cut into *phases*: three or one, and none if the list is empty. A phase must be
+//!   done before the next one begins. The parts of a phase may be made in any order. A part is all
+//!   rows, or a block of [`RowPairs`] or of [`Squares`].
+//! - A [`Cut`] cuts consecutive numbers, such as the columns of a matrix, into parts.
+//!
+//! The module `laws`, which only the Rattle sources have, states what is proved about the parts:
+//! which places each one changes, that two parts of a phase have no place in common, and that all
+//! parts together have the effect of the call.
 
 ghost use Rattle.std.specs.Prelude.{length, ◌≡◌, ℕ, ◌+◌, ◌-◌, ◌*◌, ◌/◌, ◌%◌, ◌^◌, ◌<◌, ◌≤◌, if◌then◌else◌, max};
 ghost use Rattle.p3_util_kernels.specs.Blocks.{IsBlock, blocks_of, swaps_of_block};
@@ -23,7 +30,8 @@ use crate::transpose::{Matrix, Region, Square, exchange_region, transpose_diagon
 pub(crate) use reversal::{Phase, ReversalPlan};
 pub(crate) use transpose::TransposePlan;
 
-/// The numbers below `len`, cut into parts of `step` neighbouring ones. The last part may have fewer.
+/// The numbers below `len`, cut into parts of `step` consecutive numbers. The last part may have
+/// fewer.
 #[derive(Clone, Copy, Debug)]
 pub(crate) struct Cut {
     len: usize,
@@ -32,8 +40,8 @@ pub(crate) struct Cut {
 }
 
 impl Cut {
-    /// Cuts the numbers below `len` into at most `parts` parts, each of which begins at a multiple of `unit`. 0 parts are 1. The
-    /// parts are no longer than they have to be for that.
+    /// Cuts the numbers below `len` into at most `parts` parts. Each part begins at a multiple of
+    /// `unit`, and the parts are no longer than necessary. If `parts` is 0, it counts as 1.
     pub(crate) fn new(len: usize, parts: usize, unit: usize) -> Cut
         requires { 0 < unit }
         ensures len { result.len ≡ len }
@@ -48,7 +56,7 @@ impl Cut {
         }
     }
 
-    /// The number of parts. There is none where the length is 0.
+    /// The number of parts, which is 0 if `len` is 0.
     pub(crate) fn count(self) -> usize
         ensures count { result ≡ parts_in self.len self.step }
         ensures parts { FollowEachOther result self.len (start_of self.len self.step) }
@@ -66,7 +74,7 @@ impl Cut {
         (from, from + self.step.min(self.len - from))
     }
 
-    /// Part `k` of a matrix, of which this is the cut of the rows or of the columns.
+    /// Part `k` of a matrix. This cut is that of its rows or of its columns.
     pub(crate) fn region<R>(self, matrix: &Matrix<R>, by_rows: bool, k: usize) -> Region
         requires side { self.len ≡ if by_rows then matrix.now.height else matrix.now.width }
         requires below { k < parts_in self.len self.step }
@@ -82,7 +90,7 @@ impl Cut {
         }
     }
 
-    /// The number of pairs of parts: of each part with itself, and with each later one.
+    /// The number of pairs of parts: each part with itself and with each later one.
     pub(crate) fn pairs(self) -> usize
         requires { parts_in self.len self.step < 2 ^ 32 }
         ensures { result ≡ pairs_of (parts_in self.len self.step) }
@@ -91,8 +99,9 @@ impl Cut {
         count * (count + 1) / 2
     }
 
-    /// The two parts of pair `number`, the earlier one first. The parts stand in a circle: first come the pairs of each part
-    /// with itself, then those with the next one, and so on.
+    /// The two parts of pair `number`, the earlier one first. The parts stand in a circle. The
+    /// pairs of each part with itself come first, then those of each part with the next one, and so
+    /// on.
     pub(crate) fn pair(self, number: usize) -> (usize, usize)
         requires few { parts_in self.len self.step < 2 ^ 32 }
         requires below { number < pairs_of (parts_in self.len self.step) }
@@ -107,7 +116,8 @@ impl Cut {
     }
 }
 
-/// Squares that lie side by side in rows of `stride` items. The rows and the columns of each are cut alike, into blocks.
+/// Squares that lie side by side in rows of `stride` items. The rows and the columns of each square
+/// are cut in the same way, which gives blocks.
 #[derive(Clone, Copy, Debug)]
 pub(crate) struct Squares {
     stride: usize,
@@ -118,8 +128,9 @@ pub(crate) struct Squares {
 }
 
 impl Squares {
-    /// The squares of 2^(`digits` / 2) rows and columns in rows of 2^(`digits` - `digits` / 2) items. The sides are cut into at most
-    /// `parts` parts, at multiples of `unit`. 0 parts are 1.
+    /// The squares of 2^(`digits` / 2) rows and columns, in rows of 2^(`digits` - `digits` / 2)
+    /// items. The sides are cut into at most `parts` parts, at multiples of `unit`. If `parts` is
+    /// 0, it counts as 1.
     pub(crate) fn new(digits: usize, parts: usize, unit: usize) -> Squares
         requires unit { 0 < unit }
         requires digits { digits < 64 }
@@ -143,7 +154,7 @@ impl Squares {
         self.stride / self.cut.len * self.cut.pairs()
     }
 
-    /// Block `number`: its square, and its rows and columns in there.
+    /// Block `number`: its square, and its rows and columns in that square.
     pub(crate) fn block(self, number: usize) -> (Square, Region)
         requires { number < blocks_of self.cut.len self.stride self.cut.step }
         ensures stride { result.0.stride ≡ self.stride }
@@ -183,8 +194,9 @@ impl Squares {
     }
 }
 
-/// The pairs by which `rows` are reversed. The two numbers of a pair are a row and a column of a square, of which there is one for
-/// each middle digit, and so the pairs are cut as the squares are.
+/// The pairs of rows that the reversal of `rows` exchanges. The two numbers of a pair are a row and
+/// a column of a square, and there is one square for each middle digit. So the pairs are cut in the
+/// same way as squares of items.
 #[derive(Clone, Copy)]
 pub(crate) struct RowPairs {
     rows: RowDigits,
@@ -195,7 +207,8 @@ pub(crate) struct RowPairs {
 }
 
 impl RowPairs {
-    /// The pairs of `rows`. Each side is cut into at most `parts` parts, at even numbers. 0 parts are 1.
+    /// The pairs of `rows`. Each side is cut into at most `parts` parts, at even numbers. If
+    /// `parts` is 0, it counts as 1.
     pub(crate) fn new(rows: RowDigits, parts: usize) -> RowPairs
         requires { rows.digits < 64 }
         ensures rows { result.rows ≡ rows }
@@ -218,7 +231,7 @@ impl RowPairs {
             × M.same_holder (self.rows.width * swaps_of_block region) m result }
     {
         let (square, region) = self.squares.block(number);
-        // One row or two have no pairs.
+        // One or two rows have no pairs.
         if self.rows.digits < 2 {
             return m;
         }

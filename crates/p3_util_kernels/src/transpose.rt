@@ -1,4 +1,21 @@
-//! Transposes of matrices that are held as flat lists, row after row.
+//! Transposes of matrices that are stored as flat lists, row after row.
+//!
+//! This file has the calls on slices, the counted calls and the choice of a path. A matrix of at
+//! most `LARGE_MATRIX` items is transposed as one region. A larger one is split into regions first.
+//! The modules below it have the parts:
+//!
+//! - `regions` defines a region of a matrix (some neighbouring rows, and some neighbouring columns
+//!   of them) and how it is cut in two.
+//! - `split` halves the longer side of a large region until the parts are small.
+//! - `strips` puts a region strip by strip. `Strips::of` chooses the kind of strip, and is the
+//!   place to begin if you want to change strips.
+//! - `square` transposes a square inside a list in place, by exchanges. The long path of a bit
+//!   reversal uses it.
+//! - `butterfly` transposes a block of 4 by 4 items in two stages. No kernel uses it.
+//!
+//! For each call it is proved that every item is put where it belongs (`IsTranspose`,
+//! `IsRegionTransposed`). For the counted calls it is also proved that each item takes exactly one
+//! write. The order of the writes, and so the choice of strips, is only tested.
 
 ghost use Rattle.std.specs.Prelude.{◌≡◌, ◌+◌, ◌*◌, ◌^◌, ◌<◌, ◌↔◌, IsTrue, length};
 ghost use Rattle.p3_util_kernels.specs.Region.{IsRegionTransposed, LiesInMatrix, items_of};
@@ -22,14 +39,15 @@ pub(crate) use square::{Square, exchange_region, transpose_diagonal, transpose_s
 use strips::put_strips;
 pub(crate) use strips::{Strips, TILE_SIDE};
 
-/// The number of items above which a matrix is split.
+/// The greatest number of items of a matrix that is not split.
 const LARGE_MATRIX: usize = 1_048_576;
 
-/// As many levels as the split of any matrix needs, and more.
+/// More levels than the split of any matrix needs.
 pub(crate) const ENOUGH_LEVELS: u32 = 64;
 
-/// Whether an input and an output of these lengths hold a matrix of `width` by `height` items, with the product as a
-/// whole number that does not wrap. It is the test for the condition of [`transpose`] and [`transpose_on`].
+/// Whether an input and an output of these lengths each hold exactly a matrix of `height` rows of
+/// `width` items. The product is computed without wrapping. This is the test for the conditions of
+/// [`transpose`] and [`transpose_on`].
 #[inline]
 #[must_use]
 pub const fn fits_matrix(input_len: usize, output_len: usize, width: usize, height: usize) -> bool
@@ -41,11 +59,12 @@ pub const fn fits_matrix(input_len: usize, output_len: usize, width: usize, heig
     }
 }
 
-/// Writes to `output` the transpose of `input`, a matrix of `height` rows of `width` items. Both lengths are `width` times
-/// `height`, and this call does not test that.
+/// Writes to `output` the transpose of `input`, a matrix of `height` rows of `width` items. Both
+/// lengths must be `width * height`. This call does not check them.
 ///
-/// What stood at `y * width + x` is put at `x * height + y`. The transpose of `output` the other way round, with `height` for
-/// the width, is `input` again. Items are put in the order of [`transpose_on`]. [`fits_matrix`] tests both lengths.
+/// The item at `y * width + x` of `input` is written to `x * height + y` of `output`. If you
+/// transpose `output`, as a matrix of `width` rows of `height` items, you get `input` again. Items
+/// are written in the same order as by [`transpose_on`]. [`fits_matrix`] checks both lengths.
 #[tactic(auto, using(crate::proofs::Matrix::transpose_turned))]
 pub fn transpose<T: Copy>(input: &[T], output: &mut [T], width: usize, height: usize)
     requires input_fits { length input.now ≡ width * height }
@@ -56,8 +75,9 @@ pub fn transpose<T: Copy>(input: &[T], output: &mut [T], width: usize, height: u
     let _ = transpose_items(Matrix::new(SliceSource::new(input), width, height), output);
 }
 
-/// Puts the transpose of `input` into `cells`, as [`transpose_on`] does over a fresh counter, and returns the number of
-/// writes. Both lengths are `width` times `height`, which [`fits_matrix`] tests.
+/// Writes the transpose of `input` to `cells` with a new counter, as [`transpose_on`] does with a
+/// given one, and returns the number of writes. Both lengths must be `width * height`, which
+/// [`fits_matrix`] checks.
 pub fn transpose_counted<C: Cells>(
     input: &[C::Item],
     cells: &mut C,
@@ -73,8 +93,8 @@ pub fn transpose_counted<C: Cells>(
     transpose_source_counted(&SliceSource::new(input), cells, width, height)
 }
 
-/// Puts the transpose of any source into `cells`, as [`transpose_counted`] does that of a slice. Both lengths are `width` times
-/// `height`, which [`fits_matrix`] tests.
+/// Writes the transpose of any source to `cells`, as [`transpose_counted`] does for a slice. Both
+/// lengths must be `width * height`, which [`fits_matrix`] checks.
 pub fn transpose_source_counted<R, C>(input: &R, cells: &mut C, width: usize, height: usize) -> u128
 where
     C: Cells,
@@ -89,9 +109,10 @@ where
     transpose_matrix(Writes::new(cells), matrix, Strips::of(matrix)).writes()
 }
 
-/// Puts the transpose of `input` into `out`, as [`transpose`] does, in exactly `width * height` writes. Both lengths are
-/// `width` times `height`, which [`fits_matrix`] tests. Where 16 divides `width`, up to 1024 items are put by blocks of 4 by
-/// 4, as far as there are 16 whole rows: no clause says so, but tests of the order of puts show it.
+/// Writes the transpose of `input` to `out`, as [`transpose`] does, in exactly `width * height`
+/// writes. Both lengths must be `width * height`, which [`fits_matrix`] checks. If 16 divides
+/// `width`, up to 1024 items are put by blocks of 4 by 4, as far as there are 16 whole rows. No
+/// clause says so, but tests of the order of writes show it.
 pub fn transpose_on<C: Cells>(input: &[C::Item], out: &mut Writes<C>, width: usize, height: usize)
     requires input_fits { length input.now ≡ width * height }
     requires output_fits { length (C.items out.old.holder) ≡ width * height }
@@ -102,8 +123,8 @@ pub fn transpose_on<C: Cells>(input: &[C::Item], out: &mut Writes<C>, width: usi
     transpose_source_on(&SliceSource::new(input), out, width, height);
 }
 
-/// Puts the transpose of any source into `out`, as [`transpose_on`] does that of a slice. Both lengths are `width` times
-/// `height`, which [`fits_matrix`] tests.
+/// Writes the transpose of any source to `out`, as [`transpose_on`] does for a slice. Both lengths
+/// must be `width * height`, which [`fits_matrix`] checks.
 pub fn transpose_source_on<R, C>(input: &R, out: &mut Writes<C>, width: usize, height: usize)
 where
     C: Cells,
@@ -119,9 +140,10 @@ where
     out.count = transpose_matrix(counter, matrix, Strips::of(matrix)).writes();
 }
 
-/// Puts the transpose of `region`, a part of the matrix `input`, into `out`, in one write an item: what stood at
-/// `y * width + x` is put at `x * height + y`, for each row y and column x of the region. Every other place stays. Both
-/// lengths are `width` times `height`, which [`fits_matrix`] tests. The region lies in the matrix, which [`Region::fits`] tests.
+/// Writes the transpose of `region`, a part of the matrix `input`, to `out`, with one write for
+/// each item. For each row y and column x of the region, the item at `y * width + x` of `input` is
+/// written to `x * height + y`. All other cells stay. Both lengths must be `width * height`, which
+/// [`fits_matrix`] checks. The region must lie in the matrix, which [`Region::fits`] checks.
 pub fn transpose_region_on<C: Cells>(
     input: &[C::Item],
     out: &mut Writes<C>,
@@ -142,8 +164,8 @@ pub fn transpose_region_on<C: Cells>(
     out.count = put_strips(counter, matrix, region, Strips::of(matrix)).writes();
 }
 
-/// Puts the transpose of `region`, as [`transpose_region_on`] does over a fresh counter and under its conditions, and returns
-/// the number of writes.
+/// Writes the transpose of `region` to `cells` with a new counter, as [`transpose_region_on`] does
+/// with a given one, and returns the number of writes. The conditions are the same.
 pub fn transpose_region_counted<C: Cells>(
     input: &[C::Item],
     cells: &mut C,
@@ -162,8 +184,9 @@ pub fn transpose_region_counted<C: Cells>(
     put_strips(Writes::new(cells), matrix, region, Strips::of(matrix)).writes()
 }
 
-/// Runs the kernel over the slice and gives the slice back. A proof knows nothing of a slice that was lent to a holder which
-/// then went by value, so the contract speaks of the slice that comes back.
+/// Runs the kernel on the slice and returns the slice. A proof learns nothing about a slice that
+/// was lent to a holder if the holder was then passed by value. So the contract is about the slice
+/// that is returned.
 #[inline(always)]
 fn transpose_items<T: Copy, R: Source<Item = T> + Copy>(
     matrix: Matrix<R>,
@@ -179,8 +202,9 @@ fn transpose_items<T: Copy, R: Source<Item = T> + Copy>(
     values
 }
 
-/// The kernel of [`transpose_source_on`], by `strips`. The source is passed by value here and below: behind a reference, the
-/// address of its items would be read from memory again for each item.
+/// The kernel of [`transpose_source_on`], with the given strips. Here and below, the source is
+/// passed by value. Behind a reference, the address of its items would be read from memory again
+/// for each item.
 pub(crate) fn transpose_matrix<M: Cells, R: Source<Item = M::Item> + Copy>(
     out: M,
     matrix: Matrix<R>,
@@ -197,7 +221,7 @@ pub(crate) fn transpose_matrix<M: Cells, R: Source<Item = M::Item> + Copy>(
         return out;
     }
     match strips {
-        // Where the compiler knows the strips, the smallest matrices take a third less time.
+        // Since the compiler knows the strips here, the smallest matrices take a third less time.
         Strips::High => put_strips(out, matrix, whole, Strips::High),
         strips => put_strips(out, matrix, whole, strips),
     }

@@ -1,4 +1,4 @@
--- Lists of numbers as JSON, by the readings and the texts of `serde_json`.
+-- Lists of numbers as JSON, defined by how `serde_json` reads and writes them.
 -- Source: new.
 use Rattle.std.specs.Prelude.{ℕ, ◌≡◌, List, [], ◌∷◌, ◌++◌, map, Some, IsUtf8}
 use Rattle.serde_json.specs.Data.{Data, number, array, unsigned}
@@ -18,6 +18,6 @@ array_of xs = array (items_of (map number_of xs))
 abbrev pub IsArrayOf : List ℕ → List ℕ → Type 0
 IsArrayOf bytes xs = IsUtf8 bytes × (read bytes ≡ Some (array_of xs))
 
--- the compact text of the array of these numbers, and a line feed
+-- the compact text of the array of these numbers, followed by a line feed
 abbrev pub line_of : List ℕ → List ℕ
 line_of xs = compact_text (array_of xs) ++ 10 ∷ []

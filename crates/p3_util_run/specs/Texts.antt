@@ -1,11 +1,11 @@
--- What is printed of a fault. Numbers are decimal.
+-- What is printed for a fault. Numbers are decimal.
 -- Source: new.
 use Rattle.std.specs.Prelude.{ℕ, List, ◌++◌, codes}
 use Rattle.std.specs.Fmt.{decimal}
 use Rattle.p3_util_run.specs.declared.fault.RunFault.{RunFault}
 use Rattle.p3_util_run.specs.declared.fault.RunFault.TheVariants.{UnknownCommand, Read, NotAnArray, BadLength, NotTheLength, Memory, Write, BadRows}
 
--- the line of a fault, with its numbers in decimal and without its line feed
+-- the line for a fault, with its numbers in decimal and without the line feed at its end
 abbrev pub fault_text : RunFault → List ℕ
 fault_text UnknownCommand = codes "error: unknown command"
 fault_text Read = codes "error: input cannot be read"

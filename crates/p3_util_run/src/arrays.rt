@@ -9,10 +9,10 @@ use crate::fault::RunFault;
 use serde_json::Value;
 use std::alloc::{AllocError, Global};
 
-/// The numbers of a JSON array. Its bytes are dropped before the numbers are listed.
+/// The numbers of a JSON array. The bytes are dropped before the list of the numbers is made.
 ///
-/// `RunFault::NotAnArray` where the bytes are no JSON array of numbers of 64 bits without a sign, and `RunFault::Memory` where
-/// memory runs out.
+/// Returns `RunFault::NotAnArray` if the bytes are not a JSON array of unsigned integers of 64
+/// bits, and `RunFault::Memory` if memory runs out.
 pub fn read_array(alloc: Global, bytes: Vec<u8>) -> Result<Vec<u64>, RunFault>
     ensures read { IfOk result (λ v. IsArrayOf bytes.items v.items) }
     ensures kind { IfErr result (λ e. (e ≡ RunFault.NotAnArray) ⊎ (e ≡ RunFault.Memory)) }
@@ -50,7 +50,8 @@ fn read_numbers(alloc: Global, items: &[Value]) -> Result<Vec<u64>, RunFault>
     Ok(numbers)
 }
 
-/// The text of a JSON array of the numbers, with no space, and a line feed. The list is dropped before the text is made.
+/// The numbers as the text of a JSON array without spaces, followed by a line feed. The list is
+/// dropped before the text is made.
 pub fn line(alloc: Global, numbers: Vec<u64>) -> Result<String, AllocError>
     ensures { IfOk result (λ text. string_bytes text ≡ line_of numbers.items) }
 {
@@ -59,7 +60,7 @@ pub fn line(alloc: Global, numbers: Vec<u64>) -> Result<String, AllocError>
     Ok(text)
 }
 
-/// The text of a JSON array of the numbers, with no space.
+/// The numbers as the text of a JSON array without spaces.
 fn array_text(alloc: Global, numbers: Vec<u64>) -> Result<String, AllocError>
     ensures { IfOk result (λ text. string_bytes text ≡ compact_text (array_of numbers.items)) }
 {

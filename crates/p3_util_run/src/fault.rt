@@ -5,14 +5,14 @@ ghost use Rattle.p3_util_run.specs.Texts.{fault_text};
 
 use std::fmt;
 
-/// Why a run of the program ended without a result.
+/// The reason why a run of the program ended without a result.
 #[derive(Debug, PartialEq, Eq, Drop)]
 pub enum RunFault {
-    /// The words name no command.
+    /// The arguments name no command.
     UnknownCommand,
     /// The reader failed.
     Read,
-    /// The input is no JSON array of numbers of 64 bits without a sign.
+    /// The input is not a JSON array of unsigned integers of 64 bits.
     NotAnArray,
     /// The array's length `len` is neither zero nor a power of two.
     BadLength {
@@ -24,9 +24,9 @@ pub enum RunFault {
         height: usize,
         len: usize,
     },
-    /// Memory was refused.
+    /// Memory ran out.
     Memory,
-    /// The writer failed, or took none of what it was given.
+    /// The writer failed, or took none of the bytes that it was given.
     Write,
     /// The array's length `len` is not `width` times zero or a power of two.
     BadRows {
@@ -36,7 +36,7 @@ pub enum RunFault {
 }
 
 impl RunFault {
-    /// The status that the program ends with.
+    /// The exit status of the program.
     pub fn status(&self) -> u8
         ensures memory { self.now ≡ RunFault.Memory → result ≡ 3 }
         ensures other { self.now ≢ RunFault.Memory → result ≡ 2 }

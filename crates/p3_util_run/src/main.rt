@@ -1,7 +1,9 @@
-//! Rearranges a JSON array of numbers: `revbits` orders it by reversed index bits, `revrows W` orders its rows of `W` items
-//! so, and `transpose W H` transposes it as a matrix of `H` rows of `W` items.
+//! Rearranges a JSON array of numbers. `revbits` puts it into the order of reversed index bits.
+//! `revrows W` does the same with its rows of `W` items. `transpose W H` transposes it as a matrix
+//! of `H` rows of `W` items.
 //!
-//! The array is read from standard input. Its rearrangement is written to standard output, with a line feed.
+//! The array is read from standard input. The result is written to standard output, followed by a
+//! line feed.
 #![tactic(auto)]
 
 mod arrays;
@@ -17,7 +19,8 @@ use std::io::ErrorKind;
 use std::process::ExitCode;
 use watched::Watched;
 
-/// The environment of the process without the program's name, which need not be text: its words begin at word 0.
+/// The environment of the process, without the program's name, which need not be text. Its argument
+/// 0 is the first argument after that name.
 #[derive(Clone, Copy)]
 struct Unnamed<'a>(&'a HostRuntime);
 
@@ -35,7 +38,8 @@ impl Env for Unnamed<'_> {
     }
 }
 
-/// The words that follow the program's name. `RunFault::UnknownCommand` where they are no text, and `RunFault::Memory`.
+/// The arguments after the program's name. Returns `RunFault::UnknownCommand` if they are not text,
+/// and `RunFault::Memory` if memory runs out.
 fn given_words(rt: &HostRuntime) -> Result<Vec<String>, RunFault> {
     let given = match env::args(&(Unnamed(rt), rt.alloc())) {
         Ok(given) => given,
@@ -51,7 +55,7 @@ fn given_words(rt: &HostRuntime) -> Result<Vec<String>, RunFault> {
     Ok(words)
 }
 
-/// Runs the program on the words, the standard input and the standard output of the process.
+/// Runs the program on the arguments, the standard input and the standard output of the process.
 fn run_here(rt: &HostRuntime) -> Result<(), RunFault> {
     let words = given_words(rt)?;
     let mut reader = Watched::new(rt.stdin());

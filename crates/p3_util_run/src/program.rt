@@ -1,4 +1,4 @@
-//! The program over any reader and any writer.
+//! The program, for any reader and any writer.
 
 ghost use Rattle.std.specs.Prelude.{◌≡◌, ◌≢◌, ◌<◌, ◌*◌, ◌↔◌, ◌⊎◌, ℕ, List, length, IsOk, OnOk, IfOk, OnErr, IfErr, IfSome, MatchResult, string_bytes, true};
 ghost use Rattle.std.specs.Io.KnownBytes.{Appends};
@@ -21,33 +21,35 @@ use std::io::{Read, Write};
 
 const CHUNK: usize = 8192;
 
-/// Runs the program on its words, a reader of the input and a writer of the output.
+/// Runs the program on its arguments, a reader of the input and a writer of the output.
 ///
-/// The checks come in this order: `RunFault::UnknownCommand`, with nothing read; `RunFault::Read`, at the reader's first
-/// failure; `RunFault::NotAnArray`; `RunFault::BadLength`, `RunFault::BadRows` or `RunFault::NotTheLength`;
-/// `RunFault::Write`, at the writer's first failure. `RunFault::Memory` comes wherever a growth is refused. A failure is of
-/// any kind, an interrupted call too, and nothing is tried again. Nothing is written before the whole text is there. How
-/// much a failed writer took is left open.
+/// The faults are checked in this order: `RunFault::UnknownCommand`, before anything is read;
+/// `RunFault::Read`, at the reader's first failure; `RunFault::NotAnArray`; `RunFault::BadLength`,
+/// `RunFault::BadRows` or `RunFault::NotTheLength`; `RunFault::Write`, at the writer's first
+/// failure. `RunFault::Memory` can occur wherever memory is requested.
+///
+/// A failure of any kind ends the run, an interrupted call too, and nothing is tried again. Nothing
+/// is written before the whole text is there. How much a failed writer took is left open.
 pub fn run<R: Read, W: Write>(
     alloc: Global,
     words: &[String],
     reader: &mut Watched<R>,
     writer: &mut Watched<W>,
 ) -> Result<(), RunFault>
-    // All input was read, and its answer was written, and nothing else.
+    // All input was read. Its answer was written, and nothing else.
     ensures ok { OnOk result ((input text : List ℕ)
         × ReadsAll (R.remaining reader.old.inner) (R.remaining reader.new.inner) input
         × Out (texts_of words.now) input text
         × Appends (W.contents writer.old.inner) (W.contents writer.new.inner) text) }
     // The writer was flushed after the last write.
     ensures flushed { OnOk result (writer.new.is_flushed ≡ true) }
-    // The input ends with a read of no byte, and no read follows that one.
+    // The input ends with a read that yields no byte, and no read follows it.
     ensures ended { reader.old.input_end ≡ Ahead → OnOk result (reader.new.input_end ≡ Reached) }
     ensures not_passed { reader.old.input_end ≡ Ahead → reader.new.input_end ≢ Passed }
-    // There is one text at most.
+    // There is at most one text.
     ensures one_text { (input a b : List ℕ) → Out (texts_of words.now) input a → Out (texts_of words.now) input b
         → a ≡ b }
-    // All input was read, and there is no answer.
+    // All input was read, and it has no answer.
     ensures refused { IfErr result (λ fault. IsOfInput fault → (input : List ℕ)
         × ReadsAll (R.remaining reader.old.inner) (R.remaining reader.new.inner) input
         × Fault (texts_of words.now) input fault) }
@@ -57,18 +59,19 @@ pub fn run<R: Read, W: Write>(
     ensures refuses { IfSome (R.remaining reader.old.inner) (λ input. IsSettled result
         → (fault : RunFault) → (result ≡ Err fault) ↔ Fault (texts_of words.now) input fault) }
 
-    // The words alone decide this fault, and nothing is read then.
+    // This fault depends on the arguments alone, and then nothing is read.
     ensures unknown { (result ≡ Err RunFault.UnknownCommand) ↔ (command_of (texts_of words.now) ≡ None) }
     ensures unread { result ≡ Err RunFault.UnknownCommand → reader.new ≡ reader.old }
     ensures unwritten { IfErr result (λ fault. fault ≢ RunFault.Write → writer.new ≡ writer.old) }
 
-    // A failure that is counted gives its fault, and the fault comes of no other, as long as the count is not full.
+    // A counted failure leads to its fault, and only such a failure does, as long as the count is
+    // not at its maximum.
     ensures reader_failed { result ≡ Err RunFault.Read → HasFailed reader.old reader.new }
     ensures reader_fault { reader.old.failures < reader.new.failures → result ≡ Err RunFault.Read }
     ensures writer_failed { result ≡ Err RunFault.Write → HasFailed writer.old writer.new }
     ensures writer_fault { writer.old.failures < writer.new.failures → result ≡ Err RunFault.Write }
 
-    // The first failure ends the run, so one is counted.
+    // The first failure ends the run, so exactly one is counted.
     ensures reader_once { (result ≡ Err RunFault.Read → reader.new.failures ≡ noted reader.old.failures)
         × (result ≢ Err RunFault.Read → reader.new.failures ≡ reader.old.failures) }
     ensures writer_once { (result ≡ Err RunFault.Write → writer.new.failures ≡ noted writer.old.failures)
@@ -84,10 +87,10 @@ pub fn run<R: Read, W: Write>(
     }
 }
 
-/// The text that answers an input. Each list on the way is dropped once the next one is made.
+/// The text that answers an input. Each intermediate list is dropped once the next one is made.
 ///
-/// `RunFault::NotAnArray`, `RunFault::BadLength`, `RunFault::BadRows` or `RunFault::NotTheLength` where there is none, and
-/// `RunFault::Memory`.
+/// Returns `RunFault::NotAnArray`, `RunFault::BadLength`, `RunFault::BadRows` or
+/// `RunFault::NotTheLength` if there is no answer, and `RunFault::Memory` if memory runs out.
 fn answer(alloc: Global, command: &Command, input: Vec<u8>) -> Result<String, RunFault>
     ensures ok { IfOk result (λ text. Answers command.now input.items (string_bytes text)) }
     ensures err { IfErr result (λ fault. (fault ≡ RunFault.Memory) ⊎ Refuses command.now input.items fault) }
@@ -100,7 +103,8 @@ fn answer(alloc: Global, command: &Command, input: Vec<u8>) -> Result<String, Ru
     }
 }
 
-/// The list as the command rearranges it. A length that does not fit is the fault, whatever memory there is.
+/// Rearranges the list by the command. If the length does not fit, that is the fault, however much
+/// memory there is.
 fn rearrange(alloc: Global, command: &Command, numbers: Vec<u64>) -> Result<Vec<u64>, RunFault>
     ensures ok { IfOk result (λ v. Fits command.now (length numbers.items)
         × IsRearranged command.now numbers.items v.items) }
@@ -118,7 +122,8 @@ fn rearrange(alloc: Global, command: &Command, numbers: Vec<u64>) -> Result<Vec<
 
 /// Reads to the end of the input.
 ///
-/// `RunFault::Read` at the reader's first failure, and `RunFault::Memory`.
+/// Returns `RunFault::Read` at the reader's first failure, and `RunFault::Memory` if memory runs
+/// out.
 fn read_all<R: Read>(alloc: Global, reader: &mut Watched<R>) -> Result<Vec<u8>, RunFault>
     ensures read { IfOk result (λ v. ReadsAll (R.remaining reader.old.inner) (R.remaining reader.new.inner) v.items) }
     ensures ended { reader.old.input_end ≡ Ahead
@@ -142,7 +147,8 @@ fn read_all<R: Read>(alloc: Global, reader: &mut Watched<R>) -> Result<Vec<u8>, 
     }
 }
 
-/// Writes all of `text` and flushes. `RunFault::Write` at the writer's first failure.
+/// Writes all of `text` and flushes the writer. Returns `RunFault::Write` at the writer's first
+/// failure.
 fn write_all<W: Write>(writer: &mut Watched<W>, text: &[u8]) -> Result<(), RunFault>
     ensures written { OnOk result
         (Appends (W.contents writer.old.inner) (W.contents writer.new.inner) text.now) }
@@ -165,7 +171,8 @@ fn write_all<W: Write>(writer: &mut Watched<W>, text: &[u8]) -> Result<(), RunFa
     Ok(())
 }
 
-/// The list by reversed index bits. `RunFault::BadLength` where its length is neither zero nor a power of two.
+/// The list in the order of reversed index bits. Returns `RunFault::BadLength` if its length is
+/// neither zero nor a power of two.
 fn reversed(mut numbers: Vec<u64>) -> Result<Vec<u64>, RunFault>
     ensures ok { IfOk result (λ v. IsZeroOrPowerOfTwo (length numbers.items) × IsReversal numbers.items v.items) }
     ensures err { IfErr result (λ e. ¬ IsZeroOrPowerOfTwo (length numbers.items)
@@ -180,8 +187,8 @@ fn reversed(mut numbers: Vec<u64>) -> Result<Vec<u64>, RunFault>
     }
 }
 
-/// The list with its rows of `width` items by reversed index bits. `RunFault::BadRows` where its length is not `width`
-/// times zero or a power of two.
+/// The list with its rows of `width` items in the order of reversed index bits. Returns
+/// `RunFault::BadRows` if its length is not `width` times zero or a power of two.
 fn rows_reversed(mut numbers: Vec<u64>, width: usize) -> Result<Vec<u64>, RunFault>
     ensures ok { IfOk result (λ v. FitsRows (length numbers.items) width × IsRowReversal width numbers.items v.items) }
     ensures err { IfErr result (λ e. ¬ FitsRows (length numbers.items) width
@@ -196,8 +203,8 @@ fn rows_reversed(mut numbers: Vec<u64>, width: usize) -> Result<Vec<u64>, RunFau
     }
 }
 
-/// The transpose of a matrix of `height` rows of `width` items. `RunFault::NotTheLength` where that is not the list's
-/// length, and `RunFault::Memory`.
+/// The transpose of a matrix of `height` rows of `width` items. Returns `RunFault::NotTheLength` if
+/// the list does not have `width` times `height` items, and `RunFault::Memory` if memory runs out.
 fn transposed(
     alloc: Global,
     numbers: Vec<u64>,

@@ -1,4 +1,4 @@
-//! What runs print, and runs over readers and writers that fail or go a byte at a time.
+//! What runs print, and runs on readers and writers that fail or pass one byte at a time.
 
 mod refused_growth;
 
@@ -15,7 +15,8 @@ const NOT_AN_ARRAY: &str = "error: input is not a JSON array of u64";
 
 const UNKNOWN: &str = "error: unknown command";
 
-/// A reader that gives a byte a call, none where a `|` comes next, and fails once, after some calls.
+/// A reader that yields one byte per call, and none if a `|` comes next. It fails once, after some
+/// calls.
 #[derive(Drop)]
 struct ByteReader<'a> {
     rest: &'a [u8],
@@ -52,7 +53,8 @@ enum Refusal {
     TakesNone,
 }
 
-/// A writer that takes a byte a call, refuses once, after some calls, and may fail at its first flush.
+/// A writer that takes one byte per call. It refuses once, after some calls, and may fail at its
+/// first flush.
 #[derive(Drop)]
 struct ByteWriter {
     taken: Vec<u8>,
@@ -117,7 +119,7 @@ struct Outcome<R, W> {
     failures: (u64, u64),
 }
 
-/// Runs the program on these words.
+/// Runs the program on these arguments.
 fn outcome_of<R: Read + Drop, W: Write + Drop>(
     alloc: Global,
     texts: &[&str],
@@ -137,7 +139,7 @@ fn outcome_of<R: Read + Drop, W: Write + Drop>(
     })
 }
 
-/// Asserts the text of a fault.
+/// Asserts that the text of a fault is this one.
 fn check_text(
     rt: &impl Abort,
     alloc: Global,
@@ -153,8 +155,8 @@ fn shown(bytes: &[u8]) -> &str {
     str::from_utf8(bytes).unwrap_or("bytes that are no UTF-8")
 }
 
-/// Asserts that a run over memory writes `output` with status 0, or that its fault has this text and status. A failure
-/// prints the words, the input and both.
+/// Asserts that a run on readers and writers in memory produces `output` with status 0, or that its
+/// fault has this text and status. A failure prints the arguments, the input and both.
 fn prints(
     rt: &impl Abort,
     alloc: Global,
@@ -177,7 +179,7 @@ fn prints(
     Ok(())
 }
 
-/// A `run` that always answers that memory was refused fails here.
+/// A `run` that always returns `Memory` fails here.
 #[test]
 fn reversals(rt: HostRuntime) -> Result<(), AllocError> {
     let alloc = rt.alloc();
@@ -199,7 +201,7 @@ fn reversals(rt: HostRuntime) -> Result<(), AllocError> {
     Ok(())
 }
 
-/// Widths, inputs, what is printed of the reversal of their rows, and the status.
+/// Widths, inputs, what is printed for the reversal of their rows, and the status.
 const ROWS: [(&str, &str, &str, u8); 14] = [
     ("2", "[0,1,2,3,4,5,6,7]", "[0,1,4,5,2,3,6,7]\n", 0),
     ("1", "[0,1,2,3,4,5,6,7]", "[0,4,2,6,1,5,3,7]\n", 0),
@@ -251,7 +253,7 @@ fn reversals_of_rows(rt: HostRuntime) -> Result<(), AllocError> {
     Ok(())
 }
 
-/// Widths, heights, inputs, what is printed of their transpose, and the status.
+/// Widths, heights, inputs, what is printed for their transpose, and the status.
 const TRANSPOSES: [(&str, &str, &str, &str, u8); 12] = [
     ("3", "2", "[1,2,3,4,5,6]", "[1,4,2,5,3,6]\n", 0),
     ("0", "5", "[]", "[]\n", 0),
@@ -279,8 +281,8 @@ const TRANSPOSES: [(&str, &str, &str, &str, u8); 12] = [
     ("1", "1", "[1.0]", NOT_AN_ARRAY, 2),
 ];
 
-/// Long matrices of one item again and again, which are their transposes. A `transposed` that refuses such a shape as
-/// `Memory` fails here.
+/// Long matrices in which all items are the same, so that they are their own transposes. A
+/// `transposed` that refuses such a shape as `Memory` fails here.
 #[test]
 fn long_and_narrow_matrices(rt: HostRuntime) -> Result<(), AllocError> {
     let alloc = rt.alloc();
@@ -374,7 +376,7 @@ fn a_byte_a_call(rt: HostRuntime) -> Result<(), AllocError> {
     Ok(())
 }
 
-/// The input ends at the first read of no byte, and no read follows it.
+/// The input ends at the first read that yields no byte, and no read follows it.
 #[test]
 fn reads_of_no_byte(rt: HostRuntime) -> Result<(), AllocError> {
     let alloc = rt.alloc();
@@ -396,7 +398,8 @@ fn reads_of_no_byte(rt: HostRuntime) -> Result<(), AllocError> {
     Ok(())
 }
 
-/// Asserts that the first failure of a reader, after `good_reads` reads, ends the run and is counted once.
+/// Asserts that the first failure of a reader, after `good_reads` reads, ends the run and is
+/// counted once.
 fn check_failing_reader(
     rt: &impl Abort,
     alloc: Global,
@@ -416,8 +419,8 @@ fn check_failing_reader(
     Ok(())
 }
 
-/// The first failure ends the run, and is counted once, also where the next call would succeed. A `Watched` that tries again, or
-/// fails without a call, fails here and in the next test.
+/// The first failure ends the run and is counted once, even if the next call would succeed. A
+/// `Watched` that tries again, or fails without a call, fails here and in the next test.
 #[test]
 fn failing_readers(rt: HostRuntime) -> Result<(), AllocError> {
     for good_reads in 0..6 {
@@ -427,7 +430,8 @@ fn failing_readers(rt: HostRuntime) -> Result<(), AllocError> {
     Ok(())
 }
 
-/// Asserts that the first failure of a writer, after `good_writes` writes, ends the run and is counted once.
+/// Asserts that the first failure of a writer, after `good_writes` writes, ends the run and is
+/// counted once.
 fn check_failing_writer(
     rt: &impl Abort,
     alloc: Global,
@@ -448,7 +452,7 @@ fn check_failing_writer(
     Ok(())
 }
 
-/// The same of the writer: after its first failure nothing more is written.
+/// The same for the writer: after its first failure nothing more is written.
 #[test]
 fn failing_writers(rt: HostRuntime) -> Result<(), AllocError> {
     for good_writes in 0..7 {
@@ -463,7 +467,7 @@ fn failing_writers(rt: HostRuntime) -> Result<(), AllocError> {
     Ok(())
 }
 
-/// A reader of bytes that notes for how many each call asks.
+/// A reader of bytes that notes how many bytes each call asks for.
 #[derive(Drop)]
 struct NotingReader<'a> {
     rest: &'a [u8],
@@ -510,7 +514,7 @@ fn noting_writer(alloc: Global) -> NotingWriter {
     }
 }
 
-/// How many bytes reads ask for, and writes give, that are tried one after another.
+/// The numbers of bytes that reads ask for, and that writes pass on, one after the other.
 const CALLS: [usize; 5] = [5, 0, 1, 8, 3];
 
 /// A `Watched::read` that asks for fewer bytes than there is room for fails here.
@@ -529,7 +533,8 @@ fn each_read_is_one_call(rt: HostRuntime) {
     );
 }
 
-/// A `Watched::write` that hands on fewer bytes than it is given fails here, and so does a `flush` that makes two.
+/// A `Watched::write` that passes on fewer bytes than it is given fails here, and so does a `flush`
+/// that makes two.
 #[test]
 fn each_write_is_one_call(rt: HostRuntime) {
     let mut writer = Watched::new(noting_writer(rt.alloc()));
@@ -543,8 +548,8 @@ fn each_write_is_one_call(rt: HostRuntime) {
     equal(&rt, &flushes, &1);
 }
 
-/// A `Watched::flush` that calls the writer only where something was written fails here: a writer may hold what was written
-/// before it was watched.
+/// A `Watched::flush` that calls the writer only if something was written fails here: a writer may
+/// hold bytes that were written before it was watched.
 #[test]
 fn each_flush_is_one_call(rt: HostRuntime) {
     let mut writer = Watched::new(noting_writer(rt.alloc()));
@@ -555,7 +560,7 @@ fn each_flush_is_one_call(rt: HostRuntime) {
     equal(&rt, &writer.into_inner().flushes, &3);
 }
 
-/// A `Watched` that puts another error in place of the one that it is given fails here.
+/// A `Watched` that replaces the error that it is given fails here.
 #[test]
 fn errors_are_handed_on(rt: HostRuntime) {
     let mut reader = Watched::new(ByteReader {
@@ -577,8 +582,8 @@ fn errors_are_handed_on(rt: HostRuntime) {
     equal(&rt, &flushed, &Err(ErrorKind::Interrupted));
 }
 
-/// The input takes one read and one more that finds its end, each for as many bytes. The text is handed on whole, and is
-/// flushed once.
+/// The input takes one read, and one more that finds its end, each for the same number of bytes.
+/// The text is passed on in one piece, and is flushed once.
 #[test]
 fn calls_of_a_run(rt: HostRuntime) -> Result<(), AllocError> {
     let alloc = rt.alloc();
@@ -607,7 +612,7 @@ fn long_list(alloc: Global, count: usize, gap: &str) -> Result<String, AllocErro
     Ok(text)
 }
 
-/// An input of sixteen megabytes. A `run` that refuses what is long as `Memory` fails here.
+/// An input of sixteen megabytes. A `run` that refuses long inputs as `Memory` fails here.
 #[test]
 fn a_long_input(rt: HostRuntime) -> Result<(), AllocError> {
     let alloc = rt.alloc();
@@ -645,7 +650,8 @@ impl fmt::Write for TextWriter {
     }
 }
 
-/// Whether the text of a fault is written where so many writes come before one that fails, and how many are taken.
+/// Whether the text of a fault is written if so many writes succeed before one fails, and how many
+/// writes are taken.
 fn written(fault: &RunFault, good_writes: usize) -> (bool, usize) {
     let mut writer = TextWriter {
         good_writes,
@@ -655,7 +661,7 @@ fn written(fault: &RunFault, good_writes: usize) -> (bool, usize) {
     (is_written, writer.taken)
 }
 
-/// Asserts that the error of each write of a fault's text ends the text and is handed on.
+/// Asserts that an error of any write of a fault's text ends the text and is passed on.
 fn check_failing_text(rt: &impl Abort, fault: &RunFault) {
     let (is_written, writes) = written(fault, usize::MAX);
     equal(rt, &(is_written, writes > 0), &(true, true));

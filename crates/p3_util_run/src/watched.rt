@@ -9,23 +9,23 @@ use std::io;
 use std::io::{Read, Write};
 use std::marker::Model;
 
-/// Where a reader is, by what its reads returned so far.
+/// How far a reader has read, as far as the results of its reads show.
 #[derive(Drop)]
 pub enum InputEnd {
-    /// No read found the end.
+    /// No read has found the end of the input.
     Ahead,
-    /// The last read gave no byte though there was room, which is the end of the input.
+    /// The last read yielded no byte though there was room for one. This is the end of the input.
     Reached,
-    /// There was a further read after that.
+    /// There was another read after the end.
     Passed,
 }
 
-/// A reader or a writer, with the number of its failures, where a reader is, and whether a writer is flushed. A failure is a
-/// call that returns an error, whatever its kind, and a write that takes none of some bytes. The number stays at `u64::MAX`
-/// once it is there.
+/// A reader or a writer, with the number of its failures, how far a reader has read, and whether a
+/// writer is flushed. A failure is a call that returns an error of any kind, or a write that takes
+/// none of at least one byte. The number stops at `u64::MAX`.
 ///
-/// A `Watched` is flushed where nothing that was written through it is unflushed. A new one is flushed, whatever its writer
-/// holds.
+/// A `Watched` is flushed if everything that was written through it has been flushed. A new one is
+/// flushed, whatever its writer holds.
 #[derive(Drop)]
 pub struct Watched<T> {
     inner: T,
@@ -134,7 +134,7 @@ impl<W: Write> Watched<W> {
         result
     }
 
-    /// One flush of the writer, also where nothing was written before.
+    /// One flush of the writer, even if nothing was written before.
     pub fn flush(&mut self) -> io::Result<()>
         ensures bytes { Keeps (W.contents self.old.inner) (W.contents self.new.inner) }
         ensures failures { self.new.failures ≡ count_after_call result self.old.failures }

@@ -1,4 +1,4 @@
-//! The words that the program is called with.
+//! The arguments of the program.
 
 ghost use Rattle.std.specs.Prelude.{◌≡◌, map, string_bytes};
 ghost use Rattle.std.specs.List.{list_all};
@@ -8,16 +8,16 @@ ghost use Rattle.p3_util_run.specs.Words.{command_of, side_of};
 /// What the program does with its list.
 #[derive(Drop)]
 pub enum Command {
-    /// Order it by reversed index bits.
+    /// Put it into the order of reversed index bits.
     Revbits,
     /// Transpose it, a matrix of `height` rows of `width` items.
     Transpose { width: usize, height: usize },
-    /// Order its rows of `width` items by reversed index bits.
+    /// Put its rows of `width` items into the order of reversed index bits.
     Revrows { width: usize },
 }
 
 impl Command {
-    /// The command that the words name.
+    /// The command that the arguments name, or `None` if they name none.
     pub fn from_words(words: &[String]) -> Option<Command>
         ensures { result ≡ command_of (map string_bytes words.now) }
     {
@@ -35,7 +35,7 @@ impl Command {
     }
 }
 
-/// The number that a word of decimal digits writes, where it fits 64 bits.
+/// The number that an argument of decimal digits stands for, if it fits 64 bits.
 fn side(word: &str) -> Option<usize>
     ensures { result ≡ side_of word.now }
 {

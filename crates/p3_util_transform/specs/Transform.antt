@@ -9,21 +9,23 @@ pub record FitsTransform (m : Matrix ℕ) : Type 0 where
   pub levels : (k : ℕ) × (k ≤ MOST_STAGES) × (m.height ≡ 2 ^ k)
   pub below : EachIndex m.items (λ i. slice_index m.items i < PRIME)
 
--- row r of column c of `new` is the sum over the rows j of old[j, c] * root ^ (r * j), modulo the prime
+-- row r of column c of `new` is the sum over the rows j of old[j, c] * root ^ (r * j), modulo the
+-- prime
 pub record IsTransformed (root width height : ℕ) (old new : List ℕ) : Type 0 where
   pub same_length : length new ≡ length old
   pub places : (r c : ℕ) → r < height → c < width
       → slice_index new (r * width + c) ≡ sum_below height (λ j. slice_index old (j * width + c) * root ^ (r * j)) % PRIME
 
--- the same by the inverse of the root, which is its power 2 ^ k - 1, and times the inverse of 2 ^ k
+-- the same with the inverse of the root, which is its power 2 ^ k - 1, and multiplied by the
+-- inverse of 2 ^ k
 pub record IsInverseTransformed (k root width : ℕ) (old new : List ℕ) : Type 0 where
   pub same_length : length new ≡ length old
   pub places : (r c : ℕ) → r < 2 ^ k → c < width
       → slice_index new (r * width + c)
       ≡ (sum_below (2 ^ k) (λ j. slice_index old (j * width + c) * (root ^ (2 ^ k - 1)) ^ (r * j)) * HALF ^ k) % PRIME
 
--- The inverse of the transform of a list is the list, and so is the transform of its inverse. The list is of 2 ^ k rows of
--- numbers below the prime.
+-- The inverse of the transform of a list is the list itself, and so is the transform of its
+-- inverse. The list has 2 ^ k rows of numbers below the prime.
 abbrev pub IsMatrixList : (k width : ℕ) → List ℕ → Type 0
 IsMatrixList k width xs = (k ≤ MOST_STAGES) × (length xs ≡ width * 2 ^ k) × EachIndex xs (λ i. slice_index xs i < PRIME)
 

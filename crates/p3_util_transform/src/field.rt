@@ -3,7 +3,8 @@
 ghost use Rattle.std.specs.Prelude.{◌≡◌, ℕ, ◌+◌, ◌-◌, ◌*◌, ◌%◌, ◌^◌, ◌<◌, ◌≤◌, slice_index};
 ghost use Rattle.p3_util_transform.specs.Stages.{IsRoot};
 
-/// The modulus, the prime 15 * 2^27 + 1. The calls here take numbers below it, and return such.
+/// The modulus, the prime 15 * 2^27 + 1. The functions in this file take and return numbers below
+/// it.
 pub const PRIME: u32 = 2_013_265_921;
 
 /// The greatest `k` for which there is a root of order `2^k`.
@@ -12,7 +13,8 @@ pub const MOST_STAGES: usize = 27;
 /// The inverse of 2.
 pub const HALF: u32 = 1_006_632_961;
 
-/// At `k`, a root of order `2^k`: its powers are distinct up to that one, which is 1.
+/// Entry `k` is a root of 1 of order `2^k`: its powers are distinct up to that exponent, at which
+/// the power is 1.
 pub static ROOTS: [u32; 28] = [
     1,
     2_013_265_920,
@@ -72,7 +74,7 @@ pub fn mul(a: u32, b: u32) -> u32
     (u64::from(a) * u64::from(b) % u64::from(PRIME)) as u32
 }
 
-/// `base` to the power of `exponent`, by squares.
+/// `base` to the power of `exponent`, by repeated squaring.
 pub fn pow(base: u32, exponent: u64) -> u32
     requires { base < PRIME }
     ensures { result ≡ base ^ exponent % PRIME }
@@ -100,7 +102,8 @@ pub fn root(levels: usize) -> u32
     ROOTS[levels]
 }
 
-/// Shows that each root in [`ROOTS`] is the square of the next, the first 1 and the second -1. No more is used of them.
+/// States that each root in [`ROOTS`] is the square of the next one, the first is 1 and the second
+/// is -1. Nothing else about them is used.
 pub fn roots_are_squares()
     ensures first { slice_index ROOTS 0 ≡ 1 }
     ensures second { slice_index ROOTS 1 ≡ PRIME - 1 }

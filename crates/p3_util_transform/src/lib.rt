@@ -1,4 +1,5 @@
-//! A number-theoretic transform of the columns of a matrix, over the calls of `p3_util`: an example to read and copy from.
+//! A number-theoretic transform of the columns of a matrix, built on the calls of `p3_util`. It is
+//! an example to read and to copy from.
 //!
 //! ```text
 //! let mut matrix = RowMajorMatrix::new(values, width).ok_or(..)?;
@@ -7,17 +8,21 @@
 //! }
 //! ```
 //!
-//! What the calls mean is in `specs/Transform.antt`, by sums, powers and remainders: nothing there is of the algorithm.
+//! The meaning of the calls is defined in `specs/Transform.antt`, by sums, powers and remainders.
+//! The definitions do not depend on the algorithm.
 //!
 //! - `field`: numbers modulo a prime, and a root of order `2^k` for each k up to 27.
-//! - `matrix`: rows one after the other. Their reversal and the transpose are one call of `p3_util` each.
-//! - `transform`: the rows are reversed by index bits, and then k stages each join two neighbouring blocks of rows into one,
-//!   until there is one block.
+//! - `matrix`: a matrix in row-major order. The reversal of its rows and its transpose are one call
+//!   of `p3_util` each.
+//! - `transform`: the rows are reversed by index bits. Then k stages follow, each of which joins
+//!   pairs of neighbouring blocks of rows, until there is one block.
 //!
-//! The proof follows the stages. After s of them there are `2^(k - s)` blocks of `2^s` rows, and block b is the transform of
-//! the rows that lie `2^(k - s)` apart from row `rev (k - s) b` on (`IsStage`). At first that is what the contract of
-//! `reverse_slice_row_index_bits` says of blocks of one row, and at last it is the transform. A stage is right since
-//! `rev (m + 1) (2 * b + c)` is `c * 2^m + rev m b`, and half of a root's order gives -1.
+//! The proof follows the stages. After s of them there are `2^(k - s)` blocks of `2^s` rows, and
+//! block b is the transform of the rows that are `2^(k - s)` apart from row `rev (k - s) b` on
+//! (`IsStage`). Before the first stage, this is what the contract of `reverse_slice_row_index_bits`
+//! says about blocks of one row. After the last stage, it is the transform. Each stage is right
+//! because `rev (m + 1) (2 * b + c)` is `c * 2^m + rev m b`, and because a root to the power of
+//! half its order is -1.
 #![tactic(auto)]
 
 pub mod field;

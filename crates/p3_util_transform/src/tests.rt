@@ -1,4 +1,4 @@
-//! Transforms worked out from the sum, and what no clause says.
+//! Transforms computed from the defining sum, and properties that no clause states.
 
 mod refused_growth;
 
@@ -30,7 +30,8 @@ fn after(
     Ok(matrix.values().to_vec(alloc)?)
 }
 
-/// Each transform is the sum of `values[j] * root^(r * j)`. Of four numbers the root is i = 1728404513, whose square is -1.
+/// Each transform is the sum of `values[j] * root^(r * j)`. Of four numbers the root is i =
+/// 1728404513, whose square is -1.
 #[test]
 fn worked_sums(rt: HostRuntime) -> Result<(), Fail> {
     let rows: [(&[u32], &[u32]); 5] = [
@@ -75,7 +76,7 @@ fn worked_sums(rt: HostRuntime) -> Result<(), Fail> {
     Ok(())
 }
 
-/// The products or the sums of two lists, place by place.
+/// The products or the sums of two lists, item by item.
 fn combined(
     rt: &impl Abort,
     alloc: Global,
@@ -116,14 +117,15 @@ fn product_of_polynomials(rt: HostRuntime) -> Result<(), Fail> {
     Ok(())
 }
 
-/// The transpose of what this list gives in rows of `width`.
+/// The transpose of the matrix that this list makes in rows of `width`.
 fn columns(alloc: Global, values: Vec<u32>, width: usize) -> Result<RowMajorMatrix<u32>, Fail> {
     let matrix = RowMajorMatrix::new(values, width).ok_or("no whole rows")?;
     Ok(matrix.transpose(alloc)?)
 }
 
-/// Each column is transformed by itself, there and back, by two calls and by one. A call that is out of memory for many rows
-/// or columns, whatever memory there is, meets its contract, and fails here.
+/// Each column is transformed on its own, there and back, by two calls and by one. A call that
+/// reports out of memory for many rows or columns, however much memory there is, meets its
+/// contract, and fails here.
 #[test]
 fn columns_alone(rt: HostRuntime) -> Result<(), Fail> {
     for (width, count) in [(1, 16u64), (3, 48), (16, 256), (1, 8192), (4096, 8192)] {

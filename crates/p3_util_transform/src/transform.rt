@@ -15,7 +15,8 @@ use p3_util::{
 use stage::{Twiddles, join_blocks};
 use std::alloc::{AllocError, Global};
 
-/// Whether `matrix` has `2^k` rows with `k` at most [`MOST_STAGES`], and all its numbers are below [`PRIME`].
+/// Whether `matrix` has `2^k` rows, with `k` at most [`MOST_STAGES`], and all its numbers are below
+/// [`PRIME`].
 pub fn fits_transform(matrix: &RowMajorMatrix<u32>) -> bool
     ensures { IsTrue result ↔ FitsTransform matrix.now }
 {
@@ -30,11 +31,12 @@ fn has_root(height: usize) -> bool
     levels <= MOST_STAGES && height == 1 << levels
 }
 
-/// Transforms each column, in place: of `2^k` rows, row `r` becomes the sum of the rows `j`, each times the root of order
-/// `2^k` to the power of `r * j`, modulo the prime. [`fits_transform`] tests the matrix.
+/// Transforms each column in place. With `2^k` rows, row `r` becomes the sum of all rows `j`, each
+/// multiplied by the root of order `2^k` to the power of `r * j`, modulo the prime.
+/// [`fits_transform`] checks the matrix.
 ///
-/// The powers of the root take half as many numbers as there are rows. Where there is no memory for them, the matrix is
-/// as it was.
+/// The call needs memory for powers of the root: half as many numbers as there are rows. If there
+/// is none, the matrix is unchanged.
 pub fn transform_columns(alloc: Global, matrix: &mut RowMajorMatrix<u32>) -> Result<(), AllocError>
     requires { FitsTransform matrix.old }
     ensures transformed { (k : ℕ) → matrix.old.height ≡ 2 ^ k → OnOk result
@@ -55,8 +57,9 @@ pub fn transform_columns(alloc: Global, matrix: &mut RowMajorMatrix<u32>) -> Res
     Ok(())
 }
 
-/// The inverse of [`transform_columns`], for a matrix that it takes: row `r` becomes the sum of the rows `j`, each times the
-/// inverse of the root to the power of `r * j`, and times the inverse of the number of rows.
+/// The inverse of [`transform_columns`], under the same condition. Row `r` becomes the sum of all
+/// rows `j`, each multiplied by the inverse of the root to the power of `r * j`, and by the inverse
+/// of the number of rows.
 pub fn inverse_transform_columns(
     alloc: Global,
     matrix: &mut RowMajorMatrix<u32>,
@@ -74,18 +77,18 @@ pub fn inverse_transform_columns(
     Ok(())
 }
 
-/// The law of the two transforms: each undoes the other.
+/// States that each of the two transforms undoes the other.
 pub fn transforms_are_inverse()
     ensures inverse_last { InverseRestores }
     ensures inverse_first { TransformRestores }
 {}
 
-/// Transforms a matrix and back: one call after the other leaves it as it was.
+/// Transforms a matrix and then transforms it back, which leaves it unchanged.
 pub fn transform_and_back(alloc: Global, matrix: &mut RowMajorMatrix<u32>) -> Result<(), AllocError>
     requires { FitsTransform matrix.old }
     ensures { OnOk result (matrix.new ≡ matrix.old) }
 {
-    // Called so that the proof knows that the rows are whole.
+    // `height` is called for its contract, which tells the proof that the rows are whole.
     let _ = matrix.height();
     transform_columns(alloc, matrix)?;
     inverse_transform_columns(alloc, matrix)?;
@@ -167,7 +170,7 @@ fn transform_by(
     Ok(())
 }
 
-/// The powers of `root` from 0 on.
+/// The first `count` powers of `root`, from power 0 on.
 fn powers_of(alloc: Global, root: u32, count: usize) -> Result<Vec<u32>, AllocError>
     requires { root < PRIME }
     ensures { IfOk result (λ powers. ArePowers root count powers.items) }
@@ -187,14 +190,14 @@ fn reverse_rows(values: &mut [u32], width: usize)
     ensures { IsRowReversal width values.old values.new }
 {
     if width == 1 {
-        // Past a few thousand items this is much faster than rows of one.
+        // Beyond a few thousand items this is much faster than the reversal of rows of one item.
         reverse_slice_index_bits(values);
     } else {
         reverse_slice_row_index_bits(values, width);
     }
 }
 
-/// Transforms each column of `2^levels` rows by any root of that order whose powers are given.
+/// Transforms each column of `2^levels` rows by the root of that order whose powers are given.
 fn transform_rows(values: &mut [u32], width: usize, levels: usize, powers: &[u32])
     requires levels { levels < 64 }
     requires len { length values.old ≡ width * 2 ^ levels }

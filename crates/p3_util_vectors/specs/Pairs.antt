@@ -1,4 +1,4 @@
--- A JSON list of two numbers as one element of a test's own.
+-- A JSON list of two numbers as one element, of a type that the tests define.
 use Rattle.std.specs.Prelude.{ℕ, Result, Ok, Err}
 use Rattle.serde_json.specs.Data.{Data, number, array, unsigned, Items, no_items, item}
 use Rattle.p3_util.specs.JsonArray.{Refusal, wrong_kind}
@@ -17,7 +17,7 @@ module _ {T : Type 0} (make : ℕ → ℕ → T) where
   pair_reading (array ds) = from_first ds
   pair_reading _ = Err wrong_kind
 
--- the answer by way of a function, or the same refusal
+-- the answer after a function is applied to it, or the same refusal
 abbrev pub map_ok : {A B E : Type 0} → (A → B) → Result A E → Result B E
 map_ok f (Ok x) = Ok (f x)
 map_ok f (Err e) = Err e

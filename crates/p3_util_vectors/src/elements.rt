@@ -9,8 +9,8 @@ use p3_util::array_serialization::{ArrayElement, ElementError, serialize};
 use serde_json::Value;
 use std::alloc::{AllocError, Global};
 
-/// Two numbers, written as a JSON list of two, which takes memory. It is only written: a call that reads one answers
-/// that memory ran out.
+/// Two numbers, written as a JSON list of two, which needs memory. It is only written: a call that
+/// reads one reports that memory ran out.
 #[derive(Default, Drop)]
 pub struct Two(pub u32, pub u32);
 
@@ -30,7 +30,7 @@ impl ArrayElement for Two {
     }
 }
 
-/// A number for which 2 is one too many: a call that reads 2 answers that memory ran out.
+/// A number that cannot be 2: a call that reads 2 reports that memory ran out.
 #[derive(Debug, Default, PartialEq, Drop)]
 pub struct NoTwo(pub u32);
 

@@ -1,4 +1,4 @@
-//! Keys that are equal where they are spelled in other letters.
+//! Keys that are equal even if they are spelled with different letters.
 
 ghost use Rattle.std.specs.Prelude.{◌==◌};
 ghost use Rattle.std.proofs.Common.{rules};
@@ -6,7 +6,7 @@ ghost use Rattle.std.specs.Cmp.Rules.{comparing};
 ghost use Rattle.std.specs.Ordering.{on};
 ghost use Rattle.std.specs.Str.{bytes_eq, str_to_ascii_lowercase};
 
-/// A key that is equal to any other spelling of it in capital and small letters.
+/// A key that is equal to any other spelling of itself in capital and small letters.
 #[derive(Drop)]
 pub struct Spelling(pub &'static str);
 

@@ -1,4 +1,5 @@
-//! Worked examples and outside vectors for the crates of this workspace, as tests, and the types that they are made of.
+//! Worked examples and test vectors of the original for the crates of this workspace, as tests, and
+//! the types that they use.
 #![tactic(auto)]
 
 pub use p3_util_callers::joined::Joined;

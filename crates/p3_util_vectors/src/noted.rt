@@ -2,7 +2,7 @@
 
 use p3_util::places::{Cells, Places};
 
-/// Numbers, and the calls that changed them while there is room for notes.
+/// Numbers, and the calls that changed them, as long as there is room for notes.
 #[derive(Drop)]
 pub struct Noted {
     pub items: Vec<u64>,

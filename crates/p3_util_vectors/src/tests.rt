@@ -1,6 +1,6 @@
-//! Worked rows, orders of steps, and the original's answers, each against values from outside. A test is here where it
-//! is small and says what a call means. What no clause says is tested with no proof: by the package, and in
-//! `tests/unproved`.
+//! Worked examples, orders of steps, and the original's answers, each compared with values from
+//! elsewhere. A test is here if it is small and shows what a call means. Properties that no clause
+//! states are tested without a proof: by the package, and in `tests/unproved`.
 
 mod array_serialization;
 mod bits;

@@ -1,7 +1,7 @@
 //! Everything of `p3-util` 0.8.0, with the proved calls in place of its own, for every type of items that these take, where
 //! words have 64 bits. `linear_map` stays the original's, since the proved map asks `K: Eq` of its type. So does
 //! `branch_hint`, by which the compiler keeps a branch, and what the proved package has not. On other systems all goes to the
-//! original. With the feature `parallel` long reversals and transposes run on all threads.
+//! original. With the feature `parallel` long reversals and transposes run on all threads, and so do reversals of rows.
 #![no_std]
 
 #[cfg(all(feature = "parallel", target_pointer_width = "64"))]
@@ -25,7 +25,19 @@ pub use original::*;
 /// the reversal of rows. On other systems it is not there.
 #[cfg(target_pointer_width = "64")]
 pub mod proved {
-    pub use p3_util_proved::{kernels, parts, reverse_slice_row_index_bits};
+    pub use p3_util_proved::{kernels, parts};
+
+    /// As [`p3_util_proved::reverse_slice_row_index_bits`]. With the feature `parallel` long lists are reversed on all threads, so
+    /// items are `Send` with and without it. For others there is [`kernels::reverse::reverse_slice_row_index_bits`].
+    ///
+    /// # Panics
+    ///
+    /// Where the length is not `row_width` times zero or a power of two.
+    #[inline]
+    #[track_caller]
+    pub fn reverse_slice_row_index_bits<F: Send>(vals: &mut [F], row_width: usize) {
+        crate::calls::reverse_slice_row_index_bits(vals, row_width);
+    }
 }
 
 /// The name of the release whose calls are in use, and in a checkout of the repository that it is none. On other systems,

@@ -3,6 +3,7 @@
 use alloc::vec::Vec;
 
 use p3_maybe_rayon::prelude::*;
+use p3_util_proved::parts::ReversalPhases;
 pub use p3_util_proved::*;
 
 /// How many parts there are for each thread, about. They are of unequal size.
@@ -28,7 +29,26 @@ pub fn reverse_slice_index_bits<F: Send + Sync>(vals: &mut [F]) {
     let Some(parts) = wish(vals.len() > p3_util_proved::parts::one_part_reversal::<F>()) else {
         return p3_util_proved::reverse_slice_index_bits(vals);
     };
-    p3_util_proved::parts::reversal(vals, parts).for_each_phase(|parts| {
+    run_phases(p3_util_proved::parts::reversal(vals, parts));
+}
+
+/// As [`p3_util_proved::reverse_slice_row_index_bits`], on all threads.
+///
+/// # Panics
+///
+/// Where the length is not `row_width` times zero or a power of two.
+#[inline]
+#[track_caller]
+pub fn reverse_slice_row_index_bits<F: Send>(vals: &mut [F], row_width: usize) {
+    let Some(parts) = wish(vals.len() > p3_util_proved::parts::one_part_reversal::<F>()) else {
+        return p3_util_proved::reverse_slice_row_index_bits(vals, row_width);
+    };
+    run_phases(p3_util_proved::parts::row_reversal(vals, row_width, parts));
+}
+
+/// Runs the parts of each phase on all threads.
+fn run_phases<F: Send>(phases: ReversalPhases<'_, F>) {
+    phases.for_each_phase(|parts| {
         let parts: Vec<_> = parts.collect();
         parts.into_par_iter().for_each(|part| part.run());
     });

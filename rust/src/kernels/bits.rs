@@ -1,4 +1,5 @@
-//! Arithmetic on single words: logarithms and powers, the reversal of binary digits, and the short names of types.
+//! Arithmetic on integers: logarithms and powers, the reversal of binary digits, and the short
+//! names of types.
 
 mod digits;
 mod names;
@@ -51,15 +52,15 @@ static POWERS_OF_THREE: [usize; 41] = [
     12_157_665_459_056_928_801,
 ];
 
-/// For each place of a binary digit, the exponent of the greatest power of three whose highest digit is no higher. Where a
-/// power of three has its highest digit at that place, this is its exponent.
+/// Entry `t` is the exponent of the greatest power of three below `2^(t + 1)`. If a power of three
+/// has its highest binary digit at place `t`, the entry is its exponent.
 static EXPONENTS_OF_THREE: [u8; 64] = [
     0, 1, 1, 2, 3, 3, 4, 5, 5, 6, 6, 7, 8, 8, 9, 10, 10, 11, 11, 12, 13, 13, 14, 15, 15, 16, 17,
     17, 18, 18, 19, 20, 20, 21, 22, 22, 23, 23, 24, 25, 25, 26, 27, 27, 28, 29, 29, 30, 30, 31, 32,
     32, 33, 34, 34, 35, 35, 36, 37, 37, 38, 39, 39, 40,
 ];
 
-/// The least `e` with `n <= 2^e`, which is 0 for 0 and 1.
+/// The logarithm of `n` to base 2, rounded up: the least `e` with `n <= 2^e`. It is 0 for 0 and 1.
 ///
 /// # Contract
 ///
@@ -73,11 +74,11 @@ static EXPONENTS_OF_THREE: [u8; 64] = [
 #[inline]
 #[must_use]
 pub const fn log2_ceil_usize(n: usize) -> usize {
-    // This is how many binary digits n - 1 has.
+    // The result is the number of binary digits of `n - 1`.
     (usize::BITS - n.saturating_sub(1).leading_zeros()) as usize
 }
 
-/// The greatest `e` with `2^e <= n`, and 0 for 0.
+/// The logarithm of `n` to base 2, rounded down: the greatest `e` with `2^e <= n`. It is 0 for 0.
 ///
 /// # Contract
 ///
@@ -94,7 +95,7 @@ pub const fn log2_floor_usize(n: usize) -> usize {
     if n == 0 { 0 } else { n.ilog2() as usize }
 }
 
-/// The least `e` with `n <= 2^e`, which is 0 for 0 and 1.
+/// The logarithm of `n` to base 2, rounded up: the least `e` with `n <= 2^e`. It is 0 for 0 and 1.
 ///
 /// # Contract
 ///
@@ -116,7 +117,7 @@ pub(crate) const fn pow2(exponent: usize) -> usize {
     1 << exponent
 }
 
-/// `2^log_degree`, or `None` where that does not fit a word.
+/// `2^log_degree`, or `None` if it does not fit a `usize`.
 ///
 /// # Contract
 ///
@@ -135,7 +136,7 @@ pub const fn checked_pow2(log_degree: usize) -> Option<usize> {
     }
 }
 
-/// `a + b` and `2^(a + b)`, or `None` where the power does not fit a word.
+/// `a + b` and `2^(a + b)`, or `None` if the power does not fit a `usize`.
 ///
 /// # Contract
 ///
@@ -155,7 +156,7 @@ pub const fn checked_log_size_sum(a: usize, b: usize) -> Option<(usize, usize)> 
     }
 }
 
-/// The logarithm to base 2 of a power of two. std's `is_power_of_two` is the test for `n`.
+/// The logarithm to base 2 of a power of two. std's `is_power_of_two` checks `n`.
 ///
 /// # Contract
 ///
@@ -172,7 +173,7 @@ pub const fn log2_strict_usize(n: usize) -> usize {
     n.trailing_zeros() as usize
 }
 
-/// The logarithm to base 3 of a power of three. [`is_power_of_three`] is the test for `n`.
+/// The logarithm to base 3 of a power of three. [`is_power_of_three`] checks `n`.
 ///
 /// # Contract
 ///
@@ -189,7 +190,7 @@ pub const fn log3_strict_usize(n: usize) -> usize {
     exponent_of_three(top as usize)
 }
 
-/// Whether some `e` has `n = 3^e`.
+/// Whether `n` is `3^e` for some `e`.
 ///
 /// # Contract
 ///
@@ -203,13 +204,15 @@ pub const fn is_power_of_three(n: usize) -> bool {
     n != 0 && powers_of_three()[exponent_of_three(n.ilog2() as usize)] == n
 }
 
-/// The table of the powers of three: they are all that fit a word, and no two share their highest binary digit.
+/// The table of the powers of three: all that fit a `usize`. No two of them share their highest
+/// binary digit.
 #[inline]
 const fn powers_of_three() -> &'static [usize; 41] {
     &POWERS_OF_THREE
 }
 
-/// The exponent of the power of three whose highest binary digit is at place `top`, where there is one.
+/// The exponent of the power of three whose highest binary digit is at place `top`, if there is
+/// one.
 #[inline]
 const fn exponent_of_three(top: usize) -> usize {
     EXPONENTS_OF_THREE[top] as usize
@@ -237,11 +240,12 @@ pub const fn indices_arr<const N: usize>() -> [usize; N] {
     indices
 }
 
-/// Does nothing. It marks a branch that a program seldom takes. The original has an empty line of assembly here, so that the
-/// compiler keeps the branch. This body is empty, and the compiler may make a conditional move of the branch.
+/// Does nothing. It marks a branch that is seldom taken. The original has an empty line of assembly
+/// here, so that the compiler keeps the branch. This body is empty, so the compiler may turn the
+/// branch into a conditional move.
 #[inline]
 pub const fn branch_hint() {}
 
-/// Does nothing. A call shows that `T` is `Clone`.
+/// Does nothing. A call compiles only if `T` is `Clone`.
 #[inline]
 pub const fn assert_clone<T: Clone>() {}

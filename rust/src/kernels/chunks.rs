@@ -1,14 +1,14 @@
-//! Iterators cut into chunks of one size.
+//! Iterators that are cut into chunks of a fixed size.
 
 use core::iter::FusedIterator;
 
-/// Calls `func` on each chunk of `BUFLEN` bytes of `input` in turn; the last chunk may be shorter. The chunks joined are
-/// the bytes.
+/// Calls `func` on each chunk of `BUFLEN` bytes of `input`, in order. The last chunk may be
+/// shorter. The chunks joined together are the bytes of `input`.
 ///
-/// The bytes are those before the first `None` of the iterator, which is not asked again after it. It is dropped after
-/// the last call of `func`.
-/// Where `BUFLEN` is 0 there is no chunk: neither `func` nor the iterator is called.
-/// `BUFLEN` is below 2^63, as the length of every array of bytes is.
+/// The bytes are those before the iterator's first `None`, after which `next` is not called again.
+/// The iterator is dropped after the last call of `func`. If `BUFLEN` is 0, there is no chunk, and
+/// neither `func` nor `next` is called. `BUFLEN` must be below 2^63, and the length of every array
+/// of bytes is.
 ///
 /// # Contract
 ///
@@ -47,10 +47,11 @@ where
     }
 }
 
-/// Cuts what `iter` gives up to its first `None` into arrays of `N` items. The last array is filled with `default` where
-/// they do not divide.
+/// Cuts the items of `iter` up to its first `None` into arrays of `N` items. If `N` does not divide
+/// their number, the last array is filled with `default`.
 ///
-/// After that `None` the iterator is not asked again. Where `N` is 0 there is no array, and it is never asked.
+/// After that `None`, `next` is not called again. If `N` is 0, there is no array, and `next` is
+/// never called.
 ///
 /// # Contract
 ///
@@ -74,7 +75,7 @@ pub fn iter_array_chunks_padded<T: Copy, const N: usize, I: IntoIterator<Item = 
     }
 }
 
-/// The iterator that [`iter_array_chunks_padded`] makes.
+/// The iterator that [`iter_array_chunks_padded`] returns.
 #[derive(Clone, Debug)]
 #[must_use = "iterators are lazy and do nothing unless consumed"]
 pub struct ArrayChunksPadded<I, T, const N: usize> {

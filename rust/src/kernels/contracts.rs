@@ -38,7 +38,7 @@
 //! | `x.now` | what is behind the `&` x |
 //! | `x.old`, `x.new` | what is behind the `&mut` x before the call, and after it |
 //! | `x.entry` | x itself, as the call was given it |
-//! | `x.0`, `x.1`, `(x, y)` | the first of a pair, the second, and the pair |
+//! | `x.0`, `x.1`, `x.2`, `x.3`, `(x, y)` | the parts of a tuple, from the first on, and a pair |
 //! | `x.items`, `x.slice`, `x.values`, `x.holder`, `x.count`, `x.given` | the field of that name, which may be private |
 //! | `S.items x` | the list that a holder or a source x of the type S has; in a trait `items` alone |
 //! | `A ≡ B` | A and B are equal |
@@ -53,7 +53,7 @@
 //! | `<`, `≤`, `A == B` | A is less than B; at most B; the `bool` that says whether two numbers are equal |
 //! | `IsTrue b`, `IsFalse b` | b is `true`; b is `false` |
 //! | `Some`, `None`, `true`, `false` | as in Rust |
-//! | `[]` | the list of no items |
+//! | `[]`, `x ∷ xs` | the list of no items; the list of x and then the items of xs |
 //! | `length xs` | how many items a list has |
 //! | `slice_get xs i` | `Some` of item i of a list, and `None` where there is none |
 //! | `slice_index xs i` | item i of a list of numbers, and 0 where there is none |
@@ -88,62 +88,65 @@
 //! |---|---|
 //! | `bit x i` | digit i of x in base 2, counted from the lowest: `x / 2 ^ i % 2` |
 //! | `rev k x` | the k low digits of x in reversed order: digit i of x, which is `bit x i`, becomes digit `k - 1 - i` |
-//! | `rev_word bit_len x` | what `reverse_bits_len` returns: `rev bit_len x`, and for 0 bits the whole word reversed, `rev 64 x` |
+//! | `rev_word bit_len x` | what `reverse_bits_len` returns: `rev bit_len x`, or for 0 bits all 64 digits reversed, `rev 64 x` |
 //! | `IsPowerOfThree n` | n is 3 to some power |
-//! | `HasLog2 n` | n is a power of two, by std's `IsPowerOfTwo` or by either of two tests, so that callers need no proof: one test computes for a number that is written out, and the other is std's `is_power_of_two` |
-//! | `HasLog3 n` | n is a power of three, by definition or by a test of the 41 such powers that a word holds, which computes for a number that is written out |
-//! | `clog n` | the least e with `n ≤ 2 ^ e`, which is how many powers of two are below n |
-//! | `lev r c` | how often a region of r rows and c columns can be halved at its longer side until both are at most 128, which is 2 ^ 7: `(clog r - 7) + (clog c - 7)`, where a difference is 0 at least |
-//! | `nest r c` | how many splits nest in the split of such a region, which ends too where a side is at most 2: `lev r c`, or 0 where that is so from the start |
-//! | `short_name t` | the text cut after each `<`, `>` and `,`, and of each piece what follows its last `::`, joined in order. Each `::` is found from the left, so `a:::b` gives `:b` |
+//! | `HasLog2 n` | n is a power of two, either by std's `IsPowerOfTwo` or by one of two tests. The tests spare callers a proof: one evaluates for a number that is written out, and the other is std's `is_power_of_two` |
+//! | `HasLog3 n` | n is a power of three, either by definition or by a test against the 41 powers that fit a usize. The test evaluates for a number that is written out |
+//! | `clog n` | the least e with `n ≤ 2 ^ e`, which is the number of powers of two below n |
+//! | `lev r c` | how often a region of r rows and c columns can be halved at its longer side until both are at most 128, which is 2 ^ 7: `(clog r - 7) + (clog c - 7)`, where a difference is at least 0 |
+//! | `nest r c` | how many splits nest in the split of such a region: `lev r c`, or 0 if one side is at most 2 from the start, since a part with such a side is not split |
+//! | `short_name t` | the text is cut after each `<`, `>` and `,`, and the parts of the pieces after their last `::` are joined in order. Each `::` is found from the left, so `a:::b` gives `:b` |
 //! | `IsZeroOrPowerOfTwo n` | n is 0 or a power of two |
-//! | `IsReversible n` | n is 0 or a power of two, by definition or by either of two tests, so that callers need no proof: one test computes for a number that is written out, and the other is std's `is_power_of_two` |
-//! | `FitsRows len row_width` | `len` items are rows of `row_width` items, and the number of rows is 0 or a power of two |
-//! | `IsRowReversal row_width old new` | With `2 ^ k` rows of `row_width` items, row r of `new` is row `rev k r` of `old`, item by item, and the length is the same |
-//! | `IsReversal old new` | With `2 ^ k` items, place i of `new` holds what stood at place `rev k i` of `old`: it is `IsRowReversal` of rows of one item |
-//! | `RunsExchanged i j len old new` | the `len` items from place i on and the `len` items from place j on are exchanged, each with its counterpart, and all other items stay |
-//! | `IsTranspose width height old new` | `old` has `height` rows of `width` items, and `new` is its transpose, `width` rows of `height` items: place `x * height + y` of `new` holds what is at place `y * width + x` of `old`, for x < width and y < height |
+//! | `IsReversible n` | n is 0 or a power of two, either by definition or by one of two tests. The tests spare callers a proof: one evaluates for a number that is written out, and the other is std's `is_power_of_two` |
+//! | `FitsRows len row_width` | `len` items are rows of `row_width` items each, and the number of rows is 0 or a power of two |
+//! | `IsRowReversal row_width old new` | With `2 ^ k` rows of `row_width` items, row r of `new` is row `rev k r` of `old`, item by item, and the length stays the same |
+//! | `IsReversal old new` | With `2 ^ k` items, place i of `new` holds the item from place `rev k i` of `old`. This is `IsRowReversal` for rows of one item |
+//! | `RunsExchanged i j len old new` | the `len` items from place i on are exchanged with the `len` items from place j on, in order, and all other items stay |
+//! | `BlocksExchanged n i j stride old new` | The first n items of a block of 4 by 4 items are exchanged with their mirror images in another block. The rows of both blocks begin `stride` places apart, and the blocks begin at places i and j. Row r and column c of one block correspond to column r and row c of the other, and items are counted row after row. All other items stay |
+//! | `IsTranspose width height old new` | `old` has `height` rows of `width` items, and `new` is its transpose, `width` rows of `height` items. Place `x * height + y` of `new` holds the item at place `y * width + x` of `old`, for x < width and y < height |
 //! | `LiesInMatrix region width height` | the region lies in a matrix of `height` rows of `width` items |
-//! | `rows_of region` | how many rows the region has |
-//! | `cols_of region` | how many columns the region has |
-//! | `items_of region` | how many items the region has |
-//! | `IsRegionTransposed region width height input old new` | `input` has `height` rows of `width` items. For each row y and column x of the region, place `x * height + y` of `new` holds what is at place `y * width + x` of `input`, and every other place what it held in `old` |
-//! | `IsStageOne old new` | of a block of 4 by 4 items, the lowest bit of each item's row number is exchanged with that of its column number |
-//! | `IsStageTwo old new` | of a block of 4 by 4 items, the next bit of each item's row number is exchanged with that of its column number |
+//! | `rows_of region` | the number of rows of the region |
+//! | `cols_of region` | the number of columns of the region |
+//! | `items_of region` | the number of items of the region |
+//! | `IsRegionTransposed region width height input old new` | `input` has `height` rows of `width` items. For each row y and column x of the region, place `x * height + y` of `new` holds the item at place `y * width + x` of `input`. Every other place holds what it held in `old` |
+//! | `IsStageOne old new` | in a block of 4 by 4 items, the lowest bit of each item's row number is exchanged with the lowest bit of its column number |
+//! | `IsStageTwo old new` | in a block of 4 by 4 items, the higher bit of each item's row number is exchanged with the higher bit of its column number |
 //! | `IsBlockTransposed old new` | a block of 4 by 4 items is transposed |
-//! | `IsSquareTransposed base log_stride log_size old new` | The square has `2 ^ log_size` rows of as many items. Its first place is `base`, and each row begins `2 ^ log_stride` places after the row before. Row a and column b of `new` hold what stood at row b and column a, and all else stays |
-//! | `short_swaps k` | how many pairs of different numbers of k bits are each other's reverse: `(2 ^ k - 2 ^ ceil(k / 2)) / 2`, since `2 ^ ceil(k / 2)` of the `2 ^ k` numbers are their own reverse |
-//! | `row_swaps items row_width` | the swaps of `items` items in rows of `row_width`: as many for each item of a row as there are pairs of rows, `row_width * short_swaps (clog (items / row_width))` |
-//! | `square_swaps side` | how many pairs of places of a square of `side` rows mirror each other across its diagonal: `side * (side - 1) / 2` |
-//! | `long_swaps k` | the swaps of `2 ^ k` items by way of chunks, squares and chunks, with `h = k / 2` and `c = k - h`: `2 * short_swaps h * 2 ^ c + 2 ^ (c - h) * square_swaps (2 ^ h)` |
-//! | `reversal_swaps items` | the swaps of `items` items, zero or a power of two: `short_swaps (clog items)` up to 8192 items, and `long_swaps (clog items)` beyond |
-//! | `counted c s` | the count c after s more steps: `min (2 ^ 128 - 1) (c + s)` |
-//! | `same_holder n a b` | b is a after n exchanges. A holder that borrows its items says that b still borrows the same slice, so what changes in the holder changes in that slice; one that does not count ignores n. Of `Cells`: b is a after n puts, as in `Places` |
+//! | `in_order four` | four items as a list |
+//! | `rows_in_order rows` | the rows of a block of 4 by 4 items as lists |
+//! | `IsSquareTransposed base log_stride log_size old new` | The square has `2 ^ log_size` rows and as many columns. Its first place is `base`, and each row begins `2 ^ log_stride` places after the row before. Row a and column b of `new` hold the item from row b and column a of `old`, and all other items stay |
+//! | `short_swaps k` | the number of pairs of different numbers of k bits that are each other's reverse: `(2 ^ k - 2 ^ ceil(k / 2)) / 2`, since `2 ^ ceil(k / 2)` of the `2 ^ k` numbers are their own reverse |
+//! | `row_swaps items row_width` | the number of swaps for `items` items in rows of `row_width`: one for each item of a row and each pair of rows, `row_width * short_swaps (clog (items / row_width))` |
+//! | `square_swaps side` | the number of pairs of places of a square of `side` rows that mirror each other across its diagonal: `side * (side - 1) / 2` |
+//! | `long_swaps k` | the number of swaps for `2 ^ k` items by chunks, squares and chunks, with `h = k / 2` and `c = k - h`: `2 * short_swaps h * 2 ^ c + 2 ^ (c - h) * square_swaps (2 ^ h)` |
+//! | `reversal_swaps items` | the number of swaps for `items` items, zero or a power of two: `short_swaps (clog items)` up to 8192 items, and `long_swaps (clog items)` beyond |
+//! | `counted c s` | the count c after s more steps, which is `min (2 ^ 128 - 1) (c + s)` |
+//! | `same_holder n a b` | b is a after n exchanges. If the holder borrows its items, it also says that b borrows the same slice as a, so a change to the holder is a change to that slice. A holder that does not count its exchanges ignores n. Of `Cells`: b is a after n puts. The rest is the same as for `Places` |
 //!
 //! # Words of the chunks, the map and `zip_eq`
 //!
 //! | Name | Meaning |
 //! |---|---|
 //! | `flat rows` | the items of the rows, row after row |
-//! | `pieces n xs` | the list cut into pieces of n items, of which the last one may be shorter. They are as many as the length divided by n, rounded up, and none for n = 0 |
+//! | `pieces n xs` | the list cut into pieces of n items, where the last piece may be shorter. The number of pieces is the length divided by n, rounded up, and for n = 0 there is none |
 //! | `padded_pieces n fill xs` | `pieces` of the list, each filled to n items with `fill` |
-//! | `CallsOnPieces g n f xs` | f was called at each piece of n items of xs, one call after another: a list of states, one more than the pieces, begins with f, and each call led from one to the next |
-//! | `padded_source s` | of an `ArrayChunksPadded`, the iterator inside |
-//! | `padded_done s` | whether the iterator inside has returned `None`, after which it is not asked again |
+//! | `CallsOnPieces g n f xs` | f was called on each piece of n items of xs, in order. A list of states, one more than the pieces, begins with f, and each call led from one state to the next |
+//! | `padded_source s` | the iterator inside an `ArrayChunksPadded` |
+//! | `padded_done s` | whether the iterator inside has returned `None`; after that it is not called again |
 //! | `padded_fill s` | the item that fills the last piece |
-//! | `padded_steps steps s r t` | a call gives the next piece, filled to n items, or `None` where no item is left |
-//! | `PadsRuns steps fill s` | behind each run of calls is a run of the iterator inside, and the pieces are `padded_pieces` of its items |
-//! | `EndsForGood steps` | after `None` comes nothing but `None` |
-//! | `HasTrueLength steps left s` | the length that an iterator states is true, now and after any calls: each item lowers it by one, and `None` comes where it is 0 |
+//! | `padded_steps steps s r t` | a call yields the next piece, filled to n items, or `None` if no item is left |
+//! | `PadsRuns steps fill s` | each run of calls comes from a run of the iterator inside, and its pieces are `padded_pieces` of that run's items |
+//! | `EndsForGood steps` | after `None` only `None` follows |
+//! | `HasTrueLength steps left s` | the length that an iterator states is true, now and after any calls: each item lowers it by one, and `None` comes when it is 0 |
 //! | `zip_eq_first z` | the first of the two iterators of a `ZipEq` |
 //! | `zip_eq_second z` | the second of the two iterators of a `ZipEq` |
-//! | `zip_eq_steps steps others s r t` | a call asks both iterators, and gives a pair where both give an item, else `None` |
-//! | `PairsRuns steps others z` | behind each run of calls are a run of the first iterator and one of the second, whose items it pairs by place |
-//! | `AskedRuns steps others z` | behind each run of calls are runs of both iterators, of all that the two were asked for |
-//! | `zip_eq_left left z` | as many pairs are left as the first iterator has items left |
+//! | `zip_eq_steps steps others s r t` | a call calls both iterators, and yields a pair if both yield an item and otherwise `None` |
+//! | `PairsRuns steps others z` | each run of calls comes from a run of the first iterator and a run of the second, and pairs their items in order |
+//! | `AskedRuns steps others z` | each run of calls comes from runs of both iterators, which have all that the two were called for |
+//! | `zip_eq_left left z` | the number of pairs that are left, which is the number of items left in the first iterator |
 //! | `HasDistinctKeys eq pairs` | no two pairs have equal keys |
 //! | `value_at eq pairs k` | the value of the pair whose key is equal to k, if there is one |
-//! | `put eq pairs k v` | the pairs after k is given the value v: a known key keeps its place and its spelling, and a new pair goes last |
-//! | `put_all eq pairs xs` | the pairs after each of xs is put in turn, as by `put` |
-//! | `lends_value K V eq m k r` | the key k has the value that was last written through r, and where r is `None` the map stays as it is |
-//! | `lends_put K V eq m k r` | the key k has the value that was last written through r, as after `put`, and where r is `Err` the map stays as it is |
+//! | `put eq pairs k v` | the pairs after k is given the value v: a known key keeps its place and its spelling, and a new pair goes to the end |
+//! | `put_all eq pairs xs` | the pairs after each pair of xs is inserted in order, as by `put` |
+//! | `lends_value K V eq m k r` | the key k has the value that was last written through r; if r is `None`, the map stays as it is |
+//! | `lends_put K V eq m k r` | the key k has the value that was last written through r, as after `put`; if r is `Err`, the map stays as it is |

@@ -1,4 +1,5 @@
-//! A map that keeps its pairs in the order of insertion and finds a key by comparing it with each.
+//! A map that keeps its pairs in the order of insertion. It finds a key by comparing it with each
+//! stored key.
 
 mod iter;
 
@@ -10,14 +11,15 @@ use core::slice;
 use core::mem::replace;
 use core::ops::Index;
 
-/// A map in insertion order, for few keys. A look-up compares each stored key with the given one, as `stored == given`.
+/// A map in insertion order, for few keys. A lookup compares each stored key with the given one, as
+/// in `stored == given`.
 #[derive(Debug)]
 pub struct LinearMap<K: Eq, V> {
     pairs: Vec<(K, V)>,
 }
 
 impl<K: Eq, V> LinearMap<K, V> {
-    /// An empty map, which takes no memory until the first pair.
+    /// An empty map. It allocates nothing until the first pair is inserted.
     ///
     /// # Contract
     ///
@@ -117,12 +119,12 @@ impl<K: Eq, V> LinearMap<K, V> {
         Iter::new(&self.pairs)
     }
 
-    /// The place of the pair whose key equals `k`.
+    /// The index of the pair whose key equals `k`, or `None` if there is no such pair.
     fn place_of(&self, k: &K) -> Option<usize> {
         self.pairs.iter().position(|pair| pair.0 == *k)
     }
 
-    /// The value of the pair whose key equals `k`, or `None` where there is none.
+    /// The value of the pair whose key equals `k`, or `None` if there is no such pair.
     ///
     /// # Contract
     ///
@@ -136,7 +138,8 @@ impl<K: Eq, V> LinearMap<K, V> {
         Some(&self.pairs[place].1)
     }
 
-    /// The same value, to write to. A write changes that value alone.
+    /// A mutable reference to the value of the pair whose key equals `k`, or `None` if there is no
+    /// such pair. A write changes only that value.
     ///
     /// # Contract
     ///
@@ -153,9 +156,9 @@ impl<K: Eq, V> LinearMap<K, V> {
 }
 
 impl<K: Eq, V> LinearMap<K, V> {
-    /// Gives `k` the value `v`. A known key keeps its place and its stored spelling, its old value is returned, and `k` is
-    /// dropped. A new pair goes last. Only a new pair can need memory: `NoRoom` hands it back, and the map stays as it
-    /// was.
+    /// Gives `k` the value `v`. A known key keeps its place and its stored spelling: its old value
+    /// is returned, and `k` is dropped. A new pair goes to the end. Only a new pair can need
+    /// memory. If there is none, `NoRoom` returns the pair, and the map is unchanged.
     ///
     /// # Contract
     ///
@@ -183,9 +186,9 @@ impl<K: Eq, V> LinearMap<K, V> {
         Ok(None)
     }
 
-    /// The value at the key `k`, to write to. For a new key, first room is asked for, and then what `f` returns is added
-    /// last. Under a known key `f` is not called. Only a new key can need memory: `NoRoom` hands it back, and the map stays
-    /// as it was.
+    /// A mutable reference to the value of `k`. For a new key, the call first makes room, and then
+    /// adds the value that `f` returns at the end. For a known key `f` is not called. Only a new
+    /// key can need memory. If there is none, `NoRoom` returns the key, and the map is unchanged.
     ///
     /// # Contract
     ///
@@ -213,7 +216,8 @@ impl<K: Eq, V> LinearMap<K, V> {
 }
 
 impl<K: Eq, V> LinearMap<K, V> {
-    /// The map after each pair of `it` is inserted in order. On a refusal the pairs that were taken are dropped.
+    /// The map of the pairs of `it`, inserted in order. If memory runs out, the pairs that were
+    /// taken are dropped.
     ///
     /// # Contract
     ///
@@ -225,12 +229,13 @@ impl<K: Eq, V> LinearMap<K, V> {
     ///     (λ m. (from : I.IntoIter) × (xs : List (K × V)) × I.into_iter_gives it from
     ///     × Drains I.IntoIter.next_gives from xs × (m ≡ put_all K.eq [] xs)) }
     ///
-    /// // The refused pair x has a new key. The pairs xs came before it.
+    /// // The pair x that was refused has a new key. The pairs xs came before it.
     /// ensures refuses_new { OnErr result ((from : I.IntoIter) × (xs : List (K × V)) × (x : K × V) × (rest : I.IntoIter)
     ///     × I.into_iter_gives it from × YieldsThen I.IntoIter.next_gives from xs (Some x) rest
     ///     × (value_at K.eq (put_all K.eq [] xs) x.0 ≡ None)) }
     ///
-    /// // The clause `pairs` over one run of `next`, which the proof of a chain of iterators is made from.
+    /// // The clause `pairs` for one run of `next`. The proof for a chain of iterators needs this
+    /// // form.
     /// ensures runs { IfOk result
     ///     (λ m. (from : I.IntoIter) × I.into_iter_gives it from
     ///     × WholeRun I.IntoIter.next_gives from (λ run. m ≡ put_all K.eq [] run.items)) }
@@ -249,7 +254,7 @@ impl<K: Eq, V> LinearMap<K, V> {
     }
 }
 
-/// The value of the pair whose key equals `k`, which has to be there: `get` is the test.
+/// The value of the pair whose key equals `k`. There must be such a pair, which `get` checks.
 impl<'q, K: Eq, V> Index<&'q K> for LinearMap<K, V> {
     type Output = V;
 
@@ -258,7 +263,7 @@ impl<'q, K: Eq, V> Index<&'q K> for LinearMap<K, V> {
     }
 }
 
-/// Two maps are equal where they have equal pairs in the same order.
+/// Two maps are equal if they have equal pairs in the same order.
 impl<K: Eq, V: PartialEq> PartialEq for LinearMap<K, V> {
     fn eq(&self, other: &Self) -> bool {
         self.pairs == other.pairs
@@ -267,7 +272,7 @@ impl<K: Eq, V: PartialEq> PartialEq for LinearMap<K, V> {
 
 impl<K: Eq, V: Eq> Eq for LinearMap<K, V> {}
 
-/// The pairs by value, in order.
+/// Iterates over the pairs by value, in order.
 impl<K: Eq, V> IntoIterator for LinearMap<K, V> {
     type Item = (K, V);
 
@@ -278,7 +283,7 @@ impl<K: Eq, V> IntoIterator for LinearMap<K, V> {
     }
 }
 
-/// References to the pairs, in order.
+/// Iterates over references to the pairs, in order.
 impl<'a, K: Eq, V> IntoIterator for &'a LinearMap<K, V> {
     type Item = &'a (K, V);
 

@@ -1,5 +1,4 @@
 // rust/erase writes this folder from the proved sources in crates/. What is to change is changed there.
-//! Bit reversal and transposes of large slices, and the counted traits that their kernels are written over.
 
 pub mod bits;
 pub(crate) mod parts;
@@ -16,7 +15,7 @@ pub use no_room::NoRoom;
 
 pub mod contracts;
 
-/// What a call takes or returns that may need memory, written by hand in the place of Rattle's std.
+/// What a call takes or returns that may need memory, written by hand instead of Rattle's std.
 pub mod memory {
     pub use crate::memory::{AllocError, Global, String};
 }

@@ -1,8 +1,9 @@
-//! What a call that needs memory returns where there is none.
+//! The error of a call that needs memory when there is none.
 
-/// A refusal where memory runs out, with what the refused call was given, unchanged.
+/// The error of a call for which there was no memory. It returns what the call was given,
+/// unchanged.
 #[derive(Clone, Debug)]
 pub struct NoRoom<G> {
-    /// What the refused call was given.
+    /// What the call was given.
     pub given: G,
 }

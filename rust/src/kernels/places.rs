@@ -1,16 +1,25 @@
-//! Lists that kernels change by place alone, and counters that see each change.
+//! Lists that are read and changed by index alone, and counters that count each change.
 //!
-//! - A *holder* is what has the list: a [`SlicePlaces`] or [`SliceCells`] of a slice, a view of rows, or a type of your own.
-//!   A slice itself is none.
-//! - A *place* is an index of a list whose items may be exchanged ([`Places`]), a *cell* one whose item may be written
-//!   ([`Cells`]), and a *source* is a list that is only read ([`Source`]).
-//! - A *swap* is one counted exchange of two places ([`Swaps`]), a *write* one counted put of an item ([`Writes`]).
-//! - A *step* is one exchange or one put.
-//! - A *kernel* is given a holder by value and gives it back with its list changed. Its contract gives the exact number of
-//!   steps that the holder made, so a kernel leaves no step out and makes none beside them.
-//! - A *counter* is a holder around another one, and counts its steps. A reference to a holder is a holder too.
-//! - A call on a slice runs its kernel over a holder of the slice. A counted call runs it over a new counter of the reference
-//!   that it is given, and an `_on` call runs it over a counter that goes on from the caller's count.
+//! The kernels of this crate are generic over these traits. A kernel cannot reach the list in any
+//! other way, so a contract can say exactly how many changes it makes. These terms are used
+//! throughout the crate:
+//!
+//! - A *holder* gives access to a list by index: [`SlicePlaces`] or [`SliceCells`] for a slice, a
+//!   view of rows, or a type of your own. A slice itself is not a holder.
+//! - A *place* is an index of a list whose items can be exchanged ([`Places`]). A *cell* is an
+//!   index of a list whose items can be written ([`Cells`]). A *source* is a list that is only read
+//!   ([`Source`]).
+//! - A *step* is one exchange of two places or one put of an item.
+//! - A *counter* is a holder around another holder, and counts its steps. [`Swaps`] counts
+//!   exchanges: a counted exchange is a *swap*. [`Writes`] counts puts: a counted put is a *write*.
+//! - A *kernel* takes a holder by value and returns it with the list changed. Its contract gives
+//!   the exact number of steps that the holder made, so a kernel can neither leave out a step nor
+//!   make an extra one.
+//!
+//! A reference to a holder is a holder too. A call on a slice runs its kernel on a holder of the
+//! slice. A call whose name ends in `_counted` runs it on a new counter around the reference that
+//! it is given. A call whose name ends in `_on` runs it on a counter that continues from the
+//! caller's count.
 
 mod counters;
 mod references;
@@ -19,13 +28,19 @@ mod slices;
 pub use counters::{Swaps, Writes};
 pub use slices::{SliceCells, SlicePlaces, SliceSource};
 
-/// A list whose items can be exchanged, and neither read nor moved in another way.
+/// Four items that are next to each other in memory.
+#[derive(Clone, Copy, Debug)]
+#[repr(C)]
+pub struct Four<T>(pub T, pub T, pub T, pub T);
+
+/// A list whose items can be exchanged. They can be neither read nor moved in another way.
 ///
-/// Contracts see an implementation as the list of its items. `same_holder n a b` says that b is a after n exchanges. A holder
-/// that borrows its items says that b still borrows the same slice, so what changes in the holder changes in that slice; one
-/// that does not count ignores n.
+/// A contract sees an implementation as the list of its items. `same_holder n a b` says that b is a
+/// after n exchanges. If the holder borrows its items, it also says that b borrows the same slice
+/// as a, so a change to the holder is a change to that slice. A holder that does not count its
+/// exchanges ignores n.
 pub trait Places {
-    /// What is at a place.
+    /// The type of the items.
     type Item;
 
     /// The number of places.
@@ -39,7 +54,7 @@ pub trait Places {
     /// ```
     fn len(&self) -> usize;
 
-    /// Exchanges the items at places `i` and `j`. Where they are one place, nothing changes.
+    /// Exchanges the items at places `i` and `j`. If `i` equals `j`, nothing changes.
     ///
     /// # Contract
     ///
@@ -53,7 +68,8 @@ pub trait Places {
     /// ```
     fn exchange(&mut self, i: usize, j: usize);
 
-    /// As `exchange`, where `i` is below `j`. A holder may do so without a test of their order.
+    /// Does the same as `exchange`, for `i < j`. A holder may do this without comparing `i` and
+    /// `j`.
     ///
     /// # Contract
     ///
@@ -70,8 +86,9 @@ pub trait Places {
         self.exchange(i, j);
     }
 
-    /// Exchanges the `len` items from place `i` on with the `len` items from place `j` on, in order. The two runs have no
-    /// place in common. A holder may do so in a faster way than by its `exchange`.
+    /// Exchanges the `len` items from place `i` on with the `len` items from place `j` on, in
+    /// order. The two runs must not overlap. A holder may do this in a faster way than by its
+    /// `exchange`.
     ///
     /// # Contract
     ///
@@ -86,20 +103,53 @@ pub trait Places {
     /// ```
     #[inline(always)]
     fn exchange_runs(&mut self, i: usize, j: usize, len: usize) {
-        // Called so that the proof knows that the length fits a usize.
+        // `len` is called for its contract, which tells the proof that the length fits a usize.
         let _ = self.len();
         for t in 0..len {
             self.exchange(i + t, j + t);
         }
     }
+
+    /// Exchanges a block of 4 by 4 items with the mirror image of another one. The rows of both
+    /// begin `stride` places apart, and the blocks begin at places `i` and `j`. The item in row r
+    /// and column c of each block goes to row c and column r of the other. The two blocks must not
+    /// overlap. A kernel calls this only if the holder's `by_blocks` says so.
+    ///
+    /// # Contract
+    ///
+    /// In the words of [`contracts`](crate::kernels::contracts):
+    ///
+    /// ```text
+    /// requires rows { 4 ≤ stride }
+    /// requires apart { i + 3 * stride + 4 ≤ j }
+    /// requires second { j + 3 * stride + 4 ≤ length (items self.old) }
+    /// ensures exchanged { BlocksExchanged 16 i j stride (items self.old) (items self.new) }
+    /// ensures holder { same_holder 16 self.old self.new }
+    /// ```
+    #[inline(always)]
+    fn exchange_blocks(&mut self, i: usize, j: usize, stride: usize) {
+        // `len` is called for its contract, which tells the proof that the length fits a usize.
+        let _ = self.len();
+        for r in 0..4 {
+            for c in 0..4 {
+                self.exchange_ordered(i + r * stride + c, j + c * stride + r);
+            }
+        }
+    }
+
+    /// Whether `exchange_blocks` is faster than exchanging the same items row after row.
+    #[inline(always)]
+    fn by_blocks(&self) -> bool {
+        false
+    }
 }
 
-/// A list whose places can be written, and not read.
+/// A list whose items can be written, and not read.
 ///
-/// Contracts see an implementation as the list of its items, and `same_holder n a b` says that b is a after n puts, as in
-/// [`Places`].
+/// A contract sees an implementation as the list of its items. `same_holder n a b` says that b is a
+/// after n puts. The rest is the same as for [`Places`].
 pub trait Cells {
-    /// What is put at a place.
+    /// The type of the items.
     type Item: Copy;
 
     /// The number of places.
@@ -113,7 +163,7 @@ pub trait Cells {
     /// ```
     fn len(&self) -> usize;
 
-    /// Puts `v` at place `i`. All other items stay.
+    /// Writes `v` at place `i`. All other items stay.
     ///
     /// # Contract
     ///
@@ -125,13 +175,52 @@ pub trait Cells {
     /// ensures holder { same_holder 1 self.old self.new }
     /// ```
     fn put(&mut self, i: usize, v: Self::Item);
+
+    /// Writes four items at the places from `i` on. All other items stay. A holder may do this in a
+    /// faster way than by its `put`.
+    ///
+    /// # Contract
+    ///
+    /// In the words of [`contracts`](crate::kernels::contracts):
+    ///
+    /// ```text
+    /// requires { i + 4 ≤ length (items self.old) }
+    /// ensures same_length { length (items self.new) ≡ length (items self.old) }
+    /// ensures places { (t : ℕ) → t < 4 → slice_get (items self.new) (i + t) ≡ slice_get (in_order four.now) t }
+    /// ensures others { (p : ℕ) → (p < i) ⊎ (i + 4 ≤ p) → slice_get (items self.new) p ≡ slice_get (items self.old) p }
+    /// ensures holder { same_holder 4 self.old self.new }
+    /// ```
+    #[inline(always)]
+    fn put_four(&mut self, i: usize, four: &Four<Self::Item>) {
+        // `len` is called for its contract, which tells the proof that the length fits a usize.
+        let _ = self.len();
+        self.put(i, four.0);
+        self.put(i + 1, four.1);
+        self.put(i + 2, four.2);
+        self.put(i + 3, four.3);
+    }
+
+    /// The columns of a block of 4 by 4 items that has these rows. A holder may compute them in a
+    /// faster way.
+    ///
+    /// # Contract
+    ///
+    /// In the words of [`contracts`](crate::kernels::contracts):
+    ///
+    /// ```text
+    /// ensures { IsBlockTransposed (rows_in_order rows.now) (rows_in_order result) }
+    /// ```
+    #[inline(always)]
+    fn turned(rows: &Four<Four<Self::Item>>) -> Four<Four<Self::Item>> {
+        turned_block(rows)
+    }
 }
 
 /// A list whose items can be read, and not changed.
 ///
-/// Contracts see an implementation as the list of its items.
+/// A contract sees an implementation as the list of its items.
 pub trait Source {
-    /// What is at a place.
+    /// The type of the items.
     type Item: Copy;
 
     /// The number of items.
@@ -156,4 +245,33 @@ pub trait Source {
     /// ensures { slice_get (items self.now) i ≡ Some result }
     /// ```
     fn at(&self, i: usize) -> Self::Item;
+
+    /// The four items from place `i` on. A holder may read them in a faster way than by its `at`.
+    ///
+    /// # Contract
+    ///
+    /// In the words of [`contracts`](crate::kernels::contracts):
+    ///
+    /// ```text
+    /// requires { i + 4 ≤ length (items self.now) }
+    /// ensures { (t : ℕ) → t < 4 → slice_get (in_order result) t ≡ slice_get (items self.now) (i + t) }
+    /// ```
+    #[inline(always)]
+    fn four(&self, i: usize) -> Four<Self::Item> {
+        // `len` is called for its contract, which tells the proof that the length fits a usize.
+        let _ = self.len();
+        Four(self.at(i), self.at(i + 1), self.at(i + 2), self.at(i + 3))
+    }
+}
+
+/// The columns of a block of 4 by 4 items that has these rows.
+#[inline(always)]
+pub(crate) fn turned_block<T: Copy>(rows: &Four<Four<T>>) -> Four<Four<T>> {
+    let Four(a, b, c, d) = *rows;
+    Four(
+        Four(a.0, b.0, c.0, d.0),
+        Four(a.1, b.1, c.1, d.1),
+        Four(a.2, b.2, c.2, d.2),
+        Four(a.3, b.3, c.3, d.3),
+    )
 }

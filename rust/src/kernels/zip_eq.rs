@@ -2,7 +2,7 @@
 
 use core::iter::FusedIterator;
 
-/// Pairs the items of `a` and `b` by place, or returns `err` where their lengths differ.
+/// Pairs the items of `a` and `b` in order, or returns `err` if their lengths differ.
 ///
 /// # Contract
 ///
@@ -17,10 +17,11 @@ use core::iter::FusedIterator;
 ///     (λ e. (e ≡ err) × ¬ same)) }
 /// ensures runs { IfOk result (PairsRuns A.IntoIter.next_gives B.IntoIter.next_gives) }
 ///
-/// // The clause `runs` with all calls of `next` on both iterators. By it a caller's search finds the list of the pairs.
+/// // The clause `runs`, with all calls of `next` on both iterators. It lets the proof search of a
+/// // caller find the list of the pairs.
 /// ensures asked { IfOk result (AskedRuns A.IntoIter.next_gives B.IntoIter.next_gives) }
 ///
-/// // Where the lengths that both iterators state are true, the length that the pairs state is true.
+/// // If the lengths that both iterators state are true, the length that the pairs state is true.
 /// ensures length { IfOk result (λ z.
 ///     HasTrueLength A.IntoIter.next_gives A.IntoIter.remaining (zip_eq_first z)
 ///     → HasTrueLength B.IntoIter.next_gives B.IntoIter.remaining (zip_eq_second z)
@@ -42,7 +43,7 @@ where
     Ok(ZipEq { first, second })
 }
 
-/// The iterator that [`zip_eq`] makes.
+/// The iterator that [`zip_eq`] returns.
 #[derive(Clone, Debug)]
 #[must_use = "iterators are lazy and do nothing unless consumed"]
 pub struct ZipEq<A, B> {

@@ -1,4 +1,4 @@
-//! That more than all memory is refused, and what the types of refusals and texts have of std.
+//! Requests for more than all memory fail, and the error types and strings implement what std's do.
 
 use core::error::Error;
 use std::boxed::Box;
@@ -22,7 +22,7 @@ fn refusals_are_errors() {
     }
 }
 
-/// As what a text may be given, without a step by hand.
+/// The length in bytes of a text that is passed without a conversion by hand.
 fn bytes(text: impl AsRef<str>) -> usize {
     text.as_ref().len()
 }

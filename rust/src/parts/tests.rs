@@ -1,5 +1,5 @@
-//! What each part does over a holder that notes each place: it moves what its region says, and no other part of its phase steps
-//! on one of its places.
+//! What each part does to a holder that notes every place that a step changes. A part moves the items that its region
+//! says, and no other part of its phase changes one of its places.
 
 use std::collections::BTreeSet;
 use std::vec::Vec;
@@ -10,7 +10,7 @@ use crate::kernels::places::{Cells, Places, SliceSource, Source};
 use crate::kernels::reverse::RowDigits;
 use crate::kernels::transpose::{Matrix, Strips};
 
-/// A list of numbers that notes each place that is stepped on.
+/// A list of numbers that notes each place that a step changes.
 #[derive(Debug)]
 struct Noted {
     items: Vec<usize>,
@@ -53,8 +53,8 @@ impl Cells for &mut Noted {
     }
 }
 
-/// Runs each part over a list of `len` numbers of its own. Of the part `number` it leaves at each place what `wanted` says, and
-/// no place is stepped on twice. Returns how many are stepped on.
+/// Runs each part on a list of `len` numbers of its own. Part `number` leaves what `wanted` says at each place that it
+/// changes, and no place is changed twice. Returns how many places are changed.
 fn check(len: usize, count: usize, run: impl Fn(&mut Noted, usize), wanted: impl Fn(usize, usize) -> usize) -> usize {
     let mut places = BTreeSet::new();
     for number in 0..count {
@@ -73,8 +73,8 @@ fn check(len: usize, count: usize, run: impl Fn(&mut Noted, usize), wanted: impl
     places.len()
 }
 
-/// The parts of the transpose of a matrix of numbers from `len` on, so that each put changes its cell. It is cut along its longer
-/// side, or always along its columns.
+/// The parts of the transpose of a matrix of numbers from `len` on, so that each write changes its cell. The matrix is
+/// cut along its longer side, or always along its columns.
 fn check_matrix(width: usize, height: usize, parts: usize, may_cut_rows: bool) {
     let len = width * height;
     let input: Vec<usize> = (len..2 * len).collect();
@@ -109,7 +109,7 @@ fn regions_of_matrices() {
     }
 }
 
-/// The numbers below a length, as a source and as cells, of which only the puts are kept.
+/// The numbers below a length, as a source and as cells. Only the writes are stored.
 struct Far {
     len: usize,
     puts: Vec<(usize, usize)>,
@@ -143,7 +143,7 @@ impl Source for Numbers {
     }
 }
 
-/// The last part of a matrix of one row or of one column, which is its own transpose. Nothing wraps.
+/// The last part of a matrix of one row or of one column, which is its own transpose. No index overflows.
 #[test]
 fn regions_of_long_matrices() {
     let longest = usize::MAX;
@@ -163,13 +163,13 @@ fn regions_of_long_matrices() {
                 assert!(far.puts.into_iter().eq((last * plan.items(0)..len).map(|i| (i, i))));
             }
         }
-        // The columns of one column are not cut.
+        // A single column is not cut.
         let plan = TransposePlan::new(width, height, wish, false);
         assert_eq!((plan.count(), plan.items(0)), (1, height));
     }
 }
 
-/// `i` with its `digits` low binary digits, which are all that it has, in reversed order.
+/// `i`, which has `digits` binary digits, with these in reversed order.
 fn reversed(digits: usize, i: usize) -> usize {
     (0..digits).fold(0, |rev, place| rev << 1 | i >> place & 1)
 }
@@ -181,7 +181,8 @@ fn names(digits: usize, row: usize) -> (usize, usize, usize) {
     (rest >> half, reversed(half, high), rest % (1 << half))
 }
 
-/// Whether block `number` of the squares whose sides are cut so has this row and column of a square, or has them mirrored.
+/// Whether block `number`, for squares whose sides are cut by `cut`, has this row and column of a square, or their
+/// mirror image.
 fn is_in_block(cut: Cut, number: usize, square: usize, row: usize, col: usize) -> bool {
     let (first, second) = cut.pair(number % cut.pairs());
     let is_in = |part, i| (cut.part(part).0..cut.part(part).1).contains(&i);
@@ -237,7 +238,7 @@ fn blocks_of_squares() {
     }
 }
 
-/// A long list by its three phases, and long rows by one, with the places noted.
+/// A long list with its three phases, and long rows with one phase, with the places noted.
 #[test]
 fn long_lists() {
     for (digits, row_width, count) in [(9, 1, 3), (14, 1, 3), (15, 1, 3), (19, 1, 3), (10, 20, 1)] {
@@ -288,15 +289,15 @@ impl Places for &mut Counted {
     }
 }
 
-/// How many there are, and how many thousandths of all of them the largest is, rounded up.
+/// How many parts there are, and the share of the largest one, in thousandths of all exchanges, rounded up.
 fn count_and_share(sizes: impl IntoIterator<Item = usize>) -> (usize, usize) {
     let sizes: Vec<usize> = sizes.into_iter().collect();
     let largest = sizes.iter().max().copied().unwrap_or(0);
     (sizes.len(), (largest * 1000).div_ceil(sizes.iter().sum()))
 }
 
-/// The number of parts of each phase of a reversal, and the largest part's share of the exchanges, by running each part alone. A list
-/// that is not cut, or is cut into parts of unlike size, is seen here alone.
+/// The number of parts of each phase of a reversal, and the largest part's share of the exchanges. Each part is run
+/// alone. Only this test notices a list that is not cut, or that is cut into parts of very different sizes.
 #[test]
 fn shares_of_reversals() {
     /// 2^digits rows, their width, the wish, and of each phase the number of parts and the largest share.
@@ -341,7 +342,7 @@ fn shares_of_reversals() {
     }
 }
 
-/// The same of a transpose, whose parts are cut along the longer side at multiples of 16.
+/// The same for a transpose, whose parts are cut along the longer side at multiples of 16.
 #[test]
 fn shares_of_transposes() {
     let cases = [
@@ -359,7 +360,7 @@ fn shares_of_transposes() {
     }
 }
 
-/// How many phases a list has, which is one part up to a length.
+/// How many phases a list has. Up to some length it is one part.
 #[test]
 fn lists_up_to_one_part() {
     let phases = |len, row_width, one_part| {
@@ -371,8 +372,8 @@ fn lists_up_to_one_part() {
     assert_eq!([phases(3 << 9, 3, 1535), phases(3 << 9, 3, 1536)], [1, 1]);
 }
 
-/// 2^18 items are one part, of more than 8 bytes as many as 2^21 bytes hold, and 2^16 however many bytes they have. With the
-/// feature `checked` each list is.
+/// 2^18 items are one part. For items of more than 8 bytes, as many as 2^21 bytes hold are one part, and 2^16 items are
+/// one part however large they are. With the feature `checked` every list is one part.
 #[test]
 fn items_of_one_part() {
     let wanted = |items| if cfg!(feature = "checked") { usize::MAX } else { items };

@@ -1,13 +1,13 @@
-//! Which strips a matrix is put by, and in which order those do it that only this package chooses.
+//! The strips that a matrix is put by, and the order of the writes for those that only this package chooses.
 
 use core::marker::PhantomData;
 use std::vec::Vec;
 
 use super::*;
-use crate::kernels::places::{Cells, SliceSource};
+use crate::kernels::places::{Cells, Four, SliceSource, turned_block};
 use crate::kernels::transpose::transpose_matrix;
 
-/// So many items, of which none is read.
+/// A number of items that are never read.
 struct Unread<T>(usize, PhantomData<T>);
 
 impl<T> Clone for Unread<T> {
@@ -30,16 +30,50 @@ impl<T: Copy> Source for Unread<T> {
     }
 }
 
-/// Whether a matrix of such items is put 16 columns at a time, row after row.
+/// The strips of a matrix of such items.
+fn strips<T: Copy>(width: usize, height: usize) -> Strips {
+    strips_of(Matrix::new(Unread(width * height, PhantomData::<T>), width, height))
+}
+
+/// Whether a matrix of such items is put 16 columns at a time, row after row, and not by blocks.
 fn is_wide<T: Copy>(width: usize, height: usize) -> bool {
+    let strips = strips::<T>(width, height);
+    assert!(has_blocks::<T>(width, height) || matches!(strips, Strips::Wide) || is_by_shape::<T>(width, height));
+    matches!(strips, Strips::Wide)
+}
+
+/// Whether a matrix of such items is put by blocks.
+fn has_blocks<T: Copy>(width: usize, height: usize) -> bool {
+    matches!(strips::<T>(width, height), Strips::Blocks)
+}
+
+/// Whether a matrix of such items is put in the same way as by the calls in Rattle.
+fn is_by_shape<T: Copy>(width: usize, height: usize) -> bool {
     let matrix = Matrix::new(Unread(width * height, PhantomData::<T>), width, height);
-    match strips_of(matrix) {
-        Strips::Wide => true,
-        strips => {
-            assert!(core::mem::discriminant(&strips) == core::mem::discriminant(&Strips::of(matrix)));
-            false
-        }
+    core::mem::discriminant(&strips_of(matrix)) == core::mem::discriminant(&Strips::of(matrix))
+}
+
+#[test]
+fn blocks_of_small_items() {
+    let turns = unchecked::TURNS_IN_REGISTERS;
+    for (width, height) in [(8, 8), (8, 12), (12, 11), (13, 13), (181, 181)] {
+        assert_eq!(has_blocks::<u32>(width, height), turns, "{width} by {height}");
+        assert_eq!(has_blocks::<u64>(width, height), turns, "{width} by {height}");
     }
+    for (width, height) in [(512, 512), (1024, 1024), (64, 4097), (1025, 1024)] {
+        assert_eq!(has_blocks::<u32>(width, height), turns, "{width} by {height}");
+        assert!(is_by_shape::<u64>(width, height), "{width} by {height}");
+    }
+    // A side below 8, no whole blocks, and a large width that 16 does not divide.
+    for (width, height) in [(7, 1000), (1000, 7), (8, 9), (11, 11), (513, 512), (1000, 1000)] {
+        assert!(is_by_shape::<u32>(width, height), "{width} by {height}");
+    }
+    assert!(
+        is_by_shape::<u8>(64, 64)
+            && is_by_shape::<u16>(64, 64)
+            && is_by_shape::<[u32; 3]>(64, 64)
+            && is_by_shape::<u128>(64, 64)
+    );
 }
 
 #[test]
@@ -68,7 +102,7 @@ fn wide_items_of_large_matrices() {
     assert!(!is_wide::<[u64; 5]>(2048, 2048) && !is_wide::<[u64; 16]>(2048, 2048));
 }
 
-/// The cells of a transpose, which note the order of the puts.
+/// The cells of a transpose, which note the order of the writes.
 struct Noted {
     items: Vec<usize>,
     puts: Vec<usize>,
@@ -87,8 +121,8 @@ impl Cells for Noted {
     }
 }
 
-/// The columns and rows of a matrix in the order of wide strips: 16 rows at a time, of these 16 columns at a time, and such a
-/// tile row after row. A lower or narrower one is put column after column.
+/// The columns and rows of a matrix in the order of wide strips: 16 rows at a time, of these 16 columns at a time, and
+/// each such tile row after row. A lower or narrower piece is put column after column.
 fn by_wide_strips(width: usize, height: usize) -> Vec<(usize, usize)> {
     let mut places = Vec::new();
     for top in (0..height).step_by(16) {
@@ -127,5 +161,82 @@ fn wide_strips_in_order() {
         assert!(places.eq(by_wide_strips(width, height)), "{width} by {height}");
         let transposed = |place: usize| place % height * width + place / height;
         assert!(items.into_iter().eq((0..input.len()).map(transposed)));
+    }
+}
+
+/// Cells that write four items at once in their own way, and count how often. They can be set to change two columns of
+/// each block that they transpose.
+struct ByFours<const CHANGED: bool> {
+    items: Vec<usize>,
+    fours: usize,
+}
+
+impl<const CHANGED: bool> Cells for ByFours<CHANGED> {
+    type Item = usize;
+
+    fn len(&self) -> usize {
+        self.items.len()
+    }
+
+    fn put(&mut self, i: usize, v: usize) {
+        self.items[i] = v;
+    }
+
+    fn put_four(&mut self, i: usize, &Four(a, b, c, d): &Four<usize>) {
+        self.items[i..i + 4].copy_from_slice(&[a, b, c, d]);
+        self.fours += 1;
+    }
+
+    fn turned(rows: &Four<Four<usize>>) -> Four<Four<usize>> {
+        let Four(a, b, c, d) = turned_block(rows);
+        if CHANGED { Four(a, c, b, d) } else { Four(a, b, c, d) }
+    }
+}
+
+/// Numbers that are read four at a time where blocks are whole.
+#[derive(Clone, Copy)]
+struct Numbers {
+    width: usize,
+    height: usize,
+}
+
+impl Source for Numbers {
+    type Item = usize;
+
+    fn len(&self) -> usize {
+        self.width * self.height
+    }
+
+    fn at(&self, i: usize) -> usize {
+        let is_whole = |place: usize, side: usize| place < side / 4 * 4;
+        assert!(!is_whole(i % self.width, self.width) || !is_whole(i / self.width, self.height));
+        i
+    }
+
+    fn four(&self, i: usize) -> Four<usize> {
+        Four(i, i + 1, i + 2, i + 3)
+    }
+}
+
+/// The contents of the cells after a transpose by blocks.
+fn put_by_fours<const CHANGED: bool>(width: usize, height: usize) -> ByFours<CHANGED> {
+    let source = Numbers { width, height };
+    let blank = ByFours {
+        items: std::vec![usize::MAX; width * height],
+        fours: 0,
+    };
+    transpose_matrix(blank, Matrix::new(source, width, height), Strips::Blocks)
+}
+
+#[test]
+fn blocks_by_holders_of_ones_own() {
+    for (width, height) in (4..40).flat_map(|width| (4..40).map(move |height| (width, height))) {
+        let transposed = |place: usize| place % height * width + place / height;
+        let right = put_by_fours::<false>(width, height);
+        assert!(right.items.into_iter().eq((0..width * height).map(transposed)));
+        assert_eq!(right.fours, width / 4 * (height / 4) * 4, "{width} by {height}");
+        // A block whose columns are changed is noticed.
+        let wrong = put_by_fours::<true>(width, height);
+        assert!(!wrong.items.into_iter().eq((0..width * height).map(transposed)));
     }
 }

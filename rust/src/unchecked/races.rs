@@ -1,5 +1,5 @@
-//! Parts on several threads, of lists that are cut however short they are. `rust/test` has a race detector look at this, and at
-//! cuts that overlap, of which it has to report each.
+//! Parts on several threads, for lists that are cut even if they are short. `rust/test` runs these tests with a race
+//! detector. It also runs cuts that overlap, each of which the detector must report.
 
 use std::iter::from_fn;
 use std::thread::scope;
@@ -14,12 +14,12 @@ fn run_all<P: Send>(shares: impl IntoIterator<Item = Vec<P>>, run: fn(P)) {
             .into_iter()
             .map(|share| scope.spawn(move || share.into_iter().for_each(run)))
             .collect();
-        // The detector sees that a thread is done where it is joined, and not where the scope waits for it.
+        // The detector sees that a thread is done when the thread is joined, but not when the scope waits for it.
         threads.into_iter().for_each(|thread| thread.join().unwrap());
     });
 }
 
-/// Runs all parts, dealt out to so many threads.
+/// Runs all parts, distributed to so many threads.
 fn run_on<'a, T: Send, P: Copy + Send>(threads: usize, mut parts: Parts<'a, T, P>, run: fn(Parts<'a, T, P>)) {
     let mut shares: Vec<Vec<_>> = from_fn(|| Some(Vec::new())).take(threads).collect();
     for (turn, part) in from_fn(|| parts.split_first()).enumerate() {
@@ -28,25 +28,42 @@ fn run_on<'a, T: Send, P: Copy + Send>(threads: usize, mut parts: Parts<'a, T, P
     run_all(shares, run);
 }
 
+/// Numbers of 4 or of 8 bytes, of which blocks are turned in registers.
+trait Number: Copy + PartialEq + Send + Sync {
+    fn of(number: usize) -> Self;
+}
+
+impl Number for u32 {
+    fn of(number: usize) -> Self {
+        number as u32
+    }
+}
+
+impl Number for usize {
+    fn of(number: usize) -> Self {
+        number
+    }
+}
+
 /// Transposes a matrix of numbers in about so many parts.
-fn transposes(width: usize, height: usize, parts: usize, threads: usize) {
-    let input: Vec<usize> = (0..width * height).collect();
-    let mut output = std::vec![0; input.len()];
+fn transposes<T: Number>(width: usize, height: usize, parts: usize, threads: usize) {
+    let input: Vec<T> = (0..width * height).map(T::of).collect();
+    let mut output = std::vec![T::of(0); input.len()];
     let parts = transpose_in_parts(&input, &mut output, width, height, parts).unwrap();
     run_on(threads, parts, Parts::put);
-    let transposed = |place| place % height * width + place / height;
+    let transposed = |place| T::of(place % height * width + place / height);
     assert!(output.into_iter().eq((0..input.len()).map(transposed)));
 }
 
 /// Reverses 2^`digits` rows of numbers, in phases of about so many parts.
-fn reverses(digits: u32, row_width: usize, parts: usize, threads: usize) {
-    let mut list: Vec<usize> = (0..row_width << digits).collect();
+fn reverses<T: Number>(digits: u32, row_width: usize, parts: usize, threads: usize) {
+    let mut list: Vec<T> = (0..row_width << digits).map(T::of).collect();
     let mut phases = Phases::new(&mut list, row_width, parts, 0).unwrap();
     while let Some(parts) = phases.next_phase() {
         run_on(threads, parts, Parts::exchange);
     }
     let reversed = |row: usize| (0..digits).fold(0, |rev, place| rev << 1 | row >> place & 1);
-    let item = |place| reversed(place / row_width) * row_width + place % row_width;
+    let item = |place| T::of(reversed(place / row_width) * row_width + place % row_width);
     assert!(list.into_iter().eq((0..row_width << digits).map(item)));
 }
 
@@ -54,13 +71,15 @@ fn reverses(digits: u32, row_width: usize, parts: usize, threads: usize) {
 fn parts_on_threads() {
     for round in 0..150 {
         let (parts, threads) = (1 + round % 11, 2 + round % 7);
-        transposes(1 + round * 7 % 97, 1 + round * 13 % 89, parts, threads);
-        reverses(round as u32 % 12, 1, parts, threads);
-        reverses(round as u32 % 8, 2 + round % 3, parts, threads);
+        transposes::<u32>(1 + round * 7 % 97, 1 + round * 13 % 89, parts, threads);
+        transposes::<usize>(1 + round * 13 % 89, 1 + round * 7 % 97, parts, threads);
+        reverses::<u32>(round as u32 % 13, 1, parts, threads);
+        reverses::<usize>(round as u32 % 12, 1, parts, threads);
+        reverses::<usize>(round as u32 % 8, 2 + round % 3, parts, threads);
     }
 }
 
-/// Runs on two threads a part of each of two phases over one list.
+/// Runs a part of each of two phases of one list, on two threads.
 fn run_both<'a, T: Send, P: Copy + Send>(
     mut parts: Parts<'a, T, P>,
     phases: [(P, usize); 2],
@@ -77,7 +96,7 @@ fn run_both<'a, T: Send, P: Copy + Send>(
     run_all(shares, run);
 }
 
-/// Runs on two threads a part of each of two cuts of a phase of a reversal.
+/// Runs a part of each of two cuts of a phase of a reversal, on two threads.
 fn exchanges_both(len: usize, row_width: usize, number: usize, parts: [(usize, usize); 2]) {
     let mut list: Vec<usize> = (0..len).collect();
     let mut phases = Phases::new(&mut list, row_width, 1, 0).unwrap();
@@ -89,11 +108,11 @@ fn exchanges_both(len: usize, row_width: usize, number: usize, parts: [(usize, u
     run_both(phases.next_phase().unwrap(), cuts, Parts::exchange);
 }
 
-/// Of 64 columns the first 32, and of these the last 16.
+/// The first 32 of 64 columns, and the last 16 of these.
 #[test]
 #[ignore = "a race, which a detector has to report"]
 fn overlapping_regions() {
-    let input: Vec<usize> = (0..64 * 64).collect();
+    let input: Vec<u32> = (0..64 * 64).collect();
     let mut output = input.clone();
     let parts = transpose_in_parts(&input, &mut output, 64, 64, 1).unwrap();
     let cuts = [(2, 0), (4, 1)].map(|(count, part)| {
@@ -103,14 +122,14 @@ fn overlapping_regions() {
     run_both(parts, cuts, Parts::put);
 }
 
-/// Of the pairs of 2^8 rows of three items, a block of those of the numbers below 8, and one of those from 6 to below 12.
+/// Two blocks of the pairs of 2^8 rows of three items: of the numbers below 8, and of those from 6 to below 12.
 #[test]
 #[ignore = "a race, which a detector has to report"]
 fn overlapping_pairs() {
     exchanges_both(3 << 8, 3, 0, [(2, 0), (3, 1)]);
 }
 
-/// Of a square of 64 by 64 items a block of 32 by 32 on the diagonal, and one of 16 by 16 within it.
+/// In a square of 64 by 64 items, a block of 32 by 32 on the diagonal, and a block of 16 by 16 within it.
 #[test]
 #[ignore = "a race, which a detector has to report"]
 fn overlapping_blocks() {

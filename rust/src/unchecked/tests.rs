@@ -1,11 +1,16 @@
-//! What each step of a holder of a slice does, and that its condition is tested: with debug assertions, and where the feature
-//! `checked` is on.
+//! What each step of a holder of a slice does, and that its precondition is checked with debug assertions and with the
+//! feature `checked`.
+
+use std::boxed::Box;
+use std::fmt::Debug;
+use std::vec::Vec;
 
 use super::{SliceCells, SlicePlaces, SliceSource};
-use crate::kernels::places::{Cells, Places, Source};
+use crate::kernels::places::{Cells, Four, Places, Source};
+use crate::kernels::transpose::{Matrix, Strips, transpose_matrix, transpose_square};
 
-/// What a call leaves of the numbers below 6, each as an item of five bytes. Of these std tests, where it is asked to, that no
-/// place is borrowed twice.
+/// The result of a call on the numbers below 6, each as an item of five bytes. If it is asked to, std checks for these
+/// that no place is borrowed twice.
 fn left(call: impl FnOnce(&mut SlicePlaces<[u8; 5]>)) -> [u8; 6] {
     let mut list = [0, 1, 2, 3, 4, 5].map(|number| [number; 5]);
     call(&mut SlicePlaces::new(&mut list));
@@ -27,12 +32,234 @@ fn exchanges_of_runs() {
     assert_eq!(left(|places| places.exchange_runs(6, 0, 0)), [0, 1, 2, 3, 4, 5]);
 }
 
+/// Compares the result of a call on the first `len` items with the items that `wanted` numbers.
+fn leaves<T: Debug + PartialEq>(
+    len: usize,
+    item: impl Fn(usize) -> T,
+    call: impl FnOnce(SlicePlaces<T>),
+    wanted: impl Fn(usize) -> usize,
+) {
+    let mut list: Vec<T> = (0..len).map(&item).collect();
+    call(SlicePlaces::new(&mut list));
+    for (place, got) in list.iter().enumerate() {
+        assert_eq!(*got, item(wanted(place)), "place {place} of {len}");
+    }
+}
+
+/// Exchanges blocks, and transposes squares, of such items.
+fn turns<T: Debug + PartialEq>(item: impl Fn(usize) -> T) {
+    for (stride, i, gap) in (4..12).flat_map(|stride| (0..3).flat_map(move |i| (0..3).map(move |gap| (stride, i, gap))))
+    {
+        let j = i + 3 * stride + 4 + gap;
+        let within = |first: usize, place: usize| {
+            let (row, col) = (place.checked_sub(first)? / stride, (place - first) % stride);
+            (row < 4 && col < 4).then_some(col * stride + row)
+        };
+        leaves(
+            j + 3 * stride + 5,
+            &item,
+            |mut places| places.exchange_blocks(i, j, stride),
+            |place| match (within(i, place), within(j, place)) {
+                (Some(image), _) => j + image,
+                (_, Some(image)) => i + image,
+                _ => place,
+            },
+        );
+    }
+    for (log_size, log_stride) in (0..=6).flat_map(|size| (size..=7).map(move |stride| (size, stride))) {
+        let (base, size, stride) = (log_size + log_stride, 1 << log_size, 1 << log_stride);
+        leaves(
+            base + size * stride + 1,
+            &item,
+            |places| _ = transpose_square(places, base, log_stride, log_size),
+            |place| match place.checked_sub(base).map(|place| (place / stride, place % stride)) {
+                Some((row, col)) if row < size && col < size => base + col * stride + row,
+                _ => place,
+            },
+        );
+    }
+}
+
+/// Floats that are equal if their bits are.
+#[derive(Clone, Copy, Debug)]
+struct Float(f32);
+
+#[derive(Clone, Copy, Debug)]
+struct Double(f64);
+
+impl Float {
+    /// Most of these are NaNs, with bits that a calculation would change.
+    fn odd(number: usize) -> Self {
+        Float(f32::from_bits(0x7f80_0000 ^ number as u32))
+    }
+}
+
+impl Double {
+    fn odd(number: usize) -> Self {
+        Double(f64::from_bits(0xfff0_0000_0000_0000 ^ number as u64))
+    }
+}
+
+impl PartialEq for Float {
+    fn eq(&self, other: &Self) -> bool {
+        self.0.to_bits() == other.0.to_bits()
+    }
+}
+
+impl PartialEq for Double {
+    fn eq(&self, other: &Self) -> bool {
+        self.0.to_bits() == other.0.to_bits()
+    }
+}
+
+#[test]
+fn exchanges_of_blocks() {
+    turns(|number| number as u16);
+    turns(|number| number as u32);
+    turns(|number| (number as u16, number as u8));
+    turns(Float::odd);
+    turns(Double::odd);
+    turns(|number| (number as u32, number % 3 == 0));
+    turns(|number| number as u128);
+    turns(|number| [number as u8; 5]);
+    turns(Box::new);
+}
+
 #[test]
 fn puts_and_reads() {
     let mut list = [0, 1, 2];
     SliceCells::new(&mut list).put(2, 7);
     assert_eq!(SliceSource::new(&list).at(2), 7);
     assert_eq!(list, [0, 1, 7]);
+}
+
+#[test]
+fn four_at_once() {
+    let mut list = [0, 1, 2, 3, 4, 5];
+    let Four(a, b, c, d) = SliceSource::new(&list).four(2);
+    assert_eq!([a, b, c, d], [2, 3, 4, 5]);
+    SliceCells::new(&mut list).put_four(1, &Four(6, 7, 8, 9));
+    assert_eq!(list, [0, 6, 7, 8, 9, 5]);
+}
+
+/// Whether a block of such items is transposed.
+fn is_turned<T: Copy + PartialEq>(item: impl Fn(u8) -> T) -> bool {
+    let four = |items: [u8; 4]| {
+        let [a, b, c, d] = items.map(&item);
+        Four(a, b, c, d)
+    };
+    let rows = Four(
+        four([0, 1, 2, 3]),
+        four([4, 5, 6, 7]),
+        four([8, 9, 10, 11]),
+        four([12, 13, 14, 15]),
+    );
+    let columns = SliceCells::<T>::turned(&rows);
+    let same = |a: Four<T>, b: Four<T>| a.0 == b.0 && a.1 == b.1 && a.2 == b.2 && a.3 == b.3;
+    same(columns.0, four([0, 4, 8, 12]))
+        && same(columns.1, four([1, 5, 9, 13]))
+        && same(columns.2, four([2, 6, 10, 14]))
+        && same(columns.3, four([3, 7, 11, 15]))
+}
+
+#[test]
+fn turned_blocks() {
+    let names: Vec<_> = (0..16).map(|number| std::format!("{number}")).collect();
+    assert!(is_turned(|i| i) && is_turned(u128::from));
+    // All bytes of an item differ from those of the others. Some items have bytes that are never written, and some are
+    // references.
+    assert!(is_turned(|i| [i, i + 16, i + 32, i + 48]) && is_turned(|i| (i, u16::from(i) << 4)));
+    assert!(
+        is_turned(|i| [0, 16, 32, 48, 64, 80, 96, 112].map(|part| i + part)) && is_turned(|i| (i, u32::from(i) << 9))
+    );
+    assert!(is_turned(|i| &names[usize::from(i)]));
+}
+
+/// Whether a matrix of these items is transposed as the definition says, by blocks and by the strips that a call
+/// chooses.
+fn is_transposed<T: Copy + PartialEq>(width: usize, height: usize, item: impl Fn(usize) -> T) -> bool {
+    let input: Vec<T> = (0..width * height).map(&item).collect();
+    let expected: Vec<T> = (0..width * height)
+        .map(|place| item(place % height * width + place / height))
+        .collect();
+    let mut output = std::vec![item(usize::MAX); width * height];
+    let mut by_call = output.clone();
+    let matrix = Matrix::new(SliceSource::new(&input), width, height);
+    let _ = transpose_matrix(SliceCells::new(&mut output), matrix, Strips::Blocks);
+    super::transpose(&input, &mut by_call, width, height) && output == expected && by_call == expected
+}
+
+#[test]
+fn blocks_as_defined() {
+    let large = [
+        (1, 300),
+        (300, 1),
+        (4, 131),
+        (131, 4),
+        (8, 515),
+        (127, 133),
+        (1025, 1026),
+    ];
+    let small = (1..=40).flat_map(|width| (1..=40).map(move |height| (width, height)));
+    for (width, height) in small.chain(large) {
+        assert!(is_transposed(width, height, |i| i as u32), "{width} by {height}");
+        assert!(is_transposed(width, height, |i| i as u64), "{width} by {height}");
+        assert!(is_transposed(width, height, Float::odd), "{width} by {height}");
+        assert!(is_transposed(width, height, Double::odd), "{width} by {height}");
+        assert!(
+            is_transposed(width, height, |i| (i as u8, (i >> 8) as u16)),
+            "{width} by {height}"
+        );
+    }
+}
+
+/// Whether a matrix of these items is transposed in parts, which are cut at multiples of 16 columns or rows.
+fn is_transposed_in_parts<T: Copy + PartialEq>(width: usize, height: usize, item: impl Fn(usize) -> T) -> bool {
+    let input: Vec<T> = (0..width * height).map(&item).collect();
+    let cuts = 1..=width.max(height).div_ceil(16);
+    cuts.into_iter().all(|count| {
+        let mut output = std::vec![item(usize::MAX); input.len()];
+        let mut parts = super::transpose_in_parts(&input, &mut output, width, height, count).unwrap();
+        while let Some(part) = parts.split_first() {
+            part.put();
+        }
+        (0..output.len()).all(|place| output[place] == input[place % height * width + place / height])
+    })
+}
+
+#[test]
+fn blocks_of_parts() {
+    let sides = [8, 15, 16, 17, 20, 32, 47, 64, 90, 131];
+    for (width, height) in sides.into_iter().flat_map(|width| sides.map(|height| (width, height))) {
+        assert!(
+            is_transposed_in_parts(width, height, |i| i as u32),
+            "{width} by {height}"
+        );
+        assert!(
+            is_transposed_in_parts(width, height, |i| i as u64),
+            "{width} by {height}"
+        );
+    }
+}
+
+/// Each shuffle alone. The items of the first operand have the first numbers, and no two bytes are equal. So the result
+/// shows where each item of both operands goes.
+#[cfg(not(feature = "checked"))]
+#[test]
+fn shuffles() {
+    use super::{TURNS_IN_REGISTERS, shuffled, vectors};
+
+    if !TURNS_IN_REGISTERS {
+        return;
+    }
+    let of_4 = |number: u8| [0, 64, 128, 192].map(|part| part + number);
+    let of_8 = |number: u8| [0, 32, 64, 96, 128, 160, 192, 224].map(|part| part + number);
+    let operands = [[0, 1, 2, 3].map(of_4), [4, 5, 6, 7].map(of_4)];
+    assert_eq!(shuffled(vectors::low_4, operands), [0, 4, 1, 5].map(of_4));
+    assert_eq!(shuffled(vectors::high_4, operands), [2, 6, 3, 7].map(of_4));
+    let operands = [[0, 1].map(of_8), [2, 3].map(of_8)];
+    assert_eq!(shuffled(vectors::low_8, operands), [0, 2].map(of_8));
+    assert_eq!(shuffled(vectors::high_8, operands), [1, 3].map(of_8));
 }
 
 #[cfg(any(debug_assertions, feature = "checked"))]
@@ -75,6 +302,41 @@ mod refused {
     }
 
     #[test]
+    fn exchanges_of_blocks() {
+        let blocks = |i, j, stride| panics(|| SlicePlaces::new(&mut [0u32; 40]).exchange_blocks(i, j, stride));
+        assert!(!blocks(0, 16, 4) && !blocks(8, 24, 4) && !blocks(0, 21, 5));
+        for (i, j, stride) in [
+            (9, 25, 4),
+            (0, 25, 4),
+            (0, 22, 5),
+            (0, usize::MAX, 4),
+            (usize::MAX, 0, 4),
+            (0, 20, usize::MAX),
+        ] {
+            assert!(blocks(i, j, stride), "{i} {j} {stride}");
+        }
+        // Blocks that overlap are refused, unless the feature `checked` exchanges them item by item.
+        #[cfg(not(feature = "checked"))]
+        for (i, j, stride) in [(0, 15, 4), (16, 0, 4), (0, 0, 4), (0, 16, 3), (0, 0, 0)] {
+            assert!(blocks(i, j, stride), "{i} {j} {stride}");
+        }
+    }
+
+    #[test]
+    fn four_at_once() {
+        let four = Four(5, 6, 7, 8);
+        assert!(!panics(|| SliceCells::new(&mut [0; 6]).put_four(2, &four)));
+        assert!(!panics(|| _ = SliceSource::new(&[0; 6]).four(2)));
+        for (len, i) in [(6, 3), (6, 6), (3, 0), (0, 0), (6, usize::MAX), (6, usize::MAX - 3)] {
+            assert!(
+                panics(|| SliceCells::new(&mut [0; 6][..len]).put_four(i, &four)),
+                "{len} {i}"
+            );
+            assert!(panics(|| _ = SliceSource::new(&[0; 6][..len]).four(i)), "{len} {i}");
+        }
+    }
+
+    #[test]
     fn puts_and_reads() {
         for i in [3, usize::MAX] {
             assert!(panics(|| SliceCells::new(&mut [0, 1, 2]).put(i, 7)), "{i}");
@@ -83,7 +345,7 @@ mod refused {
     }
 }
 
-/// With the feature `checked` a share of a list has its own places alone, by their numbers in the list.
+/// With the feature `checked` a share of a list has only its own places, with the numbers that they have in the list.
 #[cfg(feature = "checked")]
 #[test]
 fn shares() {

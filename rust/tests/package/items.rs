@@ -102,6 +102,7 @@ fn structs_and_references() {
         small: i as u8,
         large: !(i as u32),
     });
+    serves(|i| (i as u16, i as u8));
     serves(|i| Aligned(i as u8));
     serves(|i| (i % 3 > 0).then_some(i as u32));
     serves(|i| words[i % 4]);

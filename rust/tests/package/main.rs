@@ -3,6 +3,7 @@
 #![allow(clippy::type_complexity, reason = "tables of cases")]
 
 mod answers;
+mod cuts;
 mod items;
 mod iterators;
 mod map;

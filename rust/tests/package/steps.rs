@@ -226,3 +226,78 @@ fn a_holder_of_ones_own() {
         assert_eq!(*item as usize, wanted, "place {place}");
     }
 }
+
+/// A holder that exchanges so many rows of two blocks itself, and counts the blocks.
+struct ByBlocks {
+    noted: Noted,
+    rows: usize,
+    blocks: usize,
+}
+
+impl Places for ByBlocks {
+    type Item = u64;
+
+    fn len(&self) -> usize {
+        Places::len(&self.noted)
+    }
+
+    fn exchange(&mut self, i: usize, j: usize) {
+        self.noted.exchange(i, j);
+    }
+
+    fn exchange_blocks(&mut self, i: usize, j: usize, stride: usize) {
+        for (row, col) in (0..self.rows).flat_map(|row| (0..4).map(move |col| (row, col))) {
+            self.noted.exchange(i + row * stride + col, j + col * stride + row);
+        }
+        self.blocks += 1;
+    }
+
+    fn by_blocks(&self) -> bool {
+        true
+    }
+}
+
+/// What a call leaves of the numbers below `len` by so many rows of each block, and how many exchanges its counter counts.
+fn by_blocks(rows: usize, len: usize, call: impl FnOnce(&mut Swaps<&mut ByBlocks>)) -> (ByBlocks, u128) {
+    let noted = Noted::numbered(len);
+    let mut places = ByBlocks { noted, rows, blocks: 0 };
+    let mut counter = Swaps::new(&mut places);
+    call(&mut counter);
+    let swaps = counter.swaps();
+    (places, swaps)
+}
+
+/// A holder says whether it is faster by blocks. The order of the exchanges is another one, and nothing else is.
+#[test]
+fn blocks_by_a_holder_of_ones_own() {
+    let same = |len: usize, call: &dyn Fn(&mut Swaps<&mut ByBlocks>), mut single: Noted| {
+        let (mut places, swaps) = by_blocks(4, len, call);
+        assert_eq!(swaps, single.exchanges.len() as u128);
+        assert_eq!(places.noted.items, single.items);
+        places.noted.exchanges.sort_unstable();
+        single.exchanges.sort_unstable();
+        assert_eq!(places.noted.exchanges, single.exchanges);
+        // A block of which a row is left out is seen, in the list and beside the count.
+        let (wrong, counted) = by_blocks(3, len, call);
+        assert_eq!(wrong.noted.items != single.items, places.blocks > 0);
+        assert_eq!(counted, swaps);
+        assert_eq!(wrong.noted.exchanges.len() + 4 * wrong.blocks, single.exchanges.len());
+        places.blocks
+    };
+    for bits in 2..=17 {
+        let blocks = same(
+            1 << bits,
+            &|m| reverse_index_bits_long(m),
+            swapped(1 << bits, reverse_index_bits_long),
+        );
+        // Squares of up to four rows have no block above the diagonal.
+        assert_eq!(blocks > 0, bits >= 6, "2^{bits}");
+    }
+    for (size, stride) in (0..=6).flat_map(|size| (size..=7).map(move |stride| (size, stride))) {
+        let len = 1 << (size + stride);
+        let single = swapped(len, |m| transpose_square_on(m, 0, stride, size));
+        let blocks = same(len, &|m| transpose_square_on(m, 0, stride, size), single);
+        let side = (1 << size) / 4;
+        assert_eq!(blocks, side * (side.max(1) - 1) / 2, "2^{size} rows");
+    }
+}

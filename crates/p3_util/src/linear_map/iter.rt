@@ -1,5 +1,5 @@
-//! The iterators that lend the pairs, the keys or the values of a map, in its order. Each is seen as the list of what it
-//! has left.
+//! The iterators that lend the pairs, the keys or the values of a map, in its order. A contract
+//! sees each of them as the list of the items that are left.
 ghost use Rattle.std.specs.Prelude.{◌≡◌, ⊤, Some, length, IfSome};
 ghost use Rattle.std.specs.Iterator.{item_count, at_most, UpTo};
 ghost use Rattle.std.specs.Iterator.SizeHint.{IsWithinCount};
@@ -27,7 +27,7 @@ impl<'a, K, V> Model for Iter<'a, K, V> {
     ghost view = { λ s. iter_rest s.pairs };
 }
 
-/// The pairs that are left. A clone takes no memory.
+/// A clone has the same pairs left. It allocates nothing.
 impl<'a, K, V> Clone for Iter<'a, K, V> {
     ghost is_clone = { λ s r. r ≡ s };
 
@@ -106,7 +106,7 @@ impl<'a, K, V> Model for Keys<'a, K, V> {
     ghost view = { λ s. keys_of (iter_rest s.pairs) };
 }
 
-/// The keys that are left. A clone takes no memory.
+/// A clone has the same keys left. It allocates nothing.
 impl<'a, K, V> Clone for Keys<'a, K, V> {
     ghost is_clone = { λ s r. r ≡ s };
 
@@ -187,7 +187,7 @@ impl<'a, K, V> Model for Values<'a, K, V> {
     ghost view = { λ s. values_of (iter_rest s.pairs) };
 }
 
-/// The values that are left. A clone takes no memory.
+/// A clone has the same values left. It allocates nothing.
 impl<'a, K, V> Clone for Values<'a, K, V> {
     ghost is_clone = { λ s r. r ≡ s };
 

@@ -1,4 +1,4 @@
-//! The items of a view, one after another.
+//! The iterator over the items of a view.
 
 ghost use Rattle.std.specs.Prelude.{◌≡◌, List, length, Some, IfSome};
 ghost use Rattle.std.specs.Iterator.{item_count, UpTo};
@@ -9,7 +9,8 @@ ghost use Rattle.std.specs.Slice.Iter.{iter_rest};
 use std::marker::Model;
 use std::slice::Iter;
 
-/// References to the items of a view, in order. Contracts see the list of the items that are left.
+/// An iterator over references to the items of a view, in order. A contract sees it as the list of
+/// the items that are left.
 #[derive(Drop)]
 pub struct BaseIter<'a, Base> {
     rest: Iter<'a, Base>,
@@ -22,7 +23,7 @@ impl<'a, Base> Model for BaseIter<'a, Base> {
 }
 
 impl<'a, Base> BaseIter<'a, Base> {
-    /// The items of `items`, in order.
+    /// An iterator over the items of `items`, in order.
     pub(super) fn new(items: &'a [Base]) -> Self
         ensures { result ≡ items.now }
     {
@@ -41,7 +42,7 @@ impl<'a, Base> Iterator for BaseIter<'a, Base> {
         self.rest.next()
     }
 
-    /// The number of items left, as the lower and as the upper bound.
+    /// The number of items that are left, as the lower and as the upper bound.
     fn size_hint(&self) -> (usize, Option<usize>)
         ensures lower { IsWithinCount result.0 (item_count (λ s. s) self.now) }
         ensures upper { IfSome result.1 (UpTo (item_count (λ s. s) self.now)) }
@@ -54,7 +55,7 @@ impl<'a, Base> Iterator for BaseIter<'a, Base> {
 }
 
 impl<'a, Base> ExactSizeIterator for BaseIter<'a, Base> {
-    /// The number of items left.
+    /// The number of items that are left.
     fn len(&self) -> usize {
         self.rest.len()
     }

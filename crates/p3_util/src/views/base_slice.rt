@@ -1,4 +1,4 @@
-//! A slice of arrays, seen as the list of their items.
+//! Slices of arrays, viewed as the list of their items.
 
 ghost use Rattle.std.specs.Prelude.{◌≡◌, ◌==◌, ◌*◌, ◌^◌, ◌<◌, ◌≤◌, List, Some, length, slice_get};
 ghost use Rattle.std.specs.Map.Iter.{ShowsInOrder, deref};
@@ -13,9 +13,9 @@ use std::fmt;
 use std::marker::Model;
 use std::ops::Index;
 
-/// A slice of arrays of `N` items, seen as the list of their items, array after array.
+/// A slice of arrays of `N` items, viewed as the list of their items, array after array.
 ///
-/// Contracts see the list. For `N` = 0 it is empty.
+/// A contract sees the list. For `N` = 0 it is empty.
 #[derive(Drop)]
 pub struct BaseSlice<'a, Base, const N: usize> {
     items: &'a [Base],
@@ -27,9 +27,9 @@ impl<'a, Base, const N: usize> Model for BaseSlice<'a, Base, N> {
     ghost view = { λ s. s.items.now };
 }
 
-/// The items of the arrays in `buf`, array after array. Nothing is copied.
+/// Views the arrays in `buf` as the list of their items, array after array. Nothing is copied.
 ///
-/// The number of items has to fit a `usize`, which [`flat_len`](super::flat_len) tests.
+/// The number of items must fit a `usize`, which [`flat_len`](super::flat_len) checks.
 pub fn as_base_slice<Base, const N: usize>(buf: &[[Base; N]]) -> BaseSlice<'_, Base, N>
     requires { length buf.now * N < 2 ^ 64 }
     ensures items { result ≡ flat buf.now }
@@ -50,21 +50,21 @@ impl<'a, Base, const N: usize> BaseSlice<'a, Base, N> {
         self.items.len()
     }
 
-    /// Whether there is no item.
+    /// Whether the view has no items.
     pub fn is_empty(&self) -> bool
         ensures { result ≡ (length self.now == 0) }
     {
         self.items.is_empty()
     }
 
-    /// Item `i`, or `None` where there are no more than `i` items.
+    /// Item `i`, or `None` if `i` is out of bounds.
     pub fn get(&self, i: usize) -> Option<&'a Base>
         ensures { option_copied result ≡ slice_get self.now i }
     {
         self.items.get(i)
     }
 
-    /// The items, in order.
+    /// Iterates over the items, in order.
     pub fn iter(&self) -> BaseIter<'a, Base>
         ensures rest { result ≡ self.now }
         ensures runs { ShowsInOrder (deref {X = Base}) }
@@ -73,7 +73,7 @@ impl<'a, Base, const N: usize> BaseSlice<'a, Base, N> {
     }
 }
 
-/// The same items. A clone wants no memory.
+/// A clone is a view of the same items. It allocates nothing.
 impl<'a, Base, const N: usize> Clone for BaseSlice<'a, Base, N> {
     ghost use Rattle.std.specs.Prelude.{⊤};
 
@@ -86,14 +86,14 @@ impl<'a, Base, const N: usize> Clone for BaseSlice<'a, Base, N> {
     }
 }
 
-/// The list of the items.
+/// Prints the items as a list.
 impl<'a, Base: fmt::Debug, const N: usize> fmt::Debug for BaseSlice<'a, Base, N> {
     fn fmt<W: fmt::Write>(&self, f: &mut fmt::Formatter<W>) -> fmt::Result {
         f.debug_list().entries(self.items).finish()
     }
 }
 
-/// Item `i`, which has to be there: `get` is the test.
+/// Item `i`. It must exist, which `get` checks.
 impl<'a, Base, const N: usize> Index<usize> for BaseSlice<'a, Base, N> {
     type Output = Base;
 
@@ -106,7 +106,7 @@ impl<'a, Base, const N: usize> Index<usize> for BaseSlice<'a, Base, N> {
     }
 }
 
-/// References to the items, in order.
+/// Iterates over references to the items, in order.
 impl<'a, Base, const N: usize> IntoIterator for BaseSlice<'a, Base, N> {
     type Item = &'a Base;
 
@@ -119,7 +119,7 @@ impl<'a, Base, const N: usize> IntoIterator for BaseSlice<'a, Base, N> {
     }
 }
 
-/// References to the items, in order.
+/// Iterates over references to the items, in order.
 impl<'v, 'a, Base, const N: usize> IntoIterator for &'v BaseSlice<'a, Base, N> {
     type Item = &'a Base;
 
@@ -142,7 +142,8 @@ impl<'a, Base: Copy, const N: usize> Source for BaseSlice<'a, Base, N> {
     }
 
     fn at(&self, i: usize) -> Base {
-        // The checker knows that a slice fits in memory where a variable has it, and not of a field behind a `Model`.
+        // The checker knows that a slice fits in memory if a variable holds it, but not if it is a
+        // field behind a `Model`.
         let items = self.items;
         items[i]
     }

@@ -1,4 +1,4 @@
-//! A mutable slice of arrays, seen as the list of their items.
+//! Mutable slices of arrays, viewed as the list of their items.
 
 ghost use Rattle.std.specs.Prelude.{◌≡◌, ◌==◌, ◌*◌, ◌^◌, ◌<◌, ◌≤◌, List, Some, length, slice_get};
 ghost use Rattle.std.proofs.Common.{rules};
@@ -13,22 +13,24 @@ use super::rows::Rows;
 use p3_util_kernels::places::{Cells, Places};
 use std::ops::Index;
 
-/// Rows behind `S`, seen as the list of their items, row after row.
+/// The rows behind `S`, viewed as the list of their items, row after row.
 ///
-/// What the view holds is in the rows when the borrow ends. Contracts see the list as `S.items` of `rows`: for a `&mut`
-/// to arrays, `flat` of the rows, as long as a `usize` can count their items, as it can in each view that
-/// [`as_base_slice_mut`] makes.
+/// All changes are made in the rows themselves. A contract sees the list as `S.items` of `rows`.
+/// For a `&mut` to arrays this is `flat` of the rows, as long as a `usize` can count their items,
+/// which holds for each view that [`as_base_slice_mut`] returns.
 #[derive(Drop)]
 pub struct Flattened<S> {
     rows: S,
 }
 
-/// A mutable slice of arrays of `N` items, seen as the list of their items, array after array. For `N` = 0 it is empty.
+/// A mutable slice of arrays of `N` items, viewed as the list of their items, array after array.
+/// For `N` = 0 it is empty.
 pub type BaseSliceMut<'a, Base, const N: usize> = Flattened<&'a mut [[Base; N]]>;
 
-/// The items of the arrays in `buf`, array after array, to be exchanged or written. Nothing is copied.
+/// Views the arrays in `buf` as the list of their items, array after array, to exchange or write
+/// them. Nothing is copied.
 ///
-/// The number of items has to fit a `usize`, which [`flat_len`](super::flat_len) tests.
+/// The number of items must fit a `usize`, which [`flat_len`](super::flat_len) checks.
 pub fn as_base_slice_mut<Base, const N: usize>(buf: &mut [[Base; N]]) -> BaseSliceMut<'_, Base, N>
     requires { length buf.old * N < 2 ^ 64 }
     ensures rows { result.rows ≡ buf.entry }
@@ -52,24 +54,24 @@ impl<S: Rows> Flattened<S> {
         self.rows.row_items().len()
     }
 
-    /// Whether there is no item.
+    /// Whether the view has no items.
     pub fn is_empty(&self) -> bool
         ensures { result ≡ (length (S.items self.now.rows) == 0) }
     {
         self.rows.row_items().is_empty()
     }
 
-    /// Item `i`, or `None` where there are no more than `i` items.
+    /// Item `i`, or `None` if `i` is out of bounds.
     pub fn get(&self, i: usize) -> Option<&S::Item>
         ensures { option_copied result ≡ slice_get (S.items self.now.rows) i }
     {
         self.rows.row_items().get(i)
     }
 
-    /// Item `i`, to be written, or `None` where there are no more than `i` items.
+    /// A mutable reference to item `i`, or `None` if `i` is out of bounds.
     ///
-    /// When the reference ends, the same rows end with what was left behind it in the place of that item, and with every
-    /// other item as it was.
+    /// When the reference ends, the same rows have the value that was last behind it as item `i`,
+    /// and every other item is unchanged.
     pub fn get_mut(&mut self, i: usize) -> Option<&mut S::Item>
         ensures* writes_back { sem 𝓛 (lends_item (the_row S.row) S.Item.row
             (λ v. S.items v.rows) (λ a b. S.same_rows a.rows b.rows) self.entry i result) }
@@ -78,7 +80,7 @@ impl<S: Rows> Flattened<S> {
         self.rows.item_mut(i)
     }
 
-    /// The items, in order.
+    /// Iterates over the items, in order.
     pub fn iter(&self) -> BaseIter<'_, S::Item>
         ensures rest { result ≡ S.items self.now.rows }
         ensures runs { ShowsInOrder (deref {X = S.Item}) }
@@ -87,7 +89,7 @@ impl<S: Rows> Flattened<S> {
     }
 }
 
-/// Item `i`, which has to be there: `get` is the test.
+/// Item `i`. It must exist, which `get` checks.
 impl<S: Rows> Index<usize> for Flattened<S> {
     type Output = S::Item;
 
@@ -100,7 +102,7 @@ impl<S: Rows> Index<usize> for Flattened<S> {
     }
 }
 
-/// References to the items, in order.
+/// Iterates over references to the items, in order.
 impl<'v, 'a: 'v, Base, const N: usize> IntoIterator for &'v Flattened<&'a mut [[Base; N]]> {
     type Item = &'v Base;
 

@@ -1,7 +1,8 @@
-//! The loan of one item of the rows, and what the rows end as.
+//! Mutable references to one item of the rows, and what the rows become when such a reference ends.
 //!
-//! The checker follows neither a loan from an array to one of its items nor a loan of a loan. So two functions here have proofs
-//! by hand, and so has `item_mut`, the loan from behind a view.
+//! The checker follows neither a loan from an array to one of its items nor a loan of a loan. So
+//! two functions here are proved by hand, and so is `item_mut`, which lends an item from behind a
+//! view.
 
 ghost use Rattle.std.specs.Prelude.{◌≡◌, ◌<◌, [], length, slice_get, slice_index_or};
 ghost use Rattle.std.specs.Borrow.{sem};
@@ -11,7 +12,7 @@ ghost use Rattle.p3_util.specs.RowLends.{lends_item_of_row, lends_item_of_rows, 
 
 use super::places::{countable, place_of};
 
-/// Item `i` of all rows, to be written, or `None` where there are no more than `i`.
+/// A mutable reference to item `i` of all rows, or `None` if `i` is out of bounds.
 pub(super) fn item_of_rows<T, const N: usize>(rows: &mut [[T; N]], i: usize) -> Option<&mut T>
     ensures* writes_back { sem 𝓛 (lends_item_of_rows T.row N rows.entry i result) }
     ensures item { option_copied_mut result ≡ slice_get (countable_items rows.old) i }
@@ -24,7 +25,7 @@ pub(super) fn item_of_rows<T, const N: usize>(rows: &mut [[T; N]], i: usize) -> 
     }
 }
 
-/// Item `c` of row `r`, to be written.
+/// A mutable reference to item `c` of row `r`.
 fn item_at<T, const N: usize>(rows: &mut [[T; N]], r: usize, c: usize) -> &mut T
     requires row { r < length rows.old }
     requires place { c < N }
@@ -35,7 +36,7 @@ fn item_at<T, const N: usize>(rows: &mut [[T; N]], r: usize, c: usize) -> &mut T
     item_of_row(row_of(rows, r), c)
 }
 
-/// Row `r`, to be written.
+/// A mutable reference to row `r`.
 fn row_of<R>(rows: &mut [R], r: usize) -> &mut R
     requires { r < length rows.old }
     ensures* writes_back { sem 𝓛 (lends_row R.row rows.entry r result) }
@@ -44,7 +45,7 @@ fn row_of<R>(rows: &mut [R], r: usize) -> &mut R
     &mut rows[r]
 }
 
-/// Item `c` of a row, to be written.
+/// A mutable reference to item `c` of a row.
 fn item_of_row<T, const N: usize>(row: &mut [T; N], c: usize) -> &mut T
     requires { c < N }
     ensures* writes_back { sem 𝓛 (lends_item_of_row T.row N row.entry c result) }

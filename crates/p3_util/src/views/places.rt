@@ -1,9 +1,9 @@
-//! Where item `i` of all rows is, and how many items there are.
+//! The row and column of item `i` of all rows, and the number of items.
 
 ghost use Rattle.std.specs.Prelude.{◌≡◌, ◌+◌, ◌*◌, ◌/◌, ◌%◌, ◌^◌, ◌<◌, IsTrue, length, take};
 ghost use Rattle.p3_util.specs.Flat.{IsFlat, countable_items, flat};
 
-/// The items of all rows, or none where a `usize` cannot count them.
+/// The items of all rows, or no items if a `usize` cannot count them.
 pub(super) fn countable<T, const N: usize>(rows: &[[T; N]]) -> &[T]
     ensures items { result.now ≡ countable_items rows.now }
     ensures fits { 0 < length result.now → length rows.now * N < 2 ^ 64 }
@@ -13,7 +13,8 @@ pub(super) fn countable<T, const N: usize>(rows: &[[T; N]]) -> &[T]
     if rows.len() <= most {
         return rows.as_flattened();
     }
-    // The first `most` rows have as many items as a `usize` can count, and there is at least one row more.
+    // The first `most` rows have as many items as a `usize` can count, and there is at least one
+    // more row.
     prove!(rows[..most].as_flattened().len() == most * N);
     prove!(width_of(&rows[most]) == N);
     rows[..0].as_flattened()
@@ -28,8 +29,8 @@ pub(super) fn width_of<T, const N: usize>(row: &[T; N]) -> usize
     row.len()
 }
 
-/// Whether item `i` of all rows is item `i % N` of row `i / N`, which is always so. Only a `prove!` calls this: its loop does
-/// nothing, and the compiler removes it.
+/// Whether item `i` of all rows is item `i % N` of row `i / N`, which always holds. Only a `prove!`
+/// calls this. Its loop does nothing, and the compiler removes it.
 #[inline(always)]
 pub(super) fn each_in_its_row<T, const N: usize>(rows: &[[T; N]]) -> bool
     ensures yes { IsTrue result }
@@ -41,7 +42,7 @@ pub(super) fn each_in_its_row<T, const N: usize>(rows: &[[T; N]]) -> bool
     true
 }
 
-/// The row in which item `i` of all rows is, and its place in that row.
+/// The row that has item `i` of all rows, and the item's index in that row.
 #[inline(always)]
 pub(super) fn place_of<T, const N: usize>(rows: &[[T; N]], i: usize) -> (usize, usize)
     requires { i < length (countable_items rows.now) }

@@ -1,4 +1,4 @@
-//! Arrays as rows of one list of items.
+//! Arrays as the rows of one list of items.
 
 ghost use Rattle.std.specs.Prelude.{◌≡◌, ℕ, ◌+◌, ◌*◌, ◌^◌, ◌<◌, List, Some, length, slice_get, slice_set, swap, take};
 ghost use Rattle.std.proofs.Common.{refl, ◌∙◌};
@@ -10,14 +10,15 @@ use super::loans::item_of_rows;
 use super::places::{countable, place_of, width_of};
 use std::mem;
 
-/// A reference to rows of as many items as each other, to be exchanged or written.
+/// A reference to rows of equal length, whose items can be exchanged or written.
 ///
-/// Contracts see it as the list of the items, row after row, where a `usize` can count them. `same_rows a b` says that b is a
-/// after some steps: it is the same reference, with as many items behind it.
+/// A contract sees it as the list of the items, row after row, if a `usize` can count them.
+/// `same_rows a b` says that b is a after some steps: it is the same reference, with the same
+/// number of items behind it.
 pub trait Rows {
     ghost use Rattle.p3_util.specs.ViewLends.{lends_item};
 
-    /// What is in the rows.
+    /// The type of the items.
     type Item;
 
     ghost items: { Self → List Self.Item };
@@ -28,7 +29,7 @@ pub trait Rows {
     fn row_items(&self) -> &[Self::Item]
         ensures { result.now ≡ items self.now };
 
-    /// Item `i` of all rows, to be written, or `None` where there are no more than `i`.
+    /// A mutable reference to item `i` of all rows, or `None` if `i` is out of bounds.
     fn item_mut(&mut self, i: usize) -> Option<&mut Self::Item>
         ensures* writes_back { sem 𝓛 (lends_item Self.row Self.Item.row items same_rows self.entry i result) }
         ensures item { option_copied_mut result ≡ slice_get (items self.old) i };
@@ -40,14 +41,14 @@ pub trait Rows {
         ensures exchanged { items self.new ≡ swap (items self.old) i j }
         ensures rows { same_rows self.old self.new };
 
-    /// As `exchange`, where `i` is below `j`.
+    /// Does the same as `exchange`, for `i < j`.
     fn exchange_ordered(&mut self, i: usize, j: usize)
         requires order { i < j }
         requires second { j < length (items self.old) }
         ensures exchanged { items self.new ≡ swap (items self.old) i j }
         ensures rows { same_rows self.old self.new };
 
-    /// Puts `v` in the place of item `i` of all rows.
+    /// Writes `v` to item `i` of all rows.
     fn put(&mut self, i: usize, v: Self::Item)
     where
         Self::Item: Drop,
@@ -117,7 +118,8 @@ fn exchange_items<T, const N: usize>(rows: &mut [[T; N]], i: usize, j: usize)
     }
 }
 
-/// As [`exchange_items`], where `i` is below `j`, so that its row is no later.
+/// Does the same as [`exchange_items`], for `i < j`. So the row of `i` is not later than the row of
+/// `j`.
 #[inline(always)]
 fn exchange_ordered_items<T, const N: usize>(rows: &mut [[T; N]], i: usize, j: usize)
     requires order { i < j }
@@ -134,7 +136,7 @@ fn exchange_ordered_items<T, const N: usize>(rows: &mut [[T; N]], i: usize, j: u
     }
 }
 
-/// Puts `v` in the place of item `i` of all rows.
+/// Writes `v` to item `i` of all rows.
 #[inline(always)]
 fn put_item<T: Drop, const N: usize>(rows: &mut [[T; N]], i: usize, v: T)
     requires { i < length (countable_items rows.old) }
@@ -145,7 +147,7 @@ fn put_item<T: Drop, const N: usize>(rows: &mut [[T; N]], i: usize, v: T)
     rows[r][c] = v;
 }
 
-/// Exchanges item `c` of row `r` and item `d` of row `s`, which is a later row.
+/// Exchanges item `c` of row `r` with item `d` of the later row `s`.
 #[inline(always)]
 fn exchange_in_two_rows<T, const N: usize>(
     rows: &mut [[T; N]],

@@ -1,4 +1,4 @@
-//! Vectors of arrays moved to vectors of their items, and back.
+//! Vectors of arrays that are moved to vectors of their items, and back.
 
 ghost use Rattle.std.specs.Prelude.{◌≡◌, ◌+◌, ◌*◌, ◌%◌, ◌/◌, ◌^◌, ◌<◌, ◌≤◌, ◌++◌, IsOk, IfOk, IfErr, length, vec_len, vec_capacity};
 ghost use Rattle.std.specs.Vec.Iter.{into_iter_items};
@@ -10,13 +10,15 @@ use std::alloc::Global;
 use std::vec::IntoIter;
 use std::{array, mem};
 
-/// The items of the arrays in `vec`, array after array, each moved once.
+/// Moves the items of the arrays in `vec` to one vector, array after array. Each item is moved
+/// once.
 ///
-/// The number of items fits a `usize`, which [`flat_len`](super::flat_len) tests.
+/// The number of items must fit a `usize`, which [`flat_len`](super::flat_len) checks.
 ///
 /// # Errors
 ///
-/// `vec` as it was, where there is no memory for the items. None is wanted where there is no item.
+/// `vec` unchanged, if there is no memory for the items. If there are no items, no memory is
+/// needed.
 pub fn flatten_to_base<Base: Default + Drop, const N: usize>(
     alloc: Global,
     mut vec: Vec<[Base; N]>,
@@ -25,7 +27,7 @@ pub fn flatten_to_base<Base: Default + Drop, const N: usize>(
     ensures items { IfOk result (λ items. items.items ≡ flat vec.items) }
     ensures places { IfOk result (λ items. IsFlat N vec.items items.items) }
 
-    // Cut into rows again, the items are the rows that they were.
+    // If the items are cut into rows again, the rows are the same as before.
     ensures rows { 0 < N → IfOk result (λ items. pieces N items.items ≡ vec.items) }
     ensures len { IfOk result (λ items. vec_len items ≡ vec_len vec * N) }
     ensures divides { IfOk result (λ items. vec_len items % N ≡ 0) }
@@ -54,13 +56,14 @@ fn push_row<T: Default + Drop, const N: usize>(items: &mut Vec<T>, row: &mut [T;
     }
 }
 
-/// The items of `vec` as arrays of `N`, in order, each moved once.
+/// Moves the items of `vec` to arrays of `N` items, in order. Each item is moved once.
 ///
-/// `N` is at least 1 and divides the length.
+/// `N` must be at least 1 and divide the length.
 ///
 /// # Errors
 ///
-/// `vec` as it was, where there is no memory for the arrays. None is wanted where there is no item.
+/// `vec` unchanged, if there is no memory for the arrays. If there are no items, no memory is
+/// needed.
 pub fn reconstitute_from_base<Base: Default + Drop, const N: usize>(
     alloc: Global,
     vec: Vec<Base>,
@@ -97,7 +100,7 @@ fn next_row<T: Default + Drop, const N: usize>(items: &mut IntoIter<T>) -> [T; N
     row
 }
 
-/// Puts the next items into `row`, in the place of what it held.
+/// Replaces the items of `row` with the next items.
 fn fill_row<T: Drop>(row: &mut [T], items: &mut IntoIter<T>)
     requires { length row.old ≤ length (into_iter_items items.old) }
     ensures { into_iter_items items.old ≡ row.new ++ into_iter_items items.new }

@@ -5,15 +5,17 @@ ghost use Rattle.p3_util_kernels.specs.Names.{is_mark, last_part, short_name};
 
 use std::alloc::{AllocError, Global};
 
-/// The short name of a type: `alloc::vec::Vec<core::option::Option<u32>>` becomes `Vec<Option<u32>>`.
+/// The short name of a type: `alloc::vec::Vec<core::option::Option<u32>>` becomes
+/// `Vec<Option<u32>>`.
 ///
-/// The name is cut after each `<`, `>` and `,`, and of each piece what follows its last `::` is kept, where `::` is looked
-/// for from left to right. So a bracket or a `&` before a path is lost with it, and `a:::b` becomes `:b`.
+/// The name is cut after each `<`, `>` and `,`. Of each piece, only what follows its last `::` is
+/// kept, where each `::` is found from left to right. So a bracket or a `&` in front of a path is
+/// lost with the path, and `a:::b` becomes `:b`.
 ///
 /// # Errors
 ///
-/// `AllocError` where there is no room for as many bytes as `name` has, which is all that is asked for. An empty name is
-/// never refused.
+/// `AllocError` if there is no memory for as many bytes as `name` has. The call requests no more
+/// than that. An empty name is never refused.
 pub fn pretty_name(alloc: Global, name: &str) -> Result<String, AllocError>
     ensures short { IfOk result (λ s. string_bytes s ≡ short_name name.now) }
     ensures refused { OnErr result (0 < length name.now) }
@@ -29,7 +31,7 @@ pub fn pretty_name(alloc: Global, name: &str) -> Result<String, AllocError>
     Ok(short)
 }
 
-/// The place of the first `<`, `>` or `,`.
+/// The index of the first `<`, `>` or `,`.
 fn first_mark(name: &str) -> Option<usize>
     ensures place { result ≡ position is_mark name.now }
     ensures fits { IfSome result (λ i. i + 1 < 2 ^ 64) }
@@ -38,7 +40,7 @@ fn first_mark(name: &str) -> Option<usize>
         .position(|b| b == b'<' || b == b'>' || b == b',')
 }
 
-/// What follows the last `::`, or all of the text.
+/// The part after the last `::`, or the whole text if there is none.
 fn last_part(text: &str) -> &str
     ensures { result.now ≡ last_part text.now }
 {

@@ -1,10 +1,11 @@
-//! What makes it safe to give the parts of a call to several threads. Nothing calls these functions, and the package is made
-//! without them.
+//! What makes it safe to run the parts of a call on several threads.
 //!
-//! Some run a part of a plan on a holder whose contract says that its steps exist, and state which places the steps are at. The
-//! others state that two parts have no place in common, and that each place belongs to some part. `all_parts.rt` has the calls that
-//! run all parts in any order, `interleaved.rt` says the same of their steps interleaved, and `witnesses.rt` has lists and orders
-//! that meet the conditions of these laws.
+//! Nothing calls these functions, and the package is made without them: each is there for its
+//! contract. Some run one part of a plan on a holder whose contract says that its steps exist, and
+//! state which places they change. Others state that two parts have no place in common, and that
+//! each place belongs to some part. `all_parts` runs all parts, in any order. `interleaved` states
+//! the same for every interleaving of the steps of several parts, as threads may make them.
+//! `witnesses` shows that the preconditions can be met.
 
 ghost use Rattle.std.specs.Prelude.{◌≡◌, ◌≢◌, ℕ, ◌⊎◌, ◌+◌, ◌-◌, ◌*◌, ◌/◌, ◌^◌, ◌<◌, ◌≤◌, ◌↔◌, false, if◌then◌else◌, length};
 ghost use Rattle.p3_util_kernels.specs.Blocks.{IsBlock, blocks_of, swaps_of_block};
@@ -26,7 +27,8 @@ use crate::parts::{Cut, Phase, RowPairs, Squares, TransposePlan};
 use crate::places::{Cells, Places, Source};
 use crate::transpose::{Matrix, Region, Strips};
 
-/// A holder by which steps exist: `same_holder n a b` says that n puts lead from the items of `a` to those of `b`.
+/// A holder whose `same_holder n a b` says that n puts exist that turn the items of `a` into those
+/// of `b`.
 #[derive(Drop)]
 struct PutSteps<C> {
     cells: C,
@@ -52,7 +54,8 @@ impl<C: Cells> Cells for PutSteps<C> {
     ghost same_holder_trans = { λ m n all a b c. more_puts m n all (C.items a.cells) (C.items b.cells) (C.items c.cells) };
 }
 
-/// A holder by which steps exist: `same_holder n a b` says that n exchanges lead from the items of `a` to those of `b`.
+/// A holder whose `same_holder n a b` says that n exchanges exist that turn the items of `a` into
+/// those of `b`.
 #[derive(Drop)]
 struct SwapSteps<S> {
     places: S,
@@ -73,20 +76,25 @@ impl<S: Places> Places for SwapSteps<S> {
         self.places.exchange(i, j);
     }
 
+    fn by_blocks(&self) -> bool {
+        self.places.by_blocks()
+    }
+
     ghost same_holder_refl = { λ a. no_swaps (S.items a.places) };
 
     ghost same_holder_trans = { λ m n all a b c. more_swaps m n all (S.items a.places) (S.items b.places) (S.items c.places) };
 }
 
-/// Where as many places changed as there were writes, or twice as many as there were exchanges, the steps are at these places,
-/// and no place is in two of them.
+/// If as many places changed as there were writes, or twice as many as there were exchanges, then
+/// the steps are at exactly these places, and no two steps have a place in common.
 pub(crate) fn changed_places<T>()
     ensures swaps { SwapsAtChanged T }
     ensures puts { PutsAtChanged T }
 {}
 
-/// A region of a plan is put by as many writes as it has items, by any strips. Where no item of the input is in the output,
-/// all of them are at places of the region's transpose, and at one place each.
+/// Puts a region of a plan with any strips. It takes as many writes as the region has items. If no
+/// item of the input is in the output, the writes are at the places of the region's transpose, one
+/// at each.
 pub(crate) fn put_region<C: Cells, R: Source<Item = C::Item> + Copy>(
     out: C,
     source: R,
@@ -109,7 +117,8 @@ pub(crate) fn put_region<C: Cells, R: Source<Item = C::Item> + Copy>(
         .cells
 }
 
-/// Two regions of one matrix that have no row, or no column, in common have no place of the transpose in common.
+/// Two regions of one matrix that have no row, or no column, in common have no place of the
+/// transpose in common.
 pub(crate) fn regions_apart(first: Region, second: Region, width: usize, height: usize)
     requires first { LiesInMatrix first width height }
     requires second { LiesInMatrix second width height }
@@ -117,7 +126,8 @@ pub(crate) fn regions_apart(first: Region, second: Region, width: usize, height:
     ensures { NoPlaceInCommon (IsPlaceOfRegion first height) (IsPlaceOfRegion second height) }
 {}
 
-/// Two parts of a matrix that is cut along its rows or along its columns have no place of the transpose in common.
+/// Two parts of a matrix that is cut along its rows or along its columns have no place of the
+/// transpose in common.
 pub(crate) fn parts_of_matrix(
     width: usize,
     height: usize,
@@ -141,7 +151,8 @@ pub(crate) fn parts_of_matrix(
     (first, second)
 }
 
-/// The cells of a region follow each other where the columns are cut, and those of the next region come next.
+/// If the columns are cut, the cells of a region are consecutive, and those of the next region come
+/// right after them.
 pub(crate) fn cells_follow(plan: TransposePlan, number: usize)
     requires columns { plan.by_rows ≡ false }
     requires below { number < parts_in plan.cut.len plan.cut.step }
@@ -149,8 +160,9 @@ pub(crate) fn cells_follow(plan: TransposePlan, number: usize)
         ↔ ((start_of plan.cut.len plan.cut.step number * plan.height ≤ p) × (p < start_of plan.cut.len plan.cut.step (number + 1) * plan.height)) }
 {}
 
-/// A block of squares side by side is exchanged with its mirror image by an exact number of exchanges. Where all items of the
-/// list differ, all of them are of places of the block and of its mirror image, and no place is in two of them.
+/// Exchanges a block of squares side by side with its mirror image, by an exact number of
+/// exchanges. If all items of the list differ, the exchanges are at places of the block and of its
+/// mirror image, and no two of them have a place in common.
 pub(crate) fn exchange_block<S: Places>(places: S, squares: Squares, number: usize) -> S
     requires below { number < blocks_of squares.cut.len squares.stride squares.cut.step }
     requires whole { length (S.items places) ≡ squares.cut.len * squares.stride }
@@ -166,13 +178,14 @@ pub(crate) fn exchange_block<S: Places>(places: S, squares: Squares, number: usi
         .places
 }
 
-/// Each pair of the parts of a cut has a number below the number of pairs, and no other pair has it.
+/// Each pair of parts of a cut has a number below the number of pairs, and no two pairs have the
+/// same number.
 pub(crate) fn pairs_have_numbers()
     ensures below { (n i j : ℕ) → i ≤ j → j < n → number_of_pair n i j < pairs_of n }
     ensures apart { (n i j k l : ℕ) → i ≤ j → j < n → k ≤ l → l < n → number_of_pair n i j ≡ number_of_pair n k l → (i ≡ k) × (j ≡ l) }
 {}
 
-/// A block of squares side by side is given by its number.
+/// The number of a block determines the block.
 pub(crate) fn block_of_number(squares: Squares, number: usize)
     ensures { (base other_base : ℕ) → (region other_region : Region)
         → IsBlock squares.cut.len squares.stride squares.cut.step number base region
@@ -187,8 +200,8 @@ pub(crate) fn blocks_apart(squares: Squares, first: usize, second: usize)
         (IsPlaceOfBlock squares.cut.len squares.stride squares.cut.step second) }
 {}
 
-/// The pairs of rows of a block are exchanged by an exact number of exchanges. Where all items of the list differ, all of them are
-/// of places of these rows, and no place is in two of them.
+/// Exchanges the pairs of rows of a block by an exact number of exchanges. If all items of the list
+/// differ, the exchanges are at places of these rows, and no two of them have a place in common.
 pub(crate) fn exchange_row_pairs<S: Places>(places: S, pairs: RowPairs, number: usize) -> S
     requires below { number < blocks_of pairs.squares.cut.len pairs.squares.stride pairs.squares.cut.step }
     requires ready { HoldsRows pairs.rows.width pairs.rows.digits (S.items places) }
@@ -212,20 +225,22 @@ pub(crate) fn row_pairs_apart(pairs: RowPairs, first: usize, second: usize)
         (IsPlaceOfPairs pairs.rows.digits pairs.rows.width pairs.squares.cut.step second) }
 {}
 
-/// Each place of the transpose of a matrix is a place of one of the parts that its rows or its columns are cut into.
+/// Each place of the transpose of a matrix belongs to one of the parts that the matrix's rows or
+/// columns are cut into.
 pub(crate) fn parts_cover_matrix(width: usize, height: usize, by_rows: bool, cut: Cut)
     requires side { cut.len ≡ if by_rows then height else width }
     ensures { PartsCover (λ p. p < width * height) (parts_in cut.len cut.step)
         (λ k. IsPlaceOfRegion (part_of_matrix width height by_rows cut.len cut.step k) height) }
 {}
 
-/// Each place of squares side by side is a place of one of their blocks.
+/// Each place of squares side by side belongs to one of their blocks.
 pub(crate) fn blocks_cover_squares(squares: Squares)
     ensures { PartsCover (IsPlaceOfSquares squares.cut.len squares.stride) (blocks_of squares.cut.len squares.stride squares.cut.step)
         (IsPlaceOfBlock squares.cut.len squares.stride squares.cut.step) }
 {}
 
-/// Each place of a list of rows is a place of the pairs of rows of one of the blocks, where a row that stays is a pair with itself.
+/// Each place of a list of rows belongs to the pairs of rows of one of the blocks, if a row that
+/// stays counts as a pair with itself.
 pub(crate) fn blocks_cover_rows(pairs: RowPairs)
     ensures { PartsCover (λ p. p < pairs.rows.width * 2 ^ pairs.rows.digits) (blocks_of pairs.squares.cut.len pairs.squares.stride pairs.squares.cut.step)
         (IsPlaceOfPairs pairs.rows.digits pairs.rows.width pairs.squares.cut.step) }

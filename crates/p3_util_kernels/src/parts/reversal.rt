@@ -10,33 +10,35 @@ use crate::places::Places;
 use crate::reverse::{RowDigits, reverse_index_bits, reverse_rows};
 use crate::transpose::TILE_SIDE;
 
-/// A pass over a list, which is made in parts.
+/// A pass over the list, which is made in parts.
 #[derive(Clone, Copy)]
 pub(crate) enum Phase {
-    /// The reversal of all rows is one part.
+    /// All rows are reversed, as one part.
     Rows(RowDigits),
-    /// The exchange of all pairs of rows, by blocks.
+    /// All pairs of rows are exchanged, by blocks.
     Pairs(RowPairs),
-    /// The transpose of squares, by blocks.
+    /// Squares are transposed, by blocks.
     Blocks(Squares),
 }
 
 /// How a reversal of rows is cut.
 #[derive(Clone, Copy)]
 pub(crate) enum ReversalPlan {
-    /// The list is empty: there is nothing to do.
+    /// The list is empty, so there is nothing to do.
     Nothing,
     /// A short list, as one part.
     OnePart(RowDigits),
-    /// A long list of rows of several items, by blocks of its pairs of rows.
+    /// A long list of rows of several items: blocks of its pairs of rows.
     ByPairs(RowPairs),
-    /// A long list of rows of one item: the pairs of its chunks, its squares, and the same pairs once more.
+    /// A long list of rows of one item: the pairs of its chunks, then its squares, and then the
+    /// same pairs again.
     Long(RowPairs, Squares),
 }
 
 impl ReversalPlan {
-    /// Cuts the reversal of the rows of `row_width` items of a list of `len` items. Up to `one_part` items it is one part,
-    /// and beyond that each side of a square, of pairs of rows too, is cut into at most `parts` parts. 0 parts are 1.
+    /// Cuts the reversal of the rows of `row_width` items of a list of `len` items. Up to
+    /// `one_part` items it is one part. Beyond that, each side of a square is cut into at most
+    /// `parts` parts, and so are the pairs of rows. If `parts` is 0, it counts as 1.
     pub(crate) fn new(len: usize, row_width: usize, parts: usize, one_part: usize) -> ReversalPlan
         requires { FitsRows len row_width }
         ensures plan { IsReversalPlan len row_width result }
@@ -57,7 +59,8 @@ impl ReversalPlan {
         }
     }
 
-    /// Phase `number`, or `None` after the last one. The phases are done in the order of their numbers.
+    /// Phase `number`, or `None` after the last one. Phases must be done in the order of their
+    /// numbers.
     pub(crate) fn phase(self, number: usize) -> Option<Phase>
         ensures { result ≡ slice_get (phases_of self) number }
     {
@@ -71,7 +74,7 @@ impl ReversalPlan {
     }
 }
 
-/// The pairs of the chunks of 2^`digits` items, and their squares.
+/// The pairs of the chunks of a list of 2^`digits` items, and its squares.
 fn chunks_and_squares(digits: usize, parts: usize) -> (RowPairs, Squares)
     requires { digits < 64 }
     ensures width { result.0.rows.width ≡ 2 ^ (digits - digits / 2) }

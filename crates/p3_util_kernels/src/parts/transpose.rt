@@ -8,7 +8,8 @@ use crate::parts::Cut;
 use crate::places::{Cells, Source};
 use crate::transpose::{ENOUGH_LEVELS, Matrix, Strips, TILE_SIDE, put_split};
 
-/// A transpose of a matrix of `height` rows of `width` items that is cut into regions: by its rows or by its columns.
+/// The transpose of a matrix of `height` rows of `width` items, cut into regions along its rows or
+/// along its columns.
 #[derive(Clone, Copy, Debug)]
 pub(crate) struct TransposePlan {
     width: usize,
@@ -21,8 +22,9 @@ pub(crate) struct TransposePlan {
 }
 
 impl TransposePlan {
-    /// Cuts the longer side into at most `parts` parts, at multiples of the side of a tile, or always the columns where the
-    /// rows may not be cut. 0 parts are 1. Of a matrix with no item there is no region.
+    /// Cuts the longer side into at most `parts` parts, at multiples of the side of a tile. If the
+    /// rows may not be cut, the columns are always cut. If `parts` is 0, it counts as 1. A matrix
+    /// without items has no region.
     pub(crate) fn new(
         width: usize,
         height: usize,
@@ -62,8 +64,8 @@ impl TransposePlan {
         self.cut.count()
     }
 
-    /// The number of items of region `number`. Where the columns are cut, these are put at following cells, behind those of
-    /// the regions before it.
+    /// The number of items of region `number`. If the columns are cut, these items are put at
+    /// consecutive cells, right after those of the regions before it.
     pub(crate) fn items(self, number: usize) -> usize
         requires { number < parts_in self.cut.len self.cut.step }
         ensures { result ≡ items_of (part_of_matrix self.width self.height self.by_rows self.cut.len self.cut.step number) }
@@ -76,7 +78,8 @@ impl TransposePlan {
         region.rows() * region.cols()
     }
 
-    /// Puts the transpose of region `number` of `source` into cells for that of the whole matrix, by `strips`.
+    /// Puts the transpose of region `number` of `source` into `out`, which has cells for the
+    /// transpose of the whole matrix, with the given strips.
     pub(crate) fn put<C: Cells, R: Source<Item = C::Item> + Copy>(
         self,
         out: C,

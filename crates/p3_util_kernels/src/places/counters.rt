@@ -1,17 +1,18 @@
-//! Counters over holders, which see each exchange and each write.
+//! Counters around holders, which count each exchange and each put.
 //!
-//! A counter is a holder around another one, as [`places`](crate::places) explains: its count rises by the steps that the
-//! holder inside makes. The fields are there for the `_on` calls, which lend that holder to a kernel. A kernel is generic over
-//! its holder, so it cannot name a field.
+//! A counter is itself a holder, as [`places`](crate::places) explains. Its count rises by the
+//! number of steps that the holder inside makes. The fields are visible in this crate because the
+//! `_on` calls lend the holder inside to a kernel. A kernel is generic over its holder, so it
+//! cannot name the fields.
 
 ghost use Rattle.std.specs.Prelude.{◌≡◌, ℕ, ◌+◌, ◌-◌, ◌*◌, ◌^◌, ◌<◌, ◌≤◌, ◌⊎◌, List, length, swap, slice_set};
 ghost use Rattle.std.proofs.Common.{rules};
-ghost use Rattle.p3_util_kernels.specs.Exchanged.{RunsExchanged};
+ghost use Rattle.p3_util_kernels.specs.Exchanged.{BlocksExchanged, RunsExchanged};
 ghost use Rattle.p3_util_kernels.specs.Steps.{counted};
 
 use crate::places::{Cells, Places};
 
-/// A holder of places that counts its exchanges. The count stays at `u128::MAX` once it is there.
+/// A holder of places that counts its exchanges. The count stops at `u128::MAX`.
 #[derive(Debug, Drop)]
 pub struct Swaps<S> {
     pub(crate) holder: S,
@@ -20,7 +21,7 @@ pub struct Swaps<S> {
 }
 
 impl<S: Places> Swaps<S> {
-    /// Counts the exchanges in `holder` from 0.
+    /// A counter around `holder` that starts at 0.
     pub fn new(holder: S) -> Self
         ensures holder { result.holder ≡ holder }
         ensures count { result.count ≡ 0 }
@@ -29,14 +30,14 @@ impl<S: Places> Swaps<S> {
         Swaps::resumed(holder, 0)
     }
 
-    /// Counts the exchanges in `holder` from `count` on.
+    /// A counter around `holder` that starts at `count`.
     #[inline(always)]
     pub(crate) fn resumed(holder: S, count: u128) -> Self
         ensures holder { result.holder ≡ holder }
         ensures count { result.count ≡ count }
         ensures len_fits { length (S.items holder) < 2 ^ 64 }
     {
-        // Called so that the proof knows that the length fits a usize.
+        // `len` is called for its contract, which tells the proof that the length fits a usize.
         let _ = holder.len();
         Swaps { holder, count }
     }
@@ -48,7 +49,8 @@ impl<S: Places> Swaps<S> {
         self.holder.len()
     }
 
-    /// Exchanges the items at places `i` and `j`, by one exchange, and counts it.
+    /// Exchanges the items at places `i` and `j` by one exchange of the holder inside, and counts
+    /// it.
     #[inline(always)]
     pub fn swap(&mut self, i: usize, j: usize)
         requires first { i < length (S.items self.old.holder) }
@@ -61,14 +63,14 @@ impl<S: Places> Swaps<S> {
         self.count = self.count.saturating_add(1);
     }
 
-    /// How many exchanges were made, at most `u128::MAX`.
+    /// The number of exchanges so far, at most `u128::MAX`.
     pub fn swaps(&self) -> u128
         ensures { result ≡ self.now.count }
     {
         self.count
     }
 
-    /// The holder.
+    /// Returns the holder inside, without the count.
     pub fn into_inner(self) -> S
         ensures { result ≡ self.holder }
     {
@@ -77,7 +79,7 @@ impl<S: Places> Swaps<S> {
     }
 }
 
-/// A holder of cells that counts its writes. The count stays at `u128::MAX` once it is there.
+/// A holder of cells that counts its writes. The count stops at `u128::MAX`.
 #[derive(Debug, Drop)]
 pub struct Writes<C> {
     pub(crate) holder: C,
@@ -86,7 +88,7 @@ pub struct Writes<C> {
 }
 
 impl<C: Cells> Writes<C> {
-    /// Counts the writes to `holder` from 0.
+    /// A counter around `holder` that starts at 0.
     pub fn new(holder: C) -> Self
         ensures holder { result.holder ≡ holder }
         ensures count { result.count ≡ 0 }
@@ -95,14 +97,14 @@ impl<C: Cells> Writes<C> {
         Writes::resumed(holder, 0)
     }
 
-    /// Counts the writes to `holder` from `count` on.
+    /// A counter around `holder` that starts at `count`.
     #[inline(always)]
     pub(crate) fn resumed(holder: C, count: u128) -> Self
         ensures holder { result.holder ≡ holder }
         ensures count { result.count ≡ count }
         ensures len_fits { length (C.items holder) < 2 ^ 64 }
     {
-        // Called so that the proof knows that the length fits a usize.
+        // `len` is called for its contract, which tells the proof that the length fits a usize.
         let _ = holder.len();
         Writes { holder, count }
     }
@@ -114,7 +116,7 @@ impl<C: Cells> Writes<C> {
         self.holder.len()
     }
 
-    /// Puts `v` at place `i`, by one write, and counts it.
+    /// Writes `v` at place `i` by one put of the holder inside, and counts it.
     #[inline(always)]
     pub fn put(&mut self, i: usize, v: C::Item)
         requires { i < length (C.items self.old.holder) }
@@ -126,14 +128,14 @@ impl<C: Cells> Writes<C> {
         self.count = self.count.saturating_add(1);
     }
 
-    /// How many writes were made, at most `u128::MAX`.
+    /// The number of writes so far, at most `u128::MAX`.
     pub fn writes(&self) -> u128
         ensures { result ≡ self.now.count }
     {
         self.count
     }
 
-    /// The holder.
+    /// Returns the holder inside, without the count.
     pub fn into_inner(self) -> C
         ensures { result ≡ self.holder }
     {
@@ -142,7 +144,7 @@ impl<C: Cells> Writes<C> {
     }
 }
 
-/// Each exchange is made by the holder inside, and is counted.
+/// The holder inside makes each exchange, and the counter counts it.
 impl<S: Places> Places for Swaps<S> {
     type Item = S::Item;
 
@@ -171,12 +173,23 @@ impl<S: Places> Places for Swaps<S> {
         self.count = self.count.saturating_add(len as u128);
     }
 
+    #[inline(always)]
+    fn exchange_blocks(&mut self, i: usize, j: usize, stride: usize) {
+        self.holder.exchange_blocks(i, j, stride);
+        self.count = self.count.saturating_add(16);
+    }
+
+    #[inline(always)]
+    fn by_blocks(&self) -> bool {
+        self.holder.by_blocks()
+    }
+
     ghost same_holder_refl = { Prim.search rules };
 
     ghost same_holder_trans = { Prim.search rules };
 }
 
-/// Each put is made by the holder inside, and is counted.
+/// The holder inside makes each put, and the counter counts it.
 impl<C: Cells> Cells for Writes<C> {
     type Item = C::Item;
 

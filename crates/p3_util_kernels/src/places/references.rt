@@ -1,11 +1,12 @@
-//! A reference to a holder is a holder too: what is done to the reference is done to the holder behind it.
+//! References to holders. Such a reference is a holder too: whatever is done to the reference is
+//! done to the holder behind it.
 
 ghost use Rattle.std.specs.Prelude.{◌≡◌};
 ghost use Rattle.std.proofs.Common.{rules};
 
 use crate::places::{Cells, Places, Source};
 
-/// The exchanges are those of the holder behind the reference.
+/// The holder behind the reference makes the exchanges.
 impl<S: Places> Places for &mut S {
     type Item = S::Item;
 
@@ -32,12 +33,22 @@ impl<S: Places> Places for &mut S {
         S::exchange_runs(self, i, j, len);
     }
 
+    #[inline(always)]
+    fn exchange_blocks(&mut self, i: usize, j: usize, stride: usize) {
+        S::exchange_blocks(self, i, j, stride);
+    }
+
+    #[inline(always)]
+    fn by_blocks(&self) -> bool {
+        S::by_blocks(self)
+    }
+
     ghost same_holder_refl = { Prim.search rules };
 
     ghost same_holder_trans = { Prim.search rules };
 }
 
-/// The puts are those of the holder behind the reference.
+/// The holder behind the reference makes the puts.
 impl<C: Cells> Cells for &mut C {
     type Item = C::Item;
 
@@ -59,7 +70,7 @@ impl<C: Cells> Cells for &mut C {
     ghost same_holder_trans = { Prim.search rules };
 }
 
-/// The items are those of the source behind the reference.
+/// The items are read from the source behind the reference.
 impl<R: Source> Source for &R {
     type Item = R::Item;
 

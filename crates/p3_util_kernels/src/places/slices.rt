@@ -1,4 +1,4 @@
-//! Slices as holders: their places, their cells and what they are read from.
+//! The holders of slices: one to exchange items, one to write items and one to read items.
 
 ghost use Rattle.std.specs.Prelude.{◌≡◌, ℕ, ◌+◌, ◌-◌, ◌*◌, ◌<◌, ◌≤◌, ◌⊎◌, ◌++◌, length, swap};
 ghost use Rattle.std.proofs.Common.{rules};
@@ -6,15 +6,15 @@ ghost use Rattle.p3_util_kernels.specs.Exchanged.{RunsExchanged};
 
 use crate::places::{Cells, Places, Source};
 
-/// The places of a mutable slice. What it holds is in the slice when the borrow ends.
+/// The places of a mutable slice. All changes are made in the slice itself.
 #[derive(Debug, Drop)]
 pub struct SlicePlaces<'a, F> {
-    /// Where items are exchanged.
+    /// The slice whose items are exchanged.
     pub items: &'a mut [F],
 }
 
 impl<'a, F> SlicePlaces<'a, F> {
-    /// The places of `items`, in order.
+    /// A holder of the items of `items`. Place `i` is index `i` of the slice.
     pub fn new(items: &'a mut [F]) -> Self
         ensures { result.items ≡ items.entry }
     {
@@ -53,7 +53,7 @@ impl<'a, F> Places for SlicePlaces<'a, F> {
     ghost same_holder_trans = { Prim.search rules };
 }
 
-/// Exchanges the items at places `i` and `j`, with no test of their order.
+/// Exchanges the items at places `i` and `j` without comparing `i` and `j`.
 #[inline(always)]
 fn swap_ordered<F>(items: &mut [F], i: usize, j: usize)
     requires order { i < j }
@@ -77,15 +77,15 @@ fn swap_runs<F>(items: &mut [F], i: usize, j: usize, len: usize)
     front[low..low + len].swap_with_slice(&mut back[..len]);
 }
 
-/// The cells of a mutable slice. What is put is in the slice when the borrow ends.
+/// The cells of a mutable slice. All writes are made in the slice itself.
 #[derive(Debug, Drop)]
 pub struct SliceCells<'a, T> {
-    /// Where items are put.
+    /// The slice that is written.
     pub values: &'a mut [T],
 }
 
 impl<'a, T: Copy> SliceCells<'a, T> {
-    /// The cells of `values`, in order.
+    /// A holder of the items of `values`. Cell `i` is index `i` of the slice.
     pub fn new(values: &'a mut [T]) -> Self
         ensures { result.values ≡ values.entry }
     {
@@ -114,15 +114,15 @@ impl<'a, T: Copy> Cells for SliceCells<'a, T> {
     ghost same_holder_trans = { Prim.search rules };
 }
 
-/// The items of a slice, to be read.
+/// A slice as a source: its items are only read.
 #[derive(Clone, Copy, Debug)]
 pub struct SliceSource<'a, T> {
-    /// Where items are read.
+    /// The slice that is read.
     pub slice: &'a [T],
 }
 
 impl<'a, T: Copy> SliceSource<'a, T> {
-    /// The items of `slice`, in order.
+    /// A source of the items of `slice`, in order.
     pub fn new(slice: &'a [T]) -> Self
         ensures { result.slice ≡ slice.entry }
     {

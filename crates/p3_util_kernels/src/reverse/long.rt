@@ -1,9 +1,12 @@
-//! Bit reversal of long lists: chunks, squares, and chunks again.
+//! Bit reversal of long lists in three passes: chunks, squares, and chunks again.
 //!
-//! With `2^k` items, `half = k / 2` and `c = k - half`, the list is `2^half` rows of `2^c` items, and `c` is `half` or
-//! `half + 1`. So the list is one square, or two squares side by side, and the index of an item gives its row, its square and
-//! its column. The rows are the chunks. The first and the last pass reverse the order of the chunks, and so the bits of the
-//! row. The pass between them transposes each square, and so exchanges row and column.
+//! With `2^k` items, `half = k / 2` and `c = k - half`, the list is `2^half` rows of `2^c` items.
+//! These rows are the chunks. Since `c` is `half` or `half + 1`, the list is one square or two
+//! squares side by side. So the index of an item consists of its row, its square and its column.
+//!
+//! The first pass reverses the order of the chunks, and with it the bits of the row. The second
+//! pass transposes each square, which exchanges row and column. The third pass is the first one
+//! again.
 
 ghost use Rattle.std.specs.Prelude.{◌≡◌, ℕ, ◌+◌, ◌-◌, ◌*◌, ◌/◌, ◌^◌, ◌<◌, ◌≤◌, length};
 ghost use Rattle.p3_util_kernels.specs.Levels.{clog};
@@ -17,10 +20,12 @@ use crate::places::{Places, Swaps};
 use crate::reverse::rows::reverse_chunks;
 use crate::transpose::transpose_square;
 
-/// Reverses `m` by index bits, as [`reverse_slice_index_bits`](crate::reverse::reverse_slice_index_bits) does, by chunks
-/// and squares. It makes at most 3n/2 swaps at length n: more than
-/// [`reverse_index_bits_short`](crate::reverse::reverse_index_bits_short), and in an order that suits lists beyond the caches.
-/// The length is a power of two, which std's `is_power_of_two` tests, and at least 4.
+/// Reverses `m` by index bits, as
+/// [`reverse_slice_index_bits`](crate::reverse::reverse_slice_index_bits) does, by chunks and
+/// squares. A list of n items takes at most 3n/2 swaps. That is more than
+/// [`reverse_index_bits_short`](crate::reverse::reverse_index_bits_short) makes, but their order
+/// suits lists that do not fit in a cache. The length must be a power of two, which std's
+/// `is_power_of_two` checks, and at least 4.
 #[tactic(auto, using(crate::proofs::SwapCountsLemmas::long_bound))]
 pub fn reverse_index_bits_long<S: Places>(m: &mut Swaps<S>)
     requires fits { IsReversible (length (S.items m.old.holder)) }
@@ -48,8 +53,9 @@ pub(crate) fn reverse_long<M: Places>(m: M) -> M
     reverse_chunks(m, half, bits - half)
 }
 
-/// Transposes each of the squares of `2^log_size` rows and columns that lie side by side, where `m` is `2^log_size` rows of
-/// `2^log_stride` items. It makes at most n/2 swaps at length n.
+/// Transposes each of the squares that lie side by side in `m`. Each has `2^log_size` rows and
+/// columns, and `m` is `2^log_size` rows of `2^log_stride` items. A list of n items takes at most
+/// n/2 swaps.
 fn transpose_squares<M: Places>(m: M, log_stride: usize, log_size: usize) -> M
     requires within { log_size ≤ log_stride }
     requires whole { length (M.items m) ≡ 2 ^ (log_size + log_stride) }

@@ -1,16 +1,20 @@
 //! The pairs of rows that a bit reversal exchanges.
 //!
-//! With 2^k rows and `half = k / 2`, the index of a row has three parts: `half` high digits, whose reverse is `x`, one digit
-//! `middle` where k is odd, and `half` low digits `y`. Its reverse has the reverse of `y`, the same middle digit and `x`:
+//! With 2^k rows and `half = k / 2`, the index of a row has three parts: `half` high digits, whose
+//! reverse is `x`; one digit `middle` if k is odd; and `half` low digits `y`. The reversed index
+//! has the reverse of `y`, the same middle digit and `x`:
 //!
 //! ```text
 //!     index      rev(x)  middle  y         k = 5, x = 01, middle = 1, y = 11:   10 1 11
 //!     reversed   rev(y)  middle  x                                              11 1 01
 //! ```
 //!
-//! So for each middle digit and for all `x` below `y`, the row of `x` and `y` is exchanged with the row of `y` and `x`. A
-//! *line* is all pairs that share the middle digit and `y`. The pairs of two neighbouring lines are exchanged in one loop over
-//! `x`: the rows of both lines lie side by side, so that they are in the cache at once where rows are short.
+//! So for each middle digit and all `x < y`, the row of `x` and `y` is exchanged with the row of
+//! `y` and `x`. No other pairs of rows are exchanged, and no index is tested.
+//!
+//! A *line* is all pairs that have the same middle digit and the same `y`. The pairs of two
+//! neighbouring lines are exchanged in one loop over `x`. Their rows lie side by side, so if rows
+//! are short, they are in the cache at the same time.
 
 ghost use Rattle.std.specs.Prelude.{◌≡◌, ℕ, ◌+◌, ◌-◌, ◌*◌, ◌/◌, ◌%◌, ◌^◌, ◌<◌, ◌≤◌, ◌⊎◌, length, min};
 ghost use Rattle.p3_util_kernels.specs.Crossing.{AreLinePairs, HoldsRows, IsCrossed, lines_of, pairs_in};
@@ -23,15 +27,16 @@ use crate::bits::{log2_strict_usize, pow2, reverse_bits_len};
 use crate::places::Places;
 use crate::transpose::Region;
 
-/// Each number below 64 with its six binary digits in reversed order. One read of this table is faster than the reversal of so
-/// few digits by halves.
+/// Entry `i` has the six binary digits of `i` in reversed order. Reading this table once is faster
+/// than reversing so few digits by halves.
 static REVERSED_SIX: [u8; 64] = [
     0, 32, 16, 48, 8, 40, 24, 56, 4, 36, 20, 52, 12, 44, 28, 60, 2, 34, 18, 50, 10, 42, 26, 58, 6,
     38, 22, 54, 14, 46, 30, 62, 1, 33, 17, 49, 9, 41, 25, 57, 5, 37, 21, 53, 13, 45, 29, 61, 3, 35,
     19, 51, 11, 43, 27, 59, 7, 39, 23, 55, 15, 47, 31, 63,
 ];
 
-/// Rows of `width` items, whose indices have `digits` binary digits: there are `2^digits` of them, or none.
+/// Rows of `width` items each, whose indices have `digits` binary digits: there are `2^digits`
+/// rows, or none.
 #[derive(Clone, Copy)]
 pub(crate) struct RowDigits {
     pub width: usize,
@@ -54,7 +59,8 @@ impl RowDigits {
         RowDigits { width, digits }
     }
 
-    /// The rows of a list of `2^lb_num_chunks` chunks of `2^lb_chunk_size` items: each chunk is a row.
+    /// The rows of a list of `2^lb_num_chunks` chunks of `2^lb_chunk_size` items. Each chunk is a
+    /// row.
     #[inline(always)]
     pub(crate) fn chunks(lb_num_chunks: usize, lb_chunk_size: usize) -> Self
         requires { lb_chunk_size < 64 }
@@ -67,13 +73,14 @@ impl RowDigits {
         }
     }
 
-    /// All pairs of rows. Each smaller number is below `usize::MAX`, and the compiler leaves out the test for that.
+    /// All pairs of rows. `row_end` is `usize::MAX`, which no smaller number reaches, so the
+    /// compiler can leave out the comparison with it.
     #[inline(always)]
     pub(crate) fn all_pairs(self) -> Region
         requires { self.digits < 64 }
         ensures { result ≡ record { row_start = 0; row_end = 2 ^ 64 - 1; col_start = 0; col_end = lines_of self.digits } }
     {
-        // One row or two have one line for each middle digit, and no pair of lines.
+        // One or two rows have one line for each middle digit, and so no pair of lines.
         let line_pairs = pow2(self.digits % 2) * (pow2(self.digits / 2) / 2);
         Region {
             row_start: 0,
@@ -84,8 +91,8 @@ impl RowDigits {
     }
 }
 
-/// Exchanges these pairs of rows: a column of `pairs` is a line, and a row is the smaller number of a pair. The lines go two by
-/// two.
+/// Exchanges these pairs of rows. A column of `pairs` is a line, and a row of it is the smaller
+/// number of a pair. Two lines are exchanged at a time.
 #[inline(always)]
 pub(crate) fn exchange_pairs<M: Places>(m: M, rows: RowDigits, pairs: Region) -> M
     requires lines { AreLinePairs rows.digits pairs }
@@ -100,7 +107,8 @@ pub(crate) fn exchange_pairs<M: Places>(m: M, rows: RowDigits, pairs: Region) ->
     m
 }
 
-/// Exchanges the pairs of rows of `line` and of the line after it whose smaller numbers are from `from` to below `to`.
+/// Exchanges the pairs of rows of `line` and of the next line whose smaller numbers are in
+/// `from..to`.
 #[tactic(auto, using(crate::proofs::CrossingLemmas::line_parts))]
 #[inline(always)]
 fn exchange_lines<M: Places>(m: M, rows: RowDigits, line: usize, from: usize, to: usize) -> M
@@ -117,7 +125,8 @@ fn exchange_lines<M: Places>(m: M, rows: RowDigits, line: usize, from: usize, to
 {
     let half = rows.digits / 2;
     let side = pow2(half);
-    // The shift is a division by `side`. Of `line / side * side` Rattle's compiler makes `line - y`, and a slower loop.
+    // The shift is a division by `side`. Rattle's compiler would turn `line / side * side` into
+    // `line - y`, which makes a slower loop.
     let first = (line >> half) * side;
     let y = line % side;
     let mut m = m;
@@ -132,7 +141,8 @@ fn exchange_lines<M: Places>(m: M, rows: RowDigits, line: usize, from: usize, to
     }
 }
 
-/// Exchanges the row of `x` and `y` with the row of `y` and `x`. `first` is the first line of the middle digit of both rows.
+/// Exchanges the row of `x` and `y` with the row of `y` and `x`. `first` is the first line with the
+/// middle digit of both rows.
 #[inline(always)]
 fn exchange_pair<M: Places>(m: M, rows: RowDigits, first: usize, x: usize, y: usize) -> M
     requires first { first % 2 ^ (rows.digits / 2) ≡ 0 }
@@ -149,7 +159,7 @@ fn exchange_pair<M: Places>(m: M, rows: RowDigits, first: usize, x: usize, y: us
     exchange_rows(m, rows.width, i, j)
 }
 
-/// Exchanges rows `i` and `j`. Where a row has several items, they are exchanged as two runs.
+/// Exchanges rows `i` and `j`. If a row has several items, the rows are exchanged as two runs.
 #[inline(always)]
 fn exchange_rows<M: Places>(m: M, row_width: usize, i: usize, j: usize) -> M
     requires apart { (i * row_width + row_width ≤ j * row_width) ⊎ (j * row_width + row_width ≤ i * row_width) }
@@ -168,7 +178,8 @@ fn exchange_rows<M: Places>(m: M, row_width: usize, i: usize, j: usize) -> M
     m
 }
 
-/// The row whose high digits are those of `x` in reversed order, and whose other digits are `low`.
+/// The index of the row whose high digits are those of `x` in reversed order and whose other digits
+/// are `low`.
 #[inline(always)]
 fn row_at(digits: usize, x: usize, low: usize) -> usize
     requires few { digits < 64 }
@@ -181,8 +192,8 @@ fn row_at(digits: usize, x: usize, low: usize) -> usize
     reverse_digits(x, half) * pow2(digits - half) + low
 }
 
-/// `x`, which has at most `digits` binary digits, with so many digits in reversed order: up to six are read from the table,
-/// and more are reversed by halves.
+/// Reverses `x`, which has at most `digits` binary digits. Up to six digits are read from the
+/// table, and more are reversed by halves.
 #[inline(always)]
 fn reverse_digits(x: usize, digits: usize) -> usize
     requires few { digits < 64 }

@@ -1,18 +1,23 @@
-//! The transpose of a block of 4 by 4 items in two stages, each of which exchanges one bit of the row number with the same
-//! bit of the column number. It is for callers who have such a block. No kernel uses it, since to make an array of 16 items
-//! one has to know that their bytes fit in memory, and nothing says so of the items of any source.
+//! The transpose of a block of 4 by 4 items in two stages. Each stage exchanges one bit of the row
+//! number with the same bit of the column number.
+//!
+//! It is for callers who have such a block, and no kernel uses it. To make an array of 16 items, a
+//! proof has to know that their bytes fit in memory, and nothing says that for the items of an
+//! arbitrary source.
 
 ghost use Rattle.std.specs.Prelude.{[], ◌∷◌};
 ghost use Rattle.p3_util_kernels.specs.Stages.{IsBlockTransposed, IsStageOne, IsStageTwo};
 
-/// The transpose of a block: the item in row r and column c comes from row c and column r.
+/// The transpose of a block: the item in row r and column c of the result comes from row c and
+/// column r.
 pub fn butterfly_4x4<T: Copy>(block: [[T; 4]; 4]) -> [[T; 4]; 4]
     ensures { IsBlockTransposed block result }
 {
     butterfly_stage2(butterfly_stage1(block))
 }
 
-/// Exchanges the lowest bit of the row number with that of the column number: each square of 2 by 2 items is transposed.
+/// Exchanges the lowest bit of the row number with the lowest bit of the column number. This
+/// transposes each of the four squares of 2 by 2 items.
 pub fn butterfly_stage1<T: Copy>(block: [[T; 4]; 4]) -> [[T; 4]; 4]
     ensures { IsStageOne block result }
 {
@@ -20,8 +25,8 @@ pub fn butterfly_stage1<T: Copy>(block: [[T; 4]; 4]) -> [[T; 4]; 4]
     stage1_of_rows(a, b, c, d)
 }
 
-/// Exchanges the higher bit of the row number with that of the column number: the upper right square of 2 by 2 items
-/// changes places with the lower left one.
+/// Exchanges the higher bit of the row number with the higher bit of the column number. This
+/// exchanges the upper right square of 2 by 2 items with the lower left one.
 pub fn butterfly_stage2<T: Copy>(block: [[T; 4]; 4]) -> [[T; 4]; 4]
     ensures { IsStageTwo block result }
 {
@@ -29,7 +34,7 @@ pub fn butterfly_stage2<T: Copy>(block: [[T; 4]; 4]) -> [[T; 4]; 4]
     stage2_of_rows(a, b, c, d)
 }
 
-/// The odd items of rows 0 and 2 are exchanged with the even items of rows 1 and 3.
+/// Exchanges the odd items of rows 0 and 2 with the even items of rows 1 and 3.
 fn stage1_of_rows<T: Copy>(a: [T; 4], b: [T; 4], c: [T; 4], d: [T; 4]) -> [[T; 4]; 4]
     ensures { IsStageOne (a ∷ b ∷ c ∷ d ∷ []) result }
 {
@@ -41,7 +46,7 @@ fn stage1_of_rows<T: Copy>(a: [T; 4], b: [T; 4], c: [T; 4], d: [T; 4]) -> [[T; 4
     ]
 }
 
-/// The low halves of rows 0 and 2 are joined, and their high halves; likewise those of rows 1 and 3.
+/// Joins the low halves of rows 0 and 2, and their high halves. The same is done with rows 1 and 3.
 fn stage2_of_rows<T: Copy>(a: [T; 4], b: [T; 4], c: [T; 4], d: [T; 4]) -> [[T; 4]; 4]
     ensures { IsStageTwo (a ∷ b ∷ c ∷ d ∷ []) result }
 {

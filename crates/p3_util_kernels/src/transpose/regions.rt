@@ -1,10 +1,10 @@
-//! A matrix that is read, its regions, and the parts that they are cut into.
+//! The matrix that is read, its regions, and the parts that a region is cut into.
 
 ghost use Rattle.std.specs.Prelude.{◌≡◌, ◌≤◌, ◌↔◌, IsTrue};
 ghost use Rattle.p3_util_kernels.specs.Halves.{IsCut};
 ghost use Rattle.p3_util_kernels.specs.Region.{LiesInMatrix, cols_of, rows_of};
 
-/// A matrix of `height` rows of `width` items, row after row in `source`.
+/// A matrix of `height` rows of `width` items. `source` has them row after row.
 #[derive(Clone, Copy)]
 pub(crate) struct Matrix<R> {
     pub source: R,
@@ -13,7 +13,7 @@ pub(crate) struct Matrix<R> {
 }
 
 impl<R> Matrix<R> {
-    /// Reads `source` as `height` rows of `width` items.
+    /// The matrix of `height` rows of `width` items that `source` holds.
     #[inline(always)]
     pub(crate) fn new(source: R, width: usize, height: usize) -> Self
         ensures source { result.source ≡ source }
@@ -41,7 +41,8 @@ impl<R> Matrix<R> {
     }
 }
 
-/// The rows from `row_start` to below `row_end` of a matrix, and of these the columns from `col_start` to below `col_end`.
+/// A part of a matrix: the rows `row_start..row_end`, and of these the columns
+/// `col_start..col_end`.
 #[derive(Clone, Copy, Debug, PartialEq, Eq)]
 pub struct Region {
     /// The first row.
@@ -55,8 +56,9 @@ pub struct Region {
 }
 
 impl Region {
-    /// Whether the region lies in a matrix of `height` rows of `width` items: its rows are in order and none is beyond the last
-    /// one, and so for its columns. It is the test for what the calls on a region ask of it.
+    /// Whether the region lies in a matrix of `height` rows of `width` items:
+    /// `row_start <= row_end <= height` and `col_start <= col_end <= width`. This is the test for
+    /// the condition that the calls on a region have.
     #[inline]
     #[must_use]
     pub const fn fits(self, width: usize, height: usize) -> bool
@@ -86,7 +88,7 @@ impl Region {
         self.col_end - self.col_start
     }
 
-    /// The rows of the region from `start` to below `end`, rows of the matrix.
+    /// The part of the region in the rows `start..end` of the matrix.
     #[inline(always)]
     pub(crate) fn with_rows(self, start: usize, end: usize) -> Region
         ensures { result ≡ record self { row_start = start; row_end = end } }
@@ -98,7 +100,7 @@ impl Region {
         }
     }
 
-    /// The columns of the region from `start` to below `end`, columns of the matrix.
+    /// The part of the region in the columns `start..end` of the matrix.
     #[inline(always)]
     pub(crate) fn with_cols(self, start: usize, end: usize) -> Region
         ensures { result ≡ record self { col_start = start; col_end = end } }
@@ -110,7 +112,8 @@ impl Region {
         }
     }
 
-    /// The rows of the region above row `middle` of the matrix, and those from it on.
+    /// Cuts the region above row `middle` of the matrix. Returns the rows above it, and the row
+    /// itself with the rows below.
     #[tactic(auto, using(crate::proofs::RegionLemmas::cuts))]
     #[inline(always)]
     pub(crate) fn cut_rows(self, middle: usize) -> (Region, Region)
@@ -124,7 +127,8 @@ impl Region {
         (upper, self.with_rows(middle, self.row_end))
     }
 
-    /// The columns of the region left of column `middle` of the matrix, and those from it on.
+    /// Cuts the region to the left of column `middle` of the matrix. Returns the columns to the
+    /// left of it, and the column itself with the columns to the right.
     #[tactic(auto, using(crate::proofs::RegionLemmas::cuts))]
     #[inline(always)]
     pub(crate) fn cut_cols(self, middle: usize) -> (Region, Region)
@@ -138,7 +142,8 @@ impl Region {
         (left, self.with_cols(middle, self.col_end))
     }
 
-    /// The same region, of which the compiler learns the numbers of rows and columns where it knows `rows` and `cols`.
+    /// Returns the same region. If the compiler knows `rows` and `cols`, it then knows the region's
+    /// numbers of rows and columns.
     #[inline(always)]
     pub(crate) fn with_known_sides(self, rows: usize, cols: usize) -> Region
         requires rows_in_order { self.row_start ≤ self.row_end }

@@ -1,11 +1,12 @@
-//! The transpose of a square of items in place.
+//! The transpose of a square of items in place, by quadrants.
 //!
-//! Row `a` and column `b` of the square are at place `base + a * stride + b` of the list. Each exchange is of two places
-//! that mirror one another across the diagonal, and each such pair is exchanged once.
+//! Row `a` and column `b` of the square are at place `base + a * stride + b` of the list. Each
+//! exchange is of two places that are mirror images of each other across the diagonal, and each
+//! such pair is exchanged once.
 
-ghost use Rattle.std.specs.Prelude.{◌≡◌, ℕ, ◌+◌, ◌-◌, ◌*◌, ◌/◌, ◌^◌, ◌<◌, ◌≤◌, ◌↔◌, IsTrue, length};
+ghost use Rattle.std.specs.Prelude.{◌≡◌, ℕ, ◌+◌, ◌-◌, ◌*◌, ◌/◌, ◌%◌, ◌^◌, ◌<◌, ◌≤◌, ◌↔◌, IsTrue, length};
 ghost use Rattle.p3_util_kernels.specs.Diagonal.{HoldsSquare, SwapsAcross};
-ghost use Rattle.p3_util_kernels.specs.Region.{items_of};
+ghost use Rattle.p3_util_kernels.specs.Region.{cols_of, items_of};
 ghost use Rattle.p3_util_kernels.specs.Square.{IsSquareTransposed};
 ghost use Rattle.p3_util_kernels.specs.Steps.{counted};
 
@@ -13,7 +14,8 @@ use crate::bits::pow2;
 use crate::places::{Places, Swaps};
 use crate::transpose::regions::Region;
 
-/// The greatest numbers of rows and columns of a region that is exchanged item by item.
+/// The greatest numbers of rows and columns of a region that is exchanged row by row instead of
+/// being cut.
 const LEAF_ROWS: usize = 16;
 
 const LEAF_COLS: usize = 8;
@@ -25,9 +27,10 @@ pub(crate) struct Square {
     pub stride: usize,
 }
 
-/// Whether a list of `len` items holds the square of `s = 2^log_size` rows and columns whose first place is `base` and whose
-/// rows begin `2^log_stride` places apart: no row reaches into the next one, and the last place, a whole number that does not
-/// wrap, lies in the list. It is the test for the condition of [`transpose_square_on`].
+/// Whether a list of `len` items holds the square of `s = 2^log_size` rows and columns that begins
+/// at place `base` and whose rows begin `2^log_stride` places apart. No row may reach into the next
+/// one, and the last place of the square must lie in the list. The place is computed without
+/// wrapping. This is the test for the conditions of [`transpose_square_on`].
 #[inline]
 #[must_use]
 pub const fn fits_square(len: usize, base: usize, log_stride: usize, log_size: usize) -> bool
@@ -37,7 +40,8 @@ pub const fn fits_square(len: usize, base: usize, log_stride: usize, log_size: u
     if log_stride >= 64 || log_size > log_stride {
         return false;
     }
-    // The last place is `last` rows below the first, and as many columns to its right.
+    // The last place of the square is `last` rows below its first place and `last` columns to the
+    // right of it.
     let last = pow2(log_size) - 1;
     match last.checked_mul(pow2(log_stride) + 1) {
         Some(distance) => distance < len.saturating_sub(base),
@@ -45,10 +49,13 @@ pub const fn fits_square(len: usize, base: usize, log_stride: usize, log_size: u
     }
 }
 
-/// Transposes in place the square of `s = 2^log_size` rows and columns whose first place is `base` and whose rows begin
-/// `2^log_stride` places apart, by `s * (s - 1) / 2` exchanges. All other places stay. `log_size` is at most `log_stride` and
-/// that is below 64, so that no row reaches into the next one, and the last place of the square,
-/// `base + (s - 1) * 2^log_stride + s - 1`, lies in the list. [`fits_square`] tests all of this.
+/// Transposes in place the square of `s = 2^log_size` rows and columns that begins at place `base`
+/// and whose rows begin `2^log_stride` places apart, by `s * (s - 1) / 2` exchanges. All other
+/// places stay.
+///
+/// `log_size` must be at most `log_stride`, so that no row reaches into the next one, and
+/// `log_stride` must be below 64. The list must hold the last place of the square,
+/// `base + (s - 1) * 2^log_stride + s - 1`. [`fits_square`] checks all of this.
 pub fn transpose_square_on<S: Places>(
     m: &mut Swaps<S>,
     base: usize,
@@ -88,7 +95,8 @@ pub(crate) fn transpose_square<M: Places>(
     transpose_diagonal(m, square, 0, pow2(log_size))
 }
 
-/// Transposes the `size` rows and columns from row and column `start` on, by quadrants.
+/// Transposes the part of the square that has the `size` rows and columns from `start` on, by
+/// quadrants.
 pub(crate) fn transpose_diagonal<M: Places>(m: M, square: Square, start: usize, size: usize) -> M
     requires within { start + size ≤ square.stride }
     requires ready { HoldsSquare square.base square.stride (start + size - 1) (M.items m) }
@@ -111,8 +119,9 @@ pub(crate) fn transpose_diagonal<M: Places>(m: M, square: Square, start: usize, 
     transpose_diagonal(m, square, start + half, size - half)
 }
 
-/// Exchanges a region above the diagonal with its mirror image below. A large region is halved: its rows are where they are
-/// more than twice as many as its columns, and else its columns are.
+/// Exchanges a region above the diagonal with its mirror image below. A large region is cut in
+/// half: between two rows if it is more than about twice as high as wide, and otherwise between two
+/// columns.
 pub(crate) fn exchange_region<M: Places>(m: M, square: Square, region: Region) -> M
     requires rows_in_order { region.row_start ≤ region.row_end }
     requires cols_in_order { region.col_start ≤ region.col_end }
@@ -124,7 +133,7 @@ pub(crate) fn exchange_region<M: Places>(m: M, square: Square, region: Region) -
 {
     let (rows, cols) = (region.rows(), region.cols());
     if rows <= LEAF_ROWS && cols == LEAF_COLS {
-        // The compiler knows how many columns most leaves have.
+        // Most leaves have `LEAF_COLS` columns, and here the compiler knows the number.
         exchange_leaf(m, square, region.with_known_sides(rows, LEAF_COLS))
     } else if rows <= LEAF_ROWS && cols < LEAF_COLS {
         exchange_leaf(m, square, region)
@@ -139,7 +148,8 @@ pub(crate) fn exchange_region<M: Places>(m: M, square: Square, region: Region) -
     }
 }
 
-/// As [`exchange_region`], row after row.
+/// Does the same as [`exchange_region`], row after row, or by blocks if that is faster for the
+/// holder.
 #[inline(always)]
 fn exchange_leaf<M: Places>(m: M, square: Square, region: Region) -> M
     requires rows_in_order { region.row_start ≤ region.row_end }
@@ -151,13 +161,42 @@ fn exchange_leaf<M: Places>(m: M, square: Square, region: Region) -> M
     ensures holder { M.same_holder (items_of region) m result }
 {
     let mut m = m;
-    for row in region.row_start..region.row_end {
-        m = exchange_row(m, square, row, region);
+    let mut row = region.row_start;
+    while row < region.row_end {
+        if m.by_blocks() && region.cols() % 4 == 0 && region.row_end - row >= 4 {
+            m = exchange_block_row(m, square, row, region);
+            row += 4;
+        } else {
+            m = exchange_row(m, square, row, region);
+            row += 1;
+        }
     }
     m
 }
 
-/// Exchanges row `row` of the columns of `region`, which are right of the diagonal, with its mirror image.
+/// Exchanges the items of the four rows from `row` on in the columns of `region`, which are to the
+/// right of the diagonal, with their mirror images, by blocks of 4 by 4 items.
+#[inline(always)]
+fn exchange_block_row<M: Places>(m: M, square: Square, row: usize, region: Region) -> M
+    requires cols_in_order { region.col_start ≤ region.col_end }
+    requires whole_blocks { cols_of region % 4 ≡ 0 }
+    requires above { row + 4 ≤ region.col_start }
+    requires within { region.col_end ≤ square.stride }
+    requires ready { HoldsSquare square.base square.stride (region.col_end - 1) (M.items m) }
+    ensures swapped { SwapsAcross square.base square.stride (record region { row_start = row; row_end = row + 4 }) (M.items m) (M.items result) }
+    ensures holder { M.same_holder (4 * cols_of region) m result }
+{
+    let Square { base, stride } = square;
+    let mut m = m;
+    for k in 0..region.cols() / 4 {
+        let col = region.col_start + 4 * k;
+        m.exchange_blocks(base + row * stride + col, base + col * stride + row, stride);
+    }
+    m
+}
+
+/// Exchanges the items of row `row` in the columns of `region`, which are to the right of the
+/// diagonal, with their mirror images.
 #[inline(always)]
 fn exchange_row<M: Places>(m: M, square: Square, row: usize, region: Region) -> M
     requires cols_in_order { region.col_start ≤ region.col_end }

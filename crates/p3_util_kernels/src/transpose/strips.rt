@@ -1,21 +1,30 @@
-//! How a region is put, strip by strip, and each item by one write.
+//! How the transpose of a region is put, strip by strip, with one write for each item.
 //!
-//! - What is in row y and column x of the matrix, at `y * width + x` of its source, belongs in the cell `x * height + y`.
+//! - The item in row y and column x of the matrix is at `y * width + x` of its source. It is put at
+//!   cell `x * height + y`.
 //! - A *region* is some neighbouring rows of the matrix, and of these some neighbouring columns.
-//! - A region is cut into *strips*, each of some of its rows. The strips are put from top to bottom, most of them column after
-//!   column.
-//! - A *tile* is 16 columns of a strip of 16 rows. A *block* is 4 by 4 items of a tile, or one of its rows.
+//! - A region is cut into *strips*, each of which is some of its rows. The strips are put from top
+//!   to bottom, most of them column after column.
+//! - A *tile* is 16 columns of a strip of 16 rows. A *block* is 4 by 4 items of a tile or of a
+//!   strip that is put by blocks, or one row of a tile.
 //!
-//! Each function is given the holder by value and gives it back, so that it stays in registers in the loops.
+//! [`Strips`] lists the kinds of strips, and [`Strips::of`] chooses one by the shape of the matrix.
+//! That choice only changes the order of the writes: the contracts of the functions below are the
+//! same for every kind. To add a kind, add a variant, say in `rows` how many rows it has, and
+//! handle it in `put_strip`.
+//!
+//! Each function takes the holder by value and returns it, so that it stays in registers in the
+//! loops.
 
-ghost use Rattle.std.specs.Prelude.{◌≡◌, ◌+◌, ◌-◌, ◌*◌, ◌/◌, ◌<◌};
+ghost use Rattle.std.specs.Prelude.{◌≡◌, ◌+◌, ◌-◌, ◌*◌, ◌/◌, ◌<◌, ◌≤◌};
 ghost use Rattle.p3_util_kernels.specs.Columns.{HoldsColumn, IsColumnPut};
-ghost use Rattle.p3_util_kernels.specs.Region.{IsReady, IsRegionTransposed, items_of};
+ghost use Rattle.p3_util_kernels.specs.Region.{IsReady, IsRegionTransposed, cols_of, items_of, rows_of};
 
-use crate::places::{Cells, Source};
+use crate::places::{Cells, Four, Source};
 use crate::transpose::regions::{Matrix, Region};
 
-/// The greatest number of items of a small matrix, which is put by tiles where 16 divides its width.
+/// The greatest number of items of a small matrix. A small matrix is put by tiles if 16 divides its
+/// width.
 const SMALL_MATRIX: usize = 1024;
 
 /// The side of a tile.
@@ -24,34 +33,41 @@ pub(crate) const TILE_SIDE: usize = 16;
 /// The side of a block.
 const BLOCK_SIDE: usize = 4;
 
-/// The greatest number of rows of a high strip.
+/// The greatest number of rows of a high strip, and of a strip that is put by blocks.
 const STRIP_ROWS: usize = 128;
 
-/// How many items of a column are put in a loop of known length.
+/// The number of items of a column that are put in one loop of known length.
 const COLUMN_ITEMS: usize = 8;
 
-/// What a region is cut into, from top to bottom.
+/// The kinds of strips that a region is cut into, from top to bottom.
 #[derive(Clone, Copy)]
 pub(crate) enum Strips {
     /// At most 128 rows, put column after column.
     High,
-    /// At most 16 rows, put column after column. So each column of a tile is a run of 16 items at following cells.
+    /// At most 16 rows, put column after column. So each column of a tile is a run of 16 items at
+    /// consecutive cells.
     Low,
     /// At most 16 rows, put tile after tile, and each tile by its blocks.
     Tiles,
-    /// At most 16 rows, put tile after tile, and each tile row after row. It is for items of 32 and of 64 bytes, and whoever
-    /// calls a kernel chooses it.
+    /// At most 16 rows, put tile after tile, and each tile row after row. This suits items of 32
+    /// and of 64 bytes. `Strips::of` never returns it: the caller of a kernel chooses it.
     Wide,
+    /// At most 128 rows, put 4 columns at a time by blocks that are transposed in registers. This
+    /// suits items of 4 and of 8 bytes. `Strips::of` never returns it: the caller of a kernel
+    /// chooses it.
+    Blocks,
 }
 
 impl Strips {
-    /// How a region of `matrix` is put, by its shape alone: the choice of every call but for those of the package of plain Rust,
-    /// which knows the size of an item and may choose otherwise.
+    /// The strips for `matrix`, chosen by its shape alone. Every call in Rattle uses this choice.
+    /// The package of plain Rust knows the size of an item and may choose other strips.
     ///
-    /// A strip is read one column after the other, and so in all of its rows at once. Where 16 divides the width, the rows
-    /// may begin a multiple of a high power of two apart. The cache lines of a high strip are then in few sets of the cache,
-    /// and are evicted before their next items are read. Those of 16 rows stay. Other rows are spread over the sets, and a high
-    /// strip writes longer runs of following cells. A small matrix stays in the cache in any order, and is put block by block.
+    /// A strip is read column by column, and so in all of its rows at once. If 16 divides the
+    /// width, the rows may begin a multiple of a high power of two apart. Then the cache lines of a
+    /// high strip fall into few sets of the cache, and they are evicted before their next items are
+    /// read. Those of 16 rows stay. Rows at other distances are spread over the sets, and a high
+    /// strip then writes longer runs of consecutive cells. A small matrix stays in the cache in any
+    /// order, and is put block by block.
     pub(crate) fn of<R: Source + Copy>(matrix: Matrix<R>) -> Self {
         if matrix.width % TILE_SIDE != 0 {
             Strips::High
@@ -68,16 +84,41 @@ impl Strips {
         ensures { 0 < result }
     {
         match self {
-            Strips::High => STRIP_ROWS,
+            Strips::High | Strips::Blocks => STRIP_ROWS,
             Strips::Low | Strips::Tiles | Strips::Wide => TILE_SIDE,
         }
     }
 
-    /// The number of rows of a block of a tile.
+    /// The end of the strip that begins at row `row`, in a region that ends at row `end`. The
+    /// number of rows of a strip of blocks is a multiple of 4, as long as there are at least 4
+    /// rows.
+    #[inline(always)]
+    fn end(self, row: usize, end: usize) -> usize
+        requires some_rows { row < end }
+        ensures from { row < result }
+        ensures to { result ≤ end }
+    {
+        match self {
+            Strips::Blocks if end - row < STRIP_ROWS && end - row >= BLOCK_SIDE => end
+                - (end - row) % BLOCK_SIDE,
+            _ => end.min(row.saturating_add(self.rows())),
+        }
+    }
+
+    /// Whether a strip of `rows` rows is put by blocks, as far as they are whole. A tile needs all
+    /// of its 16 rows.
+    #[inline(always)]
+    fn has_blocks(self, rows: usize) -> bool {
+        match self {
+            Strips::Blocks => true,
+            _ => rows == TILE_SIDE,
+        }
+    }
+
+    /// The number of rows of a block.
     #[inline(always)]
     fn block_rows(self) -> usize
-        ensures some { 0 < result }
-        ensures whole { TILE_SIDE / result * result ≡ TILE_SIDE }
+        ensures { 0 < result }
     {
         match self {
             Strips::Wide => 1,
@@ -85,7 +126,7 @@ impl Strips {
         }
     }
 
-    /// The number of columns of a block of a tile.
+    /// The number of columns of a block.
     #[inline(always)]
     fn block_cols(self) -> usize
         ensures { 0 < result }
@@ -97,7 +138,7 @@ impl Strips {
     }
 }
 
-/// Puts `region` by `strips`.
+/// Puts `region` strip by strip.
 #[inline(always)]
 pub(crate) fn put_strips<M: Cells, R: Source<Item = M::Item> + Copy>(
     out: M,
@@ -110,13 +151,13 @@ pub(crate) fn put_strips<M: Cells, R: Source<Item = M::Item> + Copy>(
     ensures holder { M.same_holder (items_of region) out result }
 {
     if region.cols() == 0 {
-        // There is no item, however many rows the region has.
+        // Without columns there is no item, however many rows the region has.
         return out;
     }
     let mut out = out;
     let mut row = region.row_start;
     while row < region.row_end {
-        let end = region.row_end.min(row.saturating_add(strips.rows()));
+        let end = strips.end(row, region.row_end);
         out = put_strip(out, matrix, region.with_rows(row, end), strips);
         row = end;
     }
@@ -138,10 +179,11 @@ fn put_strip<M: Cells, R: Source<Item = M::Item> + Copy>(
 {
     let (rows, cols) = (region.rows(), region.cols());
     match strips {
-        // The compiler knows the strips, and so the loops.
+        // Here the compiler knows the kind of strips, and so the lengths of the loops.
         Strips::Tiles => put_tiles(out, matrix, region, Strips::Tiles),
         Strips::Wide => put_tiles(out, matrix, region, Strips::Wide),
-        // The compiler knows how many rows most low strips have.
+        Strips::Blocks => put_tiles(out, matrix, region, Strips::Blocks),
+        // Most low strips have `TILE_SIDE` rows, and here the compiler knows the number.
         Strips::Low if rows == TILE_SIDE => put_columns(
             out,
             matrix,
@@ -151,8 +193,8 @@ fn put_strip<M: Cells, R: Source<Item = M::Item> + Copy>(
     }
 }
 
-/// Puts a strip of at most 16 rows by as many columns at a time as a block of `strips` has. No function puts a tile: some such
-/// steps do.
+/// Puts a strip, with as many columns at a time as a block of `strips` has. No function puts a
+/// whole tile: a tile is some of these steps.
 #[inline(always)]
 fn put_tiles<M: Cells, R: Source<Item = M::Item> + Copy>(
     out: M,
@@ -175,7 +217,8 @@ fn put_tiles<M: Cells, R: Source<Item = M::Item> + Copy>(
     out
 }
 
-/// Puts the blocks that lie one below another, or what is left at the edge of a matrix.
+/// Puts the blocks that lie one below the other, or the columns that do not fill blocks at the edge
+/// of a matrix.
 #[inline(always)]
 fn put_blocks<M: Cells, R: Source<Item = M::Item> + Copy>(
     out: M,
@@ -189,15 +232,72 @@ fn put_blocks<M: Cells, R: Source<Item = M::Item> + Copy>(
     ensures holder { M.same_holder (items_of region) out result }
 {
     let (rows, cols) = (strips.block_rows(), strips.block_cols());
-    if region.rows() != TILE_SIDE || region.cols() != cols {
+    let height = region.rows();
+    if !strips.has_blocks(height) || height % rows != 0 || region.cols() != cols {
         return put_columns(out, matrix, region);
     }
     let mut out = out;
-    for k in 0..TILE_SIDE / rows {
+    for k in 0..height / rows {
         let row = region.row_start + k * rows;
         let block = region.with_rows(row, row + rows);
-        out = put_columns(out, matrix, block.with_known_sides(rows, cols));
+        out = put_block(out, matrix, block.with_known_sides(rows, cols), strips);
     }
+    out
+}
+
+/// Puts a block: in registers, or column after column.
+#[inline(always)]
+fn put_block<M: Cells, R: Source<Item = M::Item> + Copy>(
+    out: M,
+    matrix: Matrix<R>,
+    region: Region,
+    strips: Strips,
+) -> M
+    requires some_rows { region.row_start < region.row_end }
+    requires ready { IsReady region matrix.width matrix.height (R.items matrix.source) (M.items out) }
+    ensures transposed { IsRegionTransposed region matrix.width matrix.height (R.items matrix.source) (M.items out) (M.items result) }
+    ensures holder { M.same_holder (items_of region) out result }
+{
+    match strips {
+        Strips::Blocks if region.rows() == BLOCK_SIDE && region.cols() == BLOCK_SIDE => put_turned(
+            out, matrix, region,
+        ),
+        _ => put_columns(out, matrix, region),
+    }
+}
+
+/// Puts a block of 4 by 4 items by whole rows, which a holder may transpose in registers.
+#[inline(always)]
+fn put_turned<M: Cells, R: Source<Item = M::Item> + Copy>(
+    out: M,
+    matrix: Matrix<R>,
+    region: Region,
+) -> M
+    requires rows { rows_of region ≡ 4 }
+    requires cols { cols_of region ≡ 4 }
+    requires ready { IsReady region matrix.width matrix.height (R.items matrix.source) (M.items out) }
+    ensures transposed { IsRegionTransposed region matrix.width matrix.height (R.items matrix.source) (M.items out) (M.items result) }
+    ensures holder { M.same_holder 16 out result }
+{
+    let Matrix {
+        source,
+        width,
+        height,
+    } = matrix;
+    let from = region.row_start * width + region.col_start;
+    let to = region.col_start * height + region.row_start;
+    let rows = Four(
+        source.four(from),
+        source.four(from + width),
+        source.four(from + 2 * width),
+        source.four(from + 3 * width),
+    );
+    let cols = M::turned(&rows);
+    let mut out = out;
+    out.put_four(to, &cols.0);
+    out.put_four(to + height, &cols.1);
+    out.put_four(to + 2 * height, &cols.2);
+    out.put_four(to + 3 * height, &cols.3);
     out
 }
 
@@ -222,8 +322,8 @@ fn put_columns<M: Cells, R: Source<Item = M::Item> + Copy>(
     out
 }
 
-/// Puts the `rows` items of a column from `from` on at following cells from `to` on: some in a loop of known length, and
-/// then those that are left.
+/// Puts the `rows` items of a column, from index `from` of the source on, at consecutive cells from
+/// `to` on. Most are put in loops of known length, and the rest in one more loop.
 #[inline(always)]
 fn put_column<M: Cells, R: Source<Item = M::Item> + Copy>(
     out: M,
@@ -260,7 +360,7 @@ fn put_column<M: Cells, R: Source<Item = M::Item> + Copy>(
     out
 }
 
-/// As [`put_column`], in one loop.
+/// Does the same as [`put_column`], in one loop.
 #[inline(always)]
 fn put_items<M: Cells, R: Source<Item = M::Item> + Copy>(
     out: M,

@@ -1,8 +1,10 @@
-//! Where a growth is refused, `run` answers `Memory`, whose status is 3, and nothing is written.
+//! If a request for memory is refused, `run` returns `Memory`, whose status is 3, and nothing is
+//! written.
 //!
-//! A plain run refuses nothing. `tests/refused_growth.sh` runs each of these tests once for each of its requests for memory
-//! and refuses that one. Each has the number of its requests beside it, so that a call is seen which makes fewer than it has
-//! to, or more. Where a test's own words are refused, it ends.
+//! In a plain run no request for memory is refused. `tests/refused_growth.sh` runs each of these
+//! tests once for each of its requests and refuses that one. Each test states the number of its
+//! requests, so that a call is noticed that makes more requests or fewer. If a test's own arguments
+//! are refused, the test ends.
 
 use super::{Outcome, equal, outcome_of};
 use crate::fault::RunFault;
@@ -11,7 +13,7 @@ use std::io;
 use std::io::{ErrorKind, Write};
 use std::process::Abort;
 
-/// A writer that takes what is expected, and fails at anything else. It wants no memory.
+/// A writer that takes the expected bytes, and fails at anything else. It needs no memory.
 #[derive(Drop)]
 struct Expecting<'a> {
     rest: &'a [u8],
@@ -33,7 +35,7 @@ impl Write for Expecting<'_> {
     }
 }
 
-/// Asserts that a run on these words writes `output`, or answers `Memory` and writes nothing.
+/// Asserts that a run on these arguments writes `output`, or returns `Memory` and writes nothing.
 fn answers(rt: &impl Abort, alloc: Global, texts: &[&str], input: &str, output: &str) {
     let writer = Expecting {
         rest: output.as_bytes(),
@@ -53,7 +55,8 @@ fn answers(rt: &impl Abort, alloc: Global, texts: &[&str], input: &str, output: 
     equal(rt, &writer.rest.len(), &left);
 }
 
-/// The words, the input, its numbers, their values and the text. It makes 8 requests for memory.
+/// The arguments, the input, its numbers, their values and the text. It makes 8 requests for
+/// memory.
 #[test]
 fn reverses(rt: HostRuntime) {
     answers(

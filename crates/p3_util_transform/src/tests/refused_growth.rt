@@ -1,8 +1,10 @@
-//! Where there is no memory for the powers of the root, the matrix is as it was, and all memory is given back.
+//! If there is no memory for the powers of the root, the matrix is unchanged, and all memory is
+//! released.
 //!
-//! A plain run refuses nothing. `tests/refused_growth.sh` runs each of these tests once for each of its requests for memory
-//! and refuses that one. Each has the number of its requests beside it, so that a call is seen which makes fewer than it has
-//! to, since it does nothing, or more. Where a test's own list is refused, it ends.
+//! In a plain run no request for memory is refused. `tests/refused_growth.sh` runs each of these
+//! tests once for each of its requests and refuses that one. Each test states the number of its
+//! requests, so that a call is noticed that makes more requests, or fewer because it does nothing.
+//! If a test's own list is refused, the test ends.
 
 use crate::matrix::RowMajorMatrix;
 use crate::transform::{
@@ -29,7 +31,7 @@ fn transforms(rt: HostRuntime) {
     assert_eq!(rt; matrix.values(), wanted.as_slice());
 }
 
-/// The same of the inverse transform. It makes 2 requests for memory.
+/// The same for the inverse transform. It makes 2 requests for memory.
 #[test]
 fn inverses(rt: HostRuntime) {
     let Ok(Some(mut matrix)) = small(rt.alloc()) else {
@@ -43,7 +45,7 @@ fn inverses(rt: HostRuntime) {
     assert_eq!(rt; matrix.values(), wanted.as_slice());
 }
 
-/// The values and the powers of both ways. It makes 3 requests for memory.
+/// The values, and the powers for both transforms. It makes 3 requests for memory.
 #[test]
 fn there_and_back(rt: HostRuntime) {
     let Ok(Some(mut matrix)) = small(rt.alloc()) else {
@@ -67,7 +69,7 @@ fn transposes(rt: HostRuntime) {
     }
 }
 
-/// Values that are no whole rows give their memory back. It makes 1 request for memory.
+/// Values that do not make whole rows release their memory. It makes 1 request for memory.
 #[test]
 fn values_of_no_rows(rt: HostRuntime) {
     let Ok(values) = [1u32, 2, 3].to_vec(rt.alloc()) else {

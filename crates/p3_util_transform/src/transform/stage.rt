@@ -1,11 +1,12 @@
-//! One stage of a transform: the rows of each two neighbouring blocks are joined.
+//! One stage of a transform: the rows of each pair of neighbouring blocks are joined.
 
 ghost use Rattle.std.specs.Prelude.{◌≡◌, ℕ, ◌+◌, ◌*◌, ◌^◌, ◌<◌, ◌≤◌, ◌≢◌, ◌⊎◌, length, slice_index};
 ghost use Rattle.p3_util_transform.specs.Stages.{AreBelowPrime, AreBlocksJoined, AreJoined, SameRow};
 
 use crate::field::{PRIME, add, mul, sub};
 
-/// Joins two rows: row `low` becomes its sum with `twiddle` times row `high`, and row `high` the difference.
+/// Joins two rows: row `low` becomes the sum of itself and `twiddle` times row `high`, and row
+/// `high` becomes the difference.
 fn join_rows(values: &mut [u32], width: usize, low: usize, high: usize, twiddle: u32)
     requires apart { low < high }
     requires inside { high * width + width ≤ length values.old }
@@ -23,7 +24,8 @@ fn join_rows(values: &mut [u32], width: usize, low: usize, high: usize, twiddle:
     }
 }
 
-/// Joins the two halves of a block, row by row: `half` rows from `first` on, and as many after them.
+/// Joins the two halves of a block, row by row: `half` rows from `first` on, and as many after
+/// them.
 fn join_halves(values: &mut [u32], width: usize, first: usize, half: usize, twiddles: &Twiddles)
     requires rows { first + 2 * half < 2 ^ 64 }
     requires inside { (first + 2 * half) * width ≤ length values.old }
@@ -42,7 +44,7 @@ fn join_halves(values: &mut [u32], width: usize, first: usize, half: usize, twid
     }
 }
 
-/// The powers of a root, of which a stage takes each `stride`th.
+/// The powers of a root. A stage uses every `stride`th of them.
 #[derive(Clone, Copy)]
 pub struct Twiddles<'a> {
     pub powers: &'a [u32],

@@ -1,4 +1,4 @@
-//! Arrays as JSON lists: worked examples over values that are read from JSON text.
+//! Arrays as JSON lists: worked examples with values that are read from JSON text.
 
 use crate::elements::{NoTwo, Two};
 use crate::tests::checks::{equal, found};
@@ -14,12 +14,12 @@ use std::process::Abort;
 
 type Read<T, const N: usize> = Result<[T; N], ArrayError>;
 
-/// The answer where the item at `index` is refused.
+/// The result if the item at `index` is refused.
 fn refused<T, const N: usize>(index: usize, cause: ElementError) -> Read<T, N> {
     Err(Element { index, cause })
 }
 
-/// Asserts what is read of a JSON text.
+/// Asserts what is read from a JSON text.
 fn check_read<T: ArrayElement + PartialEq + Debug + Drop, const N: usize>(
     rt: &impl Abort,
     alloc: Global,

@@ -1,5 +1,5 @@
-//! Logarithms, powers, reversed digits and short names against worked examples and the original crate. The package's
-//! tests have more of the original's answers.
+//! Logarithms, powers, reversed digits and short names, compared with worked examples and the
+//! original crate. The package's tests have more of the original's answers.
 
 use crate::tests::checks::{equal, found, same};
 use crate::tests::oracle::words::{LOGARITHMS, NAMES, POWERS, REVERSED_DIGITS, SUMS};
@@ -21,7 +21,7 @@ fn logarithms(rt: HostRuntime) {
     }
 }
 
-/// The powers of three, of which a word has 41, and numbers beside them.
+/// The powers of three, of which 41 fit a `usize`, and numbers next to them.
 #[test]
 fn powers_of_three(rt: HostRuntime) {
     let mut power = 1usize;

@@ -1,5 +1,5 @@
-//! Each function here asserts the condition of a call and then makes the call. A test that goes by such a function is proved
-//! without the call's contract, and so with no fact about the lists of the test.
+//! Functions that assert the condition of a call and then make the call. A test that uses them is
+//! proved without the call's contract, and so without any fact about the lists of the test.
 
 ghost use Rattle.std.specs.Prelude.{◌≡◌};
 
@@ -22,17 +22,17 @@ use std::process::Abort;
 /// A call that reorders a list by exchanges.
 #[derive(Clone, Copy, Debug)]
 pub(crate) enum Call {
-    /// By index bits, on the path that the length picks: over a counter.
+    /// By index bits, on the path that the length selects, with a given counter.
     Reversal,
-    /// The same by the counted form.
+    /// The same with the `_counted` call.
     Counted,
     /// The same on the short path.
     Short,
     /// The same on the long path.
     Long,
-    /// The rows of so many items by index bits: over a counter.
+    /// The rows of so many items by index bits, with a given counter.
     Rows(usize),
-    /// The same by the counted form.
+    /// The same with the `_counted` call.
     CountedRows(usize),
     /// The logarithms of the number of chunks and of their size.
     Chunks(usize, usize),
@@ -107,7 +107,7 @@ fn transpose_square<S: Places + Drop>(
     m.swaps()
 }
 
-/// Puts the transpose of `input` into `output`, by the call on slices.
+/// Writes the transpose of `input` to `output` with the call on slices.
 pub(crate) fn transpose_slice<T: Copy>(
     rt: &impl Abort,
     input: &[T],
@@ -119,28 +119,28 @@ pub(crate) fn transpose_slice<T: Copy>(
     transpose(input, output, width, height);
 }
 
-/// A call that puts the transpose of a matrix or of a region.
+/// A call that writes the transpose of a matrix or of a region.
 #[derive(Clone, Copy, Debug)]
 pub(crate) enum Put {
-    /// Of a slice, over a counter.
+    /// From a slice, with a given counter.
     On,
-    /// Of any source, over a counter.
+    /// From any source, with a given counter.
     SourceOn,
-    /// Of a slice, by the counted form.
+    /// From a slice, with the `_counted` call.
     Counted,
-    /// Of any source, by the counted form.
+    /// From any source, with the `_counted` call.
     SourceCounted,
-    /// Of a region, over a counter.
+    /// Of a region, with a given counter.
     Region(Region),
-    /// The same by the counted form.
+    /// The same with the `_counted` call.
     CountedRegion(Region),
-    /// Of the whole matrix, by a split of at most so many levels.
+    /// Of the whole matrix, by a split with at most so many levels.
     Split(u32),
-    /// The same of any source.
+    /// The same from any source.
     SourceSplit(u32),
 }
 
-/// Puts the transpose of `input` into `cells`, and returns the number of writes.
+/// Writes the transpose of `input` to `cells`, and returns the number of writes.
 pub(crate) fn count_writes<C: Cells>(
     rt: &impl Abort,
     call: Put,
@@ -198,7 +198,8 @@ pub(crate) fn whole(shape: Shape) -> Region
     }
 }
 
-/// Puts the transpose of a whole matrix by a split, and returns the number of writes and how many splits nest.
+/// Writes the transpose of a whole matrix by a split. Returns the number of writes and how many
+/// splits are nested.
 pub(crate) fn split_on<C: Cells + Drop>(
     rt: &impl Abort,
     call: Put,
@@ -224,7 +225,7 @@ pub(crate) fn split_on<C: Cells + Drop>(
     (out.writes(), nested)
 }
 
-/// Puts the transpose of a matrix from one view into another, and returns the number of writes.
+/// Writes the transpose of a matrix from one view to another, and returns the number of writes.
 pub(crate) fn put_between<R, C>(rt: &impl Abort, input: &R, cells: &mut C, shape: Shape) -> u128
 where
     C: Cells,

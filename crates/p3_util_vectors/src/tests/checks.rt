@@ -1,5 +1,5 @@
-//! Functions that the tests share. They have no clauses, so the proof of a test knows nothing of what they return or leave,
-//! and stays short.
+//! Functions that the tests share. They have no clauses, so the proof of a test learns nothing
+//! about what they return or change, and stays short.
 
 use crate::tests::items::Item;
 use std::alloc::{AllocError, Global};
@@ -16,7 +16,7 @@ pub(crate) fn same<T: PartialEq + Debug>(rt: &impl Abort, at: usize, got: &T, wa
     assert_eq!(rt; *got, *wanted, "at {at}");
 }
 
-/// Asserts the numbers of the items that a list has at some places.
+/// Asserts which items a list has at some places, by their numbers.
 pub(crate) fn check_places<T: Item>(rt: &impl Abort, list: &[T], wanted: &[(usize, u64)]) {
     for (place, number) in wanted {
         let is_there = match list.get(*place) {
@@ -64,7 +64,7 @@ pub(crate) fn check_transposed<T: Item>(rt: &impl Abort, list: &[T], shape: Shap
     }
 }
 
-/// What was asked of memory, which is found.
+/// The value of a request for memory, which must succeed.
 pub(crate) fn found<T>(rt: &impl Abort, asked: Result<T, AllocError>) -> T {
     asked.expect(rt, "out of memory")
 }
@@ -74,7 +74,7 @@ pub(crate) fn numbers(rt: &impl Abort, alloc: Global, count: usize) -> Vec<u64> 
     found(rt, (0..count as u64).collect(alloc))
 }
 
-/// The same numbers again.
+/// A copy of the numbers.
 pub(crate) fn copied(rt: &impl Abort, alloc: Global, numbers: &[u64]) -> Vec<u64> {
     found(rt, numbers.to_vec(alloc))
 }

@@ -1,4 +1,4 @@
-//! Chunks of iterators, with the number of times that an iterator is asked.
+//! Chunks of iterators, and how often the iterator is called.
 ghost use Rattle.std.specs.Prelude.{◌<◌, ◌^◌, length};
 ghost use Rattle.std.specs.Iterator.{at_most};
 
@@ -8,7 +8,7 @@ use p3_util::chunks::{apply_to_chunks, iter_array_chunks_padded};
 use std::cell::Cell;
 use std::process::Abort;
 
-/// Gives the answers in turn and then `None`, and counts how often it is asked.
+/// An iterator that yields the given answers in order and then `None`, and counts its calls.
 #[derive(Drop)]
 struct Asked<'a> {
     answers: &'a [Option<u8>],
@@ -28,7 +28,8 @@ impl<'a> Iterator for Asked<'a> {
     }
 }
 
-/// How many of the pieces `wanted` came up after one more piece, or `usize::MAX` where it was not the next one.
+/// How many of the pieces `wanted` have come after one more piece, or `usize::MAX` if it was not
+/// the next one.
 fn count_wanted(wanted: &[&[u8]], count: usize, piece: &[u8]) -> usize {
     match wanted.get(count) {
         Some(next) if *next == piece => count.saturating_add(1),
@@ -36,7 +37,8 @@ fn count_wanted(wanted: &[&[u8]], count: usize, piece: &[u8]) -> usize {
     }
 }
 
-/// Asserts that the closure is called on the pieces `wanted`, and that the iterator is asked `wanted_asks` times.
+/// Asserts that the closure is called on the pieces `wanted`, and that the iterator is called
+/// `wanted_asks` times.
 fn check_pieces<const BUFLEN: usize>(
     rt: &impl Abort,
     answers: &[Option<u8>],
@@ -57,8 +59,8 @@ fn check_pieces<const BUFLEN: usize>(
     same(rt, BUFLEN, &asks.get(), &wanted_asks);
 }
 
-/// Asserts the padded pieces of what an iterator gives, that `None` follows for good, and that the iterator is asked
-/// `wanted_asks` times.
+/// Asserts the padded pieces of an iterator, that `None` follows for good, and that the iterator is
+/// called `wanted_asks` times.
 fn check_padded<const N: usize>(
     rt: &impl Abort,
     answers: &[Option<u8>],

@@ -6,8 +6,8 @@ use std::alloc::{AllocError, Global};
 pub(crate) trait Item: Copy {
     fn of(number: usize) -> Self;
 
-    /// Whether this is the item with that number. In a build with checks, an array is compared faster by its parts than as
-    /// a whole.
+    /// Whether this is the item with that number. In a build with checks, comparing an array part
+    /// by part is faster than comparing it as a whole.
     fn is(self, number: usize) -> bool;
 }
 

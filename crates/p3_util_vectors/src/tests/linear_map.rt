@@ -1,4 +1,4 @@
-//! Worked rows and vectors of `LinearMap`.
+//! Worked examples and test vectors for `LinearMap`.
 
 use crate::keys::Spelling;
 use crate::tests::checks::{equal, found, same};
@@ -11,10 +11,10 @@ use std::cell::Cell;
 use std::fmt::Debug;
 use std::process::Abort;
 
-/// Asserts what the calls of a script on a new map answer, and its pairs at the end.
+/// Asserts what the calls of a script on a new map return, and its pairs at the end.
 ///
-/// A body of `insert` or `get_or_insert_with` that answers `NoRoom` on each new key, whatever memory there is, meets
-/// its contract, and fails here.
+/// A body of `insert` or `get_or_insert_with` that returns `NoRoom` for each new key, however much
+/// memory there is, meets its contract, and fails here.
 fn replay<K: Eq + Copy + Debug, V: PartialEq + Copy + Debug>(
     rt: &impl Abort,
     alloc: Global,
@@ -28,7 +28,7 @@ fn replay<K: Eq + Copy + Debug, V: PartialEq + Copy + Debug>(
     check_pairs(rt, &map, pairs);
 }
 
-/// Asserts what the iterators, `get` and an index give of a map with these pairs.
+/// Asserts what the iterators, `get` and the index operator return for a map with these pairs.
 fn check_pairs<K: Eq + Debug, V: PartialEq + Debug>(
     rt: &impl Abort,
     map: &LinearMap<K, V>,
@@ -55,7 +55,7 @@ fn check_pairs<K: Eq + Debug, V: PartialEq + Debug>(
     equal(rt, &(keys.next(), values.next()), &(None, None));
 }
 
-/// Asserts that the map of some pairs has the pairs `wanted`, and gives them by value.
+/// Asserts that the map made from some pairs has the pairs `wanted`, and yields them by value.
 fn check_made<K: Eq + Copy + Debug, V: PartialEq + Copy + Debug>(
     rt: &impl Abort,
     alloc: Global,
@@ -101,7 +101,8 @@ fn worked_calls(rt: HostRuntime) {
     replay(&rt, alloc, &calls, &[("x", 10), ("z", 30), ("y", 20)]);
 }
 
-/// A body of `try_from_iter` or `with_capacity` that always answers `AllocError` meets its contract, and fails here.
+/// A body of `try_from_iter` or `with_capacity` that always returns `AllocError` meets its
+/// contract, and fails here.
 #[test]
 fn maps_of_pairs(rt: HostRuntime) {
     let twice = [(1u32, "a"), (2, "b"), (1, "c")];
@@ -112,12 +113,12 @@ fn maps_of_pairs(rt: HostRuntime) {
     check_made(&rt, rt.alloc(), &letters, &letters);
     let with_room = found(&rt, LinearMap::<u32, u32>::with_capacity(rt.alloc(), 3));
     equal(&rt, &with_room.len(), &0);
-    // Room that no memory has.
+    // More room than any memory has.
     let too_large = LinearMap::<u32, u32>::with_capacity(rt.alloc(), usize::MAX);
     assert!(rt; too_large.is_err());
 }
 
-/// The closure of `get_or_insert_with` is called once under a new key, and not under a known one.
+/// The closure of `get_or_insert_with` is called once for a new key, and not for a known one.
 #[test]
 fn calls_the_closure_for_a_new_key(rt: HostRuntime) {
     let mut map = LinearMap::new(rt.alloc());
@@ -139,7 +140,7 @@ fn calls_the_closure_for_a_new_key(rt: HostRuntime) {
     }
 }
 
-/// A known key in another spelling finds the pair, which keeps the spelling that came first.
+/// A known key in another spelling finds its pair, which keeps the first spelling.
 #[test]
 fn spellings(rt: HostRuntime) {
     let mut map = LinearMap::new(rt.alloc());

@@ -1,7 +1,8 @@
-//! What the vectors of the original crate are made of, and its answers, a file for each subject.
+//! The inputs of the test vectors, and the original crate's answers, in a file for each subject.
 //!
-//! The answers were made by a program over the code of `p3-util` 0.8.0 itself, built with rustc 1.95 at optimization
-//! level 3 without its parallel feature. They are lists that a test walks by one loop.
+//! The answers were made by a program that calls the code of `p3-util` 0.8.0 itself, built with
+//! rustc 1.95 at optimization level 3 without its parallel feature. They are lists that a test goes
+//! through in one loop.
 
 pub mod map;
 pub mod pieces;
@@ -23,8 +24,8 @@ pub(crate) fn items(rt: &impl Abort, alloc: Global, count: usize) -> Vec<u64> {
     found(rt, (0..count).map(item).collect(alloc))
 }
 
-/// The hash of a list: it starts at 14695981039346656037, and for each item becomes the exclusive or with the item,
-/// times 1099511628211, without what does not fit 64 bits.
+/// The hash of a list. It starts at 14695981039346656037. For each item it becomes its exclusive or
+/// with the item, multiplied by 1099511628211 modulo 2^64.
 pub(crate) fn hash(list: &[u64]) -> u64 {
     let mut hash = 14_695_981_039_346_656_037u64;
     for x in list {

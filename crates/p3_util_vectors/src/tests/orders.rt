@@ -1,4 +1,5 @@
-//! The order of exchanges and of puts where it shows which path was taken. The package tests all other orders.
+//! The order of exchanges and of writes in cases that show which path was taken. The package tests
+//! all other orders.
 
 use crate::noted::Noted;
 use crate::tests::calls::{Call, Put, count_swaps, count_writes};
@@ -6,7 +7,7 @@ use crate::tests::checks::{Shape, equal, found, numbers, same};
 use std::alloc::Global;
 use std::process::Abort;
 
-/// A list of the numbers below `len` with room for notes of so many exchanges and puts.
+/// A list of the numbers below `len`, with room for notes of so many exchanges and writes.
 fn noted(rt: &impl Abort, alloc: Global, len: usize, exchanges: usize, puts: usize) -> Noted {
     Noted {
         items: numbers(rt, alloc, len),
@@ -15,7 +16,8 @@ fn noted(rt: &impl Abort, alloc: Global, len: usize, exchanges: usize, puts: usi
     }
 }
 
-/// The exchanges that a call makes in a list of `len` items, in order. They are as many as it counts.
+/// The exchanges that a call makes in a list of `len` items, in order. Their number is the one that
+/// the call counts.
 fn exchanges(rt: &impl Abort, alloc: Global, call: Call, len: usize) -> Vec<(usize, usize)> {
     let mut noted = noted(rt, alloc, len, len.saturating_mul(2), 0);
     let swaps = count_swaps(rt, &mut noted, call);
@@ -24,7 +26,8 @@ fn exchanges(rt: &impl Abort, alloc: Global, call: Call, len: usize) -> Vec<(usi
     exchanges
 }
 
-/// 28 exchanges within the upper left quadrant, 64 across the diagonal, 28 within the lower right quadrant.
+/// 28 exchanges within the upper left quadrant, 64 across the diagonal, 28 within the lower right
+/// quadrant.
 #[test]
 fn quadrants_in_order(rt: HostRuntime) {
     let pairs = exchanges(&rt, rt.alloc(), Call::Square(0, 4, 4), 256);
@@ -37,8 +40,8 @@ fn quadrants_in_order(rt: HostRuntime) {
     }
 }
 
-/// Whether an exchange on the long path of 16384 items, which are 128 chunks of 128, is of items of two chunks, and
-/// whether it is across the diagonal of the square.
+/// For an exchange on the long path of 16384 items, which are 128 chunks of 128: whether its items
+/// are in two chunks, and whether it is across the diagonal of the square.
 fn kind_of(first: usize, second: usize) -> (bool, bool) {
     let (chunk, other) = (first / 128, second / 128);
     let (place, place_in_other) = (first % 128, second % 128);
@@ -47,7 +50,8 @@ fn kind_of(first: usize, second: usize) -> (bool, bool) {
     (of_chunks, mirrored)
 }
 
-/// 7168 exchanges of items of two chunks, 8128 across the diagonal of the square, and the first 7168 again.
+/// There are 7168 exchanges of items in two chunks, 8128 across the diagonal of the square, and the
+/// first 7168 again.
 #[test]
 fn long_path_in_order(rt: HostRuntime) {
     let pairs = exchanges(&rt, rt.alloc(), Call::Reversal, 16384);
@@ -59,7 +63,7 @@ fn long_path_in_order(rt: HostRuntime) {
     equal(&rt, &pairs.get(..7168), &pairs.get(15296..));
 }
 
-/// The places of the puts of a transpose, in order.
+/// The places of the writes of a transpose, in order.
 fn puts(rt: &impl Abort, alloc: Global, call: Put, shape: Shape) -> Vec<usize> {
     let input = numbers(rt, alloc, shape.len());
     let mut noted = noted(rt, alloc, shape.len(), 0, shape.len());
@@ -69,8 +73,8 @@ fn puts(rt: &impl Abort, alloc: Global, call: Put, shape: Shape) -> Vec<usize> {
     puts
 }
 
-/// Asserts that of each `len` puts, counted from the first, all lie in one part of a matrix of `height` rows that is
-/// cut into parts of `side` columns and rows.
+/// Asserts that of each `len` writes, counted from the first, all are in one part of a matrix of
+/// `height` rows that is cut into parts of `side` columns and rows.
 fn check_parts(rt: &impl Abort, puts: &[usize], height: usize, len: usize, side: usize) {
     let mut part = (None, None);
     for (k, place) in puts.iter().enumerate() {
@@ -95,8 +99,9 @@ fn blocks_of_tiles_in_order(rt: HostRuntime) {
     check_parts(&rt, &puts, 32, 256, 16);
 }
 
-/// Each 16 of the first 16384 puts are one below the other, and all lie in one part of 128 columns and rows. The third
-/// part is below it, where without a split it would be to the right of the second. The last one has 65 columns.
+/// Of the first 16384 writes each 16 are one below the other, and all are in one part of 128
+/// columns and rows. The third part is below this one; without a split it would be to the right of
+/// the second. The last part has 65 columns.
 #[test]
 fn parts_of_a_split_in_order(rt: HostRuntime) {
     let shape = Shape {

@@ -1,4 +1,4 @@
-//! Reversals of numbers, texts and values that cannot be cloned, place by place, and back.
+//! Reversals of numbers, texts and values that cannot be cloned, checked at each place, and back.
 
 use crate::tests::calls::{Call, count_swaps, reverse_slice};
 use crate::tests::checks::{equal, found, numbers, same};
@@ -17,8 +17,9 @@ fn reversed(place: usize, digits: u32) -> usize {
     answer
 }
 
-/// Asserts that a reversal of the items with the numbers from 0 on puts at each place the one whose number is the place
-/// with reversed digits, and that another one puts all back. Returns the number of swaps.
+/// Asserts that a reversal of the items numbered from 0 puts the item whose number is the place
+/// with reversed digits at each place, and that a second one restores the list. Returns the number
+/// of swaps.
 fn check_reversals<T, F: Fn(&T) -> usize>(rt: &impl Abort, list: &mut [T], number_of: F) -> u128
     requires { F.IsAlwaysCallable number_of }
 {
@@ -80,8 +81,8 @@ fn owners(alloc: Global, count: usize, drops: &Cell<usize>) -> Result<Vec<Owner<
     Ok(list)
 }
 
-/// None is dropped before its list is, and then each of them once. The longest lists take the long path, with an even and
-/// with an odd number of digits.
+/// No item is dropped before its list is, and then each is dropped once. The longest lists take the
+/// long path, with an even and with an odd number of digits.
 #[test]
 fn owners_without_clone(rt: HostRuntime) {
     let mut swaps = 0;

@@ -1,4 +1,4 @@
-//! Calls that reorder a list, against worked examples and the original crate.
+//! Calls that reorder a list, compared with worked examples and the original crate.
 
 use crate::Joined;
 use crate::tests::calls::{Call, count_swaps, reverse_slice};
@@ -15,7 +15,7 @@ const EIGHT: &[u64] = &[0, 1, 2, 3, 4, 5, 6, 7];
 
 const REVERSED_EIGHT: &[u64] = &[0, 4, 2, 6, 1, 5, 3, 7];
 
-/// Calls, lists, what is left of them, and the numbers of swaps.
+/// Calls, lists, the lists afterwards, and the numbers of swaps.
 const EXAMPLES: [(Call, &[u64], &[u64], u128); 19] = [
     (Call::Reversal, &[], &[], 0),
     (Call::Reversal, &[7], &[7], 0),
@@ -43,7 +43,8 @@ const EXAMPLES: [(Call, &[u64], &[u64], u128); 19] = [
     (Call::Square(1, 1, 0), &[7, 8, 9], &[7, 8, 9], 0),
 ];
 
-/// Makes a row's call on items of a type, and asserts which of them are at which place then.
+/// Makes the call of a row on items of a type, and asserts which items are at which places
+/// afterwards.
 fn check_example<T: Item>(
     rt: &impl Abort,
     alloc: Global,
@@ -177,7 +178,8 @@ fn joined_slices(rt: HostRuntime) {
     equal(&rt, &(front, back), &([0, 4, 2], [6, 1, 5, 3, 7]));
 }
 
-/// Lengths, widths of rows, and whether the one is rows of the other whose number is zero or a power of two.
+/// Lengths, widths of rows, and whether the length is rows of that width whose number is zero or a
+/// power of two.
 const LENGTHS: [(usize, usize, bool); 10] = [
     (12, 3, true),
     (9, 3, false),
@@ -198,7 +200,7 @@ fn lengths_of_rows(rt: HostRuntime) {
     }
 }
 
-/// A counter counts each step of its holder, which it gives back.
+/// A counter counts each step of its holder, and returns the holder.
 #[test]
 fn counters(rt: HostRuntime) {
     let mut values = [10u64, 20, 30];

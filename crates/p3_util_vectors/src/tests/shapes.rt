@@ -1,4 +1,4 @@
-//! Transposes of many shapes, of items of several sizes, place by place.
+//! Transposes of many shapes, of items of several sizes, checked at each place.
 
 use crate::tests::calls::transpose_slice;
 use crate::tests::checks::{Shape, check_transposed, found};
@@ -7,7 +7,7 @@ use crate::tests::oracle::transposes::TRANSPOSES;
 use std::alloc::Global;
 use std::process::Abort;
 
-/// Transposes a matrix of the first items of `input`, and asserts each place.
+/// Transposes a matrix of the first items of `input`, and checks each place.
 fn check_shape<T: Item>(
     rt: &impl Abort,
     input: &[T],

@@ -1,4 +1,4 @@
-//! Transposes against worked examples and the original crate.
+//! Transposes, compared with worked examples and the original crate.
 
 use crate::tests::calls::{Put, count_writes, split_on, transpose_slice, whole};
 use crate::tests::checks::{Shape, check_places, check_transposed, equal, found, numbers, same};
@@ -25,7 +25,7 @@ fn transposed(
     (output, writes)
 }
 
-/// The same by the call on slices, which counts no writes.
+/// The same with the call on slices, which does not count writes.
 fn transposed_slice(rt: &impl Abort, alloc: Global, input: &[u64], shape: Shape) -> Vec<u64> {
     let mut output = found(rt, vec![in alloc; 99; input.len()]);
     transpose_slice(rt, input, &mut output, shape);
@@ -49,7 +49,8 @@ const EXAMPLES: [(usize, usize, &[u64], &[u64]); 3] = [
     (0, 5, &[], &[]),
 ];
 
-/// What each call makes of a matrix, in a write an item, and what the call on slices makes of it.
+/// The result of each call on a matrix, with one write for each item, and the result of the call on
+/// slices.
 #[test]
 fn worked_examples(rt: HostRuntime) {
     for (width, height, input, wanted) in EXAMPLES {
@@ -73,7 +74,8 @@ fn worked_examples(rt: HostRuntime) {
     }
 }
 
-/// Matrices of the numbers from 0 on: widths, heights, numbers of writes, and some places with their items.
+/// Matrices of the numbers from 0 on: widths, heights, numbers of writes, and some places with
+/// their items.
 const NUMBERED: [(usize, usize, u128, &[(usize, u64)]); 7] = [
     (15, 17, 255, &[(1, 15), (17, 1)]),
     (16, 16, 256, &[(1, 16), (16, 1)]),
@@ -96,7 +98,7 @@ fn numbered_items(rt: HostRuntime) {
     }
 }
 
-/// Rows, columns, the levels that their split needs, and how many splits nest.
+/// Rows, columns, the levels that their split needs, and how many splits are nested.
 const SPLITS: [(usize, usize, u32, u32); 6] = [
     (128, 128, 0, 0),
     (129, 128, 1, 1),
@@ -179,7 +181,8 @@ fn stages_of_a_block(rt: HostRuntime) {
     equal(&rt, &butterfly_4x4(block), &turned);
 }
 
-/// The lengths of two lists, widths and heights, and whether both lists have as many items as such a matrix.
+/// The lengths of two lists, widths and heights, and whether both lists have as many items as such
+/// a matrix.
 const LENGTHS: [(usize, usize, usize, usize, bool); 4] = [
     (0, 0, 4_294_967_296, 4_294_967_296, false),
     (0, 0, 0, usize::MAX, true),
@@ -199,7 +202,8 @@ fn products_that_wrap_do_not_fit(rt: HostRuntime) {
     }
 }
 
-/// The length of a list, the base of a square, the logarithms of its stride and its side, and whether the square lies in the list.
+/// The length of a list, the base of a square, the logarithms of its stride and its side, and
+/// whether the square lies in the list.
 const SQUARES: [(usize, usize, usize, usize, bool); 12] = [
     (0, 0, 0, 0, false),
     (1, 0, 0, 0, true),
@@ -215,7 +219,7 @@ const SQUARES: [(usize, usize, usize, usize, bool); 12] = [
     (1, (1 << 63) - (1 << 33) + 1, 63, 33, false),
 ];
 
-/// In the last row the sum that is the last place wraps to 0.
+/// In the last row, the sum for the last place would wrap to 0.
 #[test]
 fn sums_that_wrap_do_not_fit(rt: HostRuntime) {
     for (row, (len, base, log_stride, log_size, wanted)) in SQUARES.into_iter().enumerate() {
@@ -224,8 +228,8 @@ fn sums_that_wrap_do_not_fit(rt: HostRuntime) {
     }
 }
 
-/// The rows and the columns of regions, each from the first to below the other, and whether the region lies in a matrix of 3
-/// rows of 4 items.
+/// The rows and the columns of regions, each as a first one and the one after the last, and whether
+/// the region lies in a matrix of 3 rows of 4 items.
 const REGIONS: [([usize; 2], [usize; 2], bool); 8] = [
     ([0, 3], [0, 4], true),
     ([1, 1], [4, 4], true),

@@ -1,4 +1,4 @@
-//! Views of arrays and moved vectors against worked examples, and the kernels over views.
+//! Views of arrays and moved vectors, compared with worked examples, and the kernels on views.
 ghost use Rattle.std.specs.Prelude.{◌≤◌};
 
 use crate::tests::calls::{Call, Put, count_swaps, count_writes, put_between};
@@ -44,7 +44,7 @@ fn check_view<const N: usize>(rt: &impl Abort, rows: &[[u64; N]], wanted: &[u64]
     assert!(rt; view.iter().eq(wanted.iter()) && view.into_iter().eq(wanted.iter()));
 }
 
-/// The same of a view that can be written.
+/// The same for a view that can be written.
 fn check_view_mut<const N: usize>(rt: &impl Abort, rows: &mut [[u64; N]], wanted: &[u64]) {
     assert!(rt; flat_len(rows.len(), N).is_some());
     let view = as_base_slice_mut(rows);
@@ -60,7 +60,7 @@ fn check_view_mut<const N: usize>(rt: &impl Abort, rows: &mut [[u64; N]], wanted
     assert!(rt; view.iter().eq(wanted.iter()));
 }
 
-/// The same of both views.
+/// The same for both views.
 fn check_views<const N: usize>(rt: &impl Abort, rows: &mut [[u64; N]], wanted: &[u64]) {
     check_view(rt, rows, wanted);
     check_view_mut(rt, rows, wanted);
@@ -108,7 +108,7 @@ fn a_transpose_into_a_view(rt: HostRuntime) {
     equal(&rt, &rows, &[[1, 4], [2, 5], [3, 6]]);
 }
 
-/// Puts the transpose of the items of `from` into those of `to`, and returns the number of writes.
+/// Writes the transpose of the items of `from` to those of `to`, and returns the number of writes.
 fn between_views<const N: usize, const M: usize>(
     rt: &impl Abort,
     from: &[[u64; N]],
@@ -126,7 +126,7 @@ fn between_views<const N: usize, const M: usize>(
     )
 }
 
-/// 19 rows of 17 items, which are the numbers from 0 on.
+/// 19 rows of 17 items: the numbers from 0 on.
 fn numbered_rows() -> [[u64; 17]; 19] {
     let mut rows = [[0; 17]; 19];
     let mut next = 0u64;
@@ -160,7 +160,7 @@ fn transposes_between_views(rt: HostRuntime) {
     equal(&rt, &last[18], &322);
 }
 
-/// Asserts that the numbers from 0 on are moved to arrays, to the rows `wanted`, and back.
+/// Asserts that the numbers from 0 on are moved to arrays, which are the rows `wanted`, and back.
 fn there_and_back<const N: usize>(rt: &impl Abort, alloc: Global, wanted: &[[u64; N]])
     requires { 1 ≤ N }
 {

@@ -40,7 +40,8 @@ fn moves_long_lists() {
     );
 }
 
-/// What the proved package has beside the original's names, with no dependency on it.
+/// What the proved package has beside the original's names, with no dependency on it. The last list is long enough for several
+/// threads.
 #[cfg(target_pointer_width = "64")]
 fn calls_of_the_package() {
     use p3_util::proved::{
@@ -53,6 +54,10 @@ fn calls_of_the_package() {
     parts::row_reversal(&mut rows, 2, 3).for_each_phase(|parts| parts.for_each(|part| part.run()));
     assert_eq!(rows, [0, 1, 10, 11, 20, 21, 30, 31]);
     assert_eq!(reverse_counted(&mut SlicePlaces::new(&mut rows)), 2);
+    let mut list: Vec<u32> = (0..100 << 13).collect();
+    reverse_slice_row_index_bits(&mut list, 100);
+    let is_reversed = |(row, items): (u32, &[u32])| items[0] == (row.reverse_bits() >> 19) * 100 && items.is_sorted();
+    assert!((0..).zip(list.chunks(100)).all(is_reversed));
 }
 
 #[cfg(not(target_pointer_width = "64"))]

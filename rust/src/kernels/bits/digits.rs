@@ -1,11 +1,12 @@
-//! The reversal of the binary digits of a word: the two halves of the word are reversed and change places, and each half is
-//! reversed in the same way, down to bytes.
+//! The reversal of the binary digits of an integer. Its two halves are reversed and change places,
+//! and each half is reversed in the same way, down to bytes.
 //!
-//! LLVM makes one instruction of it on ARM, and a byte swap with three steps on x86-64. Rattle's compilers make a loop over
-//! single digits of std's `reverse_bits`, which takes about 20 ns a call.
+//! LLVM compiles this to one instruction on ARM, and to a byte swap with three steps on x86-64. For
+//! std's `reverse_bits` Rattle's compilers make a loop over single digits, which takes about 20 ns
+//! for each call.
 
-/// Reverses as many low digits of `x` as `n`, a power of two, has below its set digit: `reverse_bits_len(x, log2 n)`.
-/// std's `is_power_of_two` is the test for `n`.
+/// Reverses the low binary digits of `x`: as many as `n`, a power of two, has below its set digit.
+/// This is `reverse_bits_len(x, log2 n)`. std's `is_power_of_two` checks `n`.
 ///
 /// # Contract
 ///
@@ -22,8 +23,8 @@ pub const fn reverse_bits(x: usize, n: usize) -> usize {
     reverse_bits_len(x, n.trailing_zeros() as usize)
 }
 
-/// Reverses the `bit_len` low binary digits of `x` and drops the others. For a `bit_len` of 0 it reverses the whole word
-/// of 64 digits.
+/// Reverses the `bit_len` low binary digits of `x` and drops the others. A `bit_len` of 0 reverses
+/// all 64 digits. `bit_len` must not be above 64.
 ///
 /// # Contract
 ///
@@ -40,7 +41,7 @@ pub const fn reverse_bits(x: usize, n: usize) -> usize {
 #[inline]
 pub const fn reverse_bits_len(x: usize, bit_len: usize) -> usize {
     let reversed = reverse_u64(x as u64) as usize;
-    // For 0 digits this shifts by 0, and so keeps the whole word.
+    // If `bit_len` is 0, this shifts by 0 and keeps all 64 digits.
     reversed >> ((64 - bit_len) % 64)
 }
 
@@ -59,8 +60,9 @@ const fn reverse_u16(x: u16) -> u16 {
     ((reverse_u8((x & 0xff) as u8) as u16) << 8) | reverse_u8((x >> 8) as u8) as u16
 }
 
-/// A byte by its eight digits, so that the compiler makes a table of reversed numbers in a seventh of the time that halves down
-/// to single digits take, and the same instructions.
+/// Reverses a byte digit by digit. The compiler evaluates a constant table of reversed numbers in a
+/// seventh of the time that it needs when halves go down to single digits, and makes the same
+/// instructions.
 #[inline]
 const fn reverse_u8(x: u8) -> u8 {
     ((x & 0x01) << 7)

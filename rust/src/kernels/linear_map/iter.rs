@@ -1,5 +1,5 @@
-//! The iterators that lend the pairs, the keys or the values of a map, in its order. Each is seen as the list of what it
-//! has left.
+//! The iterators that lend the pairs, the keys or the values of a map, in its order. A contract
+//! sees each of them as the list of the items that are left.
 
 use core::slice;
 use core::iter::FusedIterator;
@@ -11,7 +11,7 @@ pub struct Iter<'a, K, V> {
     pairs: slice::Iter<'a, (K, V)>,
 }
 
-/// The pairs that are left. A clone takes no memory.
+/// A clone has the same pairs left. It allocates nothing.
 impl<'a, K, V> Clone for Iter<'a, K, V> {
     fn clone(&self) -> Iter<'a, K, V> {
         Iter {
@@ -74,7 +74,7 @@ pub struct Keys<'a, K, V> {
     pairs: slice::Iter<'a, (K, V)>,
 }
 
-/// The keys that are left. A clone takes no memory.
+/// A clone has the same keys left. It allocates nothing.
 impl<'a, K, V> Clone for Keys<'a, K, V> {
     fn clone(&self) -> Keys<'a, K, V> {
         Keys {
@@ -139,7 +139,7 @@ pub struct Values<'a, K, V> {
     pairs: slice::Iter<'a, (K, V)>,
 }
 
-/// The values that are left. A clone takes no memory.
+/// A clone has the same values left. It allocates nothing.
 impl<'a, K, V> Clone for Values<'a, K, V> {
     fn clone(&self) -> Values<'a, K, V> {
         Values {

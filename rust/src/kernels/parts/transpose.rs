@@ -4,7 +4,8 @@ use crate::kernels::parts::Cut;
 use crate::kernels::places::{Cells, Source};
 use crate::kernels::transpose::{ENOUGH_LEVELS, Matrix, Strips, TILE_SIDE, put_split};
 
-/// A transpose of a matrix of `height` rows of `width` items that is cut into regions: by its rows or by its columns.
+/// The transpose of a matrix of `height` rows of `width` items, cut into regions along its rows or
+/// along its columns.
 #[derive(Clone, Copy, Debug)]
 pub(crate) struct TransposePlan {
     width: usize,
@@ -14,8 +15,9 @@ pub(crate) struct TransposePlan {
 }
 
 impl TransposePlan {
-    /// Cuts the longer side into at most `parts` parts, at multiples of the side of a tile, or always the columns where the
-    /// rows may not be cut. 0 parts are 1. Of a matrix with no item there is no region.
+    /// Cuts the longer side into at most `parts` parts, at multiples of the side of a tile. If the
+    /// rows may not be cut, the columns are always cut. If `parts` is 0, it counts as 1. A matrix
+    /// without items has no region.
     pub(crate) fn new(
         width: usize,
         height: usize,
@@ -43,8 +45,8 @@ impl TransposePlan {
         self.cut.count()
     }
 
-    /// The number of items of region `number`. Where the columns are cut, these are put at following cells, behind those of
-    /// the regions before it.
+    /// The number of items of region `number`. If the columns are cut, these items are put at
+    /// consecutive cells, right after those of the regions before it.
     pub(crate) fn items(self, number: usize) -> usize {
         let region = self.cut.region(
             &Matrix::new((), self.width, self.height),
@@ -54,7 +56,8 @@ impl TransposePlan {
         region.rows() * region.cols()
     }
 
-    /// Puts the transpose of region `number` of `source` into cells for that of the whole matrix, by `strips`.
+    /// Puts the transpose of region `number` of `source` into `out`, which has cells for the
+    /// transpose of the whole matrix, with the given strips.
     pub(crate) fn put<C: Cells, R: Source<Item = C::Item> + Copy>(
         self,
         out: C,

@@ -1,12 +1,13 @@
-//! Counters over holders, which see each exchange and each write.
+//! Counters around holders, which count each exchange and each put.
 //!
-//! A counter is a holder around another one, as [`places`](crate::kernels::places) explains: its count rises by the steps that the
-//! holder inside makes. The fields are there for the `_on` calls, which lend that holder to a kernel. A kernel is generic over
-//! its holder, so it cannot name a field.
+//! A counter is itself a holder, as [`places`](crate::kernels::places) explains. Its count rises by the
+//! number of steps that the holder inside makes. The fields are visible in this crate because the
+//! `_on` calls lend the holder inside to a kernel. A kernel is generic over its holder, so it
+//! cannot name the fields.
 
 use crate::kernels::places::{Cells, Places};
 
-/// A holder of places that counts its exchanges. The count stays at `u128::MAX` once it is there.
+/// A holder of places that counts its exchanges. The count stops at `u128::MAX`.
 #[derive(Debug)]
 pub struct Swaps<S> {
     pub(crate) holder: S,
@@ -14,7 +15,7 @@ pub struct Swaps<S> {
 }
 
 impl<S: Places> Swaps<S> {
-    /// Counts the exchanges in `holder` from 0.
+    /// A counter around `holder` that starts at 0.
     ///
     /// # Contract
     ///
@@ -29,10 +30,10 @@ impl<S: Places> Swaps<S> {
         Swaps::resumed(holder, 0)
     }
 
-    /// Counts the exchanges in `holder` from `count` on.
+    /// A counter around `holder` that starts at `count`.
     #[inline(always)]
     pub(crate) fn resumed(holder: S, count: u128) -> Self {
-        // Called so that the proof knows that the length fits a usize.
+        // `len` is called for its contract, which tells the proof that the length fits a usize.
         let _ = holder.len();
         Swaps { holder, count }
     }
@@ -50,7 +51,8 @@ impl<S: Places> Swaps<S> {
         self.holder.len()
     }
 
-    /// Exchanges the items at places `i` and `j`, by one exchange, and counts it.
+    /// Exchanges the items at places `i` and `j` by one exchange of the holder inside, and counts
+    /// it.
     ///
     /// # Contract
     ///
@@ -69,7 +71,7 @@ impl<S: Places> Swaps<S> {
         self.count = self.count.saturating_add(1);
     }
 
-    /// How many exchanges were made, at most `u128::MAX`.
+    /// The number of exchanges so far, at most `u128::MAX`.
     ///
     /// # Contract
     ///
@@ -82,7 +84,7 @@ impl<S: Places> Swaps<S> {
         self.count
     }
 
-    /// The holder.
+    /// Returns the holder inside, without the count.
     ///
     /// # Contract
     ///
@@ -97,7 +99,7 @@ impl<S: Places> Swaps<S> {
     }
 }
 
-/// A holder of cells that counts its writes. The count stays at `u128::MAX` once it is there.
+/// A holder of cells that counts its writes. The count stops at `u128::MAX`.
 #[derive(Debug)]
 pub struct Writes<C> {
     pub(crate) holder: C,
@@ -105,7 +107,7 @@ pub struct Writes<C> {
 }
 
 impl<C: Cells> Writes<C> {
-    /// Counts the writes to `holder` from 0.
+    /// A counter around `holder` that starts at 0.
     ///
     /// # Contract
     ///
@@ -120,10 +122,10 @@ impl<C: Cells> Writes<C> {
         Writes::resumed(holder, 0)
     }
 
-    /// Counts the writes to `holder` from `count` on.
+    /// A counter around `holder` that starts at `count`.
     #[inline(always)]
     pub(crate) fn resumed(holder: C, count: u128) -> Self {
-        // Called so that the proof knows that the length fits a usize.
+        // `len` is called for its contract, which tells the proof that the length fits a usize.
         let _ = holder.len();
         Writes { holder, count }
     }
@@ -141,7 +143,7 @@ impl<C: Cells> Writes<C> {
         self.holder.len()
     }
 
-    /// Puts `v` at place `i`, by one write, and counts it.
+    /// Writes `v` at place `i` by one put of the holder inside, and counts it.
     ///
     /// # Contract
     ///
@@ -159,7 +161,7 @@ impl<C: Cells> Writes<C> {
         self.count = self.count.saturating_add(1);
     }
 
-    /// How many writes were made, at most `u128::MAX`.
+    /// The number of writes so far, at most `u128::MAX`.
     ///
     /// # Contract
     ///
@@ -172,7 +174,7 @@ impl<C: Cells> Writes<C> {
         self.count
     }
 
-    /// The holder.
+    /// Returns the holder inside, without the count.
     ///
     /// # Contract
     ///
@@ -187,7 +189,7 @@ impl<C: Cells> Writes<C> {
     }
 }
 
-/// Each exchange is made by the holder inside, and is counted.
+/// The holder inside makes each exchange, and the counter counts it.
 impl<S: Places> Places for Swaps<S> {
     type Item = S::Item;
 
@@ -211,9 +213,20 @@ impl<S: Places> Places for Swaps<S> {
         self.holder.exchange_runs(i, j, len);
         self.count = self.count.saturating_add(len as u128);
     }
+
+    #[inline(always)]
+    fn exchange_blocks(&mut self, i: usize, j: usize, stride: usize) {
+        self.holder.exchange_blocks(i, j, stride);
+        self.count = self.count.saturating_add(16);
+    }
+
+    #[inline(always)]
+    fn by_blocks(&self) -> bool {
+        self.holder.by_blocks()
+    }
 }
 
-/// Each put is made by the holder inside, and is counted.
+/// The holder inside makes each put, and the counter counts it.
 impl<C: Cells> Cells for Writes<C> {
     type Item = C::Item;
 

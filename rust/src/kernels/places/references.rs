@@ -1,8 +1,9 @@
-//! A reference to a holder is a holder too: what is done to the reference is done to the holder behind it.
+//! References to holders. Such a reference is a holder too: whatever is done to the reference is
+//! done to the holder behind it.
 
 use crate::kernels::places::{Cells, Places, Source};
 
-/// The exchanges are those of the holder behind the reference.
+/// The holder behind the reference makes the exchanges.
 impl<S: Places> Places for &mut S {
     type Item = S::Item;
 
@@ -24,9 +25,19 @@ impl<S: Places> Places for &mut S {
     fn exchange_runs(&mut self, i: usize, j: usize, len: usize) {
         S::exchange_runs(self, i, j, len);
     }
+
+    #[inline(always)]
+    fn exchange_blocks(&mut self, i: usize, j: usize, stride: usize) {
+        S::exchange_blocks(self, i, j, stride);
+    }
+
+    #[inline(always)]
+    fn by_blocks(&self) -> bool {
+        S::by_blocks(self)
+    }
 }
 
-/// The puts are those of the holder behind the reference.
+/// The holder behind the reference makes the puts.
 impl<C: Cells> Cells for &mut C {
     type Item = C::Item;
 
@@ -40,7 +51,7 @@ impl<C: Cells> Cells for &mut C {
     }
 }
 
-/// The items are those of the source behind the reference.
+/// The items are read from the source behind the reference.
 impl<R: Source> Source for &R {
     type Item = R::Item;
 

@@ -1,16 +1,16 @@
-//! Slices as holders: their places, their cells and what they are read from.
+//! The holders of slices: one to exchange items, one to write items and one to read items.
 
 use crate::kernels::places::{Cells, Places, Source};
 
-/// The places of a mutable slice. What it holds is in the slice when the borrow ends.
+/// The places of a mutable slice. All changes are made in the slice itself.
 #[derive(Debug)]
 pub struct SlicePlaces<'a, F> {
-    /// Where items are exchanged.
+    /// The slice whose items are exchanged.
     pub items: &'a mut [F],
 }
 
 impl<'a, F> SlicePlaces<'a, F> {
-    /// The places of `items`, in order.
+    /// A holder of the items of `items`. Place `i` is index `i` of the slice.
     ///
     /// # Contract
     ///
@@ -47,7 +47,7 @@ impl<'a, F> Places for SlicePlaces<'a, F> {
     }
 }
 
-/// Exchanges the items at places `i` and `j`, with no test of their order.
+/// Exchanges the items at places `i` and `j` without comparing `i` and `j`.
 #[inline(always)]
 fn swap_ordered<F>(items: &mut [F], i: usize, j: usize) {
     let (front, back) = items.split_at_mut(j);
@@ -62,15 +62,15 @@ fn swap_runs<F>(items: &mut [F], i: usize, j: usize, len: usize) {
     front[low..low + len].swap_with_slice(&mut back[..len]);
 }
 
-/// The cells of a mutable slice. What is put is in the slice when the borrow ends.
+/// The cells of a mutable slice. All writes are made in the slice itself.
 #[derive(Debug)]
 pub struct SliceCells<'a, T> {
-    /// Where items are put.
+    /// The slice that is written.
     pub values: &'a mut [T],
 }
 
 impl<'a, T: Copy> SliceCells<'a, T> {
-    /// The cells of `values`, in order.
+    /// A holder of the items of `values`. Cell `i` is index `i` of the slice.
     ///
     /// # Contract
     ///
@@ -97,15 +97,15 @@ impl<'a, T: Copy> Cells for SliceCells<'a, T> {
     }
 }
 
-/// The items of a slice, to be read.
+/// A slice as a source: its items are only read.
 #[derive(Clone, Copy, Debug)]
 pub struct SliceSource<'a, T> {
-    /// Where items are read.
+    /// The slice that is read.
     pub slice: &'a [T],
 }
 
 impl<'a, T: Copy> SliceSource<'a, T> {
-    /// The items of `slice`, in order.
+    /// A source of the items of `slice`, in order.
     ///
     /// # Contract
     ///

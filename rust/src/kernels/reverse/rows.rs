@@ -1,10 +1,12 @@
-//! Bit reversal of rows of any width, by exchanging each two rows that belong to each other, and of items as rows of one.
+//! Bit reversal of rows of any width: each pair of rows whose indices are each other's reverse is
+//! exchanged once. The reversal of single items is that of rows of one item.
 
 use crate::kernels::places::{Places, Swaps};
 use crate::kernels::reverse::pairs::{RowDigits, exchange_pairs};
 
-/// Reverses the rows of `m`, of `row_width` items each, by index bits: with 2^k rows, row `r` becomes the row whose index
-/// has the k bits of `r` in reversed order. The number of rows is zero or a power of two, which [`fits_rows`] tests.
+/// Reverses the rows of `m`, of `row_width` items each, by index bits. With 2^k rows, row `r`
+/// becomes the row whose index has the k bits of `r` in reversed order. The number of rows must be
+/// zero or a power of two, which [`fits_rows`] checks.
 ///
 /// [`fits_rows`]: crate::kernels::reverse::fits_rows
 ///
@@ -24,8 +26,9 @@ pub fn reverse_row_index_bits_on<S: Places>(m: &mut Swaps<S>, row_width: usize) 
     m.count = reverse_rows(Swaps::resumed(&mut m.holder, m.count), rows).swaps();
 }
 
-/// Reverses `m` by index bits, as [`reverse_slice_index_bits`] does, by one exchange of each two places that belong to
-/// each other. The length is zero or a power of two, which `fits_rows(m.len(), 1)` tests.
+/// Reverses `m` by index bits, as [`reverse_slice_index_bits`] does, by one exchange of each pair
+/// of places whose indices are each other's reverse. The length must be zero or a power of two,
+/// which `fits_rows(m.len(), 1)` checks.
 ///
 /// [`reverse_slice_index_bits`]: crate::kernels::reverse::reverse_slice_index_bits
 ///
@@ -44,9 +47,11 @@ pub fn reverse_index_bits_short<S: Places>(m: &mut Swaps<S>) {
     m.count = reverse_short(Swaps::resumed(&mut m.holder, m.count)).swaps();
 }
 
-/// Reverses the order of the `2^lb_num_chunks` chunks of `2^lb_chunk_size` items: with both lengths written as h and c,
-/// place `i` gets the item from `rev(h, i / 2^c) * 2^c + i mod 2^c`. It makes at most n/2 swaps. The length is `2^(h + c)`, for
-/// which [`checked_log_size_sum`](crate::kernels::bits::checked_log_size_sum) of both lengths tests: it has that number.
+/// Reverses the order of the `2^lb_num_chunks` chunks of `2^lb_chunk_size` items by index bits.
+/// With h and c for these two exponents, place `i` gets the item from
+/// `rev(h, i / 2^c) * 2^c + i mod 2^c`. A list of n items takes at most n/2 swaps. The length must
+/// be `2^(h + c)`. To check it, compare it with the power that
+/// [`checked_log_size_sum`](crate::kernels::bits::checked_log_size_sum) returns for both exponents.
 ///
 /// # Contract
 ///
@@ -80,8 +85,9 @@ pub(crate) fn reverse_chunks<M: Places>(m: M, lb_num_chunks: usize, lb_chunk_siz
 /// The kernel of [`reverse_row_index_bits_on`].
 #[inline(always)]
 pub(crate) fn reverse_rows<M: Places>(m: M, rows: RowDigits) -> M {
-    // Where the compiler knows a small number of digits, it writes out the exchanges of all pairs without a loop. Each further
-    // case is one more copy of them, and with too many Rattle's compiler does not put this function into its callers.
+    // If the compiler knows a small number of digits, it unrolls the exchanges of all pairs. Each
+    // further case is one more copy of them, and with too many copies Rattle's compiler no longer
+    // inlines this function.
     match rows.digits {
         2 => exchange_all(m, RowDigits { digits: 2, ..rows }),
         3 => exchange_all(m, RowDigits { digits: 3, ..rows }),

@@ -1,20 +1,26 @@
-//! The transpose of a large region, whose longer side is halved until the parts are small.
+//! The transpose of a large region. Its longer side is halved until the parts are small enough to
+//! be put strip by strip.
 
 use crate::kernels::places::{Cells, SliceSource, Source, Writes};
 use crate::kernels::transpose::regions::{Matrix, Region};
 use crate::kernels::transpose::strips::{Strips, put_strips};
 
-/// The greatest side of a part that is not halved where its other side is no longer.
+/// A part is not halved if neither of its sides is greater than this.
 const LEAF_SIDE: usize = 128;
 
-/// The greatest side of a part that is not halved, however long its other side is.
+/// A part is not halved if one of its sides is not greater than this, however long the other one
+/// is.
 const NARROW_SIDE: usize = 2;
 
-/// Puts the transpose of `region` into `out` as [`transpose_region_on`](crate::kernels::transpose::transpose_region_on) does, by
-/// halves, and returns how many splits are nested on the longest path, which is at most 57. Where both sides of the
-/// region are at most 128 or one of them is at most 2, there is no split. Elsewhere the longer side is halved, or the rows
-/// where both sides are equal, and each half is put in the same way with one level less. 64 levels are enough for every
-/// region of a matrix. The other conditions are those of [`transpose_region_on`](crate::kernels::transpose::transpose_region_on).
+/// Writes the transpose of `region` to `out`, as
+/// [`transpose_region_on`](crate::kernels::transpose::transpose_region_on) does, but by halves. Returns how
+/// many splits are nested on the longest path, which is at most 57.
+///
+/// There is no split if both sides of the region are at most 128 or one of them is at most 2.
+/// Otherwise the longer side is halved, or the rows if both sides are equal. Each half is put in
+/// the same way, with one level less. `levels` limits how deep splits may nest, and must be enough
+/// for the region. 64 levels are enough for every region of a matrix. The other conditions are
+/// those of [`transpose_region_on`](crate::kernels::transpose::transpose_region_on).
 ///
 /// # Contract
 ///
@@ -43,8 +49,8 @@ pub fn transpose_split_on<C: Cells>(
     transpose_source_split_on(&SliceSource::new(input), out, region, width, height, levels)
 }
 
-/// Puts the transpose of a region of any source into `out`, as [`transpose_split_on`] does that of a slice, and under its
-/// conditions.
+/// Writes the transpose of a region of any source to `out`, as [`transpose_split_on`] does for a
+/// slice. The conditions are the same.
 ///
 /// # Contract
 ///
@@ -80,8 +86,8 @@ where
     nested
 }
 
-/// Puts `region` by halves over a counter that goes on from `count`, and returns its holder, its count and how many splits are
-/// nested.
+/// Puts `region` by halves with a counter that starts at `count`. Returns the holder inside, the
+/// new count and how many splits are nested.
 fn put_split_resumed<C: Cells, R: Source<Item = C::Item> + Copy>(
     cells: C,
     count: u128,
@@ -95,8 +101,8 @@ fn put_split_resumed<C: Cells, R: Source<Item = C::Item> + Copy>(
     (done.into_inner(), count, nested)
 }
 
-/// The kernel of [`transpose_source_split_on`]: puts `region` by halves, with at most `levels` levels and each leaf by
-/// `strips`, and returns how many splits are nested too.
+/// The kernel of [`transpose_source_split_on`]: puts `region` by halves with at most `levels`
+/// levels, and each leaf by `strips`. Also returns how many splits are nested.
 pub(crate) fn put_split<M: Cells, R: Source<Item = M::Item> + Copy>(
     out: M,
     matrix: Matrix<R>,
@@ -119,7 +125,7 @@ fn is_leaf(region: Region) -> bool {
     rows.min(cols) <= NARROW_SIDE || rows.max(cols) <= LEAF_SIDE
 }
 
-/// The halves of `region` at its longer side, or at its rows where both are equal.
+/// Halves `region` at its longer side. If both sides are equal, the rows are halved.
 fn halves(region: Region) -> (Region, Region) {
     let (rows, cols) = (region.rows(), region.cols());
     if rows >= cols {

@@ -1,5 +1,8 @@
-//! All parts of a call are the call, in as many steps, and those of a phase may be made in any order. An order is a slice of
-//! numbers of parts. After these each turn is that of the part of its number, and so the empty slice is the order of the numbers.
+//! Runs all parts of a call. This has the effect of the call and takes as many steps, and the parts
+//! of a phase may run in any order.
+//!
+//! An order is a slice of numbers of parts, one for each of the first turns. Each turn after these
+//! belongs to the part with the same number. So the empty slice is the order of the numbers.
 
 ghost use Rattle.std.specs.Prelude.{◌≡◌, ℕ, ◌*◌, ◌^◌, ◌<◌, Some, length, slice_get};
 ghost use Rattle.p3_util_kernels.specs.AnyOrder.{IsOrder, order_of, turn_of};
@@ -12,7 +15,7 @@ use crate::parts::{Phase, ReversalPlan, TransposePlan};
 use crate::places::{Cells, Places, Source};
 use crate::transpose::{Matrix, Strips};
 
-/// The part whose turn `j` is.
+/// The part that turn `j` belongs to.
 fn turn(order: &[usize], j: usize) -> usize
     ensures { result ≡ turn_of order.now j }
 {
@@ -22,7 +25,7 @@ fn turn(order: &[usize], j: usize) -> usize
     }
 }
 
-/// Puts the regions of a plan in this order.
+/// Puts all regions of a plan in the given order.
 pub(crate) fn put_regions<C: Cells, R: Source<Item = C::Item> + Copy>(
     out: C,
     source: R,
@@ -43,7 +46,7 @@ pub(crate) fn put_regions<C: Cells, R: Source<Item = C::Item> + Copy>(
     out
 }
 
-/// Makes the parts of a phase in this order.
+/// Makes all parts of a phase in the given order.
 pub(crate) fn make_parts<M: Places>(m: M, phase: Phase, order: &[usize]) -> M
     requires order { IsOrder (parts_of phase) (turn_of order.now) }
     requires list { IsPhaseOf phase (length (M.items m)) }
@@ -79,7 +82,7 @@ impl<'a> Orders<'a> {
     }
 }
 
-/// Makes all phases of a plan of a reversal, and the parts of each in an order of its own.
+/// Makes all phases of a plan for a reversal, each with an order of its own for its parts.
 pub(crate) fn make_phases<M: Places>(
     m: M,
     row_width: usize,
@@ -103,7 +106,8 @@ pub(crate) fn make_phases<M: Places>(
     m
 }
 
-/// Puts the transpose of a matrix by the regions of a plan that is made for it, under the conditions of the call alone.
+/// Transposes a matrix by the regions of a plan that is made for it. The conditions are only those
+/// of the call.
 pub(crate) fn transpose_in_parts<C: Cells, R: Source<Item = C::Item> + Copy>(
     out: C,
     matrix: Matrix<R>,
@@ -121,7 +125,8 @@ pub(crate) fn transpose_in_parts<C: Cells, R: Source<Item = C::Item> + Copy>(
     put_regions(out, matrix.source, plan, strips, &[])
 }
 
-/// Reverses rows by the phases of a plan that is made for them, under the condition of the call alone.
+/// Reverses rows by the phases of a plan that is made for them. The condition is only that of the
+/// call.
 pub(crate) fn reverse_in_parts<M: Places>(
     m: M,
     row_width: usize,

@@ -1,4 +1,4 @@
-//! Steps of several lists that are interleaved, as threads interleave the steps of several parts.
+//! The steps of several parts, interleaved as threads may interleave them.
 
 ghost use Rattle.std.specs.Prelude.{◌≡◌, ℕ, ◌*◌, ◌^◌, ◌<◌, List, length};
 ghost use Rattle.p3_util_kernels.specs.Interleaved.{AreApartBelow, AreMadeInterleaved, IsInterleaved, IsMadeAlone, IsPutAlone, MakeAlone, PutAlone, SameInTurn, in_turn};
@@ -14,16 +14,16 @@ use crate::parts::{Phase, ReversalPlan, TransposePlan};
 use crate::places::{Cells, Places, Source};
 use crate::transpose::Strips;
 
-/// If no two lists have a place in common, every interleaving of them leaves what they leave one after the other, which is an
-/// interleaving too.
+/// If no two lists of steps have a place in common, every interleaving of them has the same result
+/// as the lists one after the other, which is itself an interleaving.
 pub(crate) fn interleaved<T>()
     ensures puts { SameInTurn {A = T} after_puts places_put }
     ensures swaps { SameInTurn {A = T} after_swaps places_swapped }
     ensures in_turn { (lists : List (List T)) → IsInterleaved lists (in_turn lists) }
 {}
 
-/// If no item of the input is in the output, lists of writes that put the regions of a plan alone have no place in common, and
-/// every interleaving of them puts the transpose.
+/// For writes that put each region of a plan alone: if no item of the input is in the output, no
+/// two regions have a place in common, and every interleaving of the writes puts the transpose.
 pub(crate) fn regions_interleaved<T>(plan: TransposePlan)
     ensures { (input old : List T) (lists : List (List (ℕ × T)))
         → length input ≡ plan.width * plan.height → length old ≡ plan.width * plan.height → NoItemInCommon input old
@@ -32,7 +32,7 @@ pub(crate) fn regions_interleaved<T>(plan: TransposePlan)
         × ((all : List (ℕ × T)) → IsInterleaved lists all → IsTranspose plan.width plan.height input (after_puts old all)) }
 {}
 
-/// A region of a plan is put by writes that put it alone.
+/// The writes that put a region of a plan do so alone.
 pub(crate) fn region_alone<C: Cells, R: Source<Item = C::Item> + Copy>(
     out: C,
     source: R,
@@ -49,13 +49,14 @@ pub(crate) fn region_alone<C: Cells, R: Source<Item = C::Item> + Copy>(
     put_region(out, source, plan, number, strips)
 }
 
-/// If all items differ, every interleaving of exchanges that make the parts of a phase alone makes the phase.
+/// For exchanges that make each part of a phase alone: if all items differ, every interleaving of
+/// them makes the phase.
 pub(crate) fn parts_interleaved<T>(phase: Phase)
     ensures { (old : List T) (lists : List (List (ℕ × ℕ))) (all : List (ℕ × ℕ)) → IsPhaseOf phase (length old) → AllDiffer old
         → MakeAlone phase old lists → IsInterleaved lists all → IsPhaseMade phase old (after_swaps old all) }
 {}
 
-/// A part of a phase is made by exchanges that make it alone.
+/// The exchanges that make a part of a phase do so alone.
 pub(crate) fn part_alone<M: Places>(m: M, phase: Phase, number: usize) -> M
     requires below { number < parts_of phase }
     requires list { IsPhaseOf phase (length (M.items m)) }
@@ -65,8 +66,8 @@ pub(crate) fn part_alone<M: Places>(m: M, phase: Phase, number: usize) -> M
     phase.exchange(SwapSteps { places: m }, number).places
 }
 
-/// If all items differ, the phases of a plan, one after the other and the exchanges of each one's parts interleaved in any way,
-/// reverse the rows.
+/// The phases of a plan, made one after the other with the exchanges of each phase's parts in any
+/// interleaving, are the reversal.
 pub(crate) fn phases_interleaved<T>(row_width: usize, plan: ReversalPlan)
     ensures { (old new : List T) → FitsRows (length old) row_width → IsReversalPlan (length old) row_width plan → length old < 2 ^ 64
         → AllDiffer old → AreMadeInterleaved (phases_of plan) old new → IsRowReversal row_width old new }

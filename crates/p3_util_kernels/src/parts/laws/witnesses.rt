@@ -1,11 +1,13 @@
-//! Lists and orders that meet the conditions of the laws, so none of these conditions is impossible.
+//! Lists and orders that meet the preconditions of the laws, so none of these preconditions is
+//! impossible to meet.
 
 ghost use Rattle.std.specs.Prelude.{◌≡◌, ℕ, ◌-◌, ◌<◌, ◌≤◌, All, List, Some, length, slice_get};
 ghost use Rattle.p3_util_kernels.specs.AnyOrder.{IsOrder, turn_of};
 ghost use Rattle.p3_util_kernels.specs.Least.{AllDiffer};
 ghost use Rattle.p3_util_kernels.specs.PartSteps.{NoItemInCommon};
 
-/// The order from the first part to the last one and the order from the last one to the first are orders.
+/// The order from the first part to the last one is an order, and so is the order from the last
+/// part to the first one.
 pub(crate) fn orders()
     ensures rising { (count : ℕ) (order : List ℕ) → ((j : ℕ) → j < count → slice_get order j ≡ Some j)
         → IsOrder count (turn_of order) }
@@ -13,7 +15,8 @@ pub(crate) fn orders()
         → IsOrder count (turn_of order) }
 {}
 
-/// The numbers from 0 up all differ. A list of numbers below n has no item in common with a list of numbers that are not.
+/// The numbers from 0 on all differ. A list of numbers below n has no item in common with a list of
+/// numbers that are at least n.
 pub(crate) fn numbers_differ()
     ensures all { (xs : List ℕ) → ((i : ℕ) → i < length xs → slice_get xs i ≡ Some i) → AllDiffer xs }
     ensures two { (n : ℕ) (xs ys : List ℕ) → All (λ x. x < n) xs → All (λ y. n ≤ y) ys → NoItemInCommon xs ys }

@@ -25,7 +25,7 @@ pub const NUMBERS: [Option<u8>; 21] = [
     Some(20),
 ];
 
-/// How many numbers are cut, and the pieces by 4.
+/// How many numbers are cut, and the pieces of 4.
 pub const BY_FOUR: [(usize, &[&[u8]]); 7] = [
     (0, &[]),
     (1, &[&[0]]),
@@ -45,7 +45,7 @@ pub const BY_FOUR: [(usize, &[&[u8]]); 7] = [
     ),
 ];
 
-/// How many numbers are cut, and the pieces by 3, filled with 99.
+/// How many numbers are cut, and the pieces of 3, filled with 99.
 pub const PADDED_BY_THREE: [(usize, &[[u8; 3]]); 7] = [
     (0, &[]),
     (1, &[[0, 99, 99]]),

@@ -1,6 +1,8 @@
-//! Logarithms, powers, reversed digits and short names, worked by hand and from the original crate.
+//! Logarithms, powers, reversed digits and short names, worked out by hand and from the original
+//! crate.
 
-/// Numbers, with the least exponent of a power of two that is no less, and the greatest of one that is no more.
+/// Numbers, with the least exponent of a power of two that is not less, and the greatest exponent
+/// of one that is not greater.
 pub const LOGARITHMS: [(usize, usize, usize); 11] = [
     (0, 0, 0),
     (1, 0, 0),
@@ -15,7 +17,7 @@ pub const LOGARITHMS: [(usize, usize, usize); 11] = [
     (usize::MAX, 64, 63),
 ];
 
-/// Exponents, with the power of two where a word has it.
+/// Exponents, with the power of two if it fits a `usize`.
 pub const POWERS: [(usize, Option<usize>); 9] = [
     (0, Some(1)),
     (1, Some(2)),
@@ -28,7 +30,7 @@ pub const POWERS: [(usize, Option<usize>); 9] = [
     (usize::MAX, None),
 ];
 
-/// Two exponents, with their sum and its power of two where a word has it.
+/// Two exponents, with their sum and its power of two if that fits a `usize`.
 pub const SUMS: [(usize, usize, Option<(usize, usize)>); 12] = [
     (0, 0, Some((0, 1))),
     (5, 0, Some((5, 32))),
@@ -44,7 +46,8 @@ pub const SUMS: [(usize, usize, Option<(usize, usize)>); 12] = [
     (usize::MAX, usize::MAX, None),
 ];
 
-/// Words, how many low digits are reversed, and what comes out. Where it is none, the whole word is reversed.
+/// Numbers, how many low digits are reversed, and the result. If that number is 0, all 64 digits
+/// are reversed.
 pub const REVERSED_DIGITS: [(usize, usize, usize); 13] = [
     (0b0_1011, 5, 0b1_1010),
     (0b1_0101, 3, 0b101),
@@ -61,7 +64,8 @@ pub const REVERSED_DIGITS: [(usize, usize, usize); 13] = [
     (14_534_494_822_908_718_657, 60, 587_550_199_770_411_737),
 ];
 
-/// Names of types as the compiler gives them, with their short names. The last five rows are worked by hand.
+/// Names of types as the compiler writes them, with their short names. The last five rows are
+/// worked out by hand.
 pub const NAMES: [(&str, &str); 21] = [
     ("u32", "u32"),
     ("()", "()"),

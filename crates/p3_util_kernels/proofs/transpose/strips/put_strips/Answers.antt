@@ -5,7 +5,7 @@ use Rattle.p3_util_kernels.proofs.transpose.strips.put_strips.Goals as goal
 
 pub loop-row-preserved : goal.loop-row-preserved
 loop-row-preserved g c =
-    let done = record c.args.region { row_end = c.min-end.result } in
+    let done = record c.args.region { row_end = c.end-end.result } in
     let strip = record done { row_start = c.loop-row.row } in
     let cut = IsCut-rows done c.loop-row.row (omega arith) (omega arith) in
     record {

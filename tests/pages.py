@@ -1,9 +1,15 @@
 """For tests/agree: compares the pages with the code: the functions that blocks of Rust quote, the clauses that MODEL names, the
-constants of ARCHITECTURE's table and of sentences, and each link, file and name; and the modules with the files."""
+numbers of ARCHITECTURE's table and of sentences, and each link, file and name; the modules with the files; and the heads of
+specs with the contracts that stand on them."""
+import functools
 import itertools
 import os
 import re
 import subprocess
+
+from contracts import items
+from rattle_source import definition_texts, functions, stood_on
+from rattle_source import read as read_source
 
 # Names of std, of the original, of the kit and of the system that pages speak of, and no source has.
 OUTSIDE = set("""
@@ -12,7 +18,8 @@ OUTSIDE = set("""
     axioms holes incremental Invariants LEMMA libraries statements tidy
 """.split())
 # These pages speak of names that are not here, or are here no more, so none is looked up.
-ELSEWHERE = {"CHANGELOG.md", "bench/TRIED.md", "docs/DIFFERENCES.md"}
+ELSEWHERE = {"CHANGELOG.md", "docs/TRIED.md", "docs/DIFFERENCES.md"}
+TABLE_IS_ABOUT = r"rust/|crates/p3_util(_kernels|_c|_run)?/"
 TABLE_ROW = r"^\| (`[A-Z_`, ]+`) \| ([\d, ^+]+) \| `([^`]+)` \|.*$"
 FILE = r"[\w.-]+(/[\w.-]+)+/?|[\w-]+\.(md|rt|antt|sh|py|rs|h|c|tsv|svg|txt|toml)"
 
@@ -30,6 +37,11 @@ sources = {path: read(path) for path in tracked if re.fullmatch(r"crates/\w+/src
 sources = {path: text for path, text in sources.items() if not re.search(r"/tests(\.rt|/)", path)}
 
 
+@functools.cache
+def functions_of(path):
+    return list(functions(read_source(path)))
+
+
 def place(page, start, text):
     return f"{page}:{pages[page].count(chr(10), 0, start) + 1}: {text}"
 
@@ -44,7 +56,7 @@ bare = {path: in_one_line(text) for path, text in sources.items()}
 
 
 def difference(quoted, name):
-    """Where a quoted function departs from the source that agrees with it longest, and None where it is the source's."""
+    """Where a quoted function departs from the source that agrees with it longest, and None if it is the source's."""
     one_line = in_one_line(quoted)
     has_body = re.search(r"^\{\n(.*\n)*\}$", quoted, re.M)
     said = one_line[re.search(rf"(?<=fn ){name}\b", one_line).start():]
@@ -83,22 +95,21 @@ def check_edits():
 
 
 def check_clauses():
-    """The clauses that a row of MODEL names in brackets are clauses of the calls that it names beside them."""
-    page = "docs/MODEL.md"
+    """The clauses that a row of MODEL names in brackets are clauses of the calls that it names."""
+    page, labels = "docs/MODEL.md", {}
+    for _, function in (found for path in sources for found in functions_of(path)):
+        labels.setdefault(function.name(), set()).update(function.labels())
     for row in re.finditer(r"^\|([^|\n]*)\|([^|\n]*)\|$", pages[page], re.M):
         named = {label for brackets in re.findall(r"\((`[a-z_`, ]+`)\)", row.group()) for label in re.findall(r"\w+", brackets)}
         calls = re.findall(r"(?<=`)(?:\w+::)?([a-z_]\w*)(?=`)", re.sub(r"\([^)]*\)", "", row.group(2)))
-        heads = {call: [head for text in sources.values() for head in re.findall(
-            rf"^ *(?:pub(?:\(crate\))? )?(?:const )?fn {call}\b(.*?)(?:\n *\{{|;$)", text, re.M | re.S)] for call in calls if named}
-        for call in (call for call, found in heads.items() if not found):
+        for call in (call for call in calls if named and call not in labels):
             yield place(page, row.start(), f"no source has a call {call}")
-        for label in sorted(named):
-            if not any(re.search(rf"(requires|ensures)\*? {label} \{{", head) for found in heads.values() for head in found):
-                yield place(page, row.start(), f"no call of {', '.join(calls) or 'no name'} has a clause {label}")
+        for label in sorted(named - {label for call in calls for label in labels.get(call, ())}):
+            yield place(page, row.start(), f"no call of {', '.join(calls) or 'no name'} has a clause {label}")
 
 
 def number(text):
-    """The number that an expression of Rust, a page or a comment writes, and None where it is none."""
+    """The number that an expression of Rust, a page or a comment writes, and None if it writes none."""
     text = {"two": "2", "three": "3", "four": "4", "eight": "8", "sixteen": "16"}.get(text, text).replace("_", "").replace("^", "**")
     return eval(text) if re.fullmatch(r"[\d ()<*+-]+", text) else None
 
@@ -125,8 +136,35 @@ def check_table_of_constants(known):
                 yield place(page, row.start(), f"{name} is {value} in {row.group(3)}, and the code has "
                             + (", ".join(f"{there} in {path}" for path, there in found) or "no such constant there"))
     for name, path, value in known:
-        if re.match(r"rust/|crates/p3_util(_kernels|_c|_run)?/", path) and (name, path) not in listed:
+        if re.match(TABLE_IS_ABOUT, path) and (name, path) not in listed:
             yield f"{page}: its table has no row for {name}, which is {value} in {path}"
+
+
+def values_of(name, crate, known):
+    """The values of a constant of this crate, or, if no crate is given, of what ARCHITECTURE's table is about. For a name as
+    FUNCTION.CLAUSE these are the numbers of the clause."""
+    function, _, clause = name.partition(".")
+    if clause:
+        said = {text for path in sources if f"fn {function}" in sources[path] for _, declared in functions_of(path)
+                if declared.name() == function for title, text in declared.clauses if title.endswith(f" {clause}")}
+        return [int(digits) for digits in re.findall(r"\b\d+\b", said.pop())] if len(said) == 1 else []
+    where = f"crates/{crate}/" if crate else TABLE_IS_ABOUT
+    return sorted({value for other, path, value in known if other == name and re.match(where, path)})
+
+
+def wanted_number(expression, known, clauses):
+    """The number of an expression over names, and the names that do not have one value. A clause gives its numbers in order."""
+    unknown = []
+
+    def value(found):
+        values = clauses[found[2]] if found[2] in clauses else values_of(found[2], found[1], known)
+        if "." in found[2]:
+            clauses[found[2]] = values[1:]
+            values = values[:1]
+        unknown.extend([found[0]] * (len(values) != 1))
+        return str(max(values, default=0))
+
+    return number(re.sub(r"(?:(\w+)::)?([a-z]\w+\.\w+|[A-Z_]{2,})", value, expression)), unknown
 
 
 def check_constants():
@@ -137,15 +175,13 @@ def check_constants():
     texts = {path: re.sub(r"(?<=\s)(?://[/!]?|--)(?=\s)", lambda sign: " " * len(sign[0]), read(path)) for path in tracked
              if re.fullmatch(r".*\.(md|rt|antt|rs|h)", path) and not re.match("rust/src/kernels/|bench/|CHANGELOG|docs/PERF", path)}
     for line in (line for line in read("tests/constants.txt").splitlines() if line and not line.startswith("#")):
-        parts = re.split(r"\{([^}]*)\}", line)
-        pattern = r"(\d[\d_]*(?:\^\d+)?|\w+)".join(re.escape(part).replace(r"\ ", r"\s+") for part in parts[::2])
-        wanted = []
-        for part in parts[1::2]:
-            name, _, more = part.partition(" ")
-            values = {value for other, _, value in known if other == name}
-            if len(values) != 1:
-                yield f"tests/constants.txt: {name} has the values {values or 'of no constant'}, and not one"
-            wanted.append(max(values, default=0) + (number(more) if more else 0))
+        parts, clauses = re.split(r"\{([^}]*)\}", line), {}
+        literal = (re.escape(part).replace(r"\ \.\.\ ", r"[^|]{0,60}?\s").replace(r"\ ", r"\s+") for part in parts[::2])
+        pattern = r"(\d[\d_]*(?:\^\d+)?|\w+)".join(literal)
+        answers = [wanted_number(part, known, clauses) for part in parts[1::2]]
+        for name in (name for _, unknown in answers for name in unknown):
+            yield f"tests/constants.txt: {name} has no value, or more than one"
+        wanted = [value for value, _ in answers]
         found = [(path, there) for path, text in texts.items() for there in re.finditer(pattern, text)]
         if not found:
             yield f"tests/constants.txt: no page, source or definition says '{line}'"
@@ -162,7 +198,7 @@ def anchors(page):
 
 def check_links_and_names():
     """Each link leads to a file and its heading, and each file and name in backquotes is there."""
-    words = {word for path in tracked if not path.endswith((".md", ".svg", ".tsv")) and path != "tests/facts.py"
+    words = {word for path in tracked if not path.endswith((".md", ".svg", ".tsv")) and path != "tests/pages.py"
              for word in re.findall(r"\w+", read(path))} | OUTSIDE
     paths = {"/" + "/".join(path.split("/")[:k]) for path in tracked for k in range(1, path.count("/") + 2)}
     for page, text in pages.items():
@@ -185,12 +221,12 @@ def check_links_and_names():
                 for name in re.findall(r"(?<!\w)[A-Za-z]\w*", code):
                     # An N at the end stands for the size of an item.
                     if len(name) > 3 and re.sub("_N$", "_8", name) not in words and not re.fullmatch("[0-9a-f]{16}", name):
-                        yield place(page, token.start(), f"no name {name}. Where it is none of this repository, tests/facts.py names it")
+                        yield place(page, token.start(), f"no name {name}. If it is not of this repository, add it to tests/pages.py")
 
 
 def check_modules():
-    """Each source is a module of the file above it. Else it would not be compiled, and its tests would not run. What `rust/test`
-    compiles alone is none."""
+    """Each source is a module of the file above it. Otherwise it would not be compiled, and its tests would not run. What
+    `rust/test` compiles alone is no module."""
     for path in tracked:
         file = re.fullmatch(r"((?:crates/\w+|rust|tests/unproved)/(?:src|tests)\b.*)/(?!(?:lib|main|mod)\.)(\w+)(\.rt|\.rs|\.rt\.in)", path)
         if not file or path.startswith("rust/tests/assembly/"):
@@ -201,7 +237,20 @@ def check_modules():
             yield f"{path}: no file above it has it as a module"
 
 
+def check_specs():
+    """A file of specs/ says in its first lines that it serves private contracts if no public one stands on it, and only then."""
+    files = {path: dict(definition_texts(path)) for path in tracked if re.fullmatch(r"crates/\w+/specs/\w+\.antt", path)}
+    public = " ".join(said for path in sources if "/parts" not in path
+                      for said in items(read_source(path), lambda owner, declared: declared.kind == "impl" or declared.seen_by == "pub"))
+    used = stood_on(public, {name: text for texts in files.values() for name, text in texts.items()})
+    for path, texts in files.items():
+        says_private = "private" in re.match(r"(?:--.*\n)*", read(path))[0]
+        if texts and says_private == any(name in used for name in texts):
+            yield f"{path}:1: its first lines say that it serves private contracts, and a public one stands on it" if says_private \
+                else f"{path}:1: no public contract stands on it, and its first lines do not say that it serves private ones"
+
+
 def wrong():
     """A line for each thing that is wrong."""
-    for check in (check_quotations, check_edits, check_clauses, check_constants, check_links_and_names, check_modules):
+    for check in (check_quotations, check_edits, check_clauses, check_constants, check_links_and_names, check_modules, check_specs):
         yield from check()

@@ -1,7 +1,8 @@
-"""The text of src/kernels/contracts.rs: what the words of the contracts in the package's documentation mean.
+"""Makes the text of rust/src/kernels/contracts.rs, for rust/erase: what the names in the contracts of the package's documentation
+mean.
 
-The rows of its tables are those of docs/CALLING.md and docs/MODEL.md, as they stand there, for each word that is used. The
-contract that it reads is the one that docs/CALLING.md reads."""
+The rows of its tables are those of docs/CALLING.md and docs/MODEL.md, for each name that a contract uses. The contract that it
+explains clause by clause is the one that docs/CALLING.md explains."""
 import re
 from dataclasses import dataclass
 
@@ -17,7 +18,7 @@ TABLES = [
     ("Words of this package's kernels", "Name", "docs/MODEL.md", "Definitions of `p3_util_kernels`, in `specs/`"),
     ("Words of the chunks, the map and `zip_eq`", "Name", "docs/MODEL.md", "Definitions of `p3_util`, in `specs/`"),
 ]
-CONTRACT = re.compile(r"^ */// ```text\n(?P<clauses>(?: *///.*\n)*?) */// ```\n(?: *#\[.*\n)*(?P<head>[^;{]*)", re.M)
+CONTRACT = re.compile(r"^ */// ```text\n(?P<clauses>(?: *///.*\n)*?) */// ```\n(?: *#\[.*\n)*(?P<head>(?:; \w+\]|[^;{])*)", re.M)
 OWNER = re.compile(r"^(?:impl|pub trait)\b[^{]*", re.M)
 TOKEN = re.compile(r"\.\w+|\w+|[^\s\w]")
 

@@ -1,14 +1,17 @@
 """Writes the tables of definitions in docs/MODEL.md, from the comments above these definitions in crates/*/specs/.
 
-    python3 tests/definitions.py
+    python3 docs/make/definitions.py
 
-A table has each word of its crate that a clause of a public call, or of a law on parts, names, and each that the comment of
-such a word names in backquotes. The comment is the row's text. Its last sentence `Source: ..` says what the definition was made
-from, and else that of the file's head does."""
+A table has each definition of its crate that a clause of a public call, or of a law on parts, names, and each that the comment of
+such a definition names in backquotes. The comment is the row's text. Its last sentence `Source: ..` says what the definition was
+made from. If there is none, that of the file's head does."""
 import glob
 import re
+import sys
 
-from contracts import CLAUSE, HEAD_ENDS, closed, read, sections
+sys.dont_write_bytecode = True
+from contracts import sections
+from rattle_source import DEFINITION, closed, functions, read
 
 PAGE = "docs/MODEL.md"
 # The files of specs/ of each crate that has a table, in the order of reading. Files that are not named come last.
@@ -28,7 +31,7 @@ OTHERS = ["p3_util_kernels/src/parts.rt", "p3_util_kernels/src/parts/*.rt", "p3_
 FOR_CALLERS = {"ItemsAt"}
 # What each holder says of itself, and where the comments on its traits say what that is.
 OF_HOLDERS, TRAITS = "same_holder n a b", "crates/p3_util_kernels/src/places.rt"
-BEGIN = "<!-- Made of the comments in crates/{}/specs/ by tests/definitions.py. -->"
+BEGIN = "<!-- Made of the comments in crates/{}/specs/ by docs/make/definitions.py. -->"
 END = "<!-- The end of what is made. -->"
 OF_ORIGINAL = " of p3-util 0.8.0"
 
@@ -84,7 +87,7 @@ def definitions(crate):
         with open(paths[file], encoding="utf-8") as found:
             text = found.read()
         head = comment(re.match(r"(?:--.*\n)*", text)[0].splitlines())
-        for found in re.finditer(r"^( *)(?:(?:abbrev|unfoldable) pub|pub (?:record|data)) (\w+)", text, re.M):
+        for found in DEFINITION.finditer(text):
             yield Definition(file, head, text, found)
 
 
@@ -93,11 +96,7 @@ def clauses():
     yield from sections()
     for path in sorted(path for pattern in OTHERS for path in glob.glob(f"crates/{pattern}")):
         text = read(path)
-        for head in re.finditer(r"^ *pub(?:\(crate\))? (?:const |extern \"C\" )?fn \w+", text, re.M):
-            end = HEAD_ENDS.search(text, head.end()).start()
-            while clause := CLAUSE.match(text, end):
-                said, end = closed(text, clause.end() - 1)
-                yield said
+        yield from (said for _, function in functions(text) if function.seen_by for _, said in function.clauses)
         for ghost in re.finditer(r"^ *ghost \w+ = \{", text, re.M):
             yield closed(text, ghost.end() - 1)[0]
 

@@ -1,0 +1,222 @@
+"""Reads Rattle sources (`.rt`): their tokens, their declarations with clauses, and which function a line belongs to.
+
+    python3 docs/make/rattle_source.py FILE LINE        prints the name of the function that has this line
+
+`rust/erase`, the scripts of this folder and those in `tests/` import it."""
+import re
+import sys
+from dataclasses import dataclass
+
+TOKEN = re.compile(r"""
+    (?P<space> \s+ )
+  | (?P<doc> ///(?!/)[^\n]* | //![^\n]* )
+  | (?P<comment> //[^\n]* )
+  | (?P<block> /\* )
+  | (?P<string> [bc]?r(?P<hashes>\#*)".*?"(?P=hashes) | [bc]?"(?:\\.|[^"\\])*" )
+  | (?P<char> b?'(?:\\(?:u\{[^}]*\}|x..|.)|[^\\'\n])' )
+  | (?P<lifetime> '[^\W\d]\w* )
+  | (?P<word> (?:r\#)?\w+ )
+  | (?P<mark> ::|->|=>|&&|\|\||==|!=|<=|>=|\.\.|. )
+""", re.X | re.S)
+CLOSED_BY = {"(": ")", "[": "]", "{": "}"}
+
+
+class Unknown(Exception):
+    """What a script does not know: the place and a word."""
+
+
+@dataclass
+class Token:
+    """A token or a line of documentation, with the white space and the comments before it."""
+    kind: str
+    text: str
+    line: int
+    gap: str
+
+    def lines_before(self):
+        """How many lines end right before it or its comments."""
+        return self.gap[:len(self.gap) - len(self.gap.lstrip())].count("\n")
+
+    def set_lines_before(self, number):
+        rest = self.gap.lstrip()
+        self.gap = "\n" * number + self.gap[:len(self.gap) - len(rest)].rpartition("\n")[2] + rest
+
+    def indent(self):
+        return self.gap.rpartition("\n")[2]
+
+
+def scanned(text, name):
+    """The tokens of `text`. The last one is empty and has what follows the others."""
+    at, line, gap = 0, 1, ""
+    while at < len(text):
+        match = TOKEN.match(text, at)
+        kind, piece = match.lastgroup, match[0]
+        if kind == "block":
+            piece = text[at:block_end(text, at)]
+        if piece == '"' or not piece:
+            raise Unknown(f"{name}:{line}: a string or a comment without an end")
+        if kind in ("space", "comment", "block"):
+            gap += piece
+        else:
+            yield Token(kind, piece, line, gap)
+            gap = ""
+        at += len(piece)
+        line += piece.count("\n")
+    yield Token("end", "", line, gap)
+
+
+def block_end(text, at):
+    """The place after the comment at `at`, which may have comments in it, or `at` where it does not end."""
+    depth = 0
+    for mark in re.finditer(r"/\*|\*/", text[at:]):
+        depth += 1 if mark[0] == "/*" else -1
+        if depth == 0:
+            return at + mark.end()
+    return at
+
+
+class Source:
+    """A text as tokens, and for the place of each bracket the place of its partner."""
+
+    def __init__(self, text, name):
+        self.name = name
+        self.tokens = list(scanned(text, name))
+        self.partner = {}
+        opened = []
+        for at, token in enumerate(self.tokens):
+            if token.text in CLOSED_BY:
+                opened.append(at)
+            elif token.text in CLOSED_BY.values():
+                if not opened or CLOSED_BY[self.text(opened[-1])] != token.text:
+                    self.refuse(opened[-1] if opened else at, "a bracket without its partner")
+                self.partner[at] = opened.pop()
+                self.partner[self.partner[at]] = at
+        if opened:
+            self.refuse(opened[-1], "a bracket without its partner")
+
+    def refuse(self, at, word):
+        """Ends with the place of the token at `at`, and a word for what is wrong there."""
+        raise Unknown(f"{self.name}:{self.tokens[at].line}: {word}: {self.text(at)}")
+
+    def text(self, at):
+        return self.tokens[at].text if at < len(self.tokens) else ""
+
+    def texts(self, start, end):
+        return [self.text(at) for at in range(start, end)]
+
+    def next(self, text, at):
+        """The place of the next token `text` after `at`."""
+        place = next((i for i in range(at, len(self.tokens)) if self.text(i) == text), None)
+        return place or self.refuse(at, f"an item without its {text}")
+
+    def is_of_a_trait(self, at):
+        """Whether the innermost block around `at` is a trait or an impl of one."""
+        brace = max((i for i, end in self.partner.items() if i < at < end and self.text(i) == "{"), default=0)
+        before = max((i for i in self.partner if i < brace and self.text(i) in "{}"), default=0)
+        head = self.texts(before, brace)
+        return "trait" in head or "impl" in head and any(a == "for" and b != "<" for a, b in zip(head, head[1:]))
+
+
+# What stands before the name of a function, and where its head ends.
+FUNCTION = r'(?:pub(?:\(\w+\))? )?(?:const )?(?:extern "C" )?fn '
+HEAD_ENDS = re.compile(r"\n\s*(?:requires|ensures)\b|\{|;$", re.M)
+CLAUSE = re.compile(r"\s*(requires|ensures)(\*?) ?(\w*) \{")
+
+
+@dataclass
+class Declaration:
+    """A declaration: who sees it (`pub`, `pub(crate)` or nobody else), its kind, its head in one line, its clauses, each with its
+    title, and what its braces hold."""
+    seen_by: str
+    kind: str
+    head: str
+    clauses: list
+    body: str
+
+    def name(self):
+        """The name of what is declared. That of an `impl` is the name of the type, or of the trait that the type implements."""
+        return re.match(r"(?:impl(?:<.*?>)? (?=\w)|\w+ )(\w+)", self.head)[1]
+
+    def labels(self):
+        """The names of the clauses. One without a name has the empty one."""
+        return {title.partition(" ")[2] for title, _ in self.clauses}
+
+
+def read(path):
+    """The text of a source, in which the lines of comments and of attributes are empty."""
+    with open(path, encoding="utf-8") as text:
+        return re.sub(r"^ *(//.*|#!?\[.*\])$", "", text.read(), flags=re.M)
+
+
+def closed(text, opened):
+    """What is between the brace at `opened` and the one that closes it, and the place after that."""
+    depth = 1
+    for at in range(opened + 1, len(text)):
+        depth += {"{": 1, "}": -1}.get(text[at], 0)
+        if depth == 0:
+            return text[opened + 1:at], at + 1
+    raise Unknown(f"a brace without its partner: {text[opened:opened + 40]}")
+
+
+def declarations(text, indent):
+    """Each declaration of the text at this indent."""
+    kinds = rf'^ {{{indent}}}(?:(pub(?:\(crate\))?) )?(?:const |extern "C" )?(fn|struct|enum|trait|type|impl|ghost(?! use))\b'
+    for start in re.finditer(kinds, text, re.M):
+        end = HEAD_ENDS.search(text, start.end()).start()
+        head, clauses = " ".join(text[start.start(2):end].split()), []
+        while start[2] == "fn" and (clause := CLAUSE.match(text, end)):
+            said, end = closed(text, clause.end() - 1)
+            clauses.append((f"{clause[1]}{clause[2]} {clause[3]}".rstrip(), said))
+        body = re.compile(r"\s*\{").match(text, end)
+        yield Declaration(start[1] or "", start[2], head, clauses, closed(text, body.end() - 1)[0] if body else "")
+
+
+def functions(text):
+    """Each function of the text with the name of the type or the trait that it belongs to, which may be empty."""
+    for outer in declarations(text, 0):
+        if outer.kind == "fn":
+            yield "", outer
+        elif outer.kind in ("impl", "trait"):
+            yield from ((outer.name(), inner) for inner in declarations(outer.body, 4) if inner.kind == "fn")
+
+
+DEFINITION = re.compile(r"^( *)(?:(?:abbrev|unfoldable) pub|pub (?:record|data)) (\w+)", re.M)
+
+
+def definition_texts(path):
+    """Of each public definition in a file of specs/ its name, and its text without comments."""
+    with open(path, encoding="utf-8") as source:
+        text = source.read()
+    for found in DEFINITION.finditer(text):
+        first, *following = text[found.start():].split("\n")
+        lines = [first]
+        for line in following:
+            indent = len(line) - len(line.lstrip())
+            if line.strip() and indent <= len(found[1]) and not re.match(rf" *{found[2]}\b", line):
+                break
+            if line.strip() and not line.strip().startswith("--"):
+                lines.append(line)
+        yield found[2], "\n".join(lines)
+
+
+def stood_on(text, texts):
+    """The names of the definitions of `texts` that a text cites, and of those that such definitions cite."""
+    names, more = set(), {text}
+    while more:
+        cited = {name for said in more for name in re.findall(r"(?<![.\w])\w+", said) if name in texts} - names
+        names |= cited
+        more = {texts[name] for name in cited}
+    return names
+
+
+def function_at(text, number):
+    """The last function that begins at or above the line of this number. An attribute belongs to the function below it."""
+    lines = text.split("\n")
+    while re.match(" *#\\[", lines[number - 1]):
+        number += 1
+    return re.findall(rf"^ *{FUNCTION}(\w+)", "\n".join(lines[:number]), re.M)[-1]
+
+
+if __name__ == "__main__":
+    with open(sys.argv[1], encoding="utf-8") as source:
+        print(function_at(source.read(), int(sys.argv[2])))

@@ -1,0 +1,120 @@
+//! The transforms of all columns of a matrix, on scoped threads of std, beside the sum that defines them.
+//!
+//! Its rows are put into the order of reversed index bits in parts. Then each stage joins transforms of half the length in pairs:
+//! a row with the one that is half a block behind it, in all columns. The threads take runs of such rows from a queue.
+
+use std::num::NonZero;
+use std::sync::Mutex;
+use std::thread::{available_parallelism, scope};
+
+use p3_util_proved::log2_strict_usize;
+use p3_util_proved::parts::{self, ReversalPart};
+
+/// The prime `15 * 2^27 + 1`, and a number whose powers are all numbers below it but 0.
+const P: u64 = 2_013_265_921;
+const GENERATOR: u64 = 31;
+
+const WIDTH: usize = 100;
+const HEIGHT: usize = 1 << 12;
+
+/// The most rows that a thread joins with as many others before it takes the next run.
+const RUN_ROWS: usize = 64;
+
+fn power(base: u64, exponent: u64) -> u64 {
+    match exponent {
+        0 => 1,
+        _ if exponent % 2 == 1 => base * power(base, exponent - 1) % P,
+        _ => power(base * base % P, exponent / 2),
+    }
+}
+
+/// A number whose powers repeat after `2^log_order` of them, and not before.
+fn root(log_order: usize) -> u64 {
+    power(GENERATOR, (P - 1) >> log_order)
+}
+
+/// Runs all jobs on so many threads, and returns when they are done.
+fn run_all<J>(threads: usize, jobs: impl Iterator<Item = J> + Send, run: impl Fn(J) + Sync) {
+    let queue = Mutex::new(jobs);
+    // The lock is held while a job is taken, and not while it runs.
+    let next = || queue.lock().ok()?.next();
+    scope(|scope| {
+        for _ in 0..threads {
+            scope.spawn(|| std::iter::from_fn(next).for_each(&run));
+        }
+    });
+}
+
+/// Rows of the first half of a block from row `start` of it on, and as many of the second half.
+struct Run<'a> {
+    low: &'a mut [u32],
+    high: &'a mut [u32],
+    start: u64,
+}
+
+impl Run<'_> {
+    /// Joins each row of the first half with the one of the second half, where `w` is the root of the block's order.
+    fn join(self, w: u64) {
+        let mut twiddle = power(w, self.start);
+        for (low, high) in self.low.chunks_exact_mut(WIDTH).zip(self.high.chunks_exact_mut(WIDTH)) {
+            for (x, y) in low.iter_mut().zip(high) {
+                let (even, odd) = (u64::from(*x), u64::from(*y) * twiddle % P);
+                // Both are below P, which fits into 32 binary digits.
+                *x = ((even + odd) % P) as u32;
+                *y = ((even + P - odd) % P) as u32;
+            }
+            twiddle = twiddle * w % P;
+        }
+    }
+}
+
+/// The runs of a block, of which each half has the transforms of half its length.
+fn runs(block: &mut [u32]) -> impl Iterator<Item = Run<'_>> {
+    let (low, high) = block.split_at_mut(block.len() / 2);
+    let halves = low.chunks_mut(RUN_ROWS * WIDTH).zip(high.chunks_mut(RUN_ROWS * WIDTH));
+    let starts = (0..).step_by(RUN_ROWS);
+    halves.zip(starts).map(|((low, high), start)| Run { low, high, start })
+}
+
+/// Puts the transform of each column in the place of the column.
+fn transform(matrix: &mut [u32], threads: usize) {
+    parts::row_reversal(matrix, WIDTH, 4 * threads).for_each_phase(|parts| {
+        println!("the rows are reversed in {} parts", parts.len());
+        run_all(threads, parts, ReversalPart::run);
+    });
+    for log_half in 0..log2_strict_usize(HEIGHT) {
+        let w = root(log_half + 1);
+        let blocks = matrix.chunks_exact_mut((2 * WIDTH) << log_half);
+        run_all(threads, blocks.flat_map(runs), |run| run.join(w));
+    }
+}
+
+/// Number k of the transform of a column: the sum of `values[j] * w^(j * k)` over all j, where w is the root of the order HEIGHT.
+fn by_definition(values: &[u64], k: u64) -> u64 {
+    let w = power(root(log2_strict_usize(HEIGHT)), k);
+    values.iter().rev().fold(0, |sum, value| (sum * w + value) % P)
+}
+
+fn column(matrix: &[u32], number: usize) -> Vec<u64> {
+    matrix
+        .iter()
+        .skip(number)
+        .step_by(WIDTH)
+        .map(|item| u64::from(*item))
+        .collect()
+}
+
+fn main() {
+    let threads = available_parallelism().map_or(1, NonZero::get);
+    let items = (0..(HEIGHT * WIDTH) as u64).map(|i| (i * i + 7 * i) % P);
+    let matrix: Vec<u32> = items.map(|item| item as u32).collect();
+    let mut transformed = matrix.clone();
+    transform(&mut transformed, threads);
+    for number in [0, 57, WIDTH - 1] {
+        let values = column(&matrix, number);
+        for (k, found) in (0..).zip(column(&transformed, number)) {
+            assert_eq!(found, by_definition(&values, k), "number {k} of column {number}");
+        }
+    }
+    println!("the transforms of three columns are as the sum defines them");
+}

@@ -1,0 +1,88 @@
+//! What the parts of a transpose read: each item once, in the order of their strips. Tests of results notice neither.
+
+use core::cell::RefCell;
+use core::mem::discriminant;
+use std::vec::Vec;
+
+use super::*;
+use crate::kernels::transpose::transpose_matrix;
+
+/// A slice that notes the place of each read.
+#[derive(Clone, Copy)]
+struct Noted<'a> {
+    items: &'a [usize],
+    reads: &'a RefCell<Vec<usize>>,
+}
+
+impl Source for Noted<'_> {
+    type Item = usize;
+
+    fn len(&self) -> usize {
+        self.items.len()
+    }
+
+    fn at(&self, i: usize) -> usize {
+        self.reads.borrow_mut().push(i);
+        self.items[i]
+    }
+}
+
+/// The places of the numbers below `len` that `call` reads, in order.
+fn reads(len: usize, call: impl FnOnce(&[usize], &mut [usize], Noted)) -> Vec<usize> {
+    let items: Vec<usize> = (0..len).collect();
+    let mut output = items.clone();
+    let reads = RefCell::new(Vec::new());
+    let source = Noted {
+        items: &items,
+        reads: &reads,
+    };
+    call(&items, &mut output, source);
+    reads.into_inner()
+}
+
+#[test]
+fn each_item_is_read_once() {
+    for (width, height, wish) in [(64, 64, 1), (64, 64, 4), (100, 40, 3), (40, 100, 3), (5, 3, 9)] {
+        let mut read = reads(width * height, |items, output, source| {
+            let mut parts = transpose_in_parts(items, output, width, height, wish).unwrap();
+            while let Some(part) = parts.split_first() {
+                part.put_from(source);
+            }
+        });
+        read.sort_unstable();
+        assert!(read.into_iter().eq(0..width * height), "{width} by {height}");
+    }
+}
+
+#[test]
+fn strips_of_the_parts() {
+    for strips in [
+        Strips::Wide,
+        Strips::of(Matrix::new(SliceSource::new(&[0; 64 * 64]), 64, 64)),
+    ] {
+        let by_parts = reads(64 * 64, |items, output, source| {
+            let mut parts = transpose_in_parts(items, output, 64, 64, 1).unwrap();
+            parts.phase.strips = strips;
+            parts.put_from(source);
+        });
+        let by_call = reads(64 * 64, |_, output, source| {
+            let _ = transpose_matrix(SliceCells::new(output), Matrix::new(source, 64, 64), strips);
+        });
+        assert!(by_parts == by_call);
+    }
+}
+
+/// The parts have the strips of the call, which are not the kernels' own for large items.
+#[test]
+fn strips_of_the_call() {
+    fn is_of_call<T: Copy>(item: T, width: usize, height: usize) -> bool {
+        let input = std::vec![item; width * height];
+        let mut output = input.clone();
+        let matrix = Matrix::new(SliceSource::new(&input), width, height);
+        let parts = transpose_in_parts(&input, &mut output, width, height, 4).unwrap();
+        assert!(discriminant(&parts.phase.strips) == discriminant(&strips_of(matrix)));
+        discriminant(&Strips::of(matrix)) == discriminant(&strips_of(matrix))
+    }
+    assert!(is_of_call(0u8, 64, 64));
+    assert!(!is_of_call([0u64; 4], 16, 65_664));
+}

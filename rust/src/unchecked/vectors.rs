@@ -1,0 +1,121 @@
+//! Squares of items of 4 and of 8 bytes, transposed in the vector registers of x86-64 and of aarch64. Only
+//! `unchecked.rs` uses this file.
+//!
+//! A register holds whole items. These may be pointers, or have bytes that were never written. So a register is never
+//! read as a number. It is a [`MaybeUninit`]: copying it keeps each byte as it is, and keeps what a pointer points
+//! into. The shuffles of `core::arch` take numbers. Therefore a shuffle here is one assembly instruction, with the same
+//! effect as Rust code that moves such bytes one by one. It touches no memory: Rust reads and writes all items, so a
+//! race detector sees these accesses.
+
+use core::arch::asm;
+use core::array::from_fn;
+use core::mem::{MaybeUninit, transmute_copy};
+
+#[cfg(target_feature = "neon")]
+use core::arch::aarch64::uint8x16_t as Vector;
+#[cfg(target_feature = "sse2")]
+use core::arch::x86_64::__m128i as Vector;
+#[cfg(not(any(target_feature = "neon", target_feature = "sse2")))]
+type Vector = u128;
+
+use crate::kernels::places::{Four, turned_block};
+
+/// Whether squares of items are transposed in registers here. Miri does not support assembly.
+pub(crate) const HERE: bool =
+    cfg!(not(miri)) && (cfg!(target_feature = "sse2") || cfg!(all(target_feature = "neon", target_endian = "little")));
+
+/// Two items of 8 bytes, or four of 4 bytes.
+pub(super) type Register = MaybeUninit<Vector>;
+
+/// A function from the rows of a square to its columns. Both are registers.
+type Turned<const SIDE: usize> = fn([Register; SIDE]) -> [Register; SIDE];
+
+/// The side of a square of such items that is transposed in registers, or 1 if none is.
+pub(super) const fn side<T>() -> usize {
+    match size_of::<T>() {
+        4 if HERE => 4,
+        8 if HERE => 2,
+        _ => 1,
+    }
+}
+
+/// Defines functions that are one instruction each, given by its name on x86-64, and by its name on aarch64 with the
+/// parts of a register.
+macro_rules! shuffles {
+    ($($name:ident: $x86:literal, $arm:literal $parts:literal)*) => {$(
+        #[inline(always)]
+        #[allow(unused)] // Where `side` is 1 nothing is shuffled.
+        pub(super) fn $name(a: Register, b: Register) -> Register {
+            let mut to = a;
+            // SAFETY: the instruction reads two registers, writes one, and does nothing else. With AVX it has three
+            // operands, because older instructions are slow among those of AVX.
+            #[cfg(all(target_feature = "sse2", not(target_feature = "avx")))]
+            unsafe { asm!(concat!($x86, " {}, {}"), inlateout(xmm_reg) to, in(xmm_reg) b,
+                options(pure, nomem, nostack, preserves_flags)) }
+            #[cfg(target_feature = "avx")]
+            unsafe { asm!(concat!("v", $x86, " {}, {}, {}"), lateout(xmm_reg) to, in(xmm_reg) a, in(xmm_reg) b,
+                options(pure, nomem, nostack, preserves_flags)) }
+            #[cfg(target_feature = "neon")]
+            unsafe { asm!(concat!($arm, " {0:v}.", $parts, ", {1:v}.", $parts, ", {2:v}.", $parts), lateout(vreg) to,
+                in(vreg) a, in(vreg) b, options(pure, nomem, nostack, preserves_flags)) }
+            to
+        }
+    )*};
+}
+
+// These interleave the parts a0 a1 .. and b0 b1 .. of two registers as a0 b0 ..: those of the low halves, and those of
+// the high halves.
+shuffles! {
+    low_4: "punpckldq", "zip1" "4s"
+    high_4: "punpckhdq", "zip2" "4s"
+    low_8: "punpcklqdq", "zip1" "2d"
+    high_8: "punpckhqdq", "zip2" "2d"
+}
+
+/// Transposes a square of items of 8 bytes.
+#[inline(always)]
+pub(super) fn turned_8([a, b]: [Register; 2]) -> [Register; 2] {
+    [low_8(a, b), high_8(a, b)]
+}
+
+/// Transposes a square of items of 4 bytes.
+#[inline(always)]
+pub(super) fn turned_4([a, b, c, d]: [Register; 4]) -> [Register; 4] {
+    let [p, q] = turned_8([low_4(a, b), low_4(c, d)]);
+    let [r, s] = turned_8([high_4(a, b), high_4(c, d)]);
+    [p, q, r, s]
+}
+
+/// Does the same as [`turned_block`], in registers if the items fit them.
+#[inline(always)]
+pub(super) fn turned<T: Copy>(rows: &Four<Four<T>>) -> Four<Four<T>> {
+    match side::<T>() {
+        // SAFETY: a row is a register, and each of the resulting registers has four whole items.
+        4 => unsafe { transmute_copy(&turned_4(transmute_copy(rows))) },
+        // SAFETY: a row is two registers, and each of the resulting registers has two whole items.
+        2 => unsafe {
+            let [a, b, c, d]: [[Register; 2]; 4] = transmute_copy(rows);
+            let [[p, q], [r, s]] = [turned_8([a[0], b[0]]), turned_8([c[0], d[0]])];
+            let [[t, u], [v, w]] = [turned_8([a[1], b[1]]), turned_8([c[1], d[1]])];
+            transmute_copy(&[[p, r], [q, s], [t, v], [u, w]])
+        },
+        _ => turned_block(rows),
+    }
+}
+
+/// Exchanges the squares at `x` and at `y`, each with the mirror image of the other. Rows begin `stride` items apart,
+/// and have 16 bytes. Both squares must be valid for reads and writes, and have no item in common.
+#[inline(always)]
+pub(super) unsafe fn exchange<T, const SIDE: usize>(x: *mut T, y: *mut T, stride: usize, turned: Turned<SIDE>) {
+    // SAFETY: the rows are those of the squares. They may be at any multiple of an item's alignment.
+    unsafe {
+        let rows = |first: *mut T| from_fn(|row| first.add(row * stride).cast::<Register>());
+        let (of_x, of_y): ([_; SIDE], [_; SIDE]) = (rows(x), rows(y));
+        let to_y = turned(of_x.map(|row| row.read_unaligned()));
+        let to_x = turned(of_y.map(|row| row.read_unaligned()));
+        for row in 0..SIDE {
+            of_x[row].write_unaligned(to_x[row]);
+            of_y[row].write_unaligned(to_y[row]);
+        }
+    }
+}

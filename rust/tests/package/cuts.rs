@@ -1,0 +1,63 @@
+//! How a call is cut: into how many parts, of which shapes, and what is left of them as they are taken.
+
+use p3_util_proved::parts::*;
+use p3_util_proved::reverse_slice_row_index_bits;
+
+use crate::refusal::refusal;
+
+/// How many parts a transpose has by a wish: as many as the longer side has steps, each of the fewest whole sixteens by which
+/// there are no more parts than the wish. With the feature `checked` that side is always the width.
+#[test]
+fn parts_of_transposes() {
+    let cases = [
+        (1000, 30, 16, [16, 16]),
+        (30, 1000, 16, [16, 2]),
+        (2048, 512, 64, [64, 64]),
+        (512, 2048, 64, [64, 32]),
+        (4096, 16, 256, [256, 256]),
+        (16, 4096, 256, [256, 1]),
+        (16, 4096, usize::MAX, [256, 1]),
+        (100, 100, 3, [3, 3]),
+        (100, 100, 6, [4, 4]),
+        (100, 100, 7, [7, 7]),
+        (17, 16, 9, [2, 2]),
+        (16, 17, 9, [2, 1]),
+    ];
+    for (width, height, wish, [by_both, by_columns]) in cases {
+        let input = vec![0u8; width * height];
+        let mut output = input.clone();
+        let count = transpose(&input, &mut output, width, height, wish).len();
+        let wanted = if cfg!(feature = "checked") { by_columns } else { by_both };
+        assert_eq!(count, wanted, "{width} by {height} by a wish of {wish}");
+    }
+}
+
+/// The parts of each phase of a reversal say how many of them are left, before the first one is taken and after each.
+#[test]
+fn parts_that_are_left() {
+    for (bits, wish) in [(4, 3), (18, 4), (19, 1), (19, 9), (20, 16)] {
+        let mut list = vec![0u8; 1 << bits];
+        reversal(&mut list, wish).for_each_phase(|mut parts| {
+            for left in (0..parts.len()).rev() {
+                assert!(parts.next().is_some());
+                assert_eq!((parts.len(), parts.size_hint()), (left, (left, Some(left))));
+            }
+            assert!(parts.next().is_none() && parts.next().is_none());
+        });
+    }
+}
+
+/// Rows that the call refuses are refused, also where their list would fit in rows of one item. Others are reversed as by the call.
+#[test]
+fn rows_that_fit() {
+    for (len, row_width) in (0..=40).flat_map(|len| (0..=40).map(move |row_width| (len, row_width))) {
+        let mut list: Vec<usize> = (0..len).collect();
+        let mut wanted = list.clone();
+        let panic = refusal(|| {
+            row_reversal(&mut list, row_width, 3).for_each_phase(|parts| parts.for_each(ReversalPart::run));
+        });
+        let is_refused = refusal(|| reverse_slice_row_index_bits(&mut wanted, row_width)).is_some();
+        assert_eq!(panic.is_some(), is_refused, "{len} items in rows of {row_width}");
+        assert_eq!(list, wanted, "{len} items in rows of {row_width}");
+    }
+}

@@ -1,0 +1,43 @@
+"""For tests/agree: compares the prototypes of c/p3_util.h with the exports of crates/p3_util_c: their names, the types and the order
+of their arguments, and what they return. Neither a C compiler nor the linker sees a difference."""
+import glob
+import re
+
+from rattle_source import declarations, read
+
+HEADER = "c/p3_util.h"
+TYPES = {"usize": "size_t", "bool": "bool"}
+
+
+def arguments(text):
+    """The arguments of an export as C writes them. A list is a pointer and a length, which has the list's name if there is another
+    list."""
+    found = re.findall(r"(\w+): (&mut |&|)(\[.*?\]+|\w+)(?=,|$)", text)
+    lists = [name for name, _, of in found if of.startswith("[")]
+    for name, reference, of in found:
+        constant = "const " if reference == "&" else ""
+        if of.startswith("["):
+            yield f"{constant}void *{name}"
+            yield "size_t len" if lists == [name] else f"size_t {name}_len"
+        else:
+            yield f"{constant}{TYPES[of]} {'*' if reference else ''}{name}"
+
+
+def exported():
+    for path in sorted(glob.glob("crates/p3_util_c/src/*.rt")):
+        for found in declarations(read(path), 0):
+            if found.seen_by == "pub" and found.kind == "fn":
+                name, given, returned = re.fullmatch(r"fn (\w+)\(\s*(.*?),?\s*\) -> (\w+)", found.head).groups()
+                yield f"{TYPES[returned]} {name}({', '.join(arguments(given)) or 'void'});"
+
+
+def declared():
+    for prototype in re.findall(r"^\w[\w *]*\bp3_util_\w+\([^()]*\);", read(HEADER), re.M):
+        yield " ".join(prototype.split())
+
+
+def wrong():
+    here, there = set(declared()), set(exported())
+    for prototype in sorted(here ^ there):
+        says = "declares this, and no export is so" if prototype in here else "does not declare this, and an export is so"
+        yield f"{HEADER}: {says}: {prototype}"
