@@ -122,10 +122,10 @@ fn overlapping_regions() {
     run_both(parts, cuts, Parts::put);
 }
 
-/// The first 4 of 8 line pairs, and the last of these with two more, in rows of three items.
+/// Two blocks of the pairs of 2^8 rows of three items: of the numbers below 8, and of those from 6 to below 12.
 #[test]
 #[ignore = "a race, which a detector has to report"]
-fn overlapping_ranges() {
+fn overlapping_pairs() {
     exchanges_both(3 << 8, 3, 0, [(2, 0), (3, 1)]);
 }
 
