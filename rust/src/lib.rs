@@ -44,8 +44,8 @@
 //! - `checked`: the kernels check each index of a slice, and this crate has no unsafe code. Results are the same. Cargo
 //!   enables a feature for the whole program if one crate asks for it.
 //!
-//! No feature is on by default. The crate is `no_std` with `alloc`, has no dependency and no build script, and starts no
-//! thread. [`parts`] cuts a call into parts for threads of your own.
+//! No feature is on by default. The crate is `no_std` with `alloc`, has no dependency and no build script, and starts
+//! no thread. [`parts`] cuts a call into parts for threads of your own.
 #![no_std]
 #![cfg_attr(feature = "checked", forbid(unsafe_code))]
 #![cfg_attr(not(feature = "checked"), deny(unsafe_code))]
@@ -196,9 +196,21 @@ pub const fn assert_sync<T: Sync>() {}
 /// With 2^k items, index `i` gets the item from the index that has the k bits of `i` in reversed order. No item is
 /// cloned or dropped. The kernel is that of [`kernels::reverse::reverse_slice_index_bits`], whose contract says this.
 ///
+/// ```
+/// use p3_util_proved::reverse_slice_index_bits;
+///
+/// let mut list = ["000", "001", "010", "011", "100", "101", "110", "111"];
+/// reverse_slice_index_bits(&mut list);
+/// assert_eq!(list, ["000", "100", "010", "110", "001", "101", "011", "111"]);
+/// ```
+///
 /// # Panics
 ///
-/// If the length is neither zero nor a power of two.
+/// If the length is neither zero nor a power of two:
+///
+/// ```should_panic
+/// p3_util_proved::reverse_slice_index_bits(&mut [0, 1, 2, 3, 4, 5]);
+/// ```
 #[inline]
 #[track_caller]
 pub fn reverse_slice_index_bits<F: Send + Sync>(vals: &mut [F]) {

@@ -9,9 +9,9 @@ use crate::kernels::linear_map as proved;
 pub use crate::kernels::linear_map::{Iter, Keys, Values};
 use crate::memory::{Global, granted};
 
-/// A map in insertion order, for few keys. A lookup compares each stored key with the given one, as in `stored ==
-/// given`. So it takes time proportional to the number of pairs, and inserting n new keys takes time proportional to
-/// n^2.
+/// A map in insertion order, for few keys. A lookup compares each stored key with the given one, as in
+/// `stored == given`. So it takes time proportional to the number of pairs, and inserting n new keys takes time
+/// proportional to n^2.
 ///
 /// Each method calls the proved one of the same name of [`kernels::linear_map::LinearMap`](proved::LinearMap), whose
 /// contract says what it does. The proved method returns an error if memory runs out, and this one panics.

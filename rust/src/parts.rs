@@ -1,8 +1,8 @@
 //! Transposes and reversals in parts, for threads of your own. This package starts none.
 //!
-//! A call is cut into parts, each of which may run on any thread. The parts of a transpose may run in any order. A reversal has
-//! phases: the parts of one phase may run in any order, and all of them have to be done before the next phase begins. All parts
-//! together have the same effect as the call. Nothing is allocated.
+//! A call is cut into parts, each of which may run on any thread. The parts of a transpose may run in any order. A
+//! reversal has phases: the parts of one phase may run in any order, and all of them have to be done before the next
+//! phase begins. All parts together have the same effect as the call. Nothing is allocated.
 //!
 //! ```
 //! use std::thread::scope;
@@ -25,21 +25,21 @@
 //! assert_eq!(list[..3], [0, 1 << 19, 1 << 18]);
 //! ```
 //!
-//! Each phase has a scope of its own, inside the closure. A scope waits for its threads, so when the closure returns, the phase
-//! is done. One scope around all phases does not compile: its threads could still run parts of one phase when the next one
-//! begins.
+//! Each phase has a scope of its own, inside the closure. A scope waits for its threads, so when the closure returns,
+//! the phase is done. One scope around all phases does not compile: its threads could still run parts of one phase when
+//! the next one begins.
 //!
 //! With rayon, a phase is `phase.par_bridge().for_each(ReversalPart::run)`, or
-//! `phase.collect::<Vec<_>>().into_par_iter().for_each(ReversalPart::run)`. The first needs no list of the parts: each thread
-//! takes the next one behind a lock. Both return when all parts are done.
+//! `phase.collect::<Vec<_>>().into_par_iter().for_each(ReversalPart::run)`. The first needs no list of the parts: each
+//! thread takes the next one behind a lock. Both return when all parts are done.
 //!
 //! # How many parts
 //!
-//! The number of parts that a call asks for is a wish. 0 is 1. A transpose has at most as many parts.
+//! The number of parts that you pass to a call is a wish, and 0 counts as 1. A transpose has at most that many parts.
 //!
-//! A reversal is cut by a grid. By a wish of N, each side of a square is cut into at most P = 1 + ⌊2√(N − 1)⌋ parts, and a
-//! phase has P(P + 1) / 2 parts: about two for each that was asked for. It has twice as many if there are two squares. A short
-//! side has fewer parts.
+//! A reversal is cut by a grid. For a wish of N, each side of a square is cut into at most P = 1 + ⌊2√(N − 1)⌋ parts,
+//! and a phase has P(P + 1) / 2 parts: about two for each part of the wish. It has twice as many if there are two
+//! squares. A short side has fewer parts.
 //!
 //! ```
 //! use p3_util_proved::parts::reversal;
@@ -61,32 +61,33 @@
 //! # }
 //! ```
 //!
-//! Four for each thread are a good wish. Parts are of unequal size: a block on a diagonal has about half as many exchanges as
-//! another. A list that is empty, or whose items have no bytes, has no part, and a reversal of it no phase.
+//! A good wish is four parts for each thread. Parts differ in size: a block on a diagonal has about half as many
+//! exchanges as another. A list that is empty, or whose items have no bytes, has no parts, and its reversal has no
+//! phases.
 //!
 //! - A transpose is cut along its longer side, at multiples of 16 rows or columns.
-//! - A reversal of up to [`one_part_reversal`] items is one part, since there the call itself is faster. A longer one, of 2^k
-//!   items, has three phases. In the second, each square of 2^(k / 2) rows is cut into a grid, at multiples of 16, and a part
-//!   is one of its blocks on or above the diagonal. There is one square if k is even, and two if it is odd. In the first and
-//!   the third, the pairs of the 2^(k / 2) runs that are reversed are cut as the items of a square of so many items are, at
-//!   multiples of 2.
-//! - A reversal of longer rows has one phase, whose pairs of rows are cut in the same way. It is one part if the list has no
-//!   more items than [`one_part_reversal`] says. 4 rows are one part too, since they have one pair.
+//! - A reversal of up to [`one_part_reversal`] items is one part, since there the call itself is faster. A longer one,
+//!   of 2^k items, has three phases. In the second, each square of 2^(k / 2) rows is cut into a grid, at multiples of
+//!   16, and a part is one of its blocks on or above the diagonal. There is one square if k is even, and two if it is
+//!   odd. In the first and the third, 2^(k / 2) runs are reversed. Their pairs are cut like the items of a square that
+//!   has as many items, at multiples of 2.
+//! - A reversal of longer rows has one phase, whose pairs of rows are cut in the same way. It is one part if the list
+//!   has no more items than [`one_part_reversal`] says. 4 rows are one part too, since they have one pair.
 //! - With the feature `checked` a transpose is cut along its columns, and a reversal is one part.
 //!
 //! # What is not run
 //!
-//! A part that is dropped leaves its cells, or its pairs of items, as they are. `for _part in parts {}` drops all of them, and
-//! the compiler does not warn of it. Memory is safe whatever is dropped, forgotten or run in another order, and wherever a
-//! panic comes from. A reversal then leaves the items in some order, each of them once.
+//! A part that is dropped leaves its cells, or its pairs of items, as they are. `for _part in parts {}` drops all of
+//! them, and the compiler does not warn about it. Memory is safe whatever is dropped, forgotten or run in another
+//! order, and wherever a panic comes from. A reversal then leaves the items in some order, each of them once.
 //!
 //! # Why this is safe
 //!
-//! Two parts that may run at the same time never touch the same index. Each part makes an exact number of steps, each of them
-//! at an index of that part, and no index belongs to two parts of a phase. That is proved for lists whose items all differ. A
-//! part touches the same indices whatever its items are: a kernel cannot look at an item. A part is run at most once, because
-//! running it consumes it, and a phase begins after the one before it, because its parts borrow the phases. The package's
-//! README says under "Of threads" what of this is proved, and what is checked by review.
+//! Two parts that may run at the same time never touch the same index. Each part makes an exact number of steps, each
+//! of them at an index of that part, and no index belongs to two parts of a phase. That is proved for lists whose items
+//! all differ. A part touches the same indices whatever its items are: a kernel cannot look at an item. A part is run
+//! at most once, because running it consumes it, and a phase begins after the one before it, because its parts borrow
+//! the phases. The package's README says under "Of threads" what of this is proved, and what is checked by review.
 use core::fmt;
 use core::iter::FusedIterator;
 
@@ -148,9 +149,9 @@ pub struct ReversalParts<'a, F>(Parts<'a, F, Phase>);
 #[must_use = "a part that is not run leaves the list neither as it was nor reversed"]
 pub struct ReversalPart<'a, F>(Parts<'a, F, Phase>);
 
-/// The greatest number of parts that a side is cut into, by a wish of so many parts. P parts of a side make P(P + 1) / 2
-/// blocks. They are about two for each part of the wish, so that threads which take one after the other end at about the same
-/// time. More of them would be smaller, and small blocks make less use of the caches.
+/// The greatest number of parts that a side is cut into for a wish of this many parts. P parts of a side make P(P + 1)
+/// / 2 blocks. These are about two for each part of the wish, so that threads that take one after the other end at
+/// about the same time. More blocks would be smaller, and small blocks make less use of the caches.
 const fn parts_of_side(wish: usize) -> usize {
     1 + wish.saturating_sub(1).saturating_mul(4).isqrt()
 }
@@ -176,7 +177,7 @@ pub fn transpose<'a, T: Copy + Send + Sync>(
     }
 }
 
-/// Cuts [`reverse_slice_index_bits`](crate::reverse_slice_index_bits) into phases, by the wish of `parts` parts: see
+/// Cuts [`reverse_slice_index_bits`](crate::reverse_slice_index_bits) into phases, for a wish of `parts` parts: see
 /// [how many there are](self#how-many-parts).
 ///
 /// Items go to other threads, but no two threads share one, so they need not be `Sync`.
@@ -194,8 +195,8 @@ pub fn reversal<F: Send>(vals: &mut [F], parts: usize) -> ReversalPhases<'_, F> 
     }
 }
 
-/// Cuts [`reverse_slice_row_index_bits`](crate::reverse_slice_row_index_bits) into phases, by the wish of `parts` parts: see
-/// [how many there are](self#how-many-parts).
+/// Cuts [`reverse_slice_row_index_bits`](crate::reverse_slice_row_index_bits) into phases, for a wish of `parts` parts:
+/// see [how many there are](self#how-many-parts).
 ///
 /// Items go to other threads, but no two threads share one, so they need not be `Sync`.
 ///

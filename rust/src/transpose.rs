@@ -19,9 +19,24 @@ const WIDE_COLUMN_BYTES: usize = 4096;
 /// The item at `input[y * width + x]` is written to `output[x * height + y]`. The kernel is that of
 /// [`kernels::transpose::transpose`](crate::kernels::transpose::transpose), whose contract says this.
 ///
+/// ```
+/// use p3_util_proved::transpose::transpose;
+///
+/// // Two rows of three items become three rows of two.
+/// let input = [1, 2, 3, 4, 5, 6];
+/// let mut output = [0; 6];
+/// transpose(&input, &mut output, 3, 2);
+/// assert_eq!(output, [1, 4, 2, 5, 3, 6]);
+/// ```
+///
 /// # Panics
 ///
-/// If one of the lengths is not `width * height`, or if that product overflows.
+/// If one of the lengths is not `width * height`, or if that product overflows:
+///
+/// ```should_panic
+/// // The output has room for five items.
+/// p3_util_proved::transpose::transpose(&[1, 2, 3, 4, 5, 6], &mut [0; 5], 3, 2);
+/// ```
 #[inline]
 #[track_caller]
 pub fn transpose<T: Copy + Send + Sync>(input: &[T], output: &mut [T], width: usize, height: usize) {
@@ -73,14 +88,16 @@ const BLOCKS_GAP: core::ops::RangeInclusive<usize> = (1 << 18) + 1..=1 << 20;
 pub(crate) fn strips_of<R: Source + Copy>(matrix: Matrix<R>) -> Strips {
     let (width, height, items) = (matrix.width, matrix.height, matrix.source.len());
     let item_size = size_of::<R::Item>();
-    let fits_registers = match item_size {
-        4 => !BLOCKS_GAP.contains(&items) || width % 16 == 0,
-        8 => items <= BLOCKS_LONG_ITEMS,
-        _ => false,
-    };
-    let has_blocks = width.min(height) >= BLOCKS_SIDE && (items >= BLOCKS_ITEMS || (width | height) % 4 == 0);
+    // The side is asked first, since it is all that small matrices wait for.
+    let has_blocks = width.min(height) >= BLOCKS_SIDE
+        && match item_size {
+            4 => !BLOCKS_GAP.contains(&items) || width % 16 == 0,
+            8 => items <= BLOCKS_LONG_ITEMS,
+            _ => false,
+        }
+        && (items >= BLOCKS_ITEMS || (width | height) % 4 == 0);
     let is_wide = matches!(item_size, 32 | 64) && height % (WIDE_COLUMN_BYTES / item_size) == 0;
-    if unchecked::TURNS_IN_REGISTERS && fits_registers && has_blocks {
+    if unchecked::TURNS_IN_REGISTERS && has_blocks {
         Strips::Blocks
     } else if is_wide && items > WIDE_ITEMS && width >= WIDE_COLUMNS {
         Strips::Wide

@@ -69,8 +69,9 @@ pub(crate) const TURNS_IN_REGISTERS: bool = false;
 
 /// The parts of a phase that have these numbers, for a list. No other `Parts` has one of these numbers.
 ///
-/// The fields are set together, by `transpose_in_parts` and by `Phases::next_phase`: `items` is the list that `phase` was made
-/// for, and `numbers` are below the number of its parts. They are private, and there is no `Clone`, so that stays true.
+/// The fields are set together, by `transpose_in_parts` and by `Phases::next_phase`: `items` is the list that `phase`
+/// was made for, and `numbers` are below the number of its parts. They are private, and there is no `Clone`, so that
+/// stays true.
 pub(crate) struct Parts<'a, T, P> {
     items: PartItems<'a, T>,
     phase: P,
@@ -266,7 +267,8 @@ mod slices {
         #[inline(always)]
         fn exchange_ordered(&mut self, i: usize, j: usize) {
             debug_assert!(i < j && j < self.len);
-            // SAFETY: `i < j` by the clause `order` of `Places::exchange_ordered`, and `j` is within the slice by `second`.
+            // SAFETY: `i < j` by the clause `order` of `Places::exchange_ordered`, and `j` is within the slice by
+            // `second`.
             let (x, y) = unsafe { (&mut *self.first.add(i), &mut *self.first.add(j)) };
             core::mem::swap(x, y);
         }

@@ -1,5 +1,6 @@
 -- A list cut into pieces of n items. The last piece is shorter if n does not divide the length.
--- Source: the documentation and the tests of `apply_to_chunks` and `iter_array_chunks_padded` of p3-util 0.8.0.
+-- Source: the documentation and the tests of `apply_to_chunks` and `iter_array_chunks_padded` of
+-- p3-util 0.8.0.
 use Rattle.std.specs.Prelude.{ℕ, zero, suc, ◌-◌, ◌*◌, List, ◌++◌, length, map, take, drop, replicate}
 use Rattle.std.specs.Borrow.{Bor}
 use Rattle.std.specs.Fn.{Mut, CalledAt}

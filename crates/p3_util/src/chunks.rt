@@ -11,10 +11,10 @@ use std::iter::FusedIterator;
 /// Calls `func` on each chunk of `BUFLEN` bytes of `input`, in order. The last chunk may be
 /// shorter. The chunks joined together are the bytes of `input`.
 ///
-/// The bytes are those before the iterator's first `None`, after which it is not called again. It
-/// is dropped after the last call of `func`. If `BUFLEN` is 0, there is no chunk, and neither
-/// `func` nor the iterator is called. `BUFLEN` must be below 2^63, and the length of every array of
-/// bytes is.
+/// The bytes are those before the iterator's first `None`, after which `next` is not called again.
+/// The iterator is dropped after the last call of `func`. If `BUFLEN` is 0, there is no chunk, and
+/// neither `func` nor `next` is called. `BUFLEN` must be below 2^63, and the length of every array
+/// of bytes is.
 pub fn apply_to_chunks<const BUFLEN: usize, I, H>(input: I, mut func: H)
 where
     I: IntoIterator<Item = u8>,
@@ -49,8 +49,8 @@ where
 /// Cuts the items of `iter` up to its first `None` into arrays of `N` items. If `N` does not divide
 /// their number, the last array is filled with `default`.
 ///
-/// After that `None` the iterator is not called again. If `N` is 0, there is no array, and the
-/// iterator is never called.
+/// After that `None`, `next` is not called again. If `N` is 0, there is no array, and `next` is
+/// never called.
 pub fn iter_array_chunks_padded<T: Copy, const N: usize, I: IntoIterator<Item = T>>(
     iter: I,
     default: T,

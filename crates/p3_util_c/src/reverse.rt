@@ -1,4 +1,5 @@
-//! Bit reversal of lists, by the size of an item in bytes. `p3_util_reverse_8` is for items of 8 bytes, and so on.
+//! Bit reversal of lists, by the size of an item in bytes. `p3_util_reverse_8` is for items of 8
+//! bytes, and so on.
 //!
 //! Each call reverses the order of `vals` by index bits if the length is zero or a power of two,
 //! and returns whether it is.

@@ -5,7 +5,6 @@ use Rattle.std.specs.List.{swap}
 use Rattle.std.proofs.lemmas.Grind.{common_steps}
 use Rattle.std.proofs.lemmas.Option.{gets}
 
--- edit 1
 
 pub slice_get-set_same : {A : Type 0} (xs : List A) (i : ℕ) (v : A) → i < length xs → slice_get (set xs i v) i ≡ Some v
 slice_get-set_same xs i v h = grind (arith, common_steps, gets)
@@ -28,5 +27,3 @@ pub slice_get-swap_other : {A : Type 0} (xs : List A) (i j p : ℕ) → p ≢ i 
 slice_get-swap_other [] i j p hi hj = refl
 slice_get-swap_other (d ∷ ys) i j p hi hj = grind (arith, common_steps, gets)
 
--- edit 2
--- edit 3

@@ -11,12 +11,13 @@ unfoldable pub sum_below : (n : ℕ) → (ℕ → ℕ) → ℕ
 sum_below zero f = 0
 sum_below (suc n) f = sum_below n f + f n
 
--- the k low digits of x in reversed order: digit i of x, which is `bit x i`, becomes digit `k - 1 - i`
+-- the k low digits of x in reversed order: digit i of x, which is `bit x i`, becomes digit
+-- `k - 1 - i`
 unfoldable pub rev : (k x : ℕ) → ℕ
 rev k x = sum_below k (λ i. bit x i * 2 ^ (k - 1 - i))
 
--- what `reverse_bits_len` returns: `rev bit_len x`, or for 0 bits all 64 digits reversed, `rev 64
--- x`
+-- what `reverse_bits_len` returns: `rev bit_len x`, or for 0 bits all 64 digits reversed,
+-- `rev 64 x`
 unfoldable pub rev_word : (bit_len x : ℕ) → ℕ
 rev_word zero x = rev 64 x
 rev_word (suc k) x = rev (suc k) x

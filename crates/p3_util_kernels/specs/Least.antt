@@ -1,4 +1,5 @@
--- Lists of exchanges and of writes, and the least number of steps in which a list can be rearranged.
+-- Lists of exchanges and of writes, and the least number of steps in which a list can be
+-- rearranged.
 -- Source: new.
 use Rattle.std.specs.Prelude.{ℕ, Bool, ◌==◌, ◌≡◌, ◌≢◌, ◌↔◌, ◌+◌, ◌-◌, ◌*◌, ◌/◌, ◌^◌, ◌<◌, ◌≤◌, IsTrue, if◌then◌else◌, List, [], ◌∷◌, All, AllPairs, length, slice_get, slice_set, swap}
 use Rattle.p3_util_kernels.specs.Digits.{rev, sum_below}
@@ -84,8 +85,8 @@ abbrev pub LeastReversal : Type 0 → Type 0
 LeastReversal A = (k : ℕ) (xs : List A) (steps : List (ℕ × ℕ)) → length xs ≡ 2 ^ k → AllDiffer xs
     → IsReversal xs (after_swaps xs steps) → short_swaps k ≤ length steps
 
--- any list of exchanges that transposes a square of different items has at least `square_swaps
--- side` exchanges
+-- any list of exchanges that transposes a square of different items has at least
+-- `square_swaps side` exchanges
 abbrev pub LeastSquare : Type 0 → Type 0
 LeastSquare A = (side : ℕ) (xs : List A) (steps : List (ℕ × ℕ)) → length xs ≡ side * side → AllDiffer xs
     → IsTranspose side side xs (after_swaps xs steps) → square_swaps side ≤ length steps
@@ -101,7 +102,8 @@ abbrev pub ReversalDiffers : Type 0 → Type 0
 ReversalDiffers A = (k : ℕ) (old new : List A) → length old ≡ 2 ^ k → AllDiffer old
     → IsReversal old new → DifferAt (2 ^ k) (2 * short_swaps k) old new
 
--- a square of different items differs from its transpose at `side * (side - 1)` places, all but those on the diagonal
+-- a square of different items differs from its transpose at `side * (side - 1)` places, all but
+-- those on the diagonal
 abbrev pub SquareDiffers : Type 0 → Type 0
 SquareDiffers A = (side : ℕ) (old new : List A) → length old ≡ side * side → AllDiffer old
     → IsTranspose side side old new → DifferAt (side * side) (side * (side - 1)) old new

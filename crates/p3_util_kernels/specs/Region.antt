@@ -1,4 +1,5 @@
--- A region of a matrix, transposed into an output that has room for the transpose of the whole matrix.
+-- A region of a matrix, transposed into an output that has room for the transpose of the whole
+-- matrix.
 -- Source: new.
 use Rattle.std.specs.Prelude.{ℕ, ◌≡◌, ◌≢◌, ◌+◌, ◌-◌, ◌*◌, ◌^◌, ◌<◌, ◌≤◌, List, length, slice_get}
 use Rattle.p3_util_kernels.specs.declared.transpose.regions.Region.{Region}
@@ -29,9 +30,9 @@ cols_of region = region.col_end - region.col_start
 abbrev pub items_of : Region → ℕ
 items_of region = rows_of region * cols_of region
 
--- `input` has `height` rows of `width` items. For each row y and column x of the region, place `x *
--- height + y` of `new` holds the item at place `y * width + x` of `input`. Every other place holds
--- what it held in `old`.
+-- `input` has `height` rows of `width` items. For each row y and column x of the region, place
+-- `x * height + y` of `new` holds the item at place `y * width + x` of `input`. Every other place
+-- holds what it held in `old`.
 -- Source: the rectangular transposes of p3-util 0.8.0.
 pub record IsRegionTransposed {A : Type 0} (region : Region) (width height : ℕ) (input old new : List A) : Type 0 where
   pub same_length : length new ≡ length old

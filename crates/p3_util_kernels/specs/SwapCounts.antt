@@ -3,8 +3,9 @@
 use Rattle.std.specs.Prelude.{ℕ, ◌+◌, ◌-◌, ◌*◌, ◌/◌, ◌^◌, nat_le, if◌then◌else◌}
 use Rattle.p3_util_kernels.specs.Levels.{clog}
 
--- the number of pairs of different numbers of k bits that are each other's reverse: `(2 ^ k - 2 ^
--- ceil(k / 2)) / 2`, since `2 ^ ceil(k / 2)` of the `2 ^ k` numbers are their own reverse
+-- the number of pairs of different numbers of k bits that are each other's reverse:
+-- `(2 ^ k - 2 ^ ceil(k / 2)) / 2`, since `2 ^ ceil(k / 2)` of the `2 ^ k` numbers are their own
+-- reverse
 abbrev pub short_swaps : ℕ → ℕ
 short_swaps k = (2 ^ k - 2 ^ ((k + 1) / 2)) / 2
 
@@ -18,8 +19,8 @@ row_swaps items row_width = row_width * short_swaps (clog (items / row_width))
 abbrev pub square_swaps : ℕ → ℕ
 square_swaps side = side * (side - 1) / 2
 
--- the number of swaps for `2 ^ k` items by chunks, squares and chunks, with `h = k / 2` and `c = k
--- - h`: `2 * short_swaps h * 2 ^ c + 2 ^ (c - h) * square_swaps (2 ^ h)`
+-- the number of swaps for `2 ^ k` items by chunks, squares and chunks, with `h = k / 2` and
+-- `c = k - h`: `2 * short_swaps h * 2 ^ c + 2 ^ (c - h) * square_swaps (2 ^ h)`
 abbrev pub long_swaps : ℕ → ℕ
 long_swaps k = 2 * (short_swaps (k / 2) * 2 ^ (k - k / 2)) + 2 ^ (k - k / 2 - k / 2) * square_swaps (2 ^ (k / 2))
 

@@ -398,7 +398,8 @@ fn reads_of_no_byte(rt: HostRuntime) -> Result<(), AllocError> {
     Ok(())
 }
 
-/// Asserts that the first failure of a reader, after `good_reads` reads, ends the run and is counted once.
+/// Asserts that the first failure of a reader, after `good_reads` reads, ends the run and is
+/// counted once.
 fn check_failing_reader(
     rt: &impl Abort,
     alloc: Global,
@@ -429,7 +430,8 @@ fn failing_readers(rt: HostRuntime) -> Result<(), AllocError> {
     Ok(())
 }
 
-/// Asserts that the first failure of a writer, after `good_writes` writes, ends the run and is counted once.
+/// Asserts that the first failure of a writer, after `good_writes` writes, ends the run and is
+/// counted once.
 fn check_failing_writer(
     rt: &impl Abort,
     alloc: Global,

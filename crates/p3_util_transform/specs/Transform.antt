@@ -9,7 +9,8 @@ pub record FitsTransform (m : Matrix ℕ) : Type 0 where
   pub levels : (k : ℕ) × (k ≤ MOST_STAGES) × (m.height ≡ 2 ^ k)
   pub below : EachIndex m.items (λ i. slice_index m.items i < PRIME)
 
--- row r of column c of `new` is the sum over the rows j of old[j, c] * root ^ (r * j), modulo the prime
+-- row r of column c of `new` is the sum over the rows j of old[j, c] * root ^ (r * j), modulo the
+-- prime
 pub record IsTransformed (root width height : ℕ) (old new : List ℕ) : Type 0 where
   pub same_length : length new ≡ length old
   pub places : (r c : ℕ) → r < height → c < width

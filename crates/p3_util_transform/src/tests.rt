@@ -30,7 +30,8 @@ fn after(
     Ok(matrix.values().to_vec(alloc)?)
 }
 
-/// Each transform is the sum of `values[j] * root^(r * j)`. Of four numbers the root is i = 1728404513, whose square is -1.
+/// Each transform is the sum of `values[j] * root^(r * j)`. Of four numbers the root is i =
+/// 1728404513, whose square is -1.
 #[test]
 fn worked_sums(rt: HostRuntime) -> Result<(), Fail> {
     let rows: [(&[u32], &[u32]); 5] = [

@@ -1,6 +1,4 @@
 // rust/erase writes this folder from the proved sources in crates/. What is to change is changed there.
-//! Bit reversal and transposes of large slices, and the traits of the lists that their kernels
-//! change and count.
 
 pub mod bits;
 pub(crate) mod parts;

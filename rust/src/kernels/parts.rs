@@ -8,9 +8,9 @@
 //!   rows, or a block of [`RowPairs`] or of [`Squares`].
 //! - A [`Cut`] cuts consecutive numbers, such as the columns of a matrix, into parts.
 //!
-//! `parts/laws.rt` has what is proved about the parts: which places each one changes, that two
-//! parts of a phase have no place in common, and that all parts together have the effect of the
-//! call.
+//! The module `laws`, which only the Rattle sources have, states what is proved about the parts:
+//! which places each one changes, that two parts of a phase have no place in common, and that all
+//! parts together have the effect of the call.
 
 mod reversal;
 mod transpose;

@@ -300,7 +300,9 @@ fn count_and_share(sizes: impl IntoIterator<Item = usize>) -> (usize, usize) {
 /// alone. Only this test notices a list that is not cut, or that is cut into parts of very different sizes.
 #[test]
 fn shares_of_reversals() {
-    let cases: [(usize, usize, usize, &[(usize, usize)]); 16] = [
+    /// 2^digits rows, their width, the wish, and of each phase the number of parts and the largest share.
+    type Case = (usize, usize, usize, &'static [(usize, usize)]);
+    let cases: [Case; 16] = [
         (20, 1, 0, &[(1, 1000), (1, 1000), (1, 1000)]),
         (20, 1, 2, &[(6, 291), (6, 237), (6, 291)]),
         (20, 1, 16, &[(36, 33), (36, 32), (36, 33)]),

@@ -28,25 +28,42 @@ fn run_on<'a, T: Send, P: Copy + Send>(threads: usize, mut parts: Parts<'a, T, P
     run_all(shares, run);
 }
 
+/// Numbers of 4 or of 8 bytes, of which blocks are turned in registers.
+trait Number: Copy + PartialEq + Send + Sync {
+    fn of(number: usize) -> Self;
+}
+
+impl Number for u32 {
+    fn of(number: usize) -> Self {
+        number as u32
+    }
+}
+
+impl Number for usize {
+    fn of(number: usize) -> Self {
+        number
+    }
+}
+
 /// Transposes a matrix of numbers in about so many parts.
-fn transposes(width: usize, height: usize, parts: usize, threads: usize) {
-    let input: Vec<usize> = (0..width * height).collect();
-    let mut output = std::vec![0; input.len()];
+fn transposes<T: Number>(width: usize, height: usize, parts: usize, threads: usize) {
+    let input: Vec<T> = (0..width * height).map(T::of).collect();
+    let mut output = std::vec![T::of(0); input.len()];
     let parts = transpose_in_parts(&input, &mut output, width, height, parts).unwrap();
     run_on(threads, parts, Parts::put);
-    let transposed = |place| place % height * width + place / height;
+    let transposed = |place| T::of(place % height * width + place / height);
     assert!(output.into_iter().eq((0..input.len()).map(transposed)));
 }
 
 /// Reverses 2^`digits` rows of numbers, in phases of about so many parts.
-fn reverses(digits: u32, row_width: usize, parts: usize, threads: usize) {
-    let mut list: Vec<usize> = (0..row_width << digits).collect();
+fn reverses<T: Number>(digits: u32, row_width: usize, parts: usize, threads: usize) {
+    let mut list: Vec<T> = (0..row_width << digits).map(T::of).collect();
     let mut phases = Phases::new(&mut list, row_width, parts, 0).unwrap();
     while let Some(parts) = phases.next_phase() {
         run_on(threads, parts, Parts::exchange);
     }
     let reversed = |row: usize| (0..digits).fold(0, |rev, place| rev << 1 | row >> place & 1);
-    let item = |place| reversed(place / row_width) * row_width + place % row_width;
+    let item = |place| T::of(reversed(place / row_width) * row_width + place % row_width);
     assert!(list.into_iter().eq((0..row_width << digits).map(item)));
 }
 
@@ -54,9 +71,11 @@ fn reverses(digits: u32, row_width: usize, parts: usize, threads: usize) {
 fn parts_on_threads() {
     for round in 0..150 {
         let (parts, threads) = (1 + round % 11, 2 + round % 7);
-        transposes(1 + round * 7 % 97, 1 + round * 13 % 89, parts, threads);
-        reverses(round as u32 % 12, 1, parts, threads);
-        reverses(round as u32 % 8, 2 + round % 3, parts, threads);
+        transposes::<u32>(1 + round * 7 % 97, 1 + round * 13 % 89, parts, threads);
+        transposes::<usize>(1 + round * 13 % 89, 1 + round * 7 % 97, parts, threads);
+        reverses::<u32>(round as u32 % 13, 1, parts, threads);
+        reverses::<usize>(round as u32 % 12, 1, parts, threads);
+        reverses::<usize>(round as u32 % 8, 2 + round % 3, parts, threads);
     }
 }
 
@@ -93,7 +112,7 @@ fn exchanges_both(len: usize, row_width: usize, number: usize, parts: [(usize, u
 #[test]
 #[ignore = "a race, which a detector has to report"]
 fn overlapping_regions() {
-    let input: Vec<usize> = (0..64 * 64).collect();
+    let input: Vec<u32> = (0..64 * 64).collect();
     let mut output = input.clone();
     let parts = transpose_in_parts(&input, &mut output, 64, 64, 1).unwrap();
     let cuts = [(2, 0), (4, 1)].map(|(count, part)| {

@@ -175,7 +175,8 @@ fn turned_blocks() {
     assert!(is_turned(|i| &names[usize::from(i)]));
 }
 
-/// Whether a matrix of these items is transposed as the definition says, by blocks and by the strips that a call chooses.
+/// Whether a matrix of these items is transposed as the definition says, by blocks and by the strips that a call
+/// chooses.
 fn is_transposed<T: Copy + PartialEq>(width: usize, height: usize, item: impl Fn(usize) -> T) -> bool {
     let input: Vec<T> = (0..width * height).map(&item).collect();
     let expected: Vec<T> = (0..width * height)

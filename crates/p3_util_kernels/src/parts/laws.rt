@@ -3,9 +3,9 @@
 //! Nothing calls these functions, and the package is made without them: each is there for its
 //! contract. Some run one part of a plan on a holder whose contract says that its steps exist, and
 //! state which places they change. Others state that two parts have no place in common, and that
-//! each place belongs to some part. `all_parts` runs all parts, in any order. `interleaved` does
-//! the same for steps of several parts that are made in turns, as threads make them. `witnesses`
-//! shows that the preconditions can be met.
+//! each place belongs to some part. `all_parts` runs all parts, in any order. `interleaved` states
+//! the same for every interleaving of the steps of several parts, as threads may make them.
+//! `witnesses` shows that the preconditions can be met.
 
 ghost use Rattle.std.specs.Prelude.{◌≡◌, ◌≢◌, ℕ, ◌⊎◌, ◌+◌, ◌-◌, ◌*◌, ◌/◌, ◌^◌, ◌<◌, ◌≤◌, ◌↔◌, false, if◌then◌else◌, length};
 ghost use Rattle.p3_util_kernels.specs.Blocks.{IsBlock, blocks_of, swaps_of_block};
@@ -117,7 +117,8 @@ pub(crate) fn put_region<C: Cells, R: Source<Item = C::Item> + Copy>(
         .cells
 }
 
-/// Two regions of one matrix that have no row, or no column, in common have no place of the transpose in common.
+/// Two regions of one matrix that have no row, or no column, in common have no place of the
+/// transpose in common.
 pub(crate) fn regions_apart(first: Region, second: Region, width: usize, height: usize)
     requires first { LiesInMatrix first width height }
     requires second { LiesInMatrix second width height }
@@ -125,7 +126,8 @@ pub(crate) fn regions_apart(first: Region, second: Region, width: usize, height:
     ensures { NoPlaceInCommon (IsPlaceOfRegion first height) (IsPlaceOfRegion second height) }
 {}
 
-/// Two parts of a matrix that is cut along its rows or along its columns have no place of the transpose in common.
+/// Two parts of a matrix that is cut along its rows or along its columns have no place of the
+/// transpose in common.
 pub(crate) fn parts_of_matrix(
     width: usize,
     height: usize,

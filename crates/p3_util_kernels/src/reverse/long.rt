@@ -22,9 +22,9 @@ use crate::transpose::transpose_square;
 
 /// Reverses `m` by index bits, as
 /// [`reverse_slice_index_bits`](crate::reverse::reverse_slice_index_bits) does, by chunks and
-/// squares. A list of n items takes at most 3n/2 swaps. These are more than
-/// [`reverse_index_bits_short`](crate::reverse::reverse_index_bits_short) makes, but in an order
-/// that suits lists that do not fit in a cache. The length must be a power of two, which std's
+/// squares. A list of n items takes at most 3n/2 swaps. That is more than
+/// [`reverse_index_bits_short`](crate::reverse::reverse_index_bits_short) makes, but their order
+/// suits lists that do not fit in a cache. The length must be a power of two, which std's
 /// `is_power_of_two` checks, and at least 4.
 #[tactic(auto, using(crate::proofs::SwapCountsLemmas::long_bound))]
 pub fn reverse_index_bits_long<S: Places>(m: &mut Swaps<S>)

@@ -44,10 +44,10 @@ pub fn reverse_index_bits_short<S: Places>(m: &mut Swaps<S>)
 }
 
 /// Reverses the order of the `2^lb_num_chunks` chunks of `2^lb_chunk_size` items by index bits.
-/// With h and c for these two exponents, place `i` gets the item from `rev(h, i / 2^c) * 2^c + i
-/// mod 2^c`. A list of n items takes at most n/2 swaps. The length must be `2^(h + c)`. To check
-/// it, compare it with the power that [`checked_log_size_sum`](crate::bits::checked_log_size_sum)
-/// returns for both exponents.
+/// With h and c for these two exponents, place `i` gets the item from
+/// `rev(h, i / 2^c) * 2^c + i mod 2^c`. A list of n items takes at most n/2 swaps. The length must
+/// be `2^(h + c)`. To check it, compare it with the power that
+/// [`checked_log_size_sum`](crate::bits::checked_log_size_sum) returns for both exponents.
 #[tactic(auto, using(crate::proofs::SwapCountsLemmas::chunks_bound))]
 pub fn reverse_chunks_on<S: Places>(m: &mut Swaps<S>, lb_num_chunks: usize, lb_chunk_size: usize)
     requires { length (S.items m.old.holder) ≡ 2 ^ (lb_num_chunks + lb_chunk_size) }

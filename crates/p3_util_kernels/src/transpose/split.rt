@@ -25,9 +25,9 @@ const NARROW_SIDE: usize = 2;
 ///
 /// There is no split if both sides of the region are at most 128 or one of them is at most 2.
 /// Otherwise the longer side is halved, or the rows if both sides are equal. Each half is put in
-/// the same way, with one level less. `levels` is the greatest number of nested splits, and 64
-/// levels are enough for every region of a matrix. The other conditions are those of
-/// [`transpose_region_on`](crate::transpose::transpose_region_on).
+/// the same way, with one level less. `levels` limits how deep splits may nest, and must be enough
+/// for the region. 64 levels are enough for every region of a matrix. The other conditions are
+/// those of [`transpose_region_on`](crate::transpose::transpose_region_on).
 pub fn transpose_split_on<C: Cells>(
     input: &[C::Item],
     out: &mut Writes<C>,

@@ -54,8 +54,8 @@ pub const fn fits_square(len: usize, base: usize, log_stride: usize, log_size: u
 /// places stay.
 ///
 /// `log_size` must be at most `log_stride`, so that no row reaches into the next one, and
-/// `log_stride` must be below 64. The last place of the square, `base + (s - 1) * 2^log_stride + s
-/// - 1`, must lie in the list. [`fits_square`] checks all of this.
+/// `log_stride` must be below 64. The list must hold the last place of the square,
+/// `base + (s - 1) * 2^log_stride + s - 1`. [`fits_square`] checks all of this.
 pub fn transpose_square_on<S: Places>(
     m: &mut Swaps<S>,
     base: usize,

@@ -24,7 +24,8 @@ fn join_rows(values: &mut [u32], width: usize, low: usize, high: usize, twiddle:
     }
 }
 
-/// Joins the two halves of a block, row by row: `half` rows from `first` on, and as many after them.
+/// Joins the two halves of a block, row by row: `half` rows from `first` on, and as many after
+/// them.
 fn join_halves(values: &mut [u32], width: usize, first: usize, half: usize, twiddles: &Twiddles)
     requires rows { first + 2 * half < 2 ^ 64 }
     requires inside { (first + 2 * half) * width ≤ length values.old }

@@ -26,7 +26,8 @@ fn exchanges(rt: &impl Abort, alloc: Global, call: Call, len: usize) -> Vec<(usi
     exchanges
 }
 
-/// 28 exchanges within the upper left quadrant, 64 across the diagonal, 28 within the lower right quadrant.
+/// 28 exchanges within the upper left quadrant, 64 across the diagonal, 28 within the lower right
+/// quadrant.
 #[test]
 fn quadrants_in_order(rt: HostRuntime) {
     let pairs = exchanges(&rt, rt.alloc(), Call::Square(0, 4, 4), 256);

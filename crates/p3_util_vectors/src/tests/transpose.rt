@@ -74,7 +74,8 @@ fn worked_examples(rt: HostRuntime) {
     }
 }
 
-/// Matrices of the numbers from 0 on: widths, heights, numbers of writes, and some places with their items.
+/// Matrices of the numbers from 0 on: widths, heights, numbers of writes, and some places with
+/// their items.
 const NUMBERED: [(usize, usize, u128, &[(usize, u64)]); 7] = [
     (15, 17, 255, &[(1, 15), (17, 1)]),
     (16, 16, 256, &[(1, 16), (16, 1)]),
@@ -180,7 +181,8 @@ fn stages_of_a_block(rt: HostRuntime) {
     equal(&rt, &butterfly_4x4(block), &turned);
 }
 
-/// The lengths of two lists, widths and heights, and whether both lists have as many items as such a matrix.
+/// The lengths of two lists, widths and heights, and whether both lists have as many items as such
+/// a matrix.
 const LENGTHS: [(usize, usize, usize, usize, bool); 4] = [
     (0, 0, 4_294_967_296, 4_294_967_296, false),
     (0, 0, 0, usize::MAX, true),
@@ -200,7 +202,8 @@ fn products_that_wrap_do_not_fit(rt: HostRuntime) {
     }
 }
 
-/// The length of a list, the base of a square, the logarithms of its stride and its side, and whether the square lies in the list.
+/// The length of a list, the base of a square, the logarithms of its stride and its side, and
+/// whether the square lies in the list.
 const SQUARES: [(usize, usize, usize, usize, bool); 12] = [
     (0, 0, 0, 0, false),
     (1, 0, 0, 0, true),

@@ -23,8 +23,8 @@ pub const fn reverse_bits(x: usize, n: usize) -> usize {
     reverse_bits_len(x, n.trailing_zeros() as usize)
 }
 
-/// Reverses the `bit_len` low binary digits of `x` and drops the others. `bit_len` must be at most
-/// 64. A `bit_len` of 0 reverses all 64 digits.
+/// Reverses the `bit_len` low binary digits of `x` and drops the others. A `bit_len` of 0 reverses
+/// all 64 digits. `bit_len` must not be above 64.
 ///
 /// # Contract
 ///

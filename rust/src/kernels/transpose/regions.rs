@@ -46,9 +46,9 @@ pub struct Region {
 }
 
 impl Region {
-    /// Whether the region lies in a matrix of `height` rows of `width` items: `row_start <= row_end
-    /// <= height` and `col_start <= col_end <= width`. This is the test for the condition that the
-    /// calls on a region have.
+    /// Whether the region lies in a matrix of `height` rows of `width` items:
+    /// `row_start <= row_end <= height` and `col_start <= col_end <= width`. This is the test for
+    /// the condition that the calls on a region have.
     ///
     /// # Contract
     ///

@@ -5,8 +5,8 @@
 //! - A *region* is some neighbouring rows of the matrix, and of these some neighbouring columns.
 //! - A region is cut into *strips*, each of which is some of its rows. The strips are put from top
 //!   to bottom, most of them column after column.
-//! - A *tile* is 16 columns of a strip of 16 rows. A *block* is 4 by 4 items of a tile, or one of
-//!   its rows.
+//! - A *tile* is 16 columns of a strip of 16 rows. A *block* is 4 by 4 items of a tile or of a
+//!   strip that is put by blocks, or one row of a tile.
 //!
 //! [`Strips`] lists the kinds of strips, and [`Strips::of`] chooses one by the shape of the matrix.
 //! That choice only changes the order of the writes: the contracts of the functions below are the
@@ -29,7 +29,7 @@ pub(crate) const TILE_SIDE: usize = 16;
 /// The side of a block.
 const BLOCK_SIDE: usize = 4;
 
-/// The greatest number of rows of a high strip.
+/// The greatest number of rows of a high strip, and of a strip that is put by blocks.
 const STRIP_ROWS: usize = 128;
 
 /// The number of items of a column that are put in one loop of known length.
