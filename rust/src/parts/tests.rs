@@ -300,7 +300,7 @@ fn count_and_share(sizes: impl IntoIterator<Item = usize>) -> (usize, usize) {
 /// alone. Only this test notices a list that is not cut, or that is cut into parts of very different sizes.
 #[test]
 fn shares_of_reversals() {
-    /// 2^digits rows, their width, the wish, and of each phase the number of parts and the largest share.
+    /// 2^digits rows, their width, the wish, and for each phase the number of parts and the largest share.
     type Case = (usize, usize, usize, &'static [(usize, usize)]);
     let cases: [Case; 16] = [
         (20, 1, 0, &[(1, 1000), (1, 1000), (1, 1000)]),

@@ -28,7 +28,7 @@ fn run_on<'a, T: Send, P: Copy + Send>(threads: usize, mut parts: Parts<'a, T, P
     run_all(shares, run);
 }
 
-/// Numbers of 4 or of 8 bytes, of which blocks are turned in registers.
+/// Numbers of 4 or of 8 bytes, whose blocks are transposed in registers.
 trait Number: Copy + PartialEq + Send + Sync {
     fn of(number: usize) -> Self;
 }
