@@ -174,7 +174,8 @@ fn reversed(digits: usize, i: usize) -> usize {
     (0..digits).fold(0, |rev, place| rev << 1 | i >> place & 1)
 }
 
-/// The middle digit of a row whose index has so many digits, its high half reversed, and its low half.
+/// The parts of the index of a row with `digits` digits: the middle digit, the high half in reversed order, and the low
+/// half.
 fn names(digits: usize, row: usize) -> (usize, usize, usize) {
     let half = digits / 2;
     let (high, rest) = (row >> (digits - half), row % (1 << (digits - half)));
