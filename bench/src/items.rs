@@ -150,7 +150,7 @@ impl<T: Item> Lists<T> {
         }
     }
 
-    /// Makes the contender's call so many times, each time on the result of the call before.
+    /// Makes the contender's call `times` times, each time on the result of the call before.
     fn run(&mut self, contender: Contender, times: u32) {
         let (from, to, row_width) = (self.from.as_slice(), self.to.as_mut_slice(), self.case.row_width());
         match (contender, self.case.work) {
@@ -227,7 +227,7 @@ fn copy<T: Item>(to: &mut [T], from: &[T]) {
     chunks.for_each(|(to, from)| to.copy_from_slice(from));
 }
 
-/// Makes the call so many times. Each call has a loop of its own, so that little time is spent elsewhere, and the
+/// Makes the call `times` times. Each call has a loop of its own, so that little time is spent elsewhere, and the
 /// compiler cannot know the call's arguments.
 #[inline(never)]
 fn repeat<T, R: Copy>(times: u32, to: &mut [T], rest: R, call: impl Fn(&mut [T], R)) {
