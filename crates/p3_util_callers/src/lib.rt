@@ -13,6 +13,7 @@ pub mod grid;
 pub mod joined;
 pub mod laws;
 pub mod linear_map;
+pub mod loops;
 pub mod pairs;
 pub mod places;
 pub mod reverse;

@@ -90,6 +90,10 @@ three-pos e = one-le-pow e 3 (omega arith)
 pub three-steps : (d e : ℕ) → d < e → 3 * 3 ^ d ≤ 3 ^ e
 three-steps d e less = let up : 3 ^ suc d ≤ 3 ^ e = pow-le-pow_right (omega arith) less in omega (arith, pow-suc 3 d)
 
+-- equal powers of three have one exponent
+pub three-only : (d e : ℕ) → 3 ^ d ≡ 3 ^ e → d ≡ e
+three-only d e same = grind (arith, three-steps d e, three-steps e d, three-pos d, three-pos e)
+
 -- two powers of three below one power of two, and at least its half, are one
 pub three-apart : (d e top : ℕ) → 2 ^ top ≤ 3 ^ d → 3 ^ d < 2 ^ (top + 1) → 2 ^ top ≤ 3 ^ e → 3 ^ e < 2 ^ (top + 1) → d ≡ e
 three-apart d e top d_low d_high e_low e_high =

@@ -71,6 +71,7 @@ pub const fn log2_ceil_usize(n: usize) -> usize
     ensures enough { n ≤ 2 ^ result }
     ensures least { (e : ℕ) → n ≤ 2 ^ e → result ≤ e }
     ensures counted { result ≡ clog n }
+    ensures bound { result ≤ 64 }
 {
     // The result is the number of binary digits of `n - 1`.
     (usize::BITS - n.saturating_sub(1).leading_zeros()) as usize
@@ -94,6 +95,7 @@ pub const fn log2_floor_usize(n: usize) -> usize
 pub const fn log2_ceil_u64(n: u64) -> u64
     ensures enough { n ≤ 2 ^ result }
     ensures least { (e : ℕ) → n ≤ 2 ^ e → result ≤ e }
+    ensures bound { result ≤ 64 }
 {
     log2_ceil_usize(n as usize) as u64
 }
@@ -150,6 +152,7 @@ pub const fn log2_strict_usize(n: usize) -> usize
 pub const fn log3_strict_usize(n: usize) -> usize
     requires { HasLog3 n }
     ensures power { n ≡ 3 ^ result }
+    ensures only { (e : ℕ) → n ≡ 3 ^ e → result ≡ e }
     ensures bound { result < 41 }
 {
     let top = n.ilog2();

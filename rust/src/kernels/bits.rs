@@ -70,6 +70,7 @@ static EXPONENTS_OF_THREE: [u8; 64] = [
 /// ensures enough { n ≤ 2 ^ result }
 /// ensures least { (e : ℕ) → n ≤ 2 ^ e → result ≤ e }
 /// ensures counted { result ≡ clog n }
+/// ensures bound { result ≤ 64 }
 /// ```
 #[inline]
 #[must_use]
@@ -104,6 +105,7 @@ pub const fn log2_floor_usize(n: usize) -> usize {
 /// ```text
 /// ensures enough { n ≤ 2 ^ result }
 /// ensures least { (e : ℕ) → n ≤ 2 ^ e → result ≤ e }
+/// ensures bound { result ≤ 64 }
 /// ```
 #[inline]
 #[must_use]
@@ -182,6 +184,7 @@ pub const fn log2_strict_usize(n: usize) -> usize {
 /// ```text
 /// requires { HasLog3 n }
 /// ensures power { n ≡ 3 ^ result }
+/// ensures only { (e : ℕ) → n ≡ 3 ^ e → result ≡ e }
 /// ensures bound { result < 41 }
 /// ```
 #[inline]

@@ -197,7 +197,37 @@ pub fn transpose_region_on<C: Cells>(
     width: usize,
     height: usize,
 ) {
-    let matrix = Matrix::new(SliceSource::new(input), width, height);
+    transpose_source_region_on(&SliceSource::new(input), out, region, width, height);
+}
+
+/// Puts the transpose of `region`, a part of a matrix that any source has, into `out`, as [`transpose_region_on`] does that of
+/// a slice and under its conditions.
+///
+/// # Contract
+///
+/// In the words of [`contracts`](crate::kernels::contracts):
+///
+/// ```text
+/// requires input_fits { length (R.items input.now) ≡ width * height }
+/// requires output_fits { length (C.items out.old.holder) ≡ width * height }
+/// requires inside { LiesInMatrix region width height }
+/// ensures transposed { IsRegionTransposed region width height (R.items input.now)
+///     (C.items out.old.holder) (C.items out.new.holder) }
+/// ensures count { out.new.count ≡ counted out.old.count (items_of region) }
+/// ensures holder { C.same_holder (items_of region) out.old.holder out.new.holder }
+/// ```
+pub fn transpose_source_region_on<R, C>(
+    input: &R,
+    out: &mut Writes<C>,
+    region: Region,
+    width: usize,
+    height: usize,
+)
+where
+    C: Cells,
+    R: Source<Item = C::Item>,
+{
+    let matrix = Matrix::new(input, width, height);
     let counter = Writes::resumed(&mut out.holder, out.count);
     out.count = put_strips(counter, matrix, region, Strips::of(matrix)).writes();
 }
@@ -224,7 +254,36 @@ pub fn transpose_region_counted<C: Cells>(
     width: usize,
     height: usize,
 ) -> u128 {
-    let matrix = Matrix::new(SliceSource::new(input), width, height);
+    transpose_source_region_counted(&SliceSource::new(input), cells, region, width, height)
+}
+
+/// Puts the transpose of `region`, a part of a matrix that any source has, as [`transpose_source_region_on`] does over a fresh
+/// counter and under its conditions, and returns the number of writes.
+///
+/// # Contract
+///
+/// In the words of [`contracts`](crate::kernels::contracts):
+///
+/// ```text
+/// requires input_fits { length (R.items input.now) ≡ width * height }
+/// requires output_fits { length (C.items cells.old) ≡ width * height }
+/// requires inside { LiesInMatrix region width height }
+/// ensures transposed { IsRegionTransposed region width height (R.items input.now) (C.items cells.old) (C.items cells.new) }
+/// ensures count { result ≡ items_of region }
+/// ensures holder { C.same_holder result cells.old cells.new }
+/// ```
+pub fn transpose_source_region_counted<R, C>(
+    input: &R,
+    cells: &mut C,
+    region: Region,
+    width: usize,
+    height: usize,
+) -> u128
+where
+    C: Cells,
+    R: Source<Item = C::Item>,
+{
+    let matrix = Matrix::new(input, width, height);
     put_strips(Writes::new(cells), matrix, region, Strips::of(matrix)).writes()
 }
 

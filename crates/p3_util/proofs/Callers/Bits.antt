@@ -1,10 +1,11 @@
--- Reversed digits of even and odd numbers and of half a number, and std's test of a power of two.
+-- Reversed digits of even and odd numbers, of half a number and in a longer list, std's test of a power of two, and a third of a
+-- power of three.
 use Rattle.std.proofs.Common.{◌≡◌, ℕ, zero, suc, ◌+◌, ◌*◌, ◌/◌, ◌%◌, ◌^◌, ◌<◌, inl, true, refl, sym, ap, ◌∙◌, arith}
 use Rattle.std.proofs.lemmas.Nat.{pow-add, mod-mul-add}
 use Rattle.std.specs.Int.{is_power_of_two}
 use Rattle.p3_util_kernels.specs.Digits.{rev}
 use Rattle.p3_util_kernels.specs.Powers.{HasLog2}
-use Rattle.p3_util_kernels.proofs.DigitsLemmas.{rev-parts, rev-shl, rev-suc, rev-zero, rev-lt}
+use Rattle.p3_util_kernels.proofs.DigitsLemmas.{rev-parts, rev-of-zero, rev-shl, rev-suc, rev-zero, rev-lt}
 use Rattle.p3_util_kernels.proofs.PowersLemmas.{power_of_two_test as power_test}
 
 -- the reverse of an even number, and of an odd one
@@ -48,4 +49,17 @@ half k i =
 pub half_length : (n k : ℕ) → n ≡ 2 ^ (k + 1) → n / 2 ≡ 2 ^ k
 half_length n k e =
     let double : 2 ^ (k + 1) ≡ 2 ^ k * 2 ^ 1 = pow-add 2 k 1 in
+    omega arith
+
+-- A number of k digits has the same digits in a longer number, and reversed they are its highest.
+pub rev_longer : (k s i : ℕ) → i < 2 ^ k → rev (k + s) i ≡ rev k i * 2 ^ s
+rev_longer k s i h =
+    let order : k + s ≡ s + k = omega arith in
+    let whole : 0 * 2 ^ k + i ≡ i = omega arith in
+    rw order (rw whole at (rev-parts s k 0 i h) ∙ omega (arith, rev-of-zero s))
+
+-- a third of a power of three
+pub third_of_power : (n e : ℕ) → n ≡ 3 ^ (e + 1) → n / 3 ≡ 3 ^ e
+third_of_power n e is =
+    let next : 3 ^ (e + 1) ≡ 3 ^ e * 3 ^ 1 = pow-add 3 e 1 in
     omega arith

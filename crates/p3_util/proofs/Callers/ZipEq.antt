@@ -1,5 +1,5 @@
--- The pair at a place, and a sum that is taken by remainders.
-use Rattle.std.proofs.Common.{◌≡◌, ℕ, zero, suc, ◌+◌, ◌*◌, ◌/◌, ◌%◌, ◌<◌, Some, List, [], ◌∷◌, map, slice_get, sum, refl, sym, ap, ◌∙◌, arith}
+-- The pair at a place, the first and the second parts of all pairs, and a sum that is taken by remainders.
+use Rattle.std.proofs.Common.{◌≡◌, ℕ, zero, suc, ◌+◌, ◌*◌, ◌/◌, ◌%◌, ◌<◌, Some, List, [], ◌∷◌, length, map, slice_get, sum, refl, sym, ap, ◌∙◌, arith}
 use Rattle.std.proofs.lemmas.List.Sums.{sum-map}
 use Rattle.std.proofs.Math.Nat.{add-mul-mod_self_right, mod-add-div'}
 use Rattle.std.specs.List.{fold, zip}
@@ -11,6 +11,18 @@ zip_place [] ys i x y hx hy = search hx
 zip_place (x' ∷ xs) [] i x y hx hy = search hy
 zip_place (x' ∷ xs) (y' ∷ ys) zero x y hx hy = cc
 zip_place (x' ∷ xs) (y' ∷ ys) (suc i) x y hx hy = zip_place xs ys i x y hx hy
+
+-- the first parts of the pairs of two lists, and the second ones
+pub zip_firsts : {A B : Type 0} (xs : List A) (ys : List B) → length xs ≡ length ys → map (λ (p : A × B). p.0) (zip xs ys) ≡ xs
+zip_firsts [] ys same = refl
+zip_firsts (x ∷ xs) [] same = absurd (omega arith)
+zip_firsts (x ∷ xs) (y ∷ ys) same = ap (λ l. x ∷ l) (zip_firsts xs ys (omega arith))
+
+pub zip_seconds : {A B : Type 0} (xs : List A) (ys : List B) → length xs ≡ length ys → map (λ (p : A × B). p.1) (zip xs ys) ≡ ys
+zip_seconds [] [] same = refl
+zip_seconds [] (y ∷ ys) same = absurd (omega arith)
+zip_seconds (x ∷ xs) [] same = absurd (omega arith)
+zip_seconds (x ∷ xs) (y ∷ ys) same = ap (λ l. y ∷ l) (zip_seconds xs ys (omega arith))
 
 -- A fold that takes a remainder at each step is the remainder of the sum.
 module _ {A : Type 0} (f : A → ℕ) (m : ℕ) where

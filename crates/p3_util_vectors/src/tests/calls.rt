@@ -14,7 +14,8 @@ use p3_util::reverse::{
 use p3_util::transpose::{
     Region, fits_matrix, fits_square, transpose, transpose_counted, transpose_on,
     transpose_region_counted, transpose_region_on, transpose_source_counted, transpose_source_on,
-    transpose_source_split_on, transpose_split_on, transpose_square_on,
+    transpose_source_region_counted, transpose_source_region_on, transpose_source_split_on,
+    transpose_split_on, transpose_square_on,
 };
 use p3_util_callers::transpose::levels_of;
 use std::process::Abort;
@@ -134,6 +135,10 @@ pub(crate) enum Put {
     Region(Region),
     /// The same with the `_counted` call.
     CountedRegion(Region),
+    /// Of a region from any source, with a given counter.
+    SourceRegion(Region),
+    /// The same with the `_counted` call.
+    CountedSourceRegion(Region),
     /// Of the whole matrix, by a split with at most this many levels.
     Split(u32),
     /// The same from any source.
@@ -159,6 +164,11 @@ pub(crate) fn count_writes<C: Cells>(
             assert!(rt; region.fits(width, height));
             transpose_region_counted(input, cells, region, width, height)
         }
+        Put::CountedSourceRegion(region) => {
+            assert!(rt; region.fits(width, height));
+            let source = SliceSource::new(input);
+            transpose_source_region_counted(&source, cells, region, width, height)
+        }
         Put::Split(levels) | Put::SourceSplit(levels) => {
             split_on(rt, call, input, Writes::new(cells), shape).0
         }
@@ -179,6 +189,11 @@ fn put_on<C: Cells + Drop>(
         Put::Region(region) => {
             assert!(rt; region.fits(width, height));
             transpose_region_on(input, &mut out, region, width, height);
+        }
+        Put::SourceRegion(region) => {
+            assert!(rt; region.fits(width, height));
+            let source = SliceSource::new(input);
+            transpose_source_region_on(&source, &mut out, region, width, height);
         }
         Put::SourceOn => transpose_source_on(&SliceSource::new(input), &mut out, width, height),
         _ => transpose_on(input, &mut out, width, height),

@@ -62,6 +62,8 @@ fn worked_examples(rt: HostRuntime) {
             Put::SourceCounted,
             Put::Region(whole(shape)),
             Put::CountedRegion(whole(shape)),
+            Put::SourceRegion(whole(shape)),
+            Put::CountedSourceRegion(whole(shape)),
             Put::Split(0),
             Put::SourceSplit(0),
         ] {
@@ -140,7 +142,12 @@ fn regions(rt: HostRuntime) {
         col_end: 4,
     };
     let wanted = [99u64, 99, 99, 99, 99, 99, 99, 6, 10, 99, 7, 11];
-    for call in [Put::Region(region), Put::CountedRegion(region)] {
+    for call in [
+        Put::Region(region),
+        Put::CountedRegion(region),
+        Put::SourceRegion(region),
+        Put::CountedSourceRegion(region),
+    ] {
         let (output, writes) = transposed(&rt, rt.alloc(), call, &input, shape);
         equal(&rt, &writes, &4);
         equal(&rt, &output.as_slice(), &wanted.as_slice());
