@@ -5,7 +5,6 @@
 //! `core::arch` take numbers. So a shuffle here is one instruction of assembly, which does what Rust code that moves such bytes
 //! one by one would do. It touches no memory: Rust reads and writes all items, where a race detector sees it.
 
-use core::arch::asm;
 use core::array::from_fn;
 use core::mem::{MaybeUninit, transmute_copy};
 
@@ -44,17 +43,17 @@ macro_rules! shuffles {
         #[allow(unused)] // Where `side` is 1 nothing is shuffled.
         pub(super) fn $name(a: Register, b: Register) -> Register {
             let mut to = a;
-            // SAFETY: the instruction reads two registers, writes one, and does nothing else. With AVX it has three operands:
-            // older instructions are slow among those of AVX.
+            // SAFETY (of all three): the instruction reads two registers, writes one, and does nothing else. Any 16 bytes are a
+            // `Register`. With AVX it has three operands, since older instructions are slow among those of AVX.
             #[cfg(all(target_feature = "sse2", not(target_feature = "avx")))]
-            unsafe { asm!(concat!($x86, " {}, {}"), inlateout(xmm_reg) to, in(xmm_reg) b,
+            unsafe { core::arch::asm!(concat!($x86, " {}, {}"), inlateout(xmm_reg) to, in(xmm_reg) b,
                 options(pure, nomem, nostack, preserves_flags)) }
             #[cfg(target_feature = "avx")]
-            unsafe { asm!(concat!("v", $x86, " {}, {}, {}"), lateout(xmm_reg) to, in(xmm_reg) a, in(xmm_reg) b,
+            unsafe { core::arch::asm!(concat!("v", $x86, " {}, {}, {}"), lateout(xmm_reg) to, in(xmm_reg) a, in(xmm_reg) b,
                 options(pure, nomem, nostack, preserves_flags)) }
             #[cfg(target_feature = "neon")]
-            unsafe { asm!(concat!($arm, " {0:v}.", $parts, ", {1:v}.", $parts, ", {2:v}.", $parts), lateout(vreg) to,
-                in(vreg) a, in(vreg) b, options(pure, nomem, nostack, preserves_flags)) }
+            unsafe { core::arch::asm!(concat!($arm, " {0:v}.", $parts, ", {1:v}.", $parts, ", {2:v}.", $parts),
+                lateout(vreg) to, in(vreg) a, in(vreg) b, options(pure, nomem, nostack, preserves_flags)) }
             to
         }
     )*};
