@@ -7,7 +7,6 @@
 //! effect as Rust code that moves such bytes one by one. It touches no memory: Rust reads and writes all items, so a
 //! race detector sees these accesses.
 
-use core::arch::asm;
 use core::array::from_fn;
 use core::mem::{MaybeUninit, transmute_copy};
 
@@ -47,17 +46,17 @@ macro_rules! shuffles {
         #[allow(unused)] // If `side` is 1, nothing is shuffled.
         pub(super) fn $name(a: Register, b: Register) -> Register {
             let mut to = a;
-            // SAFETY: the instruction reads two registers, writes one, and does nothing else. With AVX it has three
-            // operands, because older instructions are slow among those of AVX.
+            // SAFETY (of all three): the instruction reads two registers, writes one, and does nothing else. Any 16 bytes
+            // are a `Register`. With AVX it has three operands, because older instructions are slow among those of AVX.
             #[cfg(all(target_feature = "sse2", not(target_feature = "avx")))]
-            unsafe { asm!(concat!($x86, " {}, {}"), inlateout(xmm_reg) to, in(xmm_reg) b,
+            unsafe { core::arch::asm!(concat!($x86, " {}, {}"), inlateout(xmm_reg) to, in(xmm_reg) b,
                 options(pure, nomem, nostack, preserves_flags)) }
             #[cfg(target_feature = "avx")]
-            unsafe { asm!(concat!("v", $x86, " {}, {}, {}"), lateout(xmm_reg) to, in(xmm_reg) a, in(xmm_reg) b,
+            unsafe { core::arch::asm!(concat!("v", $x86, " {}, {}, {}"), lateout(xmm_reg) to, in(xmm_reg) a, in(xmm_reg) b,
                 options(pure, nomem, nostack, preserves_flags)) }
             #[cfg(target_feature = "neon")]
-            unsafe { asm!(concat!($arm, " {0:v}.", $parts, ", {1:v}.", $parts, ", {2:v}.", $parts), lateout(vreg) to,
-                in(vreg) a, in(vreg) b, options(pure, nomem, nostack, preserves_flags)) }
+            unsafe { core::arch::asm!(concat!($arm, " {0:v}.", $parts, ", {1:v}.", $parts, ", {2:v}.", $parts),
+                lateout(vreg) to, in(vreg) a, in(vreg) b, options(pure, nomem, nostack, preserves_flags)) }
             to
         }
     )*};
