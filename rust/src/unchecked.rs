@@ -1,4 +1,4 @@
-//! The kernels on slices. All unsafe code of the package is in this file and in `unchecked/vectors.rs`, which
+//! The kernels on slices. All unsafe code of the package is in this file and in `vectors_unchecked.rs`, which
 //! transposes squares of items of 4 and of 8 bytes in vector registers and is used only by this file.
 //!
 //! It is proved that a kernel meets the preconditions of `exchange`, `put` and `at` for every holder, as long as its
@@ -387,7 +387,9 @@ mod slices {
 }
 
 #[cfg(not(feature = "checked"))]
-mod vectors;
+mod vectors_unchecked;
+#[cfg(not(feature = "checked"))]
+use vectors_unchecked as vectors;
 
 /// The result of a shuffle of two registers with these items.
 #[cfg(all(test, not(feature = "checked")))]
