@@ -29,6 +29,7 @@ const GROUPS_ON_THREADS: &[Group] = &[
     ("reversals of up to 2^18 items", |it| it.is("reverse", ..=1 << 18)),
     ("reversals of 2^19 items", |it| it.is("reverse", 1 << 19..1 << 20)),
     ("reversals of 2^20 to 2^24 items", |it| it.is("reverse", 1 << 20..)),
+    ("rows", |it| it.is("rows", ..)),
     ("transposes of fewer than 2^18 items", |it| {
         it.is("transpose", ..1 << 18)
     }),

@@ -7,11 +7,13 @@ use crate::measure::{Runner, Task};
 #[cfg(library)]
 use over_library::{reverse, reverse_rows, transpose};
 #[cfg(parallel)]
-use overlay::{reverse_slice_index_bits as reverse, transpose::transpose};
-#[cfg(not(library))]
-use p3_util_proved::reverse_slice_row_index_bits as reverse_rows;
+use overlay::{
+    proved::reverse_slice_row_index_bits as reverse_rows, reverse_slice_index_bits as reverse, transpose::transpose,
+};
 #[cfg(not(any(library, parallel)))]
-use p3_util_proved::{reverse_slice_index_bits as reverse, transpose::transpose};
+use p3_util_proved::{
+    reverse_slice_index_bits as reverse, reverse_slice_row_index_bits as reverse_rows, transpose::transpose,
+};
 
 /// The calls of the static library. Their conditions hold for each case.
 #[cfg(library)]
@@ -106,16 +108,27 @@ enum Contender {
     Proved,
     #[cfg(original)]
     Original,
+    /// A loop over all pairs of rows, on all threads.
+    #[cfg(parallel)]
+    Pairs,
     /// The package's call on one thread.
     #[cfg(parallel)]
     Call,
     Copy,
 }
 
-/// The contenders for a call, which take turns. The original has no call for rows.
+/// The contenders for a call, which take turns. The original has no call for rows. On threads, a loop over the pairs of rows is
+/// measured instead, as crates write it that have no such call.
 fn contenders(work: Work) -> &'static [Contender] {
     match work {
-        Work::Rows { .. } => &[Contender::Proved, Contender::Copy],
+        Work::Rows { .. } => &[
+            Contender::Proved,
+            #[cfg(parallel)]
+            Contender::Pairs,
+            #[cfg(parallel)]
+            Contender::Call,
+            Contender::Copy,
+        ],
         _ => &[
             Contender::Proved,
             #[cfg(original)]
@@ -137,7 +150,7 @@ impl<T: Item> Lists<T> {
         }
     }
 
-    /// Makes the contender's call so many times, each time on the result of the call before.
+    /// Makes the contender's call `times` times, each time on the result of the call before.
     fn run(&mut self, contender: Contender, times: u32) {
         let (from, to, row_width) = (self.from.as_slice(), self.to.as_mut_slice(), self.case.row_width());
         match (contender, self.case.work) {
@@ -161,11 +174,17 @@ impl<T: Item> Lists<T> {
                 })
             }
             #[cfg(parallel)]
+            (Contender::Pairs, Work::Rows { .. }) => repeat(times, to, row_width, crate::pairs::reverse_rows),
+            #[cfg(parallel)]
+            (Contender::Pairs, _) => unreachable!("this call moves no rows"),
+            #[cfg(parallel)]
             (Contender::Call, Work::Reverse { .. }) => {
                 repeat(times, to, (), |to, ()| p3_util_proved::reverse_slice_index_bits(to))
             }
             #[cfg(parallel)]
-            (Contender::Call, Work::Rows { .. }) => unreachable!("rows are not measured on threads"),
+            (Contender::Call, Work::Rows { .. }) => {
+                repeat(times, to, row_width, p3_util_proved::reverse_slice_row_index_bits)
+            }
             #[cfg(parallel)]
             (Contender::Call, Work::Transpose { width, height }) => {
                 repeat(times, to, (from, width, height), |to, (from, width, height)| {
@@ -208,7 +227,7 @@ fn copy<T: Item>(to: &mut [T], from: &[T]) {
     chunks.for_each(|(to, from)| to.copy_from_slice(from));
 }
 
-/// Makes the call so many times. Each call has a loop of its own, so that little time is spent elsewhere, and the
+/// Makes the call `times` times. Each call has a loop of its own, so that little time is spent elsewhere, and the
 /// compiler cannot know the call's arguments.
 #[inline(never)]
 fn repeat<T, R: Copy>(times: u32, to: &mut [T], rest: R, call: impl Fn(&mut [T], R)) {

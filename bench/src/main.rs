@@ -9,6 +9,8 @@ mod items;
 mod library;
 mod measure;
 mod options;
+#[cfg(parallel)]
+mod pairs;
 mod picture;
 mod table;
 mod timing;

@@ -11,7 +11,7 @@ pub trait Task {
     fn prepare(&self) -> Runner;
 }
 
-/// Lets the contender with this number, counted from 0, do its task so many times.
+/// Lets the contender with this number, counted from 0, do its task that many times.
 pub type Runner = Box<dyn FnMut(usize, u32)>;
 
 /// What each contender needs for each task: nanoseconds or instructions. `None` if another program counts the

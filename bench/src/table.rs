@@ -14,6 +14,7 @@ pub enum Unit {
 pub struct Row {
     pub case: Case,
     proved: f64,
+    /// The original's call, and for rows on several threads the loop over pairs of rows, which the original does not have.
     original: Option<f64>,
     /// The package's call on one thread, if `proved` is on several threads.
     one_thread: Option<f64>,
@@ -67,10 +68,10 @@ impl Row {
     }
 
     pub fn beside(&self) -> &'static str {
-        if self.original.is_some() {
-            "the original"
-        } else {
-            "a copy"
+        match (self.original, self.call()) {
+            (Some(_), "rows") => "a loop over pairs of rows",
+            (Some(_), _) => "the original",
+            (None, _) => "a copy",
         }
     }
 }

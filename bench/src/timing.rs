@@ -8,8 +8,8 @@ const LEAST_RUN: Duration = Duration::from_micros(100);
 /// The runs of a task go on for at least this long, even if the least number of runs takes less.
 const TASK: Duration = Duration::from_millis(60);
 
-/// The least nanoseconds that each contender takes for its task, in at least so many runs. `runner` lets the contender
-/// with this number, counted from 0, do its task so many times.
+/// The least nanoseconds that each contender takes for its task, in at least `runs` runs. `runner` lets the contender
+/// with this number, counted from 0, do its task that many times.
 pub fn least(contenders: usize, runs: usize, runner: &mut dyn FnMut(usize, u32)) -> Vec<f64> {
     let repeats: Vec<u32> = (0..contenders).map(|k| repeats(runner, k)).collect();
     let mut least = vec![f64::INFINITY; contenders];

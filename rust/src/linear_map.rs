@@ -37,7 +37,7 @@ impl<K: Eq, V> LinearMap<K, V> {
     ///
     /// # Panics
     ///
-    /// With `capacity overflow`, as the original does, if so many pairs take more than `isize::MAX` bytes, and if
+    /// With `capacity overflow`, as the original does, if `capacity` pairs take more than `isize::MAX` bytes, and if
     /// memory runs out.
     #[track_caller]
     pub fn with_capacity(capacity: usize) -> Self {

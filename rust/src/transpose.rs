@@ -88,7 +88,7 @@ const BLOCKS_GAP: core::ops::RangeInclusive<usize> = (1 << 18) + 1..=1 << 20;
 pub(crate) fn strips_of<R: Source + Copy>(matrix: Matrix<R>) -> Strips {
     let (width, height, items) = (matrix.width, matrix.height, matrix.source.len());
     let item_size = size_of::<R::Item>();
-    // The side is asked first, since it is all that small matrices wait for.
+    // The sides are compared first, so that nothing else is computed for small matrices.
     let has_blocks = width.min(height) >= BLOCKS_SIDE
         && match item_size {
             4 => !BLOCKS_GAP.contains(&items) || width % 16 == 0,

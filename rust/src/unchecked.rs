@@ -120,8 +120,8 @@ pub(crate) struct Phases<'a, F> {
 }
 
 impl<'a, F> Phases<'a, F> {
-    /// The phases of [`reverse_rows`], or `None` if the list does not have such rows. Up to `one_part` items are one
-    /// part, and items without bytes have no phase.
+    /// The phases of [`reverse_rows`], or `None` if the list does not have such rows. Each side of a square is cut into
+    /// at most `parts` parts. Up to `one_part` items are one part, and items without bytes have no phase.
     pub(crate) fn new(vals: &'a mut [F], row_width: usize, parts: usize, one_part: usize) -> Option<Self> {
         if !fits_rows(vals.len(), row_width) {
             return None;

@@ -5,7 +5,6 @@ use Rattle.std.specs.List.{swap}
 use Rattle.std.proofs.lemmas.Grind.{common_steps}
 use Rattle.std.proofs.lemmas.Option.{gets}
 
-
 pub slice_get-set_same : {A : Type 0} (xs : List A) (i : ℕ) (v : A) → i < length xs → slice_get (set xs i v) i ≡ Some v
 slice_get-set_same xs i v h = grind (arith, common_steps, gets)
 
@@ -26,4 +25,3 @@ slice_get-swap_first (d ∷ ys) i j hi hj = grind (arith, gets, slice_get-set_sa
 pub slice_get-swap_other : {A : Type 0} (xs : List A) (i j p : ℕ) → p ≢ i → p ≢ j → slice_get (swap xs i j) p ≡ slice_get xs p
 slice_get-swap_other [] i j p hi hj = refl
 slice_get-swap_other (d ∷ ys) i j p hi hj = grind (arith, common_steps, gets)
-

@@ -24,7 +24,7 @@ use Rattle.p3_util_kernels.proofs.AnyOrderLemmas.{AnyOf, turns-plain}
 use Rattle.p3_util_kernels.proofs.BlockSteps.{block-inside, block-steps, pairs-inside, pairs-steps}
 use Rattle.p3_util_kernels.proofs.BlocksLemmas.{block-apart}
 use Rattle.p3_util_kernels.proofs.CutParts.{part-inside, side-cut}
-use Rattle.p3_util_kernels.proofs.InterleavedSteps.{StepInParts, after-length, in_parts-apart, interleaved-alone, interleaved-below, interleaved-others, puts-are, swaps-are, swaps-differ}
+use Rattle.p3_util_kernels.proofs.InterleavedSteps.{StayIn, after-length, are-apart, of-none, of-part, puts-are, swaps-are, swaps-differ}
 use Rattle.p3_util_kernels.proofs.OrderedParts.{InPairs, block-exchanged, pairs-apart, pairs-exchanged, part-apart}
 use Rattle.p3_util_kernels.proofs.PhasesMade.{half-first, made-all}
 use Rattle.p3_util_kernels.proofs.PlansLemmas.{plan-phases}
@@ -57,29 +57,26 @@ module _ {A : Type 0} (plan : TransposePlan) (input old : List A) (lists : List 
   apart k l other p (less, (x, y, at, e)) (less', (v, w, at', e')) =
       other (part-apart plan.width plan.height plan.cut.len plan.cut.step plan.cut.some_step plan.by_rows (side k less) k l x y v w at at' (sym e ∙ e'))
 
-  own : StepInParts puts-are (length old) part below apart lists
+  own : StayIn (puts-are {A = A}) part lists
   own k steps e =
       let less = slice_get_within lists k steps e in
       let stay = region-stays (region_of k) plan.width plan.height (inside k less) input old (after_puts old steps) input_fits old_fits (alone.1 k steps e).1 strange in
       All-weaker (IsPlaceOfRegion (region_of k) plan.height) (part k) (λ p at. (less, at)) (places_put steps) (stay steps (alone.1 k steps e).0 refl).inside
 
   pub regions-apart : AreApartBelow places_put (length old) lists
-  regions-apart = in_parts-apart puts-are (length old) part below apart lists own
+  regions-apart = are-apart (puts-are {A = A}) part apart old below lists own
 
   pub regions-interleaved : (all : List (ℕ × A)) → IsInterleaved lists all → IsTranspose plan.width plan.height input (after_puts old all)
   regions-interleaved all is =
-      let count : ℕ = parts_in plan.cut.len plan.cut.step in
-      regions-all plan (λ j. j) (turns-plain count) input old (after_puts old all) old_fits
+      regions-all plan (λ j. j) (turns-plain (parts_in plan.cut.len plan.cut.step)) input old (after_puts old all) old_fits
       (record {
         same_length = after-length puts-are all old;
         places = λ x y (k, (j, less, e), at).
             let within : k < length lists = omega (arith, less, e, alone.0) in
-            let here : slice_get lists k ≡ Some (get_or lists k []) = slice_get-get_or lists k [] within in
-            interleaved-alone puts-are (length old) part below apart all lists old old k (get_or lists k []) refl refl own is here (λ p h. refl)
-            (x * plan.height + y) (within, (x, y, at, refl))
-            ∙ (alone.1 k (get_or lists k []) here).1.places x y at;
+            of-part puts-are part apart old below lists own all is k (x * plan.height + y) (within, (x, y, at, refl))
+            ∙ (alone.1 k (get_or lists k []) (slice_get-get_or lists k [] within)).1.places x y at;
         others = λ p out.
-            interleaved-others puts-are (length old) part below apart all lists old own is p
+            of-none puts-are part apart old below lists own all is p
             (λ k less (within, (x, y, at, e)). out x y (k, (k, omega (arith, within, alone.0), refl), at) e);
       })
 
@@ -98,18 +95,17 @@ module _ {A M : Type 0} (count : ℕ) (place : M → ℕ → ℕ → ℕ) (part 
       let below : (k p : ℕ) → PlaceOf place part k p → p < length old = λ k p (m, x, y, at, e). rw e (inside k m x y at) in
       let no_common : (k l : ℕ) → k ≢ l → NoPlaceInCommon (PlaceOf place part k) (PlaceOf place part l) =
       λ k l other p (m, x, y, at, e) (n, v, w, at', e'). other (apart k l m n x y v w at at' (sym e ∙ e')) in
-      let own : (k : ℕ) (steps : List (ℕ × ℕ)) → slice_get lists k ≡ Some steps → All (PlaceOf place part k) (places_swapped steps) = λ k steps e. (alone k steps e).1 in (
+      let own : StayIn (swaps-are {A = A}) (PlaceOf place part) lists = λ k steps e. (alone k steps e).1 in (
         record {
           same_length = after-length swaps-are all old;
           crossed = λ m x y (k, (j, less, e), at).
-              let here : slice_get lists k ≡ Some (get_or lists k []) = slice_get-get_or lists k [] (omega (arith, less, e, many)) in
-              interleaved-alone swaps-are (length old) (PlaceOf place part) below no_common all lists old old k (get_or lists k []) refl refl own is here (λ p h. refl) (place m x y) (m, x, y, at, refl)
-              ∙ (alone k (get_or lists k []) here).0.crossed m x y at;
+              of-part swaps-are (PlaceOf place part) no_common old below lists own all is k (place m x y) (m, x, y, at, refl)
+              ∙ (alone k (get_or lists k []) (slice_get-get_or lists k [] (omega (arith, less, e, many)))).0.crossed m x y at;
           others = λ p out.
-              interleaved-others swaps-are (length old) (PlaceOf place part) below no_common all lists old own is p
+              of-none swaps-are (PlaceOf place part) no_common old below lists own all is p
               (λ k less (m, x, y, at, e). out m x y (k, (k, omega (arith, less, many), refl), at) e);
         },
-        swaps-differ all old (interleaved-below (swaps-are {A = A}) (length old) (PlaceOf place part) below no_common all lists own is) differ,
+        swaps-differ all lists old (λ k steps e. All-weaker (PlaceOf place part k) (λ p. p < length old) (below k) (places_swapped steps) (own k steps e)) is differ,
       )
 
 -- the one interleaving of one list

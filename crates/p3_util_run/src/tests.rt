@@ -650,8 +650,8 @@ impl fmt::Write for TextWriter {
     }
 }
 
-/// Whether the text of a fault is written if so many writes succeed before one fails, and how many
-/// writes are taken.
+/// Whether the text of a fault is written if `good_writes` writes succeed before one fails, and how
+/// many writes are taken.
 fn written(fault: &RunFault, good_writes: usize) -> (bool, usize) {
     let mut writer = TextWriter {
         good_writes,

@@ -174,7 +174,8 @@ fn reversed(digits: usize, i: usize) -> usize {
     (0..digits).fold(0, |rev, place| rev << 1 | i >> place & 1)
 }
 
-/// The middle digit of a row whose index has so many digits, its high half reversed, and its low half.
+/// The parts of the index of a row with `digits` digits: the middle digit, the high half in reversed order, and the low
+/// half.
 fn names(digits: usize, row: usize) -> (usize, usize, usize) {
     let half = digits / 2;
     let (high, rest) = (row >> (digits - half), row % (1 << (digits - half)));
@@ -300,7 +301,7 @@ fn count_and_share(sizes: impl IntoIterator<Item = usize>) -> (usize, usize) {
 /// alone. Only this test notices a list that is not cut, or that is cut into parts of very different sizes.
 #[test]
 fn shares_of_reversals() {
-    /// 2^digits rows, their width, the wish, and of each phase the number of parts and the largest share.
+    /// 2^digits rows, their width, the wish, and for each phase the number of parts and the largest share.
     type Case = (usize, usize, usize, &'static [(usize, usize)]);
     let cases: [Case; 16] = [
         (20, 1, 0, &[(1, 1000), (1, 1000), (1, 1000)]),

@@ -19,7 +19,7 @@ fn run_all<P: Send>(shares: impl IntoIterator<Item = Vec<P>>, run: fn(P)) {
     });
 }
 
-/// Runs all parts, distributed to so many threads.
+/// Runs all parts, distributed to `threads` threads.
 fn run_on<'a, T: Send, P: Copy + Send>(threads: usize, mut parts: Parts<'a, T, P>, run: fn(Parts<'a, T, P>)) {
     let mut shares: Vec<Vec<_>> = from_fn(|| Some(Vec::new())).take(threads).collect();
     for (turn, part) in from_fn(|| parts.split_first()).enumerate() {
@@ -28,7 +28,7 @@ fn run_on<'a, T: Send, P: Copy + Send>(threads: usize, mut parts: Parts<'a, T, P
     run_all(shares, run);
 }
 
-/// Numbers of 4 or of 8 bytes, of which blocks are turned in registers.
+/// Numbers of 4 or of 8 bytes, whose blocks are transposed in registers.
 trait Number: Copy + PartialEq + Send + Sync {
     fn of(number: usize) -> Self;
 }
@@ -45,7 +45,7 @@ impl Number for usize {
     }
 }
 
-/// Transposes a matrix of numbers in about so many parts.
+/// Transposes a matrix of numbers in about `parts` parts.
 fn transposes<T: Number>(width: usize, height: usize, parts: usize, threads: usize) {
     let input: Vec<T> = (0..width * height).map(T::of).collect();
     let mut output = std::vec![T::of(0); input.len()];
@@ -55,7 +55,7 @@ fn transposes<T: Number>(width: usize, height: usize, parts: usize, threads: usi
     assert!(output.into_iter().eq((0..input.len()).map(transposed)));
 }
 
-/// Reverses 2^`digits` rows of numbers, in phases of about so many parts.
+/// Reverses 2^`digits` rows of numbers, in phases that are cut along sides of at most `parts` parts.
 fn reverses<T: Number>(digits: u32, row_width: usize, parts: usize, threads: usize) {
     let mut list: Vec<T> = (0..row_width << digits).map(T::of).collect();
     let mut phases = Phases::new(&mut list, row_width, parts, 0).unwrap();
@@ -122,10 +122,10 @@ fn overlapping_regions() {
     run_both(parts, cuts, Parts::put);
 }
 
-/// The first 4 of 8 line pairs, and the last of these with two more, in rows of three items.
+/// Two blocks of the pairs of 2^8 rows of three items: of the numbers below 8, and of those from 6 to below 12.
 #[test]
 #[ignore = "a race, which a detector has to report"]
-fn overlapping_ranges() {
+fn overlapping_pairs() {
     exchanges_both(3 << 8, 3, 0, [(2, 0), (3, 1)]);
 }
 

@@ -44,7 +44,7 @@ pub(super) const fn side<T>() -> usize {
 macro_rules! shuffles {
     ($($name:ident: $x86:literal, $arm:literal $parts:literal)*) => {$(
         #[inline(always)]
-        #[allow(unused)] // Where `side` is 1 nothing is shuffled.
+        #[allow(unused)] // If `side` is 1, nothing is shuffled.
         pub(super) fn $name(a: Register, b: Register) -> Register {
             let mut to = a;
             // SAFETY: the instruction reads two registers, writes one, and does nothing else. With AVX it has three

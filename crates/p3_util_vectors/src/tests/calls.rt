@@ -30,7 +30,7 @@ pub(crate) enum Call {
     Short,
     /// The same on the long path.
     Long,
-    /// The rows of so many items by index bits, with a given counter.
+    /// The rows of this many items by index bits, with a given counter.
     Rows(usize),
     /// The same with the `_counted` call.
     CountedRows(usize),
@@ -134,7 +134,7 @@ pub(crate) enum Put {
     Region(Region),
     /// The same with the `_counted` call.
     CountedRegion(Region),
-    /// Of the whole matrix, by a split with at most so many levels.
+    /// Of the whole matrix, by a split with at most this many levels.
     Split(u32),
     /// The same from any source.
     SourceSplit(u32),

@@ -7,7 +7,8 @@ use crate::tests::checks::{Shape, equal, found, numbers, same};
 use std::alloc::Global;
 use std::process::Abort;
 
-/// A list of the numbers below `len`, with room for notes of so many exchanges and writes.
+/// A list of the numbers below `len`, with room for notes of `exchanges` exchanges and `puts`
+/// writes.
 fn noted(rt: &impl Abort, alloc: Global, len: usize, exchanges: usize, puts: usize) -> Noted {
     Noted {
         items: numbers(rt, alloc, len),
