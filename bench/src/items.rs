@@ -117,8 +117,8 @@ enum Contender {
     Copy,
 }
 
-/// The contenders for a call, which take turns. The original has no call for rows. On threads, a loop over the pairs of rows is
-/// measured instead, as crates write it that have no such call.
+/// The contenders for a call, which take turns. The original has no call for rows. On several threads, a loop over the
+/// pairs of rows is measured instead, which crates without such a call write.
 fn contenders(work: Work) -> &'static [Contender] {
     match work {
         Work::Rows { .. } => &[

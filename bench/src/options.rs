@@ -51,8 +51,8 @@ const SHAPES_ON_THREADS: &str = "256x256,512x512,64x4096,4096x64,1000x300,1024x1
     2048x1024,1024x2048,300x4096,2048x2048,4096x1024,64x65536,65536x64,4096x4096,256x65536,16x1048576,1048576x16,\
     3000x2000,100x65536";
 
-/// Bytes of a row, and rows, that are measured on several threads: of 8, 64 and 1024 items of 4 bytes, in lists of 2^19 and of 2^23
-/// items.
+/// Bytes of a row, and numbers of rows, that are measured on several threads: rows of 8, 64 and 1024 items of 4 bytes,
+/// in lists of 2^19 and of 2^23 items.
 const ROWS_ON_THREADS: &str = "32x65536,32x1048576,256x8192,256x131072,4096x512,4096x8192";
 
 impl Options {

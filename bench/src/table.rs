@@ -14,7 +14,8 @@ pub enum Unit {
 pub struct Row {
     pub case: Case,
     proved: f64,
-    /// The original's call, and for rows on several threads the loop over pairs of rows, which the original does not have.
+    /// The original's call. For rows on several threads, which the original does not have, it is the loop over pairs of
+    /// rows.
     original: Option<f64>,
     /// The package's call on one thread, if `proved` is on several threads.
     one_thread: Option<f64>,

@@ -162,8 +162,8 @@ pub fn transpose_region_on<C: Cells>(
     transpose_source_region_on(&SliceSource::new(input), out, region, width, height);
 }
 
-/// Puts the transpose of `region`, a part of a matrix that any source has, into `out`, as [`transpose_region_on`] does that of
-/// a slice and under its conditions.
+/// Writes the transpose of `region`, a part of the matrix that any source has, to `out`, as
+/// [`transpose_region_on`] does for a slice. The conditions are the same.
 pub fn transpose_source_region_on<R, C>(
     input: &R,
     out: &mut Writes<C>,
@@ -206,8 +206,9 @@ pub fn transpose_region_counted<C: Cells>(
     transpose_source_region_counted(&SliceSource::new(input), cells, region, width, height)
 }
 
-/// Puts the transpose of `region`, a part of a matrix that any source has, as [`transpose_source_region_on`] does over a fresh
-/// counter and under its conditions, and returns the number of writes.
+/// Writes the transpose of `region`, a part of the matrix that any source has, to `cells` with a
+/// new counter, as [`transpose_source_region_on`] does with a given one, and returns the number of
+/// writes. The conditions are the same.
 pub fn transpose_source_region_counted<R, C>(
     input: &R,
     cells: &mut C,

@@ -122,7 +122,8 @@ fn overlapping_regions() {
     run_both(parts, cuts, Parts::put);
 }
 
-/// Two blocks of the pairs of 2^8 rows of three items: of the numbers below 8, and of those from 6 to below 12.
+/// Two blocks of pairs of rows, for 2^8 rows of three items: those of the numbers below 8, and those of the numbers
+/// from 6 to below 12.
 #[test]
 #[ignore = "a race, which a detector has to report"]
 fn overlapping_pairs() {
