@@ -23,7 +23,7 @@ pub use Rattle.p3_util.proofs.Callers.Chunks.{folded_sum, padded_sum, padded_ind
 pub use Rattle.p3_util.proofs.Callers.Columns.{column_inside, column_length, column_place, column_read, column_swapped, column_written, others_of_swap, others_of_write, column_others}
 pub use Rattle.p3_util.proofs.Callers.Compose.{region_of_rows, region_of_cols, square_inside, square_more, one_square, reversed_by_squares, swaps_around, rows_in_two, cols_in_two, rows_counted, cols_counted, items_of_rows, items_of_cols}
 pub use Rattle.p3_util.proofs.Callers.Grid.{region_of_column, rows_from_top, rows_across, twice_half, swaps_of_quadrants, last_quadrant_room, quadrants_within, square_of_quadrants}
-pub use Rattle.p3_util.proofs.Callers.Kept.{permuted_by_places, reversed_permuted, rows_permuted, transposed_permuted, permuted, kept, reversed_sum, kept_sum, reversed_alike}
+pub use Rattle.p3_util.proofs.Callers.Kept.{permuted_by_places, reversed_permuted, permuted_reversal, rows_permuted, transposed_permuted, permuted, kept, reversed_sum, kept_sum, reversed_alike}
 pub use Rattle.p3_util.proofs.Callers.LinearMap.{key_found, key_others, number_found, number_others, put_found, put_others, new_value_last, known_value_replaced, key_summed, key_within_sum, key_or_zero, text_eq, text_summed, text_within_sum, text_or_zero, number_summed, number_within_sum, number_or_zero, values_summed, new_value_last as values_after_new, known_value_replaced as values_after_known}
 pub use Rattle.p3_util.proofs.Callers.Pairs.{zip_length, zip_swapped}
 pub use Rattle.p3_util.proofs.Callers.Places.{others_swapped, others_written}

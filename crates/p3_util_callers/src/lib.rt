@@ -11,6 +11,7 @@ pub mod flat;
 pub mod from_end;
 pub mod grid;
 pub mod joined;
+pub mod kept;
 pub mod laws;
 pub mod linear_map;
 pub mod loops;

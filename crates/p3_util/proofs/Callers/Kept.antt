@@ -1,7 +1,7 @@
 -- What a reordering keeps: the new list is a permutation of the old one, so what holds of each item holds again, and sums and
 -- numbers of items stay.
 use Rattle.std.proofs.Common.{◌≡◌, ◌≢◌, ℕ, suc, ◌+◌, ◌-◌, ◌*◌, ◌/◌, ◌%◌, ◌^◌, ◌<◌, min, inl, inr, Some, List, [], ◌∷◌, length, get_or, slice_get, take, drop, refl, sym, ap, ◌∙◌, arith, length-append, length-drop, map, sum}
-use Rattle.std.specs.List.{remove, sum_by, zip}
+use Rattle.std.specs.List.{remove, zip}
 use Rattle.std.specs.Prelude.{IsPermutation}
 use Rattle.std.proofs.lemmas.List.Elements.{Contains-get_or}
 use Rattle.std.proofs.lemmas.List.Sums.{sum-map}
@@ -83,6 +83,9 @@ module _ {A : Type 0} where
   pub reversed_permuted : (old new : List A) → IsReversal old new → IsReversible (length old) → IsPermutation old new
   reversed_permuted old new reversal fits = rows_permuted 1 (length old) old new reversal (omega arith) (zero_or_power (length old) fits)
 
+  pub permuted_reversal : (old new : List A) → IsReversal old new → IsReversible (length old) → IsPermutation new old
+  permuted_reversal old new reversal fits = IsPermutation-sym old new (reversed_permuted old new reversal fits)
+
   pub transposed_permuted : (width height : ℕ) (old new : List A) → IsTranspose width height old new → length old ≡ width * height → IsPermutation old new
   transposed_permuted width height old new turned len =
       let split : (i : ℕ) → i < length new → (i / height < width) × (i % height < height) = λ i h. row_and_column i width height (omega (arith, turned.same_length)) in
@@ -93,7 +96,7 @@ module _ {A : Type 0} where
       same_number i j height both.1 both.0)
       (λ i h. ap (slice_get new) (sym (mod-add-div' i height) ∙ omega arith) ∙ turned.places (i / height) (i % height) (split i h).0 (split i h).1)
 
-pub ruleset permuted = (reversed_permuted, rows_permuted, transposed_permuted)
+pub ruleset permuted = (reversed_permuted, permuted_reversal, rows_permuted, transposed_permuted)
 
 -- The place from which an item came, and the place to which one went, in the form that `grind` finds: what holds of each item of one
 -- list then holds of each item of the other.
@@ -120,25 +123,24 @@ module _ {A : Type 0} where
       → (get_or new k d ≡ get_or new k d) × ((j : ℕ) × (j < length old) × (get_or new k d ≡ get_or old j d))
   transposed_from w rows k d old new turned len h = from_place k d old new (transposed_permuted w rows old new turned len) h
 
-  -- sums over a list, and so how many items pass a test
-  pub reversed_sum : (f : A → ℕ) (old new : List A) → IsReversal old new → IsReversible (length old) → sum_by f new ≡ sum_by f old
-  reversed_sum f old new reversal fits = sum_by-IsPermutation f old new (reversed_permuted old new reversal fits)
+-- the sum of all items
+pub reversed_sum : (old new : List ℕ) → IsReversal old new → IsReversible (length old) → sum new ≡ sum old
+reversed_sum old new reversal fits = sum_by-IsPermutation (λ x. x) old new (reversed_permuted old new reversal fits)
 
-  pub rows_sum : (w rows : ℕ) (f : A → ℕ) (old new : List A) → IsRowReversal w old new → length old ≡ w * rows → IsZeroOrPowerOfTwo rows
-      → sum_by f new ≡ sum_by f old
-  rows_sum w rows f old new reversal len fits = sum_by-IsPermutation f old new (rows_permuted w rows old new reversal len fits)
+pub rows_sum : (w rows : ℕ) (old new : List ℕ) → IsRowReversal w old new → length old ≡ w * rows → IsZeroOrPowerOfTwo rows → sum new ≡ sum old
+rows_sum w rows old new reversal len fits = sum_by-IsPermutation (λ x. x) old new (rows_permuted w rows old new reversal len fits)
 
-  pub transposed_sum : (w h : ℕ) (f : A → ℕ) (old new : List A) → IsTranspose w h old new → length old ≡ w * h → sum_by f new ≡ sum_by f old
-  transposed_sum w h f old new turned len = sum_by-IsPermutation f old new (transposed_permuted w h old new turned len)
+pub transposed_sum : (w h : ℕ) (old new : List ℕ) → IsTranspose w h old new → length old ≡ w * h → sum new ≡ sum old
+transposed_sum w h old new turned len = sum_by-IsPermutation (λ x. x) old new (transposed_permuted w h old new turned len)
 
 pub ruleset kept = (reversed_from, reversed_to, rows_from, transposed_from)
 
 pub ruleset kept_sum = (reversed_sum, rows_sum, transposed_sum)
 
--- The products, or other numbers of the pairs, of two lists that are reversed alike.
-pub reversed_alike : (f : ℕ × ℕ → ℕ) (xs ys xs' ys' : List ℕ) → IsReversal xs xs' → IsReversal ys ys' → IsReversible (length xs) → length ys ≡ length xs
+-- the numbers that a function has of the pairs of two lists that are reversed alike, and their products
+pairs_alike : (f : ℕ × ℕ → ℕ) (xs ys xs' ys' : List ℕ) → IsReversal xs xs' → IsReversal ys ys' → IsReversible (length xs) → length ys ≡ length xs
     → sum (map f (zip xs' ys')) ≡ sum (map f (zip xs ys))
-reversed_alike f xs ys xs' ys' one other fits same =
+pairs_alike f xs ys xs' ys' one other fits same =
     sum-map f (zip xs' ys') ∙ sum_by-IsPermutation f (zip xs ys) (zip xs' ys') (moved (zero_or_power (length xs) fits)) ∙ sym (sum-map f (zip xs ys))
   where
     lens : length (zip xs' ys') ≡ length (zip xs ys)
@@ -158,3 +160,7 @@ reversed_alike f xs ys xs' ys' one other fits same =
         let hy : slice_get ys (rev k i) ≡ Some (get_or ys (rev k i) 0) = slice_get-get_or ys (rev k i) 0 (omega (arith, rev-lt k i)) in
         zip_place xs' ys' i _ _ (IsReversal-places xs xs' one k i power hi ∙ hx) (IsReversal-places ys ys' other k i (same ∙ power) hi ∙ hy)
         ∙ sym (zip_place xs ys (rev k i) _ _ hx hy))
+
+pub reversed_alike : (xs ys xs' ys' : List ℕ) → IsReversal xs xs' → IsReversal ys ys' → IsReversible (length xs) → length ys ≡ length xs
+    → sum (map (λ (p : ℕ × ℕ). p.0 * p.1) (zip xs' ys')) ≡ sum (map (λ (p : ℕ × ℕ). p.0 * p.1) (zip xs ys))
+reversed_alike = pairs_alike (λ p. p.0 * p.1)

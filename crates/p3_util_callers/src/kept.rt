@@ -1,0 +1,110 @@
+//! What a reordering keeps: a bound of all items, which items there are, their sum, how many pass a test, and the product of two
+//! lists that are reversed alike. A function that says `IsPermutation` needs a lemma, and who calls it needs none.
+
+ghost use Rattle.std.specs.Prelude.{◌≡◌, ℕ, ◌*◌, ◌^◌, ◌<◌, ◌≤◌, ◌==◌, All, Contains, IfOk, IfSome, IsPermutation, count_by, length, sum};
+ghost use Rattle.p3_util.specs.Reversal.{FitsRows, IsReversible};
+
+use crate::chunks::padded_to;
+use p3_util::reverse::{reverse_slice_index_bits, reverse_slice_row_index_bits};
+use p3_util::transpose::transpose;
+use std::alloc::{AllocError, Global};
+
+/// Reverses `vals` by index bits: each item stays below `m`.
+#[tactic(auto, using(p3_util::proofs::Callers::kept))]
+pub fn reverse_reduced(vals: &mut [u64], m: u64)
+    requires power { IsReversible (length vals.old) }
+    requires reduced { All (λ x. x < m) vals.old }
+    ensures { All (λ x. x < m) vals.new }
+{
+    reverse_slice_index_bits(vals);
+}
+
+/// The same of rows.
+#[tactic(auto, using(p3_util::proofs::Callers::kept))]
+pub fn reverse_reduced_rows(vals: &mut [u64], row_width: usize, m: u64)
+    requires power { FitsRows (length vals.old) row_width }
+    requires reduced { All (λ x. x < m) vals.old }
+    ensures { All (λ x. x < m) vals.new }
+{
+    reverse_slice_row_index_bits(vals, row_width);
+}
+
+/// Reverses `vals` by index bits, which has the same items then.
+#[tactic(auto, using(p3_util::proofs::Callers::permuted))]
+pub fn reordered<T>(vals: &mut [T])
+    requires { IsReversible (length vals.old) }
+    ensures { IsPermutation vals.old vals.new }
+{
+    reverse_slice_index_bits(vals);
+}
+
+/// Puts the transpose of `input` into `output`, which has the items of `input` then.
+#[tactic(auto, using(p3_util::proofs::Callers::permuted))]
+pub fn transposed<T: Copy>(input: &[T], output: &mut [T], width: usize, height: usize)
+    requires input_fits { length input.now ≡ width * height }
+    requires output_fits { length output.old ≡ width * height }
+    ensures { IsPermutation input.now output.new }
+{
+    transpose(input, output, width, height);
+}
+
+/// The same of items below `m`, which stay so.
+pub fn transpose_reduced(input: &[u64], output: &mut [u64], width: usize, height: usize, m: u64)
+    requires input_fits { length input.now ≡ width * height }
+    requires output_fits { length output.old ≡ width * height }
+    requires reduced { All (λ x. x < m) input.now }
+    ensures { All (λ x. x < m) output.new }
+{
+    transposed(input, output, width, height);
+}
+
+/// `items` below `m`, padded with zeros to `len` items, which are below `m` too.
+///
+/// # Errors
+///
+/// `AllocError` where there is no memory for them.
+pub fn pad_reduced(alloc: Global, items: &[u64], len: usize, m: u64) -> Result<Vec<u64>, AllocError>
+    requires room { length items.now ≤ len }
+    requires some { 0 < m }
+    requires reduced { All (λ x. x < m) items.now }
+    ensures { IfOk result (λ v. All (λ x. x < m) v.items) }
+{
+    padded_to(alloc, items, len)
+}
+
+/// Reorders `vals`: an item is there if and only if it was there before, and the items that are 0 are as many as before.
+pub fn reorder_and_keep(vals: &mut [u64])
+    requires { IsReversible (length vals.old) }
+    ensures kept { (x : ℕ) → Contains vals.old x → Contains vals.new x }
+    ensures none_new { (x : ℕ) → Contains vals.new x → Contains vals.old x }
+    ensures zeros { count_by (λ x. x == 0) vals.new ≡ count_by (λ x. x == 0) vals.old }
+    ensures total { sum vals.new ≡ sum vals.old }
+{
+    reordered(vals);
+}
+
+/// The greatest item.
+pub fn greatest(vals: &[u64]) -> Option<u64>
+    ensures there { IfSome result (λ x. Contains vals.now x) }
+    ensures bound { IfSome result (λ x. All (λ y. y ≤ x) vals.now) }
+{
+    vals.iter().copied().max()
+}
+
+/// Reverses `vals` by index bits, which had the same items before.
+#[tactic(auto, using(p3_util::proofs::Callers::permuted))]
+pub fn reordered_from<T>(vals: &mut [T])
+    requires { IsReversible (length vals.old) }
+    ensures { IsPermutation vals.new vals.old }
+{
+    reverse_slice_index_bits(vals);
+}
+
+/// Reorders `vals`, and returns the greatest item, which is what it was.
+pub fn greatest_after(vals: &mut [u64]) -> Option<u64>
+    requires { IsReversible (length vals.old) }
+    ensures { IfSome result (λ x. All (λ y. y ≤ x) vals.old) }
+{
+    reordered_from(vals);
+    greatest(vals)
+}
