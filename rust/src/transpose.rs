@@ -59,13 +59,13 @@ const BLOCKS_LONG_ITEMS: usize = 1 << 15;
 /// As many items of 4 bytes, up to the number above which a matrix is split, are put by blocks only where 16 divides the width.
 const BLOCKS_GAP: core::ops::RangeInclusive<usize> = (1 << 18) + 1..=1 << 20;
 
-/// The strips by which a matrix is put, whole or in parts: those of the kernels' own choice, which is by the shape alone, but for two
-/// kinds of matrices that take less time in another order. Strips choose the order of the puts and nothing else.
+/// The strips by which a matrix is put, whole or in parts. Most are those of the kernels' own choice, which is by the shape alone.
+/// Two kinds of matrices take less time in another order. Strips choose the order of the puts and nothing else.
 ///
-/// - Items of 4 bytes, and up to 32768 items of 8, are put by blocks that are turned in registers, where no side is below 8. Below 128
-///   items the blocks have to be whole. From 262145 to 1048576 items of 4 bytes, 16 has to divide the width.
-/// - More than 1048576 items of 32 or of 64 bytes are put 16 columns at a time, row after row, where there are 16 and each is of a
-///   multiple of 4096 bytes.
+/// - Items of 4 bytes, and up to 32768 items of 8, are put by blocks that are turned in registers, where no side is below 8.
+///   Below 128 items the blocks have to be whole. From 262145 to 1048576 items of 4 bytes, 16 has to divide the width.
+/// - More than 1048576 items of 32 or of 64 bytes are put 16 columns at a time, row after row, where there are 16 and each is of
+///   a multiple of 4096 bytes.
 pub(crate) fn strips_of<R: Source + Copy>(matrix: Matrix<R>) -> Strips {
     let (width, height, items) = (matrix.width, matrix.height, matrix.source.len());
     let item_size = size_of::<R::Item>();

@@ -1,7 +1,8 @@
-//! The kernels over slices. All unsafe code of the package is in this file and in `unchecked/vectors.rs`, which turns squares of items
-//! of 4 and of 8 bytes in vector registers and is used by this file alone.
+//! The kernels over slices. All unsafe code of the package is in this file and in `unchecked/vectors.rs`, which turns squares of
+//! items of 4 and of 8 bytes in vector registers and is used by this file alone.
 //!
-//! A kernel is proved to keep the conditions of `exchange`, `put` and `at` for every holder, where its own condition holds.
+//! A kernel is proved to keep the conditions of each step, such as `exchange`, `put` and `at`, for every holder, if its own
+//! condition holds.
 //! So the holders here test no index, as long as each function below tests its kernel's condition before it makes one.
 //! They are private to this file, so that nothing else can make one. The feature `checked` puts holders that test each index
 //! in their place.
@@ -14,10 +15,11 @@
 //!
 //! Two things are left to reading:
 //!
-//! - that a generic body steps at the same places whatever its items and its holder are, for either answer of `by_blocks`. A kernel
-//!   calls no `clone`, `size_of`, `type_name` or `needs_drop`, and a script looks for such words in the kernels' sources. So what is
-//!   proved over one list and one holder, by which steps are counted or noted, holds over all. A kernel may ask a holder only
-//!   whether blocks are faster (`Places::by_blocks`), which changes the order of its steps. What is proved holds for both answers.
+//! - that a generic body steps at the same places whatever its items and its holder are, for either answer of `by_blocks`. A
+//!   kernel calls no `clone`, `size_of`, `type_name` or `needs_drop`, and a script looks for such words in the kernels' sources.
+//!   So what is proved over one list and one holder, by which steps are counted or noted, holds over all. A kernel may ask its
+//!   holder whether blocks are faster (`Places::by_blocks`), which changes the order of the steps. What is proved holds for both
+//!   answers.
 //! - that this file gives each number of a phase out once, and one phase after the other, which rustc's borrow checker sees to:
 //!   [`Parts`] takes numbers from a range and is not cloned, and the parts of a phase borrow the [`Phases`] that the next one is
 //!   asked of.
