@@ -139,7 +139,8 @@ impl<K: Eq + Drop, V> LinearMap<K, V> {
         ensures unchanged { OnErr result (self.new ≡ self.old) }
         ensures refuses_new { OnErr result (value_at K.eq self.old k ≡ None) }
         ensures known { IsSome (value_at K.eq self.old k) → IsOk result }
-        ensures known_keys { IsSome (value_at K.eq self.old k) → keys_of self.new ≡ keys_of self.old }
+        ensures known_keys { IsSome (value_at K.eq self.old k)
+            → keys_of self.new ≡ keys_of self.old }
         ensures distinct { HasDistinctKeys K.eq self.new }
     {
         if let Some(place) = self.place_of(&k) {
@@ -159,7 +160,8 @@ impl<K: Eq + Drop, V> LinearMap<K, V> {
     pub fn get_or_insert_with<F: FnOnce() -> V>(&mut self, k: K, f: F) -> Result<&mut V, NoRoom<K>>
         requires { value_at K.eq self.old k ≡ None → F.pre f }
         ensures* writes_back { sem 𝓛 (lends_put K.row V.row K.eq self.entry k result) }
-        ensures value { IfOk result (λ v. UnwrapsOrElse (value_at K.eq self.old k) (F.post f) v.now) }
+        ensures value { IfOk result (λ v. UnwrapsOrElse (value_at K.eq self.old k)
+            (F.post f) v.now) }
         ensures given { IfErr result (λ e. e.given ≡ k) }
         ensures refuses_new { OnErr result (value_at K.eq self.old k ≡ None) }
         ensures known { IsSome (value_at K.eq self.old k) → IsOk result }
@@ -189,7 +191,8 @@ impl<K: Eq + Drop, V: Drop> LinearMap<K, V> {
             × Drains I.IntoIter.next_gives from xs × (m ≡ put_all K.eq [] xs)) }
 
         // The pair x that was refused has a new key. The pairs xs came before it.
-        ensures refuses_new { OnErr result ((from : I.IntoIter) × (xs : List (K × V)) × (x : K × V) × (rest : I.IntoIter)
+        ensures refuses_new { OnErr result ((from : I.IntoIter) × (xs : List (K × V)) × (x : K × V)
+            × (rest : I.IntoIter)
             × I.into_iter_gives it from × YieldsThen I.IntoIter.next_gives from xs (Some x) rest
             × (value_at K.eq (put_all K.eq [] xs) x.0 ≡ None)) }
 

@@ -47,7 +47,8 @@ pub extern "C" fn p3_util_log2_strict(n: usize, exponent: &mut usize) -> bool
 /// it is.
 #[unsafe(no_mangle)]
 pub extern "C" fn p3_util_log3_strict(n: usize, exponent: &mut usize) -> bool
-    ensures { IsTried result (IsPowerOfThree n) (n ≡ 3 ^ exponent.new) (exponent.new ≡ exponent.old) }
+    ensures { IsTried result (IsPowerOfThree n) (n ≡ 3 ^ exponent.new) (exponent.new
+        ≡ exponent.old) }
 {
     let fits = is_power_of_three(n);
     if fits {
@@ -61,7 +62,8 @@ pub extern "C" fn p3_util_log3_strict(n: usize, exponent: &mut usize) -> bool
 /// 64.
 #[unsafe(no_mangle)]
 pub extern "C" fn p3_util_reverse_bits_len(x: usize, bit_len: usize, reversed: &mut usize) -> bool
-    ensures { IsTried result (bit_len ≤ 64) (reversed.new ≡ rev_word bit_len x) (reversed.new ≡ reversed.old) }
+    ensures { IsTried result (bit_len ≤ 64) (reversed.new ≡ rev_word bit_len x) (reversed.new
+        ≡ reversed.old) }
 {
     let fits = bit_len <= 64;
     if fits {

@@ -38,7 +38,8 @@ fn reverse_rows(vals: &mut [u8], row_width: usize) -> bool
 }
 
 fn transpose(input: &[u8], output: &mut [u8], width: usize, height: usize) -> bool
-    ensures held { IsTrue result ↔ ((length input.now ≡ width * height) × (length output.old ≡ width * height)) }
+    ensures held { IsTrue result ↔ ((length input.now ≡ width * height)
+        × (length output.old ≡ width * height)) }
     ensures done { OnTrue result (IsTranspose width height input.now output.new) }
     ensures unchanged { OnFalse result (output.new ≡ output.old) }
 {

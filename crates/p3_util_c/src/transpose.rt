@@ -210,7 +210,8 @@ fn transpose_where_it_fits<T: Copy>(
     width: usize,
     height: usize,
 ) -> bool
-    ensures held { IsTrue result ↔ ((length input.now ≡ width * height) × (length output.old ≡ width * height)) }
+    ensures held { IsTrue result ↔ ((length input.now ≡ width * height)
+        × (length output.old ≡ width * height)) }
     ensures done { OnTrue result (IsTranspose width height input.now output.new) }
     ensures unchanged { OnFalse result (output.new ≡ output.old) }
 {

@@ -46,7 +46,8 @@ impl Cut {
         requires { 0 < unit }
         ensures len { result.len ≡ len }
         ensures few { parts_in result.len result.step ≤ max parts 1 }
-        ensures units { (k : ℕ) → k < parts_in result.len result.step → start_of result.len result.step k % unit ≡ 0 }
+        ensures units { (k : ℕ) → k < parts_in result.len result.step
+            → start_of result.len result.step k % unit ≡ 0 }
         ensures least { IsLeastStep parts unit result.len result.step }
     {
         let units = len.div_ceil(unit).div_ceil(parts.max(1));
@@ -78,7 +79,8 @@ impl Cut {
     pub(crate) fn region<R>(self, matrix: &Matrix<R>, by_rows: bool, k: usize) -> Region
         requires side { self.len ≡ if by_rows then matrix.now.height else matrix.now.width }
         requires below { k < parts_in self.len self.step }
-        ensures region { result ≡ part_of_matrix matrix.now.width matrix.now.height by_rows self.len self.step k }
+        ensures region { result ≡ part_of_matrix matrix.now.width matrix.now.height by_rows
+            self.len self.step k }
         ensures inside { LiesInMatrix result matrix.now.width matrix.now.height }
     {
         let whole = matrix.whole();
@@ -138,7 +140,8 @@ impl Squares {
         ensures side { result.cut.len ≡ 2 ^ (digits / 2) }
         ensures few { parts_in result.cut.len result.cut.step ≤ max parts 1 }
         ensures least { IsLeastStep parts unit result.cut.len result.cut.step }
-        ensures units { (k : ℕ) → k < parts_in result.cut.len result.cut.step → start_of result.cut.len result.cut.step k % unit ≡ 0 }
+        ensures units { (k : ℕ) → k < parts_in result.cut.len result.cut.step
+            → start_of result.cut.len result.cut.step k % unit ≡ 0 }
     {
         let half = digits / 2;
         Squares {
@@ -158,7 +161,8 @@ impl Squares {
     pub(crate) fn block(self, number: usize) -> (Square, Region)
         requires { number < blocks_of self.cut.len self.stride self.cut.step }
         ensures stride { result.0.stride ≡ self.stride }
-        ensures block { IsBlock self.cut.len self.stride self.cut.step number result.0.base result.1 }
+        ensures block { IsBlock self.cut.len self.stride self.cut.step number
+            result.0.base result.1 }
     {
         let pairs = self.cut.pairs();
         let (first, second) = self.cut.pair(number % pairs);
@@ -181,7 +185,8 @@ impl Squares {
     pub(crate) fn exchange<M: Places>(self, m: M, number: usize) -> M
         requires below { number < blocks_of self.cut.len self.stride self.cut.step }
         requires whole { length (M.items m) ≡ self.cut.len * self.stride }
-        ensures block { (base : ℕ) × (region : Region) × IsBlock self.cut.len self.stride self.cut.step number base region
+        ensures block { (base : ℕ) × (region : Region)
+            × IsBlock self.cut.len self.stride self.cut.step number base region
             × SwapsAcross base self.stride region (M.items m) (M.items result)
             × M.same_holder (swaps_of_block region) m result }
     {
@@ -203,7 +208,8 @@ pub(crate) struct RowPairs {
     squares: Squares,
     pub ghost side: { squares.cut.len ≡ 2 ^ (rows.digits / 2) },
     pub ghost stride: { squares.stride ≡ 2 ^ (rows.digits - rows.digits / 2) },
-    pub ghost even: { (k : ℕ) → k < parts_in squares.cut.len squares.cut.step → start_of squares.cut.len squares.cut.step k % 2 ≡ 0 },
+    pub ghost even: { (k : ℕ) → k < parts_in squares.cut.len squares.cut.step
+        → start_of squares.cut.len squares.cut.step k % 2 ≡ 0 },
 }
 
 impl RowPairs {
@@ -223,11 +229,16 @@ impl RowPairs {
 
     /// Exchanges the pairs of rows of block `number`.
     pub(crate) fn exchange<M: Places>(self, m: M, number: usize) -> M
-        requires below { number < blocks_of self.squares.cut.len self.squares.stride self.squares.cut.step }
+        requires below { number < blocks_of self.squares.cut.len self.squares.stride
+            self.squares.cut.step }
         requires ready { HoldsRows self.rows.width self.rows.digits (M.items m) }
-        ensures block { (base : ℕ) × (region : Region) × IsBlock self.squares.cut.len self.squares.stride self.squares.cut.step number base region
-            × IsCrossed (self.rows.digits / 2) (self.rows.digits - self.rows.digits / 2) self.rows.width
-            (record region { col_start = base + region.col_start; col_end = base + region.col_end }) (M.items m) (M.items result)
+        ensures block { (base : ℕ) × (region : Region)
+            × IsBlock self.squares.cut.len self.squares.stride self.squares.cut.step
+            number base region
+            × IsCrossed (self.rows.digits / 2)
+            (self.rows.digits - self.rows.digits / 2) self.rows.width
+            (record region { col_start = base + region.col_start; col_end = base + region.col_end })
+            (M.items m) (M.items result)
             × M.same_holder (self.rows.width * swaps_of_block region) m result }
     {
         let (square, region) = self.squares.block(number);

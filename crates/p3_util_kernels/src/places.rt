@@ -121,7 +121,8 @@ pub trait Places {
 
     ghost same_holder_refl: { (a : Self) → same_holder 0 a a };
 
-    ghost same_holder_trans: { (m n all : ℕ) (a b c : Self) → same_holder m a b → same_holder n b c → m + n ≡ all → same_holder all a c };
+    ghost same_holder_trans: { (m n all : ℕ) (a b c : Self) → same_holder m a b → same_holder n b c
+        → m + n ≡ all → same_holder all a c };
 }
 
 /// A list whose items can be written, and not read.
@@ -152,8 +153,10 @@ pub trait Cells {
     fn put_four(&mut self, i: usize, four: &Four<Self::Item>)
         requires { i + 4 ≤ length (items self.old) }
         ensures same_length { length (items self.new) ≡ length (items self.old) }
-        ensures places { (t : ℕ) → t < 4 → slice_get (items self.new) (i + t) ≡ slice_get (in_order four.now) t }
-        ensures others { (p : ℕ) → (p < i) ⊎ (i + 4 ≤ p) → slice_get (items self.new) p ≡ slice_get (items self.old) p }
+        ensures places { (t : ℕ) → t < 4 → slice_get (items self.new) (i + t)
+            ≡ slice_get (in_order four.now) t }
+        ensures others { (p : ℕ) → (p < i) ⊎ (i + 4 ≤ p)
+            → slice_get (items self.new) p ≡ slice_get (items self.old) p }
         ensures holder { same_holder 4 self.old self.new }
     {
         // `len` is called for its contract, which tells the proof that the length fits a usize.
@@ -175,7 +178,8 @@ pub trait Cells {
 
     ghost same_holder_refl: { (a : Self) → same_holder 0 a a };
 
-    ghost same_holder_trans: { (m n all : ℕ) (a b c : Self) → same_holder m a b → same_holder n b c → m + n ≡ all → same_holder all a c };
+    ghost same_holder_trans: { (m n all : ℕ) (a b c : Self) → same_holder m a b → same_holder n b c
+        → m + n ≡ all → same_holder all a c };
 }
 
 /// A list whose items can be read, and not changed.
@@ -200,7 +204,8 @@ pub trait Source {
     #[inline(always)]
     fn four(&self, i: usize) -> Four<Self::Item>
         requires { i + 4 ≤ length (items self.now) }
-        ensures { (t : ℕ) → t < 4 → slice_get (in_order result) t ≡ slice_get (items self.now) (i + t) }
+        ensures { (t : ℕ) → t < 4 → slice_get (in_order result) t
+            ≡ slice_get (items self.now) (i + t) }
     {
         // `len` is called for its contract, which tells the proof that the length fits a usize.
         let _ = self.len();

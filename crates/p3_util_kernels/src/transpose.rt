@@ -199,7 +199,8 @@ pub fn transpose_region_counted<C: Cells>(
     requires input_fits { length input.now ≡ width * height }
     requires output_fits { length (C.items cells.old) ≡ width * height }
     requires inside { LiesInMatrix region width height }
-    ensures transposed { IsRegionTransposed region width height input.now (C.items cells.old) (C.items cells.new) }
+    ensures transposed { IsRegionTransposed region width height input.now (C.items cells.old)
+        (C.items cells.new) }
     ensures count { result ≡ items_of region }
     ensures holder { C.same_holder result cells.old cells.new }
 {
@@ -222,7 +223,8 @@ where
     requires input_fits { length (R.items input.now) ≡ width * height }
     requires output_fits { length (C.items cells.old) ≡ width * height }
     requires inside { LiesInMatrix region width height }
-    ensures transposed { IsRegionTransposed region width height (R.items input.now) (C.items cells.old) (C.items cells.new) }
+    ensures transposed { IsRegionTransposed region width height (R.items input.now)
+        (C.items cells.old) (C.items cells.new) }
     ensures count { result ≡ items_of region }
     ensures holder { C.same_holder result cells.old cells.new }
 {
@@ -258,7 +260,8 @@ pub(crate) fn transpose_matrix<M: Cells, R: Source<Item = M::Item> + Copy>(
 ) -> M
     requires input_fits { length (R.items matrix.source) ≡ matrix.width * matrix.height }
     requires output_fits { length (M.items out) ≡ matrix.width * matrix.height }
-    ensures order { IsTranspose matrix.width matrix.height (R.items matrix.source) (M.items result) }
+    ensures order { IsTranspose matrix.width matrix.height (R.items matrix.source)
+        (M.items result) }
     ensures holder { M.same_holder (matrix.width * matrix.height) out result }
 {
     let whole = matrix.whole();

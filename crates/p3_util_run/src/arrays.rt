@@ -16,7 +16,8 @@ use std::alloc::{AllocError, Global};
 pub fn read_array(alloc: Global, bytes: Vec<u8>) -> Result<Vec<u64>, RunFault>
     ensures read { IfOk result (λ v. IsArrayOf bytes.items v.items) }
     ensures kind { IfErr result (λ e. (e ≡ RunFault.NotAnArray) ⊎ (e ≡ RunFault.Memory)) }
-    ensures refused { result ≡ Err RunFault.NotAnArray → (xs : List ℕ) → ¬ IsArrayOf bytes.items xs }
+    ensures refused { result ≡ Err RunFault.NotAnArray → (xs : List ℕ)
+        → ¬ IsArrayOf bytes.items xs }
 {
     let value = match Value::from_slice(alloc, bytes.as_slice()) {
         Ok(value) => value,

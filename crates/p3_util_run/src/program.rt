@@ -47,7 +47,8 @@ pub fn run<R: Read, W: Write>(
     ensures ended { reader.old.input_end ≡ Ahead → OnOk result (reader.new.input_end ≡ Reached) }
     ensures not_passed { reader.old.input_end ≡ Ahead → reader.new.input_end ≢ Passed }
     // There is at most one text.
-    ensures one_text { (input a b : List ℕ) → Out (texts_of words.now) input a → Out (texts_of words.now) input b
+    ensures one_text { (input a b : List ℕ) → Out (texts_of words.now) input a
+        → Out (texts_of words.now) input b
         → a ≡ b }
     // All input was read, and it has no answer.
     ensures refused { IfErr result (λ fault. IsOfInput fault → (input : List ℕ)
@@ -60,7 +61,8 @@ pub fn run<R: Read, W: Write>(
         → (fault : RunFault) → (result ≡ Err fault) ↔ Fault (texts_of words.now) input fault) }
 
     // This fault depends on the arguments alone, and then nothing is read.
-    ensures unknown { (result ≡ Err RunFault.UnknownCommand) ↔ (command_of (texts_of words.now) ≡ None) }
+    ensures unknown { (result ≡ Err RunFault.UnknownCommand)
+        ↔ (command_of (texts_of words.now) ≡ None) }
     ensures unread { result ≡ Err RunFault.UnknownCommand → reader.new ≡ reader.old }
     ensures unwritten { IfErr result (λ fault. fault ≢ RunFault.Write → writer.new ≡ writer.old) }
 
@@ -72,9 +74,11 @@ pub fn run<R: Read, W: Write>(
     ensures writer_fault { writer.old.failures < writer.new.failures → result ≡ Err RunFault.Write }
 
     // The first failure ends the run, so exactly one is counted.
-    ensures reader_once { (result ≡ Err RunFault.Read → reader.new.failures ≡ noted reader.old.failures)
+    ensures reader_once { (result ≡ Err RunFault.Read
+        → reader.new.failures ≡ noted reader.old.failures)
         × (result ≢ Err RunFault.Read → reader.new.failures ≡ reader.old.failures) }
-    ensures writer_once { (result ≡ Err RunFault.Write → writer.new.failures ≡ noted writer.old.failures)
+    ensures writer_once { (result ≡ Err RunFault.Write
+        → writer.new.failures ≡ noted writer.old.failures)
         × (result ≢ Err RunFault.Write → writer.new.failures ≡ writer.old.failures) }
 {
     let Some(command) = Command::from_words(words) else {
@@ -93,7 +97,8 @@ pub fn run<R: Read, W: Write>(
 /// `RunFault::NotTheLength` if there is no answer, and `RunFault::Memory` if memory runs out.
 fn answer(alloc: Global, command: &Command, input: Vec<u8>) -> Result<String, RunFault>
     ensures ok { IfOk result (λ text. Answers command.now input.items (string_bytes text)) }
-    ensures err { IfErr result (λ fault. (fault ≡ RunFault.Memory) ⊎ Refuses command.now input.items fault) }
+    ensures err { IfErr result (λ fault. (fault ≡ RunFault.Memory)
+        ⊎ Refuses command.now input.items fault) }
 {
     let numbers = read_array(alloc, input)?;
     let rearranged = rearrange(alloc, command, numbers)?;
@@ -108,7 +113,8 @@ fn answer(alloc: Global, command: &Command, input: Vec<u8>) -> Result<String, Ru
 fn rearrange(alloc: Global, command: &Command, numbers: Vec<u64>) -> Result<Vec<u64>, RunFault>
     ensures ok { IfOk result (λ v. Fits command.now (length numbers.items)
         × IsRearranged command.now numbers.items v.items) }
-    ensures err { IfErr result (λ fault. (fault ≡ RunFault.Memory) ⊎ (¬ Fits command.now (length numbers.items)
+    ensures err { IfErr result (λ fault. (fault ≡ RunFault.Memory)
+        ⊎ (¬ Fits command.now (length numbers.items)
         × (fault ≡ misfit command.now (length numbers.items)))) }
     ensures misfit { ¬ Fits command.now (length numbers.items)
         → result ≡ Err (misfit command.now (length numbers.items)) }
@@ -125,9 +131,11 @@ fn rearrange(alloc: Global, command: &Command, numbers: Vec<u64>) -> Result<Vec<
 /// Returns `RunFault::Read` at the reader's first failure, and `RunFault::Memory` if memory runs
 /// out.
 fn read_all<R: Read>(alloc: Global, reader: &mut Watched<R>) -> Result<Vec<u8>, RunFault>
-    ensures read { IfOk result (λ v. ReadsAll (R.remaining reader.old.inner) (R.remaining reader.new.inner) v.items) }
+    ensures read { IfOk result (λ v. ReadsAll (R.remaining reader.old.inner)
+        (R.remaining reader.new.inner) v.items) }
     ensures ended { reader.old.input_end ≡ Ahead
-        → MatchResult result (λ _. reader.new.input_end ≡ Reached) (λ _. reader.new.input_end ≡ Ahead) }
+        → MatchResult result (λ _. reader.new.input_end
+        ≡ Reached) (λ _. reader.new.input_end ≡ Ahead) }
     ensures kind { IfErr result (λ e. (e ≡ RunFault.Read) ⊎ (e ≡ RunFault.Memory)) }
     ensures failed { result ≡ Err RunFault.Read → reader.new.failures ≡ noted reader.old.failures }
     ensures good { result ≢ Err RunFault.Read → reader.new.failures ≡ reader.old.failures }
@@ -174,7 +182,8 @@ fn write_all<W: Write>(writer: &mut Watched<W>, text: &[u8]) -> Result<(), RunFa
 /// The list in the order of reversed index bits. Returns `RunFault::BadLength` if its length is
 /// neither zero nor a power of two.
 fn reversed(mut numbers: Vec<u64>) -> Result<Vec<u64>, RunFault>
-    ensures ok { IfOk result (λ v. IsZeroOrPowerOfTwo (length numbers.items) × IsReversal numbers.items v.items) }
+    ensures ok { IfOk result (λ v. IsZeroOrPowerOfTwo (length numbers.items)
+        × IsReversal numbers.items v.items) }
     ensures err { IfErr result (λ e. ¬ IsZeroOrPowerOfTwo (length numbers.items)
         × (e ≡ RunFault.BadLength (length numbers.items))) }
 {
@@ -190,7 +199,8 @@ fn reversed(mut numbers: Vec<u64>) -> Result<Vec<u64>, RunFault>
 /// The list with its rows of `width` items in the order of reversed index bits. Returns
 /// `RunFault::BadRows` if its length is not `width` times zero or a power of two.
 fn rows_reversed(mut numbers: Vec<u64>, width: usize) -> Result<Vec<u64>, RunFault>
-    ensures ok { IfOk result (λ v. FitsRows (length numbers.items) width × IsRowReversal width numbers.items v.items) }
+    ensures ok { IfOk result (λ v. FitsRows (length numbers.items) width
+        × IsRowReversal width numbers.items v.items) }
     ensures err { IfErr result (λ e. ¬ FitsRows (length numbers.items) width
         × (e ≡ RunFault.BadRows width (length numbers.items))) }
 {
@@ -213,7 +223,8 @@ fn transposed(
 ) -> Result<Vec<u64>, RunFault>
     ensures ok { IfOk result (λ v. (length numbers.items ≡ width * height)
         × IsTranspose width height numbers.items v.items) }
-    ensures err { IfErr result (λ e. (e ≡ RunFault.Memory) ⊎ ((length numbers.items ≢ width * height)
+    ensures err { IfErr result (λ e. (e ≡ RunFault.Memory)
+        ⊎ ((length numbers.items ≢ width * height)
         × (e ≡ RunFault.NotTheLength width height (length numbers.items)))) }
     ensures misfit { length numbers.items ≢ width * height
         → result ≡ Err (RunFault.NotTheLength width height (length numbers.items)) }

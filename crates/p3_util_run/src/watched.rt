@@ -93,7 +93,8 @@ impl<R: Read> Watched<R> {
     /// One read of the reader.
     pub fn read(&mut self, buf: &mut [u8]) -> io::Result<usize>
         ensures bound { ReadsAtMost result buf.new }
-        ensures bytes { ReadConsumes (R.remaining self.old.inner) (R.remaining self.new.inner) result buf.new }
+        ensures bytes { ReadConsumes (R.remaining self.old.inner)
+            (R.remaining self.new.inner) result buf.new }
         ensures failures { self.new.failures ≡ count_after_call result self.old.failures }
         ensures input_end { self.new.input_end ≡ end_after_read result buf.new self.old.input_end }
         ensures flushed { self.new.is_flushed ≡ self.old.is_flushed }
@@ -119,7 +120,8 @@ impl<W: Write> Watched<W> {
     /// One write of the writer.
     pub fn write(&mut self, buf: &[u8]) -> io::Result<usize>
         ensures bound { WritesAtMost result buf.now }
-        ensures bytes { WriteAppends (W.contents self.old.inner) (W.contents self.new.inner) result buf.now }
+        ensures bytes { WriteAppends (W.contents self.old.inner)
+            (W.contents self.new.inner) result buf.now }
         ensures failures { self.new.failures ≡ count_after_write result buf.now self.old.failures }
         ensures input_end { self.new.input_end ≡ self.old.input_end }
         ensures unflushed { self.new.is_flushed ≡ false }

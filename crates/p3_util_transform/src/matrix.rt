@@ -98,7 +98,8 @@ impl<T> RowMajorMatrix<T> {
 impl<T: Copy + Default> RowMajorMatrix<T> {
     /// The transpose: its rows are the columns.
     pub fn transpose(&self, alloc: Global) -> Result<RowMajorMatrix<T>, AllocError>
-        ensures order { IfOk result (λ m. IsTranspose self.now.width self.now.height self.now.items m.items) }
+        ensures order { IfOk result (λ m. IsTranspose self.now.width self.now.height
+            self.now.items m.items) }
         ensures width { IfOk result (λ m. m.width ≡ self.now.height) }
         ensures height { IfOk result (λ m. m.height ≡ self.now.width) }
     {

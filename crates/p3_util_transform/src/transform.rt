@@ -40,7 +40,8 @@ fn has_root(height: usize) -> bool
 pub fn transform_columns(alloc: Global, matrix: &mut RowMajorMatrix<u32>) -> Result<(), AllocError>
     requires { FitsTransform matrix.old }
     ensures transformed { (k : ℕ) → matrix.old.height ≡ 2 ^ k → OnOk result
-        (IsTransformed (slice_index ROOTS k) matrix.old.width matrix.old.height matrix.old.items matrix.new.items) }
+        (IsTransformed (slice_index ROOTS k) matrix.old.width matrix.old.height matrix.old.items
+        matrix.new.items) }
     ensures fits { FitsTransform matrix.new }
     ensures width { matrix.new.width ≡ matrix.old.width }
     ensures height { matrix.new.height ≡ matrix.old.height }
@@ -66,7 +67,8 @@ pub fn inverse_transform_columns(
 ) -> Result<(), AllocError>
     requires { FitsTransform matrix.old }
     ensures transformed { (k : ℕ) → matrix.old.height ≡ 2 ^ k → OnOk result
-        (IsInverseTransformed k (slice_index ROOTS k) matrix.old.width matrix.old.items matrix.new.items) }
+        (IsInverseTransformed k (slice_index ROOTS k)
+        matrix.old.width matrix.old.items matrix.new.items) }
     ensures fits { FitsTransform matrix.new }
     ensures width { matrix.new.width ≡ matrix.old.width }
     ensures height { matrix.new.height ≡ matrix.old.height }
@@ -161,7 +163,8 @@ fn transform_by(
     requires below { AreBelowPrime values.old }
     requires reduced { root < PRIME }
     requires root { IsRoot levels root }
-    ensures transformed { OnOk result (IsTransformed root width (2 ^ levels) values.old values.new) }
+    ensures transformed { OnOk result (IsTransformed root width (2 ^ levels)
+        values.old values.new) }
     ensures below { AreBelowPrime values.new }
     ensures refused { OnErr result (values.new ≡ values.old) }
 {
@@ -205,7 +208,8 @@ fn transform_rows(values: &mut [u32], width: usize, levels: usize, powers: &[u32
     requires powers { AreBelowPrime powers.now }
     requires count { length powers.now ≡ 2 ^ levels / 2 }
     ensures below { AreBelowPrime values.new }
-    ensures transformed { (root : ℕ) → IsRoot levels root → ArePowers root (2 ^ levels / 2) powers.now
+    ensures transformed { (root : ℕ) → IsRoot levels root
+        → ArePowers root (2 ^ levels / 2) powers.now
         → IsTransformed root width (2 ^ levels) values.old values.new }
 {
     reverse_rows(values, width);

@@ -15,7 +15,8 @@ use std::alloc::{AllocError, Global};
 pub struct Two(pub u32, pub u32);
 
 impl ArrayElement for Two {
-    ghost written = { λ t. array (item (number (unsigned t.0)) (item (number (unsigned t.1)) no_items)) };
+    ghost written = { λ t. array (item (number (unsigned t.0))
+        (item (number (unsigned t.1)) no_items)) };
 
     ghost reading = { pair_reading (λ a b. record { 0 = a; 1 = b }) };
 

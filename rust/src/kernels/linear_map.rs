@@ -171,7 +171,8 @@ impl<K: Eq, V> LinearMap<K, V> {
     /// ensures unchanged { OnErr result (self.new ≡ self.old) }
     /// ensures refuses_new { OnErr result (value_at K.eq self.old k ≡ None) }
     /// ensures known { IsSome (value_at K.eq self.old k) → IsOk result }
-    /// ensures known_keys { IsSome (value_at K.eq self.old k) → keys_of self.new ≡ keys_of self.old }
+    /// ensures known_keys { IsSome (value_at K.eq self.old k)
+    ///     → keys_of self.new ≡ keys_of self.old }
     /// ensures distinct { HasDistinctKeys K.eq self.new }
     /// ```
     pub fn insert(&mut self, k: K, v: V) -> Result<Option<V>, NoRoom<(K, V)>> {
@@ -197,7 +198,8 @@ impl<K: Eq, V> LinearMap<K, V> {
     /// ```text
     /// requires { value_at K.eq self.old k ≡ None → F.pre f }
     /// ensures* writes_back { sem 𝓛 (lends_put K.row V.row K.eq self.entry k result) }
-    /// ensures value { IfOk result (λ v. UnwrapsOrElse (value_at K.eq self.old k) (F.post f) v.now) }
+    /// ensures value { IfOk result (λ v. UnwrapsOrElse (value_at K.eq self.old k)
+    ///     (F.post f) v.now) }
     /// ensures given { IfErr result (λ e. e.given ≡ k) }
     /// ensures refuses_new { OnErr result (value_at K.eq self.old k ≡ None) }
     /// ensures known { IsSome (value_at K.eq self.old k) → IsOk result }
@@ -230,7 +232,8 @@ impl<K: Eq, V> LinearMap<K, V> {
     ///     × Drains I.IntoIter.next_gives from xs × (m ≡ put_all K.eq [] xs)) }
     ///
     /// // The pair x that was refused has a new key. The pairs xs came before it.
-    /// ensures refuses_new { OnErr result ((from : I.IntoIter) × (xs : List (K × V)) × (x : K × V) × (rest : I.IntoIter)
+    /// ensures refuses_new { OnErr result ((from : I.IntoIter) × (xs : List (K × V)) × (x : K × V)
+    ///     × (rest : I.IntoIter)
     ///     × I.into_iter_gives it from × YieldsThen I.IntoIter.next_gives from xs (Some x) rest
     ///     × (value_at K.eq (put_all K.eq [] xs) x.0 ≡ None)) }
     ///

@@ -186,8 +186,10 @@ pub trait Cells {
     /// ```text
     /// requires { i + 4 ≤ length (items self.old) }
     /// ensures same_length { length (items self.new) ≡ length (items self.old) }
-    /// ensures places { (t : ℕ) → t < 4 → slice_get (items self.new) (i + t) ≡ slice_get (in_order four.now) t }
-    /// ensures others { (p : ℕ) → (p < i) ⊎ (i + 4 ≤ p) → slice_get (items self.new) p ≡ slice_get (items self.old) p }
+    /// ensures places { (t : ℕ) → t < 4 → slice_get (items self.new) (i + t)
+    ///     ≡ slice_get (in_order four.now) t }
+    /// ensures others { (p : ℕ) → (p < i) ⊎ (i + 4 ≤ p)
+    ///     → slice_get (items self.new) p ≡ slice_get (items self.old) p }
     /// ensures holder { same_holder 4 self.old self.new }
     /// ```
     #[inline(always)]
@@ -254,7 +256,8 @@ pub trait Source {
     ///
     /// ```text
     /// requires { i + 4 ≤ length (items self.now) }
-    /// ensures { (t : ℕ) → t < 4 → slice_get (in_order result) t ≡ slice_get (items self.now) (i + t) }
+    /// ensures { (t : ℕ) → t < 4 → slice_get (in_order result) t
+    ///     ≡ slice_get (items self.now) (i + t) }
     /// ```
     #[inline(always)]
     fn four(&self, i: usize) -> Four<Self::Item> {

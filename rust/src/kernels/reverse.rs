@@ -144,9 +144,11 @@ pub fn reverse_rows_counted<S: Places>(places: &mut S, row_width: usize) -> u128
 /// ```text
 /// requires { IsReversible (length (S.items m.old.holder)) }
 /// ensures order { IsReversal (S.items m.old.holder) (S.items m.new.holder) }
-/// ensures count { m.new.count ≡ counted m.old.count (reversal_swaps (length (S.items m.old.holder))) }
+/// ensures count { m.new.count ≡ counted m.old.count
+///     (reversal_swaps (length (S.items m.old.holder))) }
 /// ensures bound { let n = length (S.items m.old.holder) in reversal_swaps n ≤ 3 * n / 2 }
-/// ensures holder { S.same_holder (reversal_swaps (length (S.items m.old.holder))) m.old.holder m.new.holder }
+/// ensures holder { S.same_holder (reversal_swaps (length (S.items m.old.holder)))
+///     m.old.holder m.new.holder }
 /// ```
 pub fn reverse_index_bits_on<S: Places>(m: &mut Swaps<S>) {
     m.count = reverse_index_bits(Swaps::resumed(&mut m.holder, m.count)).swaps();

@@ -243,7 +243,8 @@ where
 /// requires input_fits { length input.now ≡ width * height }
 /// requires output_fits { length (C.items cells.old) ≡ width * height }
 /// requires inside { LiesInMatrix region width height }
-/// ensures transposed { IsRegionTransposed region width height input.now (C.items cells.old) (C.items cells.new) }
+/// ensures transposed { IsRegionTransposed region width height input.now (C.items cells.old)
+///     (C.items cells.new) }
 /// ensures count { result ≡ items_of region }
 /// ensures holder { C.same_holder result cells.old cells.new }
 /// ```
@@ -269,7 +270,8 @@ pub fn transpose_region_counted<C: Cells>(
 /// requires input_fits { length (R.items input.now) ≡ width * height }
 /// requires output_fits { length (C.items cells.old) ≡ width * height }
 /// requires inside { LiesInMatrix region width height }
-/// ensures transposed { IsRegionTransposed region width height (R.items input.now) (C.items cells.old) (C.items cells.new) }
+/// ensures transposed { IsRegionTransposed region width height (R.items input.now)
+///     (C.items cells.old) (C.items cells.new) }
 /// ensures count { result ≡ items_of region }
 /// ensures holder { C.same_holder result cells.old cells.new }
 /// ```

@@ -66,7 +66,7 @@ module _ {A : Type 0} where
 
   -- a reversal of rows, and so of items, and a transpose
   pub rows_permuted : (w rows : ℕ) (old new : List A) → IsRowReversal w old new → length old ≡ w * rows → IsZeroOrPowerOfTwo rows → IsPermutation old new
-  rows_permuted w rows old new reversal len (inl none) = 
+  rows_permuted w rows old new reversal len (inl none) =
       let empty : length old ≡ 0 = len ∙ (rw none (omega arith)) in
       permuted_by_places (λ i. i) old new reversal.same_length (λ i h. omega (arith, reversal.same_length)) (λ i j hi hj e. e) (λ i h. absurd (omega (arith, reversal.same_length)))
   rows_permuted w rows old new reversal len (inr (k, power)) =

@@ -29,8 +29,8 @@ module _ {A : Type 0} (base log_stride log_size : ℕ) (old mid new : List A) (s
   outside : (k : ℕ) → (row k < 2 ^ log_size → column k < 2 ^ log_size → k ≡ base + row k * 2 ^ log_stride + column k → ⊥) → slice_get new k ≡ slice_get old k
   outside k out =
       let other : (a b : ℕ) → a < 2 ^ log_size → b < 2 ^ log_size → k ≢ base + a * 2 ^ log_stride + b = λ a b ha hb e.
-          let at = found k a b ha hb e in
-          out (rw at.0 ha) (rw at.1 hb) (rw (at.0, at.1) e) in
+      let at = found k a b ha hb e in
+      out (rw at.0 ha) (rw at.1 hb) (rw (at.0, at.1) e) in
       second.others k other ∙ first.others k other
 
   whole : (k : ℕ) → base ≤ k → base + row k * 2 ^ log_stride + column k ≡ k

@@ -108,7 +108,8 @@ impl<'v, 'a: 'v, Base, const N: usize> IntoIterator for &'v Flattened<&'a mut [[
 
     type IntoIter = BaseIter<'v, Base>;
 
-    ghost into_iter_gives = { λ v r. (r ≡ countable_items v.now.rows.now) × ShowsInOrder (deref {X = Base}) };
+    ghost into_iter_gives = { λ v r. (r ≡ countable_items v.now.rows.now)
+        × ShowsInOrder (deref {X = Base}) };
 
     fn into_iter(self) -> BaseIter<'v, Base> {
         self.iter()

@@ -31,7 +31,8 @@ pub trait Rows {
 
     /// A mutable reference to item `i` of all rows, or `None` if `i` is out of bounds.
     fn item_mut(&mut self, i: usize) -> Option<&mut Self::Item>
-        ensures* writes_back { sem 𝓛 (lends_item Self.row Self.Item.row items same_rows self.entry i result) }
+        ensures* writes_back { sem 𝓛 (lends_item Self.row Self.Item.row items same_rows
+            self.entry i result) }
         ensures item { option_copied_mut result ≡ slice_get (items self.old) i };
 
     /// Exchanges items `i` and `j` of all rows.
@@ -66,7 +67,8 @@ impl<'a, T, const N: usize> Rows for &'a mut [[T; N]] {
 
     ghost items = { λ rows. countable_items rows.now };
 
-    ghost same_rows = { λ a b. (a.ghost_name ≡ b.ghost_name) × (length (flat a.now) ≡ length (flat b.now)) };
+    ghost same_rows = { λ a b. (a.ghost_name ≡ b.ghost_name)
+        × (length (flat a.now) ≡ length (flat b.now)) };
 
     fn row_items(&self) -> &[T] {
         countable(self)

@@ -51,7 +51,8 @@ impl<C: Cells> Cells for PutSteps<C> {
 
     ghost same_holder_refl = { λ a. no_puts (C.items a.cells) };
 
-    ghost same_holder_trans = { λ m n all a b c. more_puts m n all (C.items a.cells) (C.items b.cells) (C.items c.cells) };
+    ghost same_holder_trans = { λ m n all a b c. more_puts m n all (C.items a.cells)
+        (C.items b.cells) (C.items c.cells) };
 }
 
 /// A holder whose `same_holder n a b` says that n exchanges exist that turn the items of `a` into
@@ -82,7 +83,8 @@ impl<S: Places> Places for SwapSteps<S> {
 
     ghost same_holder_refl = { λ a. no_swaps (S.items a.places) };
 
-    ghost same_holder_trans = { λ m n all a b c. more_swaps m n all (S.items a.places) (S.items b.places) (S.items c.places) };
+    ghost same_holder_trans = { λ m n all a b c. more_swaps m n all (S.items a.places)
+        (S.items b.places) (S.items c.places) };
 }
 
 /// If as many places changed as there were writes, or twice as many as there were exchanges, then
@@ -105,13 +107,18 @@ pub(crate) fn put_region<C: Cells, R: Source<Item = C::Item> + Copy>(
     requires below { number < parts_in plan.cut.len plan.cut.step }
     requires input_fits { length (R.items source) ≡ plan.width * plan.height }
     requires output_fits { length (C.items out) ≡ plan.width * plan.height }
-    ensures transposed { let region = part_of_matrix plan.width plan.height plan.by_rows plan.cut.len plan.cut.step number in
-        IsRegionTransposed region plan.width plan.height (R.items source) (C.items out) (C.items result) }
-    ensures steps { let region = part_of_matrix plan.width plan.height plan.by_rows plan.cut.len plan.cut.step number in
+    ensures transposed { let region = part_of_matrix plan.width plan.height plan.by_rows
+        plan.cut.len plan.cut.step number in
+        IsRegionTransposed region plan.width plan.height (R.items source) (C.items out)
+        (C.items result) }
+    ensures steps { let region = part_of_matrix plan.width plan.height plan.by_rows plan.cut.len
+        plan.cut.step number in
         PutsLead (items_of region) (C.items out) (C.items result) }
-    ensures stay { let region = part_of_matrix plan.width plan.height plan.by_rows plan.cut.len plan.cut.step number in
+    ensures stay { let region = part_of_matrix plan.width plan.height plan.by_rows plan.cut.len
+        plan.cut.step number in
         NoItemInCommon (R.items source) (C.items out)
-        → PutsStay (IsPlaceOfRegion region plan.height) (items_of region) (C.items out) (C.items result) }
+        → PutsStay (IsPlaceOfRegion region plan.height) (items_of region) (C.items out)
+        (C.items result) }
 {
     plan.put(PutSteps { cells: out }, source, number, strips)
         .cells
@@ -142,7 +149,8 @@ pub(crate) fn parts_of_matrix(
     ensures second_is { result.1 ≡ part_of_matrix width height by_rows cut.len cut.step parts.1 }
     ensures first { LiesInMatrix result.0 width height }
     ensures second { LiesInMatrix result.1 width height }
-    ensures apart { NoPlaceInCommon (IsPlaceOfRegion result.0 height) (IsPlaceOfRegion result.1 height) }
+    ensures apart { NoPlaceInCommon (IsPlaceOfRegion result.0 height)
+        (IsPlaceOfRegion result.1 height) }
 {
     let matrix = Matrix::new((), width, height);
     let first = cut.region(&matrix, by_rows, parts.0);
@@ -156,8 +164,10 @@ pub(crate) fn parts_of_matrix(
 pub(crate) fn cells_follow(plan: TransposePlan, number: usize)
     requires columns { plan.by_rows ≡ false }
     requires below { number < parts_in plan.cut.len plan.cut.step }
-    ensures { (p : ℕ) → IsPlaceOfRegion (part_of_matrix plan.width plan.height plan.by_rows plan.cut.len plan.cut.step number) plan.height p
-        ↔ ((start_of plan.cut.len plan.cut.step number * plan.height ≤ p) × (p < start_of plan.cut.len plan.cut.step (number + 1) * plan.height)) }
+    ensures { (p : ℕ) → IsPlaceOfRegion (part_of_matrix plan.width plan.height plan.by_rows
+        plan.cut.len plan.cut.step number) plan.height p
+        ↔ ((start_of plan.cut.len plan.cut.step number * plan.height ≤ p)
+        × (p < start_of plan.cut.len plan.cut.step (number + 1) * plan.height)) }
 {}
 
 /// Exchanges a block of squares side by side with its mirror image, by an exact number of
@@ -166,11 +176,14 @@ pub(crate) fn cells_follow(plan: TransposePlan, number: usize)
 pub(crate) fn exchange_block<S: Places>(places: S, squares: Squares, number: usize) -> S
     requires below { number < blocks_of squares.cut.len squares.stride squares.cut.step }
     requires whole { length (S.items places) ≡ squares.cut.len * squares.stride }
-    ensures block { (base : ℕ) × (region : Region) × IsBlock squares.cut.len squares.stride squares.cut.step number base region
+    ensures block { (base : ℕ) × (region : Region)
+        × IsBlock squares.cut.len squares.stride squares.cut.step number base region
         × SwapsLead (swaps_of_block region) (S.items places) (S.items result)
-        × (AllDiffer (S.items places) → SwapsStay (IsPlaceOfBlock squares.cut.len squares.stride squares.cut.step number)
+        × (AllDiffer (S.items places) → SwapsStay
+        (IsPlaceOfBlock squares.cut.len squares.stride squares.cut.step number)
         (swaps_of_block region) (S.items places) (S.items result)) }
-    ensures across { (base : ℕ) → (region : Region) → IsBlock squares.cut.len squares.stride squares.cut.step number base region
+    ensures across { (base : ℕ) → (region : Region)
+        → IsBlock squares.cut.len squares.stride squares.cut.step number base region
         → SwapsAcross base squares.stride region (S.items places) (S.items result) }
 {
     Phase::Blocks(squares)
@@ -182,7 +195,8 @@ pub(crate) fn exchange_block<S: Places>(places: S, squares: Squares, number: usi
 /// same number.
 pub(crate) fn pairs_have_numbers()
     ensures below { (n i j : ℕ) → i ≤ j → j < n → number_of_pair n i j < pairs_of n }
-    ensures apart { (n i j k l : ℕ) → i ≤ j → j < n → k ≤ l → l < n → number_of_pair n i j ≡ number_of_pair n k l → (i ≡ k) × (j ≡ l) }
+    ensures apart { (n i j k l : ℕ) → i ≤ j → j < n → k ≤ l → l < n
+        → number_of_pair n i j ≡ number_of_pair n k l → (i ≡ k) × (j ≡ l) }
 {}
 
 /// The number of a block determines the block.
@@ -203,15 +217,23 @@ pub(crate) fn blocks_apart(squares: Squares, first: usize, second: usize)
 /// Exchanges the pairs of rows of a block by an exact number of exchanges. If all items of the list
 /// differ, the exchanges are at places of these rows, and no two of them have a place in common.
 pub(crate) fn exchange_row_pairs<S: Places>(places: S, pairs: RowPairs, number: usize) -> S
-    requires below { number < blocks_of pairs.squares.cut.len pairs.squares.stride pairs.squares.cut.step }
+    requires below { number < blocks_of pairs.squares.cut.len pairs.squares.stride
+        pairs.squares.cut.step }
     requires ready { HoldsRows pairs.rows.width pairs.rows.digits (S.items places) }
-    ensures block { (base : ℕ) × (region : Region) × IsBlock pairs.squares.cut.len pairs.squares.stride pairs.squares.cut.step number base region
+    ensures block { (base : ℕ) × (region : Region)
+        × IsBlock pairs.squares.cut.len pairs.squares.stride pairs.squares.cut.step
+        number base region
         × SwapsLead (pairs.rows.width * swaps_of_block region) (S.items places) (S.items result)
-        × (AllDiffer (S.items places) → SwapsStay (IsPlaceOfPairs pairs.rows.digits pairs.rows.width pairs.squares.cut.step number)
+        × (AllDiffer (S.items places) → SwapsStay
+        (IsPlaceOfPairs pairs.rows.digits pairs.rows.width pairs.squares.cut.step number)
         (pairs.rows.width * swaps_of_block region) (S.items places) (S.items result)) }
-    ensures crossed { (base : ℕ) → (region : Region) → IsBlock pairs.squares.cut.len pairs.squares.stride pairs.squares.cut.step number base region
-        → let half = pairs.rows.digits / 2 in IsCrossed half (pairs.rows.digits - half) pairs.rows.width
-        (record region { col_start = base + region.col_start; col_end = base + region.col_end }) (S.items places) (S.items result) }
+    ensures crossed { (base : ℕ) → (region : Region)
+        → IsBlock pairs.squares.cut.len pairs.squares.stride pairs.squares.cut.step
+        number base region
+        → let half = pairs.rows.digits / 2 in IsCrossed half
+        (pairs.rows.digits - half) pairs.rows.width
+        (record region { col_start = base + region.col_start; col_end = base + region.col_end })
+        (S.items places) (S.items result) }
 {
     Phase::Pairs(pairs)
         .exchange(SwapSteps { places }, number)
@@ -221,7 +243,8 @@ pub(crate) fn exchange_row_pairs<S: Places>(places: S, pairs: RowPairs, number: 
 /// The pairs of rows of two blocks have no place in common.
 pub(crate) fn row_pairs_apart(pairs: RowPairs, first: usize, second: usize)
     requires { first ≢ second }
-    ensures { NoPlaceInCommon (IsPlaceOfPairs pairs.rows.digits pairs.rows.width pairs.squares.cut.step first)
+    ensures { NoPlaceInCommon (IsPlaceOfPairs pairs.rows.digits pairs.rows.width
+        pairs.squares.cut.step first)
         (IsPlaceOfPairs pairs.rows.digits pairs.rows.width pairs.squares.cut.step second) }
 {}
 
@@ -235,13 +258,15 @@ pub(crate) fn parts_cover_matrix(width: usize, height: usize, by_rows: bool, cut
 
 /// Each place of squares side by side belongs to one of their blocks.
 pub(crate) fn blocks_cover_squares(squares: Squares)
-    ensures { PartsCover (IsPlaceOfSquares squares.cut.len squares.stride) (blocks_of squares.cut.len squares.stride squares.cut.step)
+    ensures { PartsCover (IsPlaceOfSquares squares.cut.len squares.stride)
+        (blocks_of squares.cut.len squares.stride squares.cut.step)
         (IsPlaceOfBlock squares.cut.len squares.stride squares.cut.step) }
 {}
 
 /// Each place of a list of rows belongs to the pairs of rows of one of the blocks, if a row that
 /// stays counts as a pair with itself.
 pub(crate) fn blocks_cover_rows(pairs: RowPairs)
-    ensures { PartsCover (λ p. p < pairs.rows.width * 2 ^ pairs.rows.digits) (blocks_of pairs.squares.cut.len pairs.squares.stride pairs.squares.cut.step)
+    ensures { PartsCover (λ p. p < pairs.rows.width * 2 ^ pairs.rows.digits)
+        (blocks_of pairs.squares.cut.len pairs.squares.stride pairs.squares.cut.step)
         (IsPlaceOfPairs pairs.rows.digits pairs.rows.width pairs.squares.cut.step) }
 {}

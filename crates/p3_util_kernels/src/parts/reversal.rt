@@ -43,7 +43,8 @@ impl ReversalPlan {
         requires { FitsRows len row_width }
         ensures plan { IsReversalPlan len row_width result }
         ensures cut { IsCutAsAsked len row_width parts one_part TILE_SIDE result }
-        ensures phases { (k : ℕ) (phase : Phase) → slice_get (phases_of result) k ≡ Some phase → IsPhaseOf phase len }
+        ensures phases { (k : ℕ) (phase : Phase) → slice_get (phases_of result) k ≡ Some phase
+            → IsPhaseOf phase len }
     {
         if len == 0 {
             return ReversalPlan::Nothing;
@@ -108,7 +109,8 @@ impl Phase {
         requires below { number < parts_of self }
         requires list { IsPhaseOf self (length (M.items m)) }
         requires len_fits { length (M.items m) < 2 ^ 64 }
-        ensures { IsPartMade self number (M.items m) (M.items result) (λ n. M.same_holder n m result) }
+        ensures { IsPartMade self number (M.items m) (M.items result)
+            (λ n. M.same_holder n m result) }
     {
         match self {
             Phase::Rows(rows) if rows.width == 1 => reverse_index_bits(m),

@@ -68,7 +68,8 @@ impl TransposePlan {
     /// consecutive cells, right after those of the regions before it.
     pub(crate) fn items(self, number: usize) -> usize
         requires { number < parts_in self.cut.len self.cut.step }
-        ensures { result ≡ items_of (part_of_matrix self.width self.height self.by_rows self.cut.len self.cut.step number) }
+        ensures { result ≡ items_of (part_of_matrix self.width self.height self.by_rows self.cut.len
+            self.cut.step number) }
     {
         let region = self.cut.region(
             &Matrix::new((), self.width, self.height),
@@ -90,9 +91,11 @@ impl TransposePlan {
         requires below { number < parts_in self.cut.len self.cut.step }
         requires input_fits { length (R.items source) ≡ self.width * self.height }
         requires output_fits { length (C.items out) ≡ self.width * self.height }
-        ensures transposed { IsRegionTransposed (part_of_matrix self.width self.height self.by_rows self.cut.len self.cut.step number)
+        ensures transposed { IsRegionTransposed
+            (part_of_matrix self.width self.height self.by_rows self.cut.len self.cut.step number)
             self.width self.height (R.items source) (C.items out) (C.items result) }
-        ensures holder { C.same_holder (items_of (part_of_matrix self.width self.height self.by_rows self.cut.len self.cut.step number))
+        ensures holder { C.same_holder (items_of
+            (part_of_matrix self.width self.height self.by_rows self.cut.len self.cut.step number))
             out result }
     {
         let matrix = Matrix::new(source, self.width, self.height);

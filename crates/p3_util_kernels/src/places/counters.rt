@@ -150,7 +150,8 @@ impl<S: Places> Places for Swaps<S> {
 
     ghost items = { λ m. S.items m.holder };
 
-    ghost same_holder = { λ n a b. (b.count ≡ counted a.count n) × S.same_holder n a.holder b.holder };
+    ghost same_holder = { λ n a b. (b.count ≡ counted a.count n)
+        × S.same_holder n a.holder b.holder };
 
     fn len(&self) -> usize {
         Swaps::len(self)
@@ -195,7 +196,8 @@ impl<C: Cells> Cells for Writes<C> {
 
     ghost items = { λ m. C.items m.holder };
 
-    ghost same_holder = { λ n a b. (b.count ≡ counted a.count n) × C.same_holder n a.holder b.holder };
+    ghost same_holder = { λ n a b. (b.count ≡ counted a.count n)
+        × C.same_holder n a.holder b.holder };
 
     fn len(&self) -> usize {
         Writes::len(self)

@@ -31,9 +31,11 @@ pub fn reverse_index_bits_long<S: Places>(m: &mut Swaps<S>)
     requires fits { IsReversible (length (S.items m.old.holder)) }
     requires not_short { 4 ≤ length (S.items m.old.holder) }
     ensures order { IsReversal (S.items m.old.holder) (S.items m.new.holder) }
-    ensures count { m.new.count ≡ counted m.old.count (long_swaps (clog (length (S.items m.old.holder)))) }
+    ensures count { m.new.count ≡ counted m.old.count
+        (long_swaps (clog (length (S.items m.old.holder)))) }
     ensures bound { let n = length (S.items m.old.holder) in long_swaps (clog n) ≤ 3 * n / 2 }
-    ensures holder { S.same_holder (long_swaps (clog (length (S.items m.old.holder)))) m.old.holder m.new.holder }
+    ensures holder { S.same_holder (long_swaps (clog (length (S.items m.old.holder))))
+        m.old.holder m.new.holder }
 {
     m.count = reverse_long(Swaps::resumed(&mut m.holder, m.count)).swaps();
 }
@@ -60,8 +62,10 @@ fn transpose_squares<M: Places>(m: M, log_stride: usize, log_size: usize) -> M
     requires within { log_size ≤ log_stride }
     requires whole { length (M.items m) ≡ 2 ^ (log_size + log_stride) }
     requires len_fits { length (M.items m) < 2 ^ 64 }
-    ensures transposed { AreTransposed (2 ^ (log_stride - log_size)) log_stride log_size (M.items m) (M.items result) }
-    ensures holder { M.same_holder (2 ^ (log_stride - log_size) * square_swaps (2 ^ log_size)) m result }
+    ensures transposed { AreTransposed (2 ^ (log_stride - log_size)) log_stride log_size (M.items m)
+        (M.items result) }
+    ensures holder { M.same_holder (2 ^ (log_stride - log_size) * square_swaps
+        (2 ^ log_size)) m result }
 {
     let side = pow2(log_size);
     let squares = pow2(log_stride - log_size);

@@ -78,7 +78,12 @@ impl RowDigits {
     #[inline(always)]
     pub(crate) fn all_pairs(self) -> Region
         requires { self.digits < 64 }
-        ensures { result ≡ record { row_start = 0; row_end = 2 ^ 64 - 1; col_start = 0; col_end = lines_of self.digits } }
+        ensures { result ≡ record {
+          row_start = 0;
+          row_end = 2 ^ 64 - 1;
+          col_start = 0;
+          col_end = lines_of self.digits;
+        } }
     {
         // One or two rows have one line for each middle digit, and so no pair of lines.
         let line_pairs = pow2(self.digits % 2) * (pow2(self.digits / 2) / 2);
@@ -96,8 +101,10 @@ impl RowDigits {
 #[inline(always)]
 pub(crate) fn exchange_pairs<M: Places>(m: M, rows: RowDigits, pairs: Region) -> M
     requires lines { AreLinePairs rows.digits pairs }
-    requires ready { pairs.col_start < pairs.col_end → HoldsRows rows.width rows.digits (M.items m) }
-    ensures crossed { let half = rows.digits / 2 in IsCrossed half (rows.digits - half) rows.width pairs (M.items m) (M.items result) }
+    requires ready { pairs.col_start < pairs.col_end
+        → HoldsRows rows.width rows.digits (M.items m) }
+    ensures crossed { let half = rows.digits / 2
+        in IsCrossed half (rows.digits - half) rows.width pairs (M.items m) (M.items result) }
     ensures holder { M.same_holder (rows.width * pairs_in (2 ^ (rows.digits / 2)) pairs) m result }
 {
     let mut m = m;
@@ -119,7 +126,8 @@ fn exchange_lines<M: Places>(m: M, rows: RowDigits, line: usize, from: usize, to
     requires line { line < 2 ^ (rows.digits - rows.digits / 2) }
     requires ready { HoldsRows rows.width rows.digits (M.items m) }
     ensures crossed { let half = rows.digits / 2 in IsCrossed half (rows.digits - half) rows.width
-        (record { row_start = from; row_end = to; col_start = line; col_end = line + 2 }) (M.items m) (M.items result) }
+        (record { row_start = from; row_end = to; col_start = line; col_end = line + 2 })
+        (M.items m) (M.items result) }
     ensures holder { let y = line % 2 ^ (rows.digits / 2) in
         M.same_holder (rows.width * ((min to y - from) + (min to (y + 1) - from))) m result }
 {
@@ -150,8 +158,10 @@ fn exchange_pair<M: Places>(m: M, rows: RowDigits, first: usize, x: usize, y: us
     requires less { x < y }
     requires below { y < 2 ^ (rows.digits / 2) }
     requires ready { HoldsRows rows.width rows.digits (M.items m) }
-    ensures crossed { let half = rows.digits / 2 in let line = first + y in IsCrossed half (rows.digits - half) rows.width
-        (record { row_start = x; row_end = x + 1; col_start = line; col_end = line + 1 }) (M.items m) (M.items result) }
+    ensures crossed { let half = rows.digits / 2 in let line = first + y
+        in IsCrossed half (rows.digits - half) rows.width
+        (record { row_start = x; row_end = x + 1; col_start = line; col_end = line + 1 })
+        (M.items m) (M.items result) }
     ensures holder { M.same_holder rows.width m result }
 {
     let i = row_at(rows.digits, x, first + y);
@@ -162,11 +172,13 @@ fn exchange_pair<M: Places>(m: M, rows: RowDigits, first: usize, x: usize, y: us
 /// Exchanges rows `i` and `j`. If a row has several items, the rows are exchanged as two runs.
 #[inline(always)]
 fn exchange_rows<M: Places>(m: M, row_width: usize, i: usize, j: usize) -> M
-    requires apart { (i * row_width + row_width ≤ j * row_width) ⊎ (j * row_width + row_width ≤ i * row_width) }
+    requires apart { (i * row_width + row_width ≤ j * row_width)
+        ⊎ (j * row_width + row_width ≤ i * row_width) }
     requires first { i * row_width + row_width ≤ length (M.items m) }
     requires second { j * row_width + row_width ≤ length (M.items m) }
     requires length_fits { length (M.items m) < 2 ^ 64 }
-    ensures exchanged { RunsExchanged (i * row_width) (j * row_width) row_width (M.items m) (M.items result) }
+    ensures exchanged { RunsExchanged (i * row_width) (j * row_width) row_width (M.items m)
+        (M.items result) }
     ensures holder { M.same_holder row_width m result }
 {
     let mut m = m;

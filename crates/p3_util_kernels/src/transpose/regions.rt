@@ -30,7 +30,12 @@ impl<R> Matrix<R> {
     /// The region that is the whole matrix.
     #[inline(always)]
     pub(crate) fn whole(&self) -> Region
-        ensures { result ≡ record { row_start = 0; row_end = self.now.height; col_start = 0; col_end = self.now.width } }
+        ensures { result ≡ record {
+          row_start = 0;
+          row_end = self.now.height;
+          col_start = 0;
+          col_end = self.now.width;
+        } }
     {
         Region {
             row_start: 0,

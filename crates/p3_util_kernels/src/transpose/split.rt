@@ -93,7 +93,8 @@ fn put_split_resumed<C: Cells, R: Source<Item = C::Item> + Copy>(
     requires output_fits { length (C.items cells) ≡ matrix.width * matrix.height }
     requires inside { LiesInMatrix region matrix.width matrix.height }
     requires enough { lev (rows_of region) (cols_of region) ≤ levels }
-    ensures transposed { IsRegionTransposed region matrix.width matrix.height (R.items matrix.source)
+    ensures transposed { IsRegionTransposed region matrix.width matrix.height
+        (R.items matrix.source)
         (C.items cells) (C.items result.0) }
     ensures count { result.1 ≡ counted count (items_of region) }
     ensures holder { C.same_holder (items_of region) cells result.0 }
@@ -115,9 +116,11 @@ pub(crate) fn put_split<M: Cells, R: Source<Item = M::Item> + Copy>(
     levels: u32,
     strips: Strips,
 ) -> (M, u32)
-    requires ready { IsReady region matrix.width matrix.height (R.items matrix.source) (M.items out) }
+    requires ready { IsReady region matrix.width matrix.height
+        (R.items matrix.source) (M.items out) }
     requires enough { lev (rows_of region) (cols_of region) ≤ levels }
-    ensures transposed { IsRegionTransposed region matrix.width matrix.height (R.items matrix.source)
+    ensures transposed { IsRegionTransposed region matrix.width matrix.height
+        (R.items matrix.source)
         (M.items out) (M.items result.0) }
     ensures holder { M.same_holder (items_of region) out result.0 }
     ensures nested { result.1 ≡ nest (rows_of region) (cols_of region) }
@@ -138,7 +141,8 @@ fn is_leaf(region: Region) -> bool
     requires rows_in_order { region.row_start ≤ region.row_end }
     requires cols_in_order { region.col_start ≤ region.col_end }
     ensures { let rows = rows_of region in let cols = cols_of region in
-        MatchBool result (nest rows cols ≡ 0) ((NARROW_SIDE < rows) × (NARROW_SIDE < cols) × (LEAF_SIDE < max rows cols)) }
+        MatchBool result (nest rows cols ≡ 0) ((NARROW_SIDE < rows) × (NARROW_SIDE < cols)
+        × (LEAF_SIDE < max rows cols)) }
 {
     let (rows, cols) = (region.rows(), region.cols());
     rows.min(cols) <= NARROW_SIDE || rows.max(cols) <= LEAF_SIDE

@@ -35,7 +35,8 @@ pub(crate) struct Square {
 #[must_use]
 pub const fn fits_square(len: usize, base: usize, log_stride: usize, log_size: usize) -> bool
     ensures { let s = 2 ^ log_size in
-        IsTrue result ↔ ((log_size ≤ log_stride) × (log_stride < 64) × (base + (s - 1) * 2 ^ log_stride + (s - 1) < len)) }
+        IsTrue result ↔ ((log_size ≤ log_stride) × (log_stride < 64)
+        × (base + (s - 1) * 2 ^ log_stride + (s - 1) < len)) }
 {
     if log_stride >= 64 || log_size > log_stride {
         return false;
@@ -66,9 +67,11 @@ pub fn transpose_square_on<S: Places>(
     requires stride_fits { log_stride < 64 }
     requires room { let s = 2 ^ log_size in
         base + (s - 1) * 2 ^ log_stride + (s - 1) < length (S.items m.old.holder) }
-    ensures transposed { IsSquareTransposed base log_stride log_size (S.items m.old.holder) (S.items m.new.holder) }
+    ensures transposed { IsSquareTransposed base log_stride log_size (S.items m.old.holder)
+        (S.items m.new.holder) }
     ensures count { let s = 2 ^ log_size in m.new.count ≡ counted m.old.count (s * (s - 1) / 2) }
-    ensures holder { let s = 2 ^ log_size in S.same_holder (s * (s - 1) / 2) m.old.holder m.new.holder }
+    ensures holder { let s = 2 ^ log_size in S.same_holder (s * (s - 1) / 2)
+        m.old.holder m.new.holder }
 {
     let counter = Swaps::resumed(&mut m.holder, m.count);
     m.count = transpose_square(counter, base, log_stride, log_size).swaps();
@@ -83,7 +86,8 @@ pub(crate) fn transpose_square<M: Places>(
 ) -> M
     requires rows_apart { log_size ≤ log_stride }
     requires stride_fits { log_stride < 64 }
-    requires room { let s = 2 ^ log_size in base + (s - 1) * 2 ^ log_stride + (s - 1) < length (M.items m) }
+    requires room { let s = 2 ^ log_size in base + (s - 1) * 2 ^ log_stride + (s - 1)
+        < length (M.items m) }
     requires len_fits { length (M.items m) < 2 ^ 64 }
     ensures transposed { IsSquareTransposed base log_stride log_size (M.items m) (M.items result) }
     ensures holder { let s = 2 ^ log_size in M.same_holder (s * (s - 1) / 2) m result }
@@ -101,7 +105,12 @@ pub(crate) fn transpose_diagonal<M: Places>(m: M, square: Square, start: usize, 
     requires within { start + size ≤ square.stride }
     requires ready { HoldsSquare square.base square.stride (start + size - 1) (M.items m) }
     ensures swapped { SwapsAcross square.base square.stride
-        (record { row_start = start; row_end = start + size; col_start = start; col_end = start + size }) (M.items m) (M.items result) }
+        (record {
+          row_start = start;
+          row_end = start + size;
+          col_start = start;
+          col_end = start + size;
+        }) (M.items m) (M.items result) }
     ensures holder { M.same_holder (size * (size - 1) / 2) m result }
 {
     if size <= 1 {
@@ -183,7 +192,8 @@ fn exchange_block_row<M: Places>(m: M, square: Square, row: usize, region: Regio
     requires above { row + 4 ≤ region.col_start }
     requires within { region.col_end ≤ square.stride }
     requires ready { HoldsSquare square.base square.stride (region.col_end - 1) (M.items m) }
-    ensures swapped { SwapsAcross square.base square.stride (record region { row_start = row; row_end = row + 4 }) (M.items m) (M.items result) }
+    ensures swapped { SwapsAcross square.base square.stride
+        (record region { row_start = row; row_end = row + 4 }) (M.items m) (M.items result) }
     ensures holder { M.same_holder (4 * cols_of region) m result }
 {
     let Square { base, stride } = square;
@@ -203,7 +213,8 @@ fn exchange_row<M: Places>(m: M, square: Square, row: usize, region: Region) -> 
     requires above { row < region.col_start }
     requires within { region.col_end ≤ square.stride }
     requires ready { HoldsSquare square.base square.stride (region.col_end - 1) (M.items m) }
-    ensures swapped { SwapsAcross square.base square.stride (record region { row_start = row; row_end = row + 1 }) (M.items m) (M.items result) }
+    ensures swapped { SwapsAcross square.base square.stride
+        (record region { row_start = row; row_end = row + 1 }) (M.items m) (M.items result) }
     ensures holder { M.same_holder (region.col_end - region.col_start) m result }
 {
     let Square { base, stride } = square;

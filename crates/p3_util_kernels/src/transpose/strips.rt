@@ -146,8 +146,10 @@ pub(crate) fn put_strips<M: Cells, R: Source<Item = M::Item> + Copy>(
     region: Region,
     strips: Strips,
 ) -> M
-    requires ready { IsReady region matrix.width matrix.height (R.items matrix.source) (M.items out) }
-    ensures transposed { IsRegionTransposed region matrix.width matrix.height (R.items matrix.source) (M.items out) (M.items result) }
+    requires ready { IsReady region matrix.width matrix.height
+        (R.items matrix.source) (M.items out) }
+    ensures transposed { IsRegionTransposed region matrix.width matrix.height
+        (R.items matrix.source) (M.items out) (M.items result) }
     ensures holder { M.same_holder (items_of region) out result }
 {
     if region.cols() == 0 {
@@ -173,8 +175,10 @@ fn put_strip<M: Cells, R: Source<Item = M::Item> + Copy>(
     strips: Strips,
 ) -> M
     requires some_rows { region.row_start < region.row_end }
-    requires ready { IsReady region matrix.width matrix.height (R.items matrix.source) (M.items out) }
-    ensures transposed { IsRegionTransposed region matrix.width matrix.height (R.items matrix.source) (M.items out) (M.items result) }
+    requires ready { IsReady region matrix.width matrix.height
+        (R.items matrix.source) (M.items out) }
+    ensures transposed { IsRegionTransposed region matrix.width matrix.height
+        (R.items matrix.source) (M.items out) (M.items result) }
     ensures holder { M.same_holder (items_of region) out result }
 {
     let (rows, cols) = (region.rows(), region.cols());
@@ -203,8 +207,10 @@ fn put_tiles<M: Cells, R: Source<Item = M::Item> + Copy>(
     strips: Strips,
 ) -> M
     requires some_rows { region.row_start < region.row_end }
-    requires ready { IsReady region matrix.width matrix.height (R.items matrix.source) (M.items out) }
-    ensures transposed { IsRegionTransposed region matrix.width matrix.height (R.items matrix.source) (M.items out) (M.items result) }
+    requires ready { IsReady region matrix.width matrix.height
+        (R.items matrix.source) (M.items out) }
+    ensures transposed { IsRegionTransposed region matrix.width matrix.height
+        (R.items matrix.source) (M.items out) (M.items result) }
     ensures holder { M.same_holder (items_of region) out result }
 {
     let mut out = out;
@@ -227,8 +233,10 @@ fn put_blocks<M: Cells, R: Source<Item = M::Item> + Copy>(
     strips: Strips,
 ) -> M
     requires some_rows { region.row_start < region.row_end }
-    requires ready { IsReady region matrix.width matrix.height (R.items matrix.source) (M.items out) }
-    ensures transposed { IsRegionTransposed region matrix.width matrix.height (R.items matrix.source) (M.items out) (M.items result) }
+    requires ready { IsReady region matrix.width matrix.height
+        (R.items matrix.source) (M.items out) }
+    ensures transposed { IsRegionTransposed region matrix.width matrix.height
+        (R.items matrix.source) (M.items out) (M.items result) }
     ensures holder { M.same_holder (items_of region) out result }
 {
     let (rows, cols) = (strips.block_rows(), strips.block_cols());
@@ -254,8 +262,10 @@ fn put_block<M: Cells, R: Source<Item = M::Item> + Copy>(
     strips: Strips,
 ) -> M
     requires some_rows { region.row_start < region.row_end }
-    requires ready { IsReady region matrix.width matrix.height (R.items matrix.source) (M.items out) }
-    ensures transposed { IsRegionTransposed region matrix.width matrix.height (R.items matrix.source) (M.items out) (M.items result) }
+    requires ready { IsReady region matrix.width matrix.height
+        (R.items matrix.source) (M.items out) }
+    ensures transposed { IsRegionTransposed region matrix.width matrix.height
+        (R.items matrix.source) (M.items out) (M.items result) }
     ensures holder { M.same_holder (items_of region) out result }
 {
     match strips {
@@ -275,8 +285,10 @@ fn put_turned<M: Cells, R: Source<Item = M::Item> + Copy>(
 ) -> M
     requires rows { rows_of region ≡ 4 }
     requires cols { cols_of region ≡ 4 }
-    requires ready { IsReady region matrix.width matrix.height (R.items matrix.source) (M.items out) }
-    ensures transposed { IsRegionTransposed region matrix.width matrix.height (R.items matrix.source) (M.items out) (M.items result) }
+    requires ready { IsReady region matrix.width matrix.height
+        (R.items matrix.source) (M.items out) }
+    ensures transposed { IsRegionTransposed region matrix.width matrix.height
+        (R.items matrix.source) (M.items out) (M.items result) }
     ensures holder { M.same_holder 16 out result }
 {
     let Matrix {
@@ -309,8 +321,10 @@ fn put_columns<M: Cells, R: Source<Item = M::Item> + Copy>(
     region: Region,
 ) -> M
     requires some_rows { region.row_start < region.row_end }
-    requires ready { IsReady region matrix.width matrix.height (R.items matrix.source) (M.items out) }
-    ensures transposed { IsRegionTransposed region matrix.width matrix.height (R.items matrix.source) (M.items out) (M.items result) }
+    requires ready { IsReady region matrix.width matrix.height
+        (R.items matrix.source) (M.items out) }
+    ensures transposed { IsRegionTransposed region matrix.width matrix.height
+        (R.items matrix.source) (M.items out) (M.items result) }
     ensures holder { M.same_holder (items_of region) out result }
 {
     let mut out = out;
@@ -333,7 +347,8 @@ fn put_column<M: Cells, R: Source<Item = M::Item> + Copy>(
     rows: usize,
 ) -> M
     requires column { HoldsColumn rows from matrix.width to (R.items matrix.source) (M.items out) }
-    ensures put { IsColumnPut rows from matrix.width to (R.items matrix.source) (M.items out) (M.items result) }
+    ensures put { IsColumnPut rows from matrix.width to (R.items matrix.source) (M.items out)
+        (M.items result) }
     ensures holder { M.same_holder rows out result }
 {
     let mut out = out;
@@ -370,7 +385,8 @@ fn put_items<M: Cells, R: Source<Item = M::Item> + Copy>(
     rows: usize,
 ) -> M
     requires column { HoldsColumn rows from matrix.width to (R.items matrix.source) (M.items out) }
-    ensures put { IsColumnPut rows from matrix.width to (R.items matrix.source) (M.items out) (M.items result) }
+    ensures put { IsColumnPut rows from matrix.width to (R.items matrix.source) (M.items out)
+        (M.items result) }
     ensures holder { M.same_holder rows out result }
 {
     let mut out = out;

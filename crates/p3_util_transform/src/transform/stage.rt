@@ -29,7 +29,8 @@ fn join_rows(values: &mut [u32], width: usize, low: usize, high: usize, twiddle:
 fn join_halves(values: &mut [u32], width: usize, first: usize, half: usize, twiddles: &Twiddles)
     requires rows { first + 2 * half < 2 ^ 64 }
     requires inside { (first + 2 * half) * width ≤ length values.old }
-    requires enough { (i : ℕ) → i < half → i * twiddles.now.stride < length twiddles.now.powers.now }
+    requires enough { (i : ℕ) → i < half → i * twiddles.now.stride
+        < length twiddles.now.powers.now }
     requires powers { AreBelowPrime twiddles.now.powers.now }
     requires below { AreBelowPrime values.old }
     ensures below { AreBelowPrime values.new }
@@ -61,7 +62,8 @@ pub fn join_blocks(
 )
     requires rows { blocks * (2 * half) < 2 ^ 64 }
     requires len { length values.old ≡ blocks * (2 * half) * width }
-    requires enough { (i : ℕ) → i < half → i * twiddles.now.stride < length twiddles.now.powers.now }
+    requires enough { (i : ℕ) → i < half → i * twiddles.now.stride
+        < length twiddles.now.powers.now }
     requires powers { AreBelowPrime twiddles.now.powers.now }
     requires below { AreBelowPrime values.old }
     ensures below { AreBelowPrime values.new }

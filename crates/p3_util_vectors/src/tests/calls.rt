@@ -203,7 +203,12 @@ fn put_on<C: Cells + Drop>(
 
 /// The region that is a whole matrix.
 pub(crate) fn whole(shape: Shape) -> Region
-    ensures { result ≡ record { row_start = 0; row_end = shape.height; col_start = 0; col_end = shape.width } }
+    ensures { result ≡ record {
+      row_start = 0;
+      row_end = shape.height;
+      col_start = 0;
+      col_end = shape.width;
+    } }
 {
     Region {
         row_start: 0,

@@ -28,9 +28,11 @@ use crate::kernels::transpose::transpose_square;
 /// requires fits { IsReversible (length (S.items m.old.holder)) }
 /// requires not_short { 4 ≤ length (S.items m.old.holder) }
 /// ensures order { IsReversal (S.items m.old.holder) (S.items m.new.holder) }
-/// ensures count { m.new.count ≡ counted m.old.count (long_swaps (clog (length (S.items m.old.holder)))) }
+/// ensures count { m.new.count ≡ counted m.old.count
+///     (long_swaps (clog (length (S.items m.old.holder)))) }
 /// ensures bound { let n = length (S.items m.old.holder) in long_swaps (clog n) ≤ 3 * n / 2 }
-/// ensures holder { S.same_holder (long_swaps (clog (length (S.items m.old.holder)))) m.old.holder m.new.holder }
+/// ensures holder { S.same_holder (long_swaps (clog (length (S.items m.old.holder))))
+///     m.old.holder m.new.holder }
 /// ```
 pub fn reverse_index_bits_long<S: Places>(m: &mut Swaps<S>) {
     m.count = reverse_long(Swaps::resumed(&mut m.holder, m.count)).swaps();

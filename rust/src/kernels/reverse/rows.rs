@@ -17,9 +17,11 @@ use crate::kernels::reverse::pairs::{RowDigits, exchange_pairs};
 /// ```text
 /// requires { FitsRows (length (S.items m.old.holder)) row_width }
 /// ensures order { IsRowReversal row_width (S.items m.old.holder) (S.items m.new.holder) }
-/// ensures count { m.new.count ≡ counted m.old.count (row_swaps (length (S.items m.old.holder)) row_width) }
+/// ensures count { m.new.count ≡ counted m.old.count
+///     (row_swaps (length (S.items m.old.holder)) row_width) }
 /// ensures bound { let n = length (S.items m.old.holder) in row_swaps n row_width ≤ n / 2 }
-/// ensures holder { S.same_holder (row_swaps (length (S.items m.old.holder)) row_width) m.old.holder m.new.holder }
+/// ensures holder { S.same_holder (row_swaps (length (S.items m.old.holder)) row_width)
+///     m.old.holder m.new.holder }
 /// ```
 pub fn reverse_row_index_bits_on<S: Places>(m: &mut Swaps<S>, row_width: usize) {
     let rows = RowDigits::of(m.len(), row_width);
@@ -39,9 +41,11 @@ pub fn reverse_row_index_bits_on<S: Places>(m: &mut Swaps<S>, row_width: usize) 
 /// ```text
 /// requires { IsReversible (length (S.items m.old.holder)) }
 /// ensures order { IsReversal (S.items m.old.holder) (S.items m.new.holder) }
-/// ensures count { m.new.count ≡ counted m.old.count (short_swaps (clog (length (S.items m.old.holder)))) }
+/// ensures count { m.new.count ≡ counted m.old.count
+///     (short_swaps (clog (length (S.items m.old.holder)))) }
 /// ensures bound { let n = length (S.items m.old.holder) in short_swaps (clog n) ≤ n / 2 }
-/// ensures holder { S.same_holder (short_swaps (clog (length (S.items m.old.holder)))) m.old.holder m.new.holder }
+/// ensures holder { S.same_holder (short_swaps (clog (length (S.items m.old.holder))))
+///     m.old.holder m.new.holder }
 /// ```
 pub fn reverse_index_bits_short<S: Places>(m: &mut Swaps<S>) {
     m.count = reverse_short(Swaps::resumed(&mut m.holder, m.count)).swaps();
@@ -59,10 +63,14 @@ pub fn reverse_index_bits_short<S: Places>(m: &mut Swaps<S>) {
 ///
 /// ```text
 /// requires { length (S.items m.old.holder) ≡ 2 ^ (lb_num_chunks + lb_chunk_size) }
-/// ensures order { IsRowReversal (2 ^ lb_chunk_size) (S.items m.old.holder) (S.items m.new.holder) }
-/// ensures count { m.new.count ≡ counted m.old.count (short_swaps lb_num_chunks * 2 ^ lb_chunk_size) }
-/// ensures bound { short_swaps lb_num_chunks * 2 ^ lb_chunk_size ≤ length (S.items m.old.holder) / 2 }
-/// ensures holder { S.same_holder (short_swaps lb_num_chunks * 2 ^ lb_chunk_size) m.old.holder m.new.holder }
+/// ensures order { IsRowReversal (2 ^ lb_chunk_size) (S.items m.old.holder)
+///     (S.items m.new.holder) }
+/// ensures count { m.new.count ≡ counted m.old.count
+///     (short_swaps lb_num_chunks * 2 ^ lb_chunk_size) }
+/// ensures bound { short_swaps lb_num_chunks * 2 ^ lb_chunk_size
+///     ≤ length (S.items m.old.holder) / 2 }
+/// ensures holder { S.same_holder (short_swaps lb_num_chunks * 2 ^ lb_chunk_size)
+///     m.old.holder m.new.holder }
 /// ```
 pub fn reverse_chunks_on<S: Places>(m: &mut Swaps<S>, lb_num_chunks: usize, lb_chunk_size: usize) {
     let counter = Swaps::resumed(&mut m.holder, m.count);

@@ -32,7 +32,8 @@ pub(crate) struct Square {
 ///
 /// ```text
 /// ensures { let s = 2 ^ log_size in
-///     IsTrue result ↔ ((log_size ≤ log_stride) × (log_stride < 64) × (base + (s - 1) * 2 ^ log_stride + (s - 1) < len)) }
+///     IsTrue result ↔ ((log_size ≤ log_stride) × (log_stride < 64)
+///     × (base + (s - 1) * 2 ^ log_stride + (s - 1) < len)) }
 /// ```
 #[inline]
 #[must_use]
@@ -66,9 +67,11 @@ pub const fn fits_square(len: usize, base: usize, log_stride: usize, log_size: u
 /// requires stride_fits { log_stride < 64 }
 /// requires room { let s = 2 ^ log_size in
 ///     base + (s - 1) * 2 ^ log_stride + (s - 1) < length (S.items m.old.holder) }
-/// ensures transposed { IsSquareTransposed base log_stride log_size (S.items m.old.holder) (S.items m.new.holder) }
+/// ensures transposed { IsSquareTransposed base log_stride log_size (S.items m.old.holder)
+///     (S.items m.new.holder) }
 /// ensures count { let s = 2 ^ log_size in m.new.count ≡ counted m.old.count (s * (s - 1) / 2) }
-/// ensures holder { let s = 2 ^ log_size in S.same_holder (s * (s - 1) / 2) m.old.holder m.new.holder }
+/// ensures holder { let s = 2 ^ log_size in S.same_holder (s * (s - 1) / 2)
+///     m.old.holder m.new.holder }
 /// ```
 pub fn transpose_square_on<S: Places>(
     m: &mut Swaps<S>,

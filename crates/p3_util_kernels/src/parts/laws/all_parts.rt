@@ -72,7 +72,8 @@ pub(crate) struct Orders<'a> {
 impl<'a> Orders<'a> {
     /// The order of the parts of phase `number`.
     fn of_phase(self, number: usize) -> &'a [usize]
-        ensures { result.now ≡ order_of self.entry.first.now self.entry.second.now self.entry.third.now number }
+        ensures { result.now ≡ order_of self.entry.first.now self.entry.second.now
+            self.entry.third.now number }
     {
         match number {
             0 => self.first,
@@ -93,7 +94,8 @@ pub(crate) fn make_phases<M: Places>(
     requires plan { IsReversalPlan (length (M.items m)) row_width plan }
     requires len_fits { length (M.items m) < 2 ^ 64 }
     requires orders { (number : ℕ) (phase : Phase) → slice_get (phases_of plan) number ≡ Some phase
-        → IsOrder (parts_of phase) (turn_of (order_of orders.first.now orders.second.now orders.third.now number)) }
+        → IsOrder (parts_of phase) (turn_of (order_of orders.first.now orders.second.now
+        orders.third.now number)) }
     ensures order { IsRowReversal row_width (M.items m) (M.items result) }
     ensures holder { M.same_holder (swaps_of_plan plan (length (M.items m))) m result }
 {
@@ -117,7 +119,8 @@ pub(crate) fn transpose_in_parts<C: Cells, R: Source<Item = C::Item> + Copy>(
 ) -> C
     requires input_fits { length (R.items matrix.source) ≡ matrix.width * matrix.height }
     requires output_fits { length (C.items out) ≡ matrix.width * matrix.height }
-    ensures order { IsTranspose matrix.width matrix.height (R.items matrix.source) (C.items result) }
+    ensures order { IsTranspose matrix.width matrix.height (R.items matrix.source)
+        (C.items result) }
     ensures holder { C.same_holder (matrix.width * matrix.height) out result }
 {
     let _ = out.len();
@@ -135,7 +138,8 @@ pub(crate) fn reverse_in_parts<M: Places>(
 ) -> M
     requires { FitsRows (length (M.items m)) row_width }
     ensures order { IsRowReversal row_width (M.items m) (M.items result) }
-    ensures holder { M.same_holder (swaps_in_parts (length (M.items m)) row_width one_part) m result }
+    ensures holder { M.same_holder (swaps_in_parts (length (M.items m))
+        row_width one_part) m result }
 {
     let plan = ReversalPlan::new(m.len(), row_width, parts, one_part);
     let plain = Orders {

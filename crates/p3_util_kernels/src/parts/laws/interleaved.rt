@@ -26,10 +26,12 @@ pub(crate) fn interleaved<T>()
 /// two regions have a place in common, and every interleaving of the writes puts the transpose.
 pub(crate) fn regions_interleaved<T>(plan: TransposePlan)
     ensures { (input old : List T) (lists : List (List (ℕ × T)))
-        → length input ≡ plan.width * plan.height → length old ≡ plan.width * plan.height → NoItemInCommon input old
+        → length input ≡ plan.width * plan.height → length old ≡ plan.width * plan.height
+        → NoItemInCommon input old
         → PutAlone plan.width plan.height plan.by_rows plan.cut.len plan.cut.step input old lists
         → AreApartBelow places_put (length old) lists
-        × ((all : List (ℕ × T)) → IsInterleaved lists all → IsTranspose plan.width plan.height input (after_puts old all)) }
+        × ((all : List (ℕ × T)) → IsInterleaved lists all
+        → IsTranspose plan.width plan.height input (after_puts old all)) }
 {}
 
 /// The writes that put a region of a plan do so alone.
@@ -44,7 +46,8 @@ pub(crate) fn region_alone<C: Cells, R: Source<Item = C::Item> + Copy>(
     requires input_fits { length (R.items source) ≡ plan.width * plan.height }
     requires output_fits { length (C.items out) ≡ plan.width * plan.height }
     ensures { (steps : List (ℕ × C.Item)) × (C.items result ≡ after_puts (C.items out) steps)
-        × IsPutAlone plan.width plan.height plan.by_rows plan.cut.len plan.cut.step number (R.items source) (C.items out) steps }
+        × IsPutAlone plan.width plan.height plan.by_rows plan.cut.len plan.cut.step number
+        (R.items source) (C.items out) steps }
 {
     put_region(out, source, plan, number, strips)
 }
@@ -52,8 +55,10 @@ pub(crate) fn region_alone<C: Cells, R: Source<Item = C::Item> + Copy>(
 /// For exchanges that make each part of a phase alone: if all items differ, every interleaving of
 /// them makes the phase.
 pub(crate) fn parts_interleaved<T>(phase: Phase)
-    ensures { (old : List T) (lists : List (List (ℕ × ℕ))) (all : List (ℕ × ℕ)) → IsPhaseOf phase (length old) → AllDiffer old
-        → MakeAlone phase old lists → IsInterleaved lists all → IsPhaseMade phase old (after_swaps old all) }
+    ensures { (old : List T) (lists : List (List (ℕ × ℕ))) (all : List (ℕ × ℕ))
+        → IsPhaseOf phase (length old) → AllDiffer old
+        → MakeAlone phase old lists → IsInterleaved lists all
+        → IsPhaseMade phase old (after_swaps old all) }
 {}
 
 /// The exchanges that make a part of a phase do so alone.
@@ -61,7 +66,8 @@ pub(crate) fn part_alone<M: Places>(m: M, phase: Phase, number: usize) -> M
     requires below { number < parts_of phase }
     requires list { IsPhaseOf phase (length (M.items m)) }
     requires len_fits { length (M.items m) < 2 ^ 64 }
-    ensures { (steps : List (ℕ × ℕ)) × (M.items result ≡ after_swaps (M.items m) steps) × IsMadeAlone phase number (M.items m) steps }
+    ensures { (steps : List (ℕ × ℕ)) × (M.items result ≡ after_swaps (M.items m) steps)
+        × IsMadeAlone phase number (M.items m) steps }
 {
     phase.exchange(SwapSteps { places: m }, number).places
 }
@@ -69,6 +75,8 @@ pub(crate) fn part_alone<M: Places>(m: M, phase: Phase, number: usize) -> M
 /// The phases of a plan, made one after the other with the exchanges of each phase's parts in any
 /// interleaving, are the reversal.
 pub(crate) fn phases_interleaved<T>(row_width: usize, plan: ReversalPlan)
-    ensures { (old new : List T) → FitsRows (length old) row_width → IsReversalPlan (length old) row_width plan → length old < 2 ^ 64
-        → AllDiffer old → AreMadeInterleaved (phases_of plan) old new → IsRowReversal row_width old new }
+    ensures { (old new : List T) → FitsRows (length old) row_width
+        → IsReversalPlan (length old) row_width plan → length old < 2 ^ 64
+        → AllDiffer old → AreMadeInterleaved (phases_of plan) old new
+        → IsRowReversal row_width old new }
 {}

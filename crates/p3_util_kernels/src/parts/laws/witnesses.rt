@@ -9,15 +9,19 @@ ghost use Rattle.p3_util_kernels.specs.PartSteps.{NoItemInCommon};
 /// The order from the first part to the last one is an order, and so is the order from the last
 /// part to the first one.
 pub(crate) fn orders()
-    ensures rising { (count : ℕ) (order : List ℕ) → ((j : ℕ) → j < count → slice_get order j ≡ Some j)
+    ensures rising { (count : ℕ) (order : List ℕ)
+        → ((j : ℕ) → j < count → slice_get order j ≡ Some j)
         → IsOrder count (turn_of order) }
-    ensures falling { (count : ℕ) (order : List ℕ) → ((j : ℕ) → j < count → slice_get order j ≡ Some (count - 1 - j))
+    ensures falling { (count : ℕ) (order : List ℕ)
+        → ((j : ℕ) → j < count → slice_get order j ≡ Some (count - 1 - j))
         → IsOrder count (turn_of order) }
 {}
 
 /// The numbers from 0 on all differ. A list of numbers below n has no item in common with a list of
 /// numbers that are at least n.
 pub(crate) fn numbers_differ()
-    ensures all { (xs : List ℕ) → ((i : ℕ) → i < length xs → slice_get xs i ≡ Some i) → AllDiffer xs }
-    ensures two { (n : ℕ) (xs ys : List ℕ) → All (λ x. x < n) xs → All (λ y. n ≤ y) ys → NoItemInCommon xs ys }
+    ensures all { (xs : List ℕ) → ((i : ℕ) → i < length xs
+        → slice_get xs i ≡ Some i) → AllDiffer xs }
+    ensures two { (n : ℕ) (xs ys : List ℕ) → All (λ x. x < n) xs → All (λ y. n ≤ y) ys
+        → NoItemInCommon xs ys }
 {}
