@@ -1,9 +1,12 @@
-//! A transpose put together from small parts, each from the public contract of the part before: a block of 4 by 4 items, a tile
-//! of 16 by 16 from its blocks, a region from its tiles and what is left at its edges, and a matrix from its regions. The last
-//! caller is a square in place, from its quadrants.
+//! A demonstration, not to be copied: it shows that public contracts are enough to put a transpose together from small parts. To
+//! transpose, call `transpose_source_on` or `transpose_source_region_on`, which are faster. A caller takes three things from here:
+//! an invariant that grows a region row by row (`transpose_tile`), numbers of steps that are added by `same_holder_trans`, and
+//! small functions, each with one clause that the next one needs.
 //!
-//! Each is over every holder, and says its number of steps by `same_holder`. A counter is a holder too, so over one its count
-//! needs no other proof: `transpose_tile_on` is the tile in 256 writes.
+//! The parts are a block of 4 by 4 items, a tile of 16 by 16 from its blocks, a region from its tiles and the rest at its edges,
+//! and a matrix from its regions. The last caller is a square in place, from its quadrants. Each is over every source and every
+//! holder, and says its number of steps by `same_holder`. A counter is a holder too, so over one its count needs no other proof:
+//! `transpose_tile_on` is the tile in 256 writes.
 
 ghost use Rattle.std.specs.Prelude.{◌≡◌, ℕ, ◌+◌, ◌-◌, ◌*◌, ◌/◌, ◌^◌, ◌<◌, ◌≤◌, ◌⊎◌, length, slice_get};
 ghost use Rattle.p3_util.specs.Diagonal.{HoldsSquare, SwapsAcross};
