@@ -128,3 +128,38 @@ pub fn first_of_pair(i: usize) -> usize
 {
     i & !1
 }
+
+/// The least `e` with `n <= 2^e`, as a `u32`.
+pub fn ceil_as_u32(n: usize) -> u32
+    ensures { n ≤ 2 ^ result }
+{
+    log2_ceil_usize(n) as u32
+}
+
+/// A third of a power of three, which is the power before it.
+#[tactic(auto, using(p3_util::proofs::Callers::third_of_power))]
+pub fn third_of(n: usize) -> usize
+    requires { IsPowerOfThree n }
+    ensures { (e : ℕ) → n ≡ 3 ^ (e + 1) → result ≡ 3 ^ e }
+{
+    n / 3
+}
+
+/// The exponent of a power of three.
+pub fn exponent_of(n: usize) -> usize
+    requires { IsPowerOfThree n }
+    ensures { (e : ℕ) → n ≡ 3 ^ e → result ≡ e }
+{
+    log3_strict_usize(n)
+}
+
+/// The reverse of an index into `2^k` items in a list that is padded to `2^(k + s)` items.
+#[tactic(auto, using(p3_util::proofs::Callers::rev_longer))]
+pub fn reverse_in_longer(i: usize, k: usize, s: usize) -> usize
+    requires some { 1 ≤ k }
+    requires few { k + s < 64 }
+    requires inside { i < 2 ^ k }
+    ensures { result ≡ rev k i * 2 ^ s }
+{
+    reverse_bits_len(i, k + s)
+}

@@ -157,3 +157,37 @@ pub fn digests_of_rows(alloc: Global, bytes: &[u8], width: usize) -> Result<Vec<
         .map(|row| digest(row))
         .collect(alloc)
 }
+
+/// What hashes rows. A clause cannot say what a closure over `&[T]` returns for a list, since its argument is a borrow. A trait
+/// says it by a ghost function.
+pub trait HashRow {
+    type Item;
+
+    // the hash of a row
+    ghost hash_of: { List Self.Item → ℕ };
+
+    /// The hash of `row`.
+    fn hash(&self, row: &[Self::Item]) -> u64
+        ensures { result ≡ hash_of row.now };
+}
+
+/// The hash of each whole row of `width` items.
+///
+/// # Errors
+///
+/// `AllocError` where there is no memory for the hashes.
+pub fn hashes_of_rows<H: HashRow>(
+    alloc: Global,
+    hasher: &H,
+    items: &[H::Item],
+    width: usize,
+) -> Result<Vec<u64>, AllocError>
+    requires { 0 < width }
+    ensures { IfOk result (λ v. (r : ℕ) → r < length items.now / width
+        → slice_get v.items r ≡ Some (H.hash_of (take width (drop (r * width) items.now)))) }
+{
+    items
+        .chunks_exact(width)
+        .map(|row| hasher.hash(row))
+        .collect(alloc)
+}

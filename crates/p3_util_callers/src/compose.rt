@@ -12,23 +12,21 @@ ghost use Rattle.p3_util.specs.SwapCounts.{long_swaps, reversal_swaps, row_swaps
 ghost use Rattle.p3_util.specs.Transpose.{IsTranspose};
 
 use crate::transpose::transpose_whole_square;
-use p3_util::places::{Cells, Places, Swaps, Writes};
-use p3_util::transpose::{Region, transpose_region_on, transpose_square_on};
+use p3_util::places::{Cells, Places, Source, Swaps, Writes};
+use p3_util::transpose::{Region, transpose_source_region_on, transpose_square_on};
 use p3_util::{
     log2_strict_usize, reverse_chunks_on, reverse_counted, reverse_index_bits_on,
     reverse_row_index_bits_on, reverse_rows_counted,
 };
 
 /// Puts the transpose of a whole matrix, as the region that it is, with the contract of `transpose_on`.
-pub fn transpose_as_region<C: Cells>(
-    input: &[C::Item],
-    out: &mut Writes<C>,
-    width: usize,
-    height: usize,
-)
-    requires input_fits { length input.now ≡ width * height }
+pub fn transpose_as_region<R, C>(input: &R, out: &mut Writes<C>, width: usize, height: usize)
+where
+    C: Cells,
+    R: Source<Item = C::Item>,
+    requires input_fits { length (R.items input.now) ≡ width * height }
     requires output_fits { length (C.items out.old.holder) ≡ width * height }
-    ensures order { IsTranspose width height input.now (C.items out.new.holder) }
+    ensures order { IsTranspose width height (R.items input.now) (C.items out.new.holder) }
     ensures count { out.new.count ≡ counted out.old.count (width * height) }
     ensures holder { C.same_holder (width * height) out.old.holder out.new.holder }
 {
@@ -38,7 +36,7 @@ pub fn transpose_as_region<C: Cells>(
         col_start: 0,
         col_end: width,
     };
-    transpose_region_on(input, out, whole, width, height);
+    transpose_source_region_on(input, out, whole, width, height);
 }
 
 /// Reverses `m` by index bits twice, which leaves it as it was. Both are counted.
@@ -145,17 +143,20 @@ pub fn transpose_twice_on<S: Places>(m: &mut Swaps<S>, log_size: usize)
 /// Puts the transpose of a region as that of its upper rows and then that of its lower rows, with the contract of
 /// `transpose_region_on`.
 #[tactic(auto, using(p3_util::proofs::Callers::items_of_rows))]
-pub fn transpose_by_rows<C: Cells>(
-    input: &[C::Item],
+pub fn transpose_by_rows<R, C>(
+    input: &R,
     out: &mut Writes<C>,
     region: Region,
     width: usize,
     height: usize,
 )
-    requires input_fits { length input.now ≡ width * height }
+where
+    C: Cells,
+    R: Source<Item = C::Item>,
+    requires input_fits { length (R.items input.now) ≡ width * height }
     requires output_fits { length (C.items out.old.holder) ≡ width * height }
     requires inside { LiesInMatrix region width height }
-    ensures transposed { IsRegionTransposed region width height input.now
+    ensures transposed { IsRegionTransposed region width height (R.items input.now)
         (C.items out.old.holder) (C.items out.new.holder) }
     ensures count { out.new.count ≡ counted out.old.count (items_of region) }
     ensures holder { C.same_holder (items_of region) out.old.holder out.new.holder }
@@ -169,23 +170,26 @@ pub fn transpose_by_rows<C: Cells>(
         row_start: middle,
         ..region
     };
-    transpose_region_on(input, out, upper, width, height);
-    transpose_region_on(input, out, lower, width, height);
+    transpose_source_region_on(input, out, upper, width, height);
+    transpose_source_region_on(input, out, lower, width, height);
 }
 
 /// The same as that of its left columns and then that of its right columns.
 #[tactic(auto, using(p3_util::proofs::Callers::items_of_cols))]
-pub fn transpose_by_columns<C: Cells>(
-    input: &[C::Item],
+pub fn transpose_by_columns<R, C>(
+    input: &R,
     out: &mut Writes<C>,
     region: Region,
     width: usize,
     height: usize,
 )
-    requires input_fits { length input.now ≡ width * height }
+where
+    C: Cells,
+    R: Source<Item = C::Item>,
+    requires input_fits { length (R.items input.now) ≡ width * height }
     requires output_fits { length (C.items out.old.holder) ≡ width * height }
     requires inside { LiesInMatrix region width height }
-    ensures transposed { IsRegionTransposed region width height input.now
+    ensures transposed { IsRegionTransposed region width height (R.items input.now)
         (C.items out.old.holder) (C.items out.new.holder) }
     ensures count { out.new.count ≡ counted out.old.count (items_of region) }
     ensures holder { C.same_holder (items_of region) out.old.holder out.new.holder }
@@ -199,6 +203,6 @@ pub fn transpose_by_columns<C: Cells>(
         col_start: middle,
         ..region
     };
-    transpose_region_on(input, out, left, width, height);
-    transpose_region_on(input, out, right, width, height);
+    transpose_source_region_on(input, out, left, width, height);
+    transpose_source_region_on(input, out, right, width, height);
 }

@@ -1,6 +1,6 @@
 //! Callers of bit reversal. None of them has a proof by hand: the test in front of a call is enough, or a lemma that is named.
 
-ghost use Rattle.std.specs.Prelude.{◌≡◌, ℕ, ◌+◌, ◌*◌, ◌^◌, ◌<◌, ◌≤◌, ◌↔◌, [], ◌∷◌, IsTrue, IsFalse, IfOk, length, map, slice_get, slice_index};
+ghost use Rattle.std.specs.Prelude.{◌≡◌, ℕ, ◌+◌, ◌-◌, ◌*◌, ◌^◌, ◌<◌, ◌≤◌, ◌↔◌, [], ◌∷◌, IsTrue, IsFalse, IfOk, drop, length, map, slice_get, slice_index, take};
 ghost use Rattle.std.specs.Int.{is_power_of_two};
 ghost use Rattle.p3_util.specs.Digits.{rev};
 ghost use Rattle.p3_util.specs.Reversal.{FitsRows, IsReversal, IsReversible, IsRowReversal, IsZeroOrPowerOfTwo};
@@ -203,4 +203,36 @@ pub fn reverse_rows_of_both<S: Places>(one: &mut [S::Item], other: &mut S, row_w
 {
     reverse_slice_row_index_bits(one, row_width);
     reverse_rows_counted(other, row_width);
+}
+
+/// Reverses by index bits what stands from place `from` on. The items before it stay.
+pub fn reverse_from_place<T>(xs: &mut [T], from: usize)
+    requires inside { from ≤ length xs.old }
+    requires power { IsReversible (length xs.old - from) }
+    ensures part { IsReversal (drop from xs.old) (drop from xs.new) }
+    ensures front { take from xs.new ≡ take from xs.old }
+{
+    reverse_slice_index_bits(&mut xs[from..]);
+}
+
+/// Reverses by index bits the `len` items from place `from` on.
+pub fn reverse_window<T>(xs: &mut [T], from: usize, len: usize)
+    requires inside { from + len ≤ length xs.old }
+    requires power { IsReversible len }
+    ensures { IsReversal (take len (drop from xs.old)) (take len (drop from xs.new)) }
+{
+    reverse_slice_index_bits(&mut xs[from..from + len]);
+}
+
+/// A copy of `xs` in the order of reversed index bits. `to_vec` calls `clone`, of which nothing is known for any `T: Copy`.
+///
+/// # Errors
+///
+/// `AllocError` where there is no memory for the copy.
+pub fn reversed_copy<T: Copy>(alloc: Global, xs: &[T]) -> Result<Vec<T>, AllocError>
+    requires { IsReversible (length xs.now) }
+    ensures { IfOk result (λ v. IsReversal xs.now v.items) }
+{
+    let copy = xs.iter().copied().collect::<Vec<T>>(alloc)?;
+    Ok(reversed(copy))
 }

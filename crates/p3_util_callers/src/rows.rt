@@ -1,7 +1,7 @@
 //! Callers that reverse each row of a matrix by index bits, in place. What a loop keeps is in a file of its own: the rows above
 //! are reversed, and all below are as they were.
 
-ghost use Rattle.std.specs.Prelude.{◌≡◌, ◌*◌, [], EachIndex, length, slice_index_or};
+ghost use Rattle.std.specs.Prelude.{◌≡◌, ◌+◌, ◌*◌, ◌<◌, ◌≤◌, [], EachIndex, Some, drop, length, slice_get, slice_index_or, take};
 ghost use Rattle.p3_util.specs.Reversal.{IsReversal, IsReversible};
 ghost use Rattle.p3_util_callers.specs.EachRow.{AreRowsReversed};
 
@@ -34,4 +34,13 @@ pub fn reverse_each_in_vec<T, const N: usize>(rows: &mut Vec<[T; N]>)
     ensures { EachIndex rows.new.items (λ r. IsReversal (slice_index_or rows.old.items r []) (slice_index_or rows.new.items r [])) }
 {
     reverse_each_array(rows.as_mut_slice());
+}
+
+/// Item `i` of the `len` items from place `from` on.
+pub fn item_of_window<T: Copy>(xs: &[T], from: usize, len: usize, i: usize) -> T
+    requires room { from + len ≤ length xs.now }
+    requires inside { i < len }
+    ensures { slice_get (take len (drop from xs.now)) i ≡ Some result }
+{
+    xs[from + i]
 }

@@ -1,5 +1,5 @@
-//! Callers that read a table in the order of reversed index bits, or put one into it. A loop and a fold have a
-//! proof file.
+//! Callers that read a table in the order of reversed index bits, or put one into it: reads, folds and sums. A loop and a sum
+//! that wraps have a proof file.
 
 ghost use Rattle.std.specs.Prelude.{◌≡◌, ℕ, ◌+◌, ◌*◌, ◌/◌, ◌%◌, ◌^◌, ◌<◌, ◌≤◌, IfOk, List, Some, fold, length, map, slice_get, slice_index, sum};
 ghost use Rattle.std.specs.Int.{IsPowerOfTwo};
@@ -11,6 +11,8 @@ use p3_util::bits::{reverse_bits, reverse_bits_len};
 use p3_util::reverse::{reverse_slice_index_bits, reverse_slice_row_index_bits};
 use p3_util::transpose::transpose;
 use std::alloc::{AllocError, Global};
+
+// Reads: an item of a reordered table, or all of them by place.
 
 /// Puts a table of evaluations into the order of reversed index bits: place `i` has the item of the reversed index then.
 #[tactic(auto, using(p3_util::proofs::Callers::reversed_place))]
@@ -77,6 +79,16 @@ pub fn item_before_reorder<T: Copy>(table: &[T], i: usize) -> T
     table[reverse_bits(i, table.len())]
 }
 
+/// Item `i` of a table that somebody has reordered, or `None` where there is none.
+#[tactic(auto, using(p3_util::proofs::Callers::reversed_read))]
+pub fn got_of_reordered<T: Copy>(table: &[T], k: usize, i: usize) -> Option<T>
+    requires len { length table.now ≡ 2 ^ k }
+    requires inside { i < 2 ^ k }
+    ensures { (evals : List T) → IsReversal evals table.now → result ≡ slice_get evals (rev k i) }
+{
+    table.get(i).copied()
+}
+
 /// The item that a reversal by index bits brings to place `i`, read where it lies, by the length alone.
 pub fn item_by_length<T: Copy>(table: &[T], k: usize, i: usize) -> T
     requires some { 1 ≤ k }
@@ -99,94 +111,18 @@ pub fn reordered_copy(alloc: Global, evals: &[u32], k: usize) -> Result<Vec<u32>
         .collect(alloc)
 }
 
-/// The sum of each item of a table times a weight, where the weights go in reversed order.
-pub fn weighted_sum(evals: &[u32], weights: &[u16], k: usize) -> u64
+/// Puts the items of `table` into `out` by their reversed indices, which makes it the reversal. What the loop keeps is in a
+/// file.
+pub fn reordered_into<T: Copy>(table: &[T], out: &mut [T], k: usize)
     requires some { 1 ≤ k }
     requires few { k < 64 }
-    requires len { length evals.now ≡ 2 ^ k }
-    requires weights { length weights.now ≡ 2 ^ k }
-    requires fits { sum (map (λ i. slice_index evals.now i * slice_index weights.now (rev k i)) (range_with_len 0 (2 ^ k))) < 2 ^ 64 }
-    ensures { result ≡ sum (map (λ i. slice_index evals.now i * slice_index weights.now (rev k i)) (range_with_len 0 (2 ^ k))) }
+    requires len { length table.now ≡ 2 ^ k }
+    requires room { length out.old ≡ 2 ^ k }
+    ensures { IsReversal table.now out.new }
 {
-    (0..evals.len())
-        .map(|i| u64::from(evals[i]) * u64::from(weights[reverse_bits_len(i, k)]))
-        .sum()
-}
-
-/// The sum of all items.
-pub fn sum_of(items: &[u64]) -> u64
-    requires { sum items.now < 2 ^ 64 }
-    ensures { result ≡ sum items.now }
-{
-    items.iter().sum()
-}
-
-/// Reorders the table, and returns the sum of all its items, which is as it was.
-#[tactic(auto, using(p3_util::proofs::Callers::reversed_sum))]
-pub fn sum_after(evals: &mut [u64]) -> u64
-    requires power { IsReversible (length evals.old) }
-    requires fits { sum evals.old < 2 ^ 64 }
-    ensures { result ≡ sum evals.old }
-{
-    reverse_slice_index_bits(evals);
-    sum_of(evals)
-}
-
-/// Reverses `values` by index bits, and adds up the items at `2i` and `2i + 1` then, as the first pass of a transform does.
-#[tactic(auto, using(p3_util::proofs::Callers::even_read, p3_util::proofs::Callers::odd_read))]
-pub fn sum_of_pair(values: &mut [u32], k: usize, i: usize) -> u64
-    requires len { length values.old ≡ 2 ^ (k + 1) }
-    requires inside { i < 2 ^ k }
-    ensures { result ≡ slice_index values.old (rev k i) + slice_index values.old (rev k i + 2 ^ k) }
-{
-    reverse_slice_index_bits(values);
-    u64::from(values[2 * i]) + u64::from(values[2 * i + 1])
-}
-
-/// Puts the columns of a matrix of `height` rows of `width` items into the order of their reversed index: `scratch` has its
-/// transpose, whose rows are reversed, and then it is transposed back.
-#[tactic(auto, using(p3_util::proofs::Callers::rev_below))]
-pub fn reverse_columns<T: Copy>(matrix: &mut [T], scratch: &mut [T], width: usize, height: usize)
-    requires matrix_fits { length matrix.old ≡ width * height }
-    requires scratch_fits { length scratch.old ≡ width * height }
-    requires power { IsZeroOrPowerOfTwo width }
-    ensures { (k row column : ℕ) → width ≡ 2 ^ k → row < height → column < width
-        → slice_get matrix.new (row * width + column) ≡ slice_get matrix.old (row * width + rev k column) }
-{
-    transpose(matrix, scratch, width, height);
-    reverse_slice_row_index_bits(scratch, height);
-    transpose(scratch, matrix, height, width);
-}
-
-/// The sums of the items at `2i` and `2i + 1`.
-///
-/// # Errors
-///
-/// `AllocError` where there is no memory for the sums.
-pub fn sums_of_neighbours(alloc: Global, evals: &[u32]) -> Result<Vec<u64>, AllocError>
-    ensures len { IfOk result (λ sums. length sums.items ≡ length evals.now / 2) }
-    ensures sums { IfOk result (λ sums. (i : ℕ) → i < length evals.now / 2
-        → slice_index sums.items i ≡ slice_index evals.now (2 * i) + slice_index evals.now (2 * i + 1)) }
-{
-    (0..evals.len() / 2)
-        .map(|i| u64::from(evals[2 * i]) + u64::from(evals[2 * i + 1]))
-        .collect(alloc)
-}
-
-/// Reorders the table, and folds it: each sum is that of an item of one half and one of the other.
-///
-/// # Errors
-///
-/// `AllocError` where there is no memory for the sums. The table is reordered then.
-#[tactic(auto, using(p3_util::proofs::Callers::even_read, p3_util::proofs::Callers::odd_read))]
-pub fn fold_after(alloc: Global, evals: &mut [u32], k: usize) -> Result<Vec<u64>, AllocError>
-    requires { length evals.old ≡ 2 ^ (k + 1) }
-    ensures len { IfOk result (λ sums. length sums.items ≡ 2 ^ k) }
-    ensures sums { IfOk result (λ sums. (i : ℕ) → i < 2 ^ k
-        → slice_index sums.items i ≡ slice_index evals.old (rev k i) + slice_index evals.old (rev k i + 2 ^ k)) }
-{
-    reverse_slice_index_bits(evals);
-    sums_of_neighbours(alloc, evals)
+    for i in 0..table.len() {
+        out[i] = table[reverse_bits_len(i, k)];
+    }
 }
 
 /// Twice each item.
@@ -245,6 +181,100 @@ pub fn doubled_then_reordered(
     Ok(twice)
 }
 
+/// Puts the columns of a matrix of `height` rows of `width` items into the order of their reversed index: `scratch` has its
+/// transpose, whose rows are reversed, and then it is transposed back.
+#[tactic(auto, using(p3_util::proofs::Callers::rev_below))]
+pub fn reverse_columns<T: Copy>(matrix: &mut [T], scratch: &mut [T], width: usize, height: usize)
+    requires matrix_fits { length matrix.old ≡ width * height }
+    requires scratch_fits { length scratch.old ≡ width * height }
+    requires power { IsZeroOrPowerOfTwo width }
+    ensures { (k row column : ℕ) → width ≡ 2 ^ k → row < height → column < width
+        → slice_get matrix.new (row * width + column) ≡ slice_get matrix.old (row * width + rev k column) }
+{
+    transpose(matrix, scratch, width, height);
+    reverse_slice_row_index_bits(scratch, height);
+    transpose(scratch, matrix, height, width);
+}
+
+// Folds: the items at 2i and 2i + 1, which come from one half of the table and from the other.
+
+/// Reverses `values` by index bits, and adds up the items at `2i` and `2i + 1` then, as the first pass of a transform does.
+#[tactic(auto, using(p3_util::proofs::Callers::even_read, p3_util::proofs::Callers::odd_read))]
+pub fn sum_of_pair(values: &mut [u32], k: usize, i: usize) -> u64
+    requires len { length values.old ≡ 2 ^ (k + 1) }
+    requires inside { i < 2 ^ k }
+    ensures { result ≡ slice_index values.old (rev k i) + slice_index values.old (rev k i + 2 ^ k) }
+{
+    reverse_slice_index_bits(values);
+    u64::from(values[2 * i]) + u64::from(values[2 * i + 1])
+}
+
+/// The sums of the items at `2i` and `2i + 1`.
+///
+/// # Errors
+///
+/// `AllocError` where there is no memory for the sums.
+pub fn sums_of_neighbours(alloc: Global, evals: &[u32]) -> Result<Vec<u64>, AllocError>
+    ensures len { IfOk result (λ sums. length sums.items ≡ length evals.now / 2) }
+    ensures sums { IfOk result (λ sums. (i : ℕ) → i < length evals.now / 2
+        → slice_index sums.items i ≡ slice_index evals.now (2 * i) + slice_index evals.now (2 * i + 1)) }
+{
+    (0..evals.len() / 2)
+        .map(|i| u64::from(evals[2 * i]) + u64::from(evals[2 * i + 1]))
+        .collect(alloc)
+}
+
+/// Reorders the table, and folds it: each sum is that of an item of one half and one of the other.
+///
+/// # Errors
+///
+/// `AllocError` where there is no memory for the sums. The table is reordered then.
+#[tactic(auto, using(p3_util::proofs::Callers::even_read, p3_util::proofs::Callers::odd_read))]
+pub fn fold_after(alloc: Global, evals: &mut [u32], k: usize) -> Result<Vec<u64>, AllocError>
+    requires { length evals.old ≡ 2 ^ (k + 1) }
+    ensures len { IfOk result (λ sums. length sums.items ≡ 2 ^ k) }
+    ensures sums { IfOk result (λ sums. (i : ℕ) → i < 2 ^ k
+        → slice_index sums.items i ≡ slice_index evals.old (rev k i) + slice_index evals.old (rev k i + 2 ^ k)) }
+{
+    reverse_slice_index_bits(evals);
+    sums_of_neighbours(alloc, evals)
+}
+
+// Sums over a reordered table.
+
+/// The sum of all items.
+pub fn sum_of(items: &[u64]) -> u64
+    requires { sum items.now < 2 ^ 64 }
+    ensures { result ≡ sum items.now }
+{
+    items.iter().sum()
+}
+
+/// Reorders the table, and returns the sum of all its items, which is as it was.
+#[tactic(auto, using(p3_util::proofs::Callers::kept_sum))]
+pub fn sum_after(evals: &mut [u64]) -> u64
+    requires power { IsReversible (length evals.old) }
+    requires fits { sum evals.old < 2 ^ 64 }
+    ensures { result ≡ sum evals.old }
+{
+    reverse_slice_index_bits(evals);
+    sum_of(evals)
+}
+
+/// The sum of each item of a table times a weight, where the weights go in reversed order.
+pub fn weighted_sum(evals: &[u32], weights: &[u16], k: usize) -> u64
+    requires some { 1 ≤ k }
+    requires few { k < 64 }
+    requires len { length evals.now ≡ 2 ^ k }
+    requires weights { length weights.now ≡ 2 ^ k }
+    requires fits { sum (map (λ i. slice_index evals.now i * slice_index weights.now (rev k i)) (range_with_len 0 (2 ^ k))) < 2 ^ 64 }
+    ensures { result ≡ sum (map (λ i. slice_index evals.now i * slice_index weights.now (rev k i)) (range_with_len 0 (2 ^ k))) }
+{
+    (0..evals.len())
+        .map(|i| u64::from(evals[i]) * u64::from(weights[reverse_bits_len(i, k)]))
+        .sum()
+}
+
 /// The sum of all items as it is folded, which wraps.
 pub fn folded_sum(items: &[u32]) -> u32
     ensures { result ≡ fold (λ s x. (s + x) % 2 ^ 32) 0 items.now }
@@ -260,35 +290,11 @@ pub fn wrapping_sum(items: &[u32]) -> u32
 }
 
 /// Reorders the table, and returns a checksum of it, which is as it was.
-#[tactic(auto, using(p3_util::proofs::Callers::reversed_sum))]
+#[tactic(auto, using(p3_util::proofs::Callers::kept_sum))]
 pub fn checksum_after(items: &mut [u32]) -> u32
     requires { IsReversible (length items.old) }
     ensures { result ≡ sum items.old % 2 ^ 32 }
 {
     reverse_slice_index_bits(items);
     wrapping_sum(items)
-}
-
-/// Item `i` of a table that somebody has reordered, or `None` where there is none.
-#[tactic(auto, using(p3_util::proofs::Callers::reversed_read))]
-pub fn got_of_reordered<T: Copy>(table: &[T], k: usize, i: usize) -> Option<T>
-    requires len { length table.now ≡ 2 ^ k }
-    requires inside { i < 2 ^ k }
-    ensures { (evals : List T) → IsReversal evals table.now → result ≡ slice_get evals (rev k i) }
-{
-    table.get(i).copied()
-}
-
-/// Puts the items of `table` into `out` by their reversed indices, which makes it the reversal. What the loop keeps is in a
-/// file.
-pub fn reordered_into<T: Copy>(table: &[T], out: &mut [T], k: usize)
-    requires some { 1 ≤ k }
-    requires few { k < 64 }
-    requires len { length table.now ≡ 2 ^ k }
-    requires room { length out.old ≡ 2 ^ k }
-    ensures { IsReversal table.now out.new }
-{
-    for i in 0..table.len() {
-        out[i] = table[reverse_bits_len(i, k)];
-    }
 }

@@ -1,6 +1,6 @@
 //! Callers of the transposes.
 
-ghost use Rattle.std.specs.Prelude.{◌≡◌, ◌+◌, ◌*◌, ◌^◌, ◌<◌, ◌≤◌, ◌↔◌, ℕ, IsTrue, IsFalse, List, OnOk, length, slice_get};
+ghost use Rattle.std.specs.Prelude.{◌≡◌, ◌+◌, ◌-◌, ◌*◌, ◌^◌, ◌<◌, ◌≤◌, ◌↔◌, ℕ, IfOk, IsTrue, IsFalse, List, OnOk, length, slice_get};
 ghost use Rattle.std.specs.Int.{IsPowerOfTwo};
 ghost use Rattle.p3_util.specs.Levels.{lev, nest};
 ghost use Rattle.p3_util.specs.Region.{IsRegionTransposed, LiesInMatrix, cols_of, items_of, rows_of};
@@ -273,4 +273,114 @@ pub fn reverse_by_sides<T: Copy>(values: &mut [T], scratch: &mut [T], width: usi
     reverse_slice_row_index_bits(values, width);
     transpose(values, scratch, width, height);
     reverse_slice_row_index_bits(scratch, height);
+}
+
+/// Transposes `height` pairs: the first items of the rows of the transpose were the first pair. A width may be written out.
+#[tactic(auto, using(p3_util::proofs::Callers::transposed_first))]
+pub fn transpose_pairs_with_first<T: Copy>(input: &[T], output: &mut [T], height: usize)
+    requires input_fits { length input.now ≡ 2 * height }
+    requires output_fits { length output.old ≡ 2 * height }
+    ensures { (x : ℕ) → x < 2 → 0 < height → slice_get output.new (x * height) ≡ slice_get input.now x }
+{
+    transpose(input, output, 2, height);
+}
+
+/// The transpose of `matrix` as a vector.
+///
+/// # Errors
+///
+/// `AllocError` where there is no memory for it.
+pub fn transposed_copy<T: Copy + Default>(
+    alloc: Global,
+    matrix: &[T],
+    width: usize,
+    height: usize,
+) -> Result<Vec<T>, AllocError>
+    requires { length matrix.now ≡ width * height }
+    ensures { IfOk result (λ v. IsTranspose width height matrix.now v.items) }
+{
+    let mut scratch = vec![in alloc; T::default(); matrix.len()]?;
+    transpose(matrix, &mut scratch, width, height);
+    Ok(scratch)
+}
+
+/// The matrix again, as the transpose of its transpose, by two calls that return a vector.
+///
+/// # Errors
+///
+/// `AllocError` where there is no memory for a transpose.
+#[tactic(auto, using(p3_util::proofs::Callers::transposed_back))]
+pub fn transposed_copy_twice(
+    alloc: Global,
+    matrix: &[u64],
+    width: usize,
+    height: usize,
+) -> Result<Vec<u64>, AllocError>
+    requires { length matrix.now ≡ width * height }
+    ensures { IfOk result (λ v. v.items ≡ matrix.now) }
+{
+    let there = transposed_copy(alloc, matrix, width, height)?;
+    let back = transposed_copy(alloc, &there, height, width)?;
+    Ok(back)
+}
+
+/// Transposes a matrix of as many rows as columns into `scratch` and back, which leaves it as it was.
+#[tactic(auto, using(p3_util::proofs::Callers::transposed_back))]
+pub fn transpose_sides_alike_and_back<T: Copy>(matrix: &mut [T], scratch: &mut [T], side: usize)
+    requires matrix_fits { length matrix.old ≡ side * side }
+    requires scratch_fits { length scratch.old ≡ side * side }
+    ensures back { matrix.new ≡ matrix.old }
+{
+    transpose(matrix, scratch, side, side);
+    transpose(scratch, matrix, side, side);
+}
+
+/// Transposes in place a whole matrix of `2^log_size` rows of as many items, said item by item.
+pub fn transpose_whole_square_by_place<S: Places>(m: &mut Swaps<S>, log_size: usize)
+    requires fits { length (S.items m.old.holder) ≡ 2 ^ log_size * 2 ^ log_size }
+    requires small { log_size < 64 }
+    ensures { (a b : ℕ) → a < 2 ^ log_size → b < 2 ^ log_size
+        → slice_get (S.items m.new.holder) (a * 2 ^ log_size + b) ≡ slice_get (S.items m.old.holder) (b * 2 ^ log_size + a) }
+{
+    transpose_whole_square(m, log_size);
+}
+
+/// Transposes a square in place twice, wherever it lies, which leaves the list as it was. A file names the lemma.
+pub fn transpose_square_twice<S: Places>(
+    m: &mut Swaps<S>,
+    base: usize,
+    log_stride: usize,
+    log_size: usize,
+)
+    requires rows_apart { log_size ≤ log_stride }
+    requires stride_fits { log_stride < 64 }
+    requires room { let s = 2 ^ log_size in
+        base + (s - 1) * 2 ^ log_stride + (s - 1) < length (S.items m.old.holder) }
+    ensures { S.items m.new.holder ≡ S.items m.old.holder }
+{
+    transpose_square_on(m, base, log_stride, log_size);
+    transpose_square_on(m, base, log_stride, log_size);
+}
+
+/// Puts the transposes of two regions in one order and in the other, which comes to the same. A file names the lemma.
+pub fn transpose_in_either_order<T: Copy>(
+    input: &[T],
+    one: &mut [T],
+    other: &mut [T],
+    first: Region,
+    second: Region,
+    width: usize,
+    height: usize,
+)
+    requires input_fits { length input.now ≡ width * height }
+    requires one_fits { length one.old ≡ width * height }
+    requires same { other.old ≡ one.old }
+    requires inside { LiesInMatrix first width height }
+    requires inside_too { LiesInMatrix second width height }
+    ensures { one.new ≡ other.new }
+{
+    transpose_block(input, one, first, width, height);
+    transpose_block(input, one, second, width, height);
+    transpose_block(input, other, second, width, height);
+    transpose_block(input, other, first, width, height);
 }

@@ -154,3 +154,35 @@ pub fn sums_by_place(alloc: Global, xs: &[u16], ys: &[u16]) -> Result<Vec<u32>, 
     let pairs = paired_by_place(alloc, xs, ys)?;
     sums_of_pairs(alloc, &pairs)
 }
+
+/// The second part of each pair.
+///
+/// # Errors
+///
+/// `AllocError` where there is no memory for them.
+pub fn seconds_of(alloc: Global, pairs: &[(u16, u16)]) -> Result<Vec<u16>, AllocError>
+    ensures { IfOk result (λ v. v.items ≡ map (λ p. p.1) pairs.now) }
+{
+    pairs.iter().map(|p| p.1).collect(alloc)
+}
+
+/// The weights again, after they were paired with values.
+///
+/// # Errors
+///
+/// `AllocError` where there is no memory for the pairs or the weights.
+#[tactic(auto, using(p3_util::proofs::Callers::zip_seconds))]
+pub fn weights_of(
+    alloc: Global,
+    values: &[u16],
+    weights: &[u16],
+) -> Result<Option<Vec<u16>>, AllocError>
+    requires { length values.now ≡ length weights.now }
+    ensures { IfOk result (λ r. IfSome r (λ v. v.items ≡ weights.now)) }
+{
+    let Some(pairs) = paired(alloc, values, weights)? else {
+        return Ok(None);
+    };
+    let seconds = seconds_of(alloc, &pairs)?;
+    Ok(Some(seconds))
+}
