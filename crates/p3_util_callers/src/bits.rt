@@ -35,7 +35,8 @@ pub fn log2_or_zero(n: usize) -> usize
 
 /// The logarithm of the length of `items`, where that is a power of two.
 pub fn log2_of_len<T>(items: &[T]) -> Option<usize>
-    ensures { MatchOption result (IsFalse (is_power_of_two (length items.now))) (λ k. length items.now ≡ 2 ^ k) }
+    ensures { MatchOption result (IsFalse (is_power_of_two (length items.now)))
+        (λ k. length items.now ≡ 2 ^ k) }
 {
     if items.len().is_power_of_two() {
         Some(log2_strict_usize(items.len()))
@@ -86,7 +87,8 @@ pub fn reversed_row_and_column(
     requires columns { 1 ≤ log_width }
     requires few { log_height + log_width < 64 }
     requires inside { column < 2 ^ log_width }
-    ensures { rev (log_height + log_width) (row * 2 ^ log_width + column) ≡ result.0 * 2 ^ log_height + result.1 }
+    ensures { rev (log_height + log_width) (row * 2 ^ log_width + column)
+        ≡ result.0 * 2 ^ log_height + result.1 }
 {
     (
         reverse_bits_len(column, log_width),

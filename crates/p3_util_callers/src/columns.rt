@@ -37,7 +37,8 @@ impl<'a, T: Copy> Column<'a, T> {
         requires inside { shape.column < shape.width }
         ensures values { result.values ≡ values.entry }
         ensures shape { result.shape ≡ shape }
-        ensures len { length (column_of shape.width shape.height shape.column result.values.now) ≡ shape.height }
+        ensures len { length (column_of shape.width shape.height shape.column
+            result.values.now) ≡ shape.height }
     {
         Column { values, shape }
     }
@@ -75,7 +76,8 @@ impl<'a, T> ColumnMut<'a, T> {
         requires inside { shape.column < shape.width }
         ensures values { result.values ≡ values.entry }
         ensures shape { result.shape ≡ shape }
-        ensures len { length (column_of shape.width shape.height shape.column result.values.now) ≡ shape.height }
+        ensures len { length (column_of shape.width shape.height shape.column
+            result.values.now) ≡ shape.height }
     {
         ColumnMut { values, shape }
     }
@@ -162,7 +164,8 @@ fn item_in_column<T: Copy>(values: &[T], shape: ColumnShape, i: usize) -> T
     requires fits { length values.now ≡ shape.height * shape.width }
     requires inside { shape.column < shape.width }
     requires row { i < shape.height }
-    ensures { slice_get (column_of shape.width shape.height shape.column values.now) i ≡ Some result }
+    ensures { slice_get (column_of shape.width shape.height shape.column values.now)
+        i ≡ Some result }
 {
     values[i * shape.width + shape.column]
 }
@@ -208,7 +211,8 @@ pub fn transpose_to_column<T: Copy>(
     requires inside { shape.column < shape.width }
     requires input_fits { length input.now ≡ width * height }
     requires output_fits { shape.height ≡ width * height }
-    ensures order { IsTranspose width height input.now (column_of shape.width shape.height shape.column values.new) }
+    ensures order { IsTranspose width height input.now
+        (column_of shape.width shape.height shape.column values.new) }
     ensures outside { IsSameOutside shape.width shape.height shape.column values.old values.new }
     ensures count { result ≡ width * height }
 {
@@ -228,7 +232,8 @@ pub fn transpose_column<C: Cells>(
     requires inside { shape.column < shape.width }
     requires input_fits { shape.height ≡ width * height }
     requires output_fits { length (C.items out.old.holder) ≡ width * height }
-    ensures order { IsTranspose width height (column_of shape.width shape.height shape.column values.now)
+    ensures order { IsTranspose width height (column_of shape.width shape.height
+        shape.column values.now)
         (C.items out.new.holder) }
     ensures count { out.new.count ≡ counted out.old.count (width * height) }
     ensures holder { C.same_holder (width * height) out.old.holder out.new.holder }

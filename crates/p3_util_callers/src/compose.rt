@@ -44,8 +44,10 @@ where
 pub fn reverse_twice_on<S: Places>(m: &mut Swaps<S>)
     requires { IsReversible (length (S.items m.old.holder)) }
     ensures same { S.items m.new.holder ≡ S.items m.old.holder }
-    ensures count { m.new.count ≡ counted m.old.count (2 * reversal_swaps (length (S.items m.old.holder))) }
-    ensures holder { S.same_holder (2 * reversal_swaps (length (S.items m.old.holder))) m.old.holder m.new.holder }
+    ensures count { m.new.count ≡ counted m.old.count
+        (2 * reversal_swaps (length (S.items m.old.holder))) }
+    ensures holder { S.same_holder (2 * reversal_swaps (length (S.items m.old.holder)))
+        m.old.holder m.new.holder }
 {
     reverse_index_bits_on(m);
     reverse_index_bits_on(m);
@@ -84,9 +86,11 @@ pub fn reverse_items_and_rows<S: Places>(places: &mut S, row_width: usize) -> u1
 pub fn reverse_counted_by_exponent<S: Places>(m: &mut Swaps<S>)
     requires { IsReversible (length (S.items m.old.holder)) }
     ensures order { IsReversal (S.items m.old.holder) (S.items m.new.holder) }
-    ensures count { (s : ℕ) × (m.new.count ≡ counted m.old.count s) × (s ≤ 3 * length (S.items m.old.holder) / 2) }
+    ensures count { (s : ℕ) × (m.new.count ≡ counted m.old.count s)
+        × (s ≤ 3 * length (S.items m.old.holder) / 2) }
     ensures exact { (k : ℕ) → length (S.items m.old.holder) ≡ 2 ^ k
-        → m.new.count ≡ counted m.old.count (if nat_le (2 ^ k) 8192 then short_swaps k else long_swaps k) }
+        → m.new.count ≡ counted m.old.count (if nat_le (2 ^ k)
+        8192 then short_swaps k else long_swaps k) }
     ensures empty { length (S.items m.old.holder) ≡ 0 → m.new.count ≡ m.old.count }
 {
     reverse_index_bits_on(m);
@@ -97,8 +101,10 @@ pub fn reverse_by_squares<S: Places>(m: &mut Swaps<S>)
     requires fits { IsReversible (length (S.items m.old.holder)) }
     requires not_short { 4 ≤ length (S.items m.old.holder) }
     ensures order { IsReversal (S.items m.old.holder) (S.items m.new.holder) }
-    ensures count { m.new.count ≡ counted m.old.count (long_swaps (clog (length (S.items m.old.holder)))) }
-    ensures holder { S.same_holder (long_swaps (clog (length (S.items m.old.holder)))) m.old.holder m.new.holder }
+    ensures count { m.new.count ≡ counted m.old.count
+        (long_swaps (clog (length (S.items m.old.holder)))) }
+    ensures holder { S.same_holder (long_swaps (clog (length (S.items m.old.holder))))
+        m.old.holder m.new.holder }
 {
     let bits = log2_strict_usize(m.len());
     let half = bits / 2;

@@ -81,7 +81,8 @@ fn put_four<C: Cells>(cells: &mut C, to: usize, items: [C::Item; 4])
     requires room { to + 4 ≤ length (C.items cells.old) }
     ensures same_length { length (C.items cells.new) ≡ length (C.items cells.old) }
     ensures places { (t : ℕ) → t < 4 → slice_get (C.items cells.new) (to + t) ≡ slice_get items t }
-    ensures others { (p : ℕ) → (p < to) ⊎ (to + 4 ≤ p) → slice_get (C.items cells.new) p ≡ slice_get (C.items cells.old) p }
+    ensures others { (p : ℕ) → (p < to) ⊎ (to + 4 ≤ p)
+        → slice_get (C.items cells.new) p ≡ slice_get (C.items cells.old) p }
     ensures holder { C.same_holder 4 cells.old cells.new }
 {
     // Called so that the proof knows that the length fits a usize.
@@ -109,7 +110,8 @@ where
     requires rows { rows_of block ≡ 4 }
     requires cols { cols_of block ≡ 4 }
     requires small { 16 * size (layout C.Item.row) < 2 ^ 63 }
-    ensures transposed { IsRegionTransposed block width height (R.items input.now) (C.items cells.old) (C.items cells.new) }
+    ensures transposed { IsRegionTransposed block width height (R.items input.now)
+        (C.items cells.old) (C.items cells.new) }
     ensures holder { C.same_holder 16 cells.old cells.new }
 {
     // Called so that the proof knows that the length fits a usize.
@@ -133,7 +135,8 @@ where
     requires rows { rows_of blocks ≡ 4 }
     requires cols { cols_of blocks ≡ 16 }
     requires small { 16 * size (layout C.Item.row) < 2 ^ 63 }
-    ensures transposed { IsRegionTransposed blocks width height (R.items input.now) (C.items cells.old) (C.items cells.new) }
+    ensures transposed { IsRegionTransposed blocks width height (R.items input.now)
+        (C.items cells.old) (C.items cells.new) }
     ensures holder { C.same_holder 64 cells.old cells.new }
 {
     for k in 0..4 {
@@ -158,7 +161,8 @@ where
     requires rows { rows_of tile ≡ 16 }
     requires cols { cols_of tile ≡ 16 }
     requires small { 16 * size (layout C.Item.row) < 2 ^ 63 }
-    ensures transposed { IsRegionTransposed tile width height (R.items input.now) (C.items cells.old) (C.items cells.new) }
+    ensures transposed { IsRegionTransposed tile width height (R.items input.now)
+        (C.items cells.old) (C.items cells.new) }
     ensures holder { C.same_holder 256 cells.old cells.new }
 {
     for k in 0..4 {
@@ -189,7 +193,8 @@ where
     requires rows { rows_of tile ≡ 16 }
     requires cols { cols_of tile ≡ 16 }
     requires small { 16 * size (layout C.Item.row) < 2 ^ 63 }
-    ensures transposed { IsRegionTransposed tile width height (R.items input.now) (C.items out.old.holder) (C.items out.new.holder) }
+    ensures transposed { IsRegionTransposed tile width height (R.items input.now)
+        (C.items out.old.holder) (C.items out.new.holder) }
     ensures count { out.new.count ≡ counted out.old.count 256 }
     ensures holder { C.same_holder 256 out.old.holder out.new.holder }
 {
@@ -206,7 +211,8 @@ where
     requires output_fits { length (C.items cells.old) ≡ width * height }
     requires inside { LiesInMatrix part width height }
     requires small { 16 * size (layout C.Item.row) < 2 ^ 63 }
-    ensures transposed { IsRegionTransposed part width height (R.items input.now) (C.items cells.old) (C.items cells.new) }
+    ensures transposed { IsRegionTransposed part width height (R.items input.now)
+        (C.items cells.old) (C.items cells.new) }
     ensures holder { C.same_holder (items_of part) cells.old cells.new }
 {
     let (rows, cols) = (part.row_end - part.row_start, part.col_end - part.col_start);
@@ -226,7 +232,8 @@ where
     requires output_fits { length (C.items cells.old) ≡ width * height }
     requires inside { LiesInMatrix rows width height }
     requires small { 16 * size (layout C.Item.row) < 2 ^ 63 }
-    ensures transposed { IsRegionTransposed rows width height (R.items input.now) (C.items cells.old) (C.items cells.new) }
+    ensures transposed { IsRegionTransposed rows width height (R.items input.now)
+        (C.items cells.old) (C.items cells.new) }
     ensures holder { C.same_holder (items_of rows) cells.old cells.new }
 {
     let mut col = rows.col_start;
@@ -257,7 +264,8 @@ where
     requires output_fits { length (C.items cells.old) ≡ width * height }
     requires inside { LiesInMatrix region width height }
     requires small { 16 * size (layout C.Item.row) < 2 ^ 63 }
-    ensures transposed { IsRegionTransposed region width height (R.items input.now) (C.items cells.old) (C.items cells.new) }
+    ensures transposed { IsRegionTransposed region width height (R.items input.now)
+        (C.items cells.old) (C.items cells.new) }
     ensures holder { C.same_holder (items_of region) cells.old cells.new }
 {
     let mut row = region.row_start;
@@ -333,7 +341,8 @@ fn exchange_row_across<S: Places>(
     requires row { row < half }
     requires within { 2 * half ≤ stride }
     requires ready { HoldsSquare base stride (2 * half - 1) (S.items places.old) }
-    ensures swapped { SwapsAcross base stride (record { row_start = row; row_end = row + 1; col_start = half; col_end = 2 * half })
+    ensures swapped { SwapsAcross base stride
+        (record { row_start = row; row_end = row + 1; col_start = half; col_end = 2 * half })
         (S.items places.old) (S.items places.new) }
     ensures holder { S.same_holder half places.old places.new }
 {
@@ -346,7 +355,8 @@ fn exchange_row_across<S: Places>(
 fn exchange_quadrants<S: Places>(places: &mut S, base: usize, stride: usize, half: usize)
     requires within { 2 * half ≤ stride }
     requires ready { HoldsSquare base stride (2 * half - 1) (S.items places.old) }
-    ensures swapped { SwapsAcross base stride (record { row_start = 0; row_end = half; col_start = half; col_end = 2 * half })
+    ensures swapped { SwapsAcross base stride
+        (record { row_start = 0; row_end = half; col_start = half; col_end = 2 * half })
         (S.items places.old) (S.items places.new) }
     ensures holder { S.same_holder (half * half) places.old places.new }
 {
@@ -375,9 +385,11 @@ pub fn transpose_by_quadrants<S: Places>(
     requires stride_fits { log_stride < 64 }
     requires room { let s = 2 ^ log_size in
         base + (s - 1) * 2 ^ log_stride + (s - 1) < length (S.items m.old.holder) }
-    ensures transposed { IsSquareTransposed base log_stride log_size (S.items m.old.holder) (S.items m.new.holder) }
+    ensures transposed { IsSquareTransposed base log_stride log_size (S.items m.old.holder)
+        (S.items m.new.holder) }
     ensures count { let s = 2 ^ log_size in m.new.count ≡ counted m.old.count (s * (s - 1) / 2) }
-    ensures holder { let s = 2 ^ log_size in S.same_holder (s * (s - 1) / 2) m.old.holder m.new.holder }
+    ensures holder { let s = 2 ^ log_size in S.same_holder (s * (s - 1) / 2)
+        m.old.holder m.new.holder }
 {
     // Called so that the proof knows that the length fits a usize.
     let _ = m.len();

@@ -124,7 +124,8 @@ pub fn sum_of_products(xs: &[u32], ys: &[u32]) -> u64
 pub fn reorder_both(xs: &mut [u32], ys: &mut [u32])
     requires power { IsReversible (length xs.old) }
     requires same { length ys.old ≡ length xs.old }
-    ensures { sum (map (λ p. p.0 * p.1) (zip xs.new ys.new)) ≡ sum (map (λ p. p.0 * p.1) (zip xs.old ys.old)) }
+    ensures { sum (map (λ p. p.0 * p.1) (zip xs.new ys.new))
+        ≡ sum (map (λ p. p.0 * p.1) (zip xs.old ys.old)) }
 {
     reverse_slice_index_bits(xs);
     reverse_slice_index_bits(ys);

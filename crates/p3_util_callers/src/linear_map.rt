@@ -72,7 +72,8 @@ pub fn define(
     offset: u64,
 ) -> Result<Option<u64>, NoRoom<(u32, u64)>>
     ensures found { OnOk result (value_at nat_eq table.new symbol ≡ Some offset) }
-    ensures others { (other : ℕ) → other ≢ symbol → value_at nat_eq table.new other ≡ value_at nat_eq table.old other }
+    ensures others { (other : ℕ) → other ≢ symbol
+        → value_at nat_eq table.new other ≡ value_at nat_eq table.old other }
 {
     table.insert(symbol, offset)
 }
@@ -101,7 +102,8 @@ pub fn insert_value<K: Eq + Copy + Drop, V: Copy>(
     ensures new { OnOk result (value_at K.eq map.old key ≡ None
         → values_of map.new ≡ values_of map.old ++ value ∷ []) }
     ensures known { OnOk result ((before : V) → value_at K.eq map.old key ≡ Some before
-        → values_of map.new ≡ slice_set (values_of map.old) (position_or_len (K.eq key) (keys_of map.old)) value) }
+        → values_of map.new ≡ slice_set (values_of map.old)
+        (position_or_len (K.eq key) (keys_of map.old)) value) }
 {
     map.insert(key, value)
 }

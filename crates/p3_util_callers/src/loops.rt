@@ -26,8 +26,10 @@ fn butterfly(vals: &mut [u64], i: usize, m: u64)
     requires inside { 2 * i + 1 < length vals.old }
     requires reduced { All (λ x. x < m) vals.old }
     requires small { m < 2 ^ 63 }
-    ensures sum { slice_index vals.new (2 * i) ≡ (slice_index vals.old (2 * i) + slice_index vals.old (2 * i + 1)) % m }
-    ensures difference { slice_index vals.new (2 * i + 1) ≡ (slice_index vals.old (2 * i) + m - slice_index vals.old (2 * i + 1)) % m }
+    ensures sum { slice_index vals.new (2 * i)
+        ≡ (slice_index vals.old (2 * i) + slice_index vals.old (2 * i + 1)) % m }
+    ensures difference { slice_index vals.new (2 * i + 1)
+        ≡ (slice_index vals.old (2 * i) + m - slice_index vals.old (2 * i + 1)) % m }
     ensures before { (p : ℕ) → p < 2 * i → slice_index vals.new p ≡ slice_index vals.old p }
     ensures after { (p : ℕ) → 2 * i + 2 ≤ p → slice_index vals.new p ≡ slice_index vals.old p }
     ensures reduced { All (λ x. x < m) vals.new }
@@ -43,9 +45,11 @@ pub fn butterflies(vals: &mut [u64], m: u64)
     requires reduced { All (λ x. x < m) vals.old }
     requires small { m < 2 ^ 63 }
     ensures sums { (k : ℕ) → k < length vals.old / 2
-        → slice_index vals.new (2 * k) ≡ (slice_index vals.old (2 * k) + slice_index vals.old (2 * k + 1)) % m }
+        → slice_index vals.new (2 * k) ≡ (slice_index vals.old (2 * k) + slice_index vals.old
+        (2 * k + 1)) % m }
     ensures differences { (k : ℕ) → k < length vals.old / 2
-        → slice_index vals.new (2 * k + 1) ≡ (slice_index vals.old (2 * k) + m - slice_index vals.old (2 * k + 1)) % m }
+        → slice_index vals.new (2 * k + 1) ≡ (slice_index vals.old (2 * k)
+        + m - slice_index vals.old (2 * k + 1)) % m }
     ensures reduced { All (λ x. x < m) vals.new }
 {
     for i in 0..vals.len() / 2 {
@@ -67,7 +71,8 @@ pub fn reverse_and_first_stage(vals: &mut [u64], m: u64)
 
 /// The state after it took in each lane, in order, as a loop. What is left is folded as all of it is.
 pub fn absorbed(lanes: &[[u32; 2]]) -> u64
-    ensures { result ≡ fold (λ s lane. (s + slice_index lane 0 * slice_index lane 1) % 2 ^ 64) 0 lanes.now }
+    ensures { result ≡ fold (λ s lane. (s + slice_index lane 0 * slice_index lane 1)
+        % 2 ^ 64) 0 lanes.now }
 {
     let mut state = 0u64;
     for lane in lanes {

@@ -33,7 +33,8 @@ impl<'a, K, V> Places for PairsMut<'a, K, V> {
 
     ghost items = { λ s. zip s.keys.now s.values.now };
 
-    ghost same_holder = { λ n a b. (a.keys.ghost_name ≡ b.keys.ghost_name) × (a.values.ghost_name ≡ b.values.ghost_name) };
+    ghost same_holder = { λ n a b. (a.keys.ghost_name ≡ b.keys.ghost_name)
+        × (a.values.ghost_name ≡ b.values.ghost_name) };
 
     fn len(&self) -> usize {
         self.keys.len()
@@ -65,7 +66,8 @@ fn exchange_pairs<K, V>(keys: &mut [K], values: &mut [V], i: usize, j: usize)
 /// Reverses two lists together by index bits. Another function makes the holder of both.
 pub fn reverse_pairs<K, V>(pairs: &mut PairsMut<K, V>)
     requires { IsReversible (length (zip pairs.old.keys.now pairs.old.values.now)) }
-    ensures { IsReversal (zip pairs.old.keys.now pairs.old.values.now) (zip pairs.new.keys.now pairs.new.values.now) }
+    ensures { IsReversal (zip pairs.old.keys.now pairs.old.values.now)
+        (zip pairs.new.keys.now pairs.new.values.now) }
 {
     reverse_counted(pairs);
 }

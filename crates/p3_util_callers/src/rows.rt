@@ -21,7 +21,8 @@ pub fn reverse_each_row<T>(values: &mut [T], width: usize, height: usize)
 /// Reverses each array.
 pub fn reverse_each_array<T, const N: usize>(rows: &mut [[T; N]])
     requires { IsReversible N }
-    ensures { EachIndex rows.new (λ r. IsReversal (slice_index_or rows.old r []) (slice_index_or rows.new r [])) }
+    ensures { EachIndex rows.new (λ r. IsReversal (slice_index_or rows.old r [])
+        (slice_index_or rows.new r [])) }
 {
     for row in rows.iter_mut() {
         reverse_slice_index_bits(row);
@@ -31,7 +32,8 @@ pub fn reverse_each_array<T, const N: usize>(rows: &mut [[T; N]])
 /// The same of a vector, by way of its slice.
 pub fn reverse_each_in_vec<T, const N: usize>(rows: &mut Vec<[T; N]>)
     requires { IsReversible N }
-    ensures { EachIndex rows.new.items (λ r. IsReversal (slice_index_or rows.old.items r []) (slice_index_or rows.new.items r [])) }
+    ensures { EachIndex rows.new.items (λ r. IsReversal (slice_index_or rows.old.items r [])
+        (slice_index_or rows.new.items r [])) }
 {
     reverse_each_array(rows.as_mut_slice());
 }

@@ -18,7 +18,8 @@ use std::alloc::{AllocError, Global};
 #[tactic(auto, using(p3_util::proofs::Callers::reversed_place))]
 pub fn reorder_evaluations<T>(evals: &mut [T])
     requires { IsReversible (length evals.old) }
-    ensures { (k i : ℕ) → length evals.old ≡ 2 ^ k → i < 2 ^ k → slice_get evals.new i ≡ slice_get evals.old (rev k i) }
+    ensures { (k i : ℕ) → length evals.old ≡ 2 ^ k → i < 2 ^ k
+        → slice_get evals.new i ≡ slice_get evals.old (rev k i) }
 {
     reverse_slice_index_bits(evals);
 }
@@ -63,7 +64,8 @@ pub fn number_after(evals: &mut [u64], k: usize, i: usize) -> u64
 pub fn item_of_reordered<T: Copy>(table: &[T], k: usize, i: usize) -> T
     requires len { length table.now ≡ 2 ^ k }
     requires inside { i < 2 ^ k }
-    ensures { (evals : List T) → IsReversal evals table.now → slice_get evals (rev k i) ≡ Some result }
+    ensures { (evals : List T) → IsReversal evals table.now
+        → slice_get evals (rev k i) ≡ Some result }
 {
     table[i]
 }
@@ -73,7 +75,8 @@ pub fn item_of_reordered<T: Copy>(table: &[T], k: usize, i: usize) -> T
 pub fn item_before_reorder<T: Copy>(table: &[T], i: usize) -> T
     requires power { IsPowerOfTwo (length table.now) }
     requires inside { i < length table.now }
-    ensures { (k : ℕ) (evals : List T) → 1 ≤ k → length table.now ≡ 2 ^ k → IsReversal evals table.now
+    ensures { (k : ℕ) (evals : List T) → 1 ≤ k → length table.now ≡ 2 ^ k
+        → IsReversal evals table.now
         → slice_get evals i ≡ Some result }
 {
     table[reverse_bits(i, table.len())]
@@ -104,7 +107,8 @@ pub fn reordered_copy(alloc: Global, evals: &[u32], k: usize) -> Result<Vec<u32>
     requires some { 1 ≤ k }
     requires few { k < 64 }
     requires len { length evals.now ≡ 2 ^ k }
-    ensures { IfOk result (λ copy. copy.items ≡ map (λ i. slice_index evals.now (rev k i)) (range_with_len 0 (2 ^ k))) }
+    ensures { IfOk result (λ copy. copy.items
+        ≡ map (λ i. slice_index evals.now (rev k i)) (range_with_len 0 (2 ^ k))) }
 {
     (0..evals.len())
         .map(|i| evals[reverse_bits_len(i, k)])
@@ -132,7 +136,8 @@ pub fn reordered_into<T: Copy>(table: &[T], out: &mut [T], k: usize)
 /// `AllocError` where there is no memory for them.
 pub fn doubled_by_place(alloc: Global, items: &[u32]) -> Result<Vec<u64>, AllocError>
     ensures len { IfOk result (λ twice. length twice.items ≡ length items.now) }
-    ensures places { IfOk result (λ twice. (i : ℕ) → i < length items.now → slice_index twice.items i ≡ 2 * slice_index items.now i) }
+    ensures places { IfOk result (λ twice. (i : ℕ) → i < length items.now
+        → slice_index twice.items i ≡ 2 * slice_index items.now i) }
 {
     items.iter().map(|x| 2 * u64::from(*x)).collect(alloc)
 }
@@ -146,7 +151,8 @@ pub fn doubled_by_place(alloc: Global, items: &[u32]) -> Result<Vec<u64>, AllocE
 pub fn doubled_after(alloc: Global, items: &mut [u32], k: usize) -> Result<Vec<u64>, AllocError>
     requires { length items.old ≡ 2 ^ k }
     ensures len { IfOk result (λ twice. length twice.items ≡ 2 ^ k) }
-    ensures places { IfOk result (λ twice. (i : ℕ) → i < 2 ^ k → slice_index twice.items i ≡ 2 * slice_index items.old (rev k i)) }
+    ensures places { IfOk result (λ twice. (i : ℕ) → i < 2 ^ k
+        → slice_index twice.items i ≡ 2 * slice_index items.old (rev k i)) }
 {
     reverse_slice_index_bits(items);
     doubled_by_place(alloc, items)
@@ -174,7 +180,8 @@ pub fn doubled_then_reordered(
     k: usize,
 ) -> Result<Vec<u64>, AllocError>
     requires { length items.now ≡ 2 ^ k }
-    ensures { IfOk result (λ twice. (i : ℕ) → i < 2 ^ k → slice_index twice.items i ≡ 2 * slice_index items.now (rev k i)) }
+    ensures { IfOk result (λ twice. (i : ℕ) → i < 2 ^ k
+        → slice_index twice.items i ≡ 2 * slice_index items.now (rev k i)) }
 {
     let mut twice = doubled_by_place(alloc, items)?;
     reorder_numbers(&mut twice, k);
@@ -189,7 +196,8 @@ pub fn reverse_columns<T: Copy>(matrix: &mut [T], scratch: &mut [T], width: usiz
     requires scratch_fits { length scratch.old ≡ width * height }
     requires power { IsZeroOrPowerOfTwo width }
     ensures { (k row column : ℕ) → width ≡ 2 ^ k → row < height → column < width
-        → slice_get matrix.new (row * width + column) ≡ slice_get matrix.old (row * width + rev k column) }
+        → slice_get matrix.new (row * width + column)
+        ≡ slice_get matrix.old (row * width + rev k column) }
 {
     transpose(matrix, scratch, width, height);
     reverse_slice_row_index_bits(scratch, height);
@@ -217,7 +225,8 @@ pub fn sum_of_pair(values: &mut [u32], k: usize, i: usize) -> u64
 pub fn sums_of_neighbours(alloc: Global, evals: &[u32]) -> Result<Vec<u64>, AllocError>
     ensures len { IfOk result (λ sums. length sums.items ≡ length evals.now / 2) }
     ensures sums { IfOk result (λ sums. (i : ℕ) → i < length evals.now / 2
-        → slice_index sums.items i ≡ slice_index evals.now (2 * i) + slice_index evals.now (2 * i + 1)) }
+        → slice_index sums.items i ≡ slice_index evals.now (2 * i)
+        + slice_index evals.now (2 * i + 1)) }
 {
     (0..evals.len() / 2)
         .map(|i| u64::from(evals[2 * i]) + u64::from(evals[2 * i + 1]))
@@ -234,7 +243,8 @@ pub fn fold_after(alloc: Global, evals: &mut [u32], k: usize) -> Result<Vec<u64>
     requires { length evals.old ≡ 2 ^ (k + 1) }
     ensures len { IfOk result (λ sums. length sums.items ≡ 2 ^ k) }
     ensures sums { IfOk result (λ sums. (i : ℕ) → i < 2 ^ k
-        → slice_index sums.items i ≡ slice_index evals.old (rev k i) + slice_index evals.old (rev k i + 2 ^ k)) }
+        → slice_index sums.items i ≡ slice_index evals.old (rev k i) + slice_index evals.old
+        (rev k i + 2 ^ k)) }
 {
     reverse_slice_index_bits(evals);
     sums_of_neighbours(alloc, evals)
@@ -267,8 +277,10 @@ pub fn weighted_sum(evals: &[u32], weights: &[u16], k: usize) -> u64
     requires few { k < 64 }
     requires len { length evals.now ≡ 2 ^ k }
     requires weights { length weights.now ≡ 2 ^ k }
-    requires fits { sum (map (λ i. slice_index evals.now i * slice_index weights.now (rev k i)) (range_with_len 0 (2 ^ k))) < 2 ^ 64 }
-    ensures { result ≡ sum (map (λ i. slice_index evals.now i * slice_index weights.now (rev k i)) (range_with_len 0 (2 ^ k))) }
+    requires fits { sum (map (λ i. slice_index evals.now i * slice_index weights.now (rev k i))
+        (range_with_len 0 (2 ^ k))) < 2 ^ 64 }
+    ensures { result ≡ sum (map (λ i. slice_index evals.now i * slice_index weights.now (rev k i))
+        (range_with_len 0 (2 ^ k))) }
 {
     (0..evals.len())
         .map(|i| u64::from(evals[i]) * u64::from(weights[reverse_bits_len(i, k)]))

@@ -29,7 +29,8 @@ pub fn transpose_by_way_of<T: Copy>(
 ) -> bool
     ensures done { IsTrue result → IsTranspose width height matrix.old matrix.new }
     ensures left { IsFalse result → matrix.new ≡ matrix.old }
-    ensures fits { IsTrue result ↔ ((length matrix.old ≡ width * height) × (length scratch.old ≡ width * height)) }
+    ensures fits { IsTrue result ↔ ((length matrix.old ≡ width * height)
+        × (length scratch.old ≡ width * height)) }
 {
     if !fits_matrix(matrix.len(), scratch.len(), width, height) {
         return false;
@@ -79,7 +80,8 @@ pub fn transpose_by_vector_and_back<T: Copy + Default>(
 pub fn transpose_back<T: Copy>(transposed: &[T], output: &mut [T], width: usize, height: usize)
     requires transposed_fits { length transposed.now ≡ width * height }
     requires output_fits { length output.old ≡ width * height }
-    ensures { (matrix : List T) → length matrix ≡ width * height → IsTranspose height width matrix transposed.now
+    ensures { (matrix : List T) → length matrix ≡ width * height
+        → IsTranspose height width matrix transposed.now
         → output.new ≡ matrix }
 {
     transpose(transposed, output, width, height);
@@ -125,7 +127,8 @@ pub fn transpose_into_holders<C: Cells>(
 pub fn transpose_whole_square<S: Places>(m: &mut Swaps<S>, log_size: usize)
     requires fits { length (S.items m.old.holder) ≡ 2 ^ log_size * 2 ^ log_size }
     requires small { log_size < 64 }
-    ensures order { IsTranspose (2 ^ log_size) (2 ^ log_size) (S.items m.old.holder) (S.items m.new.holder) }
+    ensures order { IsTranspose (2 ^ log_size) (2 ^ log_size) (S.items m.old.holder)
+        (S.items m.new.holder) }
     ensures count { m.new.count ≡ counted m.old.count (square_swaps (2 ^ log_size)) }
     ensures holder { S.same_holder (square_swaps (2 ^ log_size)) m.old.holder m.new.holder }
 {
@@ -141,7 +144,8 @@ pub fn transpose_square_where_it_fits<S: Places>(
     log_size: usize,
 ) -> bool
     ensures done { IsTrue result
-        → IsSquareTransposed base log_stride log_size (S.items m.old.holder) (S.items m.new.holder) }
+        → IsSquareTransposed base log_stride log_size (S.items m.old.holder)
+        (S.items m.new.holder) }
     ensures left { IsFalse result → m.new ≡ m.old }
 {
     let fits = fits_square(m.len(), base, log_stride, log_size);
@@ -161,7 +165,8 @@ pub fn transpose_part_where_it_fits<C: Cells>(
     height: usize,
 ) -> bool
     ensures done { IsTrue result
-        → IsRegionTransposed part width height input.now (C.items out.old.holder) (C.items out.new.holder) }
+        → IsRegionTransposed part width height input.now (C.items out.old.holder)
+        (C.items out.new.holder) }
     ensures left { IsFalse result → out.new ≡ out.old }
 {
     if !fits_matrix(input.len(), out.len(), width, height) || !part.fits(width, height) {
@@ -232,8 +237,10 @@ pub fn transpose_four_and_back<T: Copy>(matrix: &mut [T; 16], scratch: &mut [T; 
 pub fn transpose_with_first<T: Copy>(input: &[T], output: &mut [T], width: usize, height: usize)
     requires input_fits { length input.now ≡ width * height }
     requires output_fits { length output.old ≡ width * height }
-    ensures rows { (x : ℕ) → x < width → 0 < height → slice_get output.new (x * height) ≡ slice_get input.now x }
-    ensures row { (y : ℕ) → y < height → 0 < width → slice_get output.new y ≡ slice_get input.now (y * width) }
+    ensures rows { (x : ℕ) → x < width → 0 < height
+        → slice_get output.new (x * height) ≡ slice_get input.now x }
+    ensures row { (y : ℕ) → y < height → 0 < width
+        → slice_get output.new y ≡ slice_get input.now (y * width) }
 {
     transpose(input, output, width, height);
 }
@@ -280,7 +287,8 @@ pub fn reverse_by_sides<T: Copy>(values: &mut [T], scratch: &mut [T], width: usi
 pub fn transpose_pairs_with_first<T: Copy>(input: &[T], output: &mut [T], height: usize)
     requires input_fits { length input.now ≡ 2 * height }
     requires output_fits { length output.old ≡ 2 * height }
-    ensures { (x : ℕ) → x < 2 → 0 < height → slice_get output.new (x * height) ≡ slice_get input.now x }
+    ensures { (x : ℕ) → x < 2 → 0 < height → slice_get output.new (x * height)
+        ≡ slice_get input.now x }
 {
     transpose(input, output, 2, height);
 }
@@ -340,7 +348,8 @@ pub fn transpose_whole_square_by_place<S: Places>(m: &mut Swaps<S>, log_size: us
     requires fits { length (S.items m.old.holder) ≡ 2 ^ log_size * 2 ^ log_size }
     requires small { log_size < 64 }
     ensures { (a b : ℕ) → a < 2 ^ log_size → b < 2 ^ log_size
-        → slice_get (S.items m.new.holder) (a * 2 ^ log_size + b) ≡ slice_get (S.items m.old.holder) (b * 2 ^ log_size + a) }
+        → slice_get (S.items m.new.holder) (a * 2 ^ log_size + b)
+        ≡ slice_get (S.items m.old.holder) (b * 2 ^ log_size + a) }
 {
     transpose_whole_square(m, log_size);
 }

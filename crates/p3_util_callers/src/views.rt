@@ -46,7 +46,8 @@ pub fn reverse_items_where_they_fit<T, const N: usize>(rows: &mut [[T; N]]) -> b
 /// Reverses the items where their number is a power of two, by std's test, and else leaves them.
 pub fn reverse_power_of_two<T, const N: usize>(rows: &mut [[T; N]])
     requires { length rows.old * N < 2 ^ 64 }
-    ensures done { IsTrue (is_power_of_two (length rows.old * N)) → IsReversal (flat rows.old) (flat rows.new) }
+    ensures done { IsTrue (is_power_of_two (length rows.old * N))
+        → IsReversal (flat rows.old) (flat rows.new) }
     ensures left { IsFalse (is_power_of_two (length rows.old * N)) → flat rows.new ≡ flat rows.old }
 {
     let mut view = as_base_slice_mut(rows);
