@@ -19,9 +19,10 @@ pub fn absorb_blocks<H: FnMut(&[u8]) + Drop>(bytes: &[u8], absorb: H)
     apply_to_chunks::<64, _, H>(bytes.iter().copied(), absorb);
 }
 
-/// Adds up `bytes` by way of `add`, to which it hands them in blocks of 64: where each call raises what `total` reads by the
-/// sum of its block, all calls raise it by the sum of all bytes. The closure goes by value, so that the caller has its last
-/// state no more: [`mixed_lanes`] keeps a state.
+/// Adds up `bytes` by way of `add`, to which it hands them in blocks of 64: where each call raises
+/// what `total` reads by the sum of its block, all calls raise it by the sum of all bytes. The
+/// closure goes by value, so that the caller has its last state no more: [`mixed_lanes`] keeps a
+/// state.
 pub fn add_blocks<H: FnMut(&[u8]) + Drop>(bytes: &[u8], add: H)
     requires { H.IsAlwaysCallable add }
     ensures { (total : H → ℕ)
@@ -165,8 +166,8 @@ pub fn digests_of_rows(alloc: Global, bytes: &[u8], width: usize) -> Result<Vec<
         .collect(alloc)
 }
 
-/// What hashes rows. A clause cannot say what a closure over `&[T]` returns for a list, since its argument is a borrow. A trait
-/// says it by a ghost function.
+/// What hashes rows. A clause cannot say what a closure over `&[T]` returns for a list, since its
+/// argument is a borrow. A trait says it by a ghost function.
 pub trait HashRow {
     type Item;
 

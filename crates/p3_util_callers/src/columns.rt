@@ -1,5 +1,6 @@
-//! A column of a matrix, as a list to read and as a holder, and callers that reverse it, transpose from it and into it. What lies
-//! outside of the column stays. The file needs `p3_util` alone, so it can be copied as it stands.
+//! A column of a matrix, as a list to read and as a holder, and callers that reverse it, transpose
+//! from it and into it. What lies outside of the column stays. The file needs `p3_util` alone, so
+//! it can be copied as it stands.
 
 ghost use Rattle.std.specs.Prelude.{◌≡◌, ◌*◌, ◌<◌, Some, length, slice_get, slice_set, swap};
 ghost use Rattle.std.proofs.Common.{rules};
@@ -59,7 +60,8 @@ impl<'a, T: Copy> Source for Column<'a, T> {
     }
 }
 
-/// A column of a matrix, to be reordered or written. `same_holder` says that every item outside of it stays.
+/// A column of a matrix, to be reordered or written. `same_holder` says that every item outside of
+/// it stays.
 #[derive(Drop)]
 pub struct ColumnMut<'a, T> {
     values: &'a mut [T],
@@ -183,7 +185,8 @@ pub fn reverse_column<T>(values: &mut [T], shape: ColumnShape)
     reverse_counted(&mut column);
 }
 
-/// Reverses every n-th item of `values` by index bits, from the first on, `count` items in all. They are a column of rows of n.
+/// Reverses every n-th item of `values` by index bits, from the first on, `count` items in all.
+/// They are a column of rows of n.
 pub fn reverse_every_nth<T>(values: &mut [T], n: usize, count: usize)
     requires some { 0 < n }
     requires fits { length values.old ≡ count * n }
@@ -199,7 +202,8 @@ pub fn reverse_every_nth<T>(values: &mut [T], n: usize, count: usize)
     reverse_column(values, shape);
 }
 
-/// Puts the transpose of `input` into a column of the matrix `values`, and returns the number of writes.
+/// Puts the transpose of `input` into a column of the matrix `values`, and returns the number of
+/// writes.
 pub fn transpose_to_column<T: Copy>(
     input: &[T],
     values: &mut [T],
@@ -220,7 +224,8 @@ pub fn transpose_to_column<T: Copy>(
     transpose_counted(input, &mut column, width, height)
 }
 
-/// Puts the transpose of a column of the matrix `values` into `out`, where the column is `height` rows of `width` items.
+/// Puts the transpose of a column of the matrix `values` into `out`, where the column is `height`
+/// rows of `width` items.
 pub fn transpose_column<C: Cells>(
     values: &[C::Item],
     shape: ColumnShape,

@@ -61,8 +61,8 @@ pub fn items_of_reversed<T: Default + Drop, const N: usize>(
     Ok(items)
 }
 
-/// The numbers after they were made elements of an extension field, each of four numbers, and these were reversed by index
-/// bits.
+/// The numbers after they were made elements of an extension field, each of four numbers, and these
+/// were reversed by index bits.
 ///
 /// # Errors
 ///

@@ -1,11 +1,13 @@
-//! A demonstration, not to be copied: it shows that public contracts are enough to put a transpose together from small parts. To
-//! transpose, call `transpose_source_on` or `transpose_source_region_on`, which are faster. A caller takes three things from here:
-//! an invariant that grows a region row by row (`transpose_tile`), numbers of steps that are added by `same_holder_trans`, and
-//! small functions, each with one clause that the next one needs.
+//! A demonstration, not to be copied: it shows that public contracts are enough to put a transpose
+//! together from small parts. To transpose, call `transpose_source_on` or
+//! `transpose_source_region_on`, which are faster. A caller takes three things from here: an
+//! invariant that grows a region row by row (`transpose_tile`), numbers of steps that are added by
+//! `same_holder_trans`, and small functions, each with one clause that the next one needs.
 //!
-//! The parts are a block of 4 by 4 items, a tile of 16 by 16 from its blocks, a region from its tiles and the rest at its edges,
-//! and a matrix from its regions. The last caller is a square in place, from its quadrants. Each is over every source and every
-//! holder, and says its number of steps by `same_holder`. A counter is a holder too, so over one its count needs no other proof:
+//! The parts are a block of 4 by 4 items, a tile of 16 by 16 from its blocks, a region from its
+//! tiles and the rest at its edges, and a matrix from its regions. The last caller is a square in
+//! place, from its quadrants. Each is over every source and every holder, and says its number of
+//! steps by `same_holder`. A counter is a holder too, so over one its count needs no other proof:
 //! `transpose_tile_on` is the tile in 256 writes.
 
 ghost use Rattle.std.specs.Prelude.{◌≡◌, ℕ, ◌+◌, ◌-◌, ◌*◌, ◌/◌, ◌^◌, ◌<◌, ◌≤◌, ◌⊎◌, length, slice_get};
@@ -92,8 +94,8 @@ fn put_four<C: Cells>(cells: &mut C, to: usize, items: [C::Item; 4])
     }
 }
 
-/// Puts the transpose of a block of 4 by 4 items by way of an array and `butterfly_4x4`, in 16 puts. An array of 16 items has
-/// a condition on their size, `small`.
+/// Puts the transpose of a block of 4 by 4 items by way of an array and `butterfly_4x4`, in 16
+/// puts. An array of 16 items has a condition on their size, `small`.
 pub fn transpose_by_butterfly<R, C>(
     input: &R,
     cells: &mut C,
@@ -201,8 +203,8 @@ where
     transpose_tile(input, out, tile, width, height);
 }
 
-/// Puts the transpose of a part of a region: a tile of 16 by 16 items, or what is left at the right, at the bottom or in the
-/// corner.
+/// Puts the transpose of a part of a region: a tile of 16 by 16 items, or what is left at the
+/// right, at the bottom or in the corner.
 fn transpose_tile_or_rest<R, C>(input: &R, cells: &mut C, part: Region, width: usize, height: usize)
 where
     C: Cells,
@@ -249,7 +251,8 @@ where
     }
 }
 
-/// Puts the transpose of a region as its tiles of 16 by 16 items and what is left at its edges, in one put an item.
+/// Puts the transpose of a region as its tiles of 16 by 16 items and what is left at its edges, in
+/// one put an item.
 pub fn transpose_by_tiles<R, C>(
     input: &R,
     cells: &mut C,
@@ -281,8 +284,8 @@ where
     }
 }
 
-/// Puts the transpose of a matrix as regions of at most 128 rows, each by its tiles, with the contract of `transpose_on`:
-/// `width * height` writes over one counter.
+/// Puts the transpose of a matrix as regions of at most 128 rows, each by its tiles, with the
+/// contract of `transpose_on`: `width * height` writes over one counter.
 pub fn transpose_by_regions<R, C>(input: &R, out: &mut Writes<C>, width: usize, height: usize)
 where
     C: Cells,
@@ -308,8 +311,8 @@ where
     }
 }
 
-/// The same of a slice, without the condition on the size of an item: where a slice has 16 items, they are small enough for an
-/// array.
+/// The same of a slice, without the condition on the size of an item: where a slice has 16 items,
+/// they are small enough for an array.
 pub fn transpose_slice_by_regions<C: Cells>(
     input: &[C::Item],
     out: &mut Writes<C>,
@@ -329,8 +332,8 @@ pub fn transpose_slice_by_regions<C: Cells>(
     }
 }
 
-/// Exchanges row `row` of the upper right quadrant of a square with its mirror image in the lower left one. A quadrant has `half`
-/// rows and columns.
+/// Exchanges row `row` of the upper right quadrant of a square with its mirror image in the lower
+/// left one. A quadrant has `half` rows and columns.
 fn exchange_row_across<S: Places>(
     places: &mut S,
     base: usize,
@@ -351,7 +354,8 @@ fn exchange_row_across<S: Places>(
     }
 }
 
-/// Exchanges the upper right quadrant of a square with the lower left one, across the diagonal, in `half * half` exchanges.
+/// Exchanges the upper right quadrant of a square with the lower left one, across the diagonal, in
+/// `half * half` exchanges.
 fn exchange_quadrants<S: Places>(places: &mut S, base: usize, stride: usize, half: usize)
     requires within { 2 * half ≤ stride }
     requires ready { HoldsSquare base stride (2 * half - 1) (S.items places.old) }
@@ -365,7 +369,8 @@ fn exchange_quadrants<S: Places>(places: &mut S, base: usize, stride: usize, hal
     }
 }
 
-/// 2 to the power of `exponent`. It is a function of its own, so that a proof knows of the power alone.
+/// 2 to the power of `exponent`. It is a function of its own, so that a proof knows of the power
+/// alone.
 fn power(exponent: usize) -> usize
     requires { exponent < 64 }
     ensures { result ≡ 2 ^ exponent }
@@ -373,8 +378,9 @@ fn power(exponent: usize) -> usize
     1 << exponent
 }
 
-/// Transposes a square in place as its quadrants, with the contract of `transpose_square_on`: the upper left and the lower right
-/// one by that call, and the other two exchanged across the diagonal, in s(s - 1)/2 swaps over one counter.
+/// Transposes a square in place as its quadrants, with the contract of `transpose_square_on`: the
+/// upper left and the lower right one by that call, and the other two exchanged across the
+/// diagonal, in s(s - 1)/2 swaps over one counter.
 pub fn transpose_by_quadrants<S: Places>(
     m: &mut Swaps<S>,
     base: usize,

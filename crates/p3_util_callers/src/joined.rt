@@ -1,6 +1,7 @@
-//! Two slices seen as one list, which a kernel reorders as any other holder, and callers. Each caller is given the holder, which
-//! another function makes: in the function that makes a struct of two `&mut`, a proof does not know what both end as. The file
-//! needs `p3_util` alone, so it can be copied as it stands.
+//! Two slices seen as one list, which a kernel reorders as any other holder, and callers. Each
+//! caller is given the holder, which another function makes: in the function that makes a struct of
+//! two `&mut`, a proof does not know what both end as. The file needs `p3_util` alone, so it can be
+//! copied as it stands.
 
 ghost use Rattle.std.specs.Prelude.{◌≡◌, ◌+◌, ◌*◌, ◌++◌, ◌^◌, ◌<◌, length, slice_set, swap};
 ghost use Rattle.std.proofs.Common.{rules};
@@ -12,7 +13,8 @@ use p3_util::reverse_counted;
 use p3_util::transpose::transpose_counted;
 use std::mem;
 
-/// The items of one slice and then those of another. What it holds is in the two when the borrows end.
+/// The items of one slice and then those of another. What it holds is in the two when the borrows
+/// end.
 #[derive(Drop)]
 pub struct Joined<'a, F> {
     front: &'a mut [F],
@@ -138,7 +140,8 @@ pub fn reverse_joined<F>(joined: &mut Joined<F>)
     reverse_counted(joined);
 }
 
-/// Puts the transpose of `input` into the front and then the back, and returns the number of writes. Each keeps its length.
+/// Puts the transpose of `input` into the front and then the back, and returns the number of
+/// writes. Each keeps its length.
 pub fn transpose_into_joined<T: Copy>(
     input: &[T],
     joined: &mut Joined<T>,

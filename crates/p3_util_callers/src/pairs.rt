@@ -1,5 +1,5 @@
-//! Two slices whose items move together, as one list of pairs, and a caller. The file needs `p3_util` alone, so it can be copied as
-//! it stands.
+//! Two slices whose items move together, as one list of pairs, and a caller. The file needs
+//! `p3_util` alone, so it can be copied as it stands.
 
 ghost use Rattle.std.specs.Prelude.{◌≡◌, ◌<◌, length, swap, zip};
 ghost use Rattle.std.proofs.Common.{rules};
@@ -8,7 +8,8 @@ ghost use Rattle.p3_util.specs.Reversal.{IsReversal, IsReversible};
 use p3_util::places::Places;
 use p3_util::reverse_counted;
 
-/// Each item of `keys` with that of `values` at the same place. What it holds is in the two when the borrows end.
+/// Each item of `keys` with that of `values` at the same place. What it holds is in the two when
+/// the borrows end.
 #[derive(Drop)]
 pub struct PairsMut<'a, K, V> {
     keys: &'a mut [K],

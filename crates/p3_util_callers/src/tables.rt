@@ -1,5 +1,5 @@
-//! Callers that read a table in the order of reversed index bits, or put one into it: reads, folds and sums. A loop and a sum
-//! that wraps have a proof file.
+//! Callers that read a table in the order of reversed index bits, or put one into it: reads, folds
+//! and sums. A loop and a sum that wraps have a proof file.
 
 ghost use Rattle.std.specs.Prelude.{◌≡◌, ℕ, ◌+◌, ◌*◌, ◌/◌, ◌%◌, ◌^◌, ◌<◌, ◌≤◌, IfOk, List, Some, fold, length, map, slice_get, slice_index, sum};
 ghost use Rattle.std.specs.Int.{IsPowerOfTwo};
@@ -14,7 +14,8 @@ use std::alloc::{AllocError, Global};
 
 // Reads: an item of a reordered table, or all of them by place.
 
-/// Puts a table of evaluations into the order of reversed index bits: place `i` has the item of the reversed index then.
+/// Puts a table of evaluations into the order of reversed index bits: place `i` has the item of the
+/// reversed index then.
 #[tactic(auto, using(p3_util::proofs::Callers::reversed_place))]
 pub fn reorder_evaluations<T>(evals: &mut [T])
     requires { IsReversible (length evals.old) }
@@ -70,7 +71,8 @@ pub fn item_of_reordered<T: Copy>(table: &[T], k: usize, i: usize) -> T
     table[i]
 }
 
-/// The item that was at `i` in a table of two items or more that somebody has reordered, by the length alone.
+/// The item that was at `i` in a table of two items or more that somebody has reordered, by the
+/// length alone.
 #[tactic(auto, using(p3_util::proofs::Callers::reversed_read))]
 pub fn item_before_reorder<T: Copy>(table: &[T], i: usize) -> T
     requires power { IsPowerOfTwo (length table.now) }
@@ -92,7 +94,8 @@ pub fn got_of_reordered<T: Copy>(table: &[T], k: usize, i: usize) -> Option<T>
     table.get(i).copied()
 }
 
-/// The item that a reversal by index bits brings to place `i`, read where it lies, by the length alone.
+/// The item that a reversal by index bits brings to place `i`, read where it lies, by the length
+/// alone.
 pub fn item_by_length<T: Copy>(table: &[T], k: usize, i: usize) -> T
     requires some { 1 ≤ k }
     requires len { length table.now ≡ 2 ^ k }
@@ -115,8 +118,8 @@ pub fn reordered_copy(alloc: Global, evals: &[u32], k: usize) -> Result<Vec<u32>
         .collect(alloc)
 }
 
-/// Puts the items of `table` into `out` by their reversed indices, which makes it the reversal. What the loop keeps is in a
-/// file.
+/// Puts the items of `table` into `out` by their reversed indices, which makes it the reversal.
+/// What the loop keeps is in a file.
 pub fn reordered_into<T: Copy>(table: &[T], out: &mut [T], k: usize)
     requires some { 1 ≤ k }
     requires few { k < 64 }
@@ -167,8 +170,8 @@ pub fn reorder_numbers(values: &mut [u64], k: usize)
     reverse_slice_index_bits(values);
 }
 
-/// Doubles each item, and reorders what comes of it. Two calls in a row are said by place where the reversal is in a function of
-/// its own.
+/// Doubles each item, and reorders what comes of it. Two calls in a row are said by place where the
+/// reversal is in a function of its own.
 ///
 /// # Errors
 ///
@@ -188,8 +191,8 @@ pub fn doubled_then_reordered(
     Ok(twice)
 }
 
-/// Puts the columns of a matrix of `height` rows of `width` items into the order of their reversed index: `scratch` has its
-/// transpose, whose rows are reversed, and then it is transposed back.
+/// Puts the columns of a matrix of `height` rows of `width` items into the order of their reversed
+/// index: `scratch` has its transpose, whose rows are reversed, and then it is transposed back.
 #[tactic(auto, using(p3_util::proofs::Callers::rev_below))]
 pub fn reverse_columns<T: Copy>(matrix: &mut [T], scratch: &mut [T], width: usize, height: usize)
     requires matrix_fits { length matrix.old ≡ width * height }
@@ -206,7 +209,8 @@ pub fn reverse_columns<T: Copy>(matrix: &mut [T], scratch: &mut [T], width: usiz
 
 // Folds: the items at 2i and 2i + 1, which come from one half of the table and from the other.
 
-/// Reverses `values` by index bits, and adds up the items at `2i` and `2i + 1` then, as the first pass of a transform does.
+/// Reverses `values` by index bits, and adds up the items at `2i` and `2i + 1` then, as the first
+/// pass of a transform does.
 #[tactic(auto, using(p3_util::proofs::Callers::even_read, p3_util::proofs::Callers::odd_read))]
 pub fn sum_of_pair(values: &mut [u32], k: usize, i: usize) -> u64
     requires len { length values.old ≡ 2 ^ (k + 1) }

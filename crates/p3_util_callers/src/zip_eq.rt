@@ -99,8 +99,8 @@ pub fn wrapping_inner_product(xs: &[u32], ys: &[u32]) -> Option<u64>
     }
 }
 
-/// The products folded mod `m`, where the lengths are equal. The state is reduced first, since a closure has to be callable in
-/// every state.
+/// The products folded mod `m`, where the lengths are equal. The state is reduced first, since a
+/// closure has to be callable in every state.
 pub fn folded_mod(xs: &[u32], ys: &[u32], m: u32) -> Option<u64>
     requires { 0 < m }
     ensures { IfSome result (λ s. s ≡ fold (λ s p. (s % m + p.0 * p.1) % m) 0 (zip xs.now ys.now)) }
@@ -145,7 +145,8 @@ pub fn sums_of_pairs(alloc: Global, pairs: &[(u16, u16)]) -> Result<Vec<u32>, Al
         .collect(alloc)
 }
 
-/// The sums of the items of two lists, place by place: the pairs come from one function, and their sums from another.
+/// The sums of the items of two lists, place by place: the pairs come from one function, and their
+/// sums from another.
 ///
 /// # Errors
 ///
