@@ -6,7 +6,8 @@ ghost use Rattle.p3_util.specs.JsonArray.{IsSameOrMemory};
 use p3_util::array_serialization::{ArrayElement, ArrayError, deserialize, serialize};
 use std::alloc::{AllocError, Global};
 
-/// What is read of what is written: the array itself, or running out of memory where its elements may need it.
+/// What is read of what is written: the array itself, or running out of memory where its elements
+/// may need it.
 ///
 /// # Errors
 ///

@@ -1,5 +1,6 @@
-//! What a reordering keeps: a bound of all items, which items there are, their sum, how many pass a test, and the product of two
-//! lists that are reversed alike. A function that says `IsPermutation` needs a lemma, and who calls it needs none.
+//! What a reordering keeps: a bound of all items, which items there are, their sum, how many pass a
+//! test, and the product of two lists that are reversed alike. A function that says `IsPermutation`
+//! needs a lemma, and who calls it needs none.
 
 ghost use Rattle.std.specs.Prelude.{◌≡◌, ℕ, ◌*◌, ◌^◌, ◌<◌, ◌≤◌, ◌==◌, All, Contains, IfOk, IfSome, IsPermutation, count_by, length, map, sum, zip};
 ghost use Rattle.p3_util.specs.Reversal.{FitsRows, IsReversible};
@@ -72,7 +73,8 @@ pub fn pad_reduced(alloc: Global, items: &[u64], len: usize, m: u64) -> Result<V
     padded_to(alloc, items, len)
 }
 
-/// Reorders `vals`: an item is there if and only if it was there before, and the items that are 0 are as many as before.
+/// Reorders `vals`: an item is there if and only if it was there before, and the items that are 0
+/// are as many as before.
 pub fn reorder_and_keep(vals: &mut [u64])
     requires { IsReversible (length vals.old) }
     ensures kept { (x : ℕ) → Contains vals.old x → Contains vals.new x }
@@ -120,11 +122,13 @@ pub fn sum_of_products(xs: &[u32], ys: &[u32]) -> u64
         .sum()
 }
 
-/// Reverses two lists alike, which leaves the sum of the products of their items. A file names the lemma.
+/// Reverses two lists alike, which leaves the sum of the products of their items. A file names the
+/// lemma.
 pub fn reorder_both(xs: &mut [u32], ys: &mut [u32])
     requires power { IsReversible (length xs.old) }
     requires same { length ys.old ≡ length xs.old }
-    ensures { sum (map (λ p. p.0 * p.1) (zip xs.new ys.new)) ≡ sum (map (λ p. p.0 * p.1) (zip xs.old ys.old)) }
+    ensures { sum (map (λ p. p.0 * p.1) (zip xs.new ys.new))
+        ≡ sum (map (λ p. p.0 * p.1) (zip xs.old ys.old)) }
 {
     reverse_slice_index_bits(xs);
     reverse_slice_index_bits(ys);

@@ -1,5 +1,5 @@
-//! Callers that read a table in the order of reversed index bits, or put one into it: reads, folds and sums. A loop and a sum
-//! that wraps have a proof file.
+//! Callers that read a table in the order of reversed index bits, or put one into it: reads, folds
+//! and sums. A loop and a sum that wraps have a proof file.
 
 ghost use Rattle.std.specs.Prelude.{◌≡◌, ℕ, ◌+◌, ◌*◌, ◌/◌, ◌%◌, ◌^◌, ◌<◌, ◌≤◌, IfOk, List, Some, fold, length, map, slice_get, slice_index, sum};
 ghost use Rattle.std.specs.Int.{IsPowerOfTwo};
@@ -14,11 +14,13 @@ use std::alloc::{AllocError, Global};
 
 // Reads: an item of a reordered table, or all of them by place.
 
-/// Puts a table of evaluations into the order of reversed index bits: place `i` has the item of the reversed index then.
+/// Puts a table of evaluations into the order of reversed index bits: place `i` has the item of the
+/// reversed index then.
 #[tactic(auto, using(p3_util::proofs::Callers::reversed_place))]
 pub fn reorder_evaluations<T>(evals: &mut [T])
     requires { IsReversible (length evals.old) }
-    ensures { (k i : ℕ) → length evals.old ≡ 2 ^ k → i < 2 ^ k → slice_get evals.new i ≡ slice_get evals.old (rev k i) }
+    ensures { (k i : ℕ) → length evals.old ≡ 2 ^ k → i < 2 ^ k
+        → slice_get evals.new i ≡ slice_get evals.old (rev k i) }
 {
     reverse_slice_index_bits(evals);
 }
@@ -63,17 +65,20 @@ pub fn number_after(evals: &mut [u64], k: usize, i: usize) -> u64
 pub fn item_of_reordered<T: Copy>(table: &[T], k: usize, i: usize) -> T
     requires len { length table.now ≡ 2 ^ k }
     requires inside { i < 2 ^ k }
-    ensures { (evals : List T) → IsReversal evals table.now → slice_get evals (rev k i) ≡ Some result }
+    ensures { (evals : List T) → IsReversal evals table.now
+        → slice_get evals (rev k i) ≡ Some result }
 {
     table[i]
 }
 
-/// The item that was at `i` in a table of two items or more that somebody has reordered, by the length alone.
+/// The item that was at `i` in a table of two items or more that somebody has reordered, by the
+/// length alone.
 #[tactic(auto, using(p3_util::proofs::Callers::reversed_read))]
 pub fn item_before_reorder<T: Copy>(table: &[T], i: usize) -> T
     requires power { IsPowerOfTwo (length table.now) }
     requires inside { i < length table.now }
-    ensures { (k : ℕ) (evals : List T) → 1 ≤ k → length table.now ≡ 2 ^ k → IsReversal evals table.now
+    ensures { (k : ℕ) (evals : List T) → 1 ≤ k → length table.now ≡ 2 ^ k
+        → IsReversal evals table.now
         → slice_get evals i ≡ Some result }
 {
     table[reverse_bits(i, table.len())]
@@ -89,7 +94,8 @@ pub fn got_of_reordered<T: Copy>(table: &[T], k: usize, i: usize) -> Option<T>
     table.get(i).copied()
 }
 
-/// The item that a reversal by index bits brings to place `i`, read where it lies, by the length alone.
+/// The item that a reversal by index bits brings to place `i`, read where it lies, by the length
+/// alone.
 pub fn item_by_length<T: Copy>(table: &[T], k: usize, i: usize) -> T
     requires some { 1 ≤ k }
     requires len { length table.now ≡ 2 ^ k }
@@ -104,15 +110,16 @@ pub fn reordered_copy(alloc: Global, evals: &[u32], k: usize) -> Result<Vec<u32>
     requires some { 1 ≤ k }
     requires few { k < 64 }
     requires len { length evals.now ≡ 2 ^ k }
-    ensures { IfOk result (λ copy. copy.items ≡ map (λ i. slice_index evals.now (rev k i)) (range_with_len 0 (2 ^ k))) }
+    ensures { IfOk result (λ copy. copy.items
+        ≡ map (λ i. slice_index evals.now (rev k i)) (range_with_len 0 (2 ^ k))) }
 {
     (0..evals.len())
         .map(|i| evals[reverse_bits_len(i, k)])
         .collect(alloc)
 }
 
-/// Puts the items of `table` into `out` by their reversed indices, which makes it the reversal. What the loop keeps is in a
-/// file.
+/// Puts the items of `table` into `out` by their reversed indices, which makes it the reversal.
+/// What the loop keeps is in a file.
 pub fn reordered_into<T: Copy>(table: &[T], out: &mut [T], k: usize)
     requires some { 1 ≤ k }
     requires few { k < 64 }
@@ -132,7 +139,8 @@ pub fn reordered_into<T: Copy>(table: &[T], out: &mut [T], k: usize)
 /// `AllocError` where there is no memory for them.
 pub fn doubled_by_place(alloc: Global, items: &[u32]) -> Result<Vec<u64>, AllocError>
     ensures len { IfOk result (λ twice. length twice.items ≡ length items.now) }
-    ensures places { IfOk result (λ twice. (i : ℕ) → i < length items.now → slice_index twice.items i ≡ 2 * slice_index items.now i) }
+    ensures places { IfOk result (λ twice. (i : ℕ) → i < length items.now
+        → slice_index twice.items i ≡ 2 * slice_index items.now i) }
 {
     items.iter().map(|x| 2 * u64::from(*x)).collect(alloc)
 }
@@ -146,7 +154,8 @@ pub fn doubled_by_place(alloc: Global, items: &[u32]) -> Result<Vec<u64>, AllocE
 pub fn doubled_after(alloc: Global, items: &mut [u32], k: usize) -> Result<Vec<u64>, AllocError>
     requires { length items.old ≡ 2 ^ k }
     ensures len { IfOk result (λ twice. length twice.items ≡ 2 ^ k) }
-    ensures places { IfOk result (λ twice. (i : ℕ) → i < 2 ^ k → slice_index twice.items i ≡ 2 * slice_index items.old (rev k i)) }
+    ensures places { IfOk result (λ twice. (i : ℕ) → i < 2 ^ k
+        → slice_index twice.items i ≡ 2 * slice_index items.old (rev k i)) }
 {
     reverse_slice_index_bits(items);
     doubled_by_place(alloc, items)
@@ -161,8 +170,8 @@ pub fn reorder_numbers(values: &mut [u64], k: usize)
     reverse_slice_index_bits(values);
 }
 
-/// Doubles each item, and reorders what comes of it. Two calls in a row are said by place where the reversal is in a function of
-/// its own.
+/// Doubles each item, and reorders what comes of it. Two calls in a row are said by place where the
+/// reversal is in a function of its own.
 ///
 /// # Errors
 ///
@@ -174,22 +183,24 @@ pub fn doubled_then_reordered(
     k: usize,
 ) -> Result<Vec<u64>, AllocError>
     requires { length items.now ≡ 2 ^ k }
-    ensures { IfOk result (λ twice. (i : ℕ) → i < 2 ^ k → slice_index twice.items i ≡ 2 * slice_index items.now (rev k i)) }
+    ensures { IfOk result (λ twice. (i : ℕ) → i < 2 ^ k
+        → slice_index twice.items i ≡ 2 * slice_index items.now (rev k i)) }
 {
     let mut twice = doubled_by_place(alloc, items)?;
     reorder_numbers(&mut twice, k);
     Ok(twice)
 }
 
-/// Puts the columns of a matrix of `height` rows of `width` items into the order of their reversed index: `scratch` has its
-/// transpose, whose rows are reversed, and then it is transposed back.
+/// Puts the columns of a matrix of `height` rows of `width` items into the order of their reversed
+/// index: `scratch` has its transpose, whose rows are reversed, and then it is transposed back.
 #[tactic(auto, using(p3_util::proofs::Callers::rev_below))]
 pub fn reverse_columns<T: Copy>(matrix: &mut [T], scratch: &mut [T], width: usize, height: usize)
     requires matrix_fits { length matrix.old ≡ width * height }
     requires scratch_fits { length scratch.old ≡ width * height }
     requires power { IsZeroOrPowerOfTwo width }
     ensures { (k row column : ℕ) → width ≡ 2 ^ k → row < height → column < width
-        → slice_get matrix.new (row * width + column) ≡ slice_get matrix.old (row * width + rev k column) }
+        → slice_get matrix.new (row * width + column)
+        ≡ slice_get matrix.old (row * width + rev k column) }
 {
     transpose(matrix, scratch, width, height);
     reverse_slice_row_index_bits(scratch, height);
@@ -198,7 +209,8 @@ pub fn reverse_columns<T: Copy>(matrix: &mut [T], scratch: &mut [T], width: usiz
 
 // Folds: the items at 2i and 2i + 1, which come from one half of the table and from the other.
 
-/// Reverses `values` by index bits, and adds up the items at `2i` and `2i + 1` then, as the first pass of a transform does.
+/// Reverses `values` by index bits, and adds up the items at `2i` and `2i + 1` then, as the first
+/// pass of a transform does.
 #[tactic(auto, using(p3_util::proofs::Callers::even_read, p3_util::proofs::Callers::odd_read))]
 pub fn sum_of_pair(values: &mut [u32], k: usize, i: usize) -> u64
     requires len { length values.old ≡ 2 ^ (k + 1) }
@@ -217,7 +229,8 @@ pub fn sum_of_pair(values: &mut [u32], k: usize, i: usize) -> u64
 pub fn sums_of_neighbours(alloc: Global, evals: &[u32]) -> Result<Vec<u64>, AllocError>
     ensures len { IfOk result (λ sums. length sums.items ≡ length evals.now / 2) }
     ensures sums { IfOk result (λ sums. (i : ℕ) → i < length evals.now / 2
-        → slice_index sums.items i ≡ slice_index evals.now (2 * i) + slice_index evals.now (2 * i + 1)) }
+        → slice_index sums.items i ≡ slice_index evals.now (2 * i)
+        + slice_index evals.now (2 * i + 1)) }
 {
     (0..evals.len() / 2)
         .map(|i| u64::from(evals[2 * i]) + u64::from(evals[2 * i + 1]))
@@ -234,7 +247,8 @@ pub fn fold_after(alloc: Global, evals: &mut [u32], k: usize) -> Result<Vec<u64>
     requires { length evals.old ≡ 2 ^ (k + 1) }
     ensures len { IfOk result (λ sums. length sums.items ≡ 2 ^ k) }
     ensures sums { IfOk result (λ sums. (i : ℕ) → i < 2 ^ k
-        → slice_index sums.items i ≡ slice_index evals.old (rev k i) + slice_index evals.old (rev k i + 2 ^ k)) }
+        → slice_index sums.items i ≡ slice_index evals.old (rev k i) + slice_index evals.old
+        (rev k i + 2 ^ k)) }
 {
     reverse_slice_index_bits(evals);
     sums_of_neighbours(alloc, evals)
@@ -267,8 +281,10 @@ pub fn weighted_sum(evals: &[u32], weights: &[u16], k: usize) -> u64
     requires few { k < 64 }
     requires len { length evals.now ≡ 2 ^ k }
     requires weights { length weights.now ≡ 2 ^ k }
-    requires fits { sum (map (λ i. slice_index evals.now i * slice_index weights.now (rev k i)) (range_with_len 0 (2 ^ k))) < 2 ^ 64 }
-    ensures { result ≡ sum (map (λ i. slice_index evals.now i * slice_index weights.now (rev k i)) (range_with_len 0 (2 ^ k))) }
+    requires fits { sum (map (λ i. slice_index evals.now i * slice_index weights.now (rev k i))
+        (range_with_len 0 (2 ^ k))) < 2 ^ 64 }
+    ensures { result ≡ sum (map (λ i. slice_index evals.now i * slice_index weights.now (rev k i))
+        (range_with_len 0 (2 ^ k))) }
 {
     (0..evals.len())
         .map(|i| u64::from(evals[i]) * u64::from(weights[reverse_bits_len(i, k)]))
