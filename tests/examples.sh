@@ -48,16 +48,24 @@ write(f"{copy}/crates/examples/src/lib.rt", f"//! The examples of {page}.\n#![ta
 print(f"{len(names)} examples of {page}, and {apps} with a file of proofs/")
 PYTHON
 
+# Fails where `rt fmt` would change a file of a folder's crate, since `rt ci` refuses such a file as pasted.
+laid_out() {
+    (cd "$1" && rt fmt) >"$copy/log" 2>&1 || { tail "$copy/log"; exit 1; }
+    ! grep 'formatted' "$copy/log" || { echo "FAILED  an example of docs/CALLING.md is not as rt fmt lays it out" >&2; exit 1; }
+}
+
 # Proves the crate in a folder, or prints what is open.
 prove() {
     (cd "$1" && rt check) >"$copy/log" 2>&1 || { grep -E '^fn |error|^note: `' "$copy/log" || tail "$copy/log"; exit 1; }
     grep '^logic=' "$copy/log" | tail -n 1
 }
 
+laid_out "$copy/crates/examples"
 prove "$copy/crates/examples"
 echo 'app: p3_util p3_util_kernels serde_json' >>"$copy/crates.txt"
 for app in "$copy"/apps/*; do
     rm -rf "$copy/crates/app"
     cp -r "$app" "$copy/crates/app"
+    laid_out "$copy/crates/app"
     prove "$copy/crates/app"
 done

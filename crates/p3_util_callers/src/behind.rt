@@ -1,5 +1,5 @@
-//! What stands behind a header of a slice, as a holder, and a caller. The file needs `p3_util` alone, so it can be copied as it
-//! stands.
+//! What stands behind a header of a slice, as a holder, and a caller. The file needs `p3_util`
+//! alone, so it can be copied as it stands.
 
 ghost use Rattle.std.specs.Prelude.{◌≡◌, ℕ, ◌+◌, ◌-◌, ◌<◌, ◌≤◌, drop, length, slice_get, swap};
 ghost use Rattle.std.proofs.Common.{rules};
@@ -8,7 +8,8 @@ ghost use Rattle.p3_util.specs.Reversal.{IsReversal, IsReversible};
 use p3_util::places::Places;
 use p3_util::reverse_counted;
 
-/// The items of `list` from place `skip` on. `same_holder` says that every item before that place stays.
+/// The items of `list` from place `skip` on. `same_holder` says that every item before that place
+/// stays.
 #[derive(Drop)]
 pub struct BehindMut<'a, T> {
     list: &'a mut [T],

@@ -10,7 +10,8 @@ use p3_util::bits::{
     log3_strict_usize, reverse_bits, reverse_bits_len,
 };
 
-/// The least power of two that is `len` or more, to which a transform pads. `None` where that is 2^64.
+/// The least power of two that is `len` or more, to which a transform pads. `None` where that is
+/// 2^64.
 #[tactic(auto, using(p3_util::proofs::Callers::power_up))]
 pub fn padded_len(len: usize) -> Option<usize>
     ensures none { result ≡ None → (k : ℕ) → k < 64 → 2 ^ k < len }
@@ -35,7 +36,8 @@ pub fn log2_or_zero(n: usize) -> usize
 
 /// The logarithm of the length of `items`, where that is a power of two.
 pub fn log2_of_len<T>(items: &[T]) -> Option<usize>
-    ensures { MatchOption result (IsFalse (is_power_of_two (length items.now))) (λ k. length items.now ≡ 2 ^ k) }
+    ensures { MatchOption result (IsFalse (is_power_of_two (length items.now)))
+        (λ k. length items.now ≡ 2 ^ k) }
 {
     if items.len().is_power_of_two() {
         Some(log2_strict_usize(items.len()))
@@ -61,8 +63,8 @@ pub fn item_to_come<T: Copy>(items: &[T], k: usize, i: usize) -> T
     items[reverse_bits_len(i, k)]
 }
 
-/// The place of a list of `2^(k + 1)` items from which a reversal by index bits brings an item to `2i`. The item for `2i + 1`
-/// is `2^k` places further.
+/// The place of a list of `2^(k + 1)` items from which a reversal by index bits brings an item to
+/// `2i`. The item for `2i + 1` is `2^k` places further.
 #[tactic(auto, using(p3_util::proofs::Callers::rev_even, p3_util::proofs::Callers::rev_odd))]
 pub fn place_of_pair(i: usize, k: usize) -> usize
     requires some { 1 ≤ k }
@@ -73,8 +75,9 @@ pub fn place_of_pair(i: usize, k: usize) -> usize
     reverse_bits_len(i, k)
 }
 
-/// Where a reversal of all items of a matrix of `2^log_height` rows of `2^log_width` items puts item (row, column): the row and
-/// the column in a matrix of `2^log_width` rows, of which each is one of both reversed.
+/// Where a reversal of all items of a matrix of `2^log_height` rows of `2^log_width` items puts
+/// item (row, column): the row and the column in a matrix of `2^log_width` rows, of which each is
+/// one of both reversed.
 #[tactic(auto, using(p3_util::proofs::Callers::rev_in_parts))]
 pub fn reversed_row_and_column(
     row: usize,
@@ -86,7 +89,8 @@ pub fn reversed_row_and_column(
     requires columns { 1 ≤ log_width }
     requires few { log_height + log_width < 64 }
     requires inside { column < 2 ^ log_width }
-    ensures { rev (log_height + log_width) (row * 2 ^ log_width + column) ≡ result.0 * 2 ^ log_height + result.1 }
+    ensures { rev (log_height + log_width) (row * 2 ^ log_width + column)
+        ≡ result.0 * 2 ^ log_height + result.1 }
 {
     (
         reverse_bits_len(column, log_width),
@@ -104,7 +108,8 @@ pub fn index_there_and_back(i: usize, n: usize) -> usize
     reverse_bits(reverse_bits(i, n), n)
 }
 
-/// The next index of a fold that halves: the reverse of half an index is that of the index without its highest digit.
+/// The next index of a fold that halves: the reverse of half an index is that of the index without
+/// its highest digit.
 #[tactic(auto, using(p3_util::proofs::Callers::half))]
 pub fn reverse_of_half(i: usize, k: usize) -> usize
     requires some { 1 ≤ k }
@@ -127,4 +132,39 @@ pub fn first_of_pair(i: usize) -> usize
     ensures { result ≡ 2 * (i / 2) }
 {
     i & !1
+}
+
+/// The least `e` with `n <= 2^e`, as a `u32`.
+pub fn ceil_as_u32(n: usize) -> u32
+    ensures { n ≤ 2 ^ result }
+{
+    log2_ceil_usize(n) as u32
+}
+
+/// A third of a power of three, which is the power before it.
+#[tactic(auto, using(p3_util::proofs::Callers::third_of_power))]
+pub fn third_of(n: usize) -> usize
+    requires { IsPowerOfThree n }
+    ensures { (e : ℕ) → n ≡ 3 ^ (e + 1) → result ≡ 3 ^ e }
+{
+    n / 3
+}
+
+/// The exponent of a power of three.
+pub fn exponent_of(n: usize) -> usize
+    requires { IsPowerOfThree n }
+    ensures { (e : ℕ) → n ≡ 3 ^ e → result ≡ e }
+{
+    log3_strict_usize(n)
+}
+
+/// The reverse of an index into `2^k` items in a list that is padded to `2^(k + s)` items.
+#[tactic(auto, using(p3_util::proofs::Callers::rev_longer))]
+pub fn reverse_in_longer(i: usize, k: usize, s: usize) -> usize
+    requires some { 1 ≤ k }
+    requires few { k + s < 64 }
+    requires inside { i < 2 ^ k }
+    ensures { result ≡ rev k i * 2 ^ s }
+{
+    reverse_bits_len(i, k + s)
 }

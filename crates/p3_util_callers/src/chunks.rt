@@ -19,14 +19,17 @@ pub fn absorb_blocks<H: FnMut(&[u8]) + Drop>(bytes: &[u8], absorb: H)
     apply_to_chunks::<64, _, H>(bytes.iter().copied(), absorb);
 }
 
-/// Adds up `bytes` by way of `add`, to which it hands them in blocks of 64: where each call raises what `total` reads by the
-/// sum of its block, all calls raise it by the sum of all bytes. The closure goes by value, so that the caller has its last
-/// state no more: [`mixed_lanes`] keeps a state.
+/// Adds up `bytes` by way of `add`, to which it hands them in blocks of 64: where each call raises
+/// what `total` reads by the sum of its block, all calls raise it by the sum of all bytes. The
+/// closure goes by value, so that the caller has its last state no more: [`mixed_lanes`] keeps a
+/// state.
 pub fn add_blocks<H: FnMut(&[u8]) + Drop>(bytes: &[u8], add: H)
     requires { H.IsAlwaysCallable add }
     ensures { (total : H → ℕ)
-        → ((f g : H) (piece : List ℕ) → CalledAt H.FnMut f piece tt g → total g ≡ total f + sum piece)
-        → (last : H) × FoldsTo (λ f piece g. CalledAt H.FnMut f piece tt g) add (pieces 64 bytes.now) last
+        → ((f g : H) (piece : List ℕ) → CalledAt H.FnMut f piece tt g
+        → total g ≡ total f + sum piece)
+        → (last : H) × FoldsTo (λ f piece g. CalledAt H.FnMut f piece tt g) add
+        (pieces 64 bytes.now) last
         × (total last ≡ total add + sum bytes.now) }
 {
     absorb_blocks(bytes, add);
@@ -45,7 +48,8 @@ pub fn lanes(alloc: Global, xs: &[u32], fill: u32) -> Result<Vec<[u32; 4]>, Allo
 ///
 /// `AllocError` where there is no memory for the lanes.
 pub fn mixed_lanes(alloc: Global, xs: &[u32]) -> Result<u64, AllocError>
-    ensures { IfOk result (λ state. state ≡ fold (λ s lane. (s + slice_index lane 0 * slice_index lane 1) % 2 ^ 64) 0
+    ensures { IfOk result (λ state. state ≡ fold
+        (λ s lane. (s + slice_index lane 0 * slice_index lane 1) % 2 ^ 64) 0
         (padded_pieces 2 0 xs.now)) }
 {
     let lanes = iter_array_chunks_padded::<u32, 2, _>(xs.iter().copied(), 0).collect::<
@@ -118,8 +122,10 @@ pub fn padded_to(alloc: Global, items: &[u64], len: usize) -> Result<Vec<u64>, A
 #[tactic(auto, using(p3_util::proofs::Callers::padded_read))]
 pub fn padded_by_place(alloc: Global, items: &[u64], len: usize) -> Result<Vec<u64>, AllocError>
     requires { length items.now ≤ len }
-    ensures same { IfOk result (λ v. (i : ℕ) → i < length items.now → slice_get v.items i ≡ slice_get items.now i) }
-    ensures fill { IfOk result (λ v. (i : ℕ) → length items.now ≤ i → i < len → slice_get v.items i ≡ Some 0) }
+    ensures same { IfOk result (λ v. (i : ℕ) → i < length items.now
+        → slice_get v.items i ≡ slice_get items.now i) }
+    ensures fill { IfOk result (λ v. (i : ℕ) → length items.now ≤ i → i < len
+        → slice_get v.items i ≡ Some 0) }
 {
     padded_to(alloc, items, len)
 }
@@ -128,7 +134,8 @@ pub fn padded_by_place(alloc: Global, items: &[u64], len: usize) -> Result<Vec<u
 #[tactic(auto, using(p3_util::proofs::Callers::padded_read))]
 pub fn item_of_padded<T: Copy>(list: &[T], i: usize, fill: T) -> T
     requires { i < length list.now }
-    ensures { (xs : List T) (n : ℕ) → list.now ≡ xs ++ replicate n fill → result ≡ slice_index_or xs i fill }
+    ensures { (xs : List T) (n : ℕ) → list.now ≡ xs ++ replicate n fill
+        → result ≡ slice_index_or xs i fill }
 {
     list[i]
 }
@@ -150,10 +157,45 @@ pub fn digest(row: &[u8]) -> u32
 pub fn digests_of_rows(alloc: Global, bytes: &[u8], width: usize) -> Result<Vec<u32>, AllocError>
     requires { 0 < width }
     ensures { IfOk result (λ v. (r : ℕ) → r < length bytes.now / width
-        → slice_get v.items r ≡ Some (fold (λ s b. (s * 31 + b) % 2 ^ 32) 7 (take width (drop (r * width) bytes.now)))) }
+        → slice_get v.items r ≡ Some (fold (λ s b. (s * 31 + b) % 2 ^ 32) 7
+        (take width (drop (r * width) bytes.now)))) }
 {
     bytes
         .chunks_exact(width)
         .map(|row| digest(row))
+        .collect(alloc)
+}
+
+/// What hashes rows. A clause cannot say what a closure over `&[T]` returns for a list, since its
+/// argument is a borrow. A trait says it by a ghost function.
+pub trait HashRow {
+    type Item;
+
+    // the hash of a row
+    ghost hash_of: { List Self.Item → ℕ };
+
+    /// The hash of `row`.
+    fn hash(&self, row: &[Self::Item]) -> u64
+        ensures { result ≡ hash_of row.now };
+}
+
+/// The hash of each whole row of `width` items.
+///
+/// # Errors
+///
+/// `AllocError` where there is no memory for the hashes.
+pub fn hashes_of_rows<H: HashRow>(
+    alloc: Global,
+    hasher: &H,
+    items: &[H::Item],
+    width: usize,
+) -> Result<Vec<u64>, AllocError>
+    requires { 0 < width }
+    ensures { IfOk result (λ v. (r : ℕ) → r < length items.now / width
+        → slice_get v.items r ≡ Some (H.hash_of (take width (drop (r * width) items.now)))) }
+{
+    items
+        .chunks_exact(width)
+        .map(|row| hasher.hash(row))
         .collect(alloc)
 }

@@ -1,5 +1,6 @@
-//! A column of a matrix, as a list to read and as a holder, and callers that reverse it, transpose from it and into it. What lies
-//! outside of the column stays. The file needs `p3_util` alone, so it can be copied as it stands.
+//! A column of a matrix, as a list to read and as a holder, and callers that reverse it, transpose
+//! from it and into it. What lies outside of the column stays. The file needs `p3_util` alone, so
+//! it can be copied as it stands.
 
 ghost use Rattle.std.specs.Prelude.{◌≡◌, ◌*◌, ◌<◌, Some, length, slice_get, slice_set, swap};
 ghost use Rattle.std.proofs.Common.{rules};
@@ -37,7 +38,8 @@ impl<'a, T: Copy> Column<'a, T> {
         requires inside { shape.column < shape.width }
         ensures values { result.values ≡ values.entry }
         ensures shape { result.shape ≡ shape }
-        ensures len { length (column_of shape.width shape.height shape.column result.values.now) ≡ shape.height }
+        ensures len { length (column_of shape.width shape.height shape.column
+            result.values.now) ≡ shape.height }
     {
         Column { values, shape }
     }
@@ -58,7 +60,8 @@ impl<'a, T: Copy> Source for Column<'a, T> {
     }
 }
 
-/// A column of a matrix, to be reordered or written. `same_holder` says that every item outside of it stays.
+/// A column of a matrix, to be reordered or written. `same_holder` says that every item outside of
+/// it stays.
 #[derive(Drop)]
 pub struct ColumnMut<'a, T> {
     values: &'a mut [T],
@@ -75,7 +78,8 @@ impl<'a, T> ColumnMut<'a, T> {
         requires inside { shape.column < shape.width }
         ensures values { result.values ≡ values.entry }
         ensures shape { result.shape ≡ shape }
-        ensures len { length (column_of shape.width shape.height shape.column result.values.now) ≡ shape.height }
+        ensures len { length (column_of shape.width shape.height shape.column
+            result.values.now) ≡ shape.height }
     {
         ColumnMut { values, shape }
     }
@@ -162,7 +166,8 @@ fn item_in_column<T: Copy>(values: &[T], shape: ColumnShape, i: usize) -> T
     requires fits { length values.now ≡ shape.height * shape.width }
     requires inside { shape.column < shape.width }
     requires row { i < shape.height }
-    ensures { slice_get (column_of shape.width shape.height shape.column values.now) i ≡ Some result }
+    ensures { slice_get (column_of shape.width shape.height shape.column values.now)
+        i ≡ Some result }
 {
     values[i * shape.width + shape.column]
 }
@@ -180,7 +185,8 @@ pub fn reverse_column<T>(values: &mut [T], shape: ColumnShape)
     reverse_counted(&mut column);
 }
 
-/// Reverses every n-th item of `values` by index bits, from the first on, `count` items in all. They are a column of rows of n.
+/// Reverses every n-th item of `values` by index bits, from the first on, `count` items in all.
+/// They are a column of rows of n.
 pub fn reverse_every_nth<T>(values: &mut [T], n: usize, count: usize)
     requires some { 0 < n }
     requires fits { length values.old ≡ count * n }
@@ -196,7 +202,8 @@ pub fn reverse_every_nth<T>(values: &mut [T], n: usize, count: usize)
     reverse_column(values, shape);
 }
 
-/// Puts the transpose of `input` into a column of the matrix `values`, and returns the number of writes.
+/// Puts the transpose of `input` into a column of the matrix `values`, and returns the number of
+/// writes.
 pub fn transpose_to_column<T: Copy>(
     input: &[T],
     values: &mut [T],
@@ -208,7 +215,8 @@ pub fn transpose_to_column<T: Copy>(
     requires inside { shape.column < shape.width }
     requires input_fits { length input.now ≡ width * height }
     requires output_fits { shape.height ≡ width * height }
-    ensures order { IsTranspose width height input.now (column_of shape.width shape.height shape.column values.new) }
+    ensures order { IsTranspose width height input.now
+        (column_of shape.width shape.height shape.column values.new) }
     ensures outside { IsSameOutside shape.width shape.height shape.column values.old values.new }
     ensures count { result ≡ width * height }
 {
@@ -216,7 +224,8 @@ pub fn transpose_to_column<T: Copy>(
     transpose_counted(input, &mut column, width, height)
 }
 
-/// Puts the transpose of a column of the matrix `values` into `out`, where the column is `height` rows of `width` items.
+/// Puts the transpose of a column of the matrix `values` into `out`, where the column is `height`
+/// rows of `width` items.
 pub fn transpose_column<C: Cells>(
     values: &[C::Item],
     shape: ColumnShape,
@@ -228,7 +237,8 @@ pub fn transpose_column<C: Cells>(
     requires inside { shape.column < shape.width }
     requires input_fits { shape.height ≡ width * height }
     requires output_fits { length (C.items out.old.holder) ≡ width * height }
-    ensures order { IsTranspose width height (column_of shape.width shape.height shape.column values.now)
+    ensures order { IsTranspose width height (column_of shape.width shape.height
+        shape.column values.now)
         (C.items out.new.holder) }
     ensures count { out.new.count ≡ counted out.old.count (width * height) }
     ensures holder { C.same_holder (width * height) out.old.holder out.new.holder }

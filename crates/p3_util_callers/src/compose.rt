@@ -1,6 +1,7 @@
-//! Each caller here makes one larger call of several public ones, over any holder. It is proved from public contracts, and
-//! gives the exact number of its steps. Those that cut a region and those that go by squares have a proof file: their numbers
-//! of items are products and powers, and the file names the parts for a lemma.
+//! Each caller here makes one larger call of several public ones, over any holder. It is proved
+//! from public contracts, and gives the exact number of its steps. Those that cut a region and
+//! those that go by squares have a proof file: their numbers of items are products and powers, and
+//! the file names the parts for a lemma.
 
 ghost use Rattle.std.specs.Prelude.{◌≡◌, ℕ, ◌+◌, ◌-◌, ◌*◌, ◌/◌, ◌^◌, ◌<◌, ◌≤◌, if◌then◌else◌, length, nat_le};
 ghost use Rattle.p3_util.specs.Levels.{clog};
@@ -12,23 +13,22 @@ ghost use Rattle.p3_util.specs.SwapCounts.{long_swaps, reversal_swaps, row_swaps
 ghost use Rattle.p3_util.specs.Transpose.{IsTranspose};
 
 use crate::transpose::transpose_whole_square;
-use p3_util::places::{Cells, Places, Swaps, Writes};
-use p3_util::transpose::{Region, transpose_region_on, transpose_square_on};
+use p3_util::places::{Cells, Places, Source, Swaps, Writes};
+use p3_util::transpose::{Region, transpose_source_region_on, transpose_square_on};
 use p3_util::{
     log2_strict_usize, reverse_chunks_on, reverse_counted, reverse_index_bits_on,
     reverse_row_index_bits_on, reverse_rows_counted,
 };
 
-/// Puts the transpose of a whole matrix, as the region that it is, with the contract of `transpose_on`.
-pub fn transpose_as_region<C: Cells>(
-    input: &[C::Item],
-    out: &mut Writes<C>,
-    width: usize,
-    height: usize,
-)
-    requires input_fits { length input.now ≡ width * height }
+/// Puts the transpose of a whole matrix, as the region that it is, with the contract of
+/// `transpose_on`.
+pub fn transpose_as_region<R, C>(input: &R, out: &mut Writes<C>, width: usize, height: usize)
+where
+    C: Cells,
+    R: Source<Item = C::Item>,
+    requires input_fits { length (R.items input.now) ≡ width * height }
     requires output_fits { length (C.items out.old.holder) ≡ width * height }
-    ensures order { IsTranspose width height input.now (C.items out.new.holder) }
+    ensures order { IsTranspose width height (R.items input.now) (C.items out.new.holder) }
     ensures count { out.new.count ≡ counted out.old.count (width * height) }
     ensures holder { C.same_holder (width * height) out.old.holder out.new.holder }
 {
@@ -38,7 +38,7 @@ pub fn transpose_as_region<C: Cells>(
         col_start: 0,
         col_end: width,
     };
-    transpose_region_on(input, out, whole, width, height);
+    transpose_source_region_on(input, out, whole, width, height);
 }
 
 /// Reverses `m` by index bits twice, which leaves it as it was. Both are counted.
@@ -46,15 +46,17 @@ pub fn transpose_as_region<C: Cells>(
 pub fn reverse_twice_on<S: Places>(m: &mut Swaps<S>)
     requires { IsReversible (length (S.items m.old.holder)) }
     ensures same { S.items m.new.holder ≡ S.items m.old.holder }
-    ensures count { m.new.count ≡ counted m.old.count (2 * reversal_swaps (length (S.items m.old.holder))) }
-    ensures holder { S.same_holder (2 * reversal_swaps (length (S.items m.old.holder))) m.old.holder m.new.holder }
+    ensures count { m.new.count ≡ counted m.old.count
+        (2 * reversal_swaps (length (S.items m.old.holder))) }
+    ensures holder { S.same_holder (2 * reversal_swaps (length (S.items m.old.holder)))
+        m.old.holder m.new.holder }
 {
     reverse_index_bits_on(m);
     reverse_index_bits_on(m);
 }
 
-/// Reverses the items of `m` and then the order of its rows, over one counter, whose count rises by the sum of both numbers:
-/// a search adds them up by `counted`.
+/// Reverses the items of `m` and then the order of its rows, over one counter, whose count rises by
+/// the sum of both numbers: a search adds them up by `counted`.
 pub fn reverse_items_and_rows_on<S: Places>(m: &mut Swaps<S>, row_width: usize)
     requires items { IsReversible (length (S.items m.old.holder)) }
     requires rows { FitsRows (length (S.items m.old.holder)) row_width }
@@ -65,7 +67,8 @@ pub fn reverse_items_and_rows_on<S: Places>(m: &mut Swaps<S>, row_width: usize)
     reverse_row_index_bits_on(m, row_width);
 }
 
-/// Does the same to any holder, and returns the sum, which is the holder's number of steps by `same_holder_trans`.
+/// Does the same to any holder, and returns the sum, which is the holder's number of steps by
+/// `same_holder_trans`.
 pub fn reverse_items_and_rows<S: Places>(places: &mut S, row_width: usize) -> u128
     requires items { IsReversible (length (S.items places.old)) }
     requires rows { FitsRows (length (S.items places.old)) row_width }
@@ -80,27 +83,33 @@ pub fn reverse_items_and_rows<S: Places>(places: &mut S, row_width: usize) -> u1
     items + rows
 }
 
-/// Reverses `m` by index bits, with weaker clauses on its count in the place of one number for every length: the count rises
-/// by some number within the bound, for each exponent by a number of its own, and for the empty list by none.
+/// Reverses `m` by index bits, with weaker clauses on its count in the place of one number for
+/// every length: the count rises by some number within the bound, for each exponent by a number of
+/// its own, and for the empty list by none.
 #[tactic(auto, using(p3_util::proofs::Callers::log_of_power, p3_util::proofs::Callers::log_of_zero))]
 pub fn reverse_counted_by_exponent<S: Places>(m: &mut Swaps<S>)
     requires { IsReversible (length (S.items m.old.holder)) }
     ensures order { IsReversal (S.items m.old.holder) (S.items m.new.holder) }
-    ensures count { (s : ℕ) × (m.new.count ≡ counted m.old.count s) × (s ≤ 3 * length (S.items m.old.holder) / 2) }
+    ensures count { (s : ℕ) × (m.new.count ≡ counted m.old.count s)
+        × (s ≤ 3 * length (S.items m.old.holder) / 2) }
     ensures exact { (k : ℕ) → length (S.items m.old.holder) ≡ 2 ^ k
-        → m.new.count ≡ counted m.old.count (if nat_le (2 ^ k) 8192 then short_swaps k else long_swaps k) }
+        → m.new.count ≡ counted m.old.count (if nat_le (2 ^ k)
+        8192 then short_swaps k else long_swaps k) }
     ensures empty { length (S.items m.old.holder) ≡ 0 → m.new.count ≡ m.old.count }
 {
     reverse_index_bits_on(m);
 }
 
-/// Reverses `m` by index bits by chunks, squares and chunks again, with the contract of `reverse_index_bits_long`.
+/// Reverses `m` by index bits by chunks, squares and chunks again, with the contract of
+/// `reverse_index_bits_long`.
 pub fn reverse_by_squares<S: Places>(m: &mut Swaps<S>)
     requires fits { IsReversible (length (S.items m.old.holder)) }
     requires not_short { 4 ≤ length (S.items m.old.holder) }
     ensures order { IsReversal (S.items m.old.holder) (S.items m.new.holder) }
-    ensures count { m.new.count ≡ counted m.old.count (long_swaps (clog (length (S.items m.old.holder)))) }
-    ensures holder { S.same_holder (long_swaps (clog (length (S.items m.old.holder)))) m.old.holder m.new.holder }
+    ensures count { m.new.count ≡ counted m.old.count
+        (long_swaps (clog (length (S.items m.old.holder)))) }
+    ensures holder { S.same_holder (long_swaps (clog (length (S.items m.old.holder))))
+        m.old.holder m.new.holder }
 {
     let bits = log2_strict_usize(m.len());
     let half = bits / 2;
@@ -109,7 +118,8 @@ pub fn reverse_by_squares<S: Places>(m: &mut Swaps<S>)
     reverse_chunks_on(m, half, bits - half);
 }
 
-/// Transposes the square of a list of `2^log_size` rows of `2^log_stride` items, or the two that lie side by side in it.
+/// Transposes the square of a list of `2^log_size` rows of `2^log_stride` items, or the two that
+/// lie side by side in it.
 fn transpose_squares<S: Places>(m: &mut Swaps<S>, log_stride: usize, log_size: usize)
     requires within { log_size ≤ log_stride }
     requires few { log_stride ≤ log_size + 1 }
@@ -128,8 +138,8 @@ fn transpose_squares<S: Places>(m: &mut Swaps<S>, log_stride: usize, log_size: u
     }
 }
 
-/// Transposes in place a whole matrix of `2^log_size` rows of as many items, twice, which leaves it as it was. Both are
-/// counted.
+/// Transposes in place a whole matrix of `2^log_size` rows of as many items, twice, which leaves it
+/// as it was. Both are counted.
 #[tactic(auto, using(p3_util::proofs::Callers::transposed_back))]
 pub fn transpose_twice_on<S: Places>(m: &mut Swaps<S>, log_size: usize)
     requires fits { length (S.items m.old.holder) ≡ 2 ^ log_size * 2 ^ log_size }
@@ -142,20 +152,23 @@ pub fn transpose_twice_on<S: Places>(m: &mut Swaps<S>, log_size: usize)
     transpose_whole_square(m, log_size);
 }
 
-/// Puts the transpose of a region as that of its upper rows and then that of its lower rows, with the contract of
-/// `transpose_region_on`.
+/// Puts the transpose of a region as that of its upper rows and then that of its lower rows, with
+/// the contract of `transpose_region_on`.
 #[tactic(auto, using(p3_util::proofs::Callers::items_of_rows))]
-pub fn transpose_by_rows<C: Cells>(
-    input: &[C::Item],
+pub fn transpose_by_rows<R, C>(
+    input: &R,
     out: &mut Writes<C>,
     region: Region,
     width: usize,
     height: usize,
 )
-    requires input_fits { length input.now ≡ width * height }
+where
+    C: Cells,
+    R: Source<Item = C::Item>,
+    requires input_fits { length (R.items input.now) ≡ width * height }
     requires output_fits { length (C.items out.old.holder) ≡ width * height }
     requires inside { LiesInMatrix region width height }
-    ensures transposed { IsRegionTransposed region width height input.now
+    ensures transposed { IsRegionTransposed region width height (R.items input.now)
         (C.items out.old.holder) (C.items out.new.holder) }
     ensures count { out.new.count ≡ counted out.old.count (items_of region) }
     ensures holder { C.same_holder (items_of region) out.old.holder out.new.holder }
@@ -169,23 +182,26 @@ pub fn transpose_by_rows<C: Cells>(
         row_start: middle,
         ..region
     };
-    transpose_region_on(input, out, upper, width, height);
-    transpose_region_on(input, out, lower, width, height);
+    transpose_source_region_on(input, out, upper, width, height);
+    transpose_source_region_on(input, out, lower, width, height);
 }
 
 /// The same as that of its left columns and then that of its right columns.
 #[tactic(auto, using(p3_util::proofs::Callers::items_of_cols))]
-pub fn transpose_by_columns<C: Cells>(
-    input: &[C::Item],
+pub fn transpose_by_columns<R, C>(
+    input: &R,
     out: &mut Writes<C>,
     region: Region,
     width: usize,
     height: usize,
 )
-    requires input_fits { length input.now ≡ width * height }
+where
+    C: Cells,
+    R: Source<Item = C::Item>,
+    requires input_fits { length (R.items input.now) ≡ width * height }
     requires output_fits { length (C.items out.old.holder) ≡ width * height }
     requires inside { LiesInMatrix region width height }
-    ensures transposed { IsRegionTransposed region width height input.now
+    ensures transposed { IsRegionTransposed region width height (R.items input.now)
         (C.items out.old.holder) (C.items out.new.holder) }
     ensures count { out.new.count ≡ counted out.old.count (items_of region) }
     ensures holder { C.same_holder (items_of region) out.old.holder out.new.holder }
@@ -199,6 +215,6 @@ pub fn transpose_by_columns<C: Cells>(
         col_start: middle,
         ..region
     };
-    transpose_region_on(input, out, left, width, height);
-    transpose_region_on(input, out, right, width, height);
+    transpose_source_region_on(input, out, left, width, height);
+    transpose_source_region_on(input, out, right, width, height);
 }

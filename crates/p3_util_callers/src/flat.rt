@@ -52,7 +52,8 @@ pub fn items_of_reversed<T: Default + Drop, const N: usize>(
 ) -> Result<Vec<T>, AllocError>
     requires fits { vec_len rows * N < 2 ^ 64 }
     requires power { IsReversible (vec_len rows) }
-    ensures { IfOk result (λ moved. (items : List T) → IsFlat N rows.items items → IsRowReversal N items moved.items) }
+    ensures { IfOk result (λ moved. (items : List T) → IsFlat N rows.items items
+        → IsRowReversal N items moved.items) }
 {
     let Ok(items) = flatten_to_base(alloc, reversed(rows)) else {
         return Err(AllocError);
@@ -60,8 +61,8 @@ pub fn items_of_reversed<T: Default + Drop, const N: usize>(
     Ok(items)
 }
 
-/// The numbers after they were made elements of an extension field, each of four numbers, and these were reversed by index
-/// bits.
+/// The numbers after they were made elements of an extension field, each of four numbers, and these
+/// were reversed by index bits.
 ///
 /// # Errors
 ///

@@ -1,5 +1,5 @@
-//! A slice from its last item to its first, as a list to read and as a holder, and callers. The file needs `p3_util` alone, so it
-//! can be copied as it stands.
+//! A slice from its last item to its first, as a list to read and as a holder, and callers. The
+//! file needs `p3_util` alone, so it can be copied as it stands.
 
 ghost use Rattle.std.specs.Prelude.{◌≡◌, ◌*◌, ◌<◌, length, reverse, slice_set, swap};
 ghost use Rattle.std.proofs.Common.{rules};
@@ -41,8 +41,8 @@ impl<'a, T: Copy> Source for FromEnd<'a, T> {
     }
 }
 
-/// The items of a slice from the last to the first, to be reordered or written. What it holds is in the slice when the
-/// borrow ends.
+/// The items of a slice from the last to the first, to be reordered or written. What it holds is in
+/// the slice when the borrow ends.
 #[derive(Drop)]
 pub struct FromEndMut<'a, T> {
     items: &'a mut [T],

@@ -1,9 +1,14 @@
-//! A transpose put together from small parts, each from the public contract of the part before: a block of 4 by 4 items, a tile
-//! of 16 by 16 from its blocks, a region from its tiles and what is left at its edges, and a matrix from its regions. The last
-//! caller is a square in place, from its quadrants.
+//! A demonstration, not to be copied: it shows that public contracts are enough to put a transpose
+//! together from small parts. To transpose, call `transpose_source_on` or
+//! `transpose_source_region_on`, which are faster. A caller takes three things from here: an
+//! invariant that grows a region row by row (`transpose_tile`), numbers of steps that are added by
+//! `same_holder_trans`, and small functions, each with one clause that the next one needs.
 //!
-//! Each is over every holder, and says its number of steps by `same_holder`. A counter is a holder too, so over one its count
-//! needs no other proof: `transpose_tile_on` is the tile in 256 writes.
+//! The parts are a block of 4 by 4 items, a tile of 16 by 16 from its blocks, a region from its
+//! tiles and the rest at its edges, and a matrix from its regions. The last caller is a square in
+//! place, from its quadrants. Each is over every source and every holder, and says its number of
+//! steps by `same_holder`. A counter is a holder too, so over one its count needs no other proof:
+//! `transpose_tile_on` is the tile in 256 writes.
 
 ghost use Rattle.std.specs.Prelude.{◌≡◌, ℕ, ◌+◌, ◌-◌, ◌*◌, ◌/◌, ◌^◌, ◌<◌, ◌≤◌, ◌⊎◌, length, slice_get};
 ghost use Rattle.p3_util.specs.Diagonal.{HoldsSquare, SwapsAcross};
@@ -16,10 +21,12 @@ ghost use prog.Memory.{size};
 ghost use denote.Param.{layout};
 
 use p3_util::places::{Cells, Places, SliceSource, Source, Swaps, Writes};
-use p3_util::transpose::{Region, butterfly_4x4, transpose_region_counted, transpose_square_on};
+use p3_util::transpose::{
+    Region, butterfly_4x4, transpose_on, transpose_source_region_counted, transpose_square_on,
+};
 
-/// The number of rows and of columns of a tile.
-const TILE_SIDE: usize = 16;
+/// The number of rows and of columns of a tile that is put as blocks of 4 by 4.
+const BLOCKED_SIDE: usize = 16;
 
 /// The greatest number of rows of a region of which a matrix is put together.
 const REGION_ROWS: usize = 128;
@@ -76,7 +83,8 @@ fn put_four<C: Cells>(cells: &mut C, to: usize, items: [C::Item; 4])
     requires room { to + 4 ≤ length (C.items cells.old) }
     ensures same_length { length (C.items cells.new) ≡ length (C.items cells.old) }
     ensures places { (t : ℕ) → t < 4 → slice_get (C.items cells.new) (to + t) ≡ slice_get items t }
-    ensures others { (p : ℕ) → (p < to) ⊎ (to + 4 ≤ p) → slice_get (C.items cells.new) p ≡ slice_get (C.items cells.old) p }
+    ensures others { (p : ℕ) → (p < to) ⊎ (to + 4 ≤ p)
+        → slice_get (C.items cells.new) p ≡ slice_get (C.items cells.old) p }
     ensures holder { C.same_holder 4 cells.old cells.new }
 {
     // Called so that the proof knows that the length fits a usize.
@@ -86,8 +94,8 @@ fn put_four<C: Cells>(cells: &mut C, to: usize, items: [C::Item; 4])
     }
 }
 
-/// Puts the transpose of a block of 4 by 4 items by way of an array and `butterfly_4x4`, in 16 puts. An array of 16 items has
-/// a condition on their size, `small`.
+/// Puts the transpose of a block of 4 by 4 items by way of an array and `butterfly_4x4`, in 16
+/// puts. An array of 16 items has a condition on their size, `small`.
 pub fn transpose_by_butterfly<R, C>(
     input: &R,
     cells: &mut C,
@@ -104,7 +112,8 @@ where
     requires rows { rows_of block ≡ 4 }
     requires cols { cols_of block ≡ 4 }
     requires small { 16 * size (layout C.Item.row) < 2 ^ 63 }
-    ensures transposed { IsRegionTransposed block width height (R.items input.now) (C.items cells.old) (C.items cells.new) }
+    ensures transposed { IsRegionTransposed block width height (R.items input.now)
+        (C.items cells.old) (C.items cells.new) }
     ensures holder { C.same_holder 16 cells.old cells.new }
 {
     // Called so that the proof knows that the length fits a usize.
@@ -128,7 +137,8 @@ where
     requires rows { rows_of blocks ≡ 4 }
     requires cols { cols_of blocks ≡ 16 }
     requires small { 16 * size (layout C.Item.row) < 2 ^ 63 }
-    ensures transposed { IsRegionTransposed blocks width height (R.items input.now) (C.items cells.old) (C.items cells.new) }
+    ensures transposed { IsRegionTransposed blocks width height (R.items input.now)
+        (C.items cells.old) (C.items cells.new) }
     ensures holder { C.same_holder 64 cells.old cells.new }
 {
     for k in 0..4 {
@@ -153,7 +163,8 @@ where
     requires rows { rows_of tile ≡ 16 }
     requires cols { cols_of tile ≡ 16 }
     requires small { 16 * size (layout C.Item.row) < 2 ^ 63 }
-    ensures transposed { IsRegionTransposed tile width height (R.items input.now) (C.items cells.old) (C.items cells.new) }
+    ensures transposed { IsRegionTransposed tile width height (R.items input.now)
+        (C.items cells.old) (C.items cells.new) }
     ensures holder { C.same_holder 256 cells.old cells.new }
 {
     for k in 0..4 {
@@ -184,53 +195,52 @@ where
     requires rows { rows_of tile ≡ 16 }
     requires cols { cols_of tile ≡ 16 }
     requires small { 16 * size (layout C.Item.row) < 2 ^ 63 }
-    ensures transposed { IsRegionTransposed tile width height (R.items input.now) (C.items out.old.holder) (C.items out.new.holder) }
+    ensures transposed { IsRegionTransposed tile width height (R.items input.now)
+        (C.items out.old.holder) (C.items out.new.holder) }
     ensures count { out.new.count ≡ counted out.old.count 256 }
     ensures holder { C.same_holder 256 out.old.holder out.new.holder }
 {
     transpose_tile(input, out, tile, width, height);
 }
 
-/// Puts the transpose of a part of a region: a tile of 16 by 16 items, or what is left at the right, at the bottom or in the
-/// corner. The input is a slice: where it has as many items as a tile, they are small enough for the array.
-fn transpose_tile_or_rest<C: Cells>(
-    input: &[C::Item],
-    cells: &mut C,
-    part: Region,
-    width: usize,
-    height: usize,
-)
-    requires input_fits { length input.now ≡ width * height }
+/// Puts the transpose of a part of a region: a tile of 16 by 16 items, or what is left at the
+/// right, at the bottom or in the corner.
+fn transpose_tile_or_rest<R, C>(input: &R, cells: &mut C, part: Region, width: usize, height: usize)
+where
+    C: Cells,
+    R: Source<Item = C::Item>,
+    requires input_fits { length (R.items input.now) ≡ width * height }
     requires output_fits { length (C.items cells.old) ≡ width * height }
     requires inside { LiesInMatrix part width height }
-    ensures transposed { IsRegionTransposed part width height input.now (C.items cells.old) (C.items cells.new) }
+    requires small { 16 * size (layout C.Item.row) < 2 ^ 63 }
+    ensures transposed { IsRegionTransposed part width height (R.items input.now)
+        (C.items cells.old) (C.items cells.new) }
     ensures holder { C.same_holder (items_of part) cells.old cells.new }
 {
     let (rows, cols) = (part.row_end - part.row_start, part.col_end - part.col_start);
-    if rows == TILE_SIDE && cols == TILE_SIDE {
-        transpose_tile(&SliceSource::new(input), cells, part, width, height);
+    if rows == BLOCKED_SIDE && cols == BLOCKED_SIDE {
+        transpose_tile(input, cells, part, width, height);
     } else {
-        transpose_region_counted(input, cells, part, width, height);
+        transpose_source_region_counted(input, cells, part, width, height);
     }
 }
 
 /// Puts the transpose of rows of a region, at most as many as a tile has, from left to right.
-fn transpose_row_of_tiles<C: Cells>(
-    input: &[C::Item],
-    cells: &mut C,
-    rows: Region,
-    width: usize,
-    height: usize,
-)
-    requires input_fits { length input.now ≡ width * height }
+fn transpose_row_of_tiles<R, C>(input: &R, cells: &mut C, rows: Region, width: usize, height: usize)
+where
+    C: Cells,
+    R: Source<Item = C::Item>,
+    requires input_fits { length (R.items input.now) ≡ width * height }
     requires output_fits { length (C.items cells.old) ≡ width * height }
     requires inside { LiesInMatrix rows width height }
-    ensures transposed { IsRegionTransposed rows width height input.now (C.items cells.old) (C.items cells.new) }
+    requires small { 16 * size (layout C.Item.row) < 2 ^ 63 }
+    ensures transposed { IsRegionTransposed rows width height (R.items input.now)
+        (C.items cells.old) (C.items cells.new) }
     ensures holder { C.same_holder (items_of rows) cells.old cells.new }
 {
     let mut col = rows.col_start;
     while col < rows.col_end {
-        let end = rows.col_end.min(col.saturating_add(TILE_SIDE));
+        let end = rows.col_end.min(col.saturating_add(BLOCKED_SIDE));
         let part = Region {
             col_start: col,
             col_end: end,
@@ -241,23 +251,29 @@ fn transpose_row_of_tiles<C: Cells>(
     }
 }
 
-/// Puts the transpose of a region as its tiles of 16 by 16 items and what is left at its edges, in one put an item.
-pub fn transpose_by_tiles<C: Cells>(
-    input: &[C::Item],
+/// Puts the transpose of a region as its tiles of 16 by 16 items and what is left at its edges, in
+/// one put an item.
+pub fn transpose_by_tiles<R, C>(
+    input: &R,
     cells: &mut C,
     region: Region,
     width: usize,
     height: usize,
 )
-    requires input_fits { length input.now ≡ width * height }
+where
+    C: Cells,
+    R: Source<Item = C::Item>,
+    requires input_fits { length (R.items input.now) ≡ width * height }
     requires output_fits { length (C.items cells.old) ≡ width * height }
     requires inside { LiesInMatrix region width height }
-    ensures transposed { IsRegionTransposed region width height input.now (C.items cells.old) (C.items cells.new) }
+    requires small { 16 * size (layout C.Item.row) < 2 ^ 63 }
+    ensures transposed { IsRegionTransposed region width height (R.items input.now)
+        (C.items cells.old) (C.items cells.new) }
     ensures holder { C.same_holder (items_of region) cells.old cells.new }
 {
     let mut row = region.row_start;
     while row < region.row_end {
-        let end = region.row_end.min(row.saturating_add(TILE_SIDE));
+        let end = region.row_end.min(row.saturating_add(BLOCKED_SIDE));
         let rows = Region {
             row_start: row,
             row_end: end,
@@ -268,17 +284,16 @@ pub fn transpose_by_tiles<C: Cells>(
     }
 }
 
-/// Puts the transpose of a matrix as regions of at most 128 rows, each by its tiles, with the contract of `transpose_on`:
-/// `width * height` writes over one counter.
-pub fn transpose_by_regions<C: Cells>(
-    input: &[C::Item],
-    out: &mut Writes<C>,
-    width: usize,
-    height: usize,
-)
-    requires input_fits { length input.now ≡ width * height }
+/// Puts the transpose of a matrix as regions of at most 128 rows, each by its tiles, with the
+/// contract of `transpose_on`: `width * height` writes over one counter.
+pub fn transpose_by_regions<R, C>(input: &R, out: &mut Writes<C>, width: usize, height: usize)
+where
+    C: Cells,
+    R: Source<Item = C::Item>,
+    requires input_fits { length (R.items input.now) ≡ width * height }
     requires output_fits { length (C.items out.old.holder) ≡ width * height }
-    ensures order { IsTranspose width height input.now (C.items out.new.holder) }
+    requires small { 16 * size (layout C.Item.row) < 2 ^ 63 }
+    ensures order { IsTranspose width height (R.items input.now) (C.items out.new.holder) }
     ensures count { out.new.count ≡ counted out.old.count (width * height) }
     ensures holder { C.same_holder (width * height) out.old.holder out.new.holder }
 {
@@ -296,8 +311,29 @@ pub fn transpose_by_regions<C: Cells>(
     }
 }
 
-/// Exchanges row `row` of the upper right quadrant of a square with its mirror image in the lower left one. A quadrant has `half`
-/// rows and columns.
+/// The same of a slice, without the condition on the size of an item: where a slice has 16 items,
+/// they are small enough for an array.
+pub fn transpose_slice_by_regions<C: Cells>(
+    input: &[C::Item],
+    out: &mut Writes<C>,
+    width: usize,
+    height: usize,
+)
+    requires input_fits { length input.now ≡ width * height }
+    requires output_fits { length (C.items out.old.holder) ≡ width * height }
+    ensures order { IsTranspose width height input.now (C.items out.new.holder) }
+    ensures count { out.new.count ≡ counted out.old.count (width * height) }
+    ensures holder { C.same_holder (width * height) out.old.holder out.new.holder }
+{
+    if input.len() < 16 {
+        transpose_on(input, out, width, height);
+    } else {
+        transpose_by_regions(&SliceSource::new(input), out, width, height);
+    }
+}
+
+/// Exchanges row `row` of the upper right quadrant of a square with its mirror image in the lower
+/// left one. A quadrant has `half` rows and columns.
 fn exchange_row_across<S: Places>(
     places: &mut S,
     base: usize,
@@ -308,7 +344,8 @@ fn exchange_row_across<S: Places>(
     requires row { row < half }
     requires within { 2 * half ≤ stride }
     requires ready { HoldsSquare base stride (2 * half - 1) (S.items places.old) }
-    ensures swapped { SwapsAcross base stride (record { row_start = row; row_end = row + 1; col_start = half; col_end = 2 * half })
+    ensures swapped { SwapsAcross base stride
+        (record { row_start = row; row_end = row + 1; col_start = half; col_end = 2 * half })
         (S.items places.old) (S.items places.new) }
     ensures holder { S.same_holder half places.old places.new }
 {
@@ -317,11 +354,13 @@ fn exchange_row_across<S: Places>(
     }
 }
 
-/// Exchanges the upper right quadrant of a square with the lower left one, across the diagonal, in `half * half` exchanges.
+/// Exchanges the upper right quadrant of a square with the lower left one, across the diagonal, in
+/// `half * half` exchanges.
 fn exchange_quadrants<S: Places>(places: &mut S, base: usize, stride: usize, half: usize)
     requires within { 2 * half ≤ stride }
     requires ready { HoldsSquare base stride (2 * half - 1) (S.items places.old) }
-    ensures swapped { SwapsAcross base stride (record { row_start = 0; row_end = half; col_start = half; col_end = 2 * half })
+    ensures swapped { SwapsAcross base stride
+        (record { row_start = 0; row_end = half; col_start = half; col_end = 2 * half })
         (S.items places.old) (S.items places.new) }
     ensures holder { S.same_holder (half * half) places.old places.new }
 {
@@ -330,7 +369,8 @@ fn exchange_quadrants<S: Places>(places: &mut S, base: usize, stride: usize, hal
     }
 }
 
-/// 2 to the power of `exponent`. It is a function of its own, so that a proof knows of the power alone.
+/// 2 to the power of `exponent`. It is a function of its own, so that a proof knows of the power
+/// alone.
 fn power(exponent: usize) -> usize
     requires { exponent < 64 }
     ensures { result ≡ 2 ^ exponent }
@@ -338,8 +378,9 @@ fn power(exponent: usize) -> usize
     1 << exponent
 }
 
-/// Transposes a square in place as its quadrants, with the contract of `transpose_square_on`: the upper left and the lower right
-/// one by that call, and the other two exchanged across the diagonal, in s(s - 1)/2 swaps over one counter.
+/// Transposes a square in place as its quadrants, with the contract of `transpose_square_on`: the
+/// upper left and the lower right one by that call, and the other two exchanged across the
+/// diagonal, in s(s - 1)/2 swaps over one counter.
 pub fn transpose_by_quadrants<S: Places>(
     m: &mut Swaps<S>,
     base: usize,
@@ -350,9 +391,11 @@ pub fn transpose_by_quadrants<S: Places>(
     requires stride_fits { log_stride < 64 }
     requires room { let s = 2 ^ log_size in
         base + (s - 1) * 2 ^ log_stride + (s - 1) < length (S.items m.old.holder) }
-    ensures transposed { IsSquareTransposed base log_stride log_size (S.items m.old.holder) (S.items m.new.holder) }
+    ensures transposed { IsSquareTransposed base log_stride log_size (S.items m.old.holder)
+        (S.items m.new.holder) }
     ensures count { let s = 2 ^ log_size in m.new.count ≡ counted m.old.count (s * (s - 1) / 2) }
-    ensures holder { let s = 2 ^ log_size in S.same_holder (s * (s - 1) / 2) m.old.holder m.new.holder }
+    ensures holder { let s = 2 ^ log_size in S.same_holder (s * (s - 1) / 2)
+        m.old.holder m.new.holder }
 {
     // Called so that the proof knows that the length fits a usize.
     let _ = m.len();

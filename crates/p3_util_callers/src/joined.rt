@@ -1,6 +1,7 @@
-//! Two slices seen as one list, which a kernel reorders as any other holder, and callers. Each caller is given the holder, which
-//! another function makes: in the function that makes a struct of two `&mut`, a proof does not know what both end as. The file
-//! needs `p3_util` alone, so it can be copied as it stands.
+//! Two slices seen as one list, which a kernel reorders as any other holder, and callers. Each
+//! caller is given the holder, which another function makes: in the function that makes a struct of
+//! two `&mut`, a proof does not know what both end as. The file needs `p3_util` alone, so it can be
+//! copied as it stands.
 
 ghost use Rattle.std.specs.Prelude.{◌≡◌, ◌+◌, ◌*◌, ◌++◌, ◌^◌, ◌<◌, length, slice_set, swap};
 ghost use Rattle.std.proofs.Common.{rules};
@@ -12,7 +13,8 @@ use p3_util::reverse_counted;
 use p3_util::transpose::transpose_counted;
 use std::mem;
 
-/// The items of one slice and then those of another. What it holds is in the two when the borrows end.
+/// The items of one slice and then those of another. What it holds is in the two when the borrows
+/// end.
 #[derive(Drop)]
 pub struct Joined<'a, F> {
     front: &'a mut [F],
@@ -36,7 +38,8 @@ impl<'a, F> Places for Joined<'a, F> {
 
     ghost items = { λ s. s.front.now ++ s.back.now };
 
-    ghost same_holder = { λ n a b. (a.front.ghost_name ≡ b.front.ghost_name) × (a.back.ghost_name ≡ b.back.ghost_name)
+    ghost same_holder = { λ n a b. (a.front.ghost_name ≡ b.front.ghost_name)
+        × (a.back.ghost_name ≡ b.back.ghost_name)
         × (length b.front.now ≡ length a.front.now) × (length b.back.now ≡ length a.back.now) };
 
     fn len(&self) -> usize {
@@ -57,7 +60,8 @@ impl<'a, T: Copy> Cells for Joined<'a, T> {
 
     ghost items = { λ s. s.front.now ++ s.back.now };
 
-    ghost same_holder = { λ n a b. (a.front.ghost_name ≡ b.front.ghost_name) × (a.back.ghost_name ≡ b.back.ghost_name)
+    ghost same_holder = { λ n a b. (a.front.ghost_name ≡ b.front.ghost_name)
+        × (a.back.ghost_name ≡ b.back.ghost_name)
         × (length b.front.now ≡ length a.front.now) × (length b.back.now ≡ length a.back.now) };
 
     fn len(&self) -> usize {
@@ -119,7 +123,8 @@ fn exchange_between<F>(front: &mut [F], i: usize, back: &mut [F], j: usize)
     requires second { j < length back.old }
     ensures front { length front.new ≡ length front.old }
     ensures back { length back.new ≡ length back.old }
-    ensures exchanged { front.new ++ back.new ≡ swap (front.old ++ back.old) i (length front.old + j) }
+    ensures exchanged { front.new ++ back.new
+        ≡ swap (front.old ++ back.old) i (length front.old + j) }
 {
     mem::swap(&mut front[i], &mut back[j]);
 }
@@ -127,14 +132,16 @@ fn exchange_between<F>(front: &mut [F], i: usize, back: &mut [F], j: usize)
 /// Reverses by index bits the list that is the front and then the back. Each keeps its length.
 pub fn reverse_joined<F>(joined: &mut Joined<F>)
     requires { IsReversible (length (joined.old.front.now ++ joined.old.back.now)) }
-    ensures order { IsReversal (joined.old.front.now ++ joined.old.back.now) (joined.new.front.now ++ joined.new.back.now) }
+    ensures order { IsReversal (joined.old.front.now ++ joined.old.back.now)
+        (joined.new.front.now ++ joined.new.back.now) }
     ensures front { length joined.new.front.now ≡ length joined.old.front.now }
     ensures back { length joined.new.back.now ≡ length joined.old.back.now }
 {
     reverse_counted(joined);
 }
 
-/// Puts the transpose of `input` into the front and then the back, and returns the number of writes. Each keeps its length.
+/// Puts the transpose of `input` into the front and then the back, and returns the number of
+/// writes. Each keeps its length.
 pub fn transpose_into_joined<T: Copy>(
     input: &[T],
     joined: &mut Joined<T>,
@@ -143,7 +150,8 @@ pub fn transpose_into_joined<T: Copy>(
 ) -> u128
     requires input_fits { length input.now ≡ width * height }
     requires output_fits { length (joined.old.front.now ++ joined.old.back.now) ≡ width * height }
-    ensures order { IsTranspose width height input.now (joined.new.front.now ++ joined.new.back.now) }
+    ensures order { IsTranspose width height input.now
+        (joined.new.front.now ++ joined.new.back.now) }
     ensures count { result ≡ width * height }
     ensures front { length joined.new.front.now ≡ length joined.old.front.now }
     ensures back { length joined.new.back.now ≡ length joined.old.back.now }

@@ -1,7 +1,8 @@
-//! What a reordering keeps: a bound of all items, which items there are, their sum, how many pass a test, and the product of two
-//! lists that are reversed alike. A function that says `IsPermutation` needs a lemma, and who calls it needs none.
+//! What a reordering keeps: a bound of all items, which items there are, their sum, how many pass a
+//! test, and the product of two lists that are reversed alike. A function that says `IsPermutation`
+//! needs a lemma, and who calls it needs none.
 
-ghost use Rattle.std.specs.Prelude.{◌≡◌, ℕ, ◌*◌, ◌^◌, ◌<◌, ◌≤◌, ◌==◌, All, Contains, IfOk, IfSome, IsPermutation, count_by, length, sum};
+ghost use Rattle.std.specs.Prelude.{◌≡◌, ℕ, ◌*◌, ◌^◌, ◌<◌, ◌≤◌, ◌==◌, All, Contains, IfOk, IfSome, IsPermutation, count_by, length, map, sum, zip};
 ghost use Rattle.p3_util.specs.Reversal.{FitsRows, IsReversible};
 
 use crate::chunks::padded_to;
@@ -72,7 +73,8 @@ pub fn pad_reduced(alloc: Global, items: &[u64], len: usize, m: u64) -> Result<V
     padded_to(alloc, items, len)
 }
 
-/// Reorders `vals`: an item is there if and only if it was there before, and the items that are 0 are as many as before.
+/// Reorders `vals`: an item is there if and only if it was there before, and the items that are 0
+/// are as many as before.
 pub fn reorder_and_keep(vals: &mut [u64])
     requires { IsReversible (length vals.old) }
     ensures kept { (x : ℕ) → Contains vals.old x → Contains vals.new x }
@@ -107,4 +109,38 @@ pub fn greatest_after(vals: &mut [u64]) -> Option<u64>
 {
     reordered_from(vals);
     greatest(vals)
+}
+
+/// The sum of the products of the items of two lists.
+pub fn sum_of_products(xs: &[u32], ys: &[u32]) -> u64
+    requires { sum (map (λ p. p.0 * p.1) (zip xs.now ys.now)) < 2 ^ 64 }
+    ensures { result ≡ sum (map (λ p. p.0 * p.1) (zip xs.now ys.now)) }
+{
+    xs.iter()
+        .zip(ys.iter())
+        .map(|(x, y)| u64::from(*x) * u64::from(*y))
+        .sum()
+}
+
+/// Reverses two lists alike, which leaves the sum of the products of their items. A file names the
+/// lemma.
+pub fn reorder_both(xs: &mut [u32], ys: &mut [u32])
+    requires power { IsReversible (length xs.old) }
+    requires same { length ys.old ≡ length xs.old }
+    ensures { sum (map (λ p. p.0 * p.1) (zip xs.new ys.new))
+        ≡ sum (map (λ p. p.0 * p.1) (zip xs.old ys.old)) }
+{
+    reverse_slice_index_bits(xs);
+    reverse_slice_index_bits(ys);
+}
+
+/// The sum of the products after both lists were reversed, which is what it was.
+pub fn sum_of_products_after(xs: &mut [u32], ys: &mut [u32]) -> u64
+    requires power { IsReversible (length xs.old) }
+    requires same { length ys.old ≡ length xs.old }
+    requires fits { sum (map (λ p. p.0 * p.1) (zip xs.old ys.old)) < 2 ^ 64 }
+    ensures { result ≡ sum (map (λ p. p.0 * p.1) (zip xs.old ys.old)) }
+{
+    reorder_both(xs, ys);
+    sum_of_products(xs, ys)
 }

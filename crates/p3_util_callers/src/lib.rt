@@ -1,4 +1,5 @@
-//! Callers of the modules of `p3_util`, and holders of a caller's own, proved from public contracts and lemmas alone.
+//! Callers of the modules of `p3_util`, and holders of a caller's own, proved from public contracts
+//! and lemmas alone.
 #![tactic(auto)]
 
 pub mod array_serialization;

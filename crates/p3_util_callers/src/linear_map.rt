@@ -1,4 +1,5 @@
-//! Callers of `LinearMap`, proved by the map's public contracts alone: any list of calls, and the map's pairs as a list.
+//! Callers of `LinearMap`, proved by the map's public contracts alone: any list of calls, and the
+//! map's pairs as a list.
 ghost use Rattle.std.specs.Prelude.{◌≡◌, ◌≢◌, ℕ, ◌+◌, ◌^◌, ◌<◌, ◌++◌, false, [], ◌∷◌, None, Some, IfOk, OnOk, OnErr, length, nat_eq, slice_set, sum};
 ghost use Rattle.std.specs.List.{position_or_len};
 ghost use Rattle.std.specs.Map.{keys_of, values_of};
@@ -64,7 +65,8 @@ pub fn run_calls<K: Eq + Copy, V: Copy>(
     Ok((map, answers))
 }
 
-/// Defines `symbol` in a table of symbols: afterwards it is found, and each other symbol is found as before.
+/// Defines `symbol` in a table of symbols: afterwards it is found, and each other symbol is found
+/// as before.
 #[tactic(auto, using(p3_util::proofs::Callers::put_found, p3_util::proofs::Callers::put_others))]
 pub fn define(
     table: &mut LinearMap<u32, u64>,
@@ -72,7 +74,8 @@ pub fn define(
     offset: u64,
 ) -> Result<Option<u64>, NoRoom<(u32, u64)>>
     ensures found { OnOk result (value_at nat_eq table.new symbol ≡ Some offset) }
-    ensures others { (other : ℕ) → other ≢ symbol → value_at nat_eq table.new other ≡ value_at nat_eq table.old other }
+    ensures others { (other : ℕ) → other ≢ symbol
+        → value_at nat_eq table.new other ≡ value_at nat_eq table.old other }
 {
     table.insert(symbol, offset)
 }
@@ -91,7 +94,8 @@ pub fn define_key<K: Eq + Copy + Drop, V: Copy>(
     table.insert(key, value)
 }
 
-/// Gives `key` a value, after which all values are known: a new one comes last, and else it takes the place of the old one.
+/// Gives `key` a value, after which all values are known: a new one comes last, and else it takes
+/// the place of the old one.
 #[tactic(auto, using(p3_util::proofs::Callers::values_after_new, p3_util::proofs::Callers::values_after_known))]
 pub fn insert_value<K: Eq + Copy + Drop, V: Copy>(
     map: &mut LinearMap<K, V>,
@@ -101,7 +105,8 @@ pub fn insert_value<K: Eq + Copy + Drop, V: Copy>(
     ensures new { OnOk result (value_at K.eq map.old key ≡ None
         → values_of map.new ≡ values_of map.old ++ value ∷ []) }
     ensures known { OnOk result ((before : V) → value_at K.eq map.old key ≡ Some before
-        → values_of map.new ≡ slice_set (values_of map.old) (position_or_len (K.eq key) (keys_of map.old)) value) }
+        → values_of map.new ≡ slice_set (values_of map.old)
+        (position_or_len (K.eq key) (keys_of map.old)) value) }
 {
     map.insert(key, value)
 }

@@ -1,5 +1,6 @@
-//! Loops of a caller's own, each with what it keeps in a file: a loop in place over numbers, a stage of a transform, a loop that
-//! takes one item after another into a state, and a merge of maps.
+//! Loops of a caller's own, each with what it keeps in a file: a loop in place over numbers, a
+//! stage of a transform, a loop that takes one item after another into a state, and a merge of
+//! maps.
 
 ghost use Rattle.std.specs.Prelude.{◌≡◌, ℕ, ◌+◌, ◌-◌, ◌*◌, ◌/◌, ◌%◌, ◌^◌, ◌<◌, ◌≤◌, All, OnOk, fold, length, map, nat_eq, slice_index};
 ghost use Rattle.p3_util.specs.LinearMap.{put_all};
@@ -20,14 +21,17 @@ pub fn reduce_each(vals: &mut [u64], m: u64)
     }
 }
 
-/// Puts the sum and the difference of the items at `2i` and `2i + 1`, modulo `m`, in their places. One step of a loop is a function
-/// of its own, so that the loop needs a file for its invariant alone.
+/// Puts the sum and the difference of the items at `2i` and `2i + 1`, modulo `m`, in their places.
+/// One step of a loop is a function of its own, so that the loop needs a file for its invariant
+/// alone.
 fn butterfly(vals: &mut [u64], i: usize, m: u64)
     requires inside { 2 * i + 1 < length vals.old }
     requires reduced { All (λ x. x < m) vals.old }
     requires small { m < 2 ^ 63 }
-    ensures sum { slice_index vals.new (2 * i) ≡ (slice_index vals.old (2 * i) + slice_index vals.old (2 * i + 1)) % m }
-    ensures difference { slice_index vals.new (2 * i + 1) ≡ (slice_index vals.old (2 * i) + m - slice_index vals.old (2 * i + 1)) % m }
+    ensures sum { slice_index vals.new (2 * i)
+        ≡ (slice_index vals.old (2 * i) + slice_index vals.old (2 * i + 1)) % m }
+    ensures difference { slice_index vals.new (2 * i + 1)
+        ≡ (slice_index vals.old (2 * i) + m - slice_index vals.old (2 * i + 1)) % m }
     ensures before { (p : ℕ) → p < 2 * i → slice_index vals.new p ≡ slice_index vals.old p }
     ensures after { (p : ℕ) → 2 * i + 2 ≤ p → slice_index vals.new p ≡ slice_index vals.old p }
     ensures reduced { All (λ x. x < m) vals.new }
@@ -38,14 +42,17 @@ fn butterfly(vals: &mut [u64], i: usize, m: u64)
     vals[2 * i + 1] = (a + m - b) % m;
 }
 
-/// A stage of a transform over pairs of neighbours: the sum and the difference of each two, modulo `m`. The items stay below `m`.
+/// A stage of a transform over pairs of neighbours: the sum and the difference of each two, modulo
+/// `m`. The items stay below `m`.
 pub fn butterflies(vals: &mut [u64], m: u64)
     requires reduced { All (λ x. x < m) vals.old }
     requires small { m < 2 ^ 63 }
     ensures sums { (k : ℕ) → k < length vals.old / 2
-        → slice_index vals.new (2 * k) ≡ (slice_index vals.old (2 * k) + slice_index vals.old (2 * k + 1)) % m }
+        → slice_index vals.new (2 * k) ≡ (slice_index vals.old (2 * k) + slice_index vals.old
+        (2 * k + 1)) % m }
     ensures differences { (k : ℕ) → k < length vals.old / 2
-        → slice_index vals.new (2 * k + 1) ≡ (slice_index vals.old (2 * k) + m - slice_index vals.old (2 * k + 1)) % m }
+        → slice_index vals.new (2 * k + 1) ≡ (slice_index vals.old (2 * k)
+        + m - slice_index vals.old (2 * k + 1)) % m }
     ensures reduced { All (λ x. x < m) vals.new }
 {
     for i in 0..vals.len() / 2 {
@@ -53,7 +60,8 @@ pub fn butterflies(vals: &mut [u64], m: u64)
     }
 }
 
-/// How a transform begins: the items are reversed by index bits, and then the first stage runs. All stay below `m`.
+/// How a transform begins: the items are reversed by index bits, and then the first stage runs. All
+/// stay below `m`.
 #[tactic(auto, using(p3_util::proofs::Callers::kept))]
 pub fn reverse_and_first_stage(vals: &mut [u64], m: u64)
     requires power { IsReversible (length vals.old) }
@@ -65,9 +73,11 @@ pub fn reverse_and_first_stage(vals: &mut [u64], m: u64)
     butterflies(vals, m);
 }
 
-/// The state after it took in each lane, in order, as a loop. What is left is folded as all of it is.
+/// The state after it took in each lane, in order, as a loop. What is left is folded as all of it
+/// is.
 pub fn absorbed(lanes: &[[u32; 2]]) -> u64
-    ensures { result ≡ fold (λ s lane. (s + slice_index lane 0 * slice_index lane 1) % 2 ^ 64) 0 lanes.now }
+    ensures { result ≡ fold (λ s lane. (s + slice_index lane 0 * slice_index lane 1)
+        % 2 ^ 64) 0 lanes.now }
 {
     let mut state = 0u64;
     for lane in lanes {

@@ -1,5 +1,5 @@
-//! Two slices whose items move together, as one list of pairs, and a caller. The file needs `p3_util` alone, so it can be copied as
-//! it stands.
+//! Two slices whose items move together, as one list of pairs, and a caller. The file needs
+//! `p3_util` alone, so it can be copied as it stands.
 
 ghost use Rattle.std.specs.Prelude.{◌≡◌, ◌<◌, length, swap, zip};
 ghost use Rattle.std.proofs.Common.{rules};
@@ -8,7 +8,8 @@ ghost use Rattle.p3_util.specs.Reversal.{IsReversal, IsReversible};
 use p3_util::places::Places;
 use p3_util::reverse_counted;
 
-/// Each item of `keys` with that of `values` at the same place. What it holds is in the two when the borrows end.
+/// Each item of `keys` with that of `values` at the same place. What it holds is in the two when
+/// the borrows end.
 #[derive(Drop)]
 pub struct PairsMut<'a, K, V> {
     keys: &'a mut [K],
@@ -33,7 +34,8 @@ impl<'a, K, V> Places for PairsMut<'a, K, V> {
 
     ghost items = { λ s. zip s.keys.now s.values.now };
 
-    ghost same_holder = { λ n a b. (a.keys.ghost_name ≡ b.keys.ghost_name) × (a.values.ghost_name ≡ b.values.ghost_name) };
+    ghost same_holder = { λ n a b. (a.keys.ghost_name ≡ b.keys.ghost_name)
+        × (a.values.ghost_name ≡ b.values.ghost_name) };
 
     fn len(&self) -> usize {
         self.keys.len()
@@ -65,7 +67,8 @@ fn exchange_pairs<K, V>(keys: &mut [K], values: &mut [V], i: usize, j: usize)
 /// Reverses two lists together by index bits. Another function makes the holder of both.
 pub fn reverse_pairs<K, V>(pairs: &mut PairsMut<K, V>)
     requires { IsReversible (length (zip pairs.old.keys.now pairs.old.values.now)) }
-    ensures { IsReversal (zip pairs.old.keys.now pairs.old.values.now) (zip pairs.new.keys.now pairs.new.values.now) }
+    ensures { IsReversal (zip pairs.old.keys.now pairs.old.values.now)
+        (zip pairs.new.keys.now pairs.new.values.now) }
 {
     reverse_counted(pairs);
 }

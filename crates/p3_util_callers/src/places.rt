@@ -19,8 +19,9 @@ pub fn rotate_three<S: Places>(m: &mut Swaps<S>, i: usize, j: usize, k: usize)
     m.swap(j, k);
 }
 
-/// Exchanges the items at the even places `2 * i` and `2 * j`, which are items `i` and `j` of the list of those. The lemma is
-/// given the function of the places in a file, since no search finds a function.
+/// Exchanges the items at the even places `2 * i` and `2 * j`, which are items `i` and `j` of the
+/// list of those. The lemma is given the function of the places in a file, since no search finds a
+/// function.
 pub fn exchange_even<F>(items: &mut [F], i: usize, j: usize)
     requires first { 2 * i < length items.old }
     requires second { 2 * j < length items.old }

@@ -1,6 +1,7 @@
-//! Callers of bit reversal. None of them has a proof by hand: the test in front of a call is enough, or a lemma that is named.
+//! Callers of bit reversal. None of them has a proof by hand: the test in front of a call is
+//! enough, or a lemma that is named.
 
-ghost use Rattle.std.specs.Prelude.{◌≡◌, ℕ, ◌+◌, ◌*◌, ◌^◌, ◌<◌, ◌≤◌, ◌↔◌, [], ◌∷◌, IsTrue, IsFalse, IfOk, length, map, slice_get, slice_index};
+ghost use Rattle.std.specs.Prelude.{◌≡◌, ℕ, ◌+◌, ◌-◌, ◌*◌, ◌^◌, ◌<◌, ◌≤◌, ◌↔◌, [], ◌∷◌, IsTrue, IsFalse, IfOk, drop, length, map, slice_get, slice_index, take};
 ghost use Rattle.std.specs.Int.{is_power_of_two};
 ghost use Rattle.p3_util.specs.Digits.{rev};
 ghost use Rattle.p3_util.specs.Reversal.{FitsRows, IsReversal, IsReversible, IsRowReversal, IsZeroOrPowerOfTwo};
@@ -14,7 +15,8 @@ use p3_util::reverse::{
 };
 use std::alloc::{AllocError, Global};
 
-/// Reverses `vals` by index bits. `false`, and nothing done, where the length is neither zero nor a power of two.
+/// Reverses `vals` by index bits. `false`, and nothing done, where the length is neither zero nor a
+/// power of two.
 pub fn reverse_where_it_fits<F>(vals: &mut [F]) -> bool
     ensures done { IsTrue result → IsReversal vals.old vals.new }
     ensures left { IsFalse result → vals.new ≡ vals.old }
@@ -27,7 +29,8 @@ pub fn reverse_where_it_fits<F>(vals: &mut [F]) -> bool
     fits
 }
 
-/// Reverses `vals` by index bits where the length is a power of two, by std's test, and else leaves it.
+/// Reverses `vals` by index bits where the length is a power of two, by std's test, and else leaves
+/// it.
 pub fn reverse_power_of_two<F>(vals: &mut [F])
     ensures done { IsTrue (is_power_of_two (length vals.old)) → IsReversal vals.old vals.new }
     ensures left { IsFalse (is_power_of_two (length vals.old)) → vals.new ≡ vals.old }
@@ -46,8 +49,8 @@ pub fn reversed_literal() -> [u32; 4]
     items
 }
 
-/// Reverses the order of the `2^lb_num_chunks` chunks of `2^lb_chunk_size` items where `m` is as long as these. `false`, and
-/// nothing done, elsewhere.
+/// Reverses the order of the `2^lb_num_chunks` chunks of `2^lb_chunk_size` items where `m` is as
+/// long as these. `false`, and nothing done, elsewhere.
 pub fn reverse_chunks_where_they_fit<S: Places>(
     m: &mut Swaps<S>,
     lb_num_chunks: usize,
@@ -69,7 +72,8 @@ pub fn reverse_chunks_where_they_fit<S: Places>(
     }
 }
 
-/// Reverses `vals` by index bits twice, as a transform and its inverse do, which leaves it as it was.
+/// Reverses `vals` by index bits twice, as a transform and its inverse do, which leaves it as it
+/// was.
 #[tactic(auto, using(p3_util::proofs::Callers::reversed_twice))]
 pub fn reverse_twice<F>(vals: &mut [F])
     requires { IsReversible (length vals.old) }
@@ -100,7 +104,8 @@ pub fn item_after(vals: &mut [u64], k: usize, i: usize) -> u64
     vals[i]
 }
 
-/// Reverses `vals` by index bits, and returns one item twice: read before at the reversed index, and after at the index.
+/// Reverses `vals` by index bits, and returns one item twice: read before at the reversed index,
+/// and after at the index.
 #[tactic(auto, using(p3_util::proofs::Callers::reversed_read))]
 pub fn item_before_and_after<T: Copy>(vals: &mut [T], k: usize, i: usize) -> (T, T)
     requires some { 1 ≤ k }
@@ -121,7 +126,8 @@ pub fn doubled(alloc: Global, vals: &[u32]) -> Result<Vec<u64>, AllocError>
     vals.iter().map(|x| 2 * u64::from(*x)).collect(alloc)
 }
 
-/// The same by way of a reversal: it reverses `vals`, doubles each item, and reverses these back. `vals` stays reversed.
+/// The same by way of a reversal: it reverses `vals`, doubles each item, and reverses these back.
+/// `vals` stays reversed.
 #[tactic(auto, using(p3_util::proofs::Callers::reversed_worked))]
 pub fn doubled_in_reversed_order(alloc: Global, vals: &mut [u32]) -> Result<Vec<u64>, AllocError>
     requires { IsReversible (length vals.old) }
@@ -141,7 +147,8 @@ pub fn reversed<T>(mut vals: Vec<T>) -> Vec<T>
     vals
 }
 
-/// Reverses the order of the rows of `vals`, of `row_width` items each, twice, which leaves it as it was.
+/// Reverses the order of the rows of `vals`, of `row_width` items each, twice, which leaves it as
+/// it was.
 #[tactic(auto, using(p3_util::proofs::Callers::rows_reversed_twice))]
 pub fn reverse_rows_twice<F>(vals: &mut [F], row_width: usize)
     requires { FitsRows (length vals.old) row_width }
@@ -151,8 +158,8 @@ pub fn reverse_rows_twice<F>(vals: &mut [F], row_width: usize)
     reverse_slice_row_index_bits(vals, row_width);
 }
 
-/// In reversed order the items at places `2i` and `2i + 1`, which a fold takes together, are those of one half and of the
-/// other.
+/// In reversed order the items at places `2i` and `2i + 1`, which a fold takes together, are those
+/// of one half and of the other.
 #[tactic(auto, using(p3_util::proofs::Callers::reversed_even, p3_util::proofs::Callers::reversed_odd))]
 pub fn halves_side_by_side<F>(vals: &mut [F])
     requires { IsReversible (length vals.old) }
@@ -182,7 +189,8 @@ pub fn reverse_rows_from<S: Places>(m: &mut Swaps<S>, row_width: usize)
     reverse_row_index_bits_on(m, row_width);
 }
 
-/// Reverses two holders of the same items, one by the short path and one by the long one. They have the same items then.
+/// Reverses two holders of the same items, one by the short path and one by the long one. They have
+/// the same items then.
 #[tactic(auto, using(p3_util::proofs::Callers::reversed_once))]
 pub fn reverse_by_both_paths<S: Places>(one: &mut Swaps<S>, other: &mut Swaps<S>)
     requires fits { IsReversible (length (S.items one.old.holder)) }
@@ -203,4 +211,37 @@ pub fn reverse_rows_of_both<S: Places>(one: &mut [S::Item], other: &mut S, row_w
 {
     reverse_slice_row_index_bits(one, row_width);
     reverse_rows_counted(other, row_width);
+}
+
+/// Reverses by index bits what stands from place `from` on. The items before it stay.
+pub fn reverse_from_place<T>(xs: &mut [T], from: usize)
+    requires inside { from ≤ length xs.old }
+    requires power { IsReversible (length xs.old - from) }
+    ensures part { IsReversal (drop from xs.old) (drop from xs.new) }
+    ensures front { take from xs.new ≡ take from xs.old }
+{
+    reverse_slice_index_bits(&mut xs[from..]);
+}
+
+/// Reverses by index bits the `len` items from place `from` on.
+pub fn reverse_window<T>(xs: &mut [T], from: usize, len: usize)
+    requires inside { from + len ≤ length xs.old }
+    requires power { IsReversible len }
+    ensures { IsReversal (take len (drop from xs.old)) (take len (drop from xs.new)) }
+{
+    reverse_slice_index_bits(&mut xs[from..from + len]);
+}
+
+/// A copy of `xs` in the order of reversed index bits. `to_vec` calls `clone`, of which nothing is
+/// known for any `T: Copy`.
+///
+/// # Errors
+///
+/// `AllocError` where there is no memory for the copy.
+pub fn reversed_copy<T: Copy>(alloc: Global, xs: &[T]) -> Result<Vec<T>, AllocError>
+    requires { IsReversible (length xs.now) }
+    ensures { IfOk result (λ v. IsReversal xs.now v.items) }
+{
+    let copy = xs.iter().copied().collect::<Vec<T>>(alloc)?;
+    Ok(reversed(copy))
 }

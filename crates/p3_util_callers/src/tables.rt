@@ -1,5 +1,5 @@
-//! Callers that read a table in the order of reversed index bits, or put one into it. A loop and a fold have a
-//! proof file.
+//! Callers that read a table in the order of reversed index bits, or put one into it: reads, folds
+//! and sums. A loop and a sum that wraps have a proof file.
 
 ghost use Rattle.std.specs.Prelude.{◌≡◌, ℕ, ◌+◌, ◌*◌, ◌/◌, ◌%◌, ◌^◌, ◌<◌, ◌≤◌, IfOk, List, Some, fold, length, map, slice_get, slice_index, sum};
 ghost use Rattle.std.specs.Int.{IsPowerOfTwo};
@@ -12,11 +12,15 @@ use p3_util::reverse::{reverse_slice_index_bits, reverse_slice_row_index_bits};
 use p3_util::transpose::transpose;
 use std::alloc::{AllocError, Global};
 
-/// Puts a table of evaluations into the order of reversed index bits: place `i` has the item of the reversed index then.
+// Reads: an item of a reordered table, or all of them by place.
+
+/// Puts a table of evaluations into the order of reversed index bits: place `i` has the item of the
+/// reversed index then.
 #[tactic(auto, using(p3_util::proofs::Callers::reversed_place))]
 pub fn reorder_evaluations<T>(evals: &mut [T])
     requires { IsReversible (length evals.old) }
-    ensures { (k i : ℕ) → length evals.old ≡ 2 ^ k → i < 2 ^ k → slice_get evals.new i ≡ slice_get evals.old (rev k i) }
+    ensures { (k i : ℕ) → length evals.old ≡ 2 ^ k → i < 2 ^ k
+        → slice_get evals.new i ≡ slice_get evals.old (rev k i) }
 {
     reverse_slice_index_bits(evals);
 }
@@ -61,23 +65,37 @@ pub fn number_after(evals: &mut [u64], k: usize, i: usize) -> u64
 pub fn item_of_reordered<T: Copy>(table: &[T], k: usize, i: usize) -> T
     requires len { length table.now ≡ 2 ^ k }
     requires inside { i < 2 ^ k }
-    ensures { (evals : List T) → IsReversal evals table.now → slice_get evals (rev k i) ≡ Some result }
+    ensures { (evals : List T) → IsReversal evals table.now
+        → slice_get evals (rev k i) ≡ Some result }
 {
     table[i]
 }
 
-/// The item that was at `i` in a table of two items or more that somebody has reordered, by the length alone.
+/// The item that was at `i` in a table of two items or more that somebody has reordered, by the
+/// length alone.
 #[tactic(auto, using(p3_util::proofs::Callers::reversed_read))]
 pub fn item_before_reorder<T: Copy>(table: &[T], i: usize) -> T
     requires power { IsPowerOfTwo (length table.now) }
     requires inside { i < length table.now }
-    ensures { (k : ℕ) (evals : List T) → 1 ≤ k → length table.now ≡ 2 ^ k → IsReversal evals table.now
+    ensures { (k : ℕ) (evals : List T) → 1 ≤ k → length table.now ≡ 2 ^ k
+        → IsReversal evals table.now
         → slice_get evals i ≡ Some result }
 {
     table[reverse_bits(i, table.len())]
 }
 
-/// The item that a reversal by index bits brings to place `i`, read where it lies, by the length alone.
+/// Item `i` of a table that somebody has reordered, or `None` where there is none.
+#[tactic(auto, using(p3_util::proofs::Callers::reversed_read))]
+pub fn got_of_reordered<T: Copy>(table: &[T], k: usize, i: usize) -> Option<T>
+    requires len { length table.now ≡ 2 ^ k }
+    requires inside { i < 2 ^ k }
+    ensures { (evals : List T) → IsReversal evals table.now → result ≡ slice_get evals (rev k i) }
+{
+    table.get(i).copied()
+}
+
+/// The item that a reversal by index bits brings to place `i`, read where it lies, by the length
+/// alone.
 pub fn item_by_length<T: Copy>(table: &[T], k: usize, i: usize) -> T
     requires some { 1 ≤ k }
     requires len { length table.now ≡ 2 ^ k }
@@ -92,47 +110,107 @@ pub fn reordered_copy(alloc: Global, evals: &[u32], k: usize) -> Result<Vec<u32>
     requires some { 1 ≤ k }
     requires few { k < 64 }
     requires len { length evals.now ≡ 2 ^ k }
-    ensures { IfOk result (λ copy. copy.items ≡ map (λ i. slice_index evals.now (rev k i)) (range_with_len 0 (2 ^ k))) }
+    ensures { IfOk result (λ copy. copy.items
+        ≡ map (λ i. slice_index evals.now (rev k i)) (range_with_len 0 (2 ^ k))) }
 {
     (0..evals.len())
         .map(|i| evals[reverse_bits_len(i, k)])
         .collect(alloc)
 }
 
-/// The sum of each item of a table times a weight, where the weights go in reversed order.
-pub fn weighted_sum(evals: &[u32], weights: &[u16], k: usize) -> u64
+/// Puts the items of `table` into `out` by their reversed indices, which makes it the reversal.
+/// What the loop keeps is in a file.
+pub fn reordered_into<T: Copy>(table: &[T], out: &mut [T], k: usize)
     requires some { 1 ≤ k }
     requires few { k < 64 }
-    requires len { length evals.now ≡ 2 ^ k }
-    requires weights { length weights.now ≡ 2 ^ k }
-    requires fits { sum (map (λ i. slice_index evals.now i * slice_index weights.now (rev k i)) (range_with_len 0 (2 ^ k))) < 2 ^ 64 }
-    ensures { result ≡ sum (map (λ i. slice_index evals.now i * slice_index weights.now (rev k i)) (range_with_len 0 (2 ^ k))) }
+    requires len { length table.now ≡ 2 ^ k }
+    requires room { length out.old ≡ 2 ^ k }
+    ensures { IsReversal table.now out.new }
 {
-    (0..evals.len())
-        .map(|i| u64::from(evals[i]) * u64::from(weights[reverse_bits_len(i, k)]))
-        .sum()
+    for i in 0..table.len() {
+        out[i] = table[reverse_bits_len(i, k)];
+    }
 }
 
-/// The sum of all items.
-pub fn sum_of(items: &[u64]) -> u64
-    requires { sum items.now < 2 ^ 64 }
-    ensures { result ≡ sum items.now }
+/// Twice each item.
+///
+/// # Errors
+///
+/// `AllocError` where there is no memory for them.
+pub fn doubled_by_place(alloc: Global, items: &[u32]) -> Result<Vec<u64>, AllocError>
+    ensures len { IfOk result (λ twice. length twice.items ≡ length items.now) }
+    ensures places { IfOk result (λ twice. (i : ℕ) → i < length items.now
+        → slice_index twice.items i ≡ 2 * slice_index items.now i) }
 {
-    items.iter().sum()
+    items.iter().map(|x| 2 * u64::from(*x)).collect(alloc)
 }
 
-/// Reorders the table, and returns the sum of all its items, which is as it was.
-#[tactic(auto, using(p3_util::proofs::Callers::reversed_sum))]
-pub fn sum_after(evals: &mut [u64]) -> u64
-    requires power { IsReversible (length evals.old) }
-    requires fits { sum evals.old < 2 ^ 64 }
-    ensures { result ≡ sum evals.old }
+/// Reorders the items, and doubles each: a callee with two clauses, one of them by places.
+///
+/// # Errors
+///
+/// `AllocError` where there is no memory for them. The items are reordered then.
+#[tactic(auto, using(p3_util::proofs::Callers::reversed_index))]
+pub fn doubled_after(alloc: Global, items: &mut [u32], k: usize) -> Result<Vec<u64>, AllocError>
+    requires { length items.old ≡ 2 ^ k }
+    ensures len { IfOk result (λ twice. length twice.items ≡ 2 ^ k) }
+    ensures places { IfOk result (λ twice. (i : ℕ) → i < 2 ^ k
+        → slice_index twice.items i ≡ 2 * slice_index items.old (rev k i)) }
 {
-    reverse_slice_index_bits(evals);
-    sum_of(evals)
+    reverse_slice_index_bits(items);
+    doubled_by_place(alloc, items)
 }
 
-/// Reverses `values` by index bits, and adds up the items at `2i` and `2i + 1` then, as the first pass of a transform does.
+/// Reverses a table of numbers by index bits, said by place.
+#[tactic(auto, using(p3_util::proofs::Callers::reversed_index))]
+pub fn reorder_numbers(values: &mut [u64], k: usize)
+    requires { length values.old ≡ 2 ^ k }
+    ensures { (i : ℕ) → i < 2 ^ k → slice_index values.new i ≡ slice_index values.old (rev k i) }
+{
+    reverse_slice_index_bits(values);
+}
+
+/// Doubles each item, and reorders what comes of it. Two calls in a row are said by place where the
+/// reversal is in a function of its own.
+///
+/// # Errors
+///
+/// `AllocError` where there is no memory for them.
+#[tactic(auto, using(p3_util::proofs::Callers::rev_below))]
+pub fn doubled_then_reordered(
+    alloc: Global,
+    items: &[u32],
+    k: usize,
+) -> Result<Vec<u64>, AllocError>
+    requires { length items.now ≡ 2 ^ k }
+    ensures { IfOk result (λ twice. (i : ℕ) → i < 2 ^ k
+        → slice_index twice.items i ≡ 2 * slice_index items.now (rev k i)) }
+{
+    let mut twice = doubled_by_place(alloc, items)?;
+    reorder_numbers(&mut twice, k);
+    Ok(twice)
+}
+
+/// Puts the columns of a matrix of `height` rows of `width` items into the order of their reversed
+/// index: `scratch` has its transpose, whose rows are reversed, and then it is transposed back.
+#[tactic(auto, using(p3_util::proofs::Callers::rev_below))]
+pub fn reverse_columns<T: Copy>(matrix: &mut [T], scratch: &mut [T], width: usize, height: usize)
+    requires matrix_fits { length matrix.old ≡ width * height }
+    requires scratch_fits { length scratch.old ≡ width * height }
+    requires power { IsZeroOrPowerOfTwo width }
+    ensures { (k row column : ℕ) → width ≡ 2 ^ k → row < height → column < width
+        → slice_get matrix.new (row * width + column)
+        ≡ slice_get matrix.old (row * width + rev k column) }
+{
+    transpose(matrix, scratch, width, height);
+    reverse_slice_row_index_bits(scratch, height);
+    transpose(scratch, matrix, height, width);
+}
+
+// Folds: the items at 2i and 2i + 1, which come from one half of the table and from the other.
+
+/// Reverses `values` by index bits, and adds up the items at `2i` and `2i + 1` then, as the first
+/// pass of a transform does.
 #[tactic(auto, using(p3_util::proofs::Callers::even_read, p3_util::proofs::Callers::odd_read))]
 pub fn sum_of_pair(values: &mut [u32], k: usize, i: usize) -> u64
     requires len { length values.old ≡ 2 ^ (k + 1) }
@@ -143,21 +221,6 @@ pub fn sum_of_pair(values: &mut [u32], k: usize, i: usize) -> u64
     u64::from(values[2 * i]) + u64::from(values[2 * i + 1])
 }
 
-/// Puts the columns of a matrix of `height` rows of `width` items into the order of their reversed index: `scratch` has its
-/// transpose, whose rows are reversed, and then it is transposed back.
-#[tactic(auto, using(p3_util::proofs::Callers::rev_below))]
-pub fn reverse_columns<T: Copy>(matrix: &mut [T], scratch: &mut [T], width: usize, height: usize)
-    requires matrix_fits { length matrix.old ≡ width * height }
-    requires scratch_fits { length scratch.old ≡ width * height }
-    requires power { IsZeroOrPowerOfTwo width }
-    ensures { (k row column : ℕ) → width ≡ 2 ^ k → row < height → column < width
-        → slice_get matrix.new (row * width + column) ≡ slice_get matrix.old (row * width + rev k column) }
-{
-    transpose(matrix, scratch, width, height);
-    reverse_slice_row_index_bits(scratch, height);
-    transpose(scratch, matrix, height, width);
-}
-
 /// The sums of the items at `2i` and `2i + 1`.
 ///
 /// # Errors
@@ -166,7 +229,8 @@ pub fn reverse_columns<T: Copy>(matrix: &mut [T], scratch: &mut [T], width: usiz
 pub fn sums_of_neighbours(alloc: Global, evals: &[u32]) -> Result<Vec<u64>, AllocError>
     ensures len { IfOk result (λ sums. length sums.items ≡ length evals.now / 2) }
     ensures sums { IfOk result (λ sums. (i : ℕ) → i < length evals.now / 2
-        → slice_index sums.items i ≡ slice_index evals.now (2 * i) + slice_index evals.now (2 * i + 1)) }
+        → slice_index sums.items i ≡ slice_index evals.now (2 * i)
+        + slice_index evals.now (2 * i + 1)) }
 {
     (0..evals.len() / 2)
         .map(|i| u64::from(evals[2 * i]) + u64::from(evals[2 * i + 1]))
@@ -183,66 +247,48 @@ pub fn fold_after(alloc: Global, evals: &mut [u32], k: usize) -> Result<Vec<u64>
     requires { length evals.old ≡ 2 ^ (k + 1) }
     ensures len { IfOk result (λ sums. length sums.items ≡ 2 ^ k) }
     ensures sums { IfOk result (λ sums. (i : ℕ) → i < 2 ^ k
-        → slice_index sums.items i ≡ slice_index evals.old (rev k i) + slice_index evals.old (rev k i + 2 ^ k)) }
+        → slice_index sums.items i ≡ slice_index evals.old (rev k i) + slice_index evals.old
+        (rev k i + 2 ^ k)) }
 {
     reverse_slice_index_bits(evals);
     sums_of_neighbours(alloc, evals)
 }
 
-/// Twice each item.
-///
-/// # Errors
-///
-/// `AllocError` where there is no memory for them.
-pub fn doubled_by_place(alloc: Global, items: &[u32]) -> Result<Vec<u64>, AllocError>
-    ensures len { IfOk result (λ twice. length twice.items ≡ length items.now) }
-    ensures places { IfOk result (λ twice. (i : ℕ) → i < length items.now → slice_index twice.items i ≡ 2 * slice_index items.now i) }
+// Sums over a reordered table.
+
+/// The sum of all items.
+pub fn sum_of(items: &[u64]) -> u64
+    requires { sum items.now < 2 ^ 64 }
+    ensures { result ≡ sum items.now }
 {
-    items.iter().map(|x| 2 * u64::from(*x)).collect(alloc)
+    items.iter().sum()
 }
 
-/// Reorders the items, and doubles each: a callee with two clauses, one of them by places.
-///
-/// # Errors
-///
-/// `AllocError` where there is no memory for them. The items are reordered then.
-#[tactic(auto, using(p3_util::proofs::Callers::reversed_index))]
-pub fn doubled_after(alloc: Global, items: &mut [u32], k: usize) -> Result<Vec<u64>, AllocError>
-    requires { length items.old ≡ 2 ^ k }
-    ensures len { IfOk result (λ twice. length twice.items ≡ 2 ^ k) }
-    ensures places { IfOk result (λ twice. (i : ℕ) → i < 2 ^ k → slice_index twice.items i ≡ 2 * slice_index items.old (rev k i)) }
+/// Reorders the table, and returns the sum of all its items, which is as it was.
+#[tactic(auto, using(p3_util::proofs::Callers::kept_sum))]
+pub fn sum_after(evals: &mut [u64]) -> u64
+    requires power { IsReversible (length evals.old) }
+    requires fits { sum evals.old < 2 ^ 64 }
+    ensures { result ≡ sum evals.old }
 {
-    reverse_slice_index_bits(items);
-    doubled_by_place(alloc, items)
+    reverse_slice_index_bits(evals);
+    sum_of(evals)
 }
 
-/// Reverses a table of numbers by index bits, said by place.
-#[tactic(auto, using(p3_util::proofs::Callers::reversed_index))]
-pub fn reorder_numbers(values: &mut [u64], k: usize)
-    requires { length values.old ≡ 2 ^ k }
-    ensures { (i : ℕ) → i < 2 ^ k → slice_index values.new i ≡ slice_index values.old (rev k i) }
+/// The sum of each item of a table times a weight, where the weights go in reversed order.
+pub fn weighted_sum(evals: &[u32], weights: &[u16], k: usize) -> u64
+    requires some { 1 ≤ k }
+    requires few { k < 64 }
+    requires len { length evals.now ≡ 2 ^ k }
+    requires weights { length weights.now ≡ 2 ^ k }
+    requires fits { sum (map (λ i. slice_index evals.now i * slice_index weights.now (rev k i))
+        (range_with_len 0 (2 ^ k))) < 2 ^ 64 }
+    ensures { result ≡ sum (map (λ i. slice_index evals.now i * slice_index weights.now (rev k i))
+        (range_with_len 0 (2 ^ k))) }
 {
-    reverse_slice_index_bits(values);
-}
-
-/// Doubles each item, and reorders what comes of it. Two calls in a row are said by place where the reversal is in a function of
-/// its own.
-///
-/// # Errors
-///
-/// `AllocError` where there is no memory for them.
-#[tactic(auto, using(p3_util::proofs::Callers::rev_below))]
-pub fn doubled_then_reordered(
-    alloc: Global,
-    items: &[u32],
-    k: usize,
-) -> Result<Vec<u64>, AllocError>
-    requires { length items.now ≡ 2 ^ k }
-    ensures { IfOk result (λ twice. (i : ℕ) → i < 2 ^ k → slice_index twice.items i ≡ 2 * slice_index items.now (rev k i)) }
-{
-    let mut twice = doubled_by_place(alloc, items)?;
-    reorder_numbers(&mut twice, k);
-    Ok(twice)
+    (0..evals.len())
+        .map(|i| u64::from(evals[i]) * u64::from(weights[reverse_bits_len(i, k)]))
+        .sum()
 }
 
 /// The sum of all items as it is folded, which wraps.
@@ -260,35 +306,11 @@ pub fn wrapping_sum(items: &[u32]) -> u32
 }
 
 /// Reorders the table, and returns a checksum of it, which is as it was.
-#[tactic(auto, using(p3_util::proofs::Callers::reversed_sum))]
+#[tactic(auto, using(p3_util::proofs::Callers::kept_sum))]
 pub fn checksum_after(items: &mut [u32]) -> u32
     requires { IsReversible (length items.old) }
     ensures { result ≡ sum items.old % 2 ^ 32 }
 {
     reverse_slice_index_bits(items);
     wrapping_sum(items)
-}
-
-/// Item `i` of a table that somebody has reordered, or `None` where there is none.
-#[tactic(auto, using(p3_util::proofs::Callers::reversed_read))]
-pub fn got_of_reordered<T: Copy>(table: &[T], k: usize, i: usize) -> Option<T>
-    requires len { length table.now ≡ 2 ^ k }
-    requires inside { i < 2 ^ k }
-    ensures { (evals : List T) → IsReversal evals table.now → result ≡ slice_get evals (rev k i) }
-{
-    table.get(i).copied()
-}
-
-/// Puts the items of `table` into `out` by their reversed indices, which makes it the reversal. What the loop keeps is in a
-/// file.
-pub fn reordered_into<T: Copy>(table: &[T], out: &mut [T], k: usize)
-    requires some { 1 ≤ k }
-    requires few { k < 64 }
-    requires len { length table.now ≡ 2 ^ k }
-    requires room { length out.old ≡ 2 ^ k }
-    ensures { IsReversal table.now out.new }
-{
-    for i in 0..table.len() {
-        out[i] = table[reverse_bits_len(i, k)];
-    }
 }

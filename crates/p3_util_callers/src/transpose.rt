@@ -1,6 +1,6 @@
 //! Callers of the transposes.
 
-ghost use Rattle.std.specs.Prelude.{◌≡◌, ◌+◌, ◌*◌, ◌^◌, ◌<◌, ◌≤◌, ◌↔◌, ℕ, IsTrue, IsFalse, List, OnOk, length, slice_get};
+ghost use Rattle.std.specs.Prelude.{◌≡◌, ◌+◌, ◌-◌, ◌*◌, ◌^◌, ◌<◌, ◌≤◌, ◌↔◌, ℕ, IfOk, IsTrue, IsFalse, List, OnOk, length, slice_get};
 ghost use Rattle.std.specs.Int.{IsPowerOfTwo};
 ghost use Rattle.p3_util.specs.Levels.{lev, nest};
 ghost use Rattle.p3_util.specs.Region.{IsRegionTransposed, LiesInMatrix, cols_of, items_of, rows_of};
@@ -19,8 +19,8 @@ use p3_util::transpose::{
 };
 use std::alloc::{AllocError, Global};
 
-/// Transposes `matrix`, of `height` rows of `width` items, by way of `scratch`. `false`, and nothing done, where the
-/// lengths are not those of such a matrix.
+/// Transposes `matrix`, of `height` rows of `width` items, by way of `scratch`. `false`, and
+/// nothing done, where the lengths are not those of such a matrix.
 pub fn transpose_by_way_of<T: Copy>(
     matrix: &mut [T],
     scratch: &mut [T],
@@ -29,7 +29,8 @@ pub fn transpose_by_way_of<T: Copy>(
 ) -> bool
     ensures done { IsTrue result → IsTranspose width height matrix.old matrix.new }
     ensures left { IsFalse result → matrix.new ≡ matrix.old }
-    ensures fits { IsTrue result ↔ ((length matrix.old ≡ width * height) × (length scratch.old ≡ width * height)) }
+    ensures fits { IsTrue result ↔ ((length matrix.old ≡ width * height)
+        × (length scratch.old ≡ width * height)) }
 {
     if !fits_matrix(matrix.len(), scratch.len(), width, height) {
         return false;
@@ -39,7 +40,8 @@ pub fn transpose_by_way_of<T: Copy>(
     true
 }
 
-/// Transposes `matrix` into `scratch` and back, which leaves `matrix` as it was and its transpose in `scratch`.
+/// Transposes `matrix` into `scratch` and back, which leaves `matrix` as it was and its transpose
+/// in `scratch`.
 #[tactic(auto, using(p3_util::proofs::Callers::transposed_back))]
 pub fn transpose_there_and_back<T: Copy>(
     matrix: &mut [T],
@@ -56,7 +58,8 @@ pub fn transpose_there_and_back<T: Copy>(
     transpose(scratch, matrix, height, width);
 }
 
-/// The same by way of a vector. One `as_mut_slice` serves both calls, since with a loan for each the search loses the items.
+/// The same by way of a vector. One `as_mut_slice` serves both calls, since with a loan for each
+/// the search loses the items.
 #[tactic(auto, using(p3_util::proofs::Callers::transposed_back))]
 pub fn transpose_by_vector_and_back<T: Copy + Default>(
     alloc: Global,
@@ -79,7 +82,8 @@ pub fn transpose_by_vector_and_back<T: Copy + Default>(
 pub fn transpose_back<T: Copy>(transposed: &[T], output: &mut [T], width: usize, height: usize)
     requires transposed_fits { length transposed.now ≡ width * height }
     requires output_fits { length output.old ≡ width * height }
-    ensures { (matrix : List T) → length matrix ≡ width * height → IsTranspose height width matrix transposed.now
+    ensures { (matrix : List T) → length matrix ≡ width * height
+        → IsTranspose height width matrix transposed.now
         → output.new ≡ matrix }
 {
     transpose(transposed, output, width, height);
@@ -125,15 +129,16 @@ pub fn transpose_into_holders<C: Cells>(
 pub fn transpose_whole_square<S: Places>(m: &mut Swaps<S>, log_size: usize)
     requires fits { length (S.items m.old.holder) ≡ 2 ^ log_size * 2 ^ log_size }
     requires small { log_size < 64 }
-    ensures order { IsTranspose (2 ^ log_size) (2 ^ log_size) (S.items m.old.holder) (S.items m.new.holder) }
+    ensures order { IsTranspose (2 ^ log_size) (2 ^ log_size) (S.items m.old.holder)
+        (S.items m.new.holder) }
     ensures count { m.new.count ≡ counted m.old.count (square_swaps (2 ^ log_size)) }
     ensures holder { S.same_holder (square_swaps (2 ^ log_size)) m.old.holder m.new.holder }
 {
     transpose_square_on(m, 0, log_size, log_size);
 }
 
-/// Transposes in place the square of `2^log_size` rows and columns at `base` where it lies in `m`. `false`, and nothing done,
-/// elsewhere.
+/// Transposes in place the square of `2^log_size` rows and columns at `base` where it lies in `m`.
+/// `false`, and nothing done, elsewhere.
 pub fn transpose_square_where_it_fits<S: Places>(
     m: &mut Swaps<S>,
     base: usize,
@@ -141,7 +146,8 @@ pub fn transpose_square_where_it_fits<S: Places>(
     log_size: usize,
 ) -> bool
     ensures done { IsTrue result
-        → IsSquareTransposed base log_stride log_size (S.items m.old.holder) (S.items m.new.holder) }
+        → IsSquareTransposed base log_stride log_size (S.items m.old.holder)
+        (S.items m.new.holder) }
     ensures left { IsFalse result → m.new ≡ m.old }
 {
     let fits = fits_square(m.len(), base, log_stride, log_size);
@@ -151,8 +157,8 @@ pub fn transpose_square_where_it_fits<S: Places>(
     fits
 }
 
-/// Puts the transpose of a part of a matrix where the part lies in it and both lists are as long as it. `false`, and nothing
-/// done, elsewhere.
+/// Puts the transpose of a part of a matrix where the part lies in it and both lists are as long as
+/// it. `false`, and nothing done, elsewhere.
 pub fn transpose_part_where_it_fits<C: Cells>(
     input: &[C::Item],
     out: &mut Writes<C>,
@@ -161,7 +167,8 @@ pub fn transpose_part_where_it_fits<C: Cells>(
     height: usize,
 ) -> bool
     ensures done { IsTrue result
-        → IsRegionTransposed part width height input.now (C.items out.old.holder) (C.items out.new.holder) }
+        → IsRegionTransposed part width height input.now (C.items out.old.holder)
+        (C.items out.new.holder) }
     ensures left { IsFalse result → out.new ≡ out.old }
 {
     if !fits_matrix(input.len(), out.len(), width, height) || !part.fits(width, height) {
@@ -180,8 +187,8 @@ pub fn levels_of(rows: usize, cols: usize) -> u32
     (tall + wide) as u32
 }
 
-/// Puts the transpose of a part of a matrix into `out`, with no more levels than it needs. It returns how many splits are
-/// nested.
+/// Puts the transpose of a part of a matrix into `out`, with no more levels than it needs. It
+/// returns how many splits are nested.
 pub fn transpose_part<C: Cells>(
     input: &[C::Item],
     out: &mut Writes<C>,
@@ -200,7 +207,8 @@ pub fn transpose_part<C: Cells>(
     transpose_split_on(input, out, part, width, height, levels)
 }
 
-/// Puts the transpose of `region`, a block of the matrix `input`, into a slice, and returns the number of writes.
+/// Puts the transpose of `region`, a block of the matrix `input`, into a slice, and returns the
+/// number of writes.
 pub fn transpose_block<T: Copy>(
     input: &[T],
     output: &mut [T],
@@ -218,27 +226,30 @@ pub fn transpose_block<T: Copy>(
     transpose_region_counted(input, &mut cells, region, width, height)
 }
 
-/// Transposes a matrix of four rows of four items into `scratch` and back. Sides that are written out are arguments of another
-/// function.
+/// Transposes a matrix of four rows of four items into `scratch` and back. Sides that are written
+/// out are arguments of another function.
 pub fn transpose_four_and_back<T: Copy>(matrix: &mut [T; 16], scratch: &mut [T; 16])
     ensures { matrix.new ≡ matrix.old }
 {
     transpose_there_and_back(matrix, scratch, 4, 4);
 }
 
-/// Puts the transpose of `input` into `output`: the first items of its rows were the first row, and its first row was the first
-/// column.
+/// Puts the transpose of `input` into `output`: the first items of its rows were the first row, and
+/// its first row was the first column.
 #[tactic(auto, using(p3_util::proofs::Callers::transposed_first))]
 pub fn transpose_with_first<T: Copy>(input: &[T], output: &mut [T], width: usize, height: usize)
     requires input_fits { length input.now ≡ width * height }
     requires output_fits { length output.old ≡ width * height }
-    ensures rows { (x : ℕ) → x < width → 0 < height → slice_get output.new (x * height) ≡ slice_get input.now x }
-    ensures row { (y : ℕ) → y < height → 0 < width → slice_get output.new y ≡ slice_get input.now (y * width) }
+    ensures rows { (x : ℕ) → x < width → 0 < height
+        → slice_get output.new (x * height) ≡ slice_get input.now x }
+    ensures row { (y : ℕ) → y < height → 0 < width
+        → slice_get output.new y ≡ slice_get input.now (y * width) }
 {
     transpose(input, output, width, height);
 }
 
-/// Puts the transpose of `region` into `output`, of which each other row and column stays. A file names the lemma.
+/// Puts the transpose of `region` into `output`, of which each other row and column stays. A file
+/// names the lemma.
 pub fn transpose_inside<T: Copy>(
     input: &[T],
     output: &mut [T],
@@ -261,8 +272,8 @@ pub fn transpose_inside<T: Copy>(
     transpose_block(input, output, region, width, height);
 }
 
-/// Reverses `values` by index bits into `scratch`, by way of a matrix: its rows are reversed, it is transposed, and the rows of the
-/// transpose are reversed. A file names the lemma.
+/// Reverses `values` by index bits into `scratch`, by way of a matrix: its rows are reversed, it is
+/// transposed, and the rows of the transpose are reversed. A file names the lemma.
 pub fn reverse_by_sides<T: Copy>(values: &mut [T], scratch: &mut [T], width: usize, height: usize)
     requires wide { IsPowerOfTwo width }
     requires tall { IsPowerOfTwo height }
@@ -273,4 +284,120 @@ pub fn reverse_by_sides<T: Copy>(values: &mut [T], scratch: &mut [T], width: usi
     reverse_slice_row_index_bits(values, width);
     transpose(values, scratch, width, height);
     reverse_slice_row_index_bits(scratch, height);
+}
+
+/// Transposes `height` pairs: the first items of the rows of the transpose were the first pair. A
+/// width may be written out.
+#[tactic(auto, using(p3_util::proofs::Callers::transposed_first))]
+pub fn transpose_pairs_with_first<T: Copy>(input: &[T], output: &mut [T], height: usize)
+    requires input_fits { length input.now ≡ 2 * height }
+    requires output_fits { length output.old ≡ 2 * height }
+    ensures { (x : ℕ) → x < 2 → 0 < height → slice_get output.new (x * height)
+        ≡ slice_get input.now x }
+{
+    transpose(input, output, 2, height);
+}
+
+/// The transpose of `matrix` as a vector.
+///
+/// # Errors
+///
+/// `AllocError` where there is no memory for it.
+pub fn transposed_copy<T: Copy + Default>(
+    alloc: Global,
+    matrix: &[T],
+    width: usize,
+    height: usize,
+) -> Result<Vec<T>, AllocError>
+    requires { length matrix.now ≡ width * height }
+    ensures { IfOk result (λ v. IsTranspose width height matrix.now v.items) }
+{
+    let mut scratch = vec![in alloc; T::default(); matrix.len()]?;
+    transpose(matrix, &mut scratch, width, height);
+    Ok(scratch)
+}
+
+/// The matrix again, as the transpose of its transpose, by two calls that return a vector.
+///
+/// # Errors
+///
+/// `AllocError` where there is no memory for a transpose.
+#[tactic(auto, using(p3_util::proofs::Callers::transposed_back))]
+pub fn transposed_copy_twice(
+    alloc: Global,
+    matrix: &[u64],
+    width: usize,
+    height: usize,
+) -> Result<Vec<u64>, AllocError>
+    requires { length matrix.now ≡ width * height }
+    ensures { IfOk result (λ v. v.items ≡ matrix.now) }
+{
+    let there = transposed_copy(alloc, matrix, width, height)?;
+    let back = transposed_copy(alloc, &there, height, width)?;
+    Ok(back)
+}
+
+/// Transposes a matrix of as many rows as columns into `scratch` and back, which leaves it as it
+/// was.
+#[tactic(auto, using(p3_util::proofs::Callers::transposed_back))]
+pub fn transpose_sides_alike_and_back<T: Copy>(matrix: &mut [T], scratch: &mut [T], side: usize)
+    requires matrix_fits { length matrix.old ≡ side * side }
+    requires scratch_fits { length scratch.old ≡ side * side }
+    ensures back { matrix.new ≡ matrix.old }
+{
+    transpose(matrix, scratch, side, side);
+    transpose(scratch, matrix, side, side);
+}
+
+/// Transposes in place a whole matrix of `2^log_size` rows of as many items, said item by item.
+pub fn transpose_whole_square_by_place<S: Places>(m: &mut Swaps<S>, log_size: usize)
+    requires fits { length (S.items m.old.holder) ≡ 2 ^ log_size * 2 ^ log_size }
+    requires small { log_size < 64 }
+    ensures { (a b : ℕ) → a < 2 ^ log_size → b < 2 ^ log_size
+        → slice_get (S.items m.new.holder) (a * 2 ^ log_size + b)
+        ≡ slice_get (S.items m.old.holder) (b * 2 ^ log_size + a) }
+{
+    transpose_whole_square(m, log_size);
+}
+
+/// Transposes a square in place twice, wherever it lies, which leaves the list as it was. A file
+/// names the lemma.
+pub fn transpose_square_twice<S: Places>(
+    m: &mut Swaps<S>,
+    base: usize,
+    log_stride: usize,
+    log_size: usize,
+)
+    requires rows_apart { log_size ≤ log_stride }
+    requires stride_fits { log_stride < 64 }
+    requires room { let s = 2 ^ log_size in
+        base + (s - 1) * 2 ^ log_stride + (s - 1) < length (S.items m.old.holder) }
+    ensures { S.items m.new.holder ≡ S.items m.old.holder }
+{
+    transpose_square_on(m, base, log_stride, log_size);
+    transpose_square_on(m, base, log_stride, log_size);
+}
+
+/// Puts the transposes of two regions in one order and in the other, which comes to the same. A
+/// file names the lemma.
+pub fn transpose_in_either_order<T: Copy>(
+    input: &[T],
+    one: &mut [T],
+    other: &mut [T],
+    first: Region,
+    second: Region,
+    width: usize,
+    height: usize,
+)
+    requires input_fits { length input.now ≡ width * height }
+    requires one_fits { length one.old ≡ width * height }
+    requires same { other.old ≡ one.old }
+    requires inside { LiesInMatrix first width height }
+    requires inside_too { LiesInMatrix second width height }
+    ensures { one.new ≡ other.new }
+{
+    transpose_block(input, one, first, width, height);
+    transpose_block(input, one, second, width, height);
+    transpose_block(input, other, second, width, height);
+    transpose_block(input, other, first, width, height);
 }

@@ -1,4 +1,5 @@
-//! Callers of the views over rows of any length, and of written lengths: the kernels, and single items.
+//! Callers of the views over rows of any length, and of written lengths: the kernels, and single
+//! items.
 
 ghost use Rattle.std.specs.Prelude.{◌≡◌, ◌+◌, ◌*◌, ◌^◌, ◌<◌, ◌↔◌, [], IsTrue, IsFalse, Some, length, slice_get, slice_index_or, slice_set, swap, vec_len};
 ghost use Rattle.std.specs.Int.{is_power_of_two};
@@ -14,7 +15,8 @@ use p3_util::transpose::{
 use p3_util::views::{Flattened, Rows};
 use p3_util::{as_base_slice, as_base_slice_mut, flat_len};
 
-/// Reverses the items of `rows`, taken as one list, by their index bits: what a kernel leaves in a view is in the rows.
+/// Reverses the items of `rows`, taken as one list, by their index bits: what a kernel leaves in a
+/// view is in the rows.
 pub fn reverse_items<T, const N: usize>(rows: &mut [[T; N]])
     requires fits { length rows.old * N < 2 ^ 64 }
     requires power { IsZeroOrPowerOfTwo (length (flat rows.old)) }
@@ -24,8 +26,8 @@ pub fn reverse_items<T, const N: usize>(rows: &mut [[T; N]])
     reverse_counted(&mut view);
 }
 
-/// Reverses the items of `rows`, taken as one list, by their index bits. `false`, and nothing done, where their number
-/// does not fit.
+/// Reverses the items of `rows`, taken as one list, by their index bits. `false`, and nothing done,
+/// where their number does not fit.
 pub fn reverse_items_where_they_fit<T, const N: usize>(rows: &mut [[T; N]]) -> bool
     ensures done { IsTrue result → IsReversal (flat rows.old) (flat rows.new) }
     ensures left { IsFalse result → rows.new ≡ rows.old }
@@ -46,7 +48,8 @@ pub fn reverse_items_where_they_fit<T, const N: usize>(rows: &mut [[T; N]]) -> b
 /// Reverses the items where their number is a power of two, by std's test, and else leaves them.
 pub fn reverse_power_of_two<T, const N: usize>(rows: &mut [[T; N]])
     requires { length rows.old * N < 2 ^ 64 }
-    ensures done { IsTrue (is_power_of_two (length rows.old * N)) → IsReversal (flat rows.old) (flat rows.new) }
+    ensures done { IsTrue (is_power_of_two (length rows.old * N))
+        → IsReversal (flat rows.old) (flat rows.new) }
     ensures left { IsFalse (is_power_of_two (length rows.old * N)) → flat rows.new ≡ flat rows.old }
 {
     let mut view = as_base_slice_mut(rows);
@@ -65,8 +68,8 @@ pub fn reverse_rows<T, const N: usize>(rows: &mut [[T; N]])
     reverse_rows_counted(&mut view, N);
 }
 
-/// Writes the transpose of `input` to the items of `rows`. `false`, and nothing done, where the lengths are not those of
-/// such a matrix.
+/// Writes the transpose of `input` to the items of `rows`. `false`, and nothing done, where the
+/// lengths are not those of such a matrix.
 pub fn transpose_to_items<T: Copy, const N: usize>(
     input: &[T],
     rows: &mut [[T; N]],
@@ -100,8 +103,8 @@ pub fn transpose_from_items<T: Copy, C: Cells<Item = T>, const N: usize>(
     transpose_source_on(&as_base_slice(rows), out, width, height);
 }
 
-/// Puts the transpose of the items of `input` into the items of `output`, both taken as one list, and returns the number of
-/// writes.
+/// Puts the transpose of the items of `input` into the items of `output`, both taken as one list,
+/// and returns the number of writes.
 pub fn transpose_between_views<T: Copy, const N: usize, const M: usize>(
     input: &[[T; N]],
     output: &mut [[T; M]],
@@ -156,8 +159,8 @@ pub fn item_of_row<T: Copy, const N: usize>(rows: &[[T; N]], r: usize, c: usize)
     as_base_slice(rows)[r * N + c]
 }
 
-/// Sets item `i` of the rows taken as one list, if there is one: what is written through the loan is in the rows in the
-/// place of that item alone.
+/// Sets item `i` of the rows taken as one list, if there is one: what is written through the loan
+/// is in the rows in the place of that item alone.
 pub fn set_item<T: Drop, const N: usize>(rows: &mut [[T; N]], i: usize, item: T)
     requires { length rows.old * N < 2 ^ 64 }
     ensures { flat rows.new ≡ slice_set (flat rows.old) i item }
@@ -208,8 +211,8 @@ pub fn exchange_items<T, const N: usize>(rows: &mut [[T; N]], i: usize, j: usize
     as_base_slice_mut(rows).exchange(i, j);
 }
 
-/// The same of any view. A proof knows what the rows end as after a write through `get_mut` where the function is over any rows,
-/// as this one is.
+/// The same of any view. A proof knows what the rows end as after a write through `get_mut` where
+/// the function is over any rows, as this one is.
 pub fn set_item_of_view<S: Rows>(view: &mut Flattened<S>, i: usize, item: S::Item)
 where
     S::Item: Drop,

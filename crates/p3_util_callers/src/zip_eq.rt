@@ -54,7 +54,8 @@ pub fn paired(alloc: Global, xs: &[u16], ys: &[u16]) -> Result<Option<Vec<(u16, 
 /// `AllocError` where the lengths differ or there is no memory for the pairs.
 #[tactic(auto, using(p3_util::proofs::Callers::zip_place))]
 pub fn paired_by_place(alloc: Global, xs: &[u16], ys: &[u16]) -> Result<Vec<(u16, u16)>, AllocError>
-    ensures { IfOk result (λ v. (i x y : ℕ) → slice_get xs.now i ≡ Some x → slice_get ys.now i ≡ Some y
+    ensures { IfOk result (λ v. (i x y : ℕ) → slice_get xs.now i ≡ Some x
+        → slice_get ys.now i ≡ Some y
         → slice_get v.items i ≡ Some (x, y)) }
 {
     zip_eq(xs.iter().copied(), ys.iter().copied(), AllocError)?.collect(alloc)
@@ -89,7 +90,8 @@ pub fn inner_product(alloc: Global, xs: &[u16], ys: &[u16]) -> Result<u64, Alloc
 
 /// The sum of the products mod 2^64, with no memory, where the lengths are equal.
 pub fn wrapping_inner_product(xs: &[u32], ys: &[u32]) -> Option<u64>
-    ensures { IfSome result (λ s. s ≡ fold (λ s p. (s + p.0 * p.1) % 2 ^ 64) 0 (zip xs.now ys.now)) }
+    ensures { IfSome result (λ s. s ≡ fold (λ s p. (s + p.0 * p.1) % 2 ^ 64) 0
+        (zip xs.now ys.now)) }
 {
     match zip_eq(xs.iter().copied(), ys.iter().copied(), ()) {
         Ok(pairs) => { Some(pairs.fold(0u64, |sum, (x, y)| sum.wrapping_add(x as u64 * y as u64))) }
@@ -97,8 +99,8 @@ pub fn wrapping_inner_product(xs: &[u32], ys: &[u32]) -> Option<u64>
     }
 }
 
-/// The products folded mod `m`, where the lengths are equal. The state is reduced first, since a closure has to be callable in
-/// every state.
+/// The products folded mod `m`, where the lengths are equal. The state is reduced first, since a
+/// closure has to be callable in every state.
 pub fn folded_mod(xs: &[u32], ys: &[u32], m: u32) -> Option<u64>
     requires { 0 < m }
     ensures { IfSome result (λ s. s ≡ fold (λ s p. (s % m + p.0 * p.1) % m) 0 (zip xs.now ys.now)) }
@@ -134,7 +136,8 @@ pub fn inner_product_mod(xs: &[u32], ys: &[u32], m: u32) -> Option<u64>
 ///
 /// `AllocError` where there is no memory for the sums.
 pub fn sums_of_pairs(alloc: Global, pairs: &[(u16, u16)]) -> Result<Vec<u32>, AllocError>
-    ensures { IfOk result (λ sums. (i x y : ℕ) → slice_get pairs.now i ≡ Some (x, y) → slice_get sums.items i ≡ Some (x + y)) }
+    ensures { IfOk result (λ sums. (i x y : ℕ) → slice_get pairs.now i ≡ Some (x, y)
+        → slice_get sums.items i ≡ Some (x + y)) }
 {
     pairs
         .iter()
@@ -142,15 +145,49 @@ pub fn sums_of_pairs(alloc: Global, pairs: &[(u16, u16)]) -> Result<Vec<u32>, Al
         .collect(alloc)
 }
 
-/// The sums of the items of two lists, place by place: the pairs come from one function, and their sums from another.
+/// The sums of the items of two lists, place by place: the pairs come from one function, and their
+/// sums from another.
 ///
 /// # Errors
 ///
 /// `AllocError` where the lengths differ or there is no memory for the pairs or the sums.
 pub fn sums_by_place(alloc: Global, xs: &[u16], ys: &[u16]) -> Result<Vec<u32>, AllocError>
-    ensures { IfOk result (λ sums. (i x y : ℕ) → slice_get xs.now i ≡ Some x → slice_get ys.now i ≡ Some y
+    ensures { IfOk result (λ sums. (i x y : ℕ) → slice_get xs.now i ≡ Some x
+        → slice_get ys.now i ≡ Some y
         → slice_get sums.items i ≡ Some (x + y)) }
 {
     let pairs = paired_by_place(alloc, xs, ys)?;
     sums_of_pairs(alloc, &pairs)
+}
+
+/// The second part of each pair.
+///
+/// # Errors
+///
+/// `AllocError` where there is no memory for them.
+pub fn seconds_of(alloc: Global, pairs: &[(u16, u16)]) -> Result<Vec<u16>, AllocError>
+    ensures { IfOk result (λ v. v.items ≡ map (λ p. p.1) pairs.now) }
+{
+    pairs.iter().map(|p| p.1).collect(alloc)
+}
+
+/// The weights again, after they were paired with values.
+///
+/// # Errors
+///
+/// `AllocError` where there is no memory for the pairs or the weights.
+#[tactic(auto, using(p3_util::proofs::Callers::zip_seconds))]
+pub fn weights_of(
+    alloc: Global,
+    values: &[u16],
+    weights: &[u16],
+) -> Result<Option<Vec<u16>>, AllocError>
+    requires { length values.now ≡ length weights.now }
+    ensures { IfOk result (λ r. IfSome r (λ v. v.items ≡ weights.now)) }
+{
+    let Some(pairs) = paired(alloc, values, weights)? else {
+        return Ok(None);
+    };
+    let seconds = seconds_of(alloc, &pairs)?;
+    Ok(Some(seconds))
 }

@@ -7,7 +7,7 @@ abbrev pub invariant-loop-row : goal.invariant-loop-row
 invariant-loop-row g l = record {
   from : l.region.row_start ≤ l.row;
   to : l.row ≤ l.region.row_end;
-  transposed : IsRegionTransposed (record l.region { row_end = l.row }) l.width l.height l.input (g.C.Cells.items l.fn.cells) (g.C.Cells.items l.cells);
+  transposed : IsRegionTransposed (record l.region { row_end = l.row }) l.width l.height (g.R.Source.items l.input) (g.C.Cells.items l.fn.cells) (g.C.Cells.items l.cells);
   holder : g.C.Cells.same_holder ((l.row - l.region.row_start) * cols_of l.region) l.fn.cells l.cells;
 }
 

@@ -7,7 +7,7 @@ abbrev pub invariant-loop-col : goal.invariant-loop-col
 invariant-loop-col g l = record {
   from : l.rows.col_start ≤ l.col;
   to : l.col ≤ l.rows.col_end;
-  transposed : IsRegionTransposed (record l.rows { col_end = l.col }) l.width l.height l.input (g.C.Cells.items l.fn.cells) (g.C.Cells.items l.cells);
+  transposed : IsRegionTransposed (record l.rows { col_end = l.col }) l.width l.height (g.R.Source.items l.input) (g.C.Cells.items l.fn.cells) (g.C.Cells.items l.cells);
   holder : g.C.Cells.same_holder (rows_of l.rows * (l.col - l.rows.col_start)) l.fn.cells l.cells;
 }
 
