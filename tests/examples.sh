@@ -43,7 +43,7 @@ for (kind, block), (behind, _) in zip(blocks, blocks[1:] + [("", "")]):
     in_front = block if kind == "rust" else ""
 if not names or not apps:
     raise SystemExit(f"FAILED  there is no example in {page}, or none with a file of proofs/")
-modules = "".join(f"pub mod {name};\n" for name in names)
+modules = "".join(f"pub mod {name};\n" for name in sorted(names))
 write(f"{copy}/crates/examples/src/lib.rt", f"//! The examples of {page}.\n#![tactic(auto)]\n\n{modules}")
 print(f"{len(names)} examples of {page}, and {apps} with a file of proofs/")
 PYTHON

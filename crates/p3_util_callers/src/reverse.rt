@@ -29,7 +29,7 @@ pub fn reverse_where_it_fits<F>(vals: &mut [F]) -> bool
     fits
 }
 
-/// Reverses `vals` by index bits where the length is a power of two, by std's test, and else leaves
+/// Reverses `vals` by index bits if the length is a power of two, by std's test. Otherwise leaves
 /// it.
 pub fn reverse_power_of_two<F>(vals: &mut [F])
     ensures done { IsTrue (is_power_of_two (length vals.old)) → IsReversal vals.old vals.new }
