@@ -20,7 +20,7 @@ mod ZipEq
 pub use Rattle.p3_util.proofs.Callers.Behind.{drop_swapped, header_stays}
 pub use Rattle.p3_util.proofs.Callers.Bits.{rev_even, rev_odd, pair_below, power_of_two_test, half, half_length, rev_longer, third_of_power}
 pub use Rattle.p3_util.proofs.Callers.Chunks.{folded_sum, padded_sum, padded_index, padded_inside, padded_beyond, padded_read}
-pub use Rattle.p3_util.proofs.Callers.Columns.{column_inside, column_length, column_place, column_read, column_swapped, column_written, others_of_swap, others_of_write, column_others}
+pub use Rattle.p3_util.proofs.Callers.Columns.{column_inside, column_length, column_place, column_read, column_swapped, column_written, others_of_swap, others_of_write, column_others, strided_inside, strided_place}
 pub use Rattle.p3_util.proofs.Callers.Compose.{region_of_rows, region_of_cols, square_inside, square_more, one_square, reversed_by_squares, swaps_around, rows_in_two, cols_in_two, rows_counted, cols_counted, items_of_rows, items_of_cols}
 pub use Rattle.p3_util.proofs.Callers.Grid.{region_of_column, rows_from_top, rows_across, twice_half, swaps_of_quadrants, last_quadrant_room, quadrants_within, square_of_quadrants}
 pub use Rattle.p3_util.proofs.Callers.Kept.{permuted_by_places, reversed_permuted, permuted_reversal, rows_permuted, transposed_permuted, permuted, kept, reversed_sum, kept_sum, reversed_alike}

@@ -1,9 +1,10 @@
--- A column of a matrix as a list.
-use Rattle.std.proofs.Common.{◌≡◌, ℕ, ◌+◌, ◌*◌, ◌<◌, Some, List, length, get_or, slice_get, set, sym, ap, ◌∙◌, arith}
+-- A column of a matrix as a list, and items that lie some places apart.
+use Rattle.std.proofs.Common.{◌≡◌, ℕ, ◌+◌, ◌-◌, ◌*◌, ◌<◌, ◌≤◌, Some, List, length, get_or, slice_get, set, sym, ap, ◌∙◌, arith}
+use Rattle.std.proofs.Math.Nat.{mul-le-mul_right}
 use Rattle.std.proofs.lemmas.Option.{slice_get-get_or}
 use Rattle.std.proofs.lemmas.Nat.{mul-add-lt, same_from_place}
 use Rattle.std.specs.List.{swap}
-use Rattle.p3_util.specs.ItemsAt.{IsSameOutside, column_of}
+use Rattle.p3_util.specs.ItemsAt.{IsSameOutside, column_of, items_at}
 use Rattle.p3_util.proofs.ItemsAtLemmas.{items_at-set, items_at-swap, length-items_at, slice_get-items_at}
 use Rattle.p3_util.proofs.Callers.Places.{others_swapped, others_written}
 
@@ -42,3 +43,14 @@ module _ {A : Type 0} (width height column : ℕ) (xs : List A) (fits : length x
   others_of_write = others_written (λ row. row * width + column) height xs
 
 pub ruleset column_others = (others_of_swap, others_of_write)
+
+-- n items that lie `step` places apart, from place `from` on
+pub strided_inside : (from step n i len : ℕ) → i < n → from + (n - 1) * step < len → from + i * step < len
+strided_inside from step n i len h room =
+    let rows : i * step ≤ (n - 1) * step = mul-le-mul_right step (omega arith) in
+    omega arith
+
+pub strided_place : {A : Type 0} (from step n i : ℕ) (xs : List A) → i < n → from + (n - 1) * step < length xs
+    → slice_get (items_at (λ k. from + k * step) n xs) i ≡ slice_get xs (from + i * step)
+strided_place from step n i xs h room =
+    slice_get-items_at (λ k. from + k * step) n xs (λ j hj. strided_inside from step n j (length xs) hj room) i h
