@@ -77,7 +77,7 @@ mod checked;
 /// | `reverse_slice_row_index_bits`, `reverse_rows_counted`, `reverse_row_index_bits_on` | `fits_rows(len, row_width)` |
 /// | `reverse_chunks_on` | `checked_log_size_sum(lb_num_chunks, lb_chunk_size)` is `Some((_, items))` where `items` is `len` |
 /// | `transpose`, `transpose_counted`, `transpose_source_counted`, `transpose_on`, `transpose_source_on` | `fits_matrix(input_len, len, width, height)` |
-/// | `transpose_region_counted`, `transpose_region_on` | the same, and `region.fits(width, height)` |
+/// | `transpose_region_counted`, `transpose_region_on`, `transpose_source_region_counted`, `transpose_source_region_on` | the same, and `region.fits(width, height)` |
 /// | `transpose_split_on`, `transpose_source_split_on` | the same as for a region; `levels` of 64 are always enough |
 /// | `transpose_square_on` | `fits_square(len, base, log_stride, log_size)` |
 ///
