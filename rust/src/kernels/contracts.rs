@@ -48,8 +48,8 @@
 //! | `A × B`, `A ⊎ B`, `¬ A` | both hold; one of them holds; A does not hold |
 //! | `(x : T) → A`, `(x : T) × A` | A holds for every x of the type T; A holds for some x of the type T |
 //! | `λ x. A` | the function that takes x to A |
-//! | `let x = A`, `in B` | B, where x is A |
-//! | `f {x = A}` | f, where A is an argument of f that is mostly left out, and is called x |
+//! | `let x = A`, `in B` | B, in which x stands for A |
+//! | `f {x = A}` | f, with A for its argument x, which is usually left out |
 //! | `ℕ`, `List T`, `K × V` | the whole numbers from 0 on; the lists of items of T; the pairs of a K and a V |
 //! | `+`, `-`, `*`, `/`, `%`, `^` | sum, difference, product, quotient rounded down, remainder and power of whole numbers without an upper limit; the difference is 0 if it would be negative |
 //! | `<`, `≤`, `A == B` | A is less than B; at most B; the `bool` that says whether two numbers are equal |
