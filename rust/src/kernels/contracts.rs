@@ -1,10 +1,10 @@
 // rust/erase writes this folder from the proved sources in crates/. What is to change is changed there.
 //! What the words of the contracts mean.
 //!
-//! A `requires` is what the caller has to keep, and an `ensures` is what the call promises. The word behind one of
-//! these two is the clause's name. A function stands before its arguments, with no brackets and no commas, as in
-//! `rev k i`. A clause sees a number as a whole number, a slice or an array as the list of its items, a text as that of
-//! its bytes, a map as that of its pairs, and an iterator of a map as that of what it has left.
+//! A `requires` is what the caller has to prove, and an `ensures` is what the call promises. The word after `requires`
+//! or `ensures` is the clause's name. A function stands before its arguments, without brackets or commas: `rev k i`. A
+//! clause sees a number as a whole number. It sees a slice or an array as the list of its items, a text as the list of
+//! its bytes, a map as the list of its pairs, and an iterator of a map as the list of what it has not yet returned.
 //!
 //! Nothing tests a `requires` here. The repository has each definition as the checker reads it, in the folders `specs` of
 //! its crates.
@@ -23,12 +23,14 @@
 //!     ensures holder { S.same_holder result places.old places.new }
 //! ```
 //!
-//! - `S` is the type of a *holder*, which has the list, and `S.items` is that list. A slice's holder
-//!   is `SlicePlaces::new(values)`.
+//! - `S` is the type of a *holder*, which has the list, and `S.items` is that list. A slice's
+//!   holder is `SlicePlaces::new(values)`.
 //! - `requires`: the length is zero or a power of two. The call does not test that.
-//! - `order`: the new list is the old one by reversed index bits. `inverse`: the same call again restores the old list.
+//! - `order`: the new list is the old one in the order of reversed index bits. `inverse`: the same call again restores
+//!   the old list.
 //! - `count` and `bound`: the call returns this exact function of the length, which is at most 3n/2.
-//! - `holder`: it made just as many exchanges as it returns, in this holder. A borrowed slice is still the same slice.
+//! - `holder`: the call made exactly as many exchanges as it returns, in this holder. A borrowed slice is still the
+//!   same slice.
 //!
 //! # Marks, and words of Rust and its std
 //!
@@ -37,36 +39,36 @@
 //! | `result` | what the call returns |
 //! | `x.now` | what is behind the `&` x |
 //! | `x.old`, `x.new` | what is behind the `&mut` x before the call, and after it |
-//! | `x.entry` | x itself, as the call was given it |
+//! | `x.entry` | x itself, as it was passed to the call |
 //! | `x.0`, `x.1`, `x.2`, `x.3`, `(x, y)` | the parts of a tuple, from the first on, and a pair |
 //! | `x.items`, `x.slice`, `x.values`, `x.holder`, `x.count`, `x.given` | the field of that name, which may be private |
 //! | `S.items x` | the list that a holder or a source x of the type S has; in a trait `items` alone |
 //! | `A ≡ B` | A and B are equal |
-//! | `A → B`, `A ↔ B` | B holds if A holds; B holds exactly where A holds |
+//! | `A → B`, `A ↔ B` | B holds if A holds; B holds exactly if A holds |
 //! | `A × B`, `A ⊎ B`, `¬ A` | both hold; one of them holds; A does not hold |
 //! | `(x : T) → A`, `(x : T) × A` | A holds for every x of the type T; A holds for some x of the type T |
 //! | `λ x. A` | the function that takes x to A |
-//! | `let x = A`, `in B` | B, where x is A |
-//! | `f {x = A}` | f, where A is an argument of f that is mostly left out, and is called x |
+//! | `let x = A`, `in B` | B, in which x stands for A |
+//! | `f {x = A}` | f, with A for its argument x, which is usually left out |
 //! | `ℕ`, `List T`, `K × V` | the whole numbers from 0 on; the lists of items of T; the pairs of a K and a V |
-//! | `+`, `-`, `*`, `/`, `%`, `^` | sum, difference, product, quotient rounded down, remainder and power of whole numbers, of which none is the largest; the difference is 0 where it would be negative |
+//! | `+`, `-`, `*`, `/`, `%`, `^` | sum, difference, product, quotient rounded down, remainder and power of whole numbers without an upper limit; the difference is 0 if it would be negative |
 //! | `<`, `≤`, `A == B` | A is less than B; at most B; the `bool` that says whether two numbers are equal |
 //! | `IsTrue b`, `IsFalse b` | b is `true`; b is `false` |
 //! | `Some`, `None`, `true`, `false` | as in Rust |
 //! | `[]`, `x ∷ xs` | the list of no items; the list of x and then the items of xs |
 //! | `length xs` | how many items a list has |
-//! | `slice_get xs i` | `Some` of item i of a list, and `None` where there is none |
-//! | `slice_index xs i` | item i of a list of numbers, and 0 where there is none |
+//! | `slice_get xs i` | `Some` of item i of a list, or `None` if there is none |
+//! | `slice_index xs i` | item i of a list of numbers, or 0 if there is none |
 //! | `slice_set xs i v` | the list xs with v at place i |
 //! | `swap xs i j` | the list xs with the items at places i and j exchanged |
 //! | `string_bytes s` | the bytes of the text s |
 //! | `keys_of xs`, `values_of xs` | the first, or the second, of each pair of a list |
 //! | `IsOk r`, `IsSome r` | r is an `Ok`; r is a `Some` |
-//! | `IfOk r P`, `IfErr r P`, `IfSome r P` | P holds of the value in r, if r is an `Ok`; an `Err`; a `Some` |
+//! | `IfOk r P`, `IfErr r P`, `IfSome r P` | P holds for the value in r, if r is an `Ok`; an `Err`; a `Some` |
 //! | `OnOk r A`, `OnErr r A` | A holds, if r is an `Ok`; if it is an `Err` |
-//! | `MatchResult r P Q` | P holds of the value in `Ok`, or Q of the error in `Err` |
-//! | `SomeIff r A v` | r is `Some` of v where A holds, and `None` where A does not hold |
-//! | `UnwrapsOrElse r P v` | v is the value in r, or where r is `None` a value of which P holds |
+//! | `MatchResult r P Q` | P holds for the value in `Ok`, or Q for the error in `Err` |
+//! | `SomeIff r A v` | r is `Some` of v if A holds, and `None` if A does not hold |
+//! | `UnwrapsOrElse r P v` | v is the value in r, or, if r is `None`, a value for which P holds |
 //! | `option_copied r`, `option_copied_mut r`, `deref x` | `Some` of what is behind the reference in r, or `None`; what is behind the reference x |
 //! | `K.eq` | the `==` of the type K |
 //! | `F.pre f x`, `F.post f x y` | `f(x)` may be called; it may return y |
@@ -76,10 +78,10 @@
 //! | `I.remaining i`, `at_most n`, `size c` | how many items i has left at most, if there is a bound; the bound n; the number of the bound c |
 //! | `UpTo c n`, `IsWithinCount n c` | c is a bound, and at most n; n is at most c, if c is a bound |
 //! | `IsFiniteIterable .. x` | whatever `into_iter` makes of x may be called, and has a bound |
-//! | `YieldsThen .. i xs r j`, `Drains .. i xs` | calls of `next` on i returned the items xs and then r, and left j; the same, where r is `None` |
-//! | `WholeRun .. i P` | P holds of some calls of `next` on i up to the first `None`; of such a p `p.items` are the items |
+//! | `YieldsThen .. i xs r j`, `Drains .. i xs` | calls of `next` on i returned the items xs and then r, and left j; the same, and r is `None` |
+//! | `WholeRun .. i P` | P holds for some calls of `next` on i up to the first `None`; for such calls p, `p.items` are the items |
 //! | `ShowsInOrder f` | calls of `next` return the items that were left, in order, each read by f |
-//! | `ensures*`, `sem 𝓛 A` | a clause on what lies in memory: A holds of the borrow that the call returns, and of what it leaves when it ends |
+//! | `ensures*`, `sem 𝓛 A` | a clause on what lies in memory: A holds for the borrow that the call returns, and for what it leaves when it ends |
 //! | `K.row` | how memory holds a K |
 //!
 //! # Words of this package's kernels
