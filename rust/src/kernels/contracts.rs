@@ -1,13 +1,13 @@
-// rust/erase writes this folder from the proved sources in crates/. What is to change is changed there.
-//! What the words of the contracts mean.
+// rust/erase writes this folder from the proved sources in crates/. Make changes there.
+//! What the names and marks in the contracts mean.
 //!
 //! A `requires` is what the caller has to keep, and an `ensures` is what the call promises. The word behind one of
 //! these two is the clause's name. A function stands before its arguments, with no brackets and no commas, as in
 //! `rev k i`. A clause sees a number as a whole number, a slice or an array as the list of its items, a text as that of
 //! its bytes, a map as that of its pairs, and an iterator of a map as that of what it has left.
 //!
-//! Nothing tests a `requires` here. The repository has each definition as the checker reads it, in the folders `specs` of
-//! its crates.
+//! No function of `kernels` tests its `requires`. The repository has each definition as the checker reads it, in
+//! the `specs` folders of its crates.
 //!
 //! # A contract, word by word
 //!
@@ -30,7 +30,7 @@
 //! - `count` and `bound`: the call returns this exact function of the length, which is at most 3n/2.
 //! - `holder`: it made just as many exchanges as it returns, in this holder. A borrowed slice is still the same slice.
 //!
-//! # Marks, and words of Rust and its std
+//! # Marks, and names from Rust and its std
 //!
 //! | In a clause | Meaning |
 //! |---|---|
@@ -82,7 +82,7 @@
 //! | `ensures*`, `sem 𝓛 A` | a clause on what lies in memory: A holds of the borrow that the call returns, and of what it leaves when it ends |
 //! | `K.row` | how memory holds a K |
 //!
-//! # Words of this package's kernels
+//! # Names for this package's kernels
 //!
 //! | Name | Meaning |
 //! |---|---|
@@ -123,7 +123,7 @@
 //! | `counted c s` | the count c after s more steps, which is `min (2 ^ 128 - 1) (c + s)` |
 //! | `same_holder n a b` | b is a after n exchanges. If the holder borrows its items, it also says that b borrows the same slice as a, so a change to the holder is a change to that slice. A holder that does not count its exchanges ignores n. Of `Cells`: b is a after n puts. The rest is the same as for `Places` |
 //!
-//! # Words of the chunks, the map and `zip_eq`
+//! # Names for the chunks, the map and `zip_eq`
 //!
 //! | Name | Meaning |
 //! |---|---|
