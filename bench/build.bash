@@ -1,5 +1,5 @@
-# Sourced by run and aarch64. Reads their options, and builds the package and the benchmark in the folder `out` by the
-# command `rust`. The options that are the benchmark's own are added to `options`.
+# Sourced by run and aarch64. Reads their options, and builds the package and the benchmark in the folder `out` with the
+# command `rust`. Options for the benchmark itself are added to `options`.
 original=
 cpu=
 library=
@@ -49,7 +49,7 @@ if [ -n "$library" ]; then
     link+=(-L "native=$crate/out" -l static=p3_util_c --cfg library)
 fi
 if [ -n "$original" ]; then
-    # What the original needs lies beside it, where cargo built it.
+    # The crates that the original needs are next to it, in the folder in which cargo built it.
     link+=(--extern "p3_util=$original" -L "dependency=$(dirname "$original")" --cfg original)
 fi
 if [ -n "$parallel" ]; then

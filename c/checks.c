@@ -1,6 +1,6 @@
 /*
- * Each call beside plain loops, on items of its size at any address, on lists that it refuses and on empty lists. The status
- * is the line that failed.
+ * Compares each call with plain loops: on items of its size at any address, on lists that it refuses and on empty
+ * lists. The exit status is the line that failed.
  */
 #include <string.h>
 
@@ -17,7 +17,7 @@ enum { MOST_ITEMS = 1 << 15, LARGEST = 256, ROOM = 1 + MOST_ITEMS * LARGEST };
 
 static unsigned char before[ROOM], after[ROOM], wanted[ROOM];
 
-/* Fills `len` bytes, always the same, at an odd address. */
+/* Fills `len` bytes at an odd address, always with the same values. */
 static unsigned char *filled(unsigned char *room, size_t len) {
     unsigned long long state = 1;
     for (size_t i = 0; i < len; i++) {
@@ -39,7 +39,7 @@ typedef bool reverse_call(void *, size_t);
 typedef bool reverse_rows_call(void *, size_t, size_t);
 typedef bool transpose_call(const void *, size_t, void *, size_t, size_t, size_t);
 
-/* Lists of no item, of each power of two on the short path, and of two powers on the long one. */
+/* Empty lists, lists of each power of two up to 2^10 items, and of two powers of two on the long path. */
 static int check_reverse(size_t size, reverse_call *reverse) {
     static const unsigned DIGITS[] = {0, 1, 2, 3, 4, 5, 6, 7, 8, 9, 10, 14, 15};
     for (size_t d = 0; d < sizeof DIGITS / sizeof DIGITS[0]; d++) {
@@ -117,7 +117,7 @@ static int check_bits(void) {
     return 0;
 }
 
-/* Numbers of more than 32 digits, as arguments and as an answer. */
+/* Numbers of more than 32 bits, as arguments and as a result. */
 static int check_long_words(void) {
     size_t long_word = (size_t)1 << 40, number = 7;
     CHECK(p3_util_log2_ceil(long_word) == 40 && p3_util_log2_ceil(long_word + 1) == 41);

@@ -26,6 +26,6 @@ int main(void) {
     }
     print("transposed", columns, 6);
 
-    /* Seven is no power of two: the answer is false, and the list stays as it was. */
+    /* Seven is not a power of two, so the call returns false and leaves the list as it was. */
     return p3_util_reverse_8(list, 7) ? 1 : 0;
 }

@@ -1,20 +1,21 @@
 /*
- * Proved bit reversal and transposes of lists, from the static library libp3_util_c.a. Link that file alone: it calls
- * memcpy and memmove and nothing else, allocates nothing and keeps no state, so threads may call it at once on different
- * lists. Its code is for x86-64-v2.
+ * Proved bit reversal and transposes of lists, from the static library libp3_util_c.a. No other file has to be linked.
+ * The library calls only memcpy and memmove, allocates nothing and keeps no state, so threads may call it at the same
+ * time on different lists. Its code is for x86-64-v2.
  *
- * The number at the end of a name is the size of an item in bytes. Items are moved whole and never looked at.
+ * The number at the end of a name is the size of an item in bytes. Items are moved as a whole, and their contents are
+ * never looked at.
  *
- * A call that has a condition returns true exactly where it holds, and changes nothing where it returns false. The others
- * return a number.
+ * A call with a condition returns true if the condition holds. Otherwise it returns false and changes nothing. The
+ * other calls return a number.
  *
- * What a call needs of its pointers, and cannot test:
- * - The bytes of a list of n items are n times the size of an item, in one object, at any address, and fewer than 2^63.
- *   Where n is 0 the pointer may be anything, null too.
- * - vals can be read and written, input can be read and output written; and during the call nothing else writes to any
- *   of them, or reads vals or output.
+ * What a call needs from its pointers and cannot test:
+ * - A list of n items has n times the size of an item in bytes. These bytes are in one object, at any address, and there
+ *   are fewer than 2^63 of them. If n is 0 the pointer may have any value, including null.
+ * - vals can be read and written, input can be read, and output can be written. During the call nothing else writes to
+ *   any of them, and nothing else reads vals or output.
  * - input and output do not overlap.
- * - exponent and reversed point to one size_t that can be read and written.
+ * - exponent and reversed each point to one size_t that can be read and written.
  */
 #ifndef P3_UTIL_H
 #define P3_UTIL_H
@@ -27,8 +28,8 @@ extern "C" {
 #endif
 
 /*
- * Reverses the order of len items by index bits, where len is zero or a power of two: with 2^k items, place i gets the
- * item from the place whose index has the k bits of i in reversed order.
+ * Reverses the order of len items by index bits: with 2^k items, index i gets the item from the index that has the k
+ * bits of i in reversed order. The condition is that len is zero or a power of two.
  */
 bool p3_util_reverse_1(void *vals, size_t len);
 bool p3_util_reverse_2(void *vals, size_t len);
@@ -48,9 +49,10 @@ bool p3_util_reverse_160(void *vals, size_t len);
 bool p3_util_reverse_256(void *vals, size_t len);
 
 /*
- * Reverses the order of rows of row_width items by index bits, each row as one item, where len, the number of items, is
- * row_width times zero or a power of two. Items of another size are rows of smaller ones: 36 bytes are a row of three items
- * of 12. Rows of a size that the calls above serve are faster as items of that size: 64 bytes by p3_util_reverse_64.
+ * Reverses the order of rows of row_width items by index bits, and moves each row as one item. The condition is that
+ * len, the number of items, is row_width times zero or a power of two. Items of a size without a call of its own can be
+ * moved as rows of smaller items: an item of 36 bytes is a row of three items of 12 bytes. If a call above has the size
+ * of a row, that call is faster: for rows of 64 bytes use p3_util_reverse_64.
  */
 bool p3_util_reverse_rows_1(void *vals, size_t len, size_t row_width);
 bool p3_util_reverse_rows_2(void *vals, size_t len, size_t row_width);
@@ -70,9 +72,9 @@ bool p3_util_reverse_rows_160(void *vals, size_t len, size_t row_width);
 bool p3_util_reverse_rows_256(void *vals, size_t len, size_t row_width);
 
 /*
- * Writes to output the transpose of input, a matrix of height rows of width items, row after row: item y * width + x of
- * the input becomes item x * height + y of the output. Both lengths are width times height, as a product that does not
- * wrap.
+ * Writes to output the transpose of input, a matrix of height rows of width items, stored row after row: item
+ * y * width + x of the input becomes item x * height + y of the output. The condition is that both lengths are width
+ * times height, and that this product does not wrap.
  */
 bool p3_util_transpose_1(const void *input, size_t input_len, void *output, size_t output_len, size_t width,
     size_t height);
@@ -107,25 +109,25 @@ bool p3_util_transpose_160(const void *input, size_t input_len, void *output, si
 bool p3_util_transpose_256(const void *input, size_t input_len, void *output, size_t output_len, size_t width,
     size_t height);
 
-/* The least e with n <= 2^e, which is 0 for 0 and 1. */
+/* Returns the least e with n <= 2^e. For n = 0 and n = 1 it returns 0. */
 size_t p3_util_log2_ceil(size_t n);
 
-/* The greatest e with 2^e <= n, and 0 for 0. */
+/* Returns the greatest e with 2^e <= n. For n = 0 it returns 0. */
 size_t p3_util_log2_floor(size_t n);
 
-/* Writes to exponent the logarithm to base 2, or 3, of n, where n is a power of two, or of three. */
+/* Writes to exponent the logarithm of n, to base 2 or to base 3. The condition is that n is a power of that base. */
 bool p3_util_log2_strict(size_t n, size_t *exponent);
 bool p3_util_log3_strict(size_t n, size_t *exponent);
 
 /*
- * Writes to reversed the bit_len low binary digits of x in reversed order, where bit_len is at most 64. For a bit_len
- * of 0 it is the whole word of 64 digits in reversed order.
+ * Writes to reversed the bit_len low binary digits of x in reversed order. If bit_len is 0 it writes all 64 digits of x
+ * in reversed order. The condition is that bit_len is at most 64.
  */
 bool p3_util_reverse_bits_len(size_t x, size_t bit_len, size_t *reversed);
 
 /*
- * Returns the number of the interface, which is in the name. What includes this header refers to it, so that it does not
- * link with a library of another version.
+ * Returns the number of the interface, which is also in the function's name. Code that includes this header refers to
+ * the function, so it does not link with a library of another version.
  */
 size_t p3_util_c_interface_2_library_and_bindings_are_of_one_version(void);
 #ifdef __GNUC__

@@ -1,7 +1,8 @@
 #!/usr/bin/env bash
-# Proves the examples of docs/CALLING.md as a reader pastes them. A block of Rust that has `use` lines is a module of a crate that
-# names p3_util alone. A block of antt says in its first line which file of proofs/ it is, of a crate app: the block of Rust in
-# front of it is the lib.rt of that crate. The crates are copied with what their checks left in out/, so that they are proved once.
+# Proves the examples of docs/CALLING.md as a reader pastes them. A block of Rust that has `use` lines becomes a module
+# of a crate that depends only on p3_util. The first line of a block of antt says which file of proofs/ it is, in a
+# crate app: the block of Rust before it is the lib.rt of that crate. The crates are copied with what their checks left
+# in out/, so that they are not proved again.
 set -euo pipefail
 cd "$(dirname "$0")/.."
 copy=$(mktemp -d)
@@ -48,13 +49,13 @@ write(f"{copy}/crates/examples/src/lib.rt", f"//! The examples of {page}.\n#![ta
 print(f"{len(names)} examples of {page}, and {apps} with a file of proofs/")
 PYTHON
 
-# Fails where `rt fmt` would change a file of a folder's crate, since `rt ci` refuses such a file as pasted.
+# Fails if `rt fmt` would change a file of the crate in a folder, since `rt ci` would refuse that file as pasted.
 laid_out() {
     (cd "$1" && rt fmt) >"$copy/log" 2>&1 || { tail "$copy/log"; exit 1; }
     ! grep 'formatted' "$copy/log" || { echo "FAILED  an example of docs/CALLING.md is not as rt fmt lays it out" >&2; exit 1; }
 }
 
-# Proves the crate in a folder, or prints what is open.
+# Proves the crate in a folder, or prints what is not proved.
 prove() {
     (cd "$1" && rt check) >"$copy/log" 2>&1 || { grep -E '^fn |error|^note: `' "$copy/log" || tail "$copy/log"; exit 1; }
     grep '^logic=' "$copy/log" | tail -n 1

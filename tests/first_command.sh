@@ -1,5 +1,5 @@
 #!/usr/bin/env bash
-# Runs the first of README's two commands as it stands there, and compares what it prints with what README says.
+# Runs the first of README's two commands unchanged, and compares its output with what README says.
 set -euo pipefail
 cd "$(dirname "$0")/.."
 line=$(grep -m 1 '^(cd crates/' README.md)

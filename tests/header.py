@@ -1,5 +1,6 @@
-"""For tests/agree: compares the prototypes of c/p3_util.h with the exports of crates/p3_util_c: their names, the types and the order
-of their arguments, and what they return. Neither a C compiler nor the linker sees a difference."""
+"""For tests/agree: compares the prototypes in c/p3_util.h with the exports of crates/p3_util_c: their names, the types
+and the order of their arguments, and their return types. Neither a C compiler nor the linker would notice a
+difference."""
 import glob
 import re
 
@@ -10,8 +11,8 @@ TYPES = {"usize": "size_t", "bool": "bool"}
 
 
 def arguments(text):
-    """The arguments of an export as C writes them. A list is a pointer and a length, which has the list's name if there is another
-    list."""
+    """The arguments of an export, written in C. A list becomes a pointer and a length. The length has the list's name
+    in its own if there is another list."""
     found = re.findall(r"(\w+): (&mut |&|)(\[.*?\]+|\w+)(?=,|$)", text)
     lists = [name for name, _, of in found if of.startswith("[")]
     for name, reference, of in found:

@@ -1,5 +1,5 @@
-"""For tests/agree: compares two lists with the sources. tests/exports.txt has the exports of crates/p3_util_c, and is written by
-hand. tests/contracts.txt has the public contracts of the crates that docs/CONTRACTS.md does not list.
+"""For tests/agree: compares two lists with the sources. tests/exports.txt lists the exports of crates/p3_util_c and is
+written by hand. tests/contracts.txt lists the public contracts of the crates that docs/CONTRACTS.md does not cover.
 
     python3 tests/listed_contracts.py >tests/contracts.txt
 
@@ -22,12 +22,12 @@ OTHERS = "tests/contracts.txt"
 CRATES = ["p3_util_run", "p3_util_transform", "p3_util_callers"]
 HEAD = """\
 # The public contracts of the program, of the example and of the callers. docs/CONTRACTS.md has those of p3_util and its kernels.
-# So a clause that goes, that says less or that asks for more is seen."""
+# So a clause that is removed, that promises less or that requires more shows up here."""
 
 
 def entry(export):
-    """The lines of an export as the list has them, and the size in its name. Where there is one, SIZE stands for it, and ITEM
-    for a type of items of so many bytes."""
+    """The lines of an export in the form of the list, and the size in the export's name. If there is a size, SIZE
+    stands for it, and ITEM stands for an item type of that many bytes."""
     size = (re.search(r"_(\d+)\(", export.head) or [None, ""])[1]
 
     def items(found):
@@ -39,7 +39,7 @@ def entry(export):
 
 
 def exported():
-    """The sizes of each entry that the crate exports."""
+    """The entries that the crate exports, each with its sizes."""
     found = {}
     for path in sorted(glob.glob("crates/p3_util_c/src/*.rt")):
         for export in declarations(read(path), 0):
@@ -50,7 +50,8 @@ def exported():
 
 
 def listed():
-    """The sizes of each entry of the list, which is without its comment: the sizes, and then an entry a paragraph."""
+    """The entries of the list, each with its sizes. After its comment the list has the sizes, and then one entry in
+    each paragraph."""
     first, *wanted = re.sub(r"^#.*\n", "", read(LIST), flags=re.M).strip().split("\n\n")
     sizes = first.removeprefix("SIZE: ").split()
     return {lines: sizes if "_SIZE(" in lines else [""] for lines in wanted}
@@ -70,14 +71,15 @@ def others():
 
 
 def differences(list_of, listed_lines, lines, advice):
-    """The lines in which a list and the sources differ: those of the list begin with -, and those of the sources with +."""
+    """The lines in which a list and the sources differ. Lines of the list begin with -, and lines of the sources with
+    +."""
     found = difflib.unified_diff(listed_lines, lines, lineterm="", n=0)
     for line in (line for line in found if not line.startswith(("---", "+++", "@@"))):
         yield f"{list_of}, {advice}: {line}"
 
 
 def wrong():
-    """What is not as the lists have it."""
+    """The differences between the lists and the sources."""
     yield from differences(LIST, lines_of(listed()), lines_of(exported()), "which is written by hand, and crates/p3_util_c/src differ")
     with open(OTHERS, encoding="utf-8") as text:
         yield from differences(OTHERS, text.read().splitlines(), others().splitlines(),

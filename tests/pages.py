@@ -1,6 +1,6 @@
-"""For tests/agree: compares the pages with the code: the functions that blocks of Rust quote, the clauses that MODEL names, the
-numbers of ARCHITECTURE's table and of sentences, and each link, file and name; the modules with the files; and the heads of
-specs with the contracts that stand on them."""
+"""For tests/agree: compares the pages with the code. It checks the functions that blocks of Rust quote, the clauses
+that MODEL names, the numbers in ARCHITECTURE's table and in sentences, and each link, file and name. It also compares
+the modules with the files, and the heads of specs with the contracts that use them."""
 import functools
 import itertools
 import os
@@ -11,13 +11,13 @@ from contracts import items
 from rattle_source import definition_texts, functions, stood_on
 from rattle_source import read as read_source
 
-# Names of std, of the original, of the kit and of the system that pages speak of, and no source has.
+# Names from std, the original, the kit and the system that pages mention and that no source has.
 OUTSIDE = set("""
     as_chunks as_flattened_mut bytemuck DisjointMutPtr gcd_inner gcd_inversion_prime_field_32 get_disjoint_mut into_flattened
     p3_maybe_rayon relatively_prime_u64 transparent TransparentWrapper try_from_fn
     axioms holes incremental Invariants LEMMA libraries statements tidy
 """.split())
-# These pages speak of names that are not here, or are here no more, so none is looked up.
+# These pages mention names that are not here, or no longer here, so none of their names is looked up.
 ELSEWHERE = {"CHANGELOG.md", "docs/TRIED.md", "docs/DIFFERENCES.md"}
 TABLE_IS_ABOUT = r"rust/|crates/p3_util(_kernels|_c|_run)?/"
 TABLE_ROW = r"^\| (`[A-Z_`, ]+`) \| ([\d, ^+]+) \| `([^`]+)` \|.*$"
@@ -47,7 +47,7 @@ def place(page, start, text):
 
 
 def in_one_line(code):
-    """Code without attributes, and with no sign of where its lines were broken."""
+    """Code without attributes and without its line breaks."""
     code = " ".join(re.sub(r"^\s*#\[.*\]$", "", code, flags=re.M).split())
     return code.replace("( ", "(").replace(", )", ")")
 
@@ -56,7 +56,8 @@ bare = {path: in_one_line(text) for path, text in sources.items()}
 
 
 def difference(quoted, name):
-    """Where a quoted function departs from the source that agrees with it longest, and None if it is the source's."""
+    """Where a quoted function departs from the source that agrees with it longest, or None if a source has the
+    function."""
     one_line = in_one_line(quoted)
     has_body = re.search(r"^\{\n(.*\n)*\}$", quoted, re.M)
     said = one_line[re.search(rf"(?<=fn ){name}\b", one_line).start():]
@@ -74,8 +75,8 @@ def difference(quoted, name):
 
 
 def check_quotations():
-    """Each function in a block of Rust is as a source has it, with its comment, all its clauses, and its body if it is there.
-    A reader's own `main` is of no source."""
+    """Each function in a block of Rust is the same as in a source, with its comment, all its clauses, and its body if
+    the block has one. A reader's own `main` is in no source."""
     for page, text in pages.items():
         for block in re.finditer(r"^```rust\n(.*?)^```", text, re.M | re.S):
             for part in re.split(r"\n\s*\n", block.group(1)):
@@ -86,7 +87,7 @@ def check_quotations():
 
 
 def check_edits():
-    """A block that has the lines of a must-fail edit is the text of one."""
+    """A block with the lines of a must-fail edit is the whole text of an edit."""
     edits = [read(path) for path in tracked if path.endswith(".edit")]
     for page, text in pages.items():
         for block in re.finditer(r"^```text\n(.*?)^```", text, re.M | re.S):
@@ -95,7 +96,7 @@ def check_edits():
 
 
 def check_clauses():
-    """The clauses that a row of MODEL names in brackets are clauses of the calls that it names."""
+    """The clauses that a row of MODEL names in parentheses are clauses of the calls that the row names."""
     page, labels = "docs/MODEL.md", {}
     for _, function in (found for path in sources for found in functions_of(path)):
         labels.setdefault(function.name(), set()).update(function.labels())
@@ -109,13 +110,14 @@ def check_clauses():
 
 
 def number(text):
-    """The number that an expression of Rust, a page or a comment writes, and None if it writes none."""
+    """The value of a number, or of an expression, in Rust, on a page or in a comment, or None if the text is
+    neither."""
     text = {"two": "2", "three": "3", "four": "4", "eight": "8", "sixteen": "16"}.get(text, text).replace("_", "").replace("^", "**")
     return eval(text) if re.fullmatch(r"[\d ()<*+-]+", text) else None
 
 
 def constants():
-    """Of each constant of the sources, of the package and of its overlay: its name, file and number."""
+    """For each constant of the sources, the package and its overlay: its name, file and value."""
     for path in tracked:
         if path in sources or re.fullmatch(r"rust/(overlay/)?src/\w+\.rs", path):
             for name, value in re.findall(r"^ *(?:pub(?:\(\w+\))? )?const ([A-Z_]+): \w+ = ([^;]+);", read(path), re.M):
@@ -124,8 +126,8 @@ def constants():
 
 
 def check_table_of_constants(known):
-    """ARCHITECTURE's table has each constant of the kernels, the exports, the program, the package and its overlay, with its file
-    and its number."""
+    """ARCHITECTURE's table has each constant of the kernels, the exports, the program, the package and its overlay,
+    with its file and its value."""
     page, listed = "docs/ARCHITECTURE.md", set()
     for row in re.finditer(TABLE_ROW, pages[page], re.M):
         names, values = re.findall(r"\w+", row.group(1)), row.group(2).split(", ")
@@ -141,8 +143,8 @@ def check_table_of_constants(known):
 
 
 def values_of(name, crate, known):
-    """The values of a constant of this crate, or, if no crate is given, of what ARCHITECTURE's table is about. For a name as
-    FUNCTION.CLAUSE these are the numbers of the clause."""
+    """The values of a constant of this crate, or of the code that ARCHITECTURE's table covers if no crate is given. For
+    a name of the form FUNCTION.CLAUSE these are the numbers in the clause."""
     function, _, clause = name.partition(".")
     if clause:
         said = {text for path in sources if f"fn {function}" in sources[path] for _, declared in functions_of(path)
@@ -153,7 +155,8 @@ def values_of(name, crate, known):
 
 
 def wanted_number(expression, known, clauses):
-    """The number of an expression over names, and the names that do not have one value. A clause gives its numbers in order."""
+    """The value of an expression over names, and the names that do not have exactly one value. A clause gives its
+    numbers in order."""
     unknown = []
 
     def value(found):
@@ -168,10 +171,10 @@ def wanted_number(expression, known, clauses):
 
 
 def check_constants():
-    """What states a constant has its number: ARCHITECTURE's table, and the sentences of tests/constants.txt."""
+    """ARCHITECTURE's table and the sentences of tests/constants.txt state each constant with its value in the code."""
     known = list(constants())
     yield from check_table_of_constants(known)
-    # Each text in one line, in which signs of comments are blanks.
+    # The texts, with blanks in place of comment marks.
     texts = {path: re.sub(r"(?<=\s)(?://[/!]?|--)(?=\s)", lambda sign: " " * len(sign[0]), read(path)) for path in tracked
              if re.fullmatch(r".*\.(md|rt|antt|rs|h)", path) and not re.match("rust/src/kernels/|bench/|CHANGELOG|docs/PERF", path)}
     for line in (line for line in read("tests/constants.txt").splitlines() if line and not line.startswith("#")):
@@ -192,17 +195,17 @@ def check_constants():
 
 
 def anchors(page):
-    """The anchors of a page's headings, as they are made from their words."""
+    """The anchors of a page's headings, made from the words of the headings."""
     return {re.sub(r"[^\w -]", "", heading).lower().replace(" ", "-") for heading in re.findall(r"^#+ (.*)$", read(page), re.M)}
 
 
 def check_links_and_names():
-    """Each link leads to a file and its heading, and each file and name in backquotes is there."""
+    """Each link leads to an existing file and heading, and each file and name in backquotes exists."""
     words = {word for path in tracked if not path.endswith((".md", ".svg", ".tsv")) and path != "tests/pages.py"
              for word in re.findall(r"\w+", read(path))} | OUTSIDE
     paths = {"/" + "/".join(path.split("/")[:k]) for path in tracked for k in range(1, path.count("/") + 2)}
     for page, text in pages.items():
-        # Blocks of code are blank here, and as long.
+        # Replaces blocks of code with blanks of the same length.
         text = re.sub(r"^```.*?^```", lambda block: re.sub(r"[^\n]", " ", block.group()), text, flags=re.M | re.S)
         for link in re.finditer(r"\]\(([^)#]*)#?([^)]*)\)", text):
             file = os.path.normpath(os.path.join(os.path.dirname(page), link.group(1))) if link.group(1) else page
@@ -219,14 +222,14 @@ def check_links_and_names():
                     yield place(page, token.start(), f"no file {code}")
             elif page not in ELSEWHERE:
                 for name in re.findall(r"(?<!\w)[A-Za-z]\w*", code):
-                    # An N at the end stands for the size of an item.
+                    # A final N stands for the size of an item.
                     if len(name) > 3 and re.sub("_N$", "_8", name) not in words and not re.fullmatch("[0-9a-f]{16}", name):
                         yield place(page, token.start(), f"no name {name}. If it is not of this repository, add it to tests/pages.py")
 
 
 def check_modules():
-    """Each source is a module of the file above it. Otherwise it would not be compiled, and its tests would not run. What
-    `rust/test` compiles alone is no module."""
+    """Each source is a module of the file above it. Otherwise it would not be compiled, and its tests would not run. A
+    file that `rust/test` compiles alone is not a module."""
     for path in tracked:
         file = re.fullmatch(r"((?:crates/\w+|rust|tests/unproved)/(?:src|tests)\b.*)/(?!(?:lib|main|mod)\.)(\w+)(\.rt|\.rs|\.rt\.in)", path)
         if not file or path.startswith("rust/tests/assembly/"):
@@ -238,7 +241,8 @@ def check_modules():
 
 
 def check_specs():
-    """A file of specs/ says in its first lines that it serves private contracts if no public one stands on it, and only then."""
+    """If no public contract uses a file of specs/, its first lines say that it serves private ones. Otherwise they do
+    not say so."""
     files = {path: dict(definition_texts(path)) for path in tracked if re.fullmatch(r"crates/\w+/specs/\w+\.antt", path)}
     public = " ".join(said for path in sources if "/parts" not in path
                       for said in items(read_source(path), lambda owner, declared: declared.kind == "impl" or declared.seen_by == "pub"))

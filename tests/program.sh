@@ -1,12 +1,13 @@
 #!/usr/bin/env bash
-# The program and its surroundings: words that are no text, standard streams that are closed, full or cut short, an input
-# that never ends. Each run has to end with the right text and status, or as the system ends a program, and never with a
-# wrong list. And how much memory a long input takes, by what it has in it. What main does with words and faults has no
-# contract, and a program that holds the input to its last line meets that of `run`: both are tested here.
+# Tests the program and its environment: arguments that are not text, standard streams that are closed, full or cut
+# short, and an input that never ends. Each run has to end with the right text and status, or be ended by the system,
+# and never with a wrong list. Also tests how much memory a long input takes, depending on its contents. No contract
+# says what main does with arguments and faults, and a program that keeps the whole input in memory meets the contract
+# of `run`. Both are tested here.
 #
 #     tests/program.sh [PROGRAM]..
 #
-# Without words it takes what `rt ci` left: the program as each compiler built it. Where there is none, it builds one.
+# Without arguments it tests what `rt ci` left: the program as each compiler built it. If there is none, it builds one.
 set -uo pipefail
 if (($# == 0)); then
     crate=$(cd "$(dirname "$0")/../crates/p3_util_run" && pwd)
@@ -26,13 +27,13 @@ no_array=$'error: input is not a JSON array of u64\n'
 unwritten=$'error: output cannot be written\n'
 no_memory=$'error: out of memory\n'
 
-# run WORD..: runs the program on standard input. Its output, its error and its status go to files.
+# run ARGUMENT..: runs the program on standard input. Its output, its error output and its status go to files.
 run() {
     "$program" "$@" >"$work/out" 2>"$work/err"
     echo $? >"$work/status"
 }
 
-# is NAME STATUS OUTPUT ERROR: what the last run has to have left.
+# is NAME STATUS OUTPUT ERROR: compares these with what the last run left.
 is() {
     if [[ $(<"$work/status") == "$2" ]] && cmp -s "$work/out" <(printf '%s' "$3") &&
         cmp -s "$work/err" <(printf '%s' "$4"); then
@@ -67,7 +68,7 @@ words() {
     run transpose "$(printf '%0300d' 3)" 2 <<<'[1,2,3,4,5,6]'
     is 'a side with many leading zeros' 0 $'[1,4,2,5,3,6]\n' ''
 
-    # Word 0, the program's name, is no word of the program.
+    # Argument 0, the program's name, is not one of its arguments.
     mkdir -p "$work/"$'folder\xff'
     cp "$program" "$work/"$'folder\xff/p3'
     (program="$work/"$'folder\xff/p3' && run revbits <<<"$list")
@@ -108,7 +109,7 @@ output() {
     : >"$work/err"
     is 'standard error closed' 2 '' ''
 
-    # Nobody reads this pipe. A program ignores the signal for that, and sees its write fail.
+    # Nobody reads this pipe. The program ignores the signal for this, and sees that its write fails.
     rm -f "$work/pipe"
     mkfifo "$work/pipe"
     exec 3<>"$work/pipe" 4>"$work/pipe" 3>&-
@@ -120,15 +121,16 @@ output() {
     rm "$work/pipe"
 }
 
-# many ITEM: a list of 2^22 times ITEM.
+# many ITEM: a list that has ITEM 2^22 times.
 many() {
     local LC_ALL=C text=$1, k
     for ((k = 0; k < 22; k++)); do text+=$text; done
     printf '[%s]\n' "${text%,}"
 }
 
-# peak QUARTERS WORD..: runs the program on the long list, and compares the memory that it held at most with so many quarters
-# of the input. Nothing is written before the whole text is there, so the program waits for a reader when the most was held.
+# peak QUARTERS ARGUMENT..: runs the program on the long list, and compares the most memory that it held with QUARTERS
+# quarters of the input. The program writes nothing before it has the whole text, so it has reached its peak when it
+# waits for a reader.
 peak() {
     local process first held allowed=$(($1 * $(stat -c %s "$work/long") / 4096))
     shift
@@ -149,9 +151,10 @@ peak() {
     exec 5<&-
 }
 
-# How much memory 2^22 items take, all equal, so that each command gives the list again. Numbers of 20 digits take 3.6 times
-# the input, and numbers of one digit 20.2 times, since most of it is for each number, however short. A list of empty lists
-# is no array of numbers, and 13.8 times the input is enough to see that.
+# How much memory 2^22 items take. All items are equal, so each command returns the same list. Numbers of 20 digits take
+# 3.6 times the size of the input. Numbers of one digit take 20.2 times, since most of the memory is needed for each
+# number, even a short one. A list of empty lists is not an array of numbers, and 13.8 times the size of the input is
+# enough to find that out.
 memory() {
     many 18446744073709551615 >"$work/long"
     peak 15 revbits

@@ -1,11 +1,12 @@
 #!/usr/bin/env bash
-# Compares what refuses each edit with the line `# refused by FUNCTION GOAL` in its head. It reads what `rt ci` or `rt must-fail`
-# prints, and lists the refusals as `crate/edit  function  goal`:
+# Compares what refuses each edit with the line `# refused by FUNCTION GOAL` in its head. It reads the output of `rt ci`
+# or `rt must-fail`, and lists the refusals in the form `crate/edit  function  goal`:
 #   rt must-fail p3_util | tests/refusals.sh
 #   rt ci | tests/refusals.sh CRATE..
-# If several goals are open, `rt` names the first. `rt check --only FUNCTION` over the edited source names all of them. An edit fails
-# if it has no such line, if something else refuses it, or if the output does not mention it. The edits of the crates that are named
-# are looked for, or, if none is named, those of each crate that the output mentions.
+# If several goals are open, `rt` names the first. `rt check --only FUNCTION` on the edited source names all of them. An
+# edit fails if it has no such line, if something else refuses it, or if the output does not mention it. The script
+# looks for the edits of the named crates. If no crate is named, it looks for those of each crate that the output
+# mentions.
 set -euo pipefail
 cd "$(dirname "$0")/.."
 bad=0
@@ -35,7 +36,7 @@ while IFS= read -r line; do
         function='' goal=$said end='`'
     fi
     printf '%-68s %-52s %s\n' "$crate/$edit" "$function" "$goal"
-    # `rt` cuts its line, and so may cut the name of a goal.
+    # `rt` shortens its line, and may cut off the end of a goal's name.
     [ -n "$end" ] || goal+='*'
     refusals[$crate/$edit]="$function $goal"
     crates[$crate]=${crates[$crate]-said}

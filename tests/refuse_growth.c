@@ -1,8 +1,8 @@
-/* Refuses one growth of a program: of the calls of `malloc` and `realloc` that the program's own code makes, the one
-   whose number REFUSED_GROWTH gives, from 1. Where that call came, the file that REFUSAL names is made, empty. And where
-   the program ends with blocks that it did not give back, the file that KEPT names is made.
+/* Refuses one growth of a program. The calls of `malloc` and `realloc` by the program's own code are counted from 1,
+   and the one with the number in REFUSED_GROWTH is refused. If there is such a call, the empty file named by REFUSAL is
+   created. If the program ends without having freed all its blocks, the file named by KEPT is created.
 
-   It is loaded before the C library. Calls of the C library itself are left alone. It needs no header. */
+   It is loaded before the C library. Calls made by the C library itself are not counted. It needs no header. */
 
 typedef unsigned long size;
 
@@ -40,7 +40,7 @@ static int is_refused(const void *caller)
     return 1;
 }
 
-/* The blocks that the program's own code asked for and did not give back. */
+/* The number of blocks that the program's own code allocated and has not freed. */
 static long kept;
 
 static void *noted(void *block, const void *caller)

@@ -1,29 +1,29 @@
 #!/usr/bin/env bash
-# Each growth refused in turn: a run whose Nth request for memory is refused, for every N until none is refused any
-# more.
+# Refuses each growth in turn: a run has its Nth request for memory refused, for N from 1 until a run has no Nth
+# request.
 #
 #     tests/refused_growth.sh [program]
 #
-# With the word `program` it runs the program alone, and else tests too.
+# With the argument `program` it runs only the program. Otherwise it runs tests too.
 #
-# It takes what `rt ci` left in crates/*/out: the program, as each compiler built it, and the tests. What is not there
-# it builds. The program has to print that it is out of memory, end with status 3 and write nothing; a test has to pass,
-# whatever is refused, and has to make as many requests as are written beside it. Each run has to give back all memory
-# that it was given. So these bodies, which meet their contracts, fail here: a run that answers another fault where memory runs
-# out, a transform_and_back that makes no request and does nothing, and calls that forget the program's input or values that
-# make no whole rows. The tests of the library have no proof. They count their requests and the memory that is held
-# themselves, and `rt try` refuses one of the requests.
+# It takes what `rt ci` left in crates/*/out: the program, as each compiler built it, and the tests. It builds what is
+# missing. The program has to print that it is out of memory, end with status 3 and write nothing. A test has to pass
+# whichever request is refused, and its comment has to state the number of requests that it makes. Each run has to
+# release all memory that it was given. So these bodies meet their contracts, but fail here: a run that returns another
+# fault if memory runs out, a transform_and_back that makes no request and does nothing, and calls that forget the
+# program's input or values that make no whole rows. The tests of the library have no proof. They count their requests
+# and the memory they hold themselves, and `rt try` refuses one of the requests.
 set -uo pipefail
 cd "$(dirname "$0")/.." || exit
 
-# The tests that are run so: a crate, and how the names of its tests begin.
+# The tests that are run in this way: a crate, and the beginning of the names of its tests.
 tests=(
     'p3_util_transform tests::refused_growth::'
     'p3_util_run tests::refused_growth::'
 )
 [[ ${1-} != program ]] || tests=()
 
-# The tests of the library, and the greatest number of requests that one of them makes.
+# The tests of the library, and the largest number of requests that one of them makes.
 growth=tests/unproved/src/growth.rt.in
 most=$(sed -nE 's/.* makes_requests\w*\(&rt, ([0-9]+), .*/\1/p' "$growth" | sort -n | tail -n 1)
 [[ -n $most ]] || { echo "FAILED  $growth: no test says how many requests it makes" && exit 1; }
@@ -36,8 +36,8 @@ kit=$(dirname "$(rt doc)")
     "$kit/toolchain/bin/ld.lld" -shared "$work/refuse_growth.o" -o "$work/refuse_growth.so" || exit 1
 bad=0
 
-# refusing N PROGRAM WORD..: runs the program and refuses its Nth growth. Its output and its error go to files, and
-# `$work/refused` is there if that growth came. Memory that it did not give back is a failure.
+# refusing N PROGRAM ARGUMENT..: runs the program and refuses its Nth growth. Its output and its error output go to
+# files, and `$work/refused` exists if there was an Nth growth. Memory that is not released is a failure.
 refusing() {
     local status
     rm -f "$work/refused" "$work/kept"
@@ -55,8 +55,8 @@ failed() {
     bad=1
 }
 
-# of_program PROGRAM INPUT STATUS OUTPUT WORD..: with ample memory the program ends with the status, and prints OUTPUT,
-# which is a fault where the status is not 0.
+# of_program PROGRAM INPUT STATUS OUTPUT ARGUMENT..: with ample memory the program ends with the status and prints
+# OUTPUT, which is a fault if the status is not 0.
 of_program() {
     local program=$1 input=$2 wanted=$3 output=$4 name="${1##*/} ${*:5}" n=0 status
     while :; do
@@ -75,7 +75,7 @@ of_program() {
     ((n > 1)) || failed "$name" 'no growth was refused'
 }
 
-# beside CRATE TEST: the number of requests for memory that is written beside a test.
+# beside CRATE TEST: the number of requests for memory that a test's comment states.
 beside() {
     local path=${2%::*}
     awk -v name="${2##*::}" '

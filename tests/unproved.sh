@@ -1,10 +1,10 @@
 #!/usr/bin/env bash
-# Runs the tests of tests/unproved, as a crate beside a copy of those that it tests, with no proof.
+# Runs the tests of tests/unproved without a proof, as a crate next to a copy of the crates that it tests.
 #
 #     tests/unproved.sh [FLAG..]
 #
-# FLAGs are of `rt try`, as `-- views`, which takes the tests whose names have that word in them. With `--fail-alloc N`
-# the Nth request for memory is refused in each test.
+# FLAGs are those of `rt try`, for example `-- views`, which runs the tests whose names contain `views`. With
+# `--fail-alloc N` the Nth request for memory is refused in each test.
 set -euo pipefail
 cd "$(dirname "$0")/.."
 copy=$(mktemp -d)
@@ -19,7 +19,7 @@ done
 echo "p3_util_unproved: $below serde_json" >>"$copy/crates.txt"
 mkdir -p "$copy/crates/p3_util_unproved/src"
 cp -a tests/unproved/c "$copy/crates/p3_util_unproved/"
-# The gate takes a file that ends in .rt for one of a crate that it proves.
+# The gate would take a file that ends in .rt for one of the crates that it proves.
 for file in tests/unproved/src/*.rt.in; do
     name=${file##*/}
     cp "$file" "$copy/crates/p3_util_unproved/src/${name%.in}"

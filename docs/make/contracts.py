@@ -1,7 +1,7 @@
-"""Prints docs/CONTRACTS.md: the public calls of p3_util and p3_util_kernels with their clauses, the public types with their
-fields, and the public traits with what their implementations say of them, all as the sources have it. So a clause that goes, or a
-condition that comes, is seen. Functions that no other crate can call, but that the package's unsafe code calls, have a section
-of their own, with the definitions that their clauses stand on."""
+"""Prints docs/CONTRACTS.md: the public calls of p3_util and p3_util_kernels with their clauses, the public types with
+their fields, and the public traits with what their implementations say of them. All of it is as in the sources, so a
+removed clause or an added condition shows up. A separate section has the functions that no other crate can call but the
+package's unsafe code does, with the definitions that their clauses use."""
 import glob
 import re
 import sys
@@ -54,13 +54,13 @@ def line(indent, code):
 
 
 def function(indent, owner, declared):
-    """The lines of a function: its head, with what it belongs to before its name, and its clauses."""
+    """The lines of a function: its head, with the owner before its name, and its clauses."""
     lines = [line(indent, f"fn {owner}{declared.head[3:]}")]
     return lines + [line(indent + 2, f"{title}: {said}") for title, said in declared.clauses]
 
 
 def members(body):
-    """What a trait or an implementation of one says, without its laws."""
+    """What a trait or an implementation of a trait says, without its laws."""
     for inner in declarations(body, 4):
         is_law = re.match(r"ghost (laws|\w+_(refl|trans)) =", inner.head)
         if inner.kind == "fn" and inner.clauses:
@@ -70,13 +70,14 @@ def members(body):
 
 
 def is_private(head, text):
-    """Whether a trait is implemented for a type of this file that others do not see."""
+    """Whether a trait is implemented for a type of this file that other crates do not see."""
     name = re.search(r" for (?:&mut |&)?(\w+)", head)
     return bool(name and re.search(rf"^(?:pub\(crate\) )?(?:struct|enum) {name[1]}\b", text, re.M))
 
 
 def items(text, is_listed):
-    """The contracts of a file, as far as `is_listed` says so of the owner's name, which may be empty, and the declaration."""
+    """The contracts of a file that `is_listed` selects. It is called with the owner's name, which may be empty, and the
+    declaration."""
     for outer in declarations(text, 0):
         head = outer.head
         if outer.kind == "impl" and " for " not in head:
@@ -97,12 +98,12 @@ def items(text, is_listed):
 
 
 def is_public(names):
-    """Whether other crates see a declaration of a file whose parent hands on `names`."""
+    """Whether other crates see a declaration in a file. The parent of the file re-exports `names`."""
     return lambda owner, declared: declared.kind == "impl" or declared.seen_by == "pub" and (owner != "" or declared.name() in names)
 
 
 def modules_of_words():
-    """Of each word that a source imports for its clauses, the modules that it imports it from."""
+    """For each name that a source imports for its clauses, the modules that it is imported from."""
     found = {}
     for path in sorted(glob.glob("crates/p3_util_kernels/src/**/*.rt", recursive=True) +
                        glob.glob("crates/p3_util/src/**/*.rt", recursive=True)):
@@ -113,7 +114,7 @@ def modules_of_words():
 
 
 def words_by_module(page):
-    """A line for each module: the words of the page's clauses that it has."""
+    """A line for each module: the names in the page's clauses that the module has."""
     said = set(re.findall(r"\w+", page))
     homes = {}
     for word, modules in modules_of_words().items():
@@ -125,13 +126,13 @@ def words_by_module(page):
 
 
 def names_of(text, module):
-    """The names that a file hands on from a module below it."""
+    """The names that a file re-exports from a module below it."""
     found = re.search(rf"pub use {module}::(\w+|\{{[^}}]*\}})", text)
     return re.findall(r"\w+", found[1]) if found else []
 
 
 def sections():
-    """The page's sections: one for each module, and one for the root."""
+    """The page's sections: one for each module and one for the root."""
     for module in MODULES:
         path = (glob.glob(f"crates/p3_util_kernels/src/{module}.rt") + glob.glob(f"crates/p3_util/src/{module}.rt"))[0]
         parent = read(path)
@@ -146,12 +147,14 @@ def sections():
 
 
 def calls(text):
-    """What a text of Rust calls: of each call its name, and before that the type it is called by, a dot, or nothing."""
+    """The calls in a text of Rust: for each call its name, and before that the type it is called on, a dot, or
+    nothing."""
     return {(dot or (owner if owner[:1].isupper() else ""), name) for owner, dot, name in CALL.findall(text)}
 
 
 def callers():
-    """The files of the package whose calls of kernels are listed: `unchecked.rs`, what is below it, and what it uses."""
+    """The files of the package whose calls of kernels are listed: `unchecked.rs`, the files below it, and those it
+    uses."""
     files = ["rust/src/unchecked.rs", *sorted(glob.glob("rust/src/unchecked/*.rs"))]
     used = re.findall(r"^use crate::(\w+)", read(files[0]), re.M)
     files += [file for name in sorted(set(used) - {"kernels"}) for file in glob.glob(f"rust/src/{name}.rs")]
@@ -159,8 +162,8 @@ def callers():
 
 
 def called_kernels():
-    """Each function of the kernels that the package calls, directly or through parts: its file, its owner's name and itself. A
-    method is found by its name, if the file that calls it names its type."""
+    """The functions of the kernels that the package calls, directly or through parts, each with its file and its
+    owner's name. A method is found by its name if the file that calls it names its type."""
     paths = [path for path in sorted(glob.glob(f"{KERNELS}**/*.rt", recursive=True)) if "laws" not in path]
     known = [(path, owner, declared) for path in paths for owner, declared in functions(read(path)) if declared.seen_by or not owner]
     found, texts = [], [(read(path), read(path)) for path in callers()]
@@ -176,7 +179,7 @@ def called_kernels():
 
 
 def cited(clauses):
-    """The text of each definition of the kernels that clauses cite, or that such a definition cites."""
+    """The text of each definition of the kernels that the clauses cite, or that another such definition cites."""
     texts = {name: text for path in sorted(glob.glob(f"{KERNELS}../specs/*.antt")) for name, text in definition_texts(path)}
     names = stood_on(clauses, texts)
     return [textwrap.fill(row.strip(), 118, initial_indent=row[:len(row) - len(row.lstrip())], subsequent_indent="        ",
@@ -185,7 +188,7 @@ def cited(clauses):
 
 
 def parts(public):
-    """The section of the functions that the package relies on, without those whose lines are in `public`."""
+    """The section on the functions that the package relies on, without those whose lines are in `public`."""
     found = [(path, owner, declared) for path, owner, declared in called_kernels()
              if function(0, owner and f"{owner}::", declared)[0] not in public]
     types = {word for _, owner, declared in found for word in (owner, *re.findall(r"\w+", declared.head))}

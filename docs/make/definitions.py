@@ -2,9 +2,10 @@
 
     python3 docs/make/definitions.py
 
-A table has each definition of its crate that a clause of a public call, or of a law on parts, names, and each that the comment of
-such a definition names in backquotes. The comment is the row's text. Its last sentence `Source: ..` says what the definition was
-made from. If there is none, that of the file's head does."""
+A table has each definition of its crate that is named by a clause of a public call or of a law on parts. It also has
+each definition that the comment of another one in the table names in backquotes. The comment is the row's text. Its
+last sentence `Source: ..` says what the definition was made from. If it has no such sentence, the one in the file's
+head counts."""
 import glob
 import re
 import sys
@@ -14,7 +15,7 @@ from contracts import sections
 from rattle_source import DEFINITION, closed, functions, read
 
 PAGE = "docs/MODEL.md"
-# The files of specs/ of each crate that has a table, in the order of reading. Files that are not named come last.
+# For each crate that has a table, its files in specs/ in the order of reading. Files that are not named come last.
 ORDER = {
     "p3_util_kernels": ["Digits", "Powers", "Levels", "Names", "Reversal", "Exchanged", "Transpose", "Region", "Stages", "Square",
                         "SwapCounts", "Steps", "Least", "Parts", "Blocks", "Plans", "AnyOrder", "PartSteps", "Crossing",
@@ -27,9 +28,9 @@ ORDER = {
 # The sources whose public clauses docs/CONTRACTS.md does not list.
 OTHERS = ["p3_util_kernels/src/parts.rt", "p3_util_kernels/src/parts/*.rt", "p3_util_kernels/src/parts/laws/*.rt",
           "p3_util_run/src/program.rt", "p3_util_run/src/fault.rt", "p3_util_c/src/*.rt"]
-# The files of words that no call has in a clause, and that callers need.
+# The files whose definitions no call has in a clause, but that callers need.
 FOR_CALLERS = {"ItemsAt"}
-# What each holder says of itself, and where the comments on its traits say what that is.
+# The definition that each holder gives for itself, and the file in which the comments on its traits explain it.
 OF_HOLDERS, TRAITS = "same_holder n a b", "crates/p3_util_kernels/src/places.rt"
 BEGIN = "<!-- Made of the comments in crates/{}/specs/ by docs/make/definitions.py. -->"
 END = "<!-- The end of what is made. -->"
@@ -37,19 +38,20 @@ OF_ORIGINAL = " of p3-util 0.8.0"
 
 
 def comment(lines):
-    """The text of lines of comment, and its source, or None where it has none."""
+    """The text of comment lines, and its source, or None if it has none."""
     text = " ".join(line.strip().removeprefix("--").strip() for line in lines)
     said, _, source = text.partition("Source: ")
     return said.strip().removesuffix("."), source.replace(OF_ORIGINAL, "").removesuffix(".") or None
 
 
 def names_in(groups):
-    """The names of groups as `(x y : A)`."""
+    """The names in groups such as `(x y : A)`."""
     return re.findall(r"\w+", " ".join(re.findall(r"\(((?:\w+ )+):", groups)))
 
 
 def arguments(text, start, name):
-    """The arguments of a definition: those that its type names, or those of its equation, if it has one alone and that more."""
+    """The arguments of a definition: those that its type names, or those of its equation, if it has only one equation
+    and that has more."""
     head = text[start:text.index("\n", start)]
     if head.startswith(("pub record", "pub data")):
         return names_in(head)
@@ -81,7 +83,7 @@ class Definition:
 
 
 def definitions(crate):
-    """Those of a crate's files, in the order of reading."""
+    """The definitions in a crate's files, in the order of reading."""
     paths = {re.search(r"(\w+)\.antt", path)[1]: path for path in sorted(glob.glob(f"crates/{crate}/specs/*.antt"))}
     for file in [*ORDER[crate], *(file for file in paths if file not in {*ORDER[crate], "Lib"})]:
         with open(paths[file], encoding="utf-8") as found:
@@ -92,7 +94,7 @@ def definitions(crate):
 
 
 def clauses():
-    """What the clauses say that a reader of the tables may meet."""
+    """The text of the clauses that a reader of the tables may meet."""
     yield from sections()
     for path in sorted(path for pattern in OTHERS for path in glob.glob(f"crates/{pattern}")):
         text = read(path)
@@ -113,7 +115,7 @@ def listed(known):
 
 
 def of_holders():
-    """The row of what each holder says of itself: of places, and of cells."""
+    """The row for the definition that each holder gives for itself, for `Places` and for `Cells`."""
     with open(TRAITS, encoding="utf-8") as found:
         text = " ".join(found.read().replace("///", " ").split())
     places, cells = re.findall(rf"`{OF_HOLDERS}` says that (.*?)\.? pub trait (?:Places|Cells) ", text)
@@ -137,7 +139,7 @@ def tables():
 
 
 def page():
-    """The page with the tables that the comments give."""
+    """The page with the tables that are made from the comments."""
     with open(PAGE, encoding="utf-8") as found:
         text = found.read()
     for crate, rows in tables():

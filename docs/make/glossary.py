@@ -1,22 +1,22 @@
-"""Makes the text of rust/src/kernels/contracts.rs, for rust/erase: what the names in the contracts of the package's documentation
-mean.
+"""Makes the text of rust/src/kernels/contracts.rs for rust/erase. It explains what the names in the contracts of the
+package's documentation mean.
 
-The rows of its tables are those of docs/CALLING.md and docs/MODEL.md, for each name that a contract uses. The contract that it
-explains clause by clause is the one that docs/CALLING.md explains."""
+Its tables have the rows of docs/CALLING.md and docs/MODEL.md for each name that a contract uses. It also explains one
+contract clause by clause, the same one as docs/CALLING.md."""
 import re
 from dataclasses import dataclass
 
-# These two are at the head of the page, and between them is the paragraph under the first table's heading.
-HEAD = "What the words of the contracts mean."
-END = """Nothing tests a `requires` here. The repository has each definition as the checker reads it, in the folders `specs` of
-its crates."""
-# The page and the heading under which a contract is read.
+# Both are at the top of the page. Between them is the paragraph under the first table's heading.
+HEAD = "What the names and marks in the contracts mean."
+END = """No function of `kernels` tests its `requires`. The repository has each definition as the checker reads it, in
+the `specs` folders of its crates."""
+# The page and the heading of the section that explains a contract clause by clause.
 READ_ALOUD = "docs/CALLING.md", "A contract, word by word"
-# Each table here: its title and the head of its first column, and the page and the heading under which its rows are.
+# For each table: its title, the head of its first column, and the page and the heading under which its rows are.
 TABLES = [
-    ("Marks, and words of Rust and its std", "In a clause", "docs/CALLING.md", "How a clause is read"),
-    ("Words of this package's kernels", "Name", "docs/MODEL.md", "Definitions of `p3_util_kernels`, in `specs/`"),
-    ("Words of the chunks, the map and `zip_eq`", "Name", "docs/MODEL.md", "Definitions of `p3_util`, in `specs/`"),
+    ("Marks, and names from Rust and its std", "In a clause", "docs/CALLING.md", "How a clause is read"),
+    ("Names for this package's kernels", "Name", "docs/MODEL.md", "Definitions of `p3_util_kernels`, in `specs/`"),
+    ("Names for the chunks, the map and `zip_eq`", "Name", "docs/MODEL.md", "Definitions of `p3_util`, in `specs/`"),
 ]
 CONTRACT = re.compile(r"^ */// ```text\n(?P<clauses>(?: *///.*\n)*?) */// ```\n(?: *#\[.*\n)*(?P<head>(?:; \w+\]|[^;{])*)", re.M)
 OWNER = re.compile(r"^(?:impl|pub trait)\b[^{]*", re.M)
@@ -24,19 +24,19 @@ TOKEN = re.compile(r"\.\w+|\w+|[^\s\w]")
 
 
 class Undefined(Exception):
-    """A word of a contract that no row defines: its place and the word."""
+    """A name or mark in a contract that no row defines. The text has its place and the name."""
 
 
 @dataclass
 class Row:
-    """A row of a table: its first two cells, and the words and the marks that the first one defines."""
+    """A row of a table: its first two cells, and the names and marks that the first cell defines."""
     name: str
     meaning: str
     words: set
 
 
 def section(page, heading):
-    """What is under a heading of a page."""
+    """The text under a heading of a page."""
     return page.partition(f"\n## {heading}\n")[2].partition("\n## ")[0]
 
 
@@ -48,13 +48,13 @@ def rows(text):
 
 
 def unlinked(text):
-    """The text without links, since a page of the repository is not where the documentation is."""
+    """The text without links, since links between pages of the repository do not work in the documentation."""
     return re.sub(r"\[([^]]*)\]\([^)]*\)", r"\1", text)
 
 
 def defined(code):
-    """What a piece of code in a first cell defines: its first word, names after a dot, and marks. Its other words, and those of
-    one letter, are arguments."""
+    """What a piece of code in a first cell defines: its first name, the names after a dot, and the marks. All other
+    names, and those of one letter, are arguments."""
     first, *others = TOKEN.findall(code)
     words = {first, *(token for token in others if not re.fullmatch(r"\w+", token, re.A))}
     return {bare(word) for word in words if not re.fullmatch(r"[A-Za-z]", word)}
@@ -65,8 +65,8 @@ def bare(token):
 
 
 def contracts(text):
-    """Of each contract in a file that `erase` wrote: its clauses, and the heads of its function and of the impl or trait around
-    that."""
+    """For each contract in a file that `erase` wrote: its clauses, and the heads of its function and of the impl or
+    trait around the function."""
     for contract in CONTRACT.finditer(text):
         owners = [owner[0] for owner in OWNER.finditer(text, 0, contract.start())]
         inner = contract["head"].startswith(" ")
@@ -74,8 +74,8 @@ def contracts(text):
 
 
 def used(clauses, head):
-    """The words and the marks of clauses, but for comments, the clauses' names, numbers, and what the heads or the clauses
-    bind."""
+    """The names and marks in clauses, except for comments, the clauses' names, numbers, and names that the heads or the
+    clauses bind."""
     clauses = re.sub(r"//.*|^(requires|ensures)\*? ?\w* \{|\}(?=\s*^(requires|ensures|//)|\s*\Z)", "", clauses, flags=re.M)
     bound = set(re.findall(r"\w+", head)) | set(re.findall(r"(?<=[({])\w+(?= [:=])|(?<=let )\w+", clauses))
     bound |= {name for names in re.findall(r"λ ([\w ]+)\.", clauses) for name in names.split()}
@@ -83,7 +83,7 @@ def used(clauses, head):
 
 
 def undefined(written, tables):
-    """A line for each word of a contract that has no row."""
+    """A line for each name in a contract that has no row."""
     known = {word for table in tables for row in table for word in row.words}
     for path, text in written.items():
         for clauses, head in contracts(text):
@@ -93,7 +93,7 @@ def undefined(written, tables):
 
 
 def shown(written, tables):
-    """The rows of each table for the words of the contracts, and for those that such rows have in backquotes."""
+    """The rows of each table for the names in the contracts, and for the names that such rows have in backquotes."""
     words = {word for text in written.values() for clauses, head in contracts(text) for word in used(clauses, head)}
     before = None
     while words != before:
@@ -104,14 +104,15 @@ def shown(written, tables):
 
 
 def read_aloud(text):
-    """Of the section that reads a contract: its first sentence, the contract, and the list of what each clause says."""
+    """From the section that explains a contract: its first sentence, the contract, and the list of what each clause
+    says."""
     parts = "\n\n".join(text.strip().split("\n\n")[:3]).replace("```rust\n", "```text\n")
     return unlinked(parts).split("\n")
 
 
 def page(written, read):
-    """The text of the page for the files that `erase` wrote, where `read` gives the text of a page of the repository. A word
-    without a row ends it."""
+    """The text of the page for the files that `erase` wrote. `read` gives the text of a page of the repository. A name
+    without a row is an error."""
     sections = [section(read(source), heading) for *_, source, heading in TABLES]
     tables = [list(rows(text)) for text in sections]
     for line in undefined(written, tables):

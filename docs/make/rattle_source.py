@@ -22,7 +22,7 @@ CLOSED_BY = {"(": ")", "[": "]", "{": "}"}
 
 
 class Unknown(Exception):
-    """What a script does not know: the place and a word."""
+    """Something that a script does not know. The text has its place and says what it is."""
 
 
 @dataclass
@@ -46,7 +46,7 @@ class Token:
 
 
 def scanned(text, name):
-    """The tokens of `text`. The last one is empty and has what follows the others."""
+    """The tokens of `text`. The last token is empty. Its gap is what follows the others."""
     at, line, gap = 0, 1, ""
     while at < len(text):
         match = TOKEN.match(text, at)
@@ -66,7 +66,7 @@ def scanned(text, name):
 
 
 def block_end(text, at):
-    """The place after the comment at `at`, which may have comments in it, or `at` where it does not end."""
+    """The index after the comment at `at`, which may have comments inside, or `at` if the comment does not end."""
     depth = 0
     for mark in re.finditer(r"/\*|\*/", text[at:]):
         depth += 1 if mark[0] == "/*" else -1
@@ -76,7 +76,7 @@ def block_end(text, at):
 
 
 class Source:
-    """A text as tokens, and for the place of each bracket the place of its partner."""
+    """A text as tokens, and for the index of each bracket the index of its partner."""
 
     def __init__(self, text, name):
         self.name = name
@@ -95,7 +95,7 @@ class Source:
             self.refuse(opened[-1], "a bracket without its partner")
 
     def refuse(self, at, word):
-        """Ends with the place of the token at `at`, and a word for what is wrong there."""
+        """Raises an error with the place of the token at `at`. `word` says what is wrong there."""
         raise Unknown(f"{self.name}:{self.tokens[at].line}: {word}: {self.text(at)}")
 
     def text(self, at):
@@ -105,7 +105,7 @@ class Source:
         return [self.text(at) for at in range(start, end)]
 
     def next(self, text, at):
-        """The place of the next token `text` after `at`."""
+        """The index of the next token `text` after `at`."""
         place = next((i for i in range(at, len(self.tokens)) if self.text(i) == text), None)
         return place or self.refuse(at, f"an item without its {text}")
 
@@ -117,7 +117,7 @@ class Source:
         return "trait" in head or "impl" in head and any(a == "for" and b != "<" for a, b in zip(head, head[1:]))
 
 
-# What stands before the name of a function, and where its head ends.
+# What comes before the name of a function, and where its head ends.
 FUNCTION = r'(?:pub(?:\(\w+\))? )?(?:const )?(?:extern "C" )?fn '
 HEAD_ENDS = re.compile(r"\n\s*(?:requires|ensures)\b|\{|;$", re.M)
 CLAUSE = re.compile(r"\s*(requires|ensures)(\*?) ?(\w*) \{")
@@ -125,8 +125,8 @@ CLAUSE = re.compile(r"\s*(requires|ensures)(\*?) ?(\w*) \{")
 
 @dataclass
 class Declaration:
-    """A declaration: who sees it (`pub`, `pub(crate)` or nobody else), its kind, its head in one line, its clauses, each with its
-    title, and what its braces hold."""
+    """A declaration: who sees it (`pub`, `pub(crate)`, or empty if it is private), its kind, its head in one line, its
+    clauses, each with its title, and the text between its braces."""
     seen_by: str
     kind: str
     head: str
@@ -134,22 +134,23 @@ class Declaration:
     body: str
 
     def name(self):
-        """The name of what is declared. That of an `impl` is the name of the type, or of the trait that the type implements."""
+        """The name of what is declared. For an `impl` it is the name of the type, or of the trait that the type
+        implements."""
         return re.match(r"(?:impl(?:<.*?>)? (?=\w)|\w+ )(\w+)", self.head)[1]
 
     def labels(self):
-        """The names of the clauses. One without a name has the empty one."""
+        """The names of the clauses. A clause without a name has the empty name."""
         return {title.partition(" ")[2] for title, _ in self.clauses}
 
 
 def read(path):
-    """The text of a source, in which the lines of comments and of attributes are empty."""
+    """The text of a source, with empty lines in place of its comments and attributes."""
     with open(path, encoding="utf-8") as text:
         return re.sub(r"^ *(//.*|#!?\[.*\])$", "", text.read(), flags=re.M)
 
 
 def closed(text, opened):
-    """What is between the brace at `opened` and the one that closes it, and the place after that."""
+    """The text between the brace at `opened` and the one that closes it, and the index after that."""
     depth = 1
     for at in range(opened + 1, len(text)):
         depth += {"{": 1, "}": -1}.get(text[at], 0)
@@ -172,7 +173,7 @@ def declarations(text, indent):
 
 
 def functions(text):
-    """Each function of the text with the name of the type or the trait that it belongs to, which may be empty."""
+    """Each function of the text, with the name of the type or trait that it belongs to. The name may be empty."""
     for outer in declarations(text, 0):
         if outer.kind == "fn":
             yield "", outer
@@ -184,7 +185,7 @@ DEFINITION = re.compile(r"^( *)(?:(?:abbrev|unfoldable) pub|pub (?:record|data))
 
 
 def definition_texts(path):
-    """Of each public definition in a file of specs/ its name, and its text without comments."""
+    """For each public definition in a file of specs/, its name and its text without comments."""
     with open(path, encoding="utf-8") as source:
         text = source.read()
     for found in DEFINITION.finditer(text):
@@ -200,7 +201,7 @@ def definition_texts(path):
 
 
 def stood_on(text, texts):
-    """The names of the definitions of `texts` that a text cites, and of those that such definitions cite."""
+    """The names of the definitions of `texts` that a text cites, directly or through other definitions."""
     names, more = set(), {text}
     while more:
         cited = {name for said in more for name in re.findall(r"(?<![.\w])\w+", said) if name in texts} - names

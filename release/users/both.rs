@@ -1,5 +1,5 @@
-//! The package and the static library in one program. Two compilers made them of one source: on random lists, lengths and
-//! words they have to leave equal lists and give equal answers, also where a condition does not hold.
+//! The package and the static library in one program. Two compilers made them from the same source. On random lists,
+//! lengths and integers they have to leave equal lists and return equal results, even if a condition does not hold.
 
 #[path = "../../bench/src/library.rs"]
 mod library;
@@ -17,7 +17,7 @@ unsafe extern "C" {
     safe fn p3_util_reverse_bits_len(x: usize, bit_len: usize, reversed: &mut usize) -> bool;
 }
 
-/// Numbers that are always the same.
+/// Random numbers that are the same in every run.
 struct Random(u64);
 
 impl Random {
@@ -35,7 +35,7 @@ impl Random {
     }
 }
 
-/// What the package's call answers, and `None` where it panics, which is said nowhere.
+/// What the package's call returns, or `None` if it panics. The panic's message is not printed.
 fn answer<A>(call: impl FnOnce() -> A) -> Option<A> {
     let hook = take_hook();
     set_hook(Box::new(|_| ()));
@@ -44,7 +44,7 @@ fn answer<A>(call: impl FnOnce() -> A) -> Option<A> {
     answer
 }
 
-/// Calls both on a list of so many items.
+/// Calls both on a list of `len` items.
 fn on_list<const N: usize>(
     len: usize,
     ours: fn(&mut [[u8; N]], usize),
@@ -62,7 +62,7 @@ fn on_list<const N: usize>(
     assert!(list == other, "{len} items of {N} bytes, in rows of {width}");
 }
 
-/// Calls both on an input and an output of so many items.
+/// Calls both on an input and an output of these numbers of items.
 fn on_matrix<const N: usize>(input: usize, output: usize, width: usize, height: usize) {
     let mut random = Random((width ^ height) as u64);
     let input: Vec<[u8; N]> = random.list(input);
@@ -106,7 +106,7 @@ fn word(n: usize) {
     assert_eq!(log2_floor_usize(n), p3_util_log2_floor(n), "log2_floor of {n}");
 }
 
-/// What the library's call writes, and `None` where its condition does not hold.
+/// What the library's call writes, or `None` if its condition does not hold.
 fn written(call: impl FnOnce(&mut usize) -> bool) -> Option<usize> {
     let mut number = 0;
     call(&mut number).then_some(number)

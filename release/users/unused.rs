@@ -1,4 +1,4 @@
-//! Leaves the answers unused that the original warns of, and calls in parts, of which no part then runs.
+//! Leaves unused the results that the original warns about. It also leaves calls in parts unused, so that no part runs.
 
 use p3_util::*;
 

@@ -1,4 +1,4 @@
-/* A user's shared library over the static one. */
+/* A user's shared library that uses the static one. */
 #include "p3_util.h"
 
 bool yours_reverse(unsigned char *bytes, size_t len);

@@ -1,7 +1,9 @@
-//! The transforms of all columns of a matrix, on scoped threads of std, beside the sum that defines them.
+//! Transforms every column of a matrix on scoped threads of std, and compares some of the results with the sum that
+//! defines the transform.
 //!
-//! Its rows are put into the order of reversed index bits in parts. Then each stage joins transforms of half the length in pairs:
-//! a row with the one that is half a block behind it, in all columns. The threads take runs of such rows from a queue.
+//! First the rows are put into the order of reversed index bits, in parts. Then each stage joins transforms of half the
+//! length in pairs: a row is joined with the row half a block behind it, in all columns. The threads take runs of such
+//! rows from a queue.
 
 use std::num::NonZero;
 use std::sync::Mutex;
@@ -10,14 +12,14 @@ use std::thread::{available_parallelism, scope};
 use p3_util_proved::log2_strict_usize;
 use p3_util_proved::parts::{self, ReversalPart};
 
-/// The prime `15 * 2^27 + 1`, and a number whose powers are all numbers below it but 0.
+/// The prime `15 * 2^27 + 1`, and a number whose powers are all numbers below the prime except 0.
 const P: u64 = 2_013_265_921;
 const GENERATOR: u64 = 31;
 
 const WIDTH: usize = 100;
 const HEIGHT: usize = 1 << 12;
 
-/// The most rows that a thread joins with as many others before it takes the next run.
+/// The most rows of one half of a block that a thread joins with the other half before it takes the next run.
 const RUN_ROWS: usize = 64;
 
 fn power(base: u64, exponent: u64) -> u64 {
@@ -28,15 +30,15 @@ fn power(base: u64, exponent: u64) -> u64 {
     }
 }
 
-/// A number whose powers repeat after `2^log_order` of them, and not before.
+/// A root of unity modulo `P`: its powers repeat after `2^log_order` of them, and not earlier.
 fn root(log_order: usize) -> u64 {
     power(GENERATOR, (P - 1) >> log_order)
 }
 
-/// Runs all jobs on so many threads, and returns when they are done.
+/// Runs all jobs on `threads` threads, and returns when they are done.
 fn run_all<J>(threads: usize, jobs: impl Iterator<Item = J> + Send, run: impl Fn(J) + Sync) {
     let queue = Mutex::new(jobs);
-    // The lock is held while a job is taken, and not while it runs.
+    // The lock is held only while a job is taken, not while it runs.
     let next = || queue.lock().ok()?.next();
     scope(|scope| {
         for _ in 0..threads {
@@ -45,7 +47,7 @@ fn run_all<J>(threads: usize, jobs: impl Iterator<Item = J> + Send, run: impl Fn
     });
 }
 
-/// Rows of the first half of a block from row `start` of it on, and as many of the second half.
+/// Rows of the first half of a block, starting with row `start` of the block, and as many rows of the second half.
 struct Run<'a> {
     low: &'a mut [u32],
     high: &'a mut [u32],
@@ -53,13 +55,14 @@ struct Run<'a> {
 }
 
 impl Run<'_> {
-    /// Joins each row of the first half with the one of the second half, where `w` is the root of the block's order.
+    /// Joins each row of the first half with its row of the second half. `w` is the root whose order is the block's
+    /// number of rows.
     fn join(self, w: u64) {
         let mut twiddle = power(w, self.start);
         for (low, high) in self.low.chunks_exact_mut(WIDTH).zip(self.high.chunks_exact_mut(WIDTH)) {
             for (x, y) in low.iter_mut().zip(high) {
                 let (even, odd) = (u64::from(*x), u64::from(*y) * twiddle % P);
-                // Both are below P, which fits into 32 binary digits.
+                // Both are below P, which fits into 32 bits.
                 *x = ((even + odd) % P) as u32;
                 *y = ((even + P - odd) % P) as u32;
             }
@@ -68,7 +71,7 @@ impl Run<'_> {
     }
 }
 
-/// The runs of a block, of which each half has the transforms of half its length.
+/// The runs of a block. Each half of the block has transforms of half the block's length.
 fn runs(block: &mut [u32]) -> impl Iterator<Item = Run<'_>> {
     let (low, high) = block.split_at_mut(block.len() / 2);
     let halves = low.chunks_mut(RUN_ROWS * WIDTH).zip(high.chunks_mut(RUN_ROWS * WIDTH));
@@ -76,7 +79,7 @@ fn runs(block: &mut [u32]) -> impl Iterator<Item = Run<'_>> {
     halves.zip(starts).map(|((low, high), start)| Run { low, high, start })
 }
 
-/// Puts the transform of each column in the place of the column.
+/// Replaces each column by its transform.
 fn transform(matrix: &mut [u32], threads: usize) {
     parts::row_reversal(matrix, WIDTH, 4 * threads).for_each_phase(|parts| {
         println!("the rows are reversed in {} parts", parts.len());
@@ -89,7 +92,8 @@ fn transform(matrix: &mut [u32], threads: usize) {
     }
 }
 
-/// Number k of the transform of a column: the sum of `values[j] * w^(j * k)` over all j, where w is the root of the order HEIGHT.
+/// Number k of the transform of a column: the sum of `values[j] * w^(j * k)` over all j, where w is the root of order
+/// HEIGHT.
 fn by_definition(values: &[u64], k: u64) -> u64 {
     let w = power(root(log2_strict_usize(HEIGHT)), k);
     values.iter().rev().fold(0, |sum, value| (sum * w + value) % P)

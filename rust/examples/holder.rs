@@ -1,10 +1,11 @@
-//! A holder of one's own: records whose fields lie in two lists. The calls of `kernels` reverse it, and count their swaps.
+//! A holder of your own. A holder is a value that gives access to a list only by index. This one has records whose
+//! fields lie in two lists. The calls of `kernels` reverse it and count their swaps.
 
 use p3_util_proved::kernels::places::{Places, Swaps};
 use p3_util_proved::kernels::reverse::{fits_rows, reverse_counted, reverse_index_bits_on, reverse_rows_counted};
 use p3_util_proved::reverse_bits_len;
 
-/// Record i is `(numbers[i], names[i])`. The lists are of one length.
+/// Record i is `(numbers[i], names[i])`. Both lists have the same length.
 #[derive(Clone, Debug, PartialEq)]
 struct Records {
     numbers: Vec<usize>,
@@ -20,7 +21,7 @@ impl Records {
     }
 }
 
-/// What a kernel asks of a holder: how many places it has, and that it exchanges two of them.
+/// What a kernel needs from a holder: how many places it has, and a way to exchange two of them.
 impl Places for Records {
     type Item = (usize, String);
 
@@ -38,20 +39,21 @@ fn main() {
     let mut records = Records::new(1 << 10);
     let before = records.clone();
 
-    // Nothing in `kernels` tests a condition, so the caller does. Of 2^10 places 2^5 stay, and each swap moves two of the others.
+    // No call of `kernels` tests its precondition, so the caller does. 2^5 of the 2^10 places stay as they are, and
+    // each swap moves two of the others.
     assert!(fits_rows(records.len(), 1));
     let swaps = reverse_counted(&mut records);
     println!("{swaps} swaps reverse {} records", records.len());
     assert_eq!(swaps, (1024 - 32) / 2);
     assert!((0..1024).all(|i| records.names[i] == before.names[reverse_bits_len(i, 10)]));
 
-    // A counter of the caller's goes on from its count. Reversed again, the records are as before.
+    // A counter that the caller made goes on from its count. After a second reversal the records are as before.
     let mut counter = Swaps::new(&mut records);
     reverse_index_bits_on(&mut counter);
     assert_eq!(counter.swaps(), swaps);
     assert_eq!(records, before);
 
-    // Rows of four records: 2^8 rows, of which 2^4 stay.
+    // Rows of four records. 2^4 of the 2^8 rows stay where they are.
     assert_eq!(reverse_rows_counted(&mut records, 4), 4 * (256 - 16) / 2);
     assert_eq!(records.numbers[4..8], [512, 513, 514, 515]);
 }

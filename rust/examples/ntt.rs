@@ -1,4 +1,4 @@
-//! A number-theoretic transform modulo the prime 2013265921, beside the sum that defines it.
+//! A number-theoretic transform modulo the prime 2013265921, compared with the sum that defines it.
 //!
 //! It puts the numbers into the order of reversed index bits, and then joins transforms of half the length in pairs.
 
@@ -7,7 +7,7 @@ use p3_util_proved::{log2_strict_usize, reverse_slice_index_bits};
 /// The prime `15 * 2^27 + 1`.
 const P: u64 = 2_013_265_921;
 
-/// Its powers are all numbers below `P` but 0.
+/// Its powers are all numbers below `P` except 0.
 const GENERATOR: u64 = 31;
 
 fn power(base: u64, exponent: u64) -> u64 {
@@ -18,18 +18,19 @@ fn power(base: u64, exponent: u64) -> u64 {
     }
 }
 
-/// A number whose powers repeat after `2^log_order` of them, and not before.
+/// A root of unity modulo `P`: its powers repeat after `2^log_order` of them, and not earlier.
 fn root(log_order: usize) -> u64 {
     power(GENERATOR, (P - 1) >> log_order)
 }
 
-/// Number k of the transform: the sum of `values[j] * w^(j * k)` over all j, where w is the root of the order that is the length.
+/// Number k of the transform: the sum of `values[j] * w^(j * k)` over all j, where w is the root whose order is the
+/// length.
 fn by_definition(values: &[u64], k: u64) -> u64 {
     let w = power(root(log2_strict_usize(values.len())), k);
     values.iter().rev().fold(0, |sum, value| (sum * w + value) % P)
 }
 
-/// Puts the transform of `values` in their place. Their number is a power of two.
+/// Replaces `values` by their transform. The number of values is a power of two.
 fn transform(values: &mut [u64]) {
     reverse_slice_index_bits(values);
     for log_half in 0..log2_strict_usize(values.len()) {
@@ -42,7 +43,8 @@ fn transform(values: &mut [u64]) {
     }
 }
 
-/// Joins the transforms of the numbers at even and at odd places, where `w` is the root for their common length.
+/// Joins the transforms of the numbers at even and at odd indices. `w` is the root whose order is both lengths
+/// together.
 fn join(of_even: &mut [u64], of_odd: &mut [u64], w: u64) {
     let mut twiddle = 1;
     for (x, y) in of_even.iter_mut().zip(of_odd) {

@@ -1,4 +1,5 @@
-//! The rows of a matrix, put into the order of reversed index bits and read there, and its columns, read as rows.
+//! Puts the rows of a matrix into the order of reversed index bits and reads them there. Then it reads the columns as
+//! rows of the transpose.
 //!
 //! Such a table has one row for each point of a domain, and one column for each polynomial. A commitment hashes its rows.
 
@@ -27,7 +28,7 @@ fn main() {
         assert!(row.iter().copied().eq((0..WIDTH).map(|column| item(from, column))));
     }
 
-    // The transpose has the columns as rows. What was row 6 is in the order of 3, which is 6 with its digits reversed.
+    // The rows of the transpose are the columns. The former row 6 is at index 3, which is 6 with its digits reversed.
     let mut columns = vec![0; table.len()];
     transpose(&table, &mut columns, WIDTH, HEIGHT);
     let last = columns.chunks_exact(HEIGHT).next_back();

@@ -1,7 +1,7 @@
 //! A transpose and a reversal in parts, on scoped threads of std.
 //!
-//! The package starts no thread. It cuts a call into parts, and here as many threads as there are processors take one part after
-//! the other from a queue.
+//! The package starts no thread. It only cuts a call into parts. Here there are as many threads as processors, and each
+//! thread takes one part after another from a queue.
 
 use std::num::NonZero;
 use std::sync::Mutex;
@@ -10,10 +10,10 @@ use std::thread::{available_parallelism, scope};
 use p3_util_proved::parts::{self, ReversalPart, TransposePart};
 use p3_util_proved::{reverse_slice_index_bits, transpose::transpose};
 
-/// Runs all parts on so many threads, and returns when they are done.
+/// Runs all parts on `threads` threads, and returns when they are done.
 fn run_all<P>(threads: usize, parts: impl Iterator<Item = P> + Send, run: fn(P)) {
     let queue = Mutex::new(parts);
-    // The lock is held while a part is taken, and not while it runs.
+    // The lock is held only while a part is taken, not while it runs.
     let next = || queue.lock().ok()?.next();
     scope(|scope| {
         for _ in 0..threads {
@@ -38,7 +38,7 @@ fn main() {
     assert!(columns == expected);
 
     let mut list = matrix.clone();
-    // All parts of a phase are done before the next one begins. The compiler sees to that.
+    // All parts of a phase are done before the next phase begins. The compiler makes sure of that.
     parts::reversal(&mut list, wish).for_each_phase(|parts| {
         println!("a phase of a reversal in {} parts", parts.len());
         run_all(threads, parts, ReversalPart::run);

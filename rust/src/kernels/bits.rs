@@ -64,7 +64,7 @@ static EXPONENTS_OF_THREE: [u8; 64] = [
 ///
 /// # Contract
 ///
-/// In the words of [`contracts`](crate::kernels::contracts):
+/// [`contracts`](crate::kernels::contracts) explains the names in this contract:
 ///
 /// ```text
 /// ensures enough { n ≤ 2 ^ result }
@@ -83,7 +83,7 @@ pub const fn log2_ceil_usize(n: usize) -> usize {
 ///
 /// # Contract
 ///
-/// In the words of [`contracts`](crate::kernels::contracts):
+/// [`contracts`](crate::kernels::contracts) explains the names in this contract:
 ///
 /// ```text
 /// ensures zero { n ≡ 0 → result ≡ 0 }
@@ -100,7 +100,7 @@ pub const fn log2_floor_usize(n: usize) -> usize {
 ///
 /// # Contract
 ///
-/// In the words of [`contracts`](crate::kernels::contracts):
+/// [`contracts`](crate::kernels::contracts) explains the names in this contract:
 ///
 /// ```text
 /// ensures enough { n ≤ 2 ^ result }
@@ -123,7 +123,7 @@ pub(crate) const fn pow2(exponent: usize) -> usize {
 ///
 /// # Contract
 ///
-/// In the words of [`contracts`](crate::kernels::contracts):
+/// [`contracts`](crate::kernels::contracts) explains the names in this contract:
 ///
 /// ```text
 /// ensures { SomeIff result (log_degree < 64) (2 ^ log_degree) }
@@ -142,7 +142,7 @@ pub const fn checked_pow2(log_degree: usize) -> Option<usize> {
 ///
 /// # Contract
 ///
-/// In the words of [`contracts`](crate::kernels::contracts):
+/// [`contracts`](crate::kernels::contracts) explains the names in this contract:
 ///
 /// ```text
 /// ensures { SomeIff result (a + b < 64) (a + b, 2 ^ (a + b)) }
@@ -162,7 +162,7 @@ pub const fn checked_log_size_sum(a: usize, b: usize) -> Option<(usize, usize)> 
 ///
 /// # Contract
 ///
-/// In the words of [`contracts`](crate::kernels::contracts):
+/// [`contracts`](crate::kernels::contracts) explains the names in this contract:
 ///
 /// ```text
 /// requires { HasLog2 n }
@@ -179,7 +179,7 @@ pub const fn log2_strict_usize(n: usize) -> usize {
 ///
 /// # Contract
 ///
-/// In the words of [`contracts`](crate::kernels::contracts):
+/// [`contracts`](crate::kernels::contracts) explains the names in this contract:
 ///
 /// ```text
 /// requires { HasLog3 n }
@@ -197,7 +197,7 @@ pub const fn log3_strict_usize(n: usize) -> usize {
 ///
 /// # Contract
 ///
-/// In the words of [`contracts`](crate::kernels::contracts):
+/// [`contracts`](crate::kernels::contracts) explains the names in this contract:
 ///
 /// ```text
 /// ensures { IsTrue result ↔ IsPowerOfThree n }
@@ -225,7 +225,7 @@ const fn exponent_of_three(top: usize) -> usize {
 ///
 /// # Contract
 ///
-/// In the words of [`contracts`](crate::kernels::contracts):
+/// [`contracts`](crate::kernels::contracts) explains the names in this contract:
 ///
 /// ```text
 /// ensures len { length result ≡ N }

@@ -12,7 +12,7 @@ use core::iter::FusedIterator;
 ///
 /// # Contract
 ///
-/// In the words of [`contracts`](crate::kernels::contracts):
+/// [`contracts`](crate::kernels::contracts) explains the names in this contract:
 ///
 /// ```text
 /// requires fits { BUFLEN < 2 ^ 63 }
@@ -55,7 +55,7 @@ where
 ///
 /// # Contract
 ///
-/// In the words of [`contracts`](crate::kernels::contracts):
+/// [`contracts`](crate::kernels::contracts) explains the names in this contract:
 ///
 /// ```text
 /// ensures source { I.into_iter_gives iter (padded_source result) }

@@ -1,13 +1,13 @@
-// rust/erase writes this folder from the proved sources in crates/. What is to change is changed there.
-//! What the words of the contracts mean.
+// rust/erase writes this folder from the proved sources in crates/. Make changes there.
+//! What the names and marks in the contracts mean.
 //!
 //! A `requires` is what the caller has to prove, and an `ensures` is what the call promises. The word after `requires`
 //! or `ensures` is the clause's name. A function stands before its arguments, without brackets or commas: `rev k i`. A
 //! clause sees a number as a whole number. It sees a slice or an array as the list of its items, a text as the list of
 //! its bytes, a map as the list of its pairs, and an iterator of a map as the list of what it has not yet returned.
 //!
-//! Nothing tests a `requires` here. The repository has each definition as the checker reads it, in the folders `specs` of
-//! its crates.
+//! No function of `kernels` tests its `requires`. The repository has each definition as the checker reads it, in
+//! the `specs` folders of its crates.
 //!
 //! # A contract, word by word
 //!
@@ -32,7 +32,7 @@
 //! - `holder`: the call made exactly as many exchanges as it returns, in this holder. A borrowed slice is still the
 //!   same slice.
 //!
-//! # Marks, and words of Rust and its std
+//! # Marks, and names from Rust and its std
 //!
 //! | In a clause | Meaning |
 //! |---|---|
@@ -84,7 +84,7 @@
 //! | `ensures*`, `sem 𝓛 A` | a clause on what lies in memory: A holds for the borrow that the call returns, and for what it leaves when it ends |
 //! | `K.row` | how memory holds a K |
 //!
-//! # Words of this package's kernels
+//! # Names for this package's kernels
 //!
 //! | Name | Meaning |
 //! |---|---|
@@ -125,7 +125,7 @@
 //! | `counted c s` | the count c after s more steps, which is `min (2 ^ 128 - 1) (c + s)` |
 //! | `same_holder n a b` | b is a after n exchanges. If the holder borrows its items, it also says that b borrows the same slice as a, so a change to the holder is a change to that slice. A holder that does not count its exchanges ignores n. Of `Cells`: b is a after n puts. The rest is the same as for `Places` |
 //!
-//! # Words of the chunks, the map and `zip_eq`
+//! # Names for the chunks, the map and `zip_eq`
 //!
 //! | Name | Meaning |
 //! |---|---|

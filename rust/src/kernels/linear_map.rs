@@ -23,7 +23,7 @@ impl<K: Eq, V> LinearMap<K, V> {
     ///
     /// # Contract
     ///
-    /// In the words of [`contracts`](crate::kernels::contracts):
+    /// [`contracts`](crate::kernels::contracts) explains the names in this contract:
     ///
     /// ```text
     /// ensures { result ≡ [] }
@@ -38,7 +38,7 @@ impl<K: Eq, V> LinearMap<K, V> {
     ///
     /// # Contract
     ///
-    /// In the words of [`contracts`](crate::kernels::contracts):
+    /// [`contracts`](crate::kernels::contracts) explains the names in this contract:
     ///
     /// ```text
     /// ensures empty { IfOk result (λ m. m ≡ []) }
@@ -54,7 +54,7 @@ impl<K: Eq, V> LinearMap<K, V> {
     ///
     /// # Contract
     ///
-    /// In the words of [`contracts`](crate::kernels::contracts):
+    /// [`contracts`](crate::kernels::contracts) explains the names in this contract:
     ///
     /// ```text
     /// ensures len { result ≡ length self.now }
@@ -68,7 +68,7 @@ impl<K: Eq, V> LinearMap<K, V> {
     ///
     /// # Contract
     ///
-    /// In the words of [`contracts`](crate::kernels::contracts):
+    /// [`contracts`](crate::kernels::contracts) explains the names in this contract:
     ///
     /// ```text
     /// ensures { result ≡ (length self.now == 0) }
@@ -81,7 +81,7 @@ impl<K: Eq, V> LinearMap<K, V> {
     ///
     /// # Contract
     ///
-    /// In the words of [`contracts`](crate::kernels::contracts):
+    /// [`contracts`](crate::kernels::contracts) explains the names in this contract:
     ///
     /// ```text
     /// ensures rest { result ≡ values_of self.now }
@@ -95,7 +95,7 @@ impl<K: Eq, V> LinearMap<K, V> {
     ///
     /// # Contract
     ///
-    /// In the words of [`contracts`](crate::kernels::contracts):
+    /// [`contracts`](crate::kernels::contracts) explains the names in this contract:
     ///
     /// ```text
     /// ensures rest { result ≡ keys_of self.now }
@@ -109,7 +109,7 @@ impl<K: Eq, V> LinearMap<K, V> {
     ///
     /// # Contract
     ///
-    /// In the words of [`contracts`](crate::kernels::contracts):
+    /// [`contracts`](crate::kernels::contracts) explains the names in this contract:
     ///
     /// ```text
     /// ensures rest { result ≡ self.now }
@@ -128,7 +128,7 @@ impl<K: Eq, V> LinearMap<K, V> {
     ///
     /// # Contract
     ///
-    /// In the words of [`contracts`](crate::kernels::contracts):
+    /// [`contracts`](crate::kernels::contracts) explains the names in this contract:
     ///
     /// ```text
     /// ensures { option_copied result ≡ value_at K.eq self.now k.now }
@@ -143,7 +143,7 @@ impl<K: Eq, V> LinearMap<K, V> {
     ///
     /// # Contract
     ///
-    /// In the words of [`contracts`](crate::kernels::contracts):
+    /// [`contracts`](crate::kernels::contracts) explains the names in this contract:
     ///
     /// ```text
     /// ensures* writes_back { sem 𝓛 (lends_value K.row V.row K.eq self.entry k.now result) }
@@ -162,7 +162,7 @@ impl<K: Eq, V> LinearMap<K, V> {
     ///
     /// # Contract
     ///
-    /// In the words of [`contracts`](crate::kernels::contracts):
+    /// [`contracts`](crate::kernels::contracts) explains the names in this contract:
     ///
     /// ```text
     /// ensures old { IfOk result (λ old. old ≡ value_at K.eq self.old k) }
@@ -193,7 +193,7 @@ impl<K: Eq, V> LinearMap<K, V> {
     ///
     /// # Contract
     ///
-    /// In the words of [`contracts`](crate::kernels::contracts):
+    /// [`contracts`](crate::kernels::contracts) explains the names in this contract:
     ///
     /// ```text
     /// requires { value_at K.eq self.old k ≡ None → F.pre f }
@@ -223,7 +223,7 @@ impl<K: Eq, V> LinearMap<K, V> {
     ///
     /// # Contract
     ///
-    /// In the words of [`contracts`](crate::kernels::contracts):
+    /// [`contracts`](crate::kernels::contracts) explains the names in this contract:
     ///
     /// ```text
     /// requires { IsFiniteIterable I.into_iter_gives I.IntoIter.can_next I.IntoIter.remaining it }

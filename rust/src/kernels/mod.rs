@@ -1,4 +1,4 @@
-// rust/erase writes this folder from the proved sources in crates/. What is to change is changed there.
+// rust/erase writes this folder from the proved sources in crates/. Make changes there.
 
 pub mod bits;
 pub(crate) mod parts;
@@ -15,7 +15,7 @@ pub use no_room::NoRoom;
 
 pub mod contracts;
 
-/// What a call takes or returns that may need memory, written by hand instead of Rattle's std.
+/// Types for calls that may need memory, written by hand instead of taken from Rattle's std.
 pub mod memory {
     pub use crate::memory::{AllocError, Global, String};
 }

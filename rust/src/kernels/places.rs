@@ -47,7 +47,7 @@ pub trait Places {
     ///
     /// # Contract
     ///
-    /// In the words of [`contracts`](crate::kernels::contracts):
+    /// [`contracts`](crate::kernels::contracts) explains the names in this contract:
     ///
     /// ```text
     /// ensures { result ≡ length (items self.now) }
@@ -58,7 +58,7 @@ pub trait Places {
     ///
     /// # Contract
     ///
-    /// In the words of [`contracts`](crate::kernels::contracts):
+    /// [`contracts`](crate::kernels::contracts) explains the names in this contract:
     ///
     /// ```text
     /// requires first { i < length (items self.old) }
@@ -73,7 +73,7 @@ pub trait Places {
     ///
     /// # Contract
     ///
-    /// In the words of [`contracts`](crate::kernels::contracts):
+    /// [`contracts`](crate::kernels::contracts) explains the names in this contract:
     ///
     /// ```text
     /// requires order { i < j }
@@ -92,7 +92,7 @@ pub trait Places {
     ///
     /// # Contract
     ///
-    /// In the words of [`contracts`](crate::kernels::contracts):
+    /// [`contracts`](crate::kernels::contracts) explains the names in this contract:
     ///
     /// ```text
     /// requires apart { (i + len ≤ j) ⊎ (j + len ≤ i) }
@@ -117,7 +117,7 @@ pub trait Places {
     ///
     /// # Contract
     ///
-    /// In the words of [`contracts`](crate::kernels::contracts):
+    /// [`contracts`](crate::kernels::contracts) explains the names in this contract:
     ///
     /// ```text
     /// requires rows { 4 ≤ stride }
@@ -156,7 +156,7 @@ pub trait Cells {
     ///
     /// # Contract
     ///
-    /// In the words of [`contracts`](crate::kernels::contracts):
+    /// [`contracts`](crate::kernels::contracts) explains the names in this contract:
     ///
     /// ```text
     /// ensures { result ≡ length (items self.now) }
@@ -167,7 +167,7 @@ pub trait Cells {
     ///
     /// # Contract
     ///
-    /// In the words of [`contracts`](crate::kernels::contracts):
+    /// [`contracts`](crate::kernels::contracts) explains the names in this contract:
     ///
     /// ```text
     /// requires { i < length (items self.old) }
@@ -181,7 +181,7 @@ pub trait Cells {
     ///
     /// # Contract
     ///
-    /// In the words of [`contracts`](crate::kernels::contracts):
+    /// [`contracts`](crate::kernels::contracts) explains the names in this contract:
     ///
     /// ```text
     /// requires { i + 4 ≤ length (items self.old) }
@@ -207,7 +207,7 @@ pub trait Cells {
     ///
     /// # Contract
     ///
-    /// In the words of [`contracts`](crate::kernels::contracts):
+    /// [`contracts`](crate::kernels::contracts) explains the names in this contract:
     ///
     /// ```text
     /// ensures { IsBlockTransposed (rows_in_order rows.now) (rows_in_order result) }
@@ -229,7 +229,7 @@ pub trait Source {
     ///
     /// # Contract
     ///
-    /// In the words of [`contracts`](crate::kernels::contracts):
+    /// [`contracts`](crate::kernels::contracts) explains the names in this contract:
     ///
     /// ```text
     /// ensures { result ≡ length (items self.now) }
@@ -240,7 +240,7 @@ pub trait Source {
     ///
     /// # Contract
     ///
-    /// In the words of [`contracts`](crate::kernels::contracts):
+    /// [`contracts`](crate::kernels::contracts) explains the names in this contract:
     ///
     /// ```text
     /// requires { i < length (items self.now) }
@@ -252,7 +252,7 @@ pub trait Source {
     ///
     /// # Contract
     ///
-    /// In the words of [`contracts`](crate::kernels::contracts):
+    /// [`contracts`](crate::kernels::contracts) explains the names in this contract:
     ///
     /// ```text
     /// requires { i + 4 ≤ length (items self.now) }

@@ -36,7 +36,7 @@ const SHORT_PATH_ITEMS: usize = 8192;
 ///
 /// # Contract
 ///
-/// In the words of [`contracts`](crate::kernels::contracts):
+/// [`contracts`](crate::kernels::contracts) explains the names in this contract:
 ///
 /// ```text
 /// ensures rows { IsTrue result ↔ FitsRows len row_width }
@@ -60,7 +60,7 @@ pub const fn fits_rows(len: usize, row_width: usize) -> bool {
 ///
 /// # Contract
 ///
-/// In the words of [`contracts`](crate::kernels::contracts):
+/// [`contracts`](crate::kernels::contracts) explains the names in this contract:
 ///
 /// ```text
 /// requires { IsReversible (length vals.old) }
@@ -77,7 +77,7 @@ pub fn reverse_slice_index_bits<F>(vals: &mut [F]) {
 ///
 /// # Contract
 ///
-/// In the words of [`contracts`](crate::kernels::contracts):
+/// [`contracts`](crate::kernels::contracts) explains the names in this contract:
 ///
 /// ```text
 /// requires { IsReversible (length (S.items places.old)) }
@@ -100,7 +100,7 @@ pub fn reverse_counted<S: Places>(places: &mut S) -> u128 {
 ///
 /// # Contract
 ///
-/// In the words of [`contracts`](crate::kernels::contracts):
+/// [`contracts`](crate::kernels::contracts) explains the names in this contract:
 ///
 /// ```text
 /// requires { FitsRows (length vals.old) row_width }
@@ -117,7 +117,7 @@ pub fn reverse_slice_row_index_bits<F>(vals: &mut [F], row_width: usize) {
 ///
 /// # Contract
 ///
-/// In the words of [`contracts`](crate::kernels::contracts):
+/// [`contracts`](crate::kernels::contracts) explains the names in this contract:
 ///
 /// ```text
 /// requires { FitsRows (length (S.items places.old)) row_width }
@@ -139,7 +139,7 @@ pub fn reverse_rows_counted<S: Places>(places: &mut S, row_width: usize) -> u128
 ///
 /// # Contract
 ///
-/// In the words of [`contracts`](crate::kernels::contracts):
+/// [`contracts`](crate::kernels::contracts) explains the names in this contract:
 ///
 /// ```text
 /// requires { IsReversible (length (S.items m.old.holder)) }

@@ -46,7 +46,7 @@ pub(crate) const ENOUGH_LEVELS: u32 = 64;
 ///
 /// # Contract
 ///
-/// In the words of [`contracts`](crate::kernels::contracts):
+/// [`contracts`](crate::kernels::contracts) explains the names in this contract:
 ///
 /// ```text
 /// ensures { IsTrue result ↔ ((input_len ≡ width * height) × (output_len ≡ width * height)) }
@@ -69,7 +69,7 @@ pub const fn fits_matrix(input_len: usize, output_len: usize, width: usize, heig
 ///
 /// # Contract
 ///
-/// In the words of [`contracts`](crate::kernels::contracts):
+/// [`contracts`](crate::kernels::contracts) explains the names in this contract:
 ///
 /// ```text
 /// requires input_fits { length input.now ≡ width * height }
@@ -87,7 +87,7 @@ pub fn transpose<T: Copy>(input: &[T], output: &mut [T], width: usize, height: u
 ///
 /// # Contract
 ///
-/// In the words of [`contracts`](crate::kernels::contracts):
+/// [`contracts`](crate::kernels::contracts) explains the names in this contract:
 ///
 /// ```text
 /// requires input_fits { length input.now ≡ width * height }
@@ -110,7 +110,7 @@ pub fn transpose_counted<C: Cells>(
 ///
 /// # Contract
 ///
-/// In the words of [`contracts`](crate::kernels::contracts):
+/// [`contracts`](crate::kernels::contracts) explains the names in this contract:
 ///
 /// ```text
 /// requires input_fits { length (R.items input.now) ≡ width * height }
@@ -135,7 +135,7 @@ where
 ///
 /// # Contract
 ///
-/// In the words of [`contracts`](crate::kernels::contracts):
+/// [`contracts`](crate::kernels::contracts) explains the names in this contract:
 ///
 /// ```text
 /// requires input_fits { length input.now ≡ width * height }
@@ -153,7 +153,7 @@ pub fn transpose_on<C: Cells>(input: &[C::Item], out: &mut Writes<C>, width: usi
 ///
 /// # Contract
 ///
-/// In the words of [`contracts`](crate::kernels::contracts):
+/// [`contracts`](crate::kernels::contracts) explains the names in this contract:
 ///
 /// ```text
 /// requires input_fits { length (R.items input.now) ≡ width * height }
@@ -179,7 +179,7 @@ where
 ///
 /// # Contract
 ///
-/// In the words of [`contracts`](crate::kernels::contracts):
+/// [`contracts`](crate::kernels::contracts) explains the names in this contract:
 ///
 /// ```text
 /// requires input_fits { length input.now ≡ width * height }
@@ -205,7 +205,7 @@ pub fn transpose_region_on<C: Cells>(
 ///
 /// # Contract
 ///
-/// In the words of [`contracts`](crate::kernels::contracts):
+/// [`contracts`](crate::kernels::contracts) explains the names in this contract:
 ///
 /// ```text
 /// requires input_fits { length (R.items input.now) ≡ width * height }
@@ -237,7 +237,7 @@ where
 ///
 /// # Contract
 ///
-/// In the words of [`contracts`](crate::kernels::contracts):
+/// [`contracts`](crate::kernels::contracts) explains the names in this contract:
 ///
 /// ```text
 /// requires input_fits { length input.now ≡ width * height }
@@ -264,7 +264,7 @@ pub fn transpose_region_counted<C: Cells>(
 ///
 /// # Contract
 ///
-/// In the words of [`contracts`](crate::kernels::contracts):
+/// [`contracts`](crate::kernels::contracts) explains the names in this contract:
 ///
 /// ```text
 /// requires input_fits { length (R.items input.now) ≡ width * height }

@@ -6,7 +6,7 @@ use core::iter::FusedIterator;
 ///
 /// # Contract
 ///
-/// In the words of [`contracts`](crate::kernels::contracts):
+/// [`contracts`](crate::kernels::contracts) explains the names in this contract:
 ///
 /// ```text
 /// ensures lengths { (i : A.IntoIter) × (j : B.IntoIter)
@@ -63,7 +63,7 @@ impl<A: ExactSizeIterator, B: ExactSizeIterator> Iterator for ZipEq<A, B> {
 
     /// # Contract
     ///
-    /// In the words of [`contracts`](crate::kernels::contracts):
+    /// [`contracts`](crate::kernels::contracts) explains the names in this contract:
     ///
     /// ```text
     /// ensures lower { IsWithinCount result.0 (zip_eq_left A.remaining self.now) }

@@ -1,4 +1,5 @@
-//! Requests for more than all memory fail, and the error types and strings implement what std's do.
+//! Requests for more than all memory fail. The error types and strings implement the traits that those of std
+//! implement.
 
 use core::error::Error;
 use std::boxed::Box;
@@ -22,7 +23,7 @@ fn refusals_are_errors() {
     }
 }
 
-/// The length in bytes of a text that is passed without a conversion by hand.
+/// The length in bytes of a text that is passed without an explicit conversion.
 fn bytes(text: impl AsRef<str>) -> usize {
     text.as_ref().len()
 }

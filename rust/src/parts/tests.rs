@@ -1,5 +1,5 @@
-//! What each part does to a holder that notes every place that a step changes. A part moves the items that its region
-//! says, and no other part of its phase changes one of its places.
+//! Runs each part on a holder that notes every place that a step changes. A part moves the items of its region, and no
+//! other part of its phase changes one of its places.
 
 use std::collections::BTreeSet;
 use std::vec::Vec;
@@ -53,8 +53,8 @@ impl Cells for &mut Noted {
     }
 }
 
-/// Runs each part on a list of `len` numbers of its own. Part `number` leaves what `wanted` says at each place that it
-/// changes, and no place is changed twice. Returns how many places are changed.
+/// Runs each part on its own list of the numbers below `len`. Part `number` leaves `wanted(number, place)` at each
+/// place, and no place is changed twice. Returns how many places are changed.
 fn check(len: usize, count: usize, run: impl Fn(&mut Noted, usize), wanted: impl Fn(usize, usize) -> usize) -> usize {
     let mut places = BTreeSet::new();
     for number in 0..count {
@@ -73,8 +73,8 @@ fn check(len: usize, count: usize, run: impl Fn(&mut Noted, usize), wanted: impl
     places.len()
 }
 
-/// The parts of the transpose of a matrix of numbers from `len` on, so that each write changes its cell. The matrix is
-/// cut along its longer side, or always along its columns.
+/// Checks the parts of the transpose of a matrix. Its items are the numbers from `len` on, so that each write changes
+/// its cell. The matrix is cut along its longer side, or always along its columns if `may_cut_rows` is false.
 fn check_matrix(width: usize, height: usize, parts: usize, may_cut_rows: bool) {
     let len = width * height;
     let input: Vec<usize> = (len..2 * len).collect();
@@ -109,7 +109,7 @@ fn regions_of_matrices() {
     }
 }
 
-/// The numbers below a length, as a source and as cells. Only the writes are stored.
+/// The numbers below a length, as a source and as cells. Only what is written is stored.
 struct Far {
     len: usize,
     puts: Vec<(usize, usize)>,
@@ -143,7 +143,7 @@ impl Source for Numbers {
     }
 }
 
-/// The last part of a matrix of one row or of one column, which is its own transpose. No index overflows.
+/// The last part of a matrix with one row or one column, which is its own transpose. No index overflows.
 #[test]
 fn regions_of_long_matrices() {
     let longest = usize::MAX;
@@ -169,12 +169,12 @@ fn regions_of_long_matrices() {
     }
 }
 
-/// `i`, which has `digits` binary digits, with these in reversed order.
+/// `i`, which has `digits` binary digits, with the digits in reversed order.
 fn reversed(digits: usize, i: usize) -> usize {
     (0..digits).fold(0, |rev, place| rev << 1 | i >> place & 1)
 }
 
-/// The parts of the index of a row with `digits` digits: the middle digit, the high half in reversed order, and the low
+/// The index of a row with `digits` digits, in three: the middle digit, the high half in reversed order, and the low
 /// half.
 fn names(digits: usize, row: usize) -> (usize, usize, usize) {
     let half = digits / 2;
@@ -182,8 +182,8 @@ fn names(digits: usize, row: usize) -> (usize, usize, usize) {
     (rest >> half, reversed(half, high), rest % (1 << half))
 }
 
-/// Whether block `number`, for squares whose sides are cut by `cut`, has this row and column of a square, or their
-/// mirror image.
+/// Whether this row and column of a square, or their mirror image, are in block `number`. The sides of the squares are
+/// cut by `cut`.
 fn is_in_block(cut: Cut, number: usize, square: usize, row: usize, col: usize) -> bool {
     let (first, second) = cut.pair(number % cut.pairs());
     let is_in = |part, i| (cut.part(part).0..cut.part(part).1).contains(&i);
@@ -239,7 +239,7 @@ fn blocks_of_squares() {
     }
 }
 
-/// A long list with its three phases, and long rows with one phase, with the places noted.
+/// Notes the places of a long list, which has three phases, and of long rows, which have one phase.
 #[test]
 fn long_lists() {
     for (digits, row_width, count) in [(9, 1, 3), (14, 1, 3), (15, 1, 3), (19, 1, 3), (10, 20, 1)] {
@@ -290,7 +290,7 @@ impl Places for &mut Counted {
     }
 }
 
-/// How many parts there are, and the share of the largest one, in thousandths of all exchanges, rounded up.
+/// The number of parts, and the share of the largest part in thousandths of all exchanges, rounded up.
 fn count_and_share(sizes: impl IntoIterator<Item = usize>) -> (usize, usize) {
     let sizes: Vec<usize> = sizes.into_iter().collect();
     let largest = sizes.iter().max().copied().unwrap_or(0);
@@ -298,10 +298,11 @@ fn count_and_share(sizes: impl IntoIterator<Item = usize>) -> (usize, usize) {
 }
 
 /// The number of parts of each phase of a reversal, and the largest part's share of the exchanges. Each part is run
-/// alone. Only this test notices a list that is not cut, or that is cut into parts of very different sizes.
+/// alone. Only this test notices if a list is not cut, or is cut into parts of very different sizes.
 #[test]
 fn shares_of_reversals() {
-    /// 2^digits rows, their width, the wish, and for each phase the number of parts and the largest share.
+    /// The number of binary digits (there are 2^digits rows), the width of a row, the wish, and for each phase the
+    /// number of parts and the largest share.
     type Case = (usize, usize, usize, &'static [(usize, usize)]);
     let cases: [Case; 16] = [
         (20, 1, 0, &[(1, 1000), (1, 1000), (1, 1000)]),
@@ -343,7 +344,7 @@ fn shares_of_reversals() {
     }
 }
 
-/// The same for a transpose, whose parts are cut along the longer side at multiples of 16.
+/// The same for a transpose. Its parts are cut along the longer side at multiples of 16.
 #[test]
 fn shares_of_transposes() {
     let cases = [
@@ -361,7 +362,7 @@ fn shares_of_transposes() {
     }
 }
 
-/// How many phases a list has. Up to some length it is one part.
+/// How many phases a list has. Up to a certain length the list is one part.
 #[test]
 fn lists_up_to_one_part() {
     let phases = |len, row_width, one_part| {
@@ -373,8 +374,8 @@ fn lists_up_to_one_part() {
     assert_eq!([phases(3 << 9, 3, 1535), phases(3 << 9, 3, 1536)], [1, 1]);
 }
 
-/// 2^18 items are one part. For items of more than 8 bytes, as many as 2^21 bytes hold are one part, and 2^16 items are
-/// one part however large they are. With the feature `checked` every list is one part.
+/// A list of up to 2^18 items is one part. If an item has more than 8 bytes, a list is one part up to as many items as
+/// 2^21 bytes hold, but always up to 2^16 items. With the feature `checked` every list is one part.
 #[test]
 fn items_of_one_part() {
     let wanted = |items| if cfg!(feature = "checked") { usize::MAX } else { items };

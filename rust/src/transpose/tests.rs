@@ -1,4 +1,4 @@
-//! The strips that a matrix is put by, and the order of the writes for those that only this package chooses.
+//! Which strips a matrix is put by, and the order of the writes for the strips that only this package chooses.
 
 use core::marker::PhantomData;
 use std::vec::Vec;
@@ -30,24 +30,24 @@ impl<T: Copy> Source for Unread<T> {
     }
 }
 
-/// The strips of a matrix of such items.
+/// The strips of a matrix of items of type `T`.
 fn strips<T: Copy>(width: usize, height: usize) -> Strips {
     strips_of(Matrix::new(Unread(width * height, PhantomData::<T>), width, height))
 }
 
-/// Whether a matrix of such items is put 16 columns at a time, row after row, and not by blocks.
+/// Whether a matrix of items of type `T` is put 16 columns at a time, row after row, and not by blocks.
 fn is_wide<T: Copy>(width: usize, height: usize) -> bool {
     let strips = strips::<T>(width, height);
     assert!(has_blocks::<T>(width, height) || matches!(strips, Strips::Wide) || is_by_shape::<T>(width, height));
     matches!(strips, Strips::Wide)
 }
 
-/// Whether a matrix of such items is put by blocks.
+/// Whether a matrix of items of type `T` is put by blocks.
 fn has_blocks<T: Copy>(width: usize, height: usize) -> bool {
     matches!(strips::<T>(width, height), Strips::Blocks)
 }
 
-/// Whether a matrix of such items is put in the same way as by the calls in Rattle.
+/// Whether a matrix of items of type `T` is put in the same way as by the calls in Rattle.
 fn is_by_shape<T: Copy>(width: usize, height: usize) -> bool {
     let matrix = Matrix::new(Unread(width * height, PhantomData::<T>), width, height);
     core::mem::discriminant(&strips_of(matrix)) == core::mem::discriminant(&Strips::of(matrix))
@@ -64,7 +64,7 @@ fn blocks_of_small_items() {
         assert_eq!(has_blocks::<u32>(width, height), turns, "{width} by {height}");
         assert!(is_by_shape::<u64>(width, height), "{width} by {height}");
     }
-    // A side below 8, no whole blocks, and a large width that 16 does not divide.
+    // A side below 8, sides without whole blocks, and a large width that is not a multiple of 16.
     for (width, height) in [(7, 1000), (1000, 7), (8, 9), (11, 11), (513, 512), (1000, 1000)] {
         assert!(is_by_shape::<u32>(width, height), "{width} by {height}");
     }
@@ -91,7 +91,7 @@ fn wide_items_of_large_matrices() {
             "{width} by {height}"
         );
     }
-    // Too small by an item, a multiple of 32 rows, and 15 columns.
+    // One item too few, a multiple of 32 rows, and 15 columns.
     for (width, height) in [(1024, 1024), (16_400, 96), (15, 131_072)] {
         assert!(
             !is_wide::<[u8; 32]>(width, height) && !is_wide::<[u64; 8]>(width, height),
@@ -102,7 +102,7 @@ fn wide_items_of_large_matrices() {
     assert!(!is_wide::<[u64; 5]>(2048, 2048) && !is_wide::<[u64; 16]>(2048, 2048));
 }
 
-/// The cells of a transpose, which note the order of the writes.
+/// The cells of a transpose. They note the order of the writes.
 struct Noted {
     items: Vec<usize>,
     puts: Vec<usize>,
@@ -121,8 +121,8 @@ impl Cells for Noted {
     }
 }
 
-/// The columns and rows of a matrix in the order of wide strips: 16 rows at a time, of these 16 columns at a time, and
-/// each such tile row after row. A lower or narrower piece is put column after column.
+/// The columns and rows of a matrix in the order of wide strips: 16 rows at a time, in these 16 columns at a time, and
+/// in each such tile row after row. A piece with fewer rows or columns is put column after column.
 fn by_wide_strips(width: usize, height: usize) -> Vec<(usize, usize)> {
     let mut places = Vec::new();
     for top in (0..height).step_by(16) {
@@ -164,8 +164,8 @@ fn wide_strips_in_order() {
     }
 }
 
-/// Cells that write four items at once in their own way, and count how often. They can be set to change two columns of
-/// each block that they transpose.
+/// Cells that write four items at once in their own way, and count how often they do. They can be set to exchange two
+/// columns of each block that they transpose.
 struct ByFours<const CHANGED: bool> {
     items: Vec<usize>,
     fours: usize,
@@ -193,7 +193,7 @@ impl<const CHANGED: bool> Cells for ByFours<CHANGED> {
     }
 }
 
-/// Numbers that are read four at a time where blocks are whole.
+/// Numbers that are read four at a time wherever a block is whole.
 #[derive(Clone, Copy)]
 struct Numbers {
     width: usize,
@@ -235,7 +235,7 @@ fn blocks_by_holders_of_ones_own() {
         let right = put_by_fours::<false>(width, height);
         assert!(right.items.into_iter().eq((0..width * height).map(transposed)));
         assert_eq!(right.fours, width / 4 * (height / 4) * 4, "{width} by {height}");
-        // A block whose columns are changed is noticed.
+        // The test notices a block with exchanged columns.
         let wrong = put_by_fours::<true>(width, height);
         assert!(!wrong.items.into_iter().eq((0..width * height).map(transposed)));
     }

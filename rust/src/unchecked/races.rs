@@ -1,5 +1,5 @@
-//! Parts on several threads, for lists that are cut even if they are short. `rust/test` runs these tests with a race
-//! detector. It also runs cuts that overlap, each of which the detector must report.
+//! Parts on several threads, with lists that are cut even if they are short. `rust/test` runs these tests with a race
+//! detector. It also runs cuts that overlap, and the detector must report each of them.
 
 use std::iter::from_fn;
 use std::thread::scope;
@@ -7,19 +7,19 @@ use std::vec::Vec;
 
 use super::*;
 
-/// Runs each share on a thread of its own.
+/// Runs each share on its own thread.
 fn run_all<P: Send>(shares: impl IntoIterator<Item = Vec<P>>, run: fn(P)) {
     scope(|scope| {
         let threads: Vec<_> = shares
             .into_iter()
             .map(|share| scope.spawn(move || share.into_iter().for_each(run)))
             .collect();
-        // The detector sees that a thread is done when the thread is joined, but not when the scope waits for it.
+        // The detector learns that a thread is done when the thread is joined, but not when the scope waits for it.
         threads.into_iter().for_each(|thread| thread.join().unwrap());
     });
 }
 
-/// Runs all parts, distributed to `threads` threads.
+/// Runs all parts, which are dealt out to `threads` threads.
 fn run_on<'a, T: Send, P: Copy + Send>(threads: usize, mut parts: Parts<'a, T, P>, run: fn(Parts<'a, T, P>)) {
     let mut shares: Vec<Vec<_>> = from_fn(|| Some(Vec::new())).take(threads).collect();
     for (turn, part) in from_fn(|| parts.split_first()).enumerate() {
@@ -28,7 +28,7 @@ fn run_on<'a, T: Send, P: Copy + Send>(threads: usize, mut parts: Parts<'a, T, P
     run_all(shares, run);
 }
 
-/// Numbers of 4 or of 8 bytes, whose blocks are transposed in registers.
+/// Numbers of 4 or 8 bytes, whose blocks are transposed in registers.
 trait Number: Copy + PartialEq + Send + Sync {
     fn of(number: usize) -> Self;
 }
@@ -79,7 +79,7 @@ fn parts_on_threads() {
     }
 }
 
-/// Runs a part of each of two phases of one list, on two threads.
+/// Runs one part of each of two phases of the same list, on two threads.
 fn run_both<'a, T: Send, P: Copy + Send>(
     mut parts: Parts<'a, T, P>,
     phases: [(P, usize); 2],
@@ -96,7 +96,7 @@ fn run_both<'a, T: Send, P: Copy + Send>(
     run_all(shares, run);
 }
 
-/// Runs a part of each of two cuts of a phase of a reversal, on two threads.
+/// Cuts one phase of a reversal in two ways, and runs one part of each cut, on two threads.
 fn exchanges_both(len: usize, row_width: usize, number: usize, parts: [(usize, usize); 2]) {
     let mut list: Vec<usize> = (0..len).collect();
     let mut phases = Phases::new(&mut list, row_width, 1, 0).unwrap();
@@ -108,7 +108,7 @@ fn exchanges_both(len: usize, row_width: usize, number: usize, parts: [(usize, u
     run_both(phases.next_phase().unwrap(), cuts, Parts::exchange);
 }
 
-/// The first 32 of 64 columns, and the last 16 of these.
+/// The first 32 of 64 columns, and the last 16 of those 32.
 #[test]
 #[ignore = "a race, which a detector has to report"]
 fn overlapping_regions() {
@@ -122,15 +122,15 @@ fn overlapping_regions() {
     run_both(parts, cuts, Parts::put);
 }
 
-/// Two blocks of pairs of rows, for 2^8 rows of three items: those of the numbers below 8, and those of the numbers
-/// from 6 to below 12.
+/// Two blocks of pairs of rows, for 2^8 rows of three items. One block has the numbers below 8, the other the numbers
+/// from 6 to 11.
 #[test]
 #[ignore = "a race, which a detector has to report"]
 fn overlapping_pairs() {
     exchanges_both(3 << 8, 3, 0, [(2, 0), (3, 1)]);
 }
 
-/// In a square of 64 by 64 items, a block of 32 by 32 on the diagonal, and a block of 16 by 16 within it.
+/// In a square of 64 by 64 items: a block of 32 by 32 on the diagonal, and a block of 16 by 16 inside it.
 #[test]
 #[ignore = "a race, which a detector has to report"]
 fn overlapping_blocks() {

@@ -1,4 +1,5 @@
-//! What the parts of a transpose read: each item once, in the order of their strips. Tests of results notice neither.
+//! What the parts of a transpose read: each item once, in the order of their strips. A test of results would notice
+//! neither a second read nor another order.
 
 use core::cell::RefCell;
 use core::mem::discriminant;
@@ -27,7 +28,7 @@ impl Source for Noted<'_> {
     }
 }
 
-/// The places of the numbers below `len` that `call` reads, in order.
+/// Calls `call` with the numbers below `len` and returns the places that it reads, in order.
 fn reads(len: usize, call: impl FnOnce(&[usize], &mut [usize], Noted)) -> Vec<usize> {
     let items: Vec<usize> = (0..len).collect();
     let mut output = items.clone();
@@ -72,7 +73,7 @@ fn strips_of_the_parts() {
     }
 }
 
-/// The parts have the strips of the call, which are not the kernels' own for large items.
+/// The parts use the strips that the whole call uses. For large items these are not the strips that the kernels choose.
 #[test]
 fn strips_of_the_call() {
     fn is_of_call<T: Copy>(item: T, width: usize, height: usize) -> bool {

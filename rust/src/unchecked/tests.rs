@@ -1,5 +1,5 @@
-//! What each step of a holder of a slice does, and that its precondition is checked with debug assertions and with the
-//! feature `checked`.
+//! What each step of a holder of a slice does. With debug assertions and with the feature `checked`, each step also
+//! checks its precondition.
 
 use std::boxed::Box;
 use std::fmt::Debug;
@@ -9,8 +9,8 @@ use super::{SliceCells, SlicePlaces, SliceSource};
 use crate::kernels::places::{Cells, Four, Places, Source};
 use crate::kernels::transpose::{Matrix, Strips, transpose_matrix, transpose_square};
 
-/// The result of a call on the numbers below 6, each as an item of five bytes. If it is asked to, std checks for these
-/// that no place is borrowed twice.
+/// The result of a call on the numbers below 6, each as an item of five bytes. For such items std checks, if it is
+/// told to, that no place is borrowed twice.
 fn left(call: impl FnOnce(&mut SlicePlaces<[u8; 5]>)) -> [u8; 6] {
     let mut list = [0, 1, 2, 3, 4, 5].map(|number| [number; 5]);
     call(&mut SlicePlaces::new(&mut list));
@@ -32,7 +32,7 @@ fn exchanges_of_runs() {
     assert_eq!(left(|places| places.exchange_runs(6, 0, 0)), [0, 1, 2, 3, 4, 5]);
 }
 
-/// Compares the result of a call on the first `len` items with the items that `wanted` numbers.
+/// Compares the result of a call on the first `len` items. The item at each place has to be number `wanted(place)`.
 fn leaves<T: Debug + PartialEq>(
     len: usize,
     item: impl Fn(usize) -> T,
@@ -46,7 +46,7 @@ fn leaves<T: Debug + PartialEq>(
     }
 }
 
-/// Exchanges blocks, and transposes squares, of such items.
+/// Exchanges blocks and transposes squares of the items that `item` makes.
 fn turns<T: Debug + PartialEq>(item: impl Fn(usize) -> T) {
     for (stride, i, gap) in (4..12).flat_map(|stride| (0..3).flat_map(move |i| (0..3).map(move |gap| (stride, i, gap))))
     {
@@ -88,7 +88,7 @@ struct Float(f32);
 struct Double(f64);
 
 impl Float {
-    /// Most of these are NaNs, with bits that a calculation would change.
+    /// Most of these are NaNs, with bits that arithmetic would change.
     fn odd(number: usize) -> Self {
         Float(f32::from_bits(0x7f80_0000 ^ number as u32))
     }
@@ -142,7 +142,7 @@ fn four_at_once() {
     assert_eq!(list, [0, 6, 7, 8, 9, 5]);
 }
 
-/// Whether a block of such items is transposed.
+/// Whether a block of the items that `item` makes is transposed.
 fn is_turned<T: Copy + PartialEq>(item: impl Fn(u8) -> T) -> bool {
     let four = |items: [u8; 4]| {
         let [a, b, c, d] = items.map(&item);
@@ -166,7 +166,7 @@ fn is_turned<T: Copy + PartialEq>(item: impl Fn(u8) -> T) -> bool {
 fn turned_blocks() {
     let names: Vec<_> = (0..16).map(|number| std::format!("{number}")).collect();
     assert!(is_turned(|i| i) && is_turned(u128::from));
-    // All bytes of an item differ from those of the others. Some items have bytes that are never written, and some are
+    // No two of the arrays have a byte in common. Some items have bytes that are never written, and some are
     // references.
     assert!(is_turned(|i| [i, i + 16, i + 32, i + 48]) && is_turned(|i| (i, u16::from(i) << 4)));
     assert!(
@@ -175,8 +175,8 @@ fn turned_blocks() {
     assert!(is_turned(|i| &names[usize::from(i)]));
 }
 
-/// Whether a matrix of these items is transposed as the definition says, by blocks and by the strips that a call
-/// chooses.
+/// Whether a matrix of the items that `item` makes is transposed as defined, both by blocks and by the strips that a
+/// call chooses.
 fn is_transposed<T: Copy + PartialEq>(width: usize, height: usize, item: impl Fn(usize) -> T) -> bool {
     let input: Vec<T> = (0..width * height).map(&item).collect();
     let expected: Vec<T> = (0..width * height)
@@ -213,7 +213,8 @@ fn blocks_as_defined() {
     }
 }
 
-/// Whether a matrix of these items is transposed in parts, which are cut at multiples of 16 columns or rows.
+/// Whether a matrix of the items that `item` makes is transposed in parts, which are cut at multiples of 16 columns or
+/// rows.
 fn is_transposed_in_parts<T: Copy + PartialEq>(width: usize, height: usize, item: impl Fn(usize) -> T) -> bool {
     let input: Vec<T> = (0..width * height).map(&item).collect();
     let cuts = 1..=width.max(height).div_ceil(16);
@@ -242,8 +243,8 @@ fn blocks_of_parts() {
     }
 }
 
-/// Each shuffle alone. The items of the first operand have the first numbers, and no two bytes are equal. So the result
-/// shows where each item of both operands goes.
+/// Each shuffle alone. The items of the first operand have the lowest numbers, and no two bytes are equal, so the
+/// result shows where each item of both operands goes.
 #[cfg(not(feature = "checked"))]
 #[test]
 fn shuffles() {
@@ -315,7 +316,7 @@ mod refused {
         ] {
             assert!(blocks(i, j, stride), "{i} {j} {stride}");
         }
-        // Blocks that overlap are refused, unless the feature `checked` exchanges them item by item.
+        // Blocks that overlap are refused, except with the feature `checked`, which exchanges them item by item.
         #[cfg(not(feature = "checked"))]
         for (i, j, stride) in [(0, 15, 4), (16, 0, 4), (0, 0, 4), (0, 16, 3), (0, 0, 0)] {
             assert!(blocks(i, j, stride), "{i} {j} {stride}");
@@ -345,7 +346,8 @@ mod refused {
     }
 }
 
-/// With the feature `checked` a share of a list has only its own places, with the numbers that they have in the list.
+/// With the feature `checked` a share of a list gives access to its own places only. A place has the same index as in
+/// the list.
 #[cfg(feature = "checked")]
 #[test]
 fn shares() {

@@ -1,4 +1,5 @@
-//! What the calls that take memory ask for, and that their panic where it is refused names the caller's place.
+//! How much memory the calls that allocate request, and that the panic after a refused request names the caller's
+//! place.
 
 #[path = "../package/refusal.rs"]
 mod refusal;
@@ -13,14 +14,14 @@ use p3_util_proved::linear_map::LinearMap;
 use p3_util_proved::pretty_name;
 use refusal::refusal;
 
-/// The system's allocator, which notes the requests of each thread, and refuses one where it is asked to.
+/// The system's allocator. It notes the requests of each thread, and refuses a request if `REFUSES` is set.
 struct Noting;
 
 thread_local! {
     /// Whether the next request of this thread is refused.
     static REFUSES: Cell<bool> = const { Cell::new(false) };
 
-    /// The number of requests of this thread, and the bytes that they were for.
+    /// The number of requests of this thread, and the sum of the bytes requested.
     static REQUESTS: Cell<(usize, usize)> = const { Cell::new((0, 0)) };
 }
 
@@ -31,7 +32,8 @@ fn is_refused(bytes: usize) -> bool {
     REFUSES.replace(false)
 }
 
-// SAFETY: each call is handed on to the system's allocator as it came, or answered by null, which says that there is no memory.
+// SAFETY: each call is passed on to the system's allocator unchanged, or it returns null, which says that there is no
+// memory.
 unsafe impl GlobalAlloc for Noting {
     unsafe fn alloc(&self, layout: Layout) -> *mut u8 {
         if is_refused(layout.size()) {
@@ -55,7 +57,7 @@ unsafe impl GlobalAlloc for Noting {
 #[global_allocator]
 static ALLOCATOR: Noting = Noting;
 
-/// What a call returns, with the number of its requests and the bytes that they were for.
+/// What a call returns, with the number of its requests and the sum of the bytes requested.
 fn noted<A>(call: impl FnOnce() -> A) -> (A, (usize, usize)) {
     REQUESTS.set((0, 0));
     let answer = call();
@@ -100,7 +102,7 @@ fn a_refused_pair_leaves_the_map() {
     }
 }
 
-/// A map that asks for room for more pairs than it is to have meets its contract, and fails here.
+/// A map that requests room for more pairs than it is to have meets its contract, but fails this test.
 #[test]
 fn empty_maps_take_no_memory() {
     let maps: [fn() -> LinearMap<u64, u64>; 3] = [LinearMap::new, LinearMap::default, || LinearMap::with_capacity(0)];
@@ -110,7 +112,8 @@ fn empty_maps_take_no_memory() {
     assert_eq!(noted(|| LinearMap::<u64, u64>::with_capacity(3)).1, (1, 3 * 16));
 }
 
-/// Asserts that room for pairs, each of which `call` adds, is asked for at most once each time that their number doubles.
+/// Each call of `call` adds a pair. Asserts that room is requested at most once each time that the number of pairs
+/// doubles.
 fn check_growth(call: impl Fn(&mut LinearMap<u64, u64>, u64)) {
     const PAIRS: u64 = 1000;
     let mut map = LinearMap::new();
@@ -124,14 +127,15 @@ fn many_pairs_take_few_requests() {
     check_growth(|map, key| _ = map.get_or_insert_with(key, || key));
 }
 
-/// Asserts that one request is made, for as many bytes as the whole name has.
+/// Asserts that there is one request, for as many bytes as the whole name has.
 fn check_name<T>() {
     let name = type_name::<T>();
     let (short, requests) = noted(pretty_name::<T>);
     assert_eq!(requests, (1, name.len()), "{name}, {short}");
 }
 
-/// A `pretty_name` that asks for more bytes than the name has, or asks again, meets its contract, and fails here.
+/// A `pretty_name` that requests more bytes than the name has, or requests memory twice, meets its contract, but fails
+/// this test.
 #[test]
 fn a_name_takes_its_bytes_once() {
     check_name::<u8>();

@@ -1,12 +1,13 @@
-//! How a call is cut: into how many parts, of which shapes, and what is left of them as they are taken.
+//! How a call is cut: into how many parts, of which shapes, and how many parts are left while they are taken.
 
 use p3_util_proved::parts::*;
 use p3_util_proved::reverse_slice_row_index_bits;
 
 use crate::refusal::refusal;
 
-/// How many parts a transpose has by a wish: as many as the longer side has steps, each of the fewest whole sixteens by which
-/// there are no more parts than the wish. With the feature `checked` that side is always the width.
+/// The number of parts that a transpose has for a wish. The longer side is cut into steps of a multiple of 16, the
+/// smallest one that gives no more parts than the wish. With the feature `checked` the width is always the side that is
+/// cut.
 #[test]
 fn parts_of_transposes() {
     let cases = [
@@ -32,7 +33,8 @@ fn parts_of_transposes() {
     }
 }
 
-/// The parts of each phase of a reversal say how many of them are left, before the first one is taken and after each.
+/// The parts of each phase of a reversal say how many of them are left, both before the first part is taken and after
+/// each part.
 #[test]
 fn parts_that_are_left() {
     for (bits, wish) in [(4, 3), (18, 4), (19, 1), (19, 9), (20, 16)] {
@@ -47,7 +49,8 @@ fn parts_that_are_left() {
     }
 }
 
-/// Rows that the call refuses are refused, also where their list would fit in rows of one item. Others are reversed as by the call.
+/// The cut refuses the same rows as the call, even if their list would fit in rows of one item. It reverses all others
+/// as the call does.
 #[test]
 fn rows_that_fit() {
     for (len, row_width) in (0..=40).flat_map(|len| (0..=40).map(move |row_width| (len, row_width))) {

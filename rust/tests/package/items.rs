@@ -10,7 +10,7 @@ use p3_util_proved::{reverse_slice_index_bits, reverse_slice_row_index_bits};
 
 use crate::{Owner, panics, reversed, transposed};
 
-/// Reverses 2^`bits` rows of `width` items, of which `item` makes the i-th, and compares each place.
+/// Reverses 2^`bits` rows of `width` items and compares each place. Item i is `item(i)`.
 fn reverses<F: Debug + PartialEq + Send + Sync>(bits: u32, width: usize, item: impl Fn(usize) -> F) {
     let mut list: Vec<F> = (0..width << bits).map(&item).collect();
     if width == 1 {
@@ -24,7 +24,7 @@ fn reverses<F: Debug + PartialEq + Send + Sync>(bits: u32, width: usize, item: i
     }
 }
 
-/// Reverses lists of such items, to the long path and beyond, and rows of them.
+/// Reverses lists and rows of the items that `item` makes. The lists go up to lengths of the long path and beyond.
 fn moves<F: Debug + PartialEq + Send + Sync>(item: impl Fn(usize) -> F) {
     (0..=14).for_each(|bits| reverses(bits, 1, &item));
     for (bits, width) in [(0, 5), (1, 2), (3, 2), (4, 3), (5, 32), (7, 5)] {
@@ -32,7 +32,7 @@ fn moves<F: Debug + PartialEq + Send + Sync>(item: impl Fn(usize) -> F) {
     }
 }
 
-/// Transposes matrices of such items, and moves the items too.
+/// Transposes matrices of the items that `item` makes, and calls `moves` for them too.
 fn serves<T: Copy + Debug + PartialEq + Send + Sync>(item: impl Fn(usize) -> T) {
     moves(&item);
     for (width, height) in [
@@ -112,7 +112,8 @@ fn structs_and_references() {
     moves(Box::new);
 }
 
-/// Reverses 2^`bits` rows of `width` owners, and reverses them again. No owner is dropped, and then each of them once.
+/// Reverses 2^`bits` rows of `width` owners twice. Until the list is dropped no owner is dropped, and then each of them
+/// is dropped once.
 fn check_owners(bits: u32, width: usize) {
     let count = width << bits;
     let drops = AtomicUsize::new(0);
@@ -150,7 +151,7 @@ fn a_refused_call_drops_no_owner() {
     assert_eq!(drops.load(Relaxed), 0);
 }
 
-/// The call for rows, which the original has not, asks for no bound.
+/// The original has no call for rows. The call here needs no bound on the items.
 #[test]
 fn rows_of_items_that_stay_on_their_thread() {
     let items: Vec<Rc<u8>> = (0..8).map(Rc::new).collect();
@@ -163,7 +164,7 @@ fn rows_of_items_that_stay_on_their_thread() {
     );
 }
 
-/// A list that lies `START` bytes behind an address that 8 divides.
+/// A list that lies `START` bytes after an address that is a multiple of 8.
 #[repr(C, align(8))]
 struct Behind<const START: usize> {
     _before: [u8; START],

@@ -1,4 +1,4 @@
-//! How often an iterator is asked, in which order two are, and what the calls on iterators drop.
+//! How often an iterator is called, in which order two iterators are called, and what the calls on iterators drop.
 
 use std::cell::Cell;
 use std::fmt::Debug;
@@ -11,7 +11,7 @@ use p3_util_proved::{apply_to_chunks, iter_array_chunks_padded, kernels};
 
 use crate::Owner;
 
-/// Gives the answers in turn and then `None`, and counts how often it is asked.
+/// Returns the answers one after another and then `None`, and counts the calls of `next`.
 struct Asked<'a> {
     answers: &'a [Option<u8>],
     asks: &'a Cell<usize>,
@@ -28,14 +28,14 @@ impl Iterator for Asked<'_> {
     }
 }
 
-/// The pieces that `apply_to_chunks` calls its closure on, and how often it asks its iterator.
+/// The pieces that `apply_to_chunks` calls its closure on, and how often it calls `next` on its iterator.
 fn pieces<const BUFLEN: usize>(answers: &[Option<u8>]) -> (Vec<Vec<u8>>, usize) {
     let (mut pieces, asks) = (vec![], Cell::new(0));
     apply_to_chunks::<BUFLEN, _, _>(Asked { answers, asks: &asks }, |piece| pieces.push(piece.to_vec()));
     (pieces, asks.get())
 }
 
-/// The padded pieces and how often their iterator asks its own. It is asked twice more after its end.
+/// The padded pieces, and how often their iterator calls `next` on its own. After its end it is called twice more.
 fn padded<const N: usize>(answers: &[Option<u8>], fill: u8) -> (Vec<[u8; N]>, usize) {
     let asks = Cell::new(0);
     let mut padded = iter_array_chunks_padded(Asked { answers, asks: &asks }, fill);
@@ -45,7 +45,7 @@ fn padded<const N: usize>(answers: &[Option<u8>], fill: u8) -> (Vec<[u8; N]>, us
     (pieces, asks.get())
 }
 
-/// Cuts lists of up to 20 numbers. Each number is asked for once, and the end once.
+/// Cuts lists of up to 20 numbers. There is one call of `next` for each number and one for the end.
 fn check_lengths<const N: usize>() {
     for len in 0..=20 {
         let numbers: Vec<u8> = (1..=len).collect();
@@ -62,8 +62,8 @@ fn check_lengths<const N: usize>() {
     }
 }
 
-/// An `apply_to_chunks` that calls the closure once more at the end, or asks its iterator again, meets its contract, and fails
-/// here.
+/// An `apply_to_chunks` that calls the closure once more at the end, or calls `next` again, meets its contract, but
+/// fails this test.
 #[test]
 fn pieces_of_each_length() {
     check_lengths::<1>();
@@ -83,7 +83,7 @@ fn pieces_of_no_items() {
     assert_eq!(padded::<0>(&answers, 9), (vec![], 0));
 }
 
-/// Bodies that ask again after a short piece, or call the closure once more, fail here.
+/// A body that calls `next` again after a short piece, or calls the closure once more, fails this test.
 #[test]
 fn asks_no_more_after_the_first_none() {
     let broken = [Some(1), Some(2), None, Some(3)];
@@ -93,7 +93,7 @@ fn asks_no_more_after_the_first_none() {
     assert_eq!(padded::<2>(&broken, 0), (vec![[1, 2]], 3));
 }
 
-/// A piece's items are asked for when the piece is, and none before.
+/// A piece's items are taken from the iterator when the piece is requested, and none earlier.
 #[test]
 fn asks_for_one_piece_at_a_time() {
     let (answers, asks) = ([Some(1); 5], Cell::new(0));
@@ -105,7 +105,8 @@ fn asks_for_one_piece_at_a_time() {
     }
 }
 
-/// Cuts ten bytes, and returns how often the closure and the iterator were dropped at the last call, and at the end.
+/// Cuts ten bytes. Returns how often the closure and the iterator had been dropped by the last call of the closure, and
+/// by the end.
 fn dropped_by_pieces<const BUFLEN: usize>() -> [[usize; 2]; 2] {
     let (of_closure, of_iterator) = (AtomicUsize::new(0), AtomicUsize::new(0));
     let (closure, iterator) = (Owner::new(0, &of_closure), Owner::new(0, &of_iterator));
@@ -118,8 +119,9 @@ fn dropped_by_pieces<const BUFLEN: usize>() -> [[usize; 2]; 2] {
     [last_call.get(), [of_closure.load(Relaxed), of_iterator.load(Relaxed)]]
 }
 
-/// The closure and the iterator are dropped after the last call, which may be on a short piece, also where neither is called.
-/// Bodies that drop them earlier, or forget the closure, meet their contract, and fail here.
+/// The closure and the iterator are dropped after the last call, which may be on a short piece. They are also dropped
+/// if neither is called. A body that drops them earlier, or forgets the closure, meets its contract, but fails this
+/// test.
 #[test]
 fn closures_on_pieces() {
     assert_eq!(dropped_by_pieces::<3>(), [[0; 2], [1; 2]]);
@@ -127,8 +129,8 @@ fn closures_on_pieces() {
     assert_eq!(dropped_by_pieces::<0>(), [[0; 2], [1; 2]]);
 }
 
-/// The items of a list. It writes its digit behind those in `asked` each time that it is asked for its length or its next
-/// item, and when it is made of a [`Made`].
+/// The items of a list. It appends its digit to `asked` on each call of `len` and of `next`, and when it is made from a
+/// [`Made`].
 struct Side<'a> {
     items: &'a [u8],
     digit: u32,
@@ -163,7 +165,7 @@ impl ExactSizeIterator for Side<'_> {
     }
 }
 
-/// What a [`Side`] is made of.
+/// What a [`Side`] is made from.
 struct Made<'a>(Side<'a>);
 
 impl<'a> IntoIterator for Made<'a> {
@@ -177,8 +179,8 @@ impl<'a> IntoIterator for Made<'a> {
     }
 }
 
-/// The first side is asked before the second: for its iterator, its length, for each item and at the end. A `zip_eq` that makes
-/// or asks its second iterator first meets its contract, and fails here.
+/// The first side is always called before the second: for its iterator, for its length, for each item and at the end. A
+/// `zip_eq` that makes or calls its second iterator first meets its contract, but fails this test.
 #[test]
 fn first_side_first() {
     let asked = Cell::new(0);
@@ -191,7 +193,7 @@ fn first_side_first() {
     assert_eq!(asked.get(), 1_212_121_212);
 }
 
-/// The items of a list, which states a length of its own and has a size hint that says nothing.
+/// The items of a list, with a stated length that may be false and a size hint that says nothing.
 struct Stating<'a>(&'a [u8], usize);
 
 impl Iterator for Stating<'_> {
@@ -214,7 +216,8 @@ impl ExactSizeIterator for Stating<'_> {
     }
 }
 
-/// The size is the length that the first side states, twice. Where it is false the pairs end with the shorter side.
+/// Both bounds of the size hint are the length that the first side states. If a stated length is false, the pairs end
+/// with the shorter side.
 #[test]
 fn pairs_under_stated_lengths() {
     let cases: [(&[u8], &[u8], &[(u8, u8)]); 4] = [
@@ -230,7 +233,7 @@ fn pairs_under_stated_lengths() {
     }
 }
 
-/// What a caller may ask of each iterator of the package.
+/// What a caller may expect of each iterator of the package.
 fn ends_for_good(_: impl FusedIterator + Clone + Debug) {}
 
 #[test]
@@ -243,8 +246,8 @@ fn iterators_end_for_good() {
     ends_for_good(kernels::chunks::iter_array_chunks_padded::<u8, 2, _>([1], 0));
 }
 
-/// Where the lengths differ the call drops both lists, and else the error. A body that forgets them meets its contract, and
-/// fails here.
+/// If the lengths differ the call drops both lists. Otherwise it drops the error. A body that forgets them meets its
+/// contract, but fails this test.
 #[test]
 fn zips_drop_what_they_do_not_return() {
     for (first, second) in [(3, 2), (0, 4), (5, 0), (2, 2), (0, 0)] {

@@ -1,4 +1,4 @@
-//! The package's calls beside their definitions, the original's answers and its panics.
+//! Compares the package's calls with their definitions, and with the answers and the panics of the original.
 
 #![allow(clippy::type_complexity, reason = "tables of cases")]
 
@@ -21,17 +21,18 @@ use std::sync::atomic::{AtomicUsize, Ordering::Relaxed};
 
 use refusal::refusal;
 
-/// `i` with its `bits` low binary digits in reversed order, which are all that it has.
+/// `i`, which has at most `bits` binary digits, with these digits in reversed order.
 fn reversed(bits: u32, i: usize) -> usize {
     (0..bits).fold(0, |rev, place| rev << 1 | i >> place & 1)
 }
 
-/// The item of the transpose of a matrix of `width` by `height` items that is at `place`, as a place of the matrix.
+/// Which item of a matrix of `width` by `height` items its transpose has at `place`: the index of the item in the
+/// matrix.
 fn transposed(width: usize, height: usize, place: usize) -> usize {
     place % height * width + place / height
 }
 
-/// A number that cannot be cloned, and that counts its drops. Owners are equal where their numbers are.
+/// A number that cannot be cloned and that counts its drops. Two owners are equal if their numbers are.
 #[derive(Debug)]
 struct Owner<'a> {
     number: usize,
@@ -43,12 +44,13 @@ impl<'a> Owner<'a> {
         Owner { number, drops }
     }
 
-    /// The owners of the numbers below `count`.
+    /// One owner for each number below `count`.
     fn list(count: usize, drops: &'a AtomicUsize) -> Vec<Self> {
         (0..count).map(|number| Owner::new(number, drops)).collect()
     }
 
-    /// How often owners with this counter were dropped. A closure that calls this has the owner, and not its fields.
+    /// How often owners with this counter were dropped. A closure that calls this captures the whole owner, not only
+    /// its fields.
     fn dropped(&self) -> usize {
         self.drops.load(Relaxed)
     }
@@ -72,8 +74,9 @@ fn panics(call: impl FnOnce()) -> bool {
     refusal(call).is_some()
 }
 
-/// The lines of the root that refuse words of other sizes and, with the feature `checked`, unsafe code: on a system of 64 bits,
-/// and where no such code is, nothing shows that they are there.
+/// The lines of the crate root that refuse systems of other than 64 bits and, with the feature `checked`, unsafe code.
+/// Nothing else shows that they are there: a 64-bit system does not reach the first refusal, and without such code
+/// there is nothing for the second to refuse.
 #[test]
 fn refusals_of_the_root() {
     let root = include_str!("../../src/lib.rs");

@@ -7,7 +7,7 @@ use p3_util_proved::linear_map::{Iter, Keys, LinearMap, Values};
 
 use crate::Owner;
 
-/// A word that equals one in capital letters.
+/// A string that is compared without regard to upper and lower case.
 #[derive(Debug)]
 struct Word(&'static str);
 
@@ -31,7 +31,8 @@ fn a_known_key_keeps_its_place_and_spelling() {
     assert_eq!(format!("{map:?}"), r#"LinearMap([(Word("one"), 3), (Word("two"), 5)])"#);
 }
 
-/// A key that writes its name and the other's when it is compared. Keys are equal where their names are the same letter.
+/// A key that writes down its name and the other key's name when it is compared. Two keys are equal if their names are
+/// the same letter, in upper or lower case.
 struct Named<'a> {
     name: char,
     compared: &'a RefCell<String>,
@@ -46,8 +47,8 @@ impl PartialEq for Named<'_> {
 
 impl Eq for Named<'_> {}
 
-/// Each stored key in turn is asked about the given one, up to the first that equals it. A look-up that compares a new key
-/// twice, or the given key with the stored one, meets its contract, and fails here.
+/// Each stored key in turn is compared with the given key, up to the first that equals it. A look-up that compares a
+/// new key twice, or that calls `eq` on the given key, meets its contract, but fails this test.
 #[test]
 fn stored_keys_are_compared_with_the_given_one() {
     let compared = &RefCell::new(String::new());
@@ -90,7 +91,7 @@ fn iterators_from_both_ends() {
     assert!(pairs.rev().eq(&[(2, 'b')]) && keys.rev().eq(&[2]) && values.rev().eq(&['b']));
 }
 
-/// A clone of an iterator goes on from the same place, and clones neither keys nor values.
+/// A clone of an iterator continues from the same place. It clones neither keys nor values.
 #[test]
 fn iterators_over_owners_are_cloned() {
     let drops = AtomicUsize::new(0);
@@ -118,7 +119,8 @@ fn empty_maps() {
     }
 }
 
-/// Bodies that refuse a pair from some number on, whatever memory there is, meet their contracts, and fail here.
+/// A body that refuses a pair from some number of pairs on, even if there is memory for it, meets its contract, but
+/// fails this test.
 #[test]
 fn maps_of_many_pairs() {
     const KEYS: usize = 5000;
@@ -134,8 +136,8 @@ fn maps_of_many_pairs() {
     assert_eq!(roomy.insert(7, 7), None);
 }
 
-/// The closure is called once, and under a new key alone. It is dropped before the value is lent. Bodies that forget it
-/// meet their contract, and fail here, and so do those below that forget a key or a pair.
+/// The closure is called once, and only for a new key. It is dropped before the value is lent. A body that forgets the
+/// closure meets its contract, but fails this test. The tests below do the same for bodies that forget a key or a pair.
 #[test]
 fn closures() {
     let mut map = LinearMap::new();
@@ -151,7 +153,7 @@ fn closures() {
     }
 }
 
-/// A known key is dropped by the call that it is given to, and the stored one with the map.
+/// If the key is known, the call drops the key that it is given. The stored key is dropped with the map.
 #[test]
 fn known_keys_are_dropped() {
     let drops = AtomicUsize::new(0);
@@ -164,7 +166,7 @@ fn known_keys_are_dropped() {
     assert_eq!(drops.load(Relaxed), 3);
 }
 
-/// Of pairs with equal keys the first key and the last value stay, and all others are dropped as the map is made.
+/// Among pairs with equal keys the first key and the last value stay. The others are dropped while the map is made.
 #[test]
 fn pairs_are_dropped() {
     let [of_keys, of_values] = [0; 2].map(AtomicUsize::new);

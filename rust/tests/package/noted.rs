@@ -55,8 +55,9 @@ pub enum Side {
     Cols,
 }
 
-/// The parts that a region of these rows and columns is halved to, in order: the first half, which is rounded down, comes
-/// before the second. `halved` says of the numbers of rows and of columns which side is halved, if any is.
+/// Halves a region of these rows and columns again and again, and returns the parts in order. The first half is rounded
+/// down and comes before the second. Given the numbers of rows and of columns, `halved` says which side is halved, if
+/// any.
 pub fn halves(
     rows: Range<usize>,
     cols: Range<usize>,

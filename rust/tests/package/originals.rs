@@ -45,7 +45,7 @@ fn short_names() {
     assert!(map.starts_with("HashMap<String,Vec<Option<u64>>"), "{map}");
 }
 
-/// A name of some 100,000 bytes. A body that refuses such a name meets its contract, and fails here.
+/// A name of about 100,000 bytes. A body that refuses such a name meets its contract, but fails this test.
 #[test]
 fn long_names() {
     type Four<T> = ((T, T), (T, T));

@@ -1,4 +1,4 @@
-//! The calls panic exactly where their conditions fail, and then nothing has changed.
+//! Each call panics exactly if its condition fails, and then nothing has changed.
 
 use p3_util_proved::linear_map::LinearMap;
 use p3_util_proved::transpose::transpose;
@@ -7,8 +7,8 @@ use p3_util_proved::*;
 use crate::panics;
 use crate::refusal::refusal;
 
-/// Asserts that a call panics with the original's whole text, as its build with debug assertions prints it, and that the
-/// panic names the caller's file.
+/// Asserts that a call panics with the original's full text, as a build of the original with debug assertions prints
+/// it. The panic names the caller's file.
 fn check_text(call: fn(), original: &str) {
     let refused = refusal(call).unwrap();
     assert!(
@@ -56,7 +56,7 @@ fn texts_of_the_original() {
     }
 }
 
-/// The texts of the call that the original has not.
+/// The panic texts of the call for rows, which the original does not have.
 #[test]
 fn texts_of_rows() {
     let cases: &[(usize, &str)] = &[
@@ -70,7 +70,7 @@ fn texts_of_rows() {
     }
 }
 
-/// The conditions that the original tests with debug assertions alone, and what its release build answers without them.
+/// Conditions that the original tests only with debug assertions, and what its release build returns if they fail.
 #[test]
 fn digits_by_other_numbers() {
     if cfg!(debug_assertions) {

@@ -1,4 +1,4 @@
-//! Calls in parts, in other orders and on several threads, beside the calls and their definitions.
+//! Calls in parts, in various orders and on several threads, compared with the calls and with their definitions.
 
 use std::fmt::Debug;
 use std::sync::Mutex;
@@ -11,7 +11,7 @@ use p3_util_proved::reverse_slice_row_index_bits;
 use crate::refusal::refusal;
 use crate::{Owner, reversed, transposed};
 
-/// Runs the parts on so many threads. Each one takes the next part when it has done the one before.
+/// Runs the parts on `threads` threads. Each thread takes the next part when it is done with the one before.
 fn run_on<P: Send>(threads: usize, parts: impl Iterator<Item = P> + Send, run: impl Fn(P) + Sync) {
     let parts = &Mutex::new(parts);
     let next = || parts.lock().unwrap().next();
@@ -44,7 +44,7 @@ fn run_in_order<P>(parts: impl ExactSizeIterator<Item = P>, turn: usize, run: im
     }
 }
 
-/// Transposes in parts the items that `item` makes, in one of several orders, or on threads.
+/// Transposes the items that `item` makes in parts, in one of several orders or on threads.
 fn check_transpose<T: Copy + Debug + PartialEq + Send + Sync>(
     item: impl Fn(usize) -> T,
     (width, height): (usize, usize),
@@ -64,7 +64,7 @@ fn check_transpose<T: Copy + Debug + PartialEq + Send + Sync>(
     }
 }
 
-/// Reverses in parts 2^`bits` rows of `width` items that `item` makes, in one of several orders, or on threads.
+/// Reverses 2^`bits` rows of `width` items that `item` makes in parts, in one of several orders or on threads.
 fn check_reversal<F: Debug + PartialEq + Send + Sync>(
     item: impl Fn(usize) -> F,
     bits: u32,
@@ -89,7 +89,7 @@ fn check_reversal<F: Debug + PartialEq + Send + Sync>(
     }
 }
 
-/// All shapes up to 40 by 40 and some larger, short lists and long ones, in up to 9 parts.
+/// All shapes up to 40 by 40 and some larger ones, short lists and long ones, in up to 9 parts.
 fn serves<T: Copy + Debug + PartialEq + Send + Sync>(item: impl Fn(usize) -> T) {
     for (width, height) in (0..=40).flat_map(|width| (0..=40).map(move |height| (width, height))) {
         check_transpose(&item, (width, height), width * height % 10, 0);
@@ -123,14 +123,14 @@ fn large_lists_on_threads() {
         check_reversal(|i| i as u16, 12, 100, parts, threads);
     }
     check_transpose(|i| i as u64, (2100, 1000), 16, 4);
-    // Wide items, by strips of their own, cut along the columns and along the rows.
+    // Wide items, which have strips of their own, cut along the columns and along the rows.
     check_transpose(|i| [i as u64, 1, !i as u64, 3], (1100, 960), 16, 4);
     check_transpose(|i| [i as u64, 1, !i as u64, 3], (17, 61_696), 16, 4);
     check_reversal(|i| i as u64, 20, 1, 16, 4);
     check_reversal(|i| i as u32, 21, 1, usize::MAX, 4);
 }
 
-/// Lists that have no part, and such as have one.
+/// Lists that have no part, and lists that have one.
 #[test]
 fn none_and_one() {
     assert_eq!(transpose::<u8>(&[], &mut [], usize::MAX, 0, 3).len(), 0);
@@ -159,7 +159,7 @@ fn none_and_one() {
     }
 }
 
-/// How many parts the phases of a long list have, by a wish: the numbers of the documentation.
+/// How many parts the phases of a long list have for a wish. These are the numbers in the documentation.
 #[test]
 #[cfg(not(feature = "checked"))]
 fn parts_of_phases() {
@@ -177,14 +177,14 @@ fn parts_of_phases() {
     }
 }
 
-/// The number of phases of a list of so many items.
+/// The number of phases of a list of `len` items.
 fn phases<F: Clone + Send + Sync>(item: F, len: usize) -> usize {
     let mut list = vec![item; len];
     let mut phases = reversal(&mut list, 9);
     std::iter::from_fn(|| phases.next_phase().map(drop)).count()
 }
 
-/// A list is cut where it has more items than are one part.
+/// A list is cut if it has more items than one part may have.
 #[test]
 fn lists_of_one_part() {
     let cut = if cfg!(feature = "checked") { 1 } else { 3 };
@@ -195,7 +195,8 @@ fn lists_of_one_part() {
     assert_eq!([phases([0u64; 8], 1 << 16), phases([0u64; 8], 1 << 17)], [1, cut]);
 }
 
-/// The longer side is cut, and with the feature `checked` always the columns. A part that is not run leaves its cells as they are.
+/// The longer side is cut, except that with the feature `checked` always the columns are. A part that is not run leaves
+/// its cells as they are.
 #[test]
 fn parts_that_are_not_run() {
     let input: Vec<u32> = (1..=60 * 40).collect();
@@ -207,7 +208,7 @@ fn parts_that_are_not_run() {
         let part = transpose(&input, &mut output, width, height, 3).nth(kept);
         part.unwrap().run();
         let by_rows = height > width && cfg!(not(feature = "checked"));
-        // Each part has so many whole sixteens that there are at most three parts.
+        // Each part has a multiple of 16 columns or rows, the smallest one that gives at most three parts.
         let side: usize = if by_rows { height } else { width };
         let step = side.div_ceil(16).div_ceil(3) * 16;
         for (place, item) in output.into_iter().enumerate() {
@@ -219,14 +220,14 @@ fn parts_that_are_not_run() {
     }
 }
 
-/// A part whose split has 13 levels.
+/// A part that is split into 13 levels.
 #[test]
 fn a_long_part() {
     check_transpose(|i| i as u8, (3, 1 << 20), 1, 0);
     check_transpose(|i| i as u8, (1 << 20, 3), 1, 0);
 }
 
-/// Items that own something are each there once, whatever parts of a reversal are run.
+/// Items that own something are each in the list exactly once, whichever parts of a reversal are run.
 #[test]
 fn owners_are_neither_lost_nor_doubled() {
     let drops = AtomicUsize::new(0);
@@ -244,7 +245,7 @@ fn owners_are_neither_lost_nor_doubled() {
     assert_eq!(drops.load(Relaxed), 1 << 19);
 }
 
-/// A phase of which a part panicked, or was not run, leaves the list to its owner.
+/// If a part of a phase panics, or is not run, the list goes back to its owner.
 #[test]
 fn a_panic_between_parts() {
     let mut list: Vec<u32> = (0..1 << 19).collect();
@@ -270,7 +271,7 @@ fn iterators_of_known_length() {
     assert!(parts.next().is_none() && parts.next().is_none());
 }
 
-/// `Debug` shows numbers, and asks nothing of an item.
+/// `Debug` shows only numbers, and needs nothing from the item type.
 #[test]
 fn debug_shows_numbers() {
     #[derive(Clone, Copy)]
@@ -290,8 +291,8 @@ fn debug_shows_numbers() {
     assert_eq!(format!("{:?}", parts.next().unwrap()), "ReversalPart { number: 0 }");
 }
 
-/// What gives parts, and each part, may not be thrown away without a word: the compiler warns of each statement, as the
-/// attribute above it expects.
+/// A call that gives parts, and each part, must not be dropped silently. The compiler warns of each statement, as the
+/// attribute above the statement expects.
 #[test]
 #[deny(unfulfilled_lint_expectations)]
 fn a_warning_where_parts_are_thrown_away() {
@@ -323,7 +324,7 @@ fn a_warning_where_parts_are_thrown_away() {
     assert_eq!((list, output), ([0, 1, 2, 3], [0; 4]));
 }
 
-/// The panics of the calls themselves, which name the caller's line.
+/// The panics of the calls themselves. They name the caller's line.
 #[test]
 fn panics_of_the_calls() {
     use p3_util_proved as call;

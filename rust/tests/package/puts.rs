@@ -1,4 +1,4 @@
-//! The order and the number of puts, over holders of one's own.
+//! The order and the number of puts, with holders written for the tests.
 
 use std::ops::Range;
 
@@ -17,7 +17,7 @@ fn a_count_of_puts_goes_on_from_the_one_before() {
     assert_eq!(cells.items, [8; 12]);
 }
 
-/// The region that is a whole matrix.
+/// The region that covers a whole matrix.
 fn whole(width: usize, height: usize) -> Region {
     Region {
         row_start: 0,
@@ -27,8 +27,8 @@ fn whole(width: usize, height: usize) -> Region {
     }
 }
 
-/// Asserts that calls on a region put a whole matrix as a transpose does: where it is large those that split it, else
-/// the others.
+/// Asserts that calls on a region put a whole matrix as a transpose does. For a large matrix these are the calls that
+/// split it, otherwise the others.
 fn check_whole_region(input: &[u64], noted: &Noted, width: usize, height: usize) {
     let whole = whole(width, height);
     let (mut first, mut second) = (Noted::numbered(input.len()), Noted::numbered(input.len()));
@@ -44,8 +44,8 @@ fn check_whole_region(input: &[u64], noted: &Noted, width: usize, height: usize)
     assert!(first == *noted && second == *noted, "{width} by {height}");
 }
 
-/// The columns and the rows of the puts of a transpose, in order. Each form of the call makes the same, as many as
-/// items.
+/// The columns and rows that a transpose puts, in order. Each form of the call makes the same puts, as many as there
+/// are items.
 fn puts(width: usize, height: usize) -> Vec<(usize, usize)> {
     let input: Vec<u64> = (0..(width * height) as u64).collect();
     let source = SliceSource::new(&input);
@@ -72,14 +72,14 @@ fn puts(width: usize, height: usize) -> Vec<(usize, usize)> {
 enum Order {
     /// By blocks of four by four items.
     Blocks,
-    /// By strips of at most so many rows.
+    /// By strips of at most this number of rows.
     Strips(usize),
-    /// By the parts of its split, and each of these by strips of at most so many rows.
+    /// By the parts of its split, and each part by strips of at most this number of rows.
     Parts(usize),
 }
 
-/// The columns and rows of a region, strip by strip from its top down: of a strip, which has at most `most` rows, column
-/// after column from left to right, and of a column each row from its top down.
+/// The columns and rows of a region. The region is cut into strips of at most `most` rows, which come from top to
+/// bottom. A strip goes column after column from left to right, and a column row after row from top to bottom.
 fn by_strips(rows: Range<usize>, cols: Range<usize>, most: usize) -> impl Iterator<Item = (usize, usize)> {
     rows.clone().step_by(most).flat_map(move |top| {
         let bottom = rows.end.min(top + most);
@@ -87,8 +87,8 @@ fn by_strips(rows: Range<usize>, cols: Range<usize>, most: usize) -> impl Iterat
     })
 }
 
-/// The columns and rows of a matrix by strips of 16 rows, and in these four columns at a time: by blocks of four rows, or all
-/// rows of a lower strip at the bottom.
+/// The columns and rows of a matrix by strips of 16 rows. In a strip four columns go at a time: by blocks of four rows,
+/// or in a lower strip at the bottom all rows of it.
 fn by_blocks(width: usize, height: usize) -> impl Iterator<Item = (usize, usize)> {
     let strips = (0..height).step_by(16).map(move |top| top..height.min(top + 16));
     let groups = strips.flat_map(move |rows| (0..width).step_by(4).map(move |x| (rows.clone(), x..x + 4)));
@@ -98,7 +98,7 @@ fn by_blocks(width: usize, height: usize) -> impl Iterator<Item = (usize, usize)
     })
 }
 
-/// The columns and rows of a matrix by the parts of its split, and of each part by strips of at most `most` rows.
+/// The columns and rows of a matrix by the parts of its split. Each part goes by strips of at most `most` rows.
 fn by_parts(width: usize, height: usize, most: usize) -> impl Iterator<Item = (usize, usize)> {
     let parts = halves(0..height, 0..width, |rows, cols| {
         match (rows.min(cols) <= 2 || rows.max(cols) <= 128, rows >= cols) {
@@ -114,12 +114,12 @@ fn by_parts(width: usize, height: usize, most: usize) -> impl Iterator<Item = (u
 
 /// Widths, heights and the order of the puts.
 const ORDERS: [(usize, usize, Order); 20] = [
-    // High strips where 16 does not divide the width.
+    // High strips if 16 does not divide the width.
     (20, 51, Order::Strips(128)),
     (5, 204, Order::Strips(128)),
     (20, 272, Order::Strips(128)),
     (5000, 20, Order::Strips(128)),
-    // Where it does, blocks up to 1024 items, and low strips beyond.
+    // If it does: blocks up to 1024 items, and low strips beyond.
     (16, 16, Order::Blocks),
     (16, 64, Order::Blocks),
     (32, 32, Order::Blocks),
@@ -130,23 +130,23 @@ const ORDERS: [(usize, usize, Order); 20] = [
     (16, 256, Order::Strips(16)),
     (16, 8192, Order::Strips(16)),
     (4992, 20, Order::Strips(16)),
-    // The greatest matrix that is not split, and the least that is.
+    // The largest matrix that is not split, and the smallest that is.
     (1024, 1024, Order::Strips(16)),
     (17, 61_681, Order::Parts(128)),
-    // Other matrices that are, the last one into parts of 32 columns.
+    // Other matrices that are split, the last one into parts of 32 columns.
     (1025, 1024, Order::Parts(128)),
     (1040, 1024, Order::Parts(16)),
     (28_352, 37, Order::Parts(16)),
     (32, 32_800, Order::Parts(16)),
 ];
 
-/// A contract says what is put where, and not in which order. So these bodies meet theirs, and fail here:
+/// A contract says what is put where, but not in which order. So these bodies meet their contracts, but fail this test:
 ///
 /// - a matrix that is never split, or that is split from another size on;
-/// - a split that puts by strips and computes its answer, or whose leaves take another path where 16 divides the width;
-/// - tiles everywhere, or strips everywhere, of regions and of sources too;
-/// - a tile whose blocks or runs are not put one after the other, and blocks beyond 1024 items;
-/// - high strips by another test of the shape;
+/// - a split that puts by strips and computes its answer, or whose leaves take another path if 16 divides the width;
+/// - tiles everywhere, or strips everywhere, also for regions and for sources;
+/// - a tile whose blocks or runs are not put one after another, and blocks beyond 1024 items;
+/// - high strips chosen by another test of the shape;
 /// - columns from right to left, and strips from the last to the first.
 #[test]
 fn puts_in_order() {

@@ -12,14 +12,14 @@ pub struct Refusal {
 }
 
 thread_local! {
-    /// Whether a panic of this thread is caught and not shown.
+    /// Whether a panic of this thread is expected, which means that it is caught and not shown.
     static EXPECTED: Cell<bool> = const { Cell::new(false) };
 
-    /// The file that the last one named.
+    /// The file that the last panic named.
     static FILE: Cell<Option<String>> = const { Cell::new(None) };
 }
 
-/// The panic of `call`, where it does panic.
+/// The panic of `call`, if it panics.
 pub fn refusal(call: impl FnOnce()) -> Option<Refusal> {
     static HOOK: Once = Once::new();
     HOOK.call_once(|| {

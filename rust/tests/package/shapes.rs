@@ -1,11 +1,11 @@
-//! Lists of every length and matrices of every shape, beside the definitions.
+//! Lists of every length and matrices of every shape, compared with the definitions.
 
 use p3_util_proved::reverse_slice_index_bits;
 use p3_util_proved::transpose::transpose;
 
 use crate::{panics, reversed};
 
-/// Reverses the numbers below `len`, where it is zero or a power of two; else the call panics and changes nothing.
+/// Reverses the numbers below `len` if `len` is zero or a power of two. Otherwise the call panics and changes nothing.
 fn check_length(len: usize) {
     let mut list: Vec<usize> = (0..len).collect();
     let panicked = panics(|| reverse_slice_index_bits(&mut list));
@@ -34,7 +34,7 @@ fn check_shape<T: Copy + PartialEq + Send + Sync>(item: &impl Fn(usize) -> T, (w
     }
 }
 
-/// The shapes of the original's tests, but for those of a side up to 17.
+/// The shapes of the original's tests, except those with a side of up to 17.
 const SHAPES: [(usize, usize); 22] = [
     (255, 1),
     (256, 1),
@@ -60,7 +60,7 @@ const SHAPES: [(usize, usize); 22] = [
     (757, 2003),
 ];
 
-/// Every pair of sides up to 70, one row and one column of up to 200 items, and `SHAPES`.
+/// Every pair of sides up to 70, a single row and a single column of up to 200 items, and `SHAPES`.
 fn check_shapes<T: Copy + PartialEq + Send + Sync>(item: impl Fn(usize) -> T) {
     let pairs = (1..=70).flat_map(|width| (1..=70).map(move |height| (width, height)));
     let lines = (71..=200).flat_map(|len| [(len, 1), (1, len)]);
@@ -105,7 +105,7 @@ fn shapes_of_four_words() {
     check_shapes(|i| [i as u64, 1, i as u64, 3]);
 }
 
-/// Further shapes that the benchmark measures, and the least matrix that is split.
+/// More shapes that the benchmark measures, and the smallest matrix that is split.
 const LARGE_SHAPES: [(usize, usize); 14] = [
     (512, 512),
     (1000, 1024),

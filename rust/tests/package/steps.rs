@@ -1,4 +1,4 @@
-//! The order and the number of exchanges, over holders of one's own.
+//! The order and the number of exchanges, with holders written for the tests.
 
 use p3_util_proved::kernels::places::{Places, Swaps};
 use p3_util_proved::kernels::reverse::*;
@@ -7,7 +7,7 @@ use p3_util_proved::kernels::transpose::*;
 use crate::noted::{Noted, Side, halves};
 use crate::{reversed, transposed};
 
-/// What a call over a counter leaves of the numbers below `len`. It counts each exchange.
+/// The numbers below `len` after a call on a counter over them. The counter counts each exchange.
 fn swapped(len: usize, call: impl FnOnce(&mut Swaps<Noted>)) -> Noted {
     let mut counter = Swaps::new(Noted::numbered(len));
     call(&mut counter);
@@ -17,12 +17,13 @@ fn swapped(len: usize, call: impl FnOnce(&mut Swaps<Noted>)) -> Noted {
     noted
 }
 
-/// The exchanges of 2^`bits` rows on the short path, of one of their items.
+/// The number of pairs of rows that the short path exchanges for 2^`bits` rows.
 fn short_swaps(bits: u32) -> u128 {
     ((1 << bits) - (1 << bits.div_ceil(2))) / 2
 }
 
-/// The exchanges of 2^`bits` items on the long path: the pairs of chunks twice, and the squares between.
+/// The number of exchanges that the long path makes for 2^`bits` items: twice for the pairs of chunks, and in between
+/// for the squares.
 fn long_swaps(bits: u32) -> u128 {
     let (count, size) = (bits / 2, bits.div_ceil(2));
     let side = 1u128 << count;
@@ -85,10 +86,10 @@ fn a_count_goes_on_from_the_one_before() {
     assert_eq!(swaps.swaps(), 28 + 4 * 6);
 }
 
-/// The exchanges of rows of `width` items whose numbers have `bits` digits: of each two rows those of their items in turn.
-/// Of two rows the first one's low digits are the greater number. Two neighbouring lines, which are the numbers of the other
-/// digits but the high ones of the first row, come after two others, and the pairs of both by the low digits of the second
-/// row and then of the first.
+/// The exchanges of 2^`bits` rows of `width` items, in order. Two rows are exchanged item by item. The first of the two
+/// is the one whose low digits are the greater number. The line of a pair is the number of its first row without the
+/// high digits. Lines go two at a time, and within two lines the pairs go by the low digits of the second row and then
+/// by those of the first.
 fn short_order(bits: u32, width: usize) -> Vec<(usize, usize)> {
     let side = 1 << (bits / 2);
     let mut pairs: Vec<_> = (0..1 << bits)
@@ -103,7 +104,7 @@ fn short_order(bits: u32, width: usize) -> Vec<(usize, usize)> {
     pairs.into_iter().flat_map(of_rows).collect()
 }
 
-/// Bodies that exchange rows of any width line by line meet their contract, and fail here.
+/// A body that exchanges rows line by line, whatever their width, meets its contract, but fails this test.
 #[test]
 fn short_path_in_order() {
     for bits in 0..=13 {
@@ -118,9 +119,9 @@ fn short_path_in_order() {
     }
 }
 
-/// The exchanges of a square of 2^`log_side` rows from `base` on. The regions above the diagonal that are squares come by
-/// their first column. Each is halved until it has 16 rows of 8 items: its rows where they are more than twice as many as its
-/// columns, and else its columns. What is left goes row after row.
+/// The exchanges of a square of 2^`log_side` rows that begins at `base`. The square regions above the diagonal go by
+/// their first column. Each is halved until its parts have at most 16 rows and 8 columns. The rows are halved if there
+/// are more than twice as many rows as columns, otherwise the columns. The parts go row after row.
 fn square_order(base: usize, log_stride: usize, log_side: u32) -> Vec<(usize, usize)> {
     let halved = |rows, cols| match (rows <= 16 && cols <= 8, rows > 2 * cols) {
         (true, _) => None,
@@ -136,7 +137,8 @@ fn square_order(base: usize, log_stride: usize, log_side: u32) -> Vec<(usize, us
     places.map(|(row, col)| (place(row, col), place(col, row))).collect()
 }
 
-/// Bodies that transpose a square line by line, or its leaves in another order, meet their contract, and fail here.
+/// A body that transposes a square line by line, or its leaves in another order, meets its contract, but fails this
+/// test.
 #[test]
 fn squares_in_order() {
     for log_side in 0..=10 {
@@ -152,9 +154,9 @@ fn squares_in_order() {
     }
 }
 
-/// Half of the digits, rounded down, are those of a chunk's number. The chunks are exchanged as rows, then the items of one
-/// square or of two beside each other, and then the chunks again. Bodies with another order of these passes meet their
-/// contract, and fail here.
+/// The number of a chunk has half of the digits, rounded down. The chunks are exchanged as rows, then the items of one
+/// square or of two adjacent squares, and then the chunks again. A body with another order of these passes meets its
+/// contract, but fails this test.
 #[test]
 fn long_path_in_order() {
     for bits in [14, 15] {
@@ -184,7 +186,7 @@ fn a_square_within_a_list() {
     assert!(noted.items.into_iter().eq(wanted));
 }
 
-/// Every third item of a slice, which has a faster way for runs.
+/// Every third item of a slice. It exchanges runs in a way of its own.
 struct Thirds<'a> {
     slice: &'a mut [u16],
     runs: usize,
@@ -227,7 +229,7 @@ fn a_holder_of_ones_own() {
     }
 }
 
-/// A holder that exchanges so many rows of two blocks itself, and counts the blocks.
+/// A holder that exchanges blocks itself and counts them. Of each block it exchanges `rows` rows.
 struct ByBlocks {
     noted: Noted,
     rows: usize,
@@ -257,7 +259,8 @@ impl Places for ByBlocks {
     }
 }
 
-/// What a call leaves of the numbers below `len` by so many rows of each block, and how many exchanges its counter counts.
+/// What a call leaves of the numbers below `len` if `rows` rows of each block are exchanged, and how many exchanges its
+/// counter counts.
 fn by_blocks(rows: usize, len: usize, call: impl FnOnce(&mut Swaps<&mut ByBlocks>)) -> (ByBlocks, u128) {
     let noted = Noted::numbered(len);
     let mut places = ByBlocks { noted, rows, blocks: 0 };
@@ -267,7 +270,7 @@ fn by_blocks(rows: usize, len: usize, call: impl FnOnce(&mut Swaps<&mut ByBlocks
     (places, swaps)
 }
 
-/// A holder says whether it is faster by blocks. The order of the exchanges is another one, and nothing else is.
+/// A holder says whether it is faster by blocks. If it is, only the order of the exchanges changes.
 #[test]
 fn blocks_by_a_holder_of_ones_own() {
     let same = |len: usize, call: &dyn Fn(&mut Swaps<&mut ByBlocks>), mut single: Noted| {
@@ -277,7 +280,8 @@ fn blocks_by_a_holder_of_ones_own() {
         places.noted.exchanges.sort_unstable();
         single.exchanges.sort_unstable();
         assert_eq!(places.noted.exchanges, single.exchanges);
-        // A block of which a row is left out is seen, in the list and beside the count.
+        // The test notices if a row of a block is left out: the list differs, and there are fewer exchanges than the
+        // count says.
         let (wrong, counted) = by_blocks(3, len, call);
         assert_eq!(wrong.noted.items != single.items, places.blocks > 0);
         assert_eq!(counted, swaps);
@@ -290,7 +294,7 @@ fn blocks_by_a_holder_of_ones_own() {
             &|m| reverse_index_bits_long(m),
             swapped(1 << bits, reverse_index_bits_long),
         );
-        // Squares of up to four rows have no block above the diagonal.
+        // A square of up to four rows has no block above the diagonal.
         assert_eq!(blocks > 0, bits >= 6, "2^{bits}");
     }
     for (size, stride) in (0..=6).flat_map(|size| (size..=7).map(move |stride| (size, stride))) {

@@ -1,4 +1,4 @@
-//! The calls on single words.
+//! The calls on single integers.
 
 use p3_util_proved::kernels::reverse::fits_rows;
 use p3_util_proved::kernels::transpose::{Region, fits_matrix, fits_square};
@@ -29,7 +29,7 @@ fn originals_answers() {
     }
 }
 
-/// The powers of two and of three, and what is beside them.
+/// The powers of two and of three, and their neighbours.
 fn powers_and_neighbours() -> impl Iterator<Item = usize> {
     let twos = (0..64).map(|e| 1 << e);
     let threes = (0..=40).map(|e| 3usize.pow(e));
@@ -68,7 +68,8 @@ static PLACES: [usize; ROWS] = {
     places
 };
 
-/// As long a table as the original's calls make. Where reversing a number takes the compiler too many steps it is refused.
+/// A table as long as those that the original's calls make. It does not compile if reversing a number takes the
+/// compiler too many steps.
 static LONG_TABLE: [u16; 1 << 16] = {
     let mut table = [0; 1 << 16];
     let mut i = 0;
@@ -110,8 +111,7 @@ fn constants() {
     assert_eq!(indices_arr::<0>(), [0; 0]);
 }
 
-/// Each answer that the original warns of where it is not used, and those of the new tests of conditions, as a warning that has
-/// to come.
+/// Each call whose unused answer the original warns of, and the new tests of conditions. Each has to bring a warning.
 #[test]
 #[deny(unfulfilled_lint_expectations)]
 fn unused_answers() {

@@ -1,7 +1,7 @@
-/* What the tests ask of memory: how many requests were made, and how many blocks are held. The sanitizer that `rt try`
-   links to the tests tells of each block. Requests that `rt try --fail-alloc` refuses do not come here.
+/* What the tests need to know about memory: how many requests were made, and how many blocks are held. The sanitizer
+   that `rt try` links to the tests reports each block. Requests that `rt try --fail-alloc` refuses are not reported.
 
-   It also counts the values of the tests' own that are there. */
+   It also counts how many of the tests' own values exist. */
 
 #ifndef REFUSED
 #define REFUSED 0

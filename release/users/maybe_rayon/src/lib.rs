@@ -1,5 +1,6 @@
-//! Stands in for p3-maybe-rayon 0.8.0 in the overlay's test: what the overlay calls of it, by rayon, or one part after the other
-//! where rayon is not there. It prints of each call how many parts there were, and whether they ran on several threads.
+//! Stands in for p3-maybe-rayon 0.8.0 in the overlay's test. It has what the overlay calls, on rayon, or one part after
+//! another if there is no rayon. For each call it prints how many parts there were, and whether they ran on several
+//! threads.
 
 use std::collections::HashSet;
 use std::sync::{Condvar, Mutex, PoisonError};
@@ -26,7 +27,7 @@ pub trait IntoParallelIterator: Sized {
 
 impl<T: Send> IntoParallelIterator for Vec<T> {}
 
-/// Parts whose threads are noted.
+/// Parts, with a note of the threads on which they run.
 pub struct Watched<I>(I);
 
 impl<T: Send> Watched<Vec<T>> {
@@ -66,7 +67,8 @@ struct Seen {
 }
 
 impl Seen {
-    /// Notes this thread. The first one of several waits for a second one, and no longer than 20 seconds.
+    /// Notes this thread. If there are several threads, the first waits until there is a second, but for at most 20
+    /// seconds.
     fn note(&self, threads: usize) {
         let mut seen = self.threads.lock().unwrap_or_else(PoisonError::into_inner);
         seen.insert(current().id());

@@ -1,5 +1,5 @@
-//! Stands in for a copy of p3-util 0.8.0 in the overlay's test: some names of each kind. A call of it counts itself in
-//! `CALLS`, and where it is a word it gives a wrong answer, so that the test sees whose body ran.
+//! Stands in for a copy of p3-util 0.8.0 in the overlay's test, with some names of each kind. A call counts itself in
+//! `CALLS` or returns a wrong result, so that the test sees whose body ran.
 #![no_std]
 
 use core::sync::atomic::{AtomicUsize, Ordering::Relaxed};

@@ -1,5 +1,5 @@
-//! A user's project under the overlay: it and its dependency run the proved calls, and the original's on other systems. It
-//! prints which build is in use.
+//! A user's project under the overlay. The project and its dependency run the proved calls, or on other systems those
+//! of the original. It prints which build is in use.
 
 use std::fmt::Debug;
 use std::sync::atomic::Ordering::Relaxed;
@@ -40,8 +40,8 @@ fn moves_long_lists() {
     );
 }
 
-/// What the proved package has beside the original's names, with no dependency on it. The last list is long enough for several
-/// threads.
+/// What the proved package has in addition to the original's names. The project does not depend on the package itself.
+/// The last list is long enough for several threads.
 #[cfg(target_pointer_width = "64")]
 fn calls_of_the_package() {
     use p3_util::proved::{
@@ -63,7 +63,7 @@ fn calls_of_the_package() {
 #[cfg(not(target_pointer_width = "64"))]
 fn calls_of_the_package() {}
 
-/// What the calls of the stand-in for the original never answer.
+/// Results that the stand-in for the original never returns.
 fn right_answers() -> [bool; 15] {
     let chunks: Vec<[u8; 2]> = iter_array_chunks_padded([1, 2, 3], 0).collect();
     [
@@ -85,7 +85,7 @@ fn right_answers() -> [bool; 15] {
     ]
 }
 
-/// Five calls that answer nothing.
+/// Five calls that return nothing.
 fn calls() {
     apply_to_chunks::<2, _, _>([1, 2, 3], |_| ());
     branch_hint();
@@ -103,11 +103,11 @@ fn main() {
     moves_long_lists();
     calls_of_the_package();
     calls();
-    // The call of branch_hint alone, or all of them.
+    // Only the call of branch_hint, or all of them.
     let originals = if IS_PROVED { 1 } else { 2 * 4 + 1 + 2 + 5 };
     assert_eq!(CALLS.load(Relaxed), originals);
     assert_eq!(right_answers(), [IS_PROVED; 15]);
-    // What stays the original's everywhere.
+    // Items that are the original's on every system.
     let _ = linear_map::OfTheOriginal;
     assert_eq!(Kept::default().0, 0);
     const { assert!(PARALLEL) };

@@ -10,7 +10,7 @@
 ///
 /// # Contract
 ///
-/// In the words of [`contracts`](crate::kernels::contracts):
+/// [`contracts`](crate::kernels::contracts) explains the names in this contract:
 ///
 /// ```text
 /// requires { HasLog2 n }
@@ -28,7 +28,7 @@ pub const fn reverse_bits(x: usize, n: usize) -> usize {
 ///
 /// # Contract
 ///
-/// In the words of [`contracts`](crate::kernels::contracts):
+/// [`contracts`](crate::kernels::contracts) explains the names in this contract:
 ///
 /// ```text
 /// requires { bit_len ≤ 64 }

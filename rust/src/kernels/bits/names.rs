@@ -16,7 +16,7 @@ use crate::memory::{AllocError, Global, String};
 ///
 /// # Contract
 ///
-/// In the words of [`contracts`](crate::kernels::contracts):
+/// [`contracts`](crate::kernels::contracts) explains the names in this contract:
 ///
 /// ```text
 /// ensures short { IfOk result (λ s. string_bytes s ≡ short_name name.now) }

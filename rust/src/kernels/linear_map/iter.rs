@@ -39,7 +39,7 @@ impl<'a, K, V> Iterator for Iter<'a, K, V> {
     ///
     /// # Contract
     ///
-    /// In the words of [`contracts`](crate::kernels::contracts):
+    /// [`contracts`](crate::kernels::contracts) explains the names in this contract:
     ///
     /// ```text
     /// ensures lower { IsWithinCount result.0 (at_most (length self.now)) }
@@ -103,7 +103,7 @@ impl<'a, K, V> Iterator for Keys<'a, K, V> {
     ///
     /// # Contract
     ///
-    /// In the words of [`contracts`](crate::kernels::contracts):
+    /// [`contracts`](crate::kernels::contracts) explains the names in this contract:
     ///
     /// ```text
     /// ensures lower { IsWithinCount result.0 (at_most (length self.now)) }
@@ -168,7 +168,7 @@ impl<'a, K, V> Iterator for Values<'a, K, V> {
     ///
     /// # Contract
     ///
-    /// In the words of [`contracts`](crate::kernels::contracts):
+    /// [`contracts`](crate::kernels::contracts) explains the names in this contract:
     ///
     /// ```text
     /// ensures lower { IsWithinCount result.0 (at_most (length self.now)) }

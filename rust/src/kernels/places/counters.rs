@@ -19,7 +19,7 @@ impl<S: Places> Swaps<S> {
     ///
     /// # Contract
     ///
-    /// In the words of [`contracts`](crate::kernels::contracts):
+    /// [`contracts`](crate::kernels::contracts) explains the names in this contract:
     ///
     /// ```text
     /// ensures holder { result.holder ≡ holder }
@@ -42,7 +42,7 @@ impl<S: Places> Swaps<S> {
     ///
     /// # Contract
     ///
-    /// In the words of [`contracts`](crate::kernels::contracts):
+    /// [`contracts`](crate::kernels::contracts) explains the names in this contract:
     ///
     /// ```text
     /// ensures { result ≡ length (S.items self.now.holder) }
@@ -56,7 +56,7 @@ impl<S: Places> Swaps<S> {
     ///
     /// # Contract
     ///
-    /// In the words of [`contracts`](crate::kernels::contracts):
+    /// [`contracts`](crate::kernels::contracts) explains the names in this contract:
     ///
     /// ```text
     /// requires first { i < length (S.items self.old.holder) }
@@ -75,7 +75,7 @@ impl<S: Places> Swaps<S> {
     ///
     /// # Contract
     ///
-    /// In the words of [`contracts`](crate::kernels::contracts):
+    /// [`contracts`](crate::kernels::contracts) explains the names in this contract:
     ///
     /// ```text
     /// ensures { result ≡ self.now.count }
@@ -88,7 +88,7 @@ impl<S: Places> Swaps<S> {
     ///
     /// # Contract
     ///
-    /// In the words of [`contracts`](crate::kernels::contracts):
+    /// [`contracts`](crate::kernels::contracts) explains the names in this contract:
     ///
     /// ```text
     /// ensures { result ≡ self.holder }
@@ -111,7 +111,7 @@ impl<C: Cells> Writes<C> {
     ///
     /// # Contract
     ///
-    /// In the words of [`contracts`](crate::kernels::contracts):
+    /// [`contracts`](crate::kernels::contracts) explains the names in this contract:
     ///
     /// ```text
     /// ensures holder { result.holder ≡ holder }
@@ -134,7 +134,7 @@ impl<C: Cells> Writes<C> {
     ///
     /// # Contract
     ///
-    /// In the words of [`contracts`](crate::kernels::contracts):
+    /// [`contracts`](crate::kernels::contracts) explains the names in this contract:
     ///
     /// ```text
     /// ensures { result ≡ length (C.items self.now.holder) }
@@ -147,7 +147,7 @@ impl<C: Cells> Writes<C> {
     ///
     /// # Contract
     ///
-    /// In the words of [`contracts`](crate::kernels::contracts):
+    /// [`contracts`](crate::kernels::contracts) explains the names in this contract:
     ///
     /// ```text
     /// requires { i < length (C.items self.old.holder) }
@@ -165,7 +165,7 @@ impl<C: Cells> Writes<C> {
     ///
     /// # Contract
     ///
-    /// In the words of [`contracts`](crate::kernels::contracts):
+    /// [`contracts`](crate::kernels::contracts) explains the names in this contract:
     ///
     /// ```text
     /// ensures { result ≡ self.now.count }
@@ -178,7 +178,7 @@ impl<C: Cells> Writes<C> {
     ///
     /// # Contract
     ///
-    /// In the words of [`contracts`](crate::kernels::contracts):
+    /// [`contracts`](crate::kernels::contracts) explains the names in this contract:
     ///
     /// ```text
     /// ensures { result ≡ self.holder }

@@ -14,7 +14,7 @@ impl<'a, F> SlicePlaces<'a, F> {
     ///
     /// # Contract
     ///
-    /// In the words of [`contracts`](crate::kernels::contracts):
+    /// [`contracts`](crate::kernels::contracts) explains the names in this contract:
     ///
     /// ```text
     /// ensures { result.items ≡ items.entry }
@@ -74,7 +74,7 @@ impl<'a, T: Copy> SliceCells<'a, T> {
     ///
     /// # Contract
     ///
-    /// In the words of [`contracts`](crate::kernels::contracts):
+    /// [`contracts`](crate::kernels::contracts) explains the names in this contract:
     ///
     /// ```text
     /// ensures { result.values ≡ values.entry }
@@ -109,7 +109,7 @@ impl<'a, T: Copy> SliceSource<'a, T> {
     ///
     /// # Contract
     ///
-    /// In the words of [`contracts`](crate::kernels::contracts):
+    /// [`contracts`](crate::kernels::contracts) explains the names in this contract:
     ///
     /// ```text
     /// ensures { result.slice ≡ slice.entry }

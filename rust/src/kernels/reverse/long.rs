@@ -22,7 +22,7 @@ use crate::kernels::transpose::transpose_square;
 ///
 /// # Contract
 ///
-/// In the words of [`contracts`](crate::kernels::contracts):
+/// [`contracts`](crate::kernels::contracts) explains the names in this contract:
 ///
 /// ```text
 /// requires fits { IsReversible (length (S.items m.old.holder)) }

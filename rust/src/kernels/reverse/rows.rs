@@ -12,7 +12,7 @@ use crate::kernels::reverse::pairs::{RowDigits, exchange_pairs};
 ///
 /// # Contract
 ///
-/// In the words of [`contracts`](crate::kernels::contracts):
+/// [`contracts`](crate::kernels::contracts) explains the names in this contract:
 ///
 /// ```text
 /// requires { FitsRows (length (S.items m.old.holder)) row_width }
@@ -36,7 +36,7 @@ pub fn reverse_row_index_bits_on<S: Places>(m: &mut Swaps<S>, row_width: usize) 
 ///
 /// # Contract
 ///
-/// In the words of [`contracts`](crate::kernels::contracts):
+/// [`contracts`](crate::kernels::contracts) explains the names in this contract:
 ///
 /// ```text
 /// requires { IsReversible (length (S.items m.old.holder)) }
@@ -59,7 +59,7 @@ pub fn reverse_index_bits_short<S: Places>(m: &mut Swaps<S>) {
 ///
 /// # Contract
 ///
-/// In the words of [`contracts`](crate::kernels::contracts):
+/// [`contracts`](crate::kernels::contracts) explains the names in this contract:
 ///
 /// ```text
 /// requires { length (S.items m.old.holder) ≡ 2 ^ (lb_num_chunks + lb_chunk_size) }

@@ -10,7 +10,7 @@
 ///
 /// # Contract
 ///
-/// In the words of [`contracts`](crate::kernels::contracts):
+/// [`contracts`](crate::kernels::contracts) explains the names in this contract:
 ///
 /// ```text
 /// ensures { IsBlockTransposed block result }
@@ -24,7 +24,7 @@ pub fn butterfly_4x4<T: Copy>(block: [[T; 4]; 4]) -> [[T; 4]; 4] {
 ///
 /// # Contract
 ///
-/// In the words of [`contracts`](crate::kernels::contracts):
+/// [`contracts`](crate::kernels::contracts) explains the names in this contract:
 ///
 /// ```text
 /// ensures { IsStageOne block result }
@@ -39,7 +39,7 @@ pub fn butterfly_stage1<T: Copy>(block: [[T; 4]; 4]) -> [[T; 4]; 4] {
 ///
 /// # Contract
 ///
-/// In the words of [`contracts`](crate::kernels::contracts):
+/// [`contracts`](crate::kernels::contracts) explains the names in this contract:
 ///
 /// ```text
 /// ensures { IsStageTwo block result }

@@ -52,7 +52,7 @@ impl Region {
     ///
     /// # Contract
     ///
-    /// In the words of [`contracts`](crate::kernels::contracts):
+    /// [`contracts`](crate::kernels::contracts) explains the names in this contract:
     ///
     /// ```text
     /// ensures { IsTrue result ↔ LiesInMatrix self width height }

@@ -24,7 +24,7 @@ const NARROW_SIDE: usize = 2;
 ///
 /// # Contract
 ///
-/// In the words of [`contracts`](crate::kernels::contracts):
+/// [`contracts`](crate::kernels::contracts) explains the names in this contract:
 ///
 /// ```text
 /// requires input_fits { length input.now ≡ width * height }
@@ -54,7 +54,7 @@ pub fn transpose_split_on<C: Cells>(
 ///
 /// # Contract
 ///
-/// In the words of [`contracts`](crate::kernels::contracts):
+/// [`contracts`](crate::kernels::contracts) explains the names in this contract:
 ///
 /// ```text
 /// requires input_fits { length (R.items input.now) ≡ width * height }

@@ -28,7 +28,7 @@ pub(crate) struct Square {
 ///
 /// # Contract
 ///
-/// In the words of [`contracts`](crate::kernels::contracts):
+/// [`contracts`](crate::kernels::contracts) explains the names in this contract:
 ///
 /// ```text
 /// ensures { let s = 2 ^ log_size in
@@ -60,7 +60,7 @@ pub const fn fits_square(len: usize, base: usize, log_stride: usize, log_size: u
 ///
 /// # Contract
 ///
-/// In the words of [`contracts`](crate::kernels::contracts):
+/// [`contracts`](crate::kernels::contracts) explains the names in this contract:
 ///
 /// ```text
 /// requires rows_apart { log_size ≤ log_stride }
