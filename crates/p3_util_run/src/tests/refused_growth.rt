@@ -55,8 +55,8 @@ fn answers(rt: &impl Abort, alloc: Global, texts: &[&str], input: &str, output: 
     equal(rt, &writer.rest.len(), &left);
 }
 
-/// The arguments, the input, its numbers, their values and the text. It makes 8 requests for
-/// memory.
+/// The arguments, the input, its numbers, their values and the text.
+/// It makes 8 requests for memory.
 #[test]
 fn reverses(rt: HostRuntime) {
     answers(
