@@ -1,37 +1,37 @@
 -- Lemmas for callers, under names that `#[tactic(auto, using(..))]` takes. There is one file for each module of callers, of which
 -- this file passes the names on. A lemma that stands elsewhere gets its name below.
-mod Behind
+mod BehindHeader
 mod Bits
 mod Chunks
 mod Columns
 mod Compose
-mod Grid
 mod Kept
 mod LinearMap
 mod Pairs
 mod Places
 mod Regions
 mod Reverse
+mod ReversedTables
 mod Rows
-mod Tables
 mod Transpose
+mod TransposeFromParts
 mod Views
 mod ZipEq
-pub use Rattle.p3_util.proofs.Callers.Behind.{drop_swapped, header_stays}
+pub use Rattle.p3_util.proofs.Callers.BehindHeader.{drop_swapped, header_stays}
 pub use Rattle.p3_util.proofs.Callers.Bits.{rev_even, rev_odd, pair_below, power_of_two_test, half, half_length, rev_longer, third_of_power}
 pub use Rattle.p3_util.proofs.Callers.Chunks.{folded_sum, padded_sum, padded_index, padded_inside, padded_beyond, padded_read}
 pub use Rattle.p3_util.proofs.Callers.Columns.{column_inside, column_length, column_place, column_read, column_swapped, column_written, others_of_swap, others_of_write, column_others, strided_inside, strided_place}
 pub use Rattle.p3_util.proofs.Callers.Compose.{region_of_rows, region_of_cols, square_inside, square_more, one_square, reversed_by_squares, swaps_around, rows_in_two, cols_in_two, rows_counted, cols_counted, items_of_rows, items_of_cols}
-pub use Rattle.p3_util.proofs.Callers.Grid.{region_of_column, rows_from_top, rows_across, twice_half, swaps_of_quadrants, last_quadrant_room, quadrants_within, square_of_quadrants}
 pub use Rattle.p3_util.proofs.Callers.Kept.{permuted_by_places, reversed_permuted, permuted_reversal, rows_permuted, transposed_permuted, permuted, kept, reversed_sum, kept_sum, reversed_alike}
 pub use Rattle.p3_util.proofs.Callers.LinearMap.{key_found, key_others, number_found, number_others, put_found, put_others, new_value_last, known_value_replaced, key_summed, key_within_sum, key_or_zero, text_eq, text_summed, text_within_sum, text_or_zero, number_summed, number_within_sum, number_or_zero, values_summed, new_value_last as values_after_new, known_value_replaced as values_after_known}
 pub use Rattle.p3_util.proofs.Callers.Pairs.{zip_length, zip_swapped}
 pub use Rattle.p3_util.proofs.Callers.Places.{others_swapped, others_written}
 pub use Rattle.p3_util.proofs.Callers.Regions.{square_back, either_order}
 pub use Rattle.p3_util.proofs.Callers.Reverse.{reversed_place, reversed_even, reversed_odd, row_back, item_back, reversed_once, reversed_twice, rows_reversed_once, rows_reversed_twice, reversed_back, reversed_worked, reversed_by_places}
+pub use Rattle.p3_util.proofs.Callers.ReversedTables.{reversed_index, reversed_item, reversed_item_at, reversed_item_from, reversed_some, reversed_some_from, even_index, odd_index, reversed_read, even_read, odd_read}
 pub use Rattle.p3_util.proofs.Callers.Rows.{part_length, part_inside, part_before, part_after, part_read}
-pub use Rattle.p3_util.proofs.Callers.Tables.{reversed_index, reversed_item, reversed_item_at, reversed_item_from, reversed_some, reversed_some_from, even_index, odd_index, reversed_read, even_read, odd_read}
 pub use Rattle.p3_util.proofs.Callers.Transpose.{transposed_once, transposed_back, first_in_rows, first_row, transposed_first, outside_stays, above_stays, below_stays, left_stays, right_stays, region_others, reversed_by_sides}
+pub use Rattle.p3_util.proofs.Callers.TransposeFromParts.{region_of_column, rows_from_top, rows_across, twice_half, swaps_of_quadrants, last_quadrant_room, quadrants_within, square_of_quadrants}
 pub use Rattle.p3_util.proofs.Callers.Views.{flat_place, elements_reversed}
 pub use Rattle.p3_util.proofs.Callers.ZipEq.{zip_place, zip_firsts, zip_seconds, remainders_summed, reduced_summed}
 -- The k low digits, reversed, are a number of k digits, of which the reverse is the number again, and a number in two parts, of
@@ -47,4 +47,4 @@ pub use Rattle.p3_util_kernels.proofs.DiagonalLemmas.{SwapsAcross-item as item_a
 pub use Rattle.p3_util.proofs.ItemsAtLemmas.{slice_get-reverse as from_end_place, from_end-swap as from_end_swapped, from_end-set as from_end_written}
 -- two lists, one behind the other, as one: an exchange in the first, in the second, and across both, and an item put into it
 pub use Rattle.p3_util.proofs.TwoLists.{in-front as joined_front, in-back as joined_back, swap-sym as swap_turned, put-front as joined_put_front, put-back as joined_put_back}
-pub use Rattle.p3_util_kernels.proofs.Seam.{across as joined_across}
+pub use Rattle.p3_util_kernels.proofs.JoinedLists.{across as joined_across}

@@ -6,7 +6,7 @@ use Rattle.std.proofs.lemmas.List.{get_or-reverse, length-reverse, length-take-l
 use Rattle.std.proofs.lemmas.List.Edits.{length-swap}
 use Rattle.std.proofs.lemmas.Option.{slice_get-get_or}
 use Rattle.p3_util.specs.ItemsAt.{items_at}
-use Rattle.p3_util_kernels.proofs.Cuts.{slice_get-append_left, slice_get-append_right, slice_get-drop, slice_get-take}
+use Rattle.p3_util_kernels.proofs.ListParts.{slice_get-append_left, slice_get-append_right, slice_get-drop, slice_get-take}
 use Rattle.p3_util_kernels.proofs.Exchange.{slice_get-set_other, slice_get-set_same, slice_get-swap_first, slice_get-swap_other, slice_get-swap_second}
 use Rattle.p3_util_kernels.proofs.SameList.{same_places}
 

@@ -3,14 +3,13 @@
 #![tactic(auto)]
 
 pub mod array_serialization;
-pub mod behind;
+pub mod behind_header;
 pub mod bits;
 pub mod chunks;
 pub mod columns;
 pub mod compose;
 pub mod flat;
 pub mod from_end;
-pub mod grid;
 pub mod joined;
 pub mod kept;
 pub mod laws;
@@ -19,8 +18,9 @@ pub mod loops;
 pub mod pairs;
 pub mod places;
 pub mod reverse;
+pub mod reversed_tables;
 pub mod rows;
-pub mod tables;
 pub mod transpose;
+pub mod transpose_from_parts;
 pub mod views;
 pub mod zip_eq;

@@ -7,7 +7,7 @@ use Rattle.std.specs.Prelude.{replicate}
 use Rattle.p3_util.specs.Flat.{flat}
 use Rattle.p3_util.specs.Pieces.{padded, padded_pieces, pieces}
 use Rattle.p3_util.proofs.PiecesLemmas.{joined-pieces}
-use Rattle.p3_util_kernels.proofs.Cuts.{slice_get-append_left, slice_get-append_right}
+use Rattle.p3_util_kernels.proofs.ListParts.{slice_get-append_left, slice_get-append_right}
 
 -- Where each step over a piece adds its bytes to what `total` reads, the steps over all pieces add the bytes of all.
 pub folded_sum : {H : Type 0} (step : H → List ℕ → H → Type 0) (total : H → ℕ) (rows : List (List ℕ)) (f last : H)

@@ -6,7 +6,7 @@ use Rattle.std.proofs.Math.Nat.{eq_of_mul-eq-mul_right}
 use Rattle.p3_util_kernels.specs.Digits.{rev}
 use Rattle.p3_util_kernels.specs.Reversal.{IsReversal, IsRowReversal}
 use Rattle.p3_util_kernels.proofs.DigitsLemmas.{rev-lt}
-use Rattle.p3_util.proofs.Callers.Tables.{reversed_index}
+use Rattle.p3_util.proofs.Callers.ReversedTables.{reversed_index}
 
 -- item c of row r of rows of n items, in the list of all items
 pub flat_place : {A : Type 0} (n : ℕ) (rows : List (List A)) (items : List A) (r c : ℕ) → IsFlat n rows items → r < length rows → c < n

@@ -1,7 +1,0 @@
--- The lemma is given what the loop keeps, up to its end.
-use Rattle.std.proofs.Common.{arith}
-use Rattle.p3_util.proofs.Callers.{reversed_by_places}
-use Rattle.p3_util_callers.proofs.tables.reordered_into.Goals as goal
-
-pub returns : goal.returns
-returns g c = reversed_by_places c.args.k _ _ (omega arith) c.requires.len (λ j h. c.loop-i.invariant j (omega arith))

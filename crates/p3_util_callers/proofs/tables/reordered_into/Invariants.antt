@@ -1,6 +1,0 @@
-use Rattle.std.proofs.Common.{◌≡◌, ℕ, ◌<◌, slice_get}
-use Rattle.p3_util.specs.Digits.{rev}
-use Rattle.p3_util_callers.proofs.tables.reordered_into.Given as goal
-
-abbrev pub invariant-loop-i : goal.invariant-loop-i
-invariant-loop-i g l = (j : ℕ) → j < l.i → slice_get l.out j ≡ slice_get l.table (rev l.k j)
