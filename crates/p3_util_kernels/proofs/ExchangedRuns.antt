@@ -5,7 +5,7 @@ use Rattle.std.proofs.Math.ListN.{length-take}
 use Rattle.std.proofs.lemmas.Bool.{cases_lt}
 use Rattle.std.proofs.lemmas.List.Edits.{length-swap}
 use Rattle.p3_util_kernels.specs.Exchanged.{RunsExchanged}
-use Rattle.p3_util_kernels.proofs.Cuts.{slice_get-append_left, slice_get-append_right, slice_get-take, slice_get-drop}
+use Rattle.p3_util_kernels.proofs.ListParts.{slice_get-append_left, slice_get-append_right, slice_get-take, slice_get-drop}
 use Rattle.p3_util_kernels.proofs.Exchange.{slice_get-swap_first, slice_get-swap_second, slice_get-swap_other}
 
 -- edit 1

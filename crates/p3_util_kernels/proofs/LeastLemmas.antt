@@ -11,7 +11,7 @@ use Rattle.p3_util_kernels.specs.Transpose.{IsTranspose}
 use Rattle.p3_util_kernels.proofs.ReversalLemmas.{IsReversal-places}
 use Rattle.p3_util_kernels.specs.Least.{after_swaps, count_below, places_put, places_swapped, AllDiffer, AreOnceAmong, DifferWhere, SwapsChange, PutsChange, Palindromes, LeastReversal, LeastSquare, LeastPuts, PutsAtChanged, ReversalDiffers, SquareDiffers, SwapsAtChanged}
 use Rattle.p3_util_kernels.proofs.Counts.{count-all, count-not, count-off_diagonal, count-rows}
-use Rattle.p3_util_kernels.proofs.Written.{AreOnceAmong-weaker, Written, puts-places, puts-written, swaps-places, swaps-written, written-at, written-change}
+use Rattle.p3_util_kernels.proofs.WrittenPlaces.{AreOnceAmong-weaker, Written, puts-places, puts-written, swaps-places, swaps-written, written-at, written-change}
 use Rattle.p3_util_kernels.proofs.DigitsLemmas.{middle-below, rev-around, rev-lt, rev-rev-below}
 use Rattle.p3_util_kernels.proofs.Matrix.{each_place}
 use Rattle.p3_util_kernels.proofs.Pairs.{mul-pred, twice-pairs}

@@ -5,7 +5,7 @@ use Rattle.p3_util_kernels.specs.Least.{AllDiffer, count_below, places_swapped}
 use Rattle.p3_util_kernels.specs.Mirrored.{Mirrored}
 use Rattle.p3_util_kernels.specs.PartSteps.{SwapsStay}
 use Rattle.p3_util_kernels.proofs.Counts.{count-twice}
-use Rattle.p3_util_kernels.proofs.Written.{AreOnceAmong-weaker, Changed, swaps-places, swaps-written, written-at}
+use Rattle.p3_util_kernels.proofs.WrittenPlaces.{AreOnceAmong-weaker, Changed, swaps-places, swaps-written, written-at}
 
 -- The numbers below n that pass the test name pairs of places, an upper and a lower one, and no place is in two of them.
 module _ (n : ℕ) (test : ℕ → Bool) (upper lower : ℕ → ℕ)

@@ -7,7 +7,7 @@ use Rattle.p3_util_kernels.specs.PartSteps.{IsPlaceOfRegion, NoItemInCommon, NoP
 use Rattle.p3_util_kernels.specs.Region.{IsInRegion, IsRegionTransposed, LiesInMatrix, cols_of, items_of, rows_of}
 use Rattle.p3_util_kernels.proofs.Counts.{count-all}
 use Rattle.p3_util_kernels.proofs.Matrix.{row_and_column, same_number}
-use Rattle.p3_util_kernels.proofs.Written.{AreOnceAmong-weaker, puts-places, puts-written, written-at}
+use Rattle.p3_util_kernels.proofs.WrittenPlaces.{AreOnceAmong-weaker, puts-places, puts-written, written-at}
 
 module _ (region : Region) (width height : ℕ) (inside : LiesInMatrix region width height) where
   -- the column and the row of item i, column after column

@@ -1,5 +1,5 @@
 use Rattle.std.proofs.Common.{◌≡◌, ◌+◌, ◌∙◌, length, sym, arith}
-use Rattle.p3_util_kernels.proofs.Seam.{across}
+use Rattle.p3_util_kernels.proofs.JoinedLists.{across}
 use Rattle.p3_util_kernels.proofs.places.slices.swap_ordered.Goals as goal
 
 pub returns : goal.returns
