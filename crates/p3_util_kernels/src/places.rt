@@ -85,8 +85,7 @@ pub trait Places {
         ensures exchanged { RunsExchanged i j len (items self.old) (items self.new) }
         ensures holder { same_holder len self.old self.new }
     {
-        // `len` is called for its contract, which tells the proof that the length fits a usize.
-        let _ = self.len();
+        length_fits(self.len());
         for t in 0..len {
             self.exchange(i + t, j + t);
         }
@@ -104,8 +103,7 @@ pub trait Places {
         ensures exchanged { BlocksExchanged 16 i j stride (items self.old) (items self.new) }
         ensures holder { same_holder 16 self.old self.new }
     {
-        // `len` is called for its contract, which tells the proof that the length fits a usize.
-        let _ = self.len();
+        length_fits(self.len());
         for r in 0..4 {
             for c in 0..4 {
                 self.exchange_ordered(i + r * stride + c, j + c * stride + r);
@@ -159,8 +157,7 @@ pub trait Cells {
             → slice_get (items self.new) p ≡ slice_get (items self.old) p }
         ensures holder { same_holder 4 self.old self.new }
     {
-        // `len` is called for its contract, which tells the proof that the length fits a usize.
-        let _ = self.len();
+        length_fits(self.len());
         self.put(i, four.0);
         self.put(i + 1, four.1);
         self.put(i + 2, four.2);
@@ -207,11 +204,15 @@ pub trait Source {
         ensures { (t : ℕ) → t < 4 → slice_get (in_order result) t
             ≡ slice_get (items self.now) (i + t) }
     {
-        // `len` is called for its contract, which tells the proof that the length fits a usize.
-        let _ = self.len();
+        length_fits(self.len());
         Four(self.at(i), self.at(i + 1), self.at(i + 2), self.at(i + 3))
     }
 }
+
+/// Does nothing. A function that passes the length of a list tells its proof that this length fits a
+/// `usize`.
+#[inline(always)]
+fn length_fits(_len: usize) {}
 
 /// The columns of a block of 4 by 4 items that has these rows.
 #[inline(always)]

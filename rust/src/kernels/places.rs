@@ -103,8 +103,7 @@ pub trait Places {
     /// ```
     #[inline(always)]
     fn exchange_runs(&mut self, i: usize, j: usize, len: usize) {
-        // `len` is called for its contract, which tells the proof that the length fits a usize.
-        let _ = self.len();
+        length_fits(self.len());
         for t in 0..len {
             self.exchange(i + t, j + t);
         }
@@ -128,8 +127,7 @@ pub trait Places {
     /// ```
     #[inline(always)]
     fn exchange_blocks(&mut self, i: usize, j: usize, stride: usize) {
-        // `len` is called for its contract, which tells the proof that the length fits a usize.
-        let _ = self.len();
+        length_fits(self.len());
         for r in 0..4 {
             for c in 0..4 {
                 self.exchange_ordered(i + r * stride + c, j + c * stride + r);
@@ -194,8 +192,7 @@ pub trait Cells {
     /// ```
     #[inline(always)]
     fn put_four(&mut self, i: usize, four: &Four<Self::Item>) {
-        // `len` is called for its contract, which tells the proof that the length fits a usize.
-        let _ = self.len();
+        length_fits(self.len());
         self.put(i, four.0);
         self.put(i + 1, four.1);
         self.put(i + 2, four.2);
@@ -261,11 +258,15 @@ pub trait Source {
     /// ```
     #[inline(always)]
     fn four(&self, i: usize) -> Four<Self::Item> {
-        // `len` is called for its contract, which tells the proof that the length fits a usize.
-        let _ = self.len();
+        length_fits(self.len());
         Four(self.at(i), self.at(i + 1), self.at(i + 2), self.at(i + 3))
     }
 }
+
+/// Does nothing. A function that passes the length of a list tells its proof that this length fits a
+/// `usize`.
+#[inline(always)]
+fn length_fits(_len: usize) {}
 
 /// The columns of a block of 4 by 4 items that has these rows.
 #[inline(always)]

@@ -10,7 +10,7 @@ ghost use Rattle.std.proofs.Common.{rules};
 ghost use Rattle.p3_util_kernels.specs.Exchanged.{BlocksExchanged, RunsExchanged};
 ghost use Rattle.p3_util_kernels.specs.Steps.{counted};
 
-use crate::places::{Cells, Places};
+use crate::places::{Cells, Places, length_fits};
 
 /// A holder of places that counts its exchanges. The count stops at `u128::MAX`.
 #[derive(Debug, Drop)]
@@ -37,8 +37,7 @@ impl<S: Places> Swaps<S> {
         ensures count { result.count ≡ count }
         ensures len_fits { length (S.items holder) < 2 ^ 64 }
     {
-        // `len` is called for its contract, which tells the proof that the length fits a usize.
-        let _ = holder.len();
+        length_fits(holder.len());
         Swaps { holder, count }
     }
 
@@ -104,8 +103,7 @@ impl<C: Cells> Writes<C> {
         ensures count { result.count ≡ count }
         ensures len_fits { length (C.items holder) < 2 ^ 64 }
     {
-        // `len` is called for its contract, which tells the proof that the length fits a usize.
-        let _ = holder.len();
+        length_fits(holder.len());
         Writes { holder, count }
     }
 

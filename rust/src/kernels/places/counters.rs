@@ -5,7 +5,7 @@
 //! `_on` calls lend the holder inside to a kernel. A kernel is generic over its holder, so it
 //! cannot name the fields.
 
-use crate::kernels::places::{Cells, Places};
+use crate::kernels::places::{Cells, Places, length_fits};
 
 /// A holder of places that counts its exchanges. The count stops at `u128::MAX`.
 #[derive(Debug)]
@@ -33,8 +33,7 @@ impl<S: Places> Swaps<S> {
     /// A counter around `holder` that starts at `count`.
     #[inline(always)]
     pub(crate) fn resumed(holder: S, count: u128) -> Self {
-        // `len` is called for its contract, which tells the proof that the length fits a usize.
-        let _ = holder.len();
+        length_fits(holder.len());
         Swaps { holder, count }
     }
 
@@ -125,8 +124,7 @@ impl<C: Cells> Writes<C> {
     /// A counter around `holder` that starts at `count`.
     #[inline(always)]
     pub(crate) fn resumed(holder: C, count: u128) -> Self {
-        // `len` is called for its contract, which tells the proof that the length fits a usize.
-        let _ = holder.len();
+        length_fits(holder.len());
         Writes { holder, count }
     }
 
