@@ -83,6 +83,9 @@ nest_le r c = grind (arith, nat_tests)
 pub nest_small : (r c : ℕ) → max r c ≤ 128 → nest r c ≡ 0
 nest_small r c h = omega (arith, nest_le r c, clog-least r 7 (omega arith), clog-least c 7 (omega arith))
 
+-- the regions that are not split
+pub ruleset leaves = (nest_narrow, nest_small)
+
 -- at most 57 levels for a region whose sides and whose product fit a word
 pub lev_le : (r c : ℕ) → r < 2 ^ 64 → c < 2 ^ 64 → r * c < 2 ^ 64 → lev r c ≤ 57
 lev_le r c h k fits =

@@ -136,7 +136,7 @@ pub(crate) fn put_split<M: Cells, R: Source<Item = M::Item> + Copy>(
 }
 
 /// Whether `region` is put without a split.
-#[tactic(auto, using(crate::proofs::LevelsLemmas::nest_narrow, crate::proofs::LevelsLemmas::nest_small))]
+#[tactic(auto, using(crate::proofs::LevelsLemmas::leaves))]
 fn is_leaf(region: Region) -> bool
     requires rows_in_order { region.row_start ≤ region.row_end }
     requires cols_in_order { region.col_start ≤ region.col_end }
