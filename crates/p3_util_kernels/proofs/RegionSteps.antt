@@ -1,4 +1,5 @@
--- A region of a transpose names each of its places once, so as many writes as it has items are at these places.
+-- A region of a transpose names each of its places once. So if there are as many writes as it has
+-- items, the writes are at exactly these places.
 use Rattle.std.proofs.Common.{◌≡◌, ◌≢◌, ℕ, ◌+◌, ◌*◌, ◌/◌, ◌%◌, ◌<◌, true, List, length, slice_get, sym, ◌∙◌, arith}
 use Rattle.std.proofs.lemmas.Nat.{mul-add-lt, same_from_place}
 use Rattle.p3_util_kernels.specs.declared.transpose.regions.Region.{Region}
@@ -10,7 +11,7 @@ use Rattle.p3_util_kernels.proofs.Matrix.{row_and_column, same_number}
 use Rattle.p3_util_kernels.proofs.Written.{AreOnceAmong-weaker, puts-places, puts-written, written-at}
 
 module _ (region : Region) (width height : ℕ) (inside : LiesInMatrix region width height) where
-  -- the column and the row of item i, column after column
+  -- the column and the row of item i, if items are counted column by column
   abbrev column : ℕ → ℕ
   column i = region.col_start + i / rows_of region
 
