@@ -48,7 +48,7 @@ module _ (region : Region) (width height : ℕ) (inside : LiesInMatrix region wi
       AreOnceAmong-weaker (λ p. (i : ℕ) × (i < items_of region) × (true ≡ true) × (p ≡ place i)) (IsPlaceOfRegion region height) (places_put steps)
       (λ p (i, less, t, e). (column i, row i, in_region i less, e)) at
 
--- regions without a row or without a column in common
+-- regions that do not overlap have no place in common
 pub regions-apart : (first second : Region) (width height : ℕ) → LiesInMatrix first width height → LiesInMatrix second width height
     → ((x y : ℕ) → IsInRegion first x y → IsInRegion second x y → ⊥) → NoPlaceInCommon (IsPlaceOfRegion first height) (IsPlaceOfRegion second height)
 regions-apart first second width height in_first in_second none p (x, y, here, e) (u, v, there, f) =

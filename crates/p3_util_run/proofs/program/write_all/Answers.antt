@@ -1,3 +1,4 @@
+-- One more piece of the text is written.
 use Rattle.std.proofs.Common.{arith}
 use Rattle.std.proofs.lemmas.Bool.Decides.{nat_tests}
 use Rattle.p3_util_run.proofs.Pieces.{part_more}

@@ -1,3 +1,4 @@
+-- No usize can count the items of so many rows, by the lemma on one more row.
 use Rattle.std.proofs.Common.{arith, sym, ◌∙◌}
 use Rattle.p3_util.proofs.FlatLemmas.{countable-past}
 use Rattle.p3_util.proofs.views.places.countable.Goals as goal

@@ -1,3 +1,4 @@
+-- The loop moves one more row, and at its end the items are all rows, one after the other.
 use Rattle.std.proofs.Common.{◌≡◌, ◌*◌, ap, arith, length, rules, ◌∙◌}
 use Rattle.std.proofs.Math.Nat.{mul-mod_left}
 use Rattle.std.proofs.lemmas.List.{take_all}

@@ -1,3 +1,4 @@
+-- One more pair of lines is exchanged, and at the end all pairs of the region.
 use Rattle.std.proofs.Common.{◌≡◌, ◌+◌, ◌-◌, ◌*◌, ◌/◌, ◌^◌, ◌≤◌, arith}
 use Rattle.std.proofs.Math.Pow.{pow_mono}
 use Rattle.p3_util_kernels.specs.declared.transpose.regions.Region.{Region}

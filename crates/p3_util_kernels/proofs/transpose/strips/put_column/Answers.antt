@@ -1,3 +1,4 @@
+-- One more group of items adds to the column, and then the rest of it.
 use Rattle.std.proofs.Common.{◌≡◌, ◌+◌, ◌-◌, ◌*◌, ◌/◌, arith}
 use Rattle.p3_util_kernels.proofs.ColumnsLemmas.{HoldsColumn-some, IsColumnPut-more}
 use Rattle.p3_util_kernels.specs.declared.transpose.strips.TheConstants.{COLUMN_ITEMS}

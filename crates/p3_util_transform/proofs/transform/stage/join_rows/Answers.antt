@@ -1,3 +1,4 @@
+-- One more column of the two rows is joined.
 use Rattle.std.proofs.Common.{◌+◌, ◌*◌, ◌<◌, rules, arith}
 use Rattle.std.proofs.lemmas.Nat.{same_from_place}
 use Rattle.p3_util_transform.proofs.Rows.{JoinedBelow-more}

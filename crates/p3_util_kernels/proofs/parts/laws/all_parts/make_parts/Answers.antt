@@ -1,3 +1,4 @@
+-- One more part of the phase is made, and at the end all parts.
 use Rattle.std.proofs.Common.{◌≡◌, arith}
 use Rattle.p3_util_kernels.specs.AnyOrder.{turn_of}
 use Rattle.p3_util_kernels.specs.Plans.{parts_of}

@@ -1,3 +1,4 @@
+-- The regions of a plan, interleaved, put the transpose.
 use Rattle.p3_util_kernels.proofs.InterleavedParts.{regions-apart, regions-interleaved}
 use Rattle.p3_util_kernels.proofs.parts.laws.interleaved.regions_interleaved.Goals as goal
 

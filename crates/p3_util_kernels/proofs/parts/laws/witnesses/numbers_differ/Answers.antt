@@ -1,3 +1,4 @@
+-- Two places with the same number are the same place.
 use Rattle.std.proofs.Common.{get_or, arith, sym, ◌∙◌}
 use Rattle.std.proofs.lemmas.Option.{same_Some, slice_get-get_or}
 use Rattle.p3_util_kernels.proofs.parts.laws.witnesses.numbers_differ.Goals as goal
