@@ -78,7 +78,7 @@ count-add a (suc b) t =
     let e : a + suc b ≡ suc (a + b) = omega arith in
     rw e (omega (arith, count-add a b t, count-suc (a + b) t, count-suc b (λ i. t (a + i))))
 
--- only one number is equal to r, if r is below n, and otherwise none is
+-- how many numbers below n are r: one, or none if r is not below n
 pub count-one : (n r : ℕ) → count_below n (λ y. r == y) ≡ min 1 (n - r)
 count-one zero r = count-zero (λ y. r == y) ∙ omega arith
 count-one (suc n) r = count-suc n (λ y. r == y) ∙ grind (arith, nat_tests, count-one n r)

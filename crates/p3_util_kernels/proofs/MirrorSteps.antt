@@ -59,8 +59,8 @@ module _ (n : ℕ) (test : ℕ → Bool) (upper lower : ℕ → ℕ)
       AreOnceAmong-weaker (λ p. (k : ℕ) × (k < 2 * n) × IsTrue (test (k / 2)) × (p ≡ place k)) among (places_swapped steps)
       (λ p (k, less, t, e). rw e (each (λ k p. among p) (λ i hi ti. (known i hi ti).2) (λ i hi ti. (known i hi ti).3) k less t)) at
 
--- The same for items that are exchanged as `Mirrored` says: number i names the place of `m i`, `x
--- i` and `y i`, where `y i` is greater than `x i`.
+-- The same for items that are exchanged as `Mirrored` says. Number i stands for the place of `m i`,
+-- `x i` and `y i`, and `y i` is greater than `x i`.
 module _ {A M : Type 0} (place : M → ℕ → ℕ → ℕ) (S : M → ℕ → ℕ → Type 0) (Same : M → M → Type 0)
     (turned : (m : M) (x y : ℕ) → S m x y → S m y x)
     (parts : (k l : M) (x y v w : ℕ) → S k x y → S l v w → place k x y ≡ place l v w → Same k l × (x ≡ v) × (y ≡ w))

@@ -1,4 +1,4 @@
--- One more row is exchanged across the diagonal.
+-- Each turn of the loop exchanges one more row across the diagonal.
 use Rattle.std.proofs.Common.{◌+◌, ◌*◌, arith}
 use Rattle.p3_util_kernels.specs.declared.transpose.regions.Region.{Region}
 use Rattle.p3_util.proofs.Callers.{rows_across}

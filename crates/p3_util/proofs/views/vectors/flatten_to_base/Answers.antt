@@ -1,4 +1,5 @@
--- The loop moves one more row, and at its end the items are all rows, one after the other.
+-- Each turn of the loop moves one more row. After the loop the items are those of all rows, in
+-- order.
 use Rattle.std.proofs.Common.{◌≡◌, ◌*◌, ap, arith, length, rules, ◌∙◌}
 use Rattle.std.proofs.Math.Nat.{mul-mod_left}
 use Rattle.std.proofs.lemmas.List.{take_all}

@@ -1,4 +1,5 @@
--- One more group of items adds to the column, and then the rest of it.
+-- Each turn of the loop adds one more group of items to the column. After the loop the rest of the
+-- column is added.
 use Rattle.std.proofs.Common.{◌≡◌, ◌+◌, ◌-◌, ◌*◌, ◌/◌, arith}
 use Rattle.p3_util_kernels.proofs.ColumnsLemmas.{HoldsColumn-some, IsColumnPut-more}
 use Rattle.p3_util_kernels.specs.declared.transpose.strips.TheConstants.{COLUMN_ITEMS}

@@ -1,4 +1,4 @@
--- One more pair of rows is joined.
+-- Each turn of the loop joins one more pair of rows.
 use Rattle.p3_util_transform.proofs.Rows.{HalvesJoined-more}
 use Rattle.p3_util_transform.proofs.transform.stage.join_halves.Goals as goal
 
