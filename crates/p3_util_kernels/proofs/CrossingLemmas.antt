@@ -169,8 +169,8 @@ IsCrossed-lines digits row_width rows old new crossed =
       | inr several ↦ rw (lines_of-all digits several) at crossed
     ]
 
--- For a line of even number: the first line with the same middle digit, all lines with that middle
--- digit, and the number y of the line, after which there is room for the next line.
+-- For a line: the first line with its middle digit, all lines with that middle digit, and the
+-- number y of the line. If the line has an even number, there is room for the next line after y.
 pub line-first : (digits line side : ℕ) → side ≡ 2 ^ (digits / 2) → line / 2 ^ (digits / 2) * side % 2 ^ (digits / 2) ≡ 0
 line-first digits line side is =
     let half = digits / 2 in
