@@ -79,7 +79,7 @@ fn row_of<T: Copy>(block: [[T; 4]; 4], r: usize) -> [T; 4]
     block[r]
 }
 
-/// Writes four items to the cells from `to` on.
+/// Puts four items into the cells from `to` on.
 fn put_four<C: Cells>(cells: &mut C, to: usize, items: [C::Item; 4])
     requires room { to + 4 ≤ length (C.items cells.old) }
     ensures same_length { length (C.items cells.new) ≡ length (C.items cells.old) }

@@ -1,5 +1,5 @@
 -- Places are exchanged with their mirror images, each pair once. If there are as many exchanges as
--- pairs, the exchanges are at exactly these places.
+-- pairs, the exchanges are at these places.
 use Rattle.std.proofs.Common.{◌≡◌, ◌≢◌, ℕ, Bool, cond, ◌==◌, ◌+◌, ◌*◌, ◌/◌, ◌%◌, ◌<◌, IsTrue, List, length, slice_get, inl, inr, sym, subst, ◌∙◌, ap, arith}
 use Rattle.std.proofs.lemmas.Bool.{cases_eq}
 use Rattle.p3_util_kernels.specs.Least.{AllDiffer, count_below, places_swapped}

@@ -1,4 +1,4 @@
--- If all places change, the steps are at exactly these places.
+-- If as many places changed as the steps name, the steps are at exactly these places.
 use Rattle.p3_util_kernels.proofs.LeastLemmas.{puts-at_changed, swaps-at_changed}
 use Rattle.p3_util_kernels.proofs.parts.laws.changed_places.Goals as goal
 

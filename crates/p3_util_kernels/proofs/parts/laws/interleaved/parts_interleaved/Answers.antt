@@ -1,4 +1,4 @@
--- The parts of a phase, interleaved, make the phase.
+-- If all items differ, the interleaved exchanges of all parts make the phase.
 use Rattle.p3_util_kernels.proofs.InterleavedParts.{parts-interleaved}
 use Rattle.p3_util_kernels.proofs.parts.laws.interleaved.parts_interleaved.Goals as goal
 
