@@ -17,7 +17,7 @@ OUTSIDE = set("""
     p3_maybe_rayon relatively_prime_u64 transparent TransparentWrapper try_from_fn
     axioms holes incremental Invariants LEMMA libraries statements tidy
 """.split())
-# These pages mention names that are not here, or no longer here, so none of their names is looked up.
+# These pages mention names that the repository does not have, or no longer has, so their names are not looked up.
 ELSEWHERE = {"CHANGELOG.md", "docs/TRIED.md", "docs/DIFFERENCES.md"}
 TABLE_IS_ABOUT = r"rust/|crates/p3_util(_kernels|_c|_run)?/"
 TABLE_ROW = r"^\| (`[A-Z_`, ]+`) \| ([\d, ^+]+) \| `([^`]+)` \|.*$"

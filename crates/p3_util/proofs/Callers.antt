@@ -1,5 +1,6 @@
--- Lemmas for callers, under names that `#[tactic(auto, using(..))]` takes. There is one file for each module of callers, of which
--- this file passes the names on. A lemma that stands elsewhere gets its name below.
+-- Lemmas for callers, under the names that `#[tactic(auto, using(..))]` takes. Each module of
+-- callers has a file of lemmas, and this file re-exports their names. A lemma that is proved
+-- elsewhere gets its name below.
 mod BehindHeader
 mod Bits
 mod Chunks
@@ -34,17 +35,21 @@ pub use Rattle.p3_util.proofs.Callers.Transpose.{transposed_once, transposed_bac
 pub use Rattle.p3_util.proofs.Callers.TransposeFromParts.{region_of_column, rows_from_top, rows_across, twice_half, swaps_of_quadrants, last_quadrant_room, quadrants_within, square_of_quadrants}
 pub use Rattle.p3_util.proofs.Callers.Views.{flat_place, elements_reversed}
 pub use Rattle.p3_util.proofs.Callers.ZipEq.{zip_place, zip_firsts, zip_seconds, remainders_summed, reduced_summed}
--- The k low digits, reversed, are a number of k digits, of which the reverse is the number again, and a number in two parts, of
--- high digits and of low ones. A greater exponent has a greater power, and a sum of exponents the product of two. By the
--- logarithm of a power of two go numbers of swaps.
+-- The k low digits of a number, reversed, are a number of k digits. Reversing a number of k digits
+-- twice gives it back. The reverse of a number in two parts, high digits and low digits, follows
+-- from the reverses of the parts. A greater exponent has a greater power, and the power of a sum of
+-- exponents is the product of two powers. Numbers of swaps are stated with the logarithm of a power
+-- of two.
 pub use Rattle.p3_util_kernels.proofs.DigitsLemmas.{rev-lt as rev_below, rev-rev-below as rev_twice, rev-parts as rev_in_parts}
 pub use Rattle.std.proofs.Math.Pow.{pow_mono as power_up}
 pub use Rattle.std.proofs.lemmas.Nat.{pow-add as power_in_parts}
 pub use Rattle.p3_util_kernels.proofs.LevelsLemmas.{clog_power as log_of_power, clog-zero as log_of_zero}
--- items of a square exchanged across its diagonal, one more of a row; a place of the square lies before its last one
+-- items of a square exchanged across its diagonal, with one more item of a row; a list that has the
+-- last place of a square has every place of it
 pub use Rattle.p3_util_kernels.proofs.DiagonalLemmas.{SwapsAcross-item as item_across, square_place}
--- a list from its end
+-- a list that is counted from its end
 pub use Rattle.p3_util.proofs.ItemsAtLemmas.{slice_get-reverse as from_end_place, from_end-swap as from_end_swapped, from_end-set as from_end_written}
--- two lists, one behind the other, as one: an exchange in the first, in the second, and across both, and an item put into it
+-- two lists joined to one: an exchange in the first, in the second or across both, and an item put
+-- into one of them
 pub use Rattle.p3_util.proofs.TwoLists.{in-front as joined_front, in-back as joined_back, swap-sym as swap_turned, put-front as joined_put_front, put-back as joined_put_back}
 pub use Rattle.p3_util_kernels.proofs.JoinedLists.{across as joined_across}

@@ -1,4 +1,5 @@
--- The loop that fills one chunk: the items that came are in front, and the others are still the filler.
+-- The loop that fills one chunk: the items that came so far are at its front, and the rest of it is
+-- still the filler.
 use Rattle.std.proofs.Common.{◌≡◌, ℕ, ◌+◌, ◌-◌, ◌<◌, ◌≤◌, Bool, true, false, true≢false, List, ◌++◌, Option, Some, None, length, take, drop, set, refl, sym, ap, ◌∙◌, arith}
 use Rattle.std.proofs.lemmas.Grind.{take-set_at}
 use Rattle.std.proofs.lemmas.List.{length-take-le, length-set, drop-set-lt, drop-drop, drop-replicate, take-append-drop}
@@ -10,7 +11,8 @@ use Rattle.p3_util.specs.Pieces.{padded, piece_count}
 use Rattle.p3_util.specs.PaddedPieces.{TakesPiece, padded_source, padded_done, padded_can, padded_left}
 use Rattle.p3_util.proofs.PiecesLemmas.{eq_zero-false, piece_count-falls, piece_count-none, piece_count-some}
 
--- calls from s gave the first `len` items of a chunk of n, which led to t; the rest of the chunk is `fill`, and a finite count has fallen by `len` at least
+-- Calls from s gave the first `len` items of a chunk of n and led to t. The rest of the chunk is
+-- `fill`, and a finite count of items has fallen by at least `len`.
 pub record Fills {S A : Type 0} (can : S → Type 0) (steps : S → Option A → S → Type 0) (left : S → Count) (n : ℕ) (fill : A) (s : S) (chunk : List A) (len : ℕ) (t : S) : Type 0 where
   pub within : len ≤ n
   pub long : length chunk ≡ n
@@ -39,14 +41,15 @@ module _ {S A : Type 0} {can : S → Type 0} {steps : S → Option A → S → T
     is-padded : chunk ≡ padded n fill (take len chunk)
     is-padded = rw long-front (sym (take-append-drop len chunk) ∙ ap (λ l. take len chunk ++ l) h.filler)
 
-    -- a chunk that is filled to the end, and one that is not
+    -- a chunk that is completely filled, and one that is not
     pub Fills-full : 0 < len → n ≤ len → (xs : List A) × TakesPiece steps n s xs false t × (chunk ≡ padded n fill xs)
     Fills-full some full = (take len chunk, (omega (arith, long-front), (omega (arith, long-front, h.within), h.came)), is-padded)
 
     pub Fills-short : {u : S} → 0 < len → len < n → steps t None u → (xs : List A) × TakesPiece steps n s xs true u × (chunk ≡ padded n fill xs)
     Fills-short some short step = (take len chunk, (omega (arith, long-front), (omega (arith, long-front), (t, h.came, step))), is-padded)
 
--- a count of items that falls by n at least is a count of pieces that falls, and so is one of which nothing is left
+-- if the count of items falls by at least n, the count of pieces falls, and so it does if no item
+-- is left after the last piece
 full-falls : (none a b : Bool) (n : ℕ) (c d : Count) → none ≡ false → a ≡ false → b ≡ false → 0 < n → (IsFinite c → IsFinite d × (size d + n ≤ size c))
     → IsFinite (count_unless none (count_map (piece_count n) (count_unless a c)))
     → IsFinite (count_unless none (count_map (piece_count n) (count_unless b d)))

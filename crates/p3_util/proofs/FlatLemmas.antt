@@ -1,4 +1,4 @@
--- What a write or an exchange in the rows does to the list of their items.
+-- What a write or an exchange in the rows does to the list of all their items.
 use Rattle.std.proofs.Common.{ℕ, zero, suc, ◌≡◌, ◌+◌, ◌-◌, ◌*◌, ◌<◌, ◌≤◌, ◌≢◌, List, [], ◌∷◌, ◌++◌, length, get_or, set, take, drop, refl, sym, ap, ◌∙◌, arith, length-append, get_or-set_other, get_or-set_same, zero-add, add_assoc, ◌^◌, ◌/◌, ◌%◌, inl, inr, max, subst, Some, slice_get, nat_lt, cond, true, false}
 use Rattle.std.proofs.Math.Nat.{div-lt_iff_lt-mul, mul-le-mul_right}
 use Rattle.std.specs.List.{swap}
@@ -12,7 +12,7 @@ use Rattle.p3_util.specs.Flat.{IsFlat, countable_items, flat}
 use Rattle.p3_util.proofs.TwoLists.{swap-sym}
 use Rattle.p3_util_kernels.proofs.JoinedLists.{set-behind}
 
--- two places in order, whose rows are not, lie in one row
+-- if place i is before place j and its row is not before that of j, both are in one row
 pub one_row : (r c s d n i j : ℕ) → d < n → i ≡ r * n + c → j ≡ s * n + d → i < j → s ≤ r → r ≡ s
 one_row r c s d n i j within at at' order le =
     elim (cases_lt s r) [
@@ -20,7 +20,7 @@ one_row r c s d n i j within at at' order le =
       | inr after ↦ omega arith
     ]
 
--- the row of item i is one of those that have it
+-- the row of an item is one of the rows that there are
 pub row_within : (i n count total : ℕ) → i < total → (0 < total → total ≡ count * n) → i / n < count
 row_within i zero count total lt whole = absurd (omega (arith, whole (omega arith)))
 row_within i (suc k) count total lt whole = (div-lt_iff_lt-mul {k = suc k} {x = i} {y = count} (omega arith)).1 (omega (arith, whole (omega arith)))
@@ -42,7 +42,7 @@ module _ {A : Type 0} where
       let at : start (x ∷ xs) (suc r) + c ≡ length x + (start xs r + c) = rw (length-append x (flat (take r xs))) (add_assoc _ _ _) in
       rw at (ap (λ l. x ++ l) (flat-set xs r c w (omega arith) inside) ∙ sym (set-behind x (flat xs) (length x) (start xs r + c) w refl))
 
-  -- a row gives way to one of the same length: no row begins elsewhere
+  -- if a row is replaced by one of the same length, no row begins at another place
   start-set : (rows : List (List A)) (r k : ℕ) (y : List A) → length y ≡ length (get_or rows r []) → start (set rows r y) k ≡ start rows k
   start-set [] r k y same = refl
   start-set (x ∷ xs) r zero y same = refl
@@ -56,7 +56,7 @@ module _ {A : Type 0} where
   row-len (x ∷ xs) (suc r) zero y same = refl
   row-len (x ∷ xs) (suc r) (suc s) y same = row-len xs r s y same
 
-  -- an item of a row, among the items of all rows
+  -- an item of a row, found among the items of all rows
   get_or-flat : (rows : List (List A)) (r c : ℕ) (d : A) → r < length rows → c < length (get_or rows r [])
       → get_or (flat rows) (start rows r + c) d ≡ get_or (get_or rows r []) c d
   get_or-flat rows r c d lt inside = get_or-flat_map (λ row. row) rows r c [] d lt inside
@@ -67,7 +67,7 @@ module _ {A : Type 0} where
   start-below (x ∷ xs) (suc r) c lt inside =
       rw (length-append x (flat xs), length-append x (flat (take r xs))) (omega (arith, start-below xs r c (omega arith) inside))
 
-  -- an item of row r is written, and then one of row s, so that the two are exchanged
+  -- an item of row r is written and then one of row s, so that the two are exchanged
   flat-two : (rows : List (List A)) (r c s d : ℕ) (v w any : A) → r < length rows → c < length (get_or rows r []) → s < length rows → d < length (get_or rows s [])
       → v ≡ get_or (get_or rows s []) d any → w ≡ get_or (get_or rows r []) c any
       → let rows' = set rows r (set (get_or rows r []) c v) in
@@ -88,7 +88,7 @@ module _ {A : Type 0} where
       let swapped : set (set all i (get_or all j any)) j (get_or all i any) ≡ swap all i j = swap_is all i j any (start-below rows r c lr ic) (start-below rows s d ls id) in
       second ∙ rw (start-set rows r s (set row c v) same-len, first, v-is, w-is) swapped
 
-  -- what is at a place of a list
+  -- the item at a place of a list
   item : (xs : List A) (i : ℕ) → i < length xs → A
   item [] i lt = absurd (omega arith)
   item (x ∷ xs) i lt = x
@@ -106,7 +106,7 @@ module _ {A : Type 0} where
       let once : set (set rows r (set row c v)) r (set (set row c v) d w) ≡ set rows r (swap row c d) = set-set rows r (set row c v) (set (set row c v) d w) ∙ ap (λ y. set rows r y) both in
       ap flat (sym once) ∙ ap (λ y. flat (set (set rows r (set row c v)) r (set y d w))) (sym there) ∙ flat-two rows r c r d v w any lr ic lr id refl refl
 
-  -- rows are cut at row s, and row r in front of it and row s itself are written
+  -- the rows are cut at row s; row r, which is before the cut, and row s are written
   parts : (rows front back : List (List A)) (r s : ℕ) (a b : List A) → front ≡ take s rows → back ≡ drop s rows → r < s
       → set front r a ++ set back 0 b ≡ set (set rows r a) s b
   parts rows front back r s a b is-front is-back lt =
@@ -118,7 +118,7 @@ module _ {A : Type 0} where
       ap (λ k. drop s (set (set rows r a) k b)) (sym zero-more) ∙ at ∙ ap (λ l. set l 0 b) (drop-set-lt s rows r a lt ∙ sym is-back) in
       rw (front-new, back-new) at (take-append-drop s new)
 
-  -- an item of row r and one of a later row s are exchanged, where the rows are cut at row s
+  -- an item of row r is exchanged with one of a later row s, where the rows are cut at row s
   pub flat-exchange : (rows front back : List (List A)) (r c s d : ℕ) (a b : List A) → front ≡ take s rows → back ≡ drop s rows → r < s → s < length rows
       → let x = get_or front r [] in let y = get_or back 0 [] in
       c < length x → d < length y → ((any : A) → a ≡ set x c (get_or y d any)) → ((any : A) → b ≡ set y d (get_or x c any))
@@ -142,7 +142,7 @@ module _ {A : Type 0} where
       ap flat (parts rows front back r s a b is-front is-back lt) ∙ ap (λ l. flat (set (set rows r l) s b)) a-is ∙ ap (λ l. flat (set rows' s l)) b-is ∙
       flat-two rows r c s d v w any lr ic' ls id' (ap (λ l. get_or l d any) y-is) (ap (λ l. get_or l c any) x-is)
 
-  -- the same exchange, where the first place is the later one
+  -- the same exchange if the first place is the later one
   pub later-first : (rows : List (List A)) (new : List A) (r c s d n i j : ℕ) → start rows r ≡ r * n → start rows s ≡ s * n
       → i ≡ r * n + c → j ≡ s * n + d → new ≡ swap (flat rows) (start rows s + d) (start rows r + c) → new ≡ swap (flat rows) i j
   later-first rows new r c s d n i j begins-r begins-s at-i at-j is =
@@ -150,7 +150,7 @@ module _ {A : Type 0} where
       let j-is : start rows s + d ≡ j = omega arith in
       is ∙ ap (λ k. swap (flat rows) k (start rows r + c)) j-is ∙ ap (λ k. swap (flat rows) j k) i-is ∙ swap-sym (flat rows) j i
 
-  -- a write to a row and an exchange within it, where row r begins at place r * n
+  -- a write to a row and an exchange within it, if row r begins at place r * n
   pub put-at : (rows : List (List A)) (r c n i : ℕ) (y : List A) (v : A) → r < length rows → c < n → length (get_or rows r []) ≡ n → start rows r ≡ r * n
       → i ≡ r * n + c → y ≡ set (get_or rows r []) c v → flat (set rows r y) ≡ set (flat rows) i v
   put-at rows r c n i y v lr lc len begins at is =
@@ -168,11 +168,11 @@ module _ {A : Type 0} where
       let place' : start rows r + d ≡ j = omega arith in
       ap (λ l. flat (set rows r l)) is ∙ flat-swap rows r c d lr ic id ∙ ap (λ k. swap (flat rows) k (start rows r + d)) place ∙ ap (λ k. swap (flat rows) i k) place'
 
-  -- a usize cannot count the items
+  -- if no usize can count the items, `countable_items` is empty
   pub countable-none : (rows : List (List A)) → 2 ^ 64 ≤ length (flat rows) → countable_items rows ≡ []
   countable-none rows many = rw (le-ltb (length (flat rows)) (2 ^ 64) many) refl
 
-  -- it cannot, since behind as many rows of n items as it can count there is one more
+  -- no usize can count the items if one more row follows as many rows of n items as it can count
   pub countable-past : (rows : List (List A)) (n m : ℕ) (row all : List A) → m ≡ max n 1 → (2 ^ 64 - 1) / m < length rows → length rows < 2 ^ 64 → row ≡ get_or rows ((2 ^ 64 - 1) / m) row → length row ≡ n
       → all ≡ flat (take ((2 ^ 64 - 1) / m) rows) → length all ≡ (2 ^ 64 - 1) / m * n → countable_items rows ≡ []
   countable-past rows zero m row all at-least lt few is len before begins = let one : m ≡ 1 = omega arith in absurd (omega (arith, rw one at lt))
@@ -187,7 +187,7 @@ module _ {A : Type 0} where
       let whole : n * most + (2 ^ 64 - 1) % n ≡ 2 ^ 64 - 1 = rw same (omega arith) in
       countable-none rows (omega arith)
 
-  -- an item is written
+  -- writing an item leaves the number of items as it was
   pub flat-set-len : (new old : List (List A)) (i : ℕ) (v : A) → flat new ≡ set (flat old) i v → length (flat old) ≡ length (flat new)
   flat-set-len new old i v is = sym (ap length is ∙ length-set (flat old) i v)
 
@@ -195,12 +195,12 @@ module _ {A : Type 0} where
   countable-set new old i v is =
       rw (sym (flat-set-len new old i v is)) (elim (nat_lt (length (flat old)) (2 ^ 64)) as (λ b. cond b (flat new) [] ≡ set (cond b (flat old) []) i v) [ true ↦ is | false ↦ refl ])
 
-  -- where there is an item, a usize counts them
+  -- if `countable_items` has an item, it has all items
   pub countable-some : (rows : List (List A)) (i : ℕ) → i < length (countable_items rows) → countable_items rows ≡ flat rows
   countable-some rows i lt =
       elim (nat_lt (length (flat rows)) (2 ^ 64)) as (λ b. i < length (cond b (flat rows) []) → cond b (flat rows) [] ≡ flat rows) [ true ↦ λ h. refl | false ↦ λ h. absurd (omega arith) ] lt
 
-  -- item c of row r, where it is item i of all
+  -- item c of row r, which is item i of all items
   item-of-row : (rows : List (List A)) (r c i : ℕ) → r < length rows → c < length (get_or rows r []) → start rows r + c ≡ i → slice_get (flat rows) i ≡ slice_get (get_or rows r []) c
   item-of-row rows r c i lr inside place =
       let row = get_or rows r [] in
@@ -209,13 +209,13 @@ module _ {A : Type 0} where
       let below : i < length (flat rows) = subst (λ (k : ℕ). k < length (flat rows)) place (start-below rows r c lr inside) in
       rw (slice_get-get_or (flat rows) i any below) (rw same (sym (slice_get-get_or row c any inside)))
 
-  -- an item is read, where row r begins at place r * n
+  -- an item is read, if row r begins at place r * n
   pub get-at : (rows : List (List A)) (r c n i : ℕ) (x : A) → r < length rows → c < n → length (get_or rows r []) ≡ n → start rows r ≡ r * n → i ≡ r * n + c
       → x ≡ get_or (get_or rows r []) c x → i < length (countable_items rows) → slice_get (countable_items rows) i ≡ Some x
   get-at rows r c n i x lr lc len begins at read inside =
       rw (countable-some rows i inside) (item-of-row rows r c i lr (omega arith) (omega arith) ∙ slice_get_read (get_or rows r []) n c x (sym len) lc read)
 
-  -- rows of n items, place by place
+  -- if each row has n items, row r begins at place r * n
   starts : (n : ℕ) (rows : List (List A)) → ((k : ℕ) → k < length rows → length (get_or rows k []) ≡ n) → (r : ℕ) → r ≤ length rows → start rows r ≡ r * n
   starts n [] width r le = let none : r ≡ 0 = omega arith in rw none (omega arith)
   starts n (x ∷ xs) width zero le = omega arith

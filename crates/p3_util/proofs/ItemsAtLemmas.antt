@@ -1,4 +1,5 @@
--- An exchange of two items of a list, or a write of one, as those who see only some of its items see it.
+-- An exchange of two items of a list, or a write of one, as it is seen in a list of only some of
+-- the items.
 use Rattle.std.proofs.Common.{ℕ, zero, suc, ◌≡◌, ◌-◌, ◌<◌, List, [], ◌∷◌, length, take, drop, set, slice_get, reverse, inl, inr, refl, sym, ap, ◌∙◌, arith, length-append, length-drop, length-set}
 use Rattle.std.specs.List.{swap}
 use Rattle.std.proofs.lemmas.Bool.{cases_lt}
@@ -67,7 +68,7 @@ module _ {A : Type 0} (place : ℕ → ℕ) where
         let below : k < n = rw many at h in
         slice_get-items_at n after still k below ∙ grind (arith, slice_get-items_at n xs inside, slice_get-set_same, slice_get-set_other, apart k, inside))
 
--- The items from the end on.
+-- The items in the order from the end to the front.
 module _ {A : Type 0} where
   pub slice_get-reverse : (xs : List A) (k : ℕ) → k < length xs → slice_get (reverse xs) k ≡ slice_get xs (length xs - 1 - k)
   slice_get-reverse [] k h = absurd (omega arith)

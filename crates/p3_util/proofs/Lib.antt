@@ -1,3 +1,4 @@
+-- The modules of lemmas of this crate.
 pub mod Callers
 pub mod FilledChunk
 pub mod FlatLemmas

@@ -1,5 +1,5 @@
--- What the proofs by hand of the loans share: their types, a fact put beside what is owned, and a loan that may be there
--- after one that is.
+-- What the hand-written proofs about loans share: their types, a fact added to what is owned, and a
+-- loan that may exist, taken from a loan that does exist.
 use Rattle.std.proofs.Common.{ℕ, [], ◌∷◌, refl, Option, Some, None}
 use Rattle.std.specs.Option.{OnSome}
 use seplogic.Ra.Ura.{Ura}
@@ -28,7 +28,7 @@ module _ (X : RattleType) (n : ℕ) where
   abbrev pub Row : RattleType
   Row = ArrayAt Item (param 1 (number n))
 
-  -- and as it passes them on
+  -- and an item as such a function passes it on
   abbrev pub ItemArg : RattleType
   ItemArg = arg (layout X) yes Item
 
@@ -41,11 +41,11 @@ module _ (X : RattleType) (n : ℕ) where
   abbrev pub row_laws : Laws X → Laws RowArg
   row_laws L = arg_laws (ty_array (layout X) n) no Row (number_array_laws Item (param_laws 0 X L) (param 1 (number n)) refl) refl
 
--- a fact is had for nothing
+-- a proved fact holds without anything being owned
 pub known : {M : Type 1} (𝓤 : Ura M) {φ : Type 0} → φ → ent 𝓤 (emp 𝓤) (fact 𝓤 φ)
 known 𝓤 {φ} p = guard_i 𝓤 φ (emp 𝓤) p
 
--- a fact of the item that may be there, from another
+-- a fact about an item that may exist follows from another fact about it
 pub on_some : {A : Type 0} (x : Option A) {P Q : Type 0} → (P → Q) → OnSome x P → OnSome x Q
 on_some None f p = tt
 on_some (Some a) f p = f p

@@ -1,4 +1,4 @@
--- The place that a search by `position` finds, against the look-up and the write by key.
+-- The place that `position` finds, compared with the look-up and the write by key.
 use Rattle.std.proofs.Common.{◌≡◌, ℕ, zero, suc, ◌+◌, ◌<◌, ◌≤◌, Bool, true, false, not, cond, List, [], ◌∷◌, ◌++◌, Some, None, length, get_or, slice_set, refl, sym, ap, ◌∙◌, arith, is_some, position}
 use Rattle.std.specs.List.{IsDistinct, position_or_len}
 use Rattle.std.specs.Map.{lookup, set_value, keys_of}
@@ -16,7 +16,7 @@ use Rattle.std.proofs.lemmas.Bool.{ltb-false}
 use Rattle.p3_util.specs.LinearMap.{value_at, with_value, put, HasDistinctKeys}
 
 module _ {K V : Type 0} (test : K → Bool) where
-  -- the pair at the first place that passes has the value that a look-up finds
+  -- the pair at the first place that passes has the value that the look-up finds
   lookup_first : (es : List (K × V)) (i : ℕ) (e : K × V) → i < length es → e ≡ get_or es i e → test e.0 ≡ true → ((k : ℕ) → k < i → test (get_or es k e).0 ≡ false) → lookup test es ≡ Some e.1
   lookup_first [] i e within at passes before = absurd (omega arith)
   lookup_first (x ∷ xs) zero e within at passes before = rw (← at) (rw passes refl)
@@ -30,21 +30,22 @@ module _ {K V : Type 0} (test : K → Bool) where
   set_first (x ∷ xs) (suc i) e w within at passes before =
       rw (before 0 (omega arith)) (ap (λ t. x ∷ t) (set_first xs i e w (omega arith) at passes (λ k h. before (suc k) (omega arith))))
 
-  -- no place passes, so a look-up finds nothing
+  -- if no place passes, a look-up finds nothing
   lookup_past_all : (es : List (K × V)) → length es ≤ position_or_len (λ e. test e.0) es → lookup test es ≡ None
   lookup_past_all [] h = refl
   lookup_past_all (x ∷ xs) h = elim (test x.0) as (λ b. length (x ∷ xs) ≤ cond (not b) (1 + position_or_len (λ (e : K × V). test e.0) xs) 0 → cond b (Some x.1) (lookup test xs) ≡ None) [ true ↦ λ g. absurd (omega arith) | false ↦ λ g. lookup_past_all xs (omega arith) ] h
 
--- a loan ends the same where each write ends the same
+-- two loans are equal if each write through them ends in the same result
 pub same_loan : {N W M C : Type 0} {n : N} {f g : W → M} → ((w : W) → f w ≡ g w) → ◌≡◌ {A = (N × (W → M)) ⊎ C} (inl (n, f)) (inl (n, g))
 same_loan {n = n} same = ap (λ h. inl (n, h)) (fun_ext same)
 
--- a pair that was added last, and is then written
+-- a pair that was added last and then written
 set_last : {X : Type 0} (xs : List X) (x y : X) → slice_set (xs ++ x ∷ []) (length xs) y ≡ xs ++ y ∷ []
 set_last [] x y = refl
 set_last (z ∷ xs) x y = ap (λ t. z ∷ t) (set_last xs x y)
 
--- es' is es, after which (k, v) was pushed to make `added`, and the pair at n, its last place, is lent
+-- es' is es, and `added` is es' after (k, v) was pushed. The pair at n, the last place of `added`,
+-- is lent.
 module _ {K V : Type 0} (es es' added : List (K × V)) (k : K) (v : V) (n : ℕ) (pair : K × V) (kept : es' ≡ es) (pushed : added ≡ es' ++ (k, v) ∷ []) (place : n ≡ length es) (at : pair ≡ get_or added n pair) where
   pub pair_pushed : pair ≡ (k, v)
   pair_pushed = at ∙ rw (pushed, kept) (get_or_push es (k, v) pair n (sym place))
@@ -56,7 +57,7 @@ pub distinct_none : {K : Type 0} (V : Type 0) (eq : K → K → Bool) → HasDis
 unfolding IsDistinct
 distinct_none V eq = tt
 
--- `position` answers nothing only past the end
+-- `position` returns `None` only if no item passes
 none_passes : {X : Type 0} (p : X → Bool) (xs : List X) → position p xs ≡ None → length xs ≤ position_or_len p xs
 none_passes p xs h = elim (nat_lt (position_or_len p xs) (length xs)) as (λ b. nat_lt (position_or_len p xs) (length xs) ≡ b → cond b (Some (position_or_len p xs)) None ≡ None → length xs ≤ position_or_len p xs) [ true ↦ λ e n. cc | false ↦ λ e n. ltb-false _ _ e ] refl h
 
@@ -79,7 +80,7 @@ module _ {K V : Type 0} (eq : K → K → Bool) (es : List (K × V)) (k : K) whe
     pub keys_set_at_place : (w : V) → keys_of (slice_set es i (e.0, w)) ≡ keys_of es
     keys_set_at_place w = rw (set_at_place w) (keys-set_value (eq k) es w)
 
-    -- the keys stay, so they stay apart
+    -- the keys stay the same, so they are still all different
     pub distinct_set_at_place : (w : V) → HasDistinctKeys eq es → HasDistinctKeys eq (slice_set es i (e.0, w))
     distinct_set_at_place w distinct = rw (keys_set_at_place w) distinct
 
@@ -87,12 +88,13 @@ module _ {K V : Type 0} (eq : K → K → Bool) (es : List (K × V)) (k : K) whe
     pub put_new : put eq es k v ≡ es ++ (k, v) ∷ []
     put_new = rw (← absent) refl
 
-    -- a new key is apart from all
+    -- a new key differs from all keys that were there
     pub distinct_new : IsEquivalence eq → HasDistinctKeys eq es → HasDistinctKeys eq (es ++ (k, v) ∷ [])
     distinct_new laws distinct =
         rw (map-append (λ (x : K × V). x.0) es ((k, v) ∷ [])) (IsDistinct-push laws (keys_of es) k distinct (sym (is_some-lookup (eq k) es) ∙ ap is_some (sym absent)))
 
--- a pair that was added last is found where its key passes and no other does, and else changes no look-up
+-- A pair that was added last is found if its key passes and no other key does. If its key does not
+-- pass, the look-up finds what it found before.
 lookup_push : {K V : Type 0} (test : K → Bool) (es : List (K × V)) (k : K) (v : V) → (test k ≡ true → lookup test es ≡ None)
     → lookup test (es ++ (k, v) ∷ []) ≡ cond (test k) (Some v) (lookup test es)
 lookup_push test [] k v absent = refl
@@ -114,6 +116,7 @@ module _ {K V : Type 0} {eq : K → K → Bool} (laws : IsEquivalence eq) where
             rw (laws.symm q k) at (lookup_push (eq q) es k v same)
       ] refl
 
--- an iterator that gives the first of a list at each step gives the list in order
+-- an iterator that returns the first item of the remaining list at each step returns the list in
+-- order
 pub run_in_order : {A X : Type 0} (shows : A → X) → ShowsInOrder shows
 run_in_order shows = from_front (TakesFirst shows) shows (λ left. left) (λ _ _ ended. ap length ended.0) (λ _ _ _ gave. gave)

@@ -1,4 +1,5 @@
--- Items are moved out of a list one after another: those before place k are gone, those from place k on are as they were.
+-- Items are moved out of a list one after another: those before place k are gone, and those from
+-- place k on are as they were.
 use Rattle.std.proofs.Common.{ℕ, ◌≡◌, ◌+◌, ◌*◌, ◌<◌, List, [], ◌∷◌, ◌++◌, length, get_or, set, take, drop, sym, ap, ◌∙◌, arith, append_assoc}
 use Rattle.std.proofs.lemmas.List.{drop-drop, drop-set-lt, flat_map_more, get_or-drop, take_more}
 use Rattle.p3_util.specs.Flat.{flat}
@@ -6,13 +7,13 @@ use Rattle.p3_util.specs.Pieces.{pieces}
 use Rattle.p3_util.proofs.PiecesLemmas.{pieces-more}
 
 module _ {A : Type 0} where
-  -- the item at place k is the first one's
+  -- the item at place k is still the one of the original list
   same_item : (l old : List A) (k : ℕ) (d : A) → drop k l ≡ drop k old → get_or l k d ≡ get_or old k d
   same_item l old k d same =
       let at : k + 0 ≡ k = omega arith in
       ap (λ i. get_or l i d) (sym at) ∙ sym (get_or-drop k l 0 d) ∙ ap (λ t. get_or t 0 d) same ∙ get_or-drop k old 0 d ∙ ap (λ i. get_or old i d) at
 
-  -- once more has been moved
+  -- one more item has been moved
   pub left-more : (l old : List A) (k : ℕ) (y : A) → drop k l ≡ drop k old → drop (k + 1) (set l k y) ≡ drop (k + 1) old
   left-more l old k y same = drop-set-lt (k + 1) l k y (omega arith) ∙ sym (drop-drop 1 k l) ∙ ap (λ t. drop 1 t) same ∙ drop-drop 1 k old
 
@@ -30,7 +31,7 @@ moved-more-rows done l old k same within is =
     ap (λ t. t ++ get_or l k []) is ∙ ap (λ y. flat (take k old) ++ y) here ∙ flat_map_more (λ row. row) [] (take k old) (get_or old k []) ∙
     ap flat (sym (take_more old k [] within))
 
--- one row more has been moved, where the items moved so far are cut into rows of n again
+-- one more row has been moved, and the items moved so far are cut into rows of n again
 pub cut-more : {A : Type 0} (n k : ℕ) (done : List A) (l old : List (List A)) → drop k l ≡ drop k old → k < length old → pieces n done ≡ take k old
     → length done ≡ k * n → length (get_or l k []) ≡ n → 0 < n → pieces n (done ++ get_or l k []) ≡ take (k + 1) old
 cut-more n k done l old same within is len width some =
@@ -38,7 +39,7 @@ cut-more n k done l old same within is len width some =
     let here : row ≡ get_or old k [] = same_item l old k [] same in
     pieces-more n k done row len (omega arith) (omega arith) ∙ ap (λ t. t ++ row ∷ []) is ∙ ap (λ y. take k old ++ y ∷ []) here ∙ sym (take_more old k [] within)
 
--- one row more, where the rows are the pieces of their items
+-- one more row is added to rows that are the pieces of their items
 pub cut-push : {A : Type 0} (n : ℕ) (rows : List (List A)) (row : List A) → pieces n (flat rows) ≡ rows → length (flat rows) ≡ length rows * n → length row ≡ n → 0 < n
     → pieces n (flat (rows ++ row ∷ [])) ≡ rows ++ row ∷ []
 cut-push n rows row is len width some =

@@ -1,4 +1,4 @@
--- Where memory is never wanted, one value has one answer.
+-- If `wants_memory` is false, a value has only one answer.
 use Rattle.std.proofs.Common.{◌≡◌, ℕ, ◌<◌, List, take, Bool, IsTrue, Option, Some, None, Ok, Err, Result, refl, sym, ap, subst, ◌∙◌, arith, inl, inr, MatchOption}
 use Rattle.std.specs.Prelude.{slice_get, option_map}
 use Rattle.std.proofs.lemmas.Bool.{cases_lt}
@@ -13,14 +13,14 @@ use Rattle.p3_util.proofs.JsonLists.{same_elements, read_at}
 use Rattle.p3_util_kernels.proofs.ListParts.{slice_get-take}
 
 module _ {T : Type 0} (reading : Data → Result T Refusal) (wants_memory : Bool) (never : IsTrue wants_memory → ⊥) where
-  -- an item that is read has no cause to be refused
+  -- an item that is read gives no cause for a refusal
   no_cause : (r : Result T Refusal) (x : T) (e : ElementError) → r ≡ Ok x → IsCause wants_memory r e → ⊥
   no_cause r x Kind is_read h = cc
   no_cause r x Range is_read h = cc
   no_cause r x Float is_read h = cc
   no_cause r x Memory is_read h = never h
 
-  -- one reading has one cause
+  -- one reading gives at most one cause for a refusal
   one_cause : (r : Result T Refusal) (e f : ElementError) → IsCause wants_memory r e → IsCause wants_memory r f → e ≡ f
   one_cause r Kind Kind h k = refl
   one_cause r Range Range h k = refl
@@ -36,14 +36,14 @@ module _ {T : Type 0} (reading : Data → Result T Refusal) (wants_memory : Bool
   one_cause r Range Memory h k = absurd (never k)
   one_cause r Float Memory h k = absurd (never k)
 
-  -- no item is refused among the first m, where these are read
+  -- if the first m items are read, none of them is refused
   not_before : (ds : List Data) (xs : List T) (m i : ℕ) (d : Data) (e : ElementError) → AreReadAs reading (take m ds) xs → i < m → slice_get ds i ≡ Some d → IsCause wants_memory (reading d) e → ⊥
   not_before ds xs m i d e all below here h =
       let read = read_at reading (take m ds) xs i d all (slice_get-take m ds i below ∙ here) in
       no_cause (reading d) read.0 e read.1 h
 
   module _ (n : ℕ) where
-    -- two refusals are of the same item, since all items before each are read
+    -- two refusals are of the same item, since all items before a refused one are read
     one_refusal : (ds : List Data) (i j : ℕ) (e f : ElementError) → IsListAnswer reading wants_memory n ds (Err (Element i e)) → IsListAnswer reading wants_memory n ds (Err (Element j f)) → ◌≡◌ {A = Result (List T) ArrayError} (Err (Element i e)) (Err (Element j f))
     one_refusal ds i j e f h k =
         elim (cases_lt i j) [
@@ -84,6 +84,6 @@ module _ {T : Type 0} (reading : Data → Result T Refusal) (wants_memory : Bool
     one_match None r s h k = h ∙ sym k
     one_match (Some ds) r s h k = one_list_answer ds r s h k
 
--- one answer is the only one
+-- a value has only one answer
 pub only_answer : {T : Type 0} (reading : Data → Result T Refusal) (wants_memory : Bool) (n : ℕ) (d : Data) (r : Result (List T) ArrayError) → IsArrayAnswer reading wants_memory n d r → ¬ IsTrue wants_memory → (s : Result (List T) ArrayError) → IsArrayAnswer reading wants_memory n d s → s ≡ r
 only_answer reading wants_memory n d r h never s k = one_match reading wants_memory never n (option_map listed (as_array d)) s r k h

@@ -1,4 +1,4 @@
--- What the runs of an iterator over padded pieces give, from what each of its steps gives.
+-- What a run of an iterator over padded pieces gives, derived from what each of its steps gives.
 use Rattle.std.proofs.Common.{◌≡◌, ℕ, zero, suc, ◌+◌, ◌-◌, ◌*◌, ◌<◌, ◌≤◌, ◌⊎◌, inl, inr, Bool, true, false, true≢false, List, [], ◌∷◌, ◌++◌, map, Option, Some, None, length, refl, sym, ap, subst, ◌∙◌, arith, length-append, append_assoc, append-nil}
 use Rattle.std.specs.Prelude.{replicate, MatchBool, ◌==◌, if◌then◌else◌}
 use Rattle.std.specs.Iterator.{Yields, YieldsThen, DrainsIf}
@@ -17,7 +17,7 @@ module _ {A : Type 0} where
   abbrev join : List (List A) → List A
   join xs = flat_map (λ piece. piece) xs
 
-  -- one padded piece more, behind k whole ones
+  -- one more padded piece after k whole ones
   padded_pieces-more : (n k : ℕ) (fill : A) (xs ys : List A) → length xs ≡ k * n → 0 < length ys → length ys ≤ n → padded_pieces n fill (xs ++ ys) ≡ padded_pieces n fill xs ++ padded n fill ys ∷ []
   padded_pieces-more n k fill xs ys whole some fits = rw (pieces-more n k xs ys whole some fits) (map-append (padded n fill) (pieces n xs) (ys ∷ []))
 
@@ -33,7 +33,7 @@ module _ {A : Type 0} where
   padded_pieces-none zero fill xs none = rw (pieces-zero xs) refl
   padded_pieces-none (suc n) fill xs none = absurd (omega arith)
 
-  -- the last piece adds what it is filled with
+  -- all padded pieces, joined, are the list and then the filler of the last piece
   joined-by : (n k : ℕ) (fill : A) (front back : List A) → 0 < n → length front ≡ k * n → length back < n
       → flat_map (padded n fill) (pieces n (front ++ back)) ≡ (front ++ back) ++ replicate (piece_count n (length (front ++ back)) * n - length (front ++ back)) fill
   joined-by n k fill front [] some whole short =
@@ -61,7 +61,7 @@ Yields-join : {S A : Type 0} (steps : S → Option A → S → Type 0) (s : S) (
 Yields-join steps s [] t ys u a b = subst (λ k. Yields steps k ys u) (sym a) b
 Yields-join steps s (x ∷ xs) t ys u a b = (a.0, a.1, Yields-join steps a.0 xs t ys u a.2 b)
 
--- calls from s gave xs, and then, where `ended`, `None`, and left t
+-- calls from s returned xs, then `None` if `ended` is true, and left t
 Pulled : {S A : Type 0} → (S → Option A → S → Type 0) → S → List A → Bool → S → Type 0
 Pulled steps s xs ended t = MatchBool ended (YieldsThen steps s xs None t) (Yields steps s xs t)
 
@@ -79,7 +79,7 @@ within : {S A : Type 0} (steps : S → Option A → S → Type 0) (n : ℕ) (s t
 within steps n s t xs true h = omega (arith, h.1.0)
 within steps n s t xs false h = omega (arith, h.1.0)
 
--- where there was no piece, the end has been reached
+-- if there was no piece, the end was reached
 no-piece-ends : (zero d e : Bool) (X Y : Type 0) → zero ≡ false → (X → e ≡ d) → MatchBool (if zero then true else d) X (Y × (e ≡ true)) → e ≡ true
 no-piece-ends true d e X Y some same h = absurd (true≢false some)
 no-piece-ends false true e X Y some same h = same h
@@ -110,7 +110,8 @@ module _ {S A : Type 0} {n : ℕ} (steps : S → Option A → S → Type 0) wher
   nothing-more s t [] e y = (refl, y)
   nothing-more s t (p ∷ ps) e y = absurd (true≢false (sym e ∙ y.1.1.0))
 
-  -- behind the pieces ps come items xs of the source, which follow on whole pieces
+  -- `xs` are the items that the source gave. Put after `front`, whole pieces, they make the pieces
+  -- of `front` followed by the pieces ps.
   Behind : ArrayChunksPadded S A n → ArrayChunksPadded S A n → List (List A) → List A → Type 0
   Behind s t ps front = (xs : List A) × (padded_pieces n (padded_fill s) (front ++ xs) ≡ padded_pieces n (padded_fill s) front ++ ps) × Pulled steps (padded_source s) xs (padded_done t) (padded_source t)
 
@@ -177,7 +178,7 @@ module _ {S A : Type 0} {n : ℕ} (steps : S → Option A → S → Type 0) wher
         },
       )
 
-  -- the run of the source that is behind a run of padded pieces
+  -- for each run of padded pieces there is a run of the source that gave their items
   run-behind : (p : Run (padded_steps {n = n} steps)) → padded_done p.from ≡ false → SomeRun steps (padded_source p.from) (λ q. IsPaddedRun n (padded_fill p.from) p q)
   unfolding Behind
   run-behind p begun =

@@ -1,4 +1,5 @@
--- What follows from `specs/Pieces.antt`: how many pieces there are, which one is where, and one piece more.
+-- What follows from `specs/Pieces.antt`: how many pieces there are, which piece is at which place,
+-- and what one more piece adds.
 use Rattle.std.proofs.Common.{◌≡◌, ℕ, zero, suc, get_or, slice_get, ◌+◌, ◌*◌, ◌/◌, ◌%◌, ◌<◌, ◌≤◌, List, [], ◌∷◌, ◌++◌, map, length, take, drop, refl, sym, ap, ap₂, ◌∙◌, subst, arith, rules, false, length-append, length-drop, append-nil}
 use borrow.Author.Tests.{tests}
 use Rattle.std.proofs.Math.Nat.{lt_of_mul-lt-mul_left, mul-le-mul_right}
@@ -17,7 +18,7 @@ use Rattle.p3_util_kernels.proofs.ListParts.{slice_get-drop, slice_get-take}
 pub eq_zero-false : (n : ℕ) → 0 < n → (n == 0) ≡ false
 eq_zero-false n some = search (rules, tests)
 
--- only one number of pieces has room for the items and is filled but for its last piece
+-- only one number of pieces has room for all items and has all pieces full except the last one
 one_number : (a k n q : ℕ) → q * n < a + n → a ≤ q * n → k * n < a + n → a ≤ k * n → q ≡ k
 one_number a k n q over room over' room' =
     let below : q < k + 1 = lt_of_mul-lt-mul_left n (let m : n * q < n * (k + 1) = omega arith in m) in
@@ -38,7 +39,7 @@ piece_count-whole k (suc n) some = div_ceil-is (k * suc n) k (suc n) some (omega
 pub div_ceil-upper : (a n : ℕ) → 0 < n → a ≤ div_ceil a n * n
 div_ceil-upper a n some = (div_ceil_times a n some).0
 
--- n items fewer make one piece fewer at least
+-- at least n items fewer make at least one piece fewer
 falls_by : (n q a b c : ℕ) → q * n < a + n → a + n ≤ b → b ≤ c * n → q < c
 falls_by n q a b c over fall upper = lt_of_mul-lt-mul_left n (let m : n * q < n * c = omega arith in m)
 
@@ -65,7 +66,7 @@ same_map f g a zero same = refl
 same_map f g a (suc n) same = ap₂ (λ x xs. x ∷ xs) (same a (omega arith)) (same_map f g (a + 1) n (λ p h. same p (omega arith)))
 
 module _ {A : Type 0} where
-  -- a piece that lies within the front of a list is that of the front
+  -- a piece that lies within the front of a list is a piece of that front
   piece-append : (n k p : ℕ) (xs ys : List A) → length xs ≡ k * n → p < k → piece n (xs ++ ys) p ≡ piece n xs p
   piece-append n k p xs ys whole within =
       let h : (p + 1) * n ≤ k * n = mul-le-mul_right n (omega arith) in
@@ -73,11 +74,11 @@ module _ {A : Type 0} where
       let b : n ≤ length (drop (p * n) xs) = omega (arith, length-drop (p * n) xs) in
       rw (drop-append-le (p * n) xs ys a) (take-append-le n (drop (p * n) xs) ys b)
 
-  -- the piece behind the whole ones
+  -- the piece after the whole ones
   piece-last : (n k : ℕ) (xs ys : List A) → length xs ≡ k * n → length ys ≤ n → piece n (xs ++ ys) k ≡ ys
   piece-last n k xs ys whole fits = rw (sym whole, drop-append_seam xs ys) (take_all n ys fits)
 
-  -- one piece more, behind k whole ones
+  -- one more piece after k whole ones
   pub pieces-more : (n k : ℕ) (xs ys : List A) → length xs ≡ k * n → 0 < length ys → length ys ≤ n → pieces n (xs ++ ys) ≡ pieces n xs ++ ys ∷ []
   unfolding pieces
   pieces-more n k xs ys whole some fits =
@@ -97,9 +98,9 @@ module _ {A : Type 0} where
   unfolding pieces
   length-pieces n xs = length-map-range_with_len (piece n xs) 0 (piece_count n (length xs))
 
-  -- Pieces are joined after f has changed each of them but the whole ones.
+  -- The pieces are joined after f has changed each of them. It leaves whole pieces as they are.
   module _ (f : List A → List A) (n : ℕ) (same : (ys : List A) → length ys ≡ n → f ys ≡ ys) where
-    -- whole pieces are the list
+    -- whole pieces, joined, are the list
     pub joined-whole : (k : ℕ) (xs : List A) → 0 < n → length xs ≡ k * n → flat_map f (pieces n xs) ≡ xs
     joined-whole zero [] some whole = rw (pieces-nil n) refl
     joined-whole zero (x ∷ xs) some whole = absurd (omega arith)
@@ -113,13 +114,14 @@ module _ {A : Type 0} where
         let more : pieces n xs ≡ pieces n front ++ back ∷ [] = subst (λ l. pieces n l ≡ pieces n front ++ back ∷ []) e (pieces-more n k front back l (omega arith) (omega arith)) in
         ap (λ l. flat_map f l) more ∙ flat_map-append f (pieces n front) (back ∷ []) ∙ rw (joined-whole k front some l, append-nil (f back), same back b) e
 
-    -- and one more is behind them
+    -- and one more piece comes after them
     pub joined-more : (k : ℕ) (front back : List A) → length front ≡ k * n → 0 < length back → length back ≤ n → flat_map f (pieces n (front ++ back)) ≡ front ++ f back
     joined-more k front back whole some fits =
         ap (λ l. flat_map f l) (pieces-more n k front back whole some fits)
         ∙ flat_map-append f (pieces n front) (back ∷ []) ∙ rw (joined-whole k front (omega arith) whole, append-nil (f back)) refl
 
-  -- what holds of whole pieces and a shorter rest holds of each list
+  -- a property of all lists that consist of whole pieces and a shorter rest is a property of all
+  -- lists
   pub in-pieces : (P : List A → Type 0) (n : ℕ) → 0 < n → ((k : ℕ) (front back : List A) → length front ≡ k * n → length back < n → P (front ++ back)) → (xs : List A) → P xs
   in-pieces P n some each xs =
       let k = length xs / n in
@@ -132,7 +134,7 @@ module _ {A : Type 0} where
   joined-by n k front [] some whole short = rw (append-nil front) (joined-whole (λ l. l) n (λ _ _. refl) k front some whole)
   joined-by n k front (y ∷ ys) some whole short = joined-more (λ l. l) n (λ _ _. refl) k front (y ∷ ys) whole (omega arith) (omega arith)
 
-  -- all pieces joined are the list
+  -- all pieces, joined, are the list
   pub joined-pieces : (n : ℕ) (xs : List A) → 0 < n → flat (pieces n xs) ≡ xs
   joined-pieces n xs some = in-pieces (λ l. flat (pieces n l) ≡ l) n some (λ k front back whole short. joined-by n k front back some whole short) xs
 
@@ -149,7 +151,7 @@ module _ {A : Type 0} where
       get_or-map-range_with_len (piece n xs) 0 (div_ceil (length xs) n) (i / n) (i / n) [] among (omega arith) in
       rw (row, slice_get-take n (drop (i / n * n) xs) (i % n) (mod_below i n some), slice_get-drop (i / n * n) xs (i % n) i (omega arith)) refl
 
-  -- rows that are the pieces of a list are its rows place by place
+  -- if rows are the pieces of a list, they are its rows place by place
   pub IsFlat-pieces : (n : ℕ) (rows : List (List A)) (xs : List A) → length xs ≡ length rows * n → (0 < n → pieces n xs ≡ rows) → IsFlat n rows xs
   IsFlat-pieces zero rows xs len cut = record { len = len; places = λ i inside. absurd (omega arith) }
   IsFlat-pieces (suc m) rows xs len cut = record {

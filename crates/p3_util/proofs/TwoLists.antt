@@ -1,4 +1,5 @@
--- An exchange in a list that is joined of two, as an exchange in one of them, and an item put into it.
+-- An exchange in two joined lists, as an exchange in one of the two, and an item put into one of
+-- them.
 use Rattle.std.proofs.Common.{ℕ, ◌≡◌, ◌+◌, ◌-◌, ◌<◌, ◌≤◌, inl, inr, List, [], ◌∷◌, ◌++◌, length, get_or, set, refl, sym, ap, ◌∙◌, arith, length-append}
 use Rattle.std.proofs.lemmas.Bool.{cases_eq}
 use Rattle.std.proofs.lemmas.List.{get_or_append_left, get_or-append-add, length-set, set-append_left, set-append_right, set_comm}
@@ -50,7 +51,7 @@ module _ {A : Type 0} where
       let j-is : length xs + (j - n) ≡ j = omega (arith, is) in
       rw (i-is, j-is) at (behind xs ys (i - n) (j - n) (omega (arith, all, is)) (omega (arith, all, is)))
 
-  -- an exchange is the same the other way round
+  -- exchanging i with j is the same as exchanging j with i
   pub swap-sym : (xs : List A) (i j : ℕ) → swap xs i j ≡ swap xs j i
   swap-sym [] i j = refl
   swap-sym (x ∷ xs) i j = elim (cases_eq i j) [

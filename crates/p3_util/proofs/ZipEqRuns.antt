@@ -1,4 +1,4 @@
--- What the runs of an iterator over pairs give, and that the length it says is true.
+-- What a run of an iterator over pairs gives, and that the length it states is true.
 use Rattle.std.proofs.Common.{◌≡◌, ◌+◌, ◌⊎◌, inl, inr, Bool, true, false, true≢false, List, [], ◌∷◌, ◌++◌, map, Option, Some, None, length, refl, sym, ap, subst, ◌∙◌, arith}
 use Rattle.std.specs.Iterator.{Yields, Count, size}
 use Rattle.std.specs.List.{zip}
@@ -11,14 +11,14 @@ use Rattle.p3_util.specs.ZipEq.{HasTrueLength, zip_eq_first, zip_eq_second, zip_
 use Rattle.p3_util.specs.declared.zip_eq.ZipEq.{ZipEq}
 
 module _ {S A : Type 0} {steps : S → Option A → S → Type 0} {left : S → Count} where
-  -- a length that is true is true after a call
+  -- if the stated length is true, it is still true after a call
   HasTrueLength-next : {s t : S} {x : A} → HasTrueLength steps left s → steps s (Some x) t → HasTrueLength steps left t
   HasTrueLength-next {s} {t} {x} h step = record {
     item = λ xs j y u came next. h.item (x ∷ xs) j y u (t, step, came) next;
     none = λ xs j u came next. h.none (x ∷ xs) j u (t, step, came) next;
   }
 
-  -- and each item has lowered it
+  -- and each item lowers it by 1
   HasTrueLength-falls : (xs : List A) (s t : S) → HasTrueLength steps left s → Yields steps s xs t → size (left s) ≡ length xs + size (left t)
   HasTrueLength-falls [] s t h came = ap (λ k. size (left k)) came ∙ (let e : size (left t) ≡ 0 + size (left t) = omega arith in e)
   HasTrueLength-falls (x ∷ xs) s t h came =
@@ -27,7 +27,7 @@ module _ {S A : Type 0} {steps : S → Option A → S → Type 0} {left : S → 
       omega arith
 
 module _ {S T A B : Type 0} (steps : S → Option A → S → Type 0) (others : T → Option B → T → Type 0) where
-  -- the calls of the two sides behind calls that gave pairs
+  -- a call that returned a pair called both sides, and each side returned its part of the pair
   both-came : (s t : ZipEq S T) (p : A × B) → zip_eq_steps steps others s (Some p) t → steps (zip_eq_first s) (Some p.0) (zip_eq_first t) × others (zip_eq_second s) (Some p.1) (zip_eq_second t)
   both-came s t p h = (subst (λ o. steps (zip_eq_first s) o (zip_eq_first t)) h.4.0 h.2, subst (λ o. others (zip_eq_second s) o (zip_eq_second t)) h.4.1 h.3)
 
@@ -39,7 +39,7 @@ module _ {S T A B : Type 0} (steps : S → Option A → S → Type 0) (others : 
   second-came [] s t came = ap zip_eq_second came
   second-came (p ∷ ps) s t came = (zip_eq_second came.0, (both-came s came.0 p came.1).1, second-came ps came.0 t came.2)
 
-  -- where calls ended at t, how each side answered
+  -- how each side answered if the calls ended at t
   abbrev Ended : Bool → ZipEq S T → Type 0
   Ended b t = (c : Bool) × (d : Bool) × (c ≡ true → (u : S) × steps (zip_eq_first t) None u) × (d ≡ true → (u : T) × others (zip_eq_second t) None u)
       × (b ≡ true → ((c ≡ true) × (d ≡ true)) ⊎ ((c ≡ true) × ((y : B) × (u : T) × others (zip_eq_second t) (Some y) u)) ⊎ ((d ≡ true) × ((x : A) × (u : S) × steps (zip_eq_first t) (Some x) u)))
@@ -87,7 +87,7 @@ module _ {S T A B : Type 0} (steps : S → Option A → S → Type 0) (others : 
         ),
       )
 
-  -- an item more on one side is in no pair
+  -- an additional item on one side is in no pair
   zip-more : (ps : List (A × B)) (b : B) → ps ≡ zip (map (λ p. p.0) ps) (map (λ p. p.1) ps ++ b ∷ [])
   zip-more [] b = refl
   zip-more (p ∷ ps) b = ap (λ l. p ∷ l) (zip-more ps b)
@@ -96,7 +96,7 @@ module _ {S T A B : Type 0} (steps : S → Option A → S → Type 0) (others : 
   more-zip [] a = refl
   more-zip (p ∷ ps) a = ap (λ l. p ∷ l) (more-zip ps a)
 
-  -- the same with all that the pairs' run asked for
+  -- the same with everything that the run of the pairs asked for
   pub asked-runs : (z : ZipEq S T) → AskedRuns steps others z
   asked-runs z p seen from =
       let t = took p in
@@ -144,7 +144,8 @@ module _ {S T A B : Type 0} (steps : S → Option A → S → Type 0) (others : 
       ]
 
   module _ (left : S → Count) (others_left : T → Count) where
-    -- where both sides state true lengths, which are the same, the pairs end where the length that they state is 0
+    -- if both sides state true lengths, and the two are equal, the pairs end when the length that
+    -- they state is 0
     none-at : (ps : List (A × B)) (z t u : ZipEq S T) (o : Option A) (p : Option B) → HasTrueLength steps left (zip_eq_first z) → HasTrueLength others others_left (zip_eq_second z)
         → size (left (zip_eq_first z)) ≡ size (others_left (zip_eq_second z)) → Yields (zip_eq_steps steps others) z ps t → steps (zip_eq_first t) o (zip_eq_first u) → others (zip_eq_second t) p (zip_eq_second u)
         → (o ≡ None) ⊎ (p ≡ None) → size (zip_eq_left left t) ≡ 0

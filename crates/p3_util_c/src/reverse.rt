@@ -123,7 +123,7 @@ pub extern "C" fn p3_util_reverse_256(vals: &mut [[[u8; 8]; 32]]) -> bool
     reverse_where_it_fits(vals)
 }
 
-/// Has each part of [`IsTriedReversal`] as a clause.
+/// Reverses `vals` if its length fits. Each part of [`IsTriedReversal`] is a clause of its own.
 fn reverse_where_it_fits<T>(vals: &mut [T]) -> bool
     ensures held { IsTrue result ↔ IsZeroOrPowerOfTwo (length vals.old) }
     ensures done { OnTrue result (IsReversal vals.old vals.new) }

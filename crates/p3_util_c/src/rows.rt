@@ -123,7 +123,8 @@ pub extern "C" fn p3_util_reverse_rows_256(vals: &mut [[[u8; 8]; 32]], row_width
     reverse_rows_where_they_fit(vals, row_width)
 }
 
-/// Has each part of [`IsTriedRowReversal`] as a clause.
+/// Reverses the rows of `vals` if its length fits. Each part of [`IsTriedRowReversal`] is a clause
+/// of its own.
 fn reverse_rows_where_they_fit<T>(vals: &mut [T], row_width: usize) -> bool
     ensures held { IsTrue result ↔ FitsRows (length vals.old) row_width }
     ensures done { OnTrue result (IsRowReversal row_width vals.old vals.new) }

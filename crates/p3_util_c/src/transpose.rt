@@ -203,7 +203,8 @@ pub extern "C" fn p3_util_transpose_256(
     transpose_where_it_fits(input, output, width, height)
 }
 
-/// Has each part of [`IsTriedTranspose`] as a clause.
+/// Writes the transpose if both lengths fit. Each part of [`IsTriedTranspose`] is a clause of its
+/// own.
 fn transpose_where_it_fits<T: Copy>(
     input: &[T],
     output: &mut [T],

@@ -6,12 +6,12 @@ ghost use Rattle.p3_util.specs.JsonArray.{IsSameOrMemory};
 use p3_util::array_serialization::{ArrayElement, ArrayError, deserialize, serialize};
 use std::alloc::{AllocError, Global};
 
-/// What is read of what is written: the array itself, or running out of memory where its elements
-/// may need it.
+/// Writes an array and reads back what was written. The result is the array itself, or running out
+/// of memory if its elements may need memory.
 ///
 /// # Errors
 ///
-/// `AllocError` where the array could not be written.
+/// `AllocError` if the array could not be written.
 pub fn written_and_read<T: ArrayElement + Drop, const N: usize>(
     alloc: Global,
     items: &[T; N],
@@ -22,11 +22,11 @@ pub fn written_and_read<T: ArrayElement + Drop, const N: usize>(
     Ok(deserialize(alloc, &value))
 }
 
-/// Four numbers again, after they were written as a JSON list and read back.
+/// Writes four numbers as a JSON list and reads them back, which returns the same numbers.
 ///
 /// # Errors
 ///
-/// `AllocError` where they could not be written. What was written is always read.
+/// `AllocError` if they could not be written. What was written can always be read.
 pub fn numbers_again(alloc: Global, numbers: &[u64; 4]) -> Result<[u64; 4], AllocError>
     ensures { IfOk result (λ again. again ≡ numbers.now) }
 {
@@ -37,11 +37,12 @@ pub fn numbers_again(alloc: Global, numbers: &[u64; 4]) -> Result<[u64; 4], Allo
     }
 }
 
-/// The same of any elements.
+/// The same for elements of any type.
 ///
 /// # Errors
 ///
-/// `AllocError` where they could not be written, or where an element needs memory to be read.
+/// `AllocError` if they could not be written, or if an element needs memory to be read and there is
+/// none.
 pub fn elements_again<T: ArrayElement + Drop, const N: usize>(
     alloc: Global,
     elements: &[T; N],

@@ -1,5 +1,5 @@
-//! What stands behind a header of a slice, as a holder, and a caller. The file needs `p3_util`
-//! alone, so it can be copied as it stands.
+//! The part of a slice behind a header, as a holder, and a caller. A holder is a value that gives
+//! access to a list only by index. The file needs only `p3_util`, so it can be copied as it is.
 
 ghost use Rattle.std.specs.Prelude.{◌≡◌, ℕ, ◌+◌, ◌-◌, ◌<◌, ◌≤◌, drop, length, slice_get, swap};
 ghost use Rattle.std.proofs.Common.{rules};
@@ -9,7 +9,7 @@ use p3_util::places::Places;
 use p3_util::reverse_counted;
 
 /// The items of `list` from place `skip` on. `same_holder` says that every item before that place
-/// stays.
+/// stays as it was.
 #[derive(Drop)]
 pub struct BehindMut<'a, T> {
     list: &'a mut [T],
@@ -18,7 +18,7 @@ pub struct BehindMut<'a, T> {
 }
 
 impl<'a, T> BehindMut<'a, T> {
-    /// The items of `list` behind the first `skip`.
+    /// The items of `list` after the first `skip` items.
     pub fn new(list: &'a mut [T], skip: usize) -> Self
         requires { skip ≤ length list.old }
         ensures list { result.list ≡ list.entry }
@@ -49,7 +49,7 @@ impl<'a, T> Places for BehindMut<'a, T> {
     ghost same_holder_trans = { Prim.search rules };
 }
 
-/// Exchanges the items that are `i` and `j` places behind the header.
+/// Exchanges the items at places `i` and `j` behind the header.
 #[tactic(auto, using(p3_util::proofs::Callers::drop_swapped, p3_util::proofs::Callers::header_stays))]
 fn exchange_behind<T>(list: &mut [T], skip: usize, i: usize, j: usize)
     requires first { i < length list.old - skip }
@@ -61,7 +61,8 @@ fn exchange_behind<T>(list: &mut [T], skip: usize, i: usize, j: usize)
     list.swap(skip + i, skip + j);
 }
 
-/// Reverses by index bits what stands behind the first `skip` items of `list`, which stay.
+/// Reverses the items after the first `skip` items of `list` by index bits. The first `skip` items
+/// stay as they are.
 pub fn reverse_behind<T>(list: &mut [T], skip: usize)
     requires fits { skip ≤ length list.old }
     requires power { IsReversible (length list.old - skip) }

@@ -1,4 +1,5 @@
-//! Callers of the logarithms and powers. A test in front of a strict logarithm is enough.
+//! Callers of the logarithms and powers. A test before the call of a strict logarithm is enough to
+//! meet its precondition.
 
 ghost use Rattle.std.specs.Prelude.{◌≡◌, ℕ, ◌+◌, ◌*◌, ◌/◌, ◌%◌, ◌^◌, ◌<◌, ◌≤◌, IsTrue, IsFalse, IfSome, MatchOption, None, Some, length, slice_get};
 ghost use Rattle.std.specs.Int.{IsPowerOfTwo, is_power_of_two};
@@ -10,8 +11,8 @@ use p3_util::bits::{
     log3_strict_usize, reverse_bits, reverse_bits_len,
 };
 
-/// The least power of two that is `len` or more, to which a transform pads. `None` where that is
-/// 2^64.
+/// The least power of two that is at least `len`: a transform pads its input to this length. `None`
+/// if that power is 2^64.
 #[tactic(auto, using(p3_util::proofs::Callers::power_up))]
 pub fn padded_len(len: usize) -> Option<usize>
     ensures none { result ≡ None → (k : ℕ) → k < 64 → 2 ^ k < len }
@@ -22,7 +23,8 @@ pub fn padded_len(len: usize) -> Option<usize>
     checked_pow2(log2_ceil_usize(len))
 }
 
-/// The logarithm of a power of two, and 0 for another number: std's test in front is enough.
+/// The logarithm of a power of two, and 0 for every other number. std's test before the call is
+/// enough.
 pub fn log2_or_zero(n: usize) -> usize
     ensures power { IsTrue (is_power_of_two n) → n ≡ 2 ^ result }
     ensures other { IsFalse (is_power_of_two n) → result ≡ 0 }
@@ -34,7 +36,7 @@ pub fn log2_or_zero(n: usize) -> usize
     }
 }
 
-/// The logarithm of the length of `items`, where that is a power of two.
+/// The logarithm of the length of `items`, if the length is a power of two.
 pub fn log2_of_len<T>(items: &[T]) -> Option<usize>
     ensures { MatchOption result (IsFalse (is_power_of_two (length items.now)))
         (λ k. length items.now ≡ 2 ^ k) }
@@ -46,14 +48,15 @@ pub fn log2_of_len<T>(items: &[T]) -> Option<usize>
     }
 }
 
-/// The logarithm of a power of three, where `n` is one.
+/// The logarithm of `n` to base 3, if `n` is a power of three.
 pub fn log3_of(n: usize) -> Option<usize>
     ensures { MatchOption result (¬ IsPowerOfThree n) (λ e. n ≡ 3 ^ e) }
 {
     is_power_of_three(n).then(|| log3_strict_usize(n))
 }
 
-/// The item that a reversal by index bits brings to place `i`, read where it lies.
+/// The item that a reversal by index bits moves to place `i`, read from the place where it is
+/// before the reversal.
 pub fn item_to_come<T: Copy>(items: &[T], k: usize, i: usize) -> T
     requires some { 1 ≤ k }
     requires few { k < 64 }
@@ -63,8 +66,8 @@ pub fn item_to_come<T: Copy>(items: &[T], k: usize, i: usize) -> T
     items[reverse_bits_len(i, k)]
 }
 
-/// The place of a list of `2^(k + 1)` items from which a reversal by index bits brings an item to
-/// `2i`. The item for `2i + 1` is `2^k` places further.
+/// The place in a list of `2^(k + 1)` items from which a reversal by index bits moves an item to
+/// place `2i`. The item for place `2i + 1` is `2^k` places further.
 #[tactic(auto, using(p3_util::proofs::Callers::rev_even, p3_util::proofs::Callers::rev_odd))]
 pub fn place_of_pair(i: usize, k: usize) -> usize
     requires some { 1 ≤ k }
@@ -75,9 +78,9 @@ pub fn place_of_pair(i: usize, k: usize) -> usize
     reverse_bits_len(i, k)
 }
 
-/// Where a reversal of all items of a matrix of `2^log_height` rows of `2^log_width` items puts
-/// item (row, column): the row and the column in a matrix of `2^log_width` rows, of which each is
-/// one of both reversed.
+/// Where a reversal of all items moves item (row, column) of a matrix of `2^log_height` rows of
+/// `2^log_width` items: to a row and a column of a matrix of `2^log_width` rows. The new row is the
+/// reversed column, and the new column is the reversed row.
 #[tactic(auto, using(p3_util::proofs::Callers::rev_in_parts))]
 pub fn reversed_row_and_column(
     row: usize,
@@ -98,7 +101,7 @@ pub fn reversed_row_and_column(
     )
 }
 
-/// An index into a list of `n` items, two or more, is reversed there and back.
+/// Reverses an index into a list of `n` items twice, which returns the index. `n` is at least 2.
 #[tactic(auto, using(p3_util::proofs::Callers::rev_twice))]
 pub fn index_there_and_back(i: usize, n: usize) -> usize
     requires power { IsPowerOfTwo n }
@@ -108,8 +111,8 @@ pub fn index_there_and_back(i: usize, n: usize) -> usize
     reverse_bits(reverse_bits(i, n), n)
 }
 
-/// The next index of a fold that halves: the reverse of half an index is that of the index without
-/// its highest digit.
+/// The next index of a fold that halves the list: the reverse of half an index is the reverse of
+/// the index without its highest digit.
 #[tactic(auto, using(p3_util::proofs::Callers::half))]
 pub fn reverse_of_half(i: usize, k: usize) -> usize
     requires some { 1 ≤ k }
@@ -119,7 +122,8 @@ pub fn reverse_of_half(i: usize, k: usize) -> usize
     reverse_bits_len(i / 2, k)
 }
 
-/// How many items a matrix of `2^log_height` rows of `2^log_width` items has, where that fits.
+/// The number of items of a matrix of `2^log_height` rows of `2^log_width` items, if it fits a
+/// `usize`.
 #[tactic(auto, using(p3_util::proofs::Callers::power_in_parts))]
 pub fn items_of_matrix(log_height: usize, log_width: usize) -> Option<usize>
     ensures { IfSome result (λ n. n ≡ 2 ^ log_height * 2 ^ log_width) }

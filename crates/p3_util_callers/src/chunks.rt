@@ -9,7 +9,7 @@ ghost use Rattle.p3_util.specs.Pieces.{padded, padded_pieces, pieces};
 use p3_util::{apply_to_chunks, iter_array_chunks_padded};
 use std::alloc::{AllocError, Global};
 
-/// Hands `bytes` to `absorb` in blocks of 64, in order. The last block may be shorter.
+/// Passes `bytes` to `absorb` in blocks of 64, in order. The last block may be shorter.
 pub fn absorb_blocks<H: FnMut(&[u8]) + Drop>(bytes: &[u8], absorb: H)
     requires { H.IsAlwaysCallable absorb }
     ensures absorbed { (last : H)
@@ -19,9 +19,9 @@ pub fn absorb_blocks<H: FnMut(&[u8]) + Drop>(bytes: &[u8], absorb: H)
     apply_to_chunks::<64, _, H>(bytes.iter().copied(), absorb);
 }
 
-/// Adds up `bytes` by way of `add`, to which it hands them in blocks of 64: where each call raises
-/// what `total` reads by the sum of its block, all calls raise it by the sum of all bytes. The
-/// closure goes by value, so that the caller has its last state no more: [`mixed_lanes`] keeps a
+/// Adds up `bytes` with `add`, to which it passes them in blocks of 64. If each call raises what
+/// `total` reads by the sum of its block, all calls together raise it by the sum of all bytes. The
+/// closure is passed by value, so the caller cannot read its last state. [`mixed_lanes`] keeps a
 /// state.
 pub fn add_blocks<H: FnMut(&[u8]) + Drop>(bytes: &[u8], add: H)
     requires { H.IsAlwaysCallable add }
@@ -35,18 +35,18 @@ pub fn add_blocks<H: FnMut(&[u8]) + Drop>(bytes: &[u8], add: H)
     absorb_blocks(bytes, add);
 }
 
-/// `xs` in lanes of 4, the last of which is filled with `fill`.
+/// Cuts `xs` into lanes of 4. The last lane is filled with `fill`.
 pub fn lanes(alloc: Global, xs: &[u32], fill: u32) -> Result<Vec<[u32; 4]>, AllocError>
     ensures { IfOk result (λ v. v.items ≡ padded_pieces 4 fill xs.now) }
 {
     iter_array_chunks_padded::<u32, 4, _>(xs.iter().copied(), fill).collect(alloc)
 }
 
-/// The state after it took in each lane of 2 of `xs`, which are collected first.
+/// The state after it took in each lane of 2 items of `xs`. The lanes are collected first.
 ///
 /// # Errors
 ///
-/// `AllocError` where there is no memory for the lanes.
+/// `AllocError` if there is no memory for the lanes.
 pub fn mixed_lanes(alloc: Global, xs: &[u32]) -> Result<u64, AllocError>
     ensures { IfOk result (λ state. state ≡ fold
         (λ s lane. (s + slice_index lane 0 * slice_index lane 1) % 2 ^ 64) 0
@@ -62,7 +62,7 @@ pub fn mixed_lanes(alloc: Global, xs: &[u32]) -> Result<u64, AllocError>
     )
 }
 
-/// How many whole rows of `width` items `xs` has.
+/// The number of whole rows of `width` items in `xs`.
 pub fn whole_rows<T>(xs: &[T], width: usize) -> usize
     requires { 0 < width }
     ensures { result ≡ length xs.now / width }
@@ -70,14 +70,14 @@ pub fn whole_rows<T>(xs: &[T], width: usize) -> usize
     xs.chunks_exact(width).count()
 }
 
-/// What a lane adds up to.
+/// The sum of a lane.
 pub fn sum_of_lane(lane: &[u32; 4]) -> u64
     ensures { result ≡ sum lane.now }
 {
     lane[0] as u64 + lane[1] as u64 + lane[2] as u64 + lane[3] as u64
 }
 
-/// What all lanes add up to, where that fits.
+/// The sum of all lanes, which must fit a `u64`.
 pub fn sum_of_lanes(lanes: &[[u32; 4]]) -> u64
     requires { sum (map sum lanes.now) < 2 ^ 64 }
     ensures { result ≡ sum (map sum lanes.now) }
@@ -85,11 +85,11 @@ pub fn sum_of_lanes(lanes: &[[u32; 4]]) -> u64
     lanes.iter().map(|lane| sum_of_lane(lane)).sum()
 }
 
-/// The sum of `xs`, which fits, taken by lanes of 4, of which the last is filled with 0.
+/// The sum of `xs`, which must fit, computed in lanes of 4. The last lane is filled with 0.
 ///
 /// # Errors
 ///
-/// `AllocError` where there is no memory for the lanes.
+/// `AllocError` if there is no memory for the lanes.
 #[tactic(auto, using(p3_util::proofs::Callers::padded_sum))]
 pub fn sum_by_lanes(alloc: Global, xs: &[u32]) -> Result<u64, AllocError>
     requires { sum xs.now < 2 ^ 64 }
@@ -99,11 +99,11 @@ pub fn sum_by_lanes(alloc: Global, xs: &[u32]) -> Result<u64, AllocError>
     Ok(sum_of_lanes(&lanes))
 }
 
-/// `items` and then zeros, `len` in all.
+/// `items` and then zeros, `len` items in total.
 ///
 /// # Errors
 ///
-/// `AllocError` where there is no memory for them.
+/// `AllocError` if there is no memory for them.
 pub fn padded_to(alloc: Global, items: &[u64], len: usize) -> Result<Vec<u64>, AllocError>
     requires { length items.now ≤ len }
     ensures { IfOk result (λ v. v.items ≡ padded len 0 items.now) }
@@ -114,11 +114,11 @@ pub fn padded_to(alloc: Global, items: &[u64], len: usize) -> Result<Vec<u64>, A
     Ok(padded)
 }
 
-/// The same, place by place.
+/// The same, with a contract that states each place.
 ///
 /// # Errors
 ///
-/// `AllocError` where there is no memory for them.
+/// `AllocError` if there is no memory for them.
 #[tactic(auto, using(p3_util::proofs::Callers::padded_read))]
 pub fn padded_by_place(alloc: Global, items: &[u64], len: usize) -> Result<Vec<u64>, AllocError>
     requires { length items.now ≤ len }
@@ -130,7 +130,7 @@ pub fn padded_by_place(alloc: Global, items: &[u64], len: usize) -> Result<Vec<u
     padded_to(alloc, items, len)
 }
 
-/// Item `i` of a list that is padded with `fill`: an item of the list before, or `fill`.
+/// Item `i` of a list that is padded with `fill`: an item of the original list, or `fill`.
 #[tactic(auto, using(p3_util::proofs::Callers::padded_read))]
 pub fn item_of_padded<T: Copy>(list: &[T], i: usize, fill: T) -> T
     requires { i < length list.now }
@@ -153,7 +153,7 @@ pub fn digest(row: &[u8]) -> u32
 ///
 /// # Errors
 ///
-/// `AllocError` where there is no memory for the digests.
+/// `AllocError` if there is no memory for the digests.
 pub fn digests_of_rows(alloc: Global, bytes: &[u8], width: usize) -> Result<Vec<u32>, AllocError>
     requires { 0 < width }
     ensures { IfOk result (λ v. (r : ℕ) → r < length bytes.now / width
@@ -166,8 +166,8 @@ pub fn digests_of_rows(alloc: Global, bytes: &[u8], width: usize) -> Result<Vec<
         .collect(alloc)
 }
 
-/// What hashes rows. A clause cannot say what a closure over `&[T]` returns for a list, since its
-/// argument is a borrow. A trait says it by a ghost function.
+/// A hash function for rows. A clause cannot say what a closure over `&[T]` returns for a list,
+/// since its argument is a borrow. A trait can say it with a ghost function.
 pub trait HashRow {
     type Item;
 
@@ -183,7 +183,7 @@ pub trait HashRow {
 ///
 /// # Errors
 ///
-/// `AllocError` where there is no memory for the hashes.
+/// `AllocError` if there is no memory for the hashes.
 pub fn hashes_of_rows<H: HashRow>(
     alloc: Global,
     hasher: &H,

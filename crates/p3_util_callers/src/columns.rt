@@ -1,6 +1,7 @@
-//! A column of a matrix, as a list to read and as a holder, and callers that reverse it, transpose
-//! from it and into it. What lies outside of the column stays. The file needs `p3_util` alone, so
-//! it can be copied as it stands.
+//! A column of a matrix, as a list to read and as a holder, which is a value that gives access to a
+//! list only by index. Callers reverse the column, transpose from it and transpose into it.
+//! Everything outside of the column stays as it was. The file needs only `p3_util`, so it can be
+//! copied as it is.
 
 ghost use Rattle.std.specs.Prelude.{◌≡◌, ◌*◌, ◌<◌, Some, length, slice_get, slice_set, swap};
 ghost use Rattle.std.proofs.Common.{rules};
@@ -13,7 +14,7 @@ use p3_util::places::{Cells, Places, Source, Writes};
 use p3_util::reverse_counted;
 use p3_util::transpose::{transpose_counted, transpose_source_on};
 
-/// Which column of a matrix of `height` rows of `width` items.
+/// The position of a column in a matrix of `height` rows of `width` items.
 #[derive(Clone, Copy)]
 pub struct ColumnShape {
     pub width: usize,
@@ -21,7 +22,7 @@ pub struct ColumnShape {
     pub column: usize,
 }
 
-/// A column of a matrix, to be read.
+/// A column of a matrix, for reading.
 #[derive(Drop)]
 pub struct Column<'a, T> {
     values: &'a [T],
@@ -60,8 +61,8 @@ impl<'a, T: Copy> Source for Column<'a, T> {
     }
 }
 
-/// A column of a matrix, to be reordered or written. `same_holder` says that every item outside of
-/// it stays.
+/// A column of a matrix that can be reordered or written. `same_holder` says that every item
+/// outside of it stays as it was.
 #[derive(Drop)]
 pub struct ColumnMut<'a, T> {
     values: &'a mut [T],
@@ -129,7 +130,7 @@ impl<'a, T: Copy> Cells for ColumnMut<'a, T> {
     ghost same_holder_trans = { Prim.search rules };
 }
 
-/// Puts `v` in row `i` of a column of `values`.
+/// Writes `v` to row `i` of a column of `values`.
 #[tactic(auto, using(p3_util::proofs::Callers::column_inside, p3_util::proofs::Callers::column_written, p3_util::proofs::Callers::column_others))]
 fn put_in_column<T: Copy>(values: &mut [T], shape: ColumnShape, i: usize, v: T)
     requires fits { length values.old ≡ shape.height * shape.width }
@@ -160,7 +161,7 @@ fn exchange_in_column<T>(values: &mut [T], shape: ColumnShape, i: usize, j: usiz
     values.swap(first, second);
 }
 
-/// The item of row `i` of a column of `values`.
+/// The item in row `i` of a column of `values`.
 #[tactic(auto, using(p3_util::proofs::Callers::column_inside, p3_util::proofs::Callers::column_read))]
 fn item_in_column<T: Copy>(values: &[T], shape: ColumnShape, i: usize) -> T
     requires fits { length values.now ≡ shape.height * shape.width }
@@ -185,8 +186,8 @@ pub fn reverse_column<T>(values: &mut [T], shape: ColumnShape)
     reverse_counted(&mut column);
 }
 
-/// Reverses every n-th item of `values` by index bits, from the first on, `count` items in all.
-/// They are a column of rows of n.
+/// Reverses every n-th item of `values` by index bits, `count` items in total, beginning with the
+/// first item. They are a column of a matrix with rows of n items.
 pub fn reverse_every_nth<T>(values: &mut [T], n: usize, count: usize)
     requires some { 0 < n }
     requires fits { length values.old ≡ count * n }
@@ -202,7 +203,7 @@ pub fn reverse_every_nth<T>(values: &mut [T], n: usize, count: usize)
     reverse_column(values, shape);
 }
 
-/// Puts the transpose of `input` into a column of the matrix `values`, and returns the number of
+/// Writes the transpose of `input` to a column of the matrix `values`, and returns the number of
 /// writes.
 pub fn transpose_to_column<T: Copy>(
     input: &[T],
@@ -224,8 +225,8 @@ pub fn transpose_to_column<T: Copy>(
     transpose_counted(input, &mut column, width, height)
 }
 
-/// Puts the transpose of a column of the matrix `values` into `out`, where the column is `height`
-/// rows of `width` items.
+/// Writes the transpose of a column of the matrix `values` to `out`. The column is read as a matrix
+/// of `height` rows of `width` items.
 pub fn transpose_column<C: Cells>(
     values: &[C::Item],
     shape: ColumnShape,

@@ -1,7 +1,8 @@
-//! Each caller here makes one larger call of several public ones, over any holder. It is proved
-//! from public contracts, and gives the exact number of its steps. Those that cut a region and
-//! those that go by squares have a proof file: their numbers of items are products and powers, and
-//! the file names the parts for a lemma.
+//! Each caller here combines several public calls into a larger one, for any holder: a value that
+//! gives access to a list only by index. It is proved from public contracts and returns the exact
+//! number of its steps. The callers that cut a region and those that work with squares have a proof
+//! file, because their numbers of items are products and powers. The file names the parts for a
+//! lemma.
 
 ghost use Rattle.std.specs.Prelude.{◌≡◌, ℕ, ◌+◌, ◌-◌, ◌*◌, ◌/◌, ◌^◌, ◌<◌, ◌≤◌, if◌then◌else◌, length, nat_le};
 ghost use Rattle.p3_util.specs.Levels.{clog};
@@ -20,8 +21,7 @@ use p3_util::{
     reverse_row_index_bits_on, reverse_rows_counted,
 };
 
-/// Puts the transpose of a whole matrix, as the region that it is, with the contract of
-/// `transpose_on`.
+/// Writes the transpose of a whole matrix, seen as a region, with the contract of `transpose_on`.
 pub fn transpose_as_region<R, C>(input: &R, out: &mut Writes<C>, width: usize, height: usize)
 where
     C: Cells,
@@ -41,7 +41,7 @@ where
     transpose_source_region_on(input, out, whole, width, height);
 }
 
-/// Reverses `m` by index bits twice, which leaves it as it was. Both are counted.
+/// Reverses `m` by index bits twice, which leaves it as it was. Both reversals are counted.
 #[tactic(auto, using(p3_util::proofs::Callers::reversed_twice))]
 pub fn reverse_twice_on<S: Places>(m: &mut Swaps<S>)
     requires { IsReversible (length (S.items m.old.holder)) }
@@ -55,8 +55,8 @@ pub fn reverse_twice_on<S: Places>(m: &mut Swaps<S>)
     reverse_index_bits_on(m);
 }
 
-/// Reverses the items of `m` and then the order of its rows, over one counter, whose count rises by
-/// the sum of both numbers: a search adds them up by `counted`.
+/// Reverses the items of `m` and then the order of its rows. One counter counts both, so its count
+/// rises by the sum of the two numbers. The proof search adds them up with `counted`.
 pub fn reverse_items_and_rows_on<S: Places>(m: &mut Swaps<S>, row_width: usize)
     requires items { IsReversible (length (S.items m.old.holder)) }
     requires rows { FitsRows (length (S.items m.old.holder)) row_width }
@@ -67,8 +67,8 @@ pub fn reverse_items_and_rows_on<S: Places>(m: &mut Swaps<S>, row_width: usize)
     reverse_row_index_bits_on(m, row_width);
 }
 
-/// Does the same to any holder, and returns the sum, which is the holder's number of steps by
-/// `same_holder_trans`.
+/// Does the same on any holder and returns the sum. By `same_holder_trans`, this is the holder's
+/// number of steps.
 pub fn reverse_items_and_rows<S: Places>(places: &mut S, row_width: usize) -> u128
     requires items { IsReversible (length (S.items places.old)) }
     requires rows { FitsRows (length (S.items places.old)) row_width }
@@ -76,16 +76,16 @@ pub fn reverse_items_and_rows<S: Places>(places: &mut S, row_width: usize) -> u1
         result ≡ reversal_swaps n + row_swaps n row_width }
     ensures holder { S.same_holder result places.old places.new }
 {
-    // Called so that the proof knows that the length fits a usize, and so does the sum.
+    // Called so that the proof knows that the length fits a usize. So the sum fits too.
     let _ = places.len();
     let items = reverse_counted(places);
     let rows = reverse_rows_counted(places, row_width);
     items + rows
 }
 
-/// Reverses `m` by index bits, with weaker clauses on its count in the place of one number for
-/// every length: the count rises by some number within the bound, for each exponent by a number of
-/// its own, and for the empty list by none.
+/// Reverses `m` by index bits, with weaker clauses on its count instead of one number for every
+/// length: the count rises by some number within the bound, by a fixed number for each exponent,
+/// and not at all for the empty list.
 #[tactic(auto, using(p3_util::proofs::Callers::log_of_power, p3_util::proofs::Callers::log_of_zero))]
 pub fn reverse_counted_by_exponent<S: Places>(m: &mut Swaps<S>)
     requires { IsReversible (length (S.items m.old.holder)) }
@@ -100,8 +100,8 @@ pub fn reverse_counted_by_exponent<S: Places>(m: &mut Swaps<S>)
     reverse_index_bits_on(m);
 }
 
-/// Reverses `m` by index bits by chunks, squares and chunks again, with the contract of
-/// `reverse_index_bits_long`.
+/// Reverses `m` by index bits: first by chunks, then by squares, and then by chunks again. It has
+/// the contract of `reverse_index_bits_long`.
 pub fn reverse_by_squares<S: Places>(m: &mut Swaps<S>)
     requires fits { IsReversible (length (S.items m.old.holder)) }
     requires not_short { 4 ≤ length (S.items m.old.holder) }
@@ -118,8 +118,8 @@ pub fn reverse_by_squares<S: Places>(m: &mut Swaps<S>)
     reverse_chunks_on(m, half, bits - half);
 }
 
-/// Transposes the square of a list of `2^log_size` rows of `2^log_stride` items, or the two that
-/// lie side by side in it.
+/// Transposes the square that a list of `2^log_size` rows of `2^log_stride` items is, or the two
+/// squares that lie side by side in it.
 fn transpose_squares<S: Places>(m: &mut Swaps<S>, log_stride: usize, log_size: usize)
     requires within { log_size ≤ log_stride }
     requires few { log_stride ≤ log_size + 1 }
@@ -138,8 +138,8 @@ fn transpose_squares<S: Places>(m: &mut Swaps<S>, log_stride: usize, log_size: u
     }
 }
 
-/// Transposes in place a whole matrix of `2^log_size` rows of as many items, twice, which leaves it
-/// as it was. Both are counted.
+/// Transposes a whole matrix of `2^log_size` rows of as many items in place, twice, which leaves it
+/// as it was. Both transposes are counted.
 #[tactic(auto, using(p3_util::proofs::Callers::transposed_back))]
 pub fn transpose_twice_on<S: Places>(m: &mut Swaps<S>, log_size: usize)
     requires fits { length (S.items m.old.holder) ≡ 2 ^ log_size * 2 ^ log_size }
@@ -152,8 +152,8 @@ pub fn transpose_twice_on<S: Places>(m: &mut Swaps<S>, log_size: usize)
     transpose_whole_square(m, log_size);
 }
 
-/// Puts the transpose of a region as that of its upper rows and then that of its lower rows, with
-/// the contract of `transpose_region_on`.
+/// Writes the transpose of a region in two parts, first of its upper rows and then of its lower
+/// rows, with the contract of `transpose_region_on`.
 #[tactic(auto, using(p3_util::proofs::Callers::items_of_rows))]
 pub fn transpose_by_rows<R, C>(
     input: &R,
@@ -186,7 +186,7 @@ where
     transpose_source_region_on(input, out, lower, width, height);
 }
 
-/// The same as that of its left columns and then that of its right columns.
+/// The same with its left columns first and then its right columns.
 #[tactic(auto, using(p3_util::proofs::Callers::items_of_cols))]
 pub fn transpose_by_columns<R, C>(
     input: &R,

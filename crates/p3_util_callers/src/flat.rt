@@ -1,4 +1,4 @@
-//! Callers of the calls that move the items of vectors.
+//! Callers of the functions that move the items of vectors.
 
 ghost use Rattle.std.specs.Prelude.{◌≡◌, ◌*◌, ◌/◌, ◌%◌, ◌^◌, ◌<◌, ◌≤◌, IfOk, List, vec_len};
 ghost use Rattle.p3_util.specs.Flat.{IsFlat};
@@ -8,7 +8,7 @@ use crate::reverse::reversed;
 use p3_util::{flatten_to_base, reconstitute_from_base};
 use std::alloc::{AllocError, Global};
 
-/// The rows again, after they were flattened.
+/// Flattens the rows and makes rows of the items again, which returns the same rows.
 pub fn flattened_and_back<T: Default + Drop, const N: usize>(
     alloc: Global,
     rows: Vec<[T; N]>,
@@ -26,7 +26,8 @@ pub fn flattened_and_back<T: Default + Drop, const N: usize>(
     Ok(again)
 }
 
-/// The numbers again, after they were made elements of an extension field, each of four numbers.
+/// Makes elements of an extension field of the numbers, four numbers each, and flattens them again,
+/// which returns the same numbers.
 pub fn reconstituted_and_back(alloc: Global, numbers: Vec<u64>) -> Result<Vec<u64>, AllocError>
     requires { vec_len numbers % 4 ≡ 0 }
     ensures { IfOk result (λ again. again.items ≡ numbers.items) }
@@ -40,11 +41,11 @@ pub fn reconstituted_and_back(alloc: Global, numbers: Vec<u64>) -> Result<Vec<u6
     Ok(again)
 }
 
-/// The items of `rows` after their order was reversed by index bits.
+/// The items of `rows` after the order of the rows was reversed by index bits.
 ///
 /// # Errors
 ///
-/// `AllocError` where there is no memory for the items.
+/// `AllocError` if there is no memory for the items.
 #[tactic(auto, using(p3_util::proofs::Callers::elements_reversed))]
 pub fn items_of_reversed<T: Default + Drop, const N: usize>(
     alloc: Global,
@@ -61,12 +62,12 @@ pub fn items_of_reversed<T: Default + Drop, const N: usize>(
     Ok(items)
 }
 
-/// The numbers after they were made elements of an extension field, each of four numbers, and these
-/// were reversed by index bits.
+/// Makes elements of an extension field of the numbers, four numbers each, reverses the elements by
+/// index bits, and returns their numbers.
 ///
 /// # Errors
 ///
-/// `AllocError` where there is no memory for the elements or the numbers.
+/// `AllocError` if there is no memory for the elements or the numbers.
 pub fn reverse_elements(alloc: Global, numbers: Vec<u64>) -> Result<Vec<u64>, AllocError>
     requires divides { vec_len numbers % 4 ≡ 0 }
     requires power { IsReversible (vec_len numbers / 4) }

@@ -1,5 +1,6 @@
-//! A slice from its last item to its first, as a list to read and as a holder, and callers. The
-//! file needs `p3_util` alone, so it can be copied as it stands.
+//! A slice from its last item to its first, as a list to read and as a holder, and callers. A
+//! holder is a value that gives access to a list only by index. The file needs only `p3_util`, so
+//! it can be copied as it is.
 
 ghost use Rattle.std.specs.Prelude.{◌≡◌, ◌*◌, ◌<◌, length, reverse, slice_set, swap};
 ghost use Rattle.std.proofs.Common.{rules};
@@ -11,7 +12,7 @@ use p3_util::places::{Cells, Places, Source, Writes};
 use p3_util::reverse_counted;
 use p3_util::transpose::{transpose_counted, transpose_source_on};
 
-/// The items of a slice from the last to the first, to be read.
+/// The items of a slice from the last to the first, for reading.
 #[derive(Drop)]
 pub struct FromEnd<'a, T> {
     items: &'a [T],
@@ -41,8 +42,8 @@ impl<'a, T: Copy> Source for FromEnd<'a, T> {
     }
 }
 
-/// The items of a slice from the last to the first, to be reordered or written. What it holds is in
-/// the slice when the borrow ends.
+/// The items of a slice from the last to the first, to be reordered or written. When the borrow
+/// ends, its items are in the slice.
 #[derive(Drop)]
 pub struct FromEndMut<'a, T> {
     items: &'a mut [T],
@@ -97,7 +98,7 @@ impl<'a, T: Copy> Cells for FromEndMut<'a, T> {
     ghost same_holder_trans = { Prim.search rules };
 }
 
-/// Puts `v` at the place that is `i` places before the last.
+/// Writes `v` to the place that is `i` places before the last one.
 #[tactic(auto, using(p3_util::proofs::Callers::from_end_written))]
 fn put_from_end<T: Copy>(items: &mut [T], i: usize, v: T)
     requires { i < length items.old }
@@ -107,7 +108,7 @@ fn put_from_end<T: Copy>(items: &mut [T], i: usize, v: T)
     items[last - i] = v;
 }
 
-/// Exchanges the items that are `i` and `j` places before the last.
+/// Exchanges the items that are `i` and `j` places before the last one.
 #[tactic(auto, using(p3_util::proofs::Callers::from_end_swapped))]
 fn swap_from_end<T>(items: &mut [T], i: usize, j: usize)
     requires first { i < length items.old }
@@ -118,7 +119,7 @@ fn swap_from_end<T>(items: &mut [T], i: usize, j: usize)
     items.swap(last - i, last - j);
 }
 
-/// Reverses `values` by index bits, with the last item at place 0.
+/// Reverses `values` by index bits. The last item has place 0.
 pub fn reverse_from_end<T>(values: &mut [T])
     requires { IsReversible (length values.old) }
     ensures { IsReversal (reverse values.old) (reverse values.new) }
@@ -127,7 +128,7 @@ pub fn reverse_from_end<T>(values: &mut [T])
     reverse_counted(&mut places);
 }
 
-/// Puts the transpose of `values` from its end on into `out`.
+/// Writes the transpose of `values`, read from its end, to `out`.
 pub fn transpose_from_end<C: Cells>(
     values: &[C::Item],
     out: &mut Writes<C>,
@@ -143,7 +144,8 @@ pub fn transpose_from_end<C: Cells>(
     transpose_source_on(&FromEnd::new(values), out, width, height);
 }
 
-/// Puts the transpose of `input` into `values` from its end on, and returns the number of writes.
+/// Writes the transpose of `input` to `values`, beginning at its end, and returns the number of
+/// writes.
 pub fn transpose_to_end<T: Copy>(input: &[T], values: &mut [T], width: usize, height: usize) -> u128
     requires input_fits { length input.now ≡ width * height }
     requires output_fits { length values.old ≡ width * height }

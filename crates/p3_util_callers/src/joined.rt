@@ -1,7 +1,8 @@
-//! Two slices seen as one list, which a kernel reorders as any other holder, and callers. Each
-//! caller is given the holder, which another function makes: in the function that makes a struct of
-//! two `&mut`, a proof does not know what both end as. The file needs `p3_util` alone, so it can be
-//! copied as it stands.
+//! Two slices seen as one list, which a kernel reorders like any other holder, and callers. A
+//! holder is a value that gives access to a list only by index. Each caller takes the holder as an
+//! argument, and another function makes it. In the function that makes a struct of two `&mut`, a
+//! proof does not know what is behind both when they end. The file needs only `p3_util`, so it can
+//! be copied as it is.
 
 ghost use Rattle.std.specs.Prelude.{◌≡◌, ◌+◌, ◌*◌, ◌++◌, ◌^◌, ◌<◌, length, slice_set, swap};
 ghost use Rattle.std.proofs.Common.{rules};
@@ -13,8 +14,8 @@ use p3_util::reverse_counted;
 use p3_util::transpose::transpose_counted;
 use std::mem;
 
-/// The items of one slice and then those of another. What it holds is in the two when the borrows
-/// end.
+/// The items of one slice and then those of another one. When the borrows end, its items are in the
+/// two slices.
 #[derive(Drop)]
 pub struct Joined<'a, F> {
     front: &'a mut [F],
@@ -23,7 +24,7 @@ pub struct Joined<'a, F> {
 }
 
 impl<'a, F> Joined<'a, F> {
-    /// The two slices, whose lengths add up within a `usize`.
+    /// Joins two slices. The sum of their lengths must fit a `usize`.
     pub fn new(front: &'a mut [F], back: &'a mut [F]) -> Self
         requires { length front.old + length back.old < 2 ^ 64 }
         ensures front { result.front ≡ front.entry }
@@ -77,7 +78,7 @@ impl<'a, T: Copy> Cells for Joined<'a, T> {
     ghost same_holder_trans = { Prim.search rules };
 }
 
-/// Puts `v` at place `i` of the list that is `front` and then `back`.
+/// Writes `v` to place `i` of the list that is `front` and then `back`.
 #[tactic(auto, using(p3_util::proofs::Callers::joined_put_front, p3_util::proofs::Callers::joined_put_back))]
 fn put_in<T: Copy>(front: &mut [T], back: &mut [T], i: usize, v: T)
     requires { i < length (front.old ++ back.old) }
@@ -129,7 +130,8 @@ fn exchange_between<F>(front: &mut [F], i: usize, back: &mut [F], j: usize)
     mem::swap(&mut front[i], &mut back[j]);
 }
 
-/// Reverses by index bits the list that is the front and then the back. Each keeps its length.
+/// Reverses the list that is the front and then the back by index bits. Each slice keeps its
+/// length.
 pub fn reverse_joined<F>(joined: &mut Joined<F>)
     requires { IsReversible (length (joined.old.front.now ++ joined.old.back.now)) }
     ensures order { IsReversal (joined.old.front.now ++ joined.old.back.now)
@@ -140,8 +142,8 @@ pub fn reverse_joined<F>(joined: &mut Joined<F>)
     reverse_counted(joined);
 }
 
-/// Puts the transpose of `input` into the front and then the back, and returns the number of
-/// writes. Each keeps its length.
+/// Writes the transpose of `input` to the front and then the back, and returns the number of
+/// writes. Each slice keeps its length.
 pub fn transpose_into_joined<T: Copy>(
     input: &[T],
     joined: &mut Joined<T>,

@@ -1,6 +1,6 @@
-//! What a reordering keeps: a bound of all items, which items there are, their sum, how many pass a
-//! test, and the product of two lists that are reversed alike. A function that says `IsPermutation`
-//! needs a lemma, and who calls it needs none.
+//! What a reordering keeps: a bound on all items, which items there are, their sum, how many of
+//! them pass a test, and the sum of the products of two lists that are reversed in the same way. A
+//! function whose contract says `IsPermutation` needs a lemma. Its callers need none.
 
 ghost use Rattle.std.specs.Prelude.{◌≡◌, ℕ, ◌*◌, ◌^◌, ◌<◌, ◌≤◌, ◌==◌, All, Contains, IfOk, IfSome, IsPermutation, count_by, length, map, sum, zip};
 ghost use Rattle.p3_util.specs.Reversal.{FitsRows, IsReversible};
@@ -10,7 +10,7 @@ use p3_util::reverse::{reverse_slice_index_bits, reverse_slice_row_index_bits};
 use p3_util::transpose::transpose;
 use std::alloc::{AllocError, Global};
 
-/// Reverses `vals` by index bits: each item stays below `m`.
+/// Reverses `vals` by index bits. Each item stays below `m`.
 #[tactic(auto, using(p3_util::proofs::Callers::kept))]
 pub fn reverse_reduced(vals: &mut [u64], m: u64)
     requires power { IsReversible (length vals.old) }
@@ -20,7 +20,7 @@ pub fn reverse_reduced(vals: &mut [u64], m: u64)
     reverse_slice_index_bits(vals);
 }
 
-/// The same of rows.
+/// The same for rows.
 #[tactic(auto, using(p3_util::proofs::Callers::kept))]
 pub fn reverse_reduced_rows(vals: &mut [u64], row_width: usize, m: u64)
     requires power { FitsRows (length vals.old) row_width }
@@ -30,7 +30,7 @@ pub fn reverse_reduced_rows(vals: &mut [u64], row_width: usize, m: u64)
     reverse_slice_row_index_bits(vals, row_width);
 }
 
-/// Reverses `vals` by index bits, which has the same items then.
+/// Reverses `vals` by index bits. Afterwards it has the same items.
 #[tactic(auto, using(p3_util::proofs::Callers::permuted))]
 pub fn reordered<T>(vals: &mut [T])
     requires { IsReversible (length vals.old) }
@@ -39,7 +39,7 @@ pub fn reordered<T>(vals: &mut [T])
     reverse_slice_index_bits(vals);
 }
 
-/// Puts the transpose of `input` into `output`, which has the items of `input` then.
+/// Writes the transpose of `input` to `output`. Afterwards `output` has the items of `input`.
 #[tactic(auto, using(p3_util::proofs::Callers::permuted))]
 pub fn transposed<T: Copy>(input: &[T], output: &mut [T], width: usize, height: usize)
     requires input_fits { length input.now ≡ width * height }
@@ -49,7 +49,7 @@ pub fn transposed<T: Copy>(input: &[T], output: &mut [T], width: usize, height: 
     transpose(input, output, width, height);
 }
 
-/// The same of items below `m`, which stay so.
+/// The same for items below `m`, which stay below `m`.
 pub fn transpose_reduced(input: &[u64], output: &mut [u64], width: usize, height: usize, m: u64)
     requires input_fits { length input.now ≡ width * height }
     requires output_fits { length output.old ≡ width * height }
@@ -59,11 +59,11 @@ pub fn transpose_reduced(input: &[u64], output: &mut [u64], width: usize, height
     transposed(input, output, width, height);
 }
 
-/// `items` below `m`, padded with zeros to `len` items, which are below `m` too.
+/// `items`, which are below `m`, and then zeros, `len` items in total. All of them are below `m`.
 ///
 /// # Errors
 ///
-/// `AllocError` where there is no memory for them.
+/// `AllocError` if there is no memory for them.
 pub fn pad_reduced(alloc: Global, items: &[u64], len: usize, m: u64) -> Result<Vec<u64>, AllocError>
     requires room { length items.now ≤ len }
     requires some { 0 < m }
@@ -73,8 +73,8 @@ pub fn pad_reduced(alloc: Global, items: &[u64], len: usize, m: u64) -> Result<V
     padded_to(alloc, items, len)
 }
 
-/// Reorders `vals`: an item is there if and only if it was there before, and the items that are 0
-/// are as many as before.
+/// Reorders `vals`. An item is in it exactly if it was in it before, and it has as many zeros as
+/// before.
 pub fn reorder_and_keep(vals: &mut [u64])
     requires { IsReversible (length vals.old) }
     ensures kept { (x : ℕ) → Contains vals.old x → Contains vals.new x }
@@ -93,7 +93,7 @@ pub fn greatest(vals: &[u64]) -> Option<u64>
     vals.iter().copied().max()
 }
 
-/// Reverses `vals` by index bits, which had the same items before.
+/// Reverses `vals` by index bits. It had the same items before.
 #[tactic(auto, using(p3_util::proofs::Callers::permuted))]
 pub fn reordered_from<T>(vals: &mut [T])
     requires { IsReversible (length vals.old) }
@@ -102,7 +102,7 @@ pub fn reordered_from<T>(vals: &mut [T])
     reverse_slice_index_bits(vals);
 }
 
-/// Reorders `vals`, and returns the greatest item, which is what it was.
+/// Reorders `vals` and returns the greatest item, which is the same as before.
 pub fn greatest_after(vals: &mut [u64]) -> Option<u64>
     requires { IsReversible (length vals.old) }
     ensures { IfSome result (λ x. All (λ y. y ≤ x) vals.old) }
@@ -122,8 +122,8 @@ pub fn sum_of_products(xs: &[u32], ys: &[u32]) -> u64
         .sum()
 }
 
-/// Reverses two lists alike, which leaves the sum of the products of their items. A file names the
-/// lemma.
+/// Reverses two lists in the same way, which does not change the sum of the products of their
+/// items. A proof file names the lemma.
 pub fn reorder_both(xs: &mut [u32], ys: &mut [u32])
     requires power { IsReversible (length xs.old) }
     requires same { length ys.old ≡ length xs.old }
@@ -134,7 +134,7 @@ pub fn reorder_both(xs: &mut [u32], ys: &mut [u32])
     reverse_slice_index_bits(ys);
 }
 
-/// The sum of the products after both lists were reversed, which is what it was.
+/// The sum of the products after both lists were reversed, which is the same as before.
 pub fn sum_of_products_after(xs: &mut [u32], ys: &mut [u32]) -> u64
     requires power { IsReversible (length xs.old) }
     requires same { length ys.old ≡ length xs.old }

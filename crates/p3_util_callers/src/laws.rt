@@ -1,13 +1,13 @@
-//! A caller of the law of least numbers. The law is the contract of a call that does nothing, so
-//! whoever wants it calls that.
+//! A caller of the law on least numbers of steps. The law is the contract of a call that does
+//! nothing, so a function that needs the law makes the call.
 
 ghost use Rattle.std.specs.Prelude.{ℕ};
 ghost use Rattle.p3_util.specs.Least.{LeastReversal, LeastSquare};
 
 use p3_util::laws::least_runs;
 
-/// On lists of numbers that all differ, no shorter list of exchanges does what a short reversal
-/// does, or a square in place.
+/// For lists of numbers that are all different, no shorter list of exchanges has the effect of a
+/// short reversal, or of the transpose of a square in place.
 pub fn no_shorter_exchanges()
     ensures reversal { LeastReversal ℕ }
     ensures square { LeastSquare ℕ }

@@ -1,5 +1,5 @@
-//! Callers of the modules of `p3_util`, and holders of a caller's own, proved from public contracts
-//! and lemmas alone.
+//! Callers of the modules of `p3_util`, and holders that a caller defines, proved only from public
+//! contracts and lemmas. A holder is a value that gives access to a list only by index.
 #![tactic(auto)]
 
 pub mod array_serialization;

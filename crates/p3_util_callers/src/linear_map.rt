@@ -1,5 +1,5 @@
-//! Callers of `LinearMap`, proved by the map's public contracts alone: any list of calls, and the
-//! map's pairs as a list.
+//! Callers of `LinearMap`, proved only from the public contracts of the map: any list of calls, and
+//! the map's pairs as a list.
 ghost use Rattle.std.specs.Prelude.{◌≡◌, ◌≢◌, ℕ, ◌+◌, ◌^◌, ◌<◌, ◌++◌, false, [], ◌∷◌, None, Some, IfOk, OnOk, OnErr, length, nat_eq, slice_set, sum};
 ghost use Rattle.std.specs.List.{position_or_len};
 ghost use Rattle.std.specs.Map.{keys_of, values_of};
@@ -16,13 +16,13 @@ use std::mem::replace;
 pub enum Call<K, V> {
     Insert(K, V),
     Get(K),
-    /// Writes to the value that `get_mut` lends, if the key is there.
+    /// Writes to the value that `get_mut` lends, if the key is in the map.
     Write(K, V),
-    /// `get_or_insert_with` with a closure that gives the value.
+    /// `get_or_insert_with` with a closure that returns the value.
     GetOrInsert(K, V),
 }
 
-/// Makes one call, and gives what it answered.
+/// Makes one call and returns its answer.
 pub fn run_call<K: Eq + Copy, V: Copy>(
     map: &mut LinearMap<K, V>,
     call: &Call<K, V>,
@@ -48,7 +48,7 @@ pub fn run_call<K: Eq + Copy, V: Copy>(
     }
 }
 
-/// The map after `calls` on a new one, and what each call answered.
+/// Makes `calls` on a new map. Returns the map and the answer of each call.
 pub fn run_calls<K: Eq + Copy, V: Copy>(
     alloc: Global,
     calls: &[Call<K, V>],
@@ -65,7 +65,7 @@ pub fn run_calls<K: Eq + Copy, V: Copy>(
     Ok((map, answers))
 }
 
-/// Defines `symbol` in a table of symbols: afterwards it is found, and each other symbol is found
+/// Defines `symbol` in a table of symbols. Afterwards it is found, and each other symbol is found
 /// as before.
 #[tactic(auto, using(p3_util::proofs::Callers::put_found, p3_util::proofs::Callers::put_others))]
 pub fn define(
@@ -80,7 +80,7 @@ pub fn define(
     table.insert(symbol, offset)
 }
 
-/// The same of keys of any type, which are compared by their own test.
+/// The same for keys of any type, which are compared with their own `==`.
 #[tactic(auto, using(p3_util::proofs::Callers::put_found, p3_util::proofs::Callers::put_others))]
 pub fn define_key<K: Eq + Copy + Drop, V: Copy>(
     table: &mut LinearMap<K, V>,
@@ -94,8 +94,8 @@ pub fn define_key<K: Eq + Copy + Drop, V: Copy>(
     table.insert(key, value)
 }
 
-/// Gives `key` a value, after which all values are known: a new one comes last, and else it takes
-/// the place of the old one.
+/// Gives `key` a value. The contract states all values afterwards: the value of a new key is the
+/// last one, and that of a known key replaces the old value.
 #[tactic(auto, using(p3_util::proofs::Callers::values_after_new, p3_util::proofs::Callers::values_after_known))]
 pub fn insert_value<K: Eq + Copy + Drop, V: Copy>(
     map: &mut LinearMap<K, V>,
@@ -111,7 +111,7 @@ pub fn insert_value<K: Eq + Copy + Drop, V: Copy>(
     map.insert(key, value)
 }
 
-/// Counts `word` once more, by a look-up and `insert`: the sum of all counts grows by one.
+/// Counts `word` once more, with a look-up and `insert`. The sum of all counts grows by one.
 #[tactic(auto, using(p3_util::proofs::Callers::values_summed))]
 pub fn count_word<K: Eq + Copy + Drop>(
     counts: &mut LinearMap<K, u64>,
@@ -124,7 +124,7 @@ pub fn count_word<K: Eq + Copy + Drop>(
     counts.insert(word, count + 1)
 }
 
-/// The same by `get_or_insert_with`, which compares the word once.
+/// The same with `get_or_insert_with`, which compares the word only once.
 #[tactic(auto, using(p3_util::proofs::Callers::values_summed))]
 pub fn count_word_in_place<K: Eq + Copy + Drop>(
     counts: &mut LinearMap<K, u64>,
@@ -142,7 +142,7 @@ pub fn count_word_in_place<K: Eq + Copy + Drop>(
     }
 }
 
-/// How often each word comes.
+/// Counts how often each word occurs.
 #[tactic(auto, using(p3_util::proofs::Callers::values_summed))]
 pub fn count_words<'a>(
     alloc: Global,
@@ -160,7 +160,7 @@ pub fn count_words<'a>(
     Ok(counts)
 }
 
-/// The map that a list of pairs makes.
+/// The map that is made from a list of pairs.
 pub fn made_of(alloc: Global, pairs: &[(u32, u8)]) -> Result<LinearMap<u32, u8>, AllocError>
     ensures { IfOk result (λ m. m ≡ put_all nat_eq [] pairs.now) }
 {

@@ -1,6 +1,6 @@
-//! Loops of a caller's own, each with what it keeps in a file: a loop in place over numbers, a
-//! stage of a transform, a loop that takes one item after another into a state, and a merge of
-//! maps.
+//! Loops in the callers' own code, each with its invariant in a proof file: a loop that changes
+//! numbers in place, a stage of a transform, a loop that takes one item after another into a state,
+//! and a merge of maps.
 
 ghost use Rattle.std.specs.Prelude.{◌≡◌, ℕ, ◌+◌, ◌-◌, ◌*◌, ◌/◌, ◌%◌, ◌^◌, ◌<◌, ◌≤◌, All, OnOk, fold, length, map, nat_eq, slice_index};
 ghost use Rattle.p3_util.specs.LinearMap.{put_all};
@@ -21,9 +21,9 @@ pub fn reduce_each(vals: &mut [u64], m: u64)
     }
 }
 
-/// Puts the sum and the difference of the items at `2i` and `2i + 1`, modulo `m`, in their places.
-/// One step of a loop is a function of its own, so that the loop needs a file for its invariant
-/// alone.
+/// Replaces the items at `2i` and `2i + 1` with their sum and their difference, modulo `m`. One
+/// step of the loop is a function of its own, so that the loop needs a proof file only for its
+/// invariant.
 fn butterfly(vals: &mut [u64], i: usize, m: u64)
     requires inside { 2 * i + 1 < length vals.old }
     requires reduced { All (λ x. x < m) vals.old }
@@ -42,7 +42,7 @@ fn butterfly(vals: &mut [u64], i: usize, m: u64)
     vals[2 * i + 1] = (a + m - b) % m;
 }
 
-/// A stage of a transform over pairs of neighbours: the sum and the difference of each two, modulo
+/// A stage of a transform over pairs of neighbours: the sum and the difference of each pair, modulo
 /// `m`. The items stay below `m`.
 pub fn butterflies(vals: &mut [u64], m: u64)
     requires reduced { All (λ x. x < m) vals.old }
@@ -60,8 +60,8 @@ pub fn butterflies(vals: &mut [u64], m: u64)
     }
 }
 
-/// How a transform begins: the items are reversed by index bits, and then the first stage runs. All
-/// stay below `m`.
+/// The beginning of a transform: the items are reversed by index bits, and then the first stage
+/// runs. All items stay below `m`.
 #[tactic(auto, using(p3_util::proofs::Callers::kept))]
 pub fn reverse_and_first_stage(vals: &mut [u64], m: u64)
     requires power { IsReversible (length vals.old) }
@@ -73,8 +73,8 @@ pub fn reverse_and_first_stage(vals: &mut [u64], m: u64)
     butterflies(vals, m);
 }
 
-/// The state after it took in each lane, in order, as a loop. What is left is folded as all of it
-/// is.
+/// The state after it took in each lane, in order, with a loop. The invariant says that folding the
+/// remaining lanes from the current state gives the result for all lanes.
 pub fn absorbed(lanes: &[[u32; 2]]) -> u64
     ensures { result ≡ fold (λ s lane. (s + slice_index lane 0 * slice_index lane 1)
         % 2 ^ 64) 0 lanes.now }
@@ -86,11 +86,11 @@ pub fn absorbed(lanes: &[[u32; 2]]) -> u64
     state
 }
 
-/// Puts each of `pairs` into `map`, in order.
+/// Inserts each of `pairs` into `map`, in order.
 ///
 /// # Errors
 ///
-/// `AllocError` where there is no memory for a new key. The pairs before it are in the map then.
+/// `AllocError` if there is no memory for a new key. The pairs before it are then in the map.
 pub fn merge_into(map: &mut LinearMap<u32, u64>, pairs: &[(u32, u64)]) -> Result<(), AllocError>
     ensures { OnOk result (map.new ≡ put_all nat_eq map.old pairs.now) }
 {

@@ -1,5 +1,5 @@
-//! Two slices whose items move together, as one list of pairs, and a caller. The file needs
-//! `p3_util` alone, so it can be copied as it stands.
+//! Two slices that are reordered together, as one list of pairs, and a caller. The file needs only
+//! `p3_util`, so it can be copied as it is.
 
 ghost use Rattle.std.specs.Prelude.{◌≡◌, ◌<◌, length, swap, zip};
 ghost use Rattle.std.proofs.Common.{rules};
@@ -8,8 +8,8 @@ ghost use Rattle.p3_util.specs.Reversal.{IsReversal, IsReversible};
 use p3_util::places::Places;
 use p3_util::reverse_counted;
 
-/// Each item of `keys` with that of `values` at the same place. What it holds is in the two when
-/// the borrows end.
+/// Each item of `keys` with the item of `values` at the same place. When the borrows end, its items
+/// are in the two slices.
 #[derive(Drop)]
 pub struct PairsMut<'a, K, V> {
     keys: &'a mut [K],
@@ -18,7 +18,7 @@ pub struct PairsMut<'a, K, V> {
 }
 
 impl<'a, K, V> PairsMut<'a, K, V> {
-    /// The pairs of two slices of one length.
+    /// The pairs of two slices of the same length.
     pub fn new(keys: &'a mut [K], values: &'a mut [V]) -> Self
         requires { length values.old ≡ length keys.old }
         ensures keys { result.keys ≡ keys.entry }
@@ -64,7 +64,7 @@ fn exchange_pairs<K, V>(keys: &mut [K], values: &mut [V], i: usize, j: usize)
     values.swap(i, j);
 }
 
-/// Reverses two lists together by index bits. Another function makes the holder of both.
+/// Reverses two lists together by index bits. Another function makes the holder of the two lists.
 pub fn reverse_pairs<K, V>(pairs: &mut PairsMut<K, V>)
     requires { IsReversible (length (zip pairs.old.keys.now pairs.old.values.now)) }
     ensures { IsReversal (zip pairs.old.keys.now pairs.old.values.now)

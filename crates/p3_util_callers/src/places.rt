@@ -1,4 +1,5 @@
-//! Callers of the counters, and of a holder's steps on some places of a list.
+//! Callers of the counters, and of the steps of a holder on some places of a list. A holder is a
+//! value that gives access to a list only by index.
 
 ghost use Rattle.std.specs.Prelude.{◌≡◌, ◌+◌, ◌-◌, ◌*◌, ◌/◌, ◌<◌, Some, length, slice_get, swap};
 ghost use Rattle.p3_util.specs.ItemsAt.{items_at};
@@ -6,7 +7,8 @@ ghost use Rattle.p3_util.specs.Steps.{counted};
 
 use p3_util::places::{Places, Swaps};
 
-/// Moves the item at place `i` to `k`, that at `k` to `j` and that at `j` to `i`, by two swaps.
+/// Moves the item at place `i` to `k`, the one at `k` to `j` and the one at `j` to `i`, with two
+/// swaps.
 pub fn rotate_three<S: Places>(m: &mut Swaps<S>, i: usize, j: usize, k: usize)
     requires first { i < length (S.items m.old.holder) }
     requires second { j < length (S.items m.old.holder) }
@@ -19,8 +21,8 @@ pub fn rotate_three<S: Places>(m: &mut Swaps<S>, i: usize, j: usize, k: usize)
     m.swap(j, k);
 }
 
-/// The same with the items at four places, by three swaps. A search adds up two numbers of steps,
-/// so two of three calls are in a function of their own.
+/// The same with the items at four places, with three swaps. The proof search adds up only two
+/// numbers of steps, so two of the three calls are in a function of their own.
 pub fn rotate_four<S: Places>(m: &mut Swaps<S>, i: usize, j: usize, k: usize, l: usize)
     requires first { i < length (S.items m.old.holder) }
     requires second { j < length (S.items m.old.holder) }
@@ -34,8 +36,8 @@ pub fn rotate_four<S: Places>(m: &mut Swaps<S>, i: usize, j: usize, k: usize, l:
     m.swap(k, l);
 }
 
-/// Item `i` of the `n` items that lie `step` places apart from place `from` on. A file names the
-/// lemma.
+/// Item `i` of `n` items, each `step` places after the one before, from place `from` on. A proof
+/// file names the lemma.
 #[tactic(auto, using(p3_util::proofs::Callers::strided_inside))]
 pub fn strided_item<T: Copy>(xs: &[T], from: usize, step: usize, n: usize, i: usize) -> T
     requires room { from + (n - 1) * step < length xs.now }
@@ -45,9 +47,9 @@ pub fn strided_item<T: Copy>(xs: &[T], from: usize, step: usize, n: usize, i: us
     xs[from + i * step]
 }
 
-/// Exchanges the items at the even places `2 * i` and `2 * j`, which are items `i` and `j` of the
-/// list of those. The lemma is given the function of the places in a file, since no search finds a
-/// function.
+/// Exchanges the items at the even places `2 * i` and `2 * j`. In the list of the items at even
+/// places these are items `i` and `j`. A proof file gives the lemma the function of the places,
+/// since the proof search does not find functions.
 pub fn exchange_even<F>(items: &mut [F], i: usize, j: usize)
     requires first { 2 * i < length items.old }
     requires second { 2 * j < length items.old }

@@ -1,5 +1,5 @@
-//! Callers of bit reversal. None of them has a proof by hand: the test in front of a call is
-//! enough, or a lemma that is named.
+//! Callers of bit reversal. None of them has a proof by hand: a test before the call is enough, or
+//! a lemma that the function names.
 
 ghost use Rattle.std.specs.Prelude.{◌≡◌, ℕ, ◌+◌, ◌-◌, ◌*◌, ◌^◌, ◌<◌, ◌≤◌, ◌↔◌, [], ◌∷◌, IsTrue, IsFalse, IfOk, drop, length, map, slice_get, slice_index, take};
 ghost use Rattle.std.specs.Int.{is_power_of_two};
@@ -15,8 +15,8 @@ use p3_util::reverse::{
 };
 use std::alloc::{AllocError, Global};
 
-/// Reverses `vals` by index bits. `false`, and nothing done, where the length is neither zero nor a
-/// power of two.
+/// Reverses `vals` by index bits and returns `true`. If the length is neither zero nor a power of
+/// two, returns `false` and changes nothing.
 pub fn reverse_where_it_fits<F>(vals: &mut [F]) -> bool
     ensures done { IsTrue result → IsReversal vals.old vals.new }
     ensures left { IsFalse result → vals.new ≡ vals.old }
@@ -29,8 +29,8 @@ pub fn reverse_where_it_fits<F>(vals: &mut [F]) -> bool
     fits
 }
 
-/// Reverses `vals` by index bits if the length is a power of two, by std's test. Otherwise leaves
-/// it.
+/// Reverses `vals` by index bits if the length passes std's test for a power of two, and otherwise
+/// leaves it as it was.
 pub fn reverse_power_of_two<F>(vals: &mut [F])
     ensures done { IsTrue (is_power_of_two (length vals.old)) → IsReversal vals.old vals.new }
     ensures left { IsFalse (is_power_of_two (length vals.old)) → vals.new ≡ vals.old }
@@ -40,7 +40,7 @@ pub fn reverse_power_of_two<F>(vals: &mut [F])
     }
 }
 
-/// Four numbers written out, in the order of their reversed index bits.
+/// Four numbers of a literal, in the order of their reversed index bits.
 pub fn reversed_literal() -> [u32; 4]
     ensures { IsReversal (10 ∷ 20 ∷ 30 ∷ 40 ∷ []) result }
 {
@@ -49,8 +49,8 @@ pub fn reversed_literal() -> [u32; 4]
     items
 }
 
-/// Reverses the order of the `2^lb_num_chunks` chunks of `2^lb_chunk_size` items where `m` is as
-/// long as these. `false`, and nothing done, elsewhere.
+/// Reverses the order of `2^lb_num_chunks` chunks of `2^lb_chunk_size` items and returns `true`, if
+/// `m` has as many items as these chunks. Otherwise returns `false` and changes nothing.
 pub fn reverse_chunks_where_they_fit<S: Places>(
     m: &mut Swaps<S>,
     lb_num_chunks: usize,
@@ -72,7 +72,7 @@ pub fn reverse_chunks_where_they_fit<S: Places>(
     }
 }
 
-/// Reverses `vals` by index bits twice, as a transform and its inverse do, which leaves it as it
+/// Reverses `vals` by index bits twice, as a transform and its inverse do. This leaves `vals` as it
 /// was.
 #[tactic(auto, using(p3_util::proofs::Callers::reversed_twice))]
 pub fn reverse_twice<F>(vals: &mut [F])
@@ -83,7 +83,7 @@ pub fn reverse_twice<F>(vals: &mut [F])
     reverse_slice_index_bits(vals);
 }
 
-/// The same of any holder.
+/// The same for any holder, which is a value that gives access to a list only by index.
 #[tactic(auto, using(p3_util::proofs::Callers::reversed_twice))]
 pub fn reverse_holder_twice<S: Places>(places: &mut S)
     requires { IsReversible (length (S.items places.old)) }
@@ -93,7 +93,7 @@ pub fn reverse_holder_twice<S: Places>(places: &mut S)
     reverse_counted(places);
 }
 
-/// Reverses `vals` by index bits, and returns the item that is at place `i` then.
+/// Reverses `vals` by index bits, and returns the item that is then at place `i`.
 #[tactic(auto, using(p3_util::proofs::Callers::reversed_read))]
 pub fn item_after(vals: &mut [u64], k: usize, i: usize) -> u64
     requires len { length vals.old ≡ 2 ^ k }
@@ -104,8 +104,8 @@ pub fn item_after(vals: &mut [u64], k: usize, i: usize) -> u64
     vals[i]
 }
 
-/// Reverses `vals` by index bits, and returns one item twice: read before at the reversed index,
-/// and after at the index.
+/// Reverses `vals` by index bits, and returns one item twice: read at the reversed index before the
+/// reversal, and at the index after it.
 #[tactic(auto, using(p3_util::proofs::Callers::reversed_read))]
 pub fn item_before_and_after<T: Copy>(vals: &mut [T], k: usize, i: usize) -> (T, T)
     requires some { 1 ≤ k }
@@ -119,15 +119,15 @@ pub fn item_before_and_after<T: Copy>(vals: &mut [T], k: usize, i: usize) -> (T,
     (before, vals[i])
 }
 
-/// Twice each of `vals`.
+/// The double of each item of `vals`.
 pub fn doubled(alloc: Global, vals: &[u32]) -> Result<Vec<u64>, AllocError>
     ensures { IfOk result (λ twice. twice.items ≡ map (λ x. 2 * x) vals.now) }
 {
     vals.iter().map(|x| 2 * u64::from(*x)).collect(alloc)
 }
 
-/// The same by way of a reversal: it reverses `vals`, doubles each item, and reverses these back.
-/// `vals` stays reversed.
+/// The same by way of a reversal: reverses `vals`, doubles each item, and reverses the doubled
+/// items back. `vals` stays reversed.
 #[tactic(auto, using(p3_util::proofs::Callers::reversed_worked))]
 pub fn doubled_in_reversed_order(alloc: Global, vals: &mut [u32]) -> Result<Vec<u64>, AllocError>
     requires { IsReversible (length vals.old) }
@@ -138,7 +138,7 @@ pub fn doubled_in_reversed_order(alloc: Global, vals: &mut [u32]) -> Result<Vec<
     Ok(reversed(worked))
 }
 
-/// The items of `vals` by reversed index bits.
+/// The items of `vals` in the order of reversed index bits.
 pub fn reversed<T>(mut vals: Vec<T>) -> Vec<T>
     requires { IsReversible (length vals.items) }
     ensures { IsReversal vals.items result.items }
@@ -147,8 +147,8 @@ pub fn reversed<T>(mut vals: Vec<T>) -> Vec<T>
     vals
 }
 
-/// Reverses the order of the rows of `vals`, of `row_width` items each, twice, which leaves it as
-/// it was.
+/// Reverses the order of the rows of `vals`, of `row_width` items each, twice. This leaves `vals`
+/// as it was.
 #[tactic(auto, using(p3_util::proofs::Callers::rows_reversed_twice))]
 pub fn reverse_rows_twice<F>(vals: &mut [F], row_width: usize)
     requires { FitsRows (length vals.old) row_width }
@@ -158,8 +158,8 @@ pub fn reverse_rows_twice<F>(vals: &mut [F], row_width: usize)
     reverse_slice_row_index_bits(vals, row_width);
 }
 
-/// In reversed order the items at places `2i` and `2i + 1`, which a fold takes together, are those
-/// of one half and of the other.
+/// Reverses `vals` by index bits. Then the items at places `2i` and `2i + 1`, which a fold takes
+/// together, are an item of one half and an item of the other half of the original list.
 #[tactic(auto, using(p3_util::proofs::Callers::reversed_even, p3_util::proofs::Callers::reversed_odd))]
 pub fn halves_side_by_side<F>(vals: &mut [F])
     requires { IsReversible (length vals.old) }
@@ -171,7 +171,8 @@ pub fn halves_side_by_side<F>(vals: &mut [F])
     reverse_slice_index_bits(vals);
 }
 
-/// Reverses `m` by index bits: what was there is the reversal of what is there, too.
+/// Reverses `m` by index bits. The contract states that the old list is the reversal of the new
+/// one.
 #[tactic(auto, using(p3_util::proofs::Callers::reversed_back))]
 pub fn reverse_from<S: Places>(m: &mut Swaps<S>)
     requires { IsReversible (length (S.items m.old.holder)) }
@@ -180,7 +181,7 @@ pub fn reverse_from<S: Places>(m: &mut Swaps<S>)
     reverse_index_bits_on(m);
 }
 
-/// The same of rows.
+/// The same for rows.
 #[tactic(auto, using(p3_util::proofs::Callers::reversed_back))]
 pub fn reverse_rows_from<S: Places>(m: &mut Swaps<S>, row_width: usize)
     requires { FitsRows (length (S.items m.old.holder)) row_width }
@@ -189,8 +190,8 @@ pub fn reverse_rows_from<S: Places>(m: &mut Swaps<S>, row_width: usize)
     reverse_row_index_bits_on(m, row_width);
 }
 
-/// Reverses two holders of the same items, one by the short path and one by the long one. They have
-/// the same items then.
+/// Reverses two holders of the same items, one with the short path and one with the long path.
+/// Afterwards they have the same items.
 #[tactic(auto, using(p3_util::proofs::Callers::reversed_once))]
 pub fn reverse_by_both_paths<S: Places>(one: &mut Swaps<S>, other: &mut Swaps<S>)
     requires fits { IsReversible (length (S.items one.old.holder)) }
@@ -202,7 +203,8 @@ pub fn reverse_by_both_paths<S: Places>(one: &mut Swaps<S>, other: &mut Swaps<S>
     reverse_index_bits_long(other);
 }
 
-/// Reverses the rows of a slice and of a holder of the same items. They have the same items then.
+/// Reverses the rows of a slice and of a holder with the same items. Afterwards they have the same
+/// items.
 #[tactic(auto, using(p3_util::proofs::Callers::rows_reversed_once))]
 pub fn reverse_rows_of_both<S: Places>(one: &mut [S::Item], other: &mut S, row_width: usize)
     requires fits { FitsRows (length one.old) row_width }
@@ -213,7 +215,7 @@ pub fn reverse_rows_of_both<S: Places>(one: &mut [S::Item], other: &mut S, row_w
     reverse_rows_counted(other, row_width);
 }
 
-/// Reverses by index bits what stands from place `from` on. The items before it stay.
+/// Reverses the items from place `from` on by index bits. The items before it stay as they are.
 pub fn reverse_from_place<T>(xs: &mut [T], from: usize)
     requires inside { from ≤ length xs.old }
     requires power { IsReversible (length xs.old - from) }
@@ -223,7 +225,7 @@ pub fn reverse_from_place<T>(xs: &mut [T], from: usize)
     reverse_slice_index_bits(&mut xs[from..]);
 }
 
-/// Reverses by index bits the `len` items from place `from` on.
+/// Reverses the `len` items from place `from` on by index bits.
 pub fn reverse_window<T>(xs: &mut [T], from: usize, len: usize)
     requires inside { from + len ≤ length xs.old }
     requires power { IsReversible len }
@@ -232,8 +234,8 @@ pub fn reverse_window<T>(xs: &mut [T], from: usize, len: usize)
     reverse_slice_index_bits(&mut xs[from..from + len]);
 }
 
-/// A copy of `xs` in the order of reversed index bits. `to_vec` calls `clone`, of which nothing is
-/// known for any `T: Copy`.
+/// A copy of `xs` in the order of reversed index bits. It is not made with `to_vec`, which calls
+/// `clone`: nothing is known of the `clone` of a type `T: Copy`.
 ///
 /// # Errors
 ///

@@ -1,5 +1,5 @@
-//! Callers that read a table in the order of reversed index bits, or put one into it: reads, folds
-//! and sums. A loop and a sum that wraps have a proof file.
+//! Callers that read a table in the order of reversed index bits, or reorder a table: reads, folds
+//! and sums. A loop and a wrapping sum have proof files.
 
 ghost use Rattle.std.specs.Prelude.{◌≡◌, ℕ, ◌+◌, ◌*◌, ◌/◌, ◌%◌, ◌^◌, ◌<◌, ◌≤◌, IfOk, List, Some, fold, length, map, slice_get, slice_index, sum};
 ghost use Rattle.std.specs.Int.{IsPowerOfTwo};
@@ -12,10 +12,10 @@ use p3_util::reverse::{reverse_slice_index_bits, reverse_slice_row_index_bits};
 use p3_util::transpose::transpose;
 use std::alloc::{AllocError, Global};
 
-// Reads: an item of a reordered table, or all of them by place.
+// Reads: one item of a reordered table, or all items by place.
 
-/// Puts a table of evaluations into the order of reversed index bits: place `i` has the item of the
-/// reversed index then.
+/// Puts a table of evaluations into the order of reversed index bits. Then place `i` holds the item
+/// that was at the reversed index.
 #[tactic(auto, using(p3_util::proofs::Callers::reversed_place))]
 pub fn reorder_evaluations<T>(evals: &mut [T])
     requires { IsReversible (length evals.old) }
@@ -25,7 +25,8 @@ pub fn reorder_evaluations<T>(evals: &mut [T])
     reverse_slice_index_bits(evals);
 }
 
-/// Reorders the table, and returns item `i` of it then, which was at the reversed index.
+/// Reorders the table, and returns item `i` of the reordered table, which was at the reversed
+/// index.
 #[tactic(auto, using(p3_util::proofs::Callers::reversed_read))]
 pub fn evaluation_after<T: Copy>(evals: &mut [T], k: usize, i: usize) -> T
     requires len { length evals.old ≡ 2 ^ k }
@@ -36,7 +37,7 @@ pub fn evaluation_after<T: Copy>(evals: &mut [T], k: usize, i: usize) -> T
     evals[i]
 }
 
-/// Reorders the table, and returns the item that was at `i`, which is at the reversed index then.
+/// Reorders the table, and returns the item that was at `i`, which is then at the reversed index.
 #[tactic(auto, using(p3_util::proofs::Callers::reversed_read))]
 pub fn evaluation_kept<T: Copy>(evals: &mut [T], k: usize, i: usize) -> T
     requires some { 1 ≤ k }
@@ -49,7 +50,7 @@ pub fn evaluation_kept<T: Copy>(evals: &mut [T], k: usize, i: usize) -> T
     evals[reverse_bits_len(i, k)]
 }
 
-/// The same of a table of numbers.
+/// The same for a table of numbers.
 #[tactic(auto, using(p3_util::proofs::Callers::reversed_read))]
 pub fn number_after(evals: &mut [u64], k: usize, i: usize) -> u64
     requires len { length evals.old ≡ 2 ^ k }
@@ -60,7 +61,7 @@ pub fn number_after(evals: &mut [u64], k: usize, i: usize) -> u64
     evals[i]
 }
 
-/// Item `i` of a table that somebody has reordered: it was at the reversed index.
+/// Item `i` of a table that was reordered before the call: the item was at the reversed index.
 #[tactic(auto, using(p3_util::proofs::Callers::reversed_read))]
 pub fn item_of_reordered<T: Copy>(table: &[T], k: usize, i: usize) -> T
     requires len { length table.now ≡ 2 ^ k }
@@ -71,8 +72,8 @@ pub fn item_of_reordered<T: Copy>(table: &[T], k: usize, i: usize) -> T
     table[i]
 }
 
-/// The item that was at `i` in a table of two items or more that somebody has reordered, by the
-/// length alone.
+/// The item that was at `i` in a table that was reordered before the call. The table has at least
+/// two items, and the number of digits follows from its length.
 #[tactic(auto, using(p3_util::proofs::Callers::reversed_read))]
 pub fn item_before_reorder<T: Copy>(table: &[T], i: usize) -> T
     requires power { IsPowerOfTwo (length table.now) }
@@ -84,7 +85,7 @@ pub fn item_before_reorder<T: Copy>(table: &[T], i: usize) -> T
     table[reverse_bits(i, table.len())]
 }
 
-/// Item `i` of a table that somebody has reordered, or `None` where there is none.
+/// Item `i` of a table that was reordered before the call, or `None` if there is no such item.
 #[tactic(auto, using(p3_util::proofs::Callers::reversed_read))]
 pub fn got_of_reordered<T: Copy>(table: &[T], k: usize, i: usize) -> Option<T>
     requires len { length table.now ≡ 2 ^ k }
@@ -94,8 +95,8 @@ pub fn got_of_reordered<T: Copy>(table: &[T], k: usize, i: usize) -> Option<T>
     table.get(i).copied()
 }
 
-/// The item that a reversal by index bits brings to place `i`, read where it lies, by the length
-/// alone.
+/// The item that a reversal by index bits moves to place `i`, read from the place where it is
+/// before the reversal. The number of digits follows from the length.
 pub fn item_by_length<T: Copy>(table: &[T], k: usize, i: usize) -> T
     requires some { 1 ≤ k }
     requires len { length table.now ≡ 2 ^ k }
@@ -105,7 +106,7 @@ pub fn item_by_length<T: Copy>(table: &[T], k: usize, i: usize) -> T
     table[reverse_bits(i, table.len())]
 }
 
-/// A reordered copy of a table, which stays as it is.
+/// A reordered copy of a table. The table itself does not change.
 pub fn reordered_copy(alloc: Global, evals: &[u32], k: usize) -> Result<Vec<u32>, AllocError>
     requires some { 1 ≤ k }
     requires few { k < 64 }
@@ -118,8 +119,8 @@ pub fn reordered_copy(alloc: Global, evals: &[u32], k: usize) -> Result<Vec<u32>
         .collect(alloc)
 }
 
-/// Puts the items of `table` into `out` by their reversed indices, which makes it the reversal.
-/// What the loop keeps is in a file.
+/// Writes the items of `table` to `out` by their reversed indices, which makes `out` the reversal.
+/// The loop invariant is in a proof file.
 pub fn reordered_into<T: Copy>(table: &[T], out: &mut [T], k: usize)
     requires some { 1 ≤ k }
     requires few { k < 64 }
@@ -132,11 +133,11 @@ pub fn reordered_into<T: Copy>(table: &[T], out: &mut [T], k: usize)
     }
 }
 
-/// Twice each item.
+/// The double of each item.
 ///
 /// # Errors
 ///
-/// `AllocError` where there is no memory for them.
+/// `AllocError` if there is no memory for them.
 pub fn doubled_by_place(alloc: Global, items: &[u32]) -> Result<Vec<u64>, AllocError>
     ensures len { IfOk result (λ twice. length twice.items ≡ length items.now) }
     ensures places { IfOk result (λ twice. (i : ℕ) → i < length items.now
@@ -145,11 +146,12 @@ pub fn doubled_by_place(alloc: Global, items: &[u32]) -> Result<Vec<u64>, AllocE
     items.iter().map(|x| 2 * u64::from(*x)).collect(alloc)
 }
 
-/// Reorders the items, and doubles each: a callee with two clauses, one of them by places.
+/// Reorders the items and doubles each: the call that doubles has two clauses, one of which is
+/// stated by places.
 ///
 /// # Errors
 ///
-/// `AllocError` where there is no memory for them. The items are reordered then.
+/// `AllocError` if there is no memory for the doubled items. The items are then reordered.
 #[tactic(auto, using(p3_util::proofs::Callers::reversed_index))]
 pub fn doubled_after(alloc: Global, items: &mut [u32], k: usize) -> Result<Vec<u64>, AllocError>
     requires { length items.old ≡ 2 ^ k }
@@ -161,7 +163,7 @@ pub fn doubled_after(alloc: Global, items: &mut [u32], k: usize) -> Result<Vec<u
     doubled_by_place(alloc, items)
 }
 
-/// Reverses a table of numbers by index bits, said by place.
+/// Reverses a table of numbers by index bits. The contract states each place.
 #[tactic(auto, using(p3_util::proofs::Callers::reversed_index))]
 pub fn reorder_numbers(values: &mut [u64], k: usize)
     requires { length values.old ≡ 2 ^ k }
@@ -170,12 +172,12 @@ pub fn reorder_numbers(values: &mut [u64], k: usize)
     reverse_slice_index_bits(values);
 }
 
-/// Doubles each item, and reorders what comes of it. Two calls in a row are said by place where the
-/// reversal is in a function of its own.
+/// Doubles each item and reorders the doubled items. The contract of two calls in a row can state
+/// each place if the reversal is in a function of its own.
 ///
 /// # Errors
 ///
-/// `AllocError` where there is no memory for them.
+/// `AllocError` if there is no memory for them.
 #[tactic(auto, using(p3_util::proofs::Callers::rev_below))]
 pub fn doubled_then_reordered(
     alloc: Global,
@@ -192,7 +194,8 @@ pub fn doubled_then_reordered(
 }
 
 /// Puts the columns of a matrix of `height` rows of `width` items into the order of their reversed
-/// index: `scratch` has its transpose, whose rows are reversed, and then it is transposed back.
+/// indices. The matrix is transposed into `scratch`, whose rows are reversed, and then transposed
+/// back.
 #[tactic(auto, using(p3_util::proofs::Callers::rev_below))]
 pub fn reverse_columns<T: Copy>(matrix: &mut [T], scratch: &mut [T], width: usize, height: usize)
     requires matrix_fits { length matrix.old ≡ width * height }
@@ -207,10 +210,10 @@ pub fn reverse_columns<T: Copy>(matrix: &mut [T], scratch: &mut [T], width: usiz
     transpose(scratch, matrix, height, width);
 }
 
-// Folds: the items at 2i and 2i + 1, which come from one half of the table and from the other.
+// Folds: the items at 2i and 2i + 1 come from one half of the table and from the other.
 
-/// Reverses `values` by index bits, and adds up the items at `2i` and `2i + 1` then, as the first
-/// pass of a transform does.
+/// Reverses `values` by index bits, and then adds the items at `2i` and `2i + 1`, as the first pass
+/// of a transform does.
 #[tactic(auto, using(p3_util::proofs::Callers::even_read, p3_util::proofs::Callers::odd_read))]
 pub fn sum_of_pair(values: &mut [u32], k: usize, i: usize) -> u64
     requires len { length values.old ≡ 2 ^ (k + 1) }
@@ -225,7 +228,7 @@ pub fn sum_of_pair(values: &mut [u32], k: usize, i: usize) -> u64
 ///
 /// # Errors
 ///
-/// `AllocError` where there is no memory for the sums.
+/// `AllocError` if there is no memory for the sums.
 pub fn sums_of_neighbours(alloc: Global, evals: &[u32]) -> Result<Vec<u64>, AllocError>
     ensures len { IfOk result (λ sums. length sums.items ≡ length evals.now / 2) }
     ensures sums { IfOk result (λ sums. (i : ℕ) → i < length evals.now / 2
@@ -237,11 +240,12 @@ pub fn sums_of_neighbours(alloc: Global, evals: &[u32]) -> Result<Vec<u64>, Allo
         .collect(alloc)
 }
 
-/// Reorders the table, and folds it: each sum is that of an item of one half and one of the other.
+/// Reorders the table and folds it. Each sum is that of an item of one half and an item of the
+/// other.
 ///
 /// # Errors
 ///
-/// `AllocError` where there is no memory for the sums. The table is reordered then.
+/// `AllocError` if there is no memory for the sums. The table is then reordered.
 #[tactic(auto, using(p3_util::proofs::Callers::even_read, p3_util::proofs::Callers::odd_read))]
 pub fn fold_after(alloc: Global, evals: &mut [u32], k: usize) -> Result<Vec<u64>, AllocError>
     requires { length evals.old ≡ 2 ^ (k + 1) }
@@ -264,7 +268,7 @@ pub fn sum_of(items: &[u64]) -> u64
     items.iter().sum()
 }
 
-/// Reorders the table, and returns the sum of all its items, which is as it was.
+/// Reorders the table and returns the sum of all its items, which is the same as before.
 #[tactic(auto, using(p3_util::proofs::Callers::kept_sum))]
 pub fn sum_after(evals: &mut [u64]) -> u64
     requires power { IsReversible (length evals.old) }
@@ -275,7 +279,7 @@ pub fn sum_after(evals: &mut [u64]) -> u64
     sum_of(evals)
 }
 
-/// The sum of each item of a table times a weight, where the weights go in reversed order.
+/// The sum of the items of a table, each times a weight. The weights are taken in reversed order.
 pub fn weighted_sum(evals: &[u32], weights: &[u16], k: usize) -> u64
     requires some { 1 ≤ k }
     requires few { k < 64 }
@@ -291,21 +295,21 @@ pub fn weighted_sum(evals: &[u32], weights: &[u16], k: usize) -> u64
         .sum()
 }
 
-/// The sum of all items as it is folded, which wraps.
+/// The sum of all items modulo 2^32, with a contract that states a fold.
 pub fn folded_sum(items: &[u32]) -> u32
     ensures { result ≡ fold (λ s x. (s + x) % 2 ^ 32) 0 items.now }
 {
     items.iter().fold(0u32, |s, x| s.wrapping_add(*x))
 }
 
-/// The sum of all items mod 2^32. A file says it of the fold.
+/// The sum of all items modulo 2^32. A proof file derives it from the fold.
 pub fn wrapping_sum(items: &[u32]) -> u32
     ensures { result ≡ sum items.now % 2 ^ 32 }
 {
     folded_sum(items)
 }
 
-/// Reorders the table, and returns a checksum of it, which is as it was.
+/// Reorders the table and returns its checksum, which is the same as before.
 #[tactic(auto, using(p3_util::proofs::Callers::kept_sum))]
 pub fn checksum_after(items: &mut [u32]) -> u32
     requires { IsReversible (length items.old) }

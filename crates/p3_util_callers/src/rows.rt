@@ -1,5 +1,5 @@
-//! Callers that reverse each row of a matrix by index bits, in place. What a loop keeps is in a
-//! file of its own: the rows above are reversed, and all below are as they were.
+//! Callers that reverse each row of a matrix by index bits, in place. The loop invariants are in
+//! proof files: the rows above are reversed, and all rows below are as they were.
 
 ghost use Rattle.std.specs.Prelude.{◌≡◌, ◌+◌, ◌*◌, ◌<◌, ◌≤◌, [], EachIndex, Some, drop, length, slice_get, slice_index_or, take};
 ghost use Rattle.p3_util.specs.Reversal.{IsReversal, IsReversible};
@@ -7,8 +7,8 @@ ghost use Rattle.p3_util_callers.specs.EachRow.{AreRowsReversed};
 
 use p3_util::reverse_slice_index_bits;
 
-/// Reverses each of the `height` rows of `width` items of `values`, as the part of the slice that
-/// it is.
+/// Reverses each of the `height` rows of `width` items of `values`. Each row is passed as a part of
+/// the slice.
 pub fn reverse_each_row<T>(values: &mut [T], width: usize, height: usize)
     requires fits { length values.old ≡ height * width }
     requires power { IsReversible width }
@@ -30,7 +30,7 @@ pub fn reverse_each_array<T, const N: usize>(rows: &mut [[T; N]])
     }
 }
 
-/// The same of a vector, by way of its slice.
+/// The same for a vector, by way of its slice.
 pub fn reverse_each_in_vec<T, const N: usize>(rows: &mut Vec<[T; N]>)
     requires { IsReversible N }
     ensures { EachIndex rows.new.items (λ r. IsReversal (slice_index_or rows.old.items r [])

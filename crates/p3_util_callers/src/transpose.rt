@@ -19,8 +19,8 @@ use p3_util::transpose::{
 };
 use std::alloc::{AllocError, Global};
 
-/// Transposes `matrix`, of `height` rows of `width` items, by way of `scratch`. `false`, and
-/// nothing done, where the lengths are not those of such a matrix.
+/// Transposes `matrix`, of `height` rows of `width` items, by way of `scratch`, and returns `true`.
+/// If the lengths are not those of such a matrix, returns `false` and changes nothing.
 pub fn transpose_by_way_of<T: Copy>(
     matrix: &mut [T],
     scratch: &mut [T],
@@ -40,8 +40,8 @@ pub fn transpose_by_way_of<T: Copy>(
     true
 }
 
-/// Transposes `matrix` into `scratch` and back, which leaves `matrix` as it was and its transpose
-/// in `scratch`.
+/// Transposes `matrix` into `scratch` and back. This leaves `matrix` as it was and its transpose in
+/// `scratch`.
 #[tactic(auto, using(p3_util::proofs::Callers::transposed_back))]
 pub fn transpose_there_and_back<T: Copy>(
     matrix: &mut [T],
@@ -58,8 +58,8 @@ pub fn transpose_there_and_back<T: Copy>(
     transpose(scratch, matrix, height, width);
 }
 
-/// The same by way of a vector. One `as_mut_slice` serves both calls, since with a loan for each
-/// the search loses the items.
+/// The same by way of a vector. A single `as_mut_slice` serves both calls, since with a loan for
+/// each call the proof search loses the items.
 #[tactic(auto, using(p3_util::proofs::Callers::transposed_back))]
 pub fn transpose_by_vector_and_back<T: Copy + Default>(
     alloc: Global,
@@ -77,7 +77,7 @@ pub fn transpose_by_vector_and_back<T: Copy + Default>(
     Ok(())
 }
 
-/// The way back alone: `transposed` is the transpose of a matrix, and `output` becomes that matrix.
+/// Only the way back: `transposed` is the transpose of a matrix, and `output` becomes that matrix.
 #[tactic(auto, using(p3_util::proofs::Callers::transposed_back))]
 pub fn transpose_back<T: Copy>(transposed: &[T], output: &mut [T], width: usize, height: usize)
     requires transposed_fits { length transposed.now ≡ width * height }
@@ -89,7 +89,7 @@ pub fn transpose_back<T: Copy>(transposed: &[T], output: &mut [T], width: usize,
     transpose(transposed, output, width, height);
 }
 
-/// Puts the transpose of one matrix into two slices, which have the same items then.
+/// Writes the transpose of one matrix to two slices. Afterwards both have the same items.
 #[tactic(auto, using(p3_util::proofs::Callers::transposed_once))]
 pub fn transpose_into_two<T: Copy>(
     input: &[T],
@@ -107,7 +107,7 @@ pub fn transpose_into_two<T: Copy>(
     transpose(input, other, width, height);
 }
 
-/// The same of any holders.
+/// The same for any holders: values that give access to a list only by index.
 #[tactic(auto, using(p3_util::proofs::Callers::transposed_once))]
 pub fn transpose_into_holders<C: Cells>(
     input: &[C::Item],
@@ -125,7 +125,7 @@ pub fn transpose_into_holders<C: Cells>(
     transpose_counted(input, other, width, height);
 }
 
-/// Transposes in place a whole matrix of `2^log_size` rows of as many items.
+/// Transposes a whole matrix of `2^log_size` rows of as many items in place.
 pub fn transpose_whole_square<S: Places>(m: &mut Swaps<S>, log_size: usize)
     requires fits { length (S.items m.old.holder) ≡ 2 ^ log_size * 2 ^ log_size }
     requires small { log_size < 64 }
@@ -137,8 +137,8 @@ pub fn transpose_whole_square<S: Places>(m: &mut Swaps<S>, log_size: usize)
     transpose_square_on(m, 0, log_size, log_size);
 }
 
-/// Transposes in place the square of `2^log_size` rows and columns at `base` where it lies in `m`.
-/// `false`, and nothing done, elsewhere.
+/// Transposes the square of `2^log_size` rows and columns at `base` in place and returns `true`, if
+/// the square lies in `m`. Otherwise returns `false` and changes nothing.
 pub fn transpose_square_where_it_fits<S: Places>(
     m: &mut Swaps<S>,
     base: usize,
@@ -157,8 +157,8 @@ pub fn transpose_square_where_it_fits<S: Places>(
     fits
 }
 
-/// Puts the transpose of a part of a matrix where the part lies in it and both lists are as long as
-/// it. `false`, and nothing done, elsewhere.
+/// Writes the transpose of a part of a matrix and returns `true`, if the part lies in the matrix
+/// and both lists have the length of the matrix. Otherwise returns `false` and changes nothing.
 pub fn transpose_part_where_it_fits<C: Cells>(
     input: &[C::Item],
     out: &mut Writes<C>,
@@ -178,7 +178,7 @@ pub fn transpose_part_where_it_fits<C: Cells>(
     true
 }
 
-/// The number of levels that the split of a region of these sides needs.
+/// The number of levels that the split of a region with these sides needs.
 pub fn levels_of(rows: usize, cols: usize) -> u32
     ensures { result ≡ lev rows cols }
 {
@@ -187,8 +187,8 @@ pub fn levels_of(rows: usize, cols: usize) -> u32
     (tall + wide) as u32
 }
 
-/// Puts the transpose of a part of a matrix into `out`, with no more levels than it needs. It
-/// returns how many splits are nested.
+/// Writes the transpose of a part of a matrix to `out`, with no more levels than it needs. Returns
+/// how many splits are nested.
 pub fn transpose_part<C: Cells>(
     input: &[C::Item],
     out: &mut Writes<C>,
@@ -207,7 +207,7 @@ pub fn transpose_part<C: Cells>(
     transpose_split_on(input, out, part, width, height, levels)
 }
 
-/// Puts the transpose of `region`, a block of the matrix `input`, into a slice, and returns the
+/// Writes the transpose of `region`, a block of the matrix `input`, to a slice, and returns the
 /// number of writes.
 pub fn transpose_block<T: Copy>(
     input: &[T],
@@ -226,16 +226,16 @@ pub fn transpose_block<T: Copy>(
     transpose_region_counted(input, &mut cells, region, width, height)
 }
 
-/// Transposes a matrix of four rows of four items into `scratch` and back. Sides that are written
-/// out are arguments of another function.
+/// Transposes a matrix of four rows of four items into `scratch` and back. The sides are literals,
+/// which are passed as arguments to another function.
 pub fn transpose_four_and_back<T: Copy>(matrix: &mut [T; 16], scratch: &mut [T; 16])
     ensures { matrix.new ≡ matrix.old }
 {
     transpose_there_and_back(matrix, scratch, 4, 4);
 }
 
-/// Puts the transpose of `input` into `output`: the first items of its rows were the first row, and
-/// its first row was the first column.
+/// Writes the transpose of `input` to `output`. The first items of its rows are the first row of
+/// `input`, and its first row is the first column of `input`.
 #[tactic(auto, using(p3_util::proofs::Callers::transposed_first))]
 pub fn transpose_with_first<T: Copy>(input: &[T], output: &mut [T], width: usize, height: usize)
     requires input_fits { length input.now ≡ width * height }
@@ -248,8 +248,8 @@ pub fn transpose_with_first<T: Copy>(input: &[T], output: &mut [T], width: usize
     transpose(input, output, width, height);
 }
 
-/// Puts the transpose of `region` into `output`, of which each other row and column stays. A file
-/// names the lemma.
+/// Writes the transpose of `region` to `output`, and leaves every other row and column as it was. A
+/// proof file names the lemma.
 pub fn transpose_inside<T: Copy>(
     input: &[T],
     output: &mut [T],
@@ -273,7 +273,7 @@ pub fn transpose_inside<T: Copy>(
 }
 
 /// Reverses `values` by index bits into `scratch`, by way of a matrix: its rows are reversed, it is
-/// transposed, and the rows of the transpose are reversed. A file names the lemma.
+/// transposed, and the rows of the transpose are reversed. A proof file names the lemma.
 pub fn reverse_by_sides<T: Copy>(values: &mut [T], scratch: &mut [T], width: usize, height: usize)
     requires wide { IsPowerOfTwo width }
     requires tall { IsPowerOfTwo height }
@@ -286,8 +286,8 @@ pub fn reverse_by_sides<T: Copy>(values: &mut [T], scratch: &mut [T], width: usi
     reverse_slice_row_index_bits(scratch, height);
 }
 
-/// Transposes `height` pairs: the first items of the rows of the transpose were the first pair. A
-/// width may be written out.
+/// Transposes `height` pairs. The first items of the rows of the transpose are the first pair. The
+/// width may be a literal.
 #[tactic(auto, using(p3_util::proofs::Callers::transposed_first))]
 pub fn transpose_pairs_with_first<T: Copy>(input: &[T], output: &mut [T], height: usize)
     requires input_fits { length input.now ≡ 2 * height }
@@ -302,7 +302,7 @@ pub fn transpose_pairs_with_first<T: Copy>(input: &[T], output: &mut [T], height
 ///
 /// # Errors
 ///
-/// `AllocError` where there is no memory for it.
+/// `AllocError` if there is no memory for it.
 pub fn transposed_copy<T: Copy + Default>(
     alloc: Global,
     matrix: &[T],
@@ -317,11 +317,11 @@ pub fn transposed_copy<T: Copy + Default>(
     Ok(scratch)
 }
 
-/// The matrix again, as the transpose of its transpose, by two calls that return a vector.
+/// The transpose of the transpose, which is the matrix itself, with two calls that return a vector.
 ///
 /// # Errors
 ///
-/// `AllocError` where there is no memory for a transpose.
+/// `AllocError` if there is no memory for a transpose.
 #[tactic(auto, using(p3_util::proofs::Callers::transposed_back))]
 pub fn transposed_copy_twice(
     alloc: Global,
@@ -337,8 +337,8 @@ pub fn transposed_copy_twice(
     Ok(back)
 }
 
-/// Transposes a matrix of as many rows as columns into `scratch` and back, which leaves it as it
-/// was.
+/// Transposes a matrix with as many rows as columns into `scratch` and back. This leaves the matrix
+/// as it was.
 #[tactic(auto, using(p3_util::proofs::Callers::transposed_back))]
 pub fn transpose_sides_alike_and_back<T: Copy>(matrix: &mut [T], scratch: &mut [T], side: usize)
     requires matrix_fits { length matrix.old ≡ side * side }
@@ -349,7 +349,8 @@ pub fn transpose_sides_alike_and_back<T: Copy>(matrix: &mut [T], scratch: &mut [
     transpose(scratch, matrix, side, side);
 }
 
-/// Transposes in place a whole matrix of `2^log_size` rows of as many items, said item by item.
+/// Transposes a whole matrix of `2^log_size` rows of as many items in place. The contract states
+/// each item.
 pub fn transpose_whole_square_by_place<S: Places>(m: &mut Swaps<S>, log_size: usize)
     requires fits { length (S.items m.old.holder) ≡ 2 ^ log_size * 2 ^ log_size }
     requires small { log_size < 64 }
@@ -360,8 +361,8 @@ pub fn transpose_whole_square_by_place<S: Places>(m: &mut Swaps<S>, log_size: us
     transpose_whole_square(m, log_size);
 }
 
-/// Transposes a square in place twice, wherever it lies, which leaves the list as it was. A file
-/// names the lemma.
+/// Transposes a square in place twice, wherever it lies. This leaves the list as it was. A proof
+/// file names the lemma.
 pub fn transpose_square_twice<S: Places>(
     m: &mut Swaps<S>,
     base: usize,
@@ -378,8 +379,8 @@ pub fn transpose_square_twice<S: Places>(
     transpose_square_on(m, base, log_stride, log_size);
 }
 
-/// Puts the transposes of two regions in one order and in the other, which comes to the same. A
-/// file names the lemma.
+/// Writes the transposes of two regions in one order and in the other, with the same result. A
+/// proof file names the lemma.
 pub fn transpose_in_either_order<T: Copy>(
     input: &[T],
     one: &mut [T],

@@ -1,14 +1,15 @@
-//! A demonstration, not to be copied: it shows that public contracts are enough to put a transpose
-//! together from small parts. To transpose, call `transpose_source_on` or
-//! `transpose_source_region_on`, which are faster. A caller takes three things from here: an
-//! invariant that grows a region row by row (`transpose_tile`), numbers of steps that are added by
-//! `same_holder_trans`, and small functions, each with one clause that the next one needs.
+//! A demonstration that is not meant to be copied: it shows that the public contracts are enough to
+//! build a transpose from small parts. To transpose, call `transpose_source_on` or
+//! `transpose_source_region_on`, which are faster. Three techniques here are useful for other
+//! callers: an invariant that grows a region row by row (`transpose_tile`), numbers of steps that
+//! are added with `same_holder_trans`, and small functions, each with one clause that the next one
+//! needs.
 //!
-//! The parts are a block of 4 by 4 items, a tile of 16 by 16 from its blocks, a region from its
-//! tiles and the rest at its edges, and a matrix from its regions. The last caller is a square in
-//! place, from its quadrants. Each is over every source and every holder, and says its number of
-//! steps by `same_holder`. A counter is a holder too, so over one its count needs no other proof:
-//! `transpose_tile_on` is the tile in 256 writes.
+//! The parts are a block of 4 by 4 items, a tile of 16 by 16 items made of blocks, a region made of
+//! tiles and of the remaining items at its edges, and a matrix made of regions. The last caller
+//! transposes a square in place, made of its quadrants. All of them work on every source and every
+//! holder, and state their number of steps with `same_holder`. A counter is a holder too, so its
+//! count needs no other proof: `transpose_tile_on` is the tile in 256 writes.
 
 ghost use Rattle.std.specs.Prelude.{◌≡◌, ℕ, ◌+◌, ◌-◌, ◌*◌, ◌/◌, ◌^◌, ◌<◌, ◌≤◌, ◌⊎◌, length, slice_get};
 ghost use Rattle.p3_util.specs.Diagonal.{HoldsSquare, SwapsAcross};
@@ -25,10 +26,10 @@ use p3_util::transpose::{
     Region, butterfly_4x4, transpose_on, transpose_source_region_counted, transpose_square_on,
 };
 
-/// The number of rows and of columns of a tile that is put as blocks of 4 by 4.
+/// The number of rows and of columns of a tile, which is put as blocks of 4 by 4.
 const BLOCKED_SIDE: usize = 16;
 
-/// The greatest number of rows of a region of which a matrix is put together.
+/// The greatest number of rows of the regions that make up a matrix.
 const REGION_ROWS: usize = 128;
 
 /// The four items of a source from place `at` on.
@@ -70,7 +71,7 @@ fn read_block<R: Source>(
     ]
 }
 
-/// Row `r` of a block. It is a function of its own, so that a proof can name the row.
+/// Row `r` of a block. This is a function of its own, so that a proof can name the row.
 fn row_of<T: Copy>(block: [[T; 4]; 4], r: usize) -> [T; 4]
     requires { r < 4 }
     ensures { (c : ℕ) → slice_get result c ≡ item_at block r c }
@@ -94,8 +95,8 @@ fn put_four<C: Cells>(cells: &mut C, to: usize, items: [C::Item; 4])
     }
 }
 
-/// Puts the transpose of a block of 4 by 4 items by way of an array and `butterfly_4x4`, in 16
-/// puts. An array of 16 items has a condition on their size, `small`.
+/// Writes the transpose of a block of 4 by 4 items by way of an array and `butterfly_4x4`, in 16
+/// puts. An array of 16 items needs the precondition `small` on the size of an item.
 pub fn transpose_by_butterfly<R, C>(
     input: &R,
     cells: &mut C,
@@ -126,7 +127,7 @@ where
     }
 }
 
-/// Puts the transpose of four blocks of 4 by 4 items that lie side by side.
+/// Writes the transpose of four blocks of 4 by 4 items that lie side by side.
 fn transpose_blocks<R, C>(input: &R, cells: &mut C, blocks: Region, width: usize, height: usize)
 where
     C: Cells,
@@ -152,7 +153,7 @@ where
     }
 }
 
-/// Puts the transpose of a tile of 16 by 16 items as its 16 blocks, in 256 puts.
+/// Writes the transpose of a tile of 16 by 16 items, made of its 16 blocks, in 256 puts.
 pub fn transpose_tile<R, C>(input: &R, cells: &mut C, tile: Region, width: usize, height: usize)
 where
     C: Cells,
@@ -178,7 +179,7 @@ where
     }
 }
 
-/// Puts the transpose of a tile over a counter, in 256 writes.
+/// Writes the transpose of a tile through a counter, in 256 writes.
 pub fn transpose_tile_on<R, C>(
     input: &R,
     out: &mut Writes<C>,
@@ -203,8 +204,8 @@ where
     transpose_tile(input, out, tile, width, height);
 }
 
-/// Puts the transpose of a part of a region: a tile of 16 by 16 items, or what is left at the
-/// right, at the bottom or in the corner.
+/// Writes the transpose of a part of a region: a tile of 16 by 16 items, or the remaining items at
+/// the right, at the bottom or in the corner.
 fn transpose_tile_or_rest<R, C>(input: &R, cells: &mut C, part: Region, width: usize, height: usize)
 where
     C: Cells,
@@ -225,7 +226,8 @@ where
     }
 }
 
-/// Puts the transpose of rows of a region, at most as many as a tile has, from left to right.
+/// Writes the transpose of some rows of a region, at most as many as a tile has, from left to
+/// right.
 fn transpose_row_of_tiles<R, C>(input: &R, cells: &mut C, rows: Region, width: usize, height: usize)
 where
     C: Cells,
@@ -251,8 +253,8 @@ where
     }
 }
 
-/// Puts the transpose of a region as its tiles of 16 by 16 items and what is left at its edges, in
-/// one put an item.
+/// Writes the transpose of a region, made of its tiles of 16 by 16 items and the remaining items at
+/// its edges, with one put for each item.
 pub fn transpose_by_tiles<R, C>(
     input: &R,
     cells: &mut C,
@@ -284,8 +286,8 @@ where
     }
 }
 
-/// Puts the transpose of a matrix as regions of at most 128 rows, each by its tiles, with the
-/// contract of `transpose_on`: `width * height` writes over one counter.
+/// Writes the transpose of a matrix, made of regions of at most 128 rows, each made of tiles. It
+/// has the contract of `transpose_on`: `width * height` writes through one counter.
 pub fn transpose_by_regions<R, C>(input: &R, out: &mut Writes<C>, width: usize, height: usize)
 where
     C: Cells,
@@ -311,7 +313,7 @@ where
     }
 }
 
-/// The same of a slice, without the condition on the size of an item: where a slice has 16 items,
+/// The same for a slice, without the precondition on the size of an item: if a slice has 16 items,
 /// they are small enough for an array.
 pub fn transpose_slice_by_regions<C: Cells>(
     input: &[C::Item],
@@ -333,7 +335,7 @@ pub fn transpose_slice_by_regions<C: Cells>(
 }
 
 /// Exchanges row `row` of the upper right quadrant of a square with its mirror image in the lower
-/// left one. A quadrant has `half` rows and columns.
+/// left quadrant. A quadrant has `half` rows and columns.
 fn exchange_row_across<S: Places>(
     places: &mut S,
     base: usize,
@@ -369,8 +371,8 @@ fn exchange_quadrants<S: Places>(places: &mut S, base: usize, stride: usize, hal
     }
 }
 
-/// 2 to the power of `exponent`. It is a function of its own, so that a proof knows of the power
-/// alone.
+/// 2 to the power of `exponent`. This is a function of its own, so that a proof knows nothing
+/// except the power.
 fn power(exponent: usize) -> usize
     requires { exponent < 64 }
     ensures { result ≡ 2 ^ exponent }
@@ -378,9 +380,9 @@ fn power(exponent: usize) -> usize
     1 << exponent
 }
 
-/// Transposes a square in place as its quadrants, with the contract of `transpose_square_on`: the
-/// upper left and the lower right one by that call, and the other two exchanged across the
-/// diagonal, in s(s - 1)/2 swaps over one counter.
+/// Transposes a square in place by its quadrants, with the contract of `transpose_square_on`. That
+/// call transposes the upper left and the lower right quadrant, and the other two are exchanged
+/// across the diagonal. One counter counts s(s - 1)/2 swaps for a side of s.
 pub fn transpose_by_quadrants<S: Places>(
     m: &mut Swaps<S>,
     base: usize,

@@ -1,5 +1,5 @@
-//! Callers of the views over rows of any length, and of written lengths: the kernels, and single
-//! items.
+//! Callers of the views over rows whose length is a parameter or a literal: the kernels on views,
+//! and single items.
 
 ghost use Rattle.std.specs.Prelude.{◌≡◌, ◌+◌, ◌*◌, ◌^◌, ◌<◌, ◌↔◌, [], IsTrue, IsFalse, Some, length, slice_get, slice_index_or, slice_set, swap, vec_len};
 ghost use Rattle.std.specs.Int.{is_power_of_two};
@@ -15,8 +15,8 @@ use p3_util::transpose::{
 use p3_util::views::{Flattened, Rows};
 use p3_util::{as_base_slice, as_base_slice_mut, flat_len};
 
-/// Reverses the items of `rows`, taken as one list, by their index bits: what a kernel leaves in a
-/// view is in the rows.
+/// Reverses the items of `rows`, taken as one list, by index bits. What a kernel leaves in a view
+/// is in the rows.
 pub fn reverse_items<T, const N: usize>(rows: &mut [[T; N]])
     requires fits { length rows.old * N < 2 ^ 64 }
     requires power { IsZeroOrPowerOfTwo (length (flat rows.old)) }
@@ -26,8 +26,8 @@ pub fn reverse_items<T, const N: usize>(rows: &mut [[T; N]])
     reverse_counted(&mut view);
 }
 
-/// Reverses the items of `rows`, taken as one list, by their index bits. `false`, and nothing done,
-/// where their number does not fit.
+/// Reverses the items of `rows`, taken as one list, by index bits and returns `true`. If their
+/// number does not fit, returns `false` and changes nothing.
 pub fn reverse_items_where_they_fit<T, const N: usize>(rows: &mut [[T; N]]) -> bool
     ensures done { IsTrue result → IsReversal (flat rows.old) (flat rows.new) }
     ensures left { IsFalse result → rows.new ≡ rows.old }
@@ -45,7 +45,8 @@ pub fn reverse_items_where_they_fit<T, const N: usize>(rows: &mut [[T; N]]) -> b
     fits
 }
 
-/// Reverses the items where their number is a power of two, by std's test, and else leaves them.
+/// Reverses the items if their number passes std's test for a power of two, and otherwise leaves
+/// them as they were.
 pub fn reverse_power_of_two<T, const N: usize>(rows: &mut [[T; N]])
     requires { length rows.old * N < 2 ^ 64 }
     ensures done { IsTrue (is_power_of_two (length rows.old * N))
@@ -68,8 +69,8 @@ pub fn reverse_rows<T, const N: usize>(rows: &mut [[T; N]])
     reverse_rows_counted(&mut view, N);
 }
 
-/// Writes the transpose of `input` to the items of `rows`. `false`, and nothing done, where the
-/// lengths are not those of such a matrix.
+/// Writes the transpose of `input` to the items of `rows` and returns `true`. If the lengths are
+/// not those of such a matrix, returns `false` and changes nothing.
 pub fn transpose_to_items<T: Copy, const N: usize>(
     input: &[T],
     rows: &mut [[T; N]],
@@ -88,7 +89,7 @@ pub fn transpose_to_items<T: Copy, const N: usize>(
     fits
 }
 
-/// Puts the transpose of the items of `rows` into `out`.
+/// Writes the transpose of the items of `rows` to `out`.
 pub fn transpose_from_items<T: Copy, C: Cells<Item = T>, const N: usize>(
     rows: &[[T; N]],
     out: &mut Writes<C>,
@@ -103,7 +104,7 @@ pub fn transpose_from_items<T: Copy, C: Cells<Item = T>, const N: usize>(
     transpose_source_on(&as_base_slice(rows), out, width, height);
 }
 
-/// Puts the transpose of the items of `input` into the items of `output`, both taken as one list,
+/// Writes the transpose of the items of `input` to the items of `output`, both taken as one list,
 /// and returns the number of writes.
 pub fn transpose_between_views<T: Copy, const N: usize, const M: usize>(
     input: &[[T; N]],
@@ -131,7 +132,7 @@ pub fn reverse_items_in_vec<T, const N: usize>(rows: &mut Vec<[T; N]>)
     reverse_items(rows);
 }
 
-/// Item `i`, or `None` where there are no more.
+/// Item `i`, or `None` if there is no such item.
 pub fn item<T: Copy, const N: usize>(rows: &[[T; N]], i: usize) -> Option<T>
     requires { length rows.now * N < 2 ^ 64 }
     ensures { result ≡ slice_get (flat rows.now) i }
@@ -139,7 +140,7 @@ pub fn item<T: Copy, const N: usize>(rows: &[[T; N]], i: usize) -> Option<T>
     as_base_slice(rows).get(i).copied()
 }
 
-/// Item `i`, which is there, by a view that may change it.
+/// Item `i`, which must exist, read through a view that may change it.
 pub fn item_at<T: Copy, const N: usize>(rows: &mut [[T; N]], i: usize) -> T
     requires fits { length rows.old * N < 2 ^ 64 }
     requires inside { i < length rows.old * N }
@@ -159,8 +160,8 @@ pub fn item_of_row<T: Copy, const N: usize>(rows: &[[T; N]], r: usize, c: usize)
     as_base_slice(rows)[r * N + c]
 }
 
-/// Sets item `i` of the rows taken as one list, if there is one: what is written through the loan
-/// is in the rows in the place of that item alone.
+/// Writes to item `i` of the rows taken as one list, if there is such an item. What is written
+/// through the loan is in the rows at that item, and all other items stay as they were.
 pub fn set_item<T: Drop, const N: usize>(rows: &mut [[T; N]], i: usize, item: T)
     requires { length rows.old * N < 2 ^ 64 }
     ensures { flat rows.new ≡ slice_set (flat rows.old) i item }
@@ -169,7 +170,7 @@ pub fn set_item<T: Drop, const N: usize>(rows: &mut [[T; N]], i: usize, item: T)
     set_item_of_view(&mut view, i, item);
 }
 
-/// Puts `item` in the place of item `i`, which is there.
+/// Writes `item` to item `i`, which must exist.
 pub fn put_item<T: Copy, const N: usize>(rows: &mut [[T; N]], i: usize, item: T)
     requires fits { length rows.old * N < 2 ^ 64 }
     requires inside { i < length rows.old * N }
@@ -178,7 +179,7 @@ pub fn put_item<T: Copy, const N: usize>(rows: &mut [[T; N]], i: usize, item: T)
     as_base_slice_mut(rows).put(i, item);
 }
 
-/// Puts `item` in row `row` and column `column`.
+/// Writes `item` to row `row` and column `column`.
 #[tactic(auto, using(p3_util::proofs::Callers::column_inside))]
 pub fn put_at<T: Copy, const N: usize>(rows: &mut [[T; N]], row: usize, column: usize, item: T)
     requires fits { length rows.old * N < 2 ^ 64 }
@@ -189,7 +190,7 @@ pub fn put_at<T: Copy, const N: usize>(rows: &mut [[T; N]], row: usize, column: 
     as_base_slice_mut(rows).put(row * N + column, item);
 }
 
-/// The same of items that are not `Copy`: what was there is dropped.
+/// The same for items that are not `Copy`: the old item is dropped.
 #[tactic(auto, using(p3_util::proofs::Callers::column_inside))]
 pub fn set_at<T: Drop, const N: usize>(rows: &mut [[T; N]], row: usize, column: usize, item: T)
     requires fits { length rows.old * N < 2 ^ 64 }
@@ -211,8 +212,8 @@ pub fn exchange_items<T, const N: usize>(rows: &mut [[T; N]], i: usize, j: usize
     as_base_slice_mut(rows).exchange(i, j);
 }
 
-/// The same of any view. A proof knows what the rows end as after a write through `get_mut` where
-/// the function is over any rows, as this one is.
+/// The same for any view. After a write through `get_mut`, a proof knows what the rows become if
+/// the function is generic over the rows, as this one is.
 pub fn set_item_of_view<S: Rows>(view: &mut Flattened<S>, i: usize, item: S::Item)
 where
     S::Item: Drop,
@@ -224,7 +225,7 @@ where
     }
 }
 
-/// Reverses the order of rows whose length is written out, by way of their items.
+/// Reverses the order of rows whose length is a literal, by way of their items.
 pub fn reverse_rows_of_four<T>(rows: &mut [[T; 4]])
     requires fits { length rows.old * 4 < 2 ^ 64 }
     requires power { FitsRows (length (flat rows.old)) 4 }

@@ -1,4 +1,4 @@
-//! Callers of the zip of equal lengths, which collect the pairs or go over them.
+//! Callers of the zip of iterators of equal lengths. They collect the pairs or iterate over them.
 
 ghost use Rattle.std.specs.Prelude.{◌≡◌, ◌≢◌, ℕ, ◌+◌, ◌*◌, ◌%◌, ◌^◌, ◌<◌, ◌↔◌, IfOk, IfSome, Some, fold, length, map, slice_get, sum, zip};
 
@@ -16,7 +16,7 @@ pub enum PairError {
 ///
 /// # Errors
 ///
-/// `Unequal` exactly where the lengths differ, and `Memory`.
+/// `Unequal` exactly if the lengths differ, and `Memory` if memory runs out.
 pub fn weighted(
     alloc: Global,
     values: &[u32],
@@ -32,11 +32,11 @@ pub fn weighted(
     pairs.collect(alloc).map_err(|_| PairError::Memory)
 }
 
-/// The pairs of two lists, or `None` where the lengths differ: collected by `?`.
+/// The pairs of two lists, or `None` if the lengths differ, collected with `?`.
 ///
 /// # Errors
 ///
-/// `AllocError` where there is no memory for the pairs.
+/// `AllocError` if there is no memory for the pairs.
 pub fn paired(alloc: Global, xs: &[u16], ys: &[u16]) -> Result<Option<Vec<(u16, u16)>>, AllocError>
     ensures { IfOk result (λ r. IfSome r (λ v. v.items ≡ zip xs.now ys.now)) }
 {
@@ -47,11 +47,12 @@ pub fn paired(alloc: Global, xs: &[u16], ys: &[u16]) -> Result<Option<Vec<(u16, 
     Ok(Some(all))
 }
 
-/// The pairs of two lists, place by place: the pair at a place is that of the items there.
+/// The pairs of two lists, with a contract that states each place: the pair at a place consists of
+/// the two items at it.
 ///
 /// # Errors
 ///
-/// `AllocError` where the lengths differ or there is no memory for the pairs.
+/// `AllocError` if the lengths differ or there is no memory for the pairs.
 #[tactic(auto, using(p3_util::proofs::Callers::zip_place))]
 pub fn paired_by_place(alloc: Global, xs: &[u16], ys: &[u16]) -> Result<Vec<(u16, u16)>, AllocError>
     ensures { IfOk result (λ v. (i x y : ℕ) → slice_get xs.now i ≡ Some x
@@ -61,7 +62,7 @@ pub fn paired_by_place(alloc: Global, xs: &[u16], ys: &[u16]) -> Result<Vec<(u16
     zip_eq(xs.iter().copied(), ys.iter().copied(), AllocError)?.collect(alloc)
 }
 
-/// As [`paired`], by `match`, and `None` where there is no memory.
+/// Does the same as [`paired`] with `match`, and returns `None` also if there is no memory.
 pub fn paired_if_room(alloc: Global, xs: &[u16], ys: &[u16]) -> Option<Vec<(u16, u16)>>
     ensures { IfSome result (λ v. v.items ≡ zip xs.now ys.now) }
 {
@@ -74,11 +75,12 @@ pub fn paired_if_room(alloc: Global, xs: &[u16], ys: &[u16]) -> Option<Vec<(u16,
     }
 }
 
-/// The sum of the products, which fits by what is asked, of the pairs as they were collected.
+/// The sum of the products of the pairs, which are collected first. The precondition says that the
+/// sum fits.
 ///
 /// # Errors
 ///
-/// `AllocError` where the lengths differ or there is no memory for the pairs.
+/// `AllocError` if the lengths differ or there is no memory for the pairs.
 pub fn inner_product(alloc: Global, xs: &[u16], ys: &[u16]) -> Result<u64, AllocError>
     requires { sum (map (λ p. p.0 * p.1) (zip xs.now ys.now)) < 2 ^ 64 }
     ensures { IfOk result (λ s. s ≡ sum (map (λ p. p.0 * p.1) (zip xs.now ys.now))) }
@@ -88,7 +90,7 @@ pub fn inner_product(alloc: Global, xs: &[u16], ys: &[u16]) -> Result<u64, Alloc
     Ok(all.iter().map(|p| p.0 as u64 * p.1 as u64).sum())
 }
 
-/// The sum of the products mod 2^64, with no memory, where the lengths are equal.
+/// The sum of the products modulo 2^64 if the lengths are equal. It needs no memory.
 pub fn wrapping_inner_product(xs: &[u32], ys: &[u32]) -> Option<u64>
     ensures { IfSome result (λ s. s ≡ fold (λ s p. (s + p.0 * p.1) % 2 ^ 64) 0
         (zip xs.now ys.now)) }
@@ -99,8 +101,8 @@ pub fn wrapping_inner_product(xs: &[u32], ys: &[u32]) -> Option<u64>
     }
 }
 
-/// The products folded mod `m`, where the lengths are equal. The state is reduced first, since a
-/// closure has to be callable in every state.
+/// A fold of the products modulo `m` if the lengths are equal. The state is reduced first, since
+/// the closure must be callable in every state.
 pub fn folded_mod(xs: &[u32], ys: &[u32], m: u32) -> Option<u64>
     requires { 0 < m }
     ensures { IfSome result (λ s. s ≡ fold (λ s p. (s % m + p.0 * p.1) % m) 0 (zip xs.now ys.now)) }
@@ -113,7 +115,8 @@ pub fn folded_mod(xs: &[u32], ys: &[u32], m: u32) -> Option<u64>
     }
 }
 
-/// The sum of the products mod 2^64, as a remainder of their sum. A file says it of the fold.
+/// The sum of the products modulo 2^64, stated as the remainder of their sum. A proof file derives
+/// it from the fold.
 pub fn inner_product_in_word(xs: &[u32], ys: &[u32]) -> Option<u64>
     ensures { IfSome result (λ s. s ≡ sum (map (λ p. p.0 * p.1) (zip xs.now ys.now)) % 2 ^ 64) }
 {
@@ -121,7 +124,8 @@ pub fn inner_product_in_word(xs: &[u32], ys: &[u32]) -> Option<u64>
     Some(sum)
 }
 
-/// The sum of the products mod `m`, as a remainder of their sum. A file says it of the fold.
+/// The sum of the products modulo `m`, stated as the remainder of their sum. A proof file derives
+/// it from the fold.
 pub fn inner_product_mod(xs: &[u32], ys: &[u32], m: u32) -> Option<u64>
     requires { 0 < m }
     ensures { IfSome result (λ s. s ≡ sum (map (λ p. p.0 * p.1) (zip xs.now ys.now)) % m) }
@@ -134,7 +138,7 @@ pub fn inner_product_mod(xs: &[u32], ys: &[u32], m: u32) -> Option<u64>
 ///
 /// # Errors
 ///
-/// `AllocError` where there is no memory for the sums.
+/// `AllocError` if there is no memory for the sums.
 pub fn sums_of_pairs(alloc: Global, pairs: &[(u16, u16)]) -> Result<Vec<u32>, AllocError>
     ensures { IfOk result (λ sums. (i x y : ℕ) → slice_get pairs.now i ≡ Some (x, y)
         → slice_get sums.items i ≡ Some (x + y)) }
@@ -145,12 +149,12 @@ pub fn sums_of_pairs(alloc: Global, pairs: &[(u16, u16)]) -> Result<Vec<u32>, Al
         .collect(alloc)
 }
 
-/// The sums of the items of two lists, place by place: the pairs come from one function, and their
-/// sums from another.
+/// The sums of the items of two lists, with a contract that states each place. The pairs come from
+/// one function, and their sums from another.
 ///
 /// # Errors
 ///
-/// `AllocError` where the lengths differ or there is no memory for the pairs or the sums.
+/// `AllocError` if the lengths differ or there is no memory for the pairs or the sums.
 pub fn sums_by_place(alloc: Global, xs: &[u16], ys: &[u16]) -> Result<Vec<u32>, AllocError>
     ensures { IfOk result (λ sums. (i x y : ℕ) → slice_get xs.now i ≡ Some x
         → slice_get ys.now i ≡ Some y
@@ -164,18 +168,18 @@ pub fn sums_by_place(alloc: Global, xs: &[u16], ys: &[u16]) -> Result<Vec<u32>, 
 ///
 /// # Errors
 ///
-/// `AllocError` where there is no memory for them.
+/// `AllocError` if there is no memory for them.
 pub fn seconds_of(alloc: Global, pairs: &[(u16, u16)]) -> Result<Vec<u16>, AllocError>
     ensures { IfOk result (λ v. v.items ≡ map (λ p. p.1) pairs.now) }
 {
     pairs.iter().map(|p| p.1).collect(alloc)
 }
 
-/// The weights again, after they were paired with values.
+/// Pairs the weights with values and returns the weights of the pairs, which are the same weights.
 ///
 /// # Errors
 ///
-/// `AllocError` where there is no memory for the pairs or the weights.
+/// `AllocError` if there is no memory for the pairs or the weights.
 #[tactic(auto, using(p3_util::proofs::Callers::zip_seconds))]
 pub fn weights_of(
     alloc: Global,

@@ -1,4 +1,5 @@
--- Parts that are made in any order: what is done of the first ones, and of all, for `src/parts/laws/all_parts.rt`.
+-- Parts that are made in any order: what the first parts have done, and what all parts have done,
+-- for `src/parts/laws/all_parts.rt`.
 use Rattle.std.proofs.Common.{◌≡◌, ◌≢◌, ℕ, Bool, true, IsTrue, zero, suc, ◌+◌, ◌*◌, ◌<◌, ◌==◌, if◌then◌else◌, List, [], Some, length, slice_get, inl, inr, refl, sym, ◌∙◌, ap, arith}
 use Rattle.std.proofs.lemmas.Bool.{both_ways, cases_Bool, cases_eq, cases_lt, eq-eqb, ne_eqb}
 use Rattle.std.proofs.lemmas.Option.{get_or_from_slice_get}
@@ -7,7 +8,7 @@ use Rattle.p3_util_kernels.specs.Digits.{sum_below}
 use Rattle.p3_util_kernels.specs.Mirrored.{Mirrored}
 use Rattle.p3_util_kernels.proofs.DigitsLemmas.{sum_below-same}
 
--- where no list says a turn, the numbers do
+-- if no list gives the turns, each part has the turn of its own number
 pub turns-plain : (count : ℕ) → IsOrder count (turn_of [])
 turns-plain count = record { below = λ j less. less; each = λ k less. (k, less, refl); once = λ i j hi hj e. e }
 
@@ -16,7 +17,8 @@ orders-plain zero count = turns-plain count
 orders-plain (suc zero) count = turns-plain count
 orders-plain (suc (suc _)) count = turns-plain count
 
--- a list of parts whose turn j is that of part `turn j`, where turn `turn j` is that of part j
+-- if a list has at each place j the part `turn j`, and `turn` is its own inverse, the list is an
+-- order of the parts
 pub order-from : (count : ℕ) (order : List ℕ) (turn : ℕ → ℕ) → ((j : ℕ) → j < count → slice_get order j ≡ Some (turn j))
     → ((j : ℕ) → j < count → (turn j < count) × (turn (turn j) ≡ j)) → IsOrder count (turn_of order)
 order-from count order turn at back =
@@ -44,7 +46,7 @@ pub sum_below-next : (n : ℕ) (f : ℕ → ℕ) → sum_below (n + 1) f ≡ sum
 unfolding sum_below
 sum_below-next n f = let next : n + 1 ≡ suc n = omega arith in rw next refl
 
--- one term more
+-- one term is larger by v
 sum_below-change : (n k v : ℕ) (f g : ℕ → ℕ) → k < n → g k ≡ f k + v → ((i : ℕ) → i ≢ k → g i ≡ f i) → sum_below n g ≡ sum_below n f + v
 unfolding sum_below
 sum_below-change zero k v f g less here there = absurd (omega (arith, less))
@@ -59,7 +61,7 @@ sum_below-change (suc n) k v f g less here there =
           omega (arith, before, there n other)
     ]
 
--- differences of following numbers
+-- a sum of the differences between consecutive numbers
 pub sum_below-steps : (n : ℕ) (f g : ℕ → ℕ) → ((k : ℕ) → k < n → g (k + 1) ≡ g k + f k) → g n ≡ g 0 + sum_below n f
 unfolding sum_below
 sum_below-steps zero f g next = omega arith
@@ -68,7 +70,8 @@ sum_below-steps (suc n) f g next =
     let last : suc n ≡ n + 1 = omega arith in
     rw last (omega (arith, before, next n (omega arith)))
 
--- A sum over the numbers below n, where each of them is that of one turn, and of one alone, of those that pass the test.
+-- A sum over the numbers below n, where each of them belongs to exactly one of the turns that pass
+-- the test.
 module _ (n : ℕ) (f : ℕ → ℕ) (test : ℕ → Bool) (to : ℕ → ℕ) where
   record SoFar (m : ℕ) : Type 0 where
     so_far : ℕ → ℕ
@@ -126,23 +129,23 @@ module _ (count : ℕ) (turn : ℕ → ℕ) (is : IsOrder count turn) where
   last-alone : (n : ℕ) → n < count → IsDone turn n (turn n) → ⊥
   last-alone n less (j, before, e) = omega (arith, before, is.once j n (omega arith) less e)
 
-  -- the numbers of steps of all parts, in this order
+  -- the numbers of steps of all parts, added up in this order
   pub turns-sum : (steps : ℕ → ℕ) → sum_below count (λ j. steps (turn j)) ≡ sum_below count steps
   turns-sum steps =
       sum-turns count steps (λ j. true) turn count (λ j less t. is.below j less) (λ i j hi hj ti tj e. is.once i j hi hj e)
       (λ k less. let (j, within, e) = is.each k less in (j, within, refl, e))
 
--- where one of the first n parts of the order has x and y
+-- one of the first n parts of the order contains x and y
 abbrev pub AnyOf : {M : Type 0} (turn : ℕ → ℕ) (part : ℕ → M → ℕ → ℕ → Type 0) (n : ℕ) → M → ℕ → ℕ → Type 0
 AnyOf turn part n m x y = (k : ℕ) × IsDone turn n k × part k m x y
 
--- as `IsRegionTransposed`, of any rows and columns
+-- as `IsRegionTransposed`, for any set of rows and columns
 pub record PutWhere {A : Type 0} (S : ℕ → ℕ → Type 0) (width height : ℕ) (input old new : List A) : Type 0 where
   pub same_length : length new ≡ length old
   pub places : (x y : ℕ) → S x y → slice_get new (x * height + y) ≡ slice_get input (y * width + x)
   pub others : (p : ℕ) → ((x y : ℕ) → S x y → p ≢ x * height + y) → slice_get new p ≡ slice_get old p
 
--- nothing is put, or exchanged, before the first turn
+-- before the first turn, nothing is put or exchanged
 pub put-none : {A : Type 0} (width height : ℕ) (turn : ℕ → ℕ) (part : ℕ → ℕ → ℕ → Type 0) (input xs : List A)
     → PutWhere (λ x y. (k : ℕ) × IsDone turn 0 k × part k x y) width height input xs xs
 put-none width height turn part input xs = record { same_length = refl; places = λ x y h. absurd (omega (arith, h.1.1)); others = λ p out. refl }

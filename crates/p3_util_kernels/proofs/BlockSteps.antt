@@ -1,4 +1,5 @@
--- The places of a block that are exchanged with their mirror images, and the exchanges at them.
+-- The places of a block that are exchanged with their mirror images, and the exchanges at these
+-- places.
 use Rattle.std.proofs.Common.{◌≡◌, ℕ, Bool, true, nat_lt, ltb-true, ◌+◌, ◌-◌, ◌*◌, ◌/◌, ◌%◌, ◌^◌, ◌<◌, ◌≤◌, IsTrue, List, length, max, min, inl, inr, refl, arith}
 use Rattle.std.proofs.lemmas.Bool.{cases_eq, eq-eqb, ne_eqb}
 use Rattle.std.proofs.lemmas.Nat.{mul-add-lt, pow-add}
@@ -23,7 +24,7 @@ use Rattle.p3_util_kernels.proofs.OrderedParts.{InPairs, block-exchanged, pairs-
 use Rattle.p3_util_kernels.proofs.Pairs.{square_swaps-next}
 use Rattle.p3_util_kernels.proofs.SideBySideLemmas.{in_row}
 
--- `width` items for each row and column of the block
+-- each row and column of the block has `width` items
 module _ (side stride step number base : ℕ) (region : Region) (some : 0 < step) (block : IsBlock side stride step number base region)
     {A M : Type 0} (place : M → ℕ → ℕ → ℕ) (S : M → ℕ → ℕ → Type 0) (Same : M → M → Type 0)
     (turned : (m : M) (a b : ℕ) → S m a b → S m b a)
@@ -32,7 +33,8 @@ module _ (side stride step number base : ℕ) (region : Region) (some : 0 < step
     (differ_items : (t u : ℕ) → t < width → u < width → Same (item t) (item u) → t ≡ u)
     (old new : List A) (among : ℕ → Type 0) (at : (k : M) (v w : ℕ) → S k v w → (place k v w < length old) × among (place k v w))
     (differ : AllDiffer old) (mirrored : Mirrored place S old new) where
-  -- the numbers below n that pass the test name the rows and columns above the diagonal
+  -- the numbers below n that pass the test name the rows and columns of the block that are above
+  -- the diagonal
   named-stay : (n : ℕ) (test : ℕ → Bool) (row col : ℕ → ℕ)
       → ((i : ℕ) → i < n → IsTrue (test i) → (row i < col i) × IsInRegion region (col i) (row i))
       → ((i j : ℕ) → i < n → j < n → IsTrue (test i) → IsTrue (test j) → row i ≡ row j → col i ≡ col j → i ≡ j)
@@ -81,7 +83,7 @@ module _ (side stride step number base : ℕ) (region : Region) (some : 0 < step
             (λ i j hi hj ti tj same_row same_col. same_number i j (cols_of region) (omega arith) (omega arith)))
       ]
 
--- the places of a block are in the list
+-- the list has all places of a block
 pub block-inside : (side stride step len number s a b : ℕ) → 0 < step → len ≡ side * stride → IsInBlock side stride step number s a b → s * side + a * stride + b < len
 block-inside side stride step len number s a b some whole h =
     let sides = block-sides side stride step some number s a b h in
@@ -99,7 +101,7 @@ pairs-inside digits width step len number within some m x y fits h =
     let below : row_of half c m.0 x y < 2 ^ (half + c) = rw (pow-add 2 half c) (omega (arith, row)) in
     rw fits (mul-add-lt (row_of half c m.0 x y) width m.1 (2 ^ digits) (rw whole at below) h.0)
 
--- a block of squares side by side
+-- a block of squares that lie side by side
 pub block-steps : {A : Type 0} (side stride step number base : ℕ) (region : Region) (old new : List A) → 0 < step
     → IsBlock side stride step number base region → length old ≡ side * stride → AllDiffer old → SwapsAcross base stride region old new
     → SwapsStay (IsPlaceOfBlock side stride step number) (swaps_of_block region) old new

@@ -14,7 +14,7 @@ use Rattle.p3_util_kernels.proofs.DigitsLemmas.{sum_below-same}
 use Rattle.p3_util_kernels.proofs.Pairs.{mul-parts_left, pairs-add}
 use Rattle.p3_util_kernels.proofs.Sums.{sum-constant, sum-rows}
 
--- the parts of the pair of this number
+-- the two parts of the pair with this number
 abbrev first_of : (n number : ℕ) → ℕ
 first_of n number = min (number % n) ((number % n + number / n) % n)
 
@@ -29,7 +29,7 @@ last-below n number below =
     let some = pair-some n number below in
     omega (arith, mod_below number n some, mod_below (number % n + number / n) n some)
 
--- a sum over the numbers of pairs is one over pairs
+-- a sum over the numbers of all pairs is a sum over all pairs
 pairs-sum : (n : ℕ) (f : ℕ → ℕ) → sum_below (n * n) (λ q. if nat_le (q % n) (q / n) then f (number_of_pair n (q % n) (q / n)) else 0) ≡ sum_below (pairs_of n) f
 pairs-sum n f =
     let below : (q : ℕ) → q < n * n → q / n < n = λ q less. div_below q n n (pos_of_ne-zero (λ none. omega (arith, less, ap (λ m. m * n) none))) less in
@@ -55,7 +55,7 @@ module _ (side step : ℕ) (some : 0 < step) where
   abbrev start : ℕ → ℕ
   start k = start_of side step k
 
-  -- how many exchanges the block of parts i and j takes, and the block of this number
+  -- the number of exchanges of the block of parts i and j, and of the block with this number
   abbrev swaps_of_pair : ℕ → ℕ → ℕ
   swaps_of_pair i j = swaps_of_block (record { row_start = start i; row_end = start (i + 1); col_start = start j; col_end = start (j + 1) })
 
@@ -69,7 +69,7 @@ module _ (side step : ℕ) (some : 0 < step) where
       let same = pair-alone n (first_of n number) (last_of n number) i j (omega arith) (last-below n number less) in_order below (pair-number n number _ _ less refl refl) in
       rw (same.0, same.1) refl
 
-  -- the blocks of one column of blocks
+  -- the exchanges of all blocks in one column of blocks
   column-swaps : (j : ℕ) → j < n
       → square_swaps (start (j + 1)) ≡ square_swaps (start j) + sum_below n (λ i. if nat_le i j then swaps_of_pair i j else 0)
   column-swaps j below =

@@ -1,4 +1,5 @@
--- Blocks of squares side by side: what the kernels of blocks ask of them, and that two of them have no place in common.
+-- Blocks of squares side by side: they meet the preconditions of the kernels for blocks, and no two
+-- of them have a place in common.
 use Rattle.std.proofs.Common.{◌≡◌, ◌≢◌, ℕ, zero, suc, ◌+◌, ◌*◌, ◌/◌, ◌%◌, ◌^◌, ◌<◌, ◌≤◌, List, length, max, min, refl, sym, ◌∙◌, inl, inr, arith}
 use Rattle.std.proofs.lemmas.Bool.{cases_lt}
 use Rattle.std.proofs.lemmas.Nat.{div-add-mod', same_from_place}
@@ -11,7 +12,7 @@ use Rattle.p3_util_kernels.specs.Parts.{number_of_pair, pairs_of, parts_in, star
 use Rattle.p3_util_kernels.proofs.CutParts.{pair-alone, pair-below, parts-within, start-below, start-rising}
 use Rattle.p3_util_kernels.proofs.Matrix.{row_and_column}
 
--- a square lies in the rows
+-- the columns of a square are columns of the row
 pub square-inside : (number pairs side stride : ℕ) → number < stride / side * pairs → number / pairs * side + side ≤ stride
 square-inside number pairs side stride below =
     let rows : suc (number / pairs) * side ≤ stride / side * side = mul-le-mul_right side (row_and_column number (stride / side) pairs below).0 in
@@ -48,7 +49,7 @@ block-is side stride step number pairs first last region pairs_are below in_orde
   region_is = region_is;
 }
 
--- a block is given by its number
+-- the number of a block determines the block
 pub block-alone : (side stride step number base other_base : ℕ) (region other_region : Region) → IsBlock side stride step number base region
     → IsBlock side stride step number other_base other_region → (base ≡ other_base) × (region ≡ other_region)
 block-alone side stride step number base other_base region other_region a b =
@@ -58,7 +59,7 @@ block-alone side stride step number base other_base region other_region a b =
     let parts = pair-alone n a.row a.col b.row b.col a.in_order a.below b.in_order b.below numbers.1 in
     (a.base_is ∙ rw numbers.0 (sym b.base_is), a.region_is ∙ rw (parts.0, parts.1) (sym b.region_is))
 
--- what the kernels of a block ask of it
+-- the preconditions of the kernels for a block
 module _ (side stride step number base : ℕ) (region : Region) (some : 0 < step) (block : IsBlock side stride step number base region) where
   pub block-rows : (region.row_start < region.row_end) × (region.row_end ≤ side)
   block-rows =
@@ -95,7 +96,7 @@ module _ (side stride step number base : ℕ) (region : Region) (some : 0 < step
       let rows : suc last * stride ≤ side * stride = mul-le-mul_right stride below in
       record { room = omega (arith, rows, block.inside, whole); length_fits = omega (arith, whole, fits) }
 
--- one number is in one part alone
+-- a number is in only one part
 pub part-same : (len step k l v : ℕ) → start_of len step k ≤ v → v < start_of len step (k + 1) → start_of len step l ≤ v → v < start_of len step (l + 1) → k ≡ l
 part-same len step k l v k_from k_to l_from l_to =
     elim (cases_lt k l) [
@@ -106,7 +107,7 @@ part-same len step k l v k_from k_to l_from l_to =
       ]
     ]
 
--- a place of a square is in one block alone
+-- a place of a square is in only one block
 module _ (side stride step : ℕ) where
   pub block-turned : (k s a b : ℕ) → IsInBlock side stride step k s a b → IsInBlock side stride step k s b a
   block-turned k s a b (base, region, block, e, at) =
@@ -130,7 +131,7 @@ module _ (side stride step : ℕ) where
         let col : block.col ≡ block'.col = part-same side step block.col block'.col (max a b) here.col_from here.col_to there.col_from there.col_to in
         block.number_is ∙ rw (squares.0, row, col) (sym block'.number_is)
 
-    -- the parts of a place
+    -- a place determines its square, its row and its column
     pub square-same : (k l s t a b c d : ℕ) → IsInBlock side stride step k s a b → IsInBlock side stride step l t c d
         → s * side + a * stride + b ≡ t * side + c * stride + d → (s ≡ t) × (a ≡ c) × (b ≡ d)
     square-same k l s t a b c d here there e =

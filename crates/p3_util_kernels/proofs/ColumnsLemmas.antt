@@ -7,7 +7,7 @@ use Rattle.p3_util_kernels.specs.Columns.{HoldsColumn, IsColumnPut}
 use Rattle.p3_util_kernels.specs.Region.{IsReady, IsRegionTransposed, rows_of}
 
 module _ {A : Type 0} (width : ℕ) (input : List A) where
-  -- some items, and then some more
+  -- some items of a column, and then more of them
   pub IsColumnPut-more : (rows more from to : ℕ) (old mid new : List A)
       → IsColumnPut rows from width to input old mid
       → IsColumnPut more (from + rows * width) width (to + rows) input mid new
@@ -30,7 +30,7 @@ module _ {A : Type 0} (width : ℕ) (input : List A) where
         ];
   }
 
--- some of the items of a column
+-- the preconditions for all items of a column include those for some of them
 pub HoldsColumn-some : {A : Type 0} (rows from width to : ℕ) (input old out : List A) (done more : ℕ) → done + more ≤ rows → length out ≡ length old
     → HoldsColumn rows from width to input old → HoldsColumn more (from + done * width) width (to + done) input out
 HoldsColumn-some rows from width to input old out done more within same h = record {

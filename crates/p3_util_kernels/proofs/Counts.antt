@@ -8,7 +8,7 @@ use Rattle.p3_util_kernels.specs.Least.{count_below}
 use Rattle.p3_util_kernels.proofs.DigitsLemmas.{sum_below-same}
 use Rattle.p3_util_kernels.proofs.Pairs.{mul-pred}
 
--- what a number that passes a test, or does not, adds to the count of those that do
+-- what a number adds to the count: 1 if it passes the test, and otherwise 0
 abbrev pub one : Bool → ℕ
 one b = cond b 1 0
 
@@ -33,7 +33,7 @@ pub count-all : (n : ℕ) → count_below n (λ i. true) ≡ n
 count-all zero = count-zero (λ i. true)
 count-all (suc n) = omega (arith, count-suc n (λ i. true), count-all n)
 
--- a number passes the test or its negation
+-- a number passes either the test or its negation
 one-not : (b : Bool) → one (not b) + one b ≡ 1
 one-not true = refl
 one-not false = refl
@@ -42,7 +42,7 @@ pub count-not : (n : ℕ) (t : ℕ → Bool) → count_below n (λ i. not (t i))
 count-not zero t = omega (arith, count-zero)
 count-not (suc n) t = omega (arith, count-not n t, count-suc n, one-not (t n))
 
--- what passes a test passes another one too, or not
+-- a number that passes one test either passes another one too or does not
 one-split : (b c : Bool) → one b ≡ one (b && not c) + one (b && c)
 one-split true true = refl
 one-split true false = refl
@@ -53,7 +53,7 @@ count-split zero t s = omega (arith, count-zero)
 count-split (suc n) t s =
     omega (arith, count-split n t s, count-suc n, one-split (t n) (s n))
 
--- where the count is not 0, some number passes
+-- if the count is not 0, some number passes
 pub count-some : (n : ℕ) (t : ℕ → Bool) → 0 < count_below n t → (i : ℕ) × (i < n) × IsTrue (t i)
 count-some zero t some = absurd (omega (arith, count-zero t))
 count-some (suc n) t some =
@@ -62,7 +62,7 @@ count-some (suc n) t some =
       | inr none ↦ let (i, less, passes) = count-some n t (omega (arith, count-suc n t, ap one none)) in (i, omega arith, passes)
     ]
 
--- where all that passes is one number, the count is at most 1
+-- if no two different numbers pass, the count is at most 1
 pub count-once : (n : ℕ) (t : ℕ → Bool) → ((i j : ℕ) → i < n → j < n → IsTrue (t i) → IsTrue (t j) → i ≡ j) → count_below n t ≤ 1
 count-once zero t same = omega (arith, count-zero t)
 count-once (suc n) t same =
@@ -71,19 +71,19 @@ count-once (suc n) t same =
       | inr other ↦ omega (arith, count-suc n t, ap one other, count-once n t (λ i j hi hj. same i j (omega arith) (omega arith)))
     ]
 
--- the numbers below a + b, in two parts
+-- the numbers below a + b, counted in two parts
 pub count-add : (a b : ℕ) (t : ℕ → Bool) → count_below (a + b) t ≡ count_below a t + count_below b (λ i. t (a + i))
 count-add a zero t = let e : a + 0 ≡ a = omega arith in rw e (omega (arith, count-zero (λ i. t (a + i))))
 count-add a (suc b) t =
     let e : a + suc b ≡ suc (a + b) = omega arith in
     rw e (omega (arith, count-add a b t, count-suc (a + b) t, count-suc b (λ i. t (a + i))))
 
--- one number is r
+-- how many numbers below n are r: one, or none if r is not below n
 pub count-one : (n r : ℕ) → count_below n (λ y. r == y) ≡ min 1 (n - r)
 count-one zero r = count-zero (λ y. r == y) ∙ omega arith
 count-one (suc n) r = count-suc n (λ y. r == y) ∙ grind (arith, nat_tests, count-one n r)
 
--- a matrix each row of which passes once, at column `f row`
+-- a matrix in which each row passes at exactly one column, `f row`
 pub count-rows : (rows side : ℕ) (f : ℕ → ℕ) (t : ℕ → Bool) → ((r : ℕ) → r < rows → f r < side)
     → ((r y : ℕ) → r < rows → y < side → t (r * side + y) ≡ (f r == y)) → count_below (rows * side) t ≡ rows
 count-rows zero side f t inside at = let e : zero * side ≡ 0 = omega arith in rw e (count-zero t)
@@ -98,12 +98,13 @@ count-off_diagonal side =
     let diagonal = count-rows side side (λ r. r) (λ p. p / side == p % side) (λ r h. h) (λ r y h k. rw (div-mul-add r side y k, mod-mul-add r side y k) refl) in
     omega (arith, count-not (side * side) (λ p. p / side == p % side), diagonal, mul-pred side)
 
--- the numbers below k
+-- how many numbers below n are below k
 count-below : (n k : ℕ) → count_below n (λ x. nat_lt x k) ≡ min k n
 count-below zero k = count-zero (λ x. nat_lt x k) ∙ omega arith
 count-below (suc n) k = count-suc n (λ x. nat_lt x k) ∙ grind (arith, nat_tests, count-below n k)
 
--- a matrix of which row r passes at its first `first r` columns, where `all` grows by so many at r
+-- a matrix in which row r passes at its first `first r` columns, where `all` grows at r by that
+-- number
 pub count-first : (side rows : ℕ) (first all : ℕ → ℕ) → ((r : ℕ) → r < rows → (first r ≤ side) × (all (suc r) ≡ all r + first r))
     → count_below (rows * side) (λ i. nat_lt (i % side) (first (i / side))) + all 0 ≡ all rows
 count-first side zero first all next = let e : zero * side ≡ 0 = omega arith in rw e (omega (arith, count-zero (λ i. nat_lt (i % side) (first (i / side)))))
@@ -123,12 +124,12 @@ count-first side (suc r) first all next =
       last,
     ))
 
--- one test for all
+-- a test with the same result for all numbers
 count-constant : (n : ℕ) (b : Bool) → count_below n (λ i. b) ≡ n * one b
 count-constant n true = omega (arith, count-all n)
 count-constant n false = omega (arith, count-none n (λ i. false) (λ i less e. both_ways false refl e))
 
--- each number so often
+-- each number is counted `often` times
 pub count-times : (n often : ℕ) (t : ℕ → Bool) → count_below (n * often) (λ i. t (i / often)) ≡ often * count_below n t
 count-times zero often t = let e : zero * often ≡ 0 = omega arith in rw e (count-zero (λ i. t (i / often)) ∙ omega (arith, ap (λ c. often * c) (count-zero t)))
 count-times (suc n) often t =
@@ -145,6 +146,6 @@ count-times (suc n) often t =
       ap (λ c. often * c) (count-suc n t),
     ))
 
--- an even number and the next one for each number
+-- each number is counted for an even number and for the next one
 pub count-twice : (n : ℕ) (t : ℕ → Bool) → count_below (2 * n) (λ k. t (k / 2)) ≡ 2 * count_below n t
 count-twice n t = ap (λ m. count_below m (λ k. t (k / 2))) (omega arith) ∙ count-times n 2 t

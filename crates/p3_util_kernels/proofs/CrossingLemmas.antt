@@ -1,4 +1,4 @@
--- Pairs of rows exchanged, line after line, and that all pairs make the reversal of rows.
+-- Pairs of rows are exchanged line by line, and all pairs together make the reversal of rows.
 use Rattle.std.proofs.Common.{◌≡◌, ◌≢◌, ℕ, ◌+◌, ◌-◌, ◌*◌, ◌/◌, ◌%◌, ◌^◌, ◌<◌, ◌≤◌, ◌⊎◌, min, max, List, length, slice_get, inl, inr, refl, sym, ap, ◌∙◌, arith}
 use Rattle.std.proofs.Math.Nat.{mul-le-mul_right}
 use Rattle.std.proofs.lemmas.Bool.{cases_lt}
@@ -17,20 +17,20 @@ use Rattle.p3_util_kernels.proofs.MirroredLemmas.{Mirrored-cut, Mirrored-none}
 use Rattle.p3_util_kernels.proofs.RegionLemmas.{IsCut-cols, IsCut-rows}
 use Rattle.p3_util_kernels.proofs.SideBySideLemmas.{each_part, in_row, row_length}
 
--- two runs of rows that differ are apart
+-- the places of two different rows do not overlap
 pub runs-apart : (row_width i j : ℕ) → i ≢ j → (i * row_width + row_width ≤ j * row_width) ⊎ (j * row_width + row_width ≤ i * row_width)
 runs-apart row_width i j apart = grind (arith, mul-le-mul_right {m = i + 1} {n = j} row_width, mul-le-mul_right {m = j + 1} {n = i} row_width)
 
--- a place that is none of a run lies before or after it
+-- a place that is not in a run is before it or after it
 outside : (p i len : ℕ) → ((t : ℕ) → t < len → p ≢ i + t) → (p < i) ⊎ (i + len ≤ p)
 outside p i len out = grind (arith, out (p - i))
 
 module _ (half c : ℕ) (within : half ≤ c) where
-  -- a line has a middle digit and a number y
+  -- the middle digit of a line is below 2 ^ (c - half)
   pub middle-lt : (line : ℕ) → line < 2 ^ c → line / 2 ^ half < 2 ^ (c - half)
   middle-lt line h = div_below line (2 ^ half) (2 ^ (c - half)) (pow_pos half) (rw (row_length c half within) h)
 
-  -- two rows that are one have the same parts
+  -- equal rows have equal parts
   pub row-same : (middle x y middle' x' y' : ℕ) → middle < 2 ^ (c - half) → x < 2 ^ half → y < 2 ^ half → middle' < 2 ^ (c - half) → x' < 2 ^ half → y' < 2 ^ half
       → row_of half c middle x y ≡ row_of half c middle' x' y' → (middle ≡ middle') × (x ≡ x') × (y ≡ y')
   row-same middle x y middle' x' y' hm hx hy hm' hx' hy' e =
@@ -38,7 +38,7 @@ module _ (half c : ℕ) (within : half ≤ c) where
       let inner = same_from_place middle y middle' y' (2 ^ half) hy hy' outer.1 in
       (inner.0, sym (rev-rev-below half x hx) ∙ ap (rev half) outer.0 ∙ rev-rev-below half x' hx', inner.1)
 
-  -- the greater number of a pair on a line, or on the next one
+  -- the greater number of a pair on this line or on the next one
   greater : (line m v w : ℕ) → line % 2 ^ half + 1 < 2 ^ half → v < 2 ^ half → w < 2 ^ half → line ≤ m * 2 ^ half + max v w → m * 2 ^ half + max v w < line + 2
       → max v w ≡ line % 2 ^ half + (m * 2 ^ half + max v w - line)
   greater line m v w fits hv hw above below =
@@ -81,7 +81,7 @@ module _ (half c : ℕ) (within : half ≤ c) where
           → IsCrossed half c row_width first xs ys → IsCrossed half c row_width second ys zs → IsCrossed half c row_width whole xs zs
       IsCrossed-cut = Mirrored-cut _ _ (λ m n. m.0 * 2 ^ half + n) turned same_pair
 
-      -- one pair of rows exchanged
+      -- one pair of rows is exchanged
       pub IsCrossed-pair : (middle x y : ℕ) (old new : List A) → middle < 2 ^ (c - half) → x < y → y < 2 ^ half
           → RunsExchanged (row_of half c middle x y * row_width) (row_of half c middle y x * row_width) row_width old new
           → IsCrossed half c row_width (record { row_start = x; row_end = x + 1; col_start = middle * 2 ^ half + y; col_end = middle * 2 ^ half + y + 1 }) old new
@@ -97,7 +97,7 @@ module _ (half c : ℕ) (within : half ≤ c) where
             (outside k _ row_width (of_pair y x below (omega arith) (omega arith) (omega arith)));
       }
 
-      -- the pairs of two lines that have one x more
+      -- the pairs of two lines for one more x
       pub IsCrossed-more : (line from x : ℕ) (xs ys zs ws : List A) → from ≤ x
           → IsCrossed half c row_width (record { row_start = from; row_end = x; col_start = line; col_end = line + 2 }) xs ys
           → IsCrossed half c row_width (record { row_start = x; row_end = x + 1; col_start = line; col_end = line + 1 }) ys zs
@@ -110,7 +110,8 @@ module _ (half c : ℕ) (within : half ≤ c) where
           (IsCrossed-cut (record lines { row_start = x }) _ _ ys zs ws (IsCut-cols (record lines { row_start = x }) (line + 1) (omega arith) (omega arith)) first (rw end at second))
 
       module _ (line from to : ℕ) (fits : line % 2 ^ half + 1 < 2 ^ half) where
-        -- After the pairs whose x is below y, each pair that is left on both lines is a row and itself, but for y and y + 1.
+        -- After the pairs whose x is below y, each remaining pair on the two lines is a row and
+        -- itself, except the pair of y and y + 1.
         pub IsCrossed-last : (xs ys zs : List A) → from ≤ line % 2 ^ half → line % 2 ^ half < to
             → IsCrossed half c row_width (record { row_start = from; row_end = line % 2 ^ half; col_start = line; col_end = line + 2 }) xs ys
             → IsCrossed half c row_width (record { row_start = line % 2 ^ half; row_end = line % 2 ^ half + 1; col_start = line + 1; col_end = line + 1 + 1 }) ys zs
@@ -127,7 +128,7 @@ module _ (half c : ℕ) (within : half ≤ c) where
             (IsCrossed-cut second _ _ ys zs zs (IsCut-rows second (y + 1) (omega arith) (omega arith)) (rw end at pair)
             (IsCrossed-none _ zs (λ m v w own h. omega (arith, greater line m.0 v w fits own.high own.low (omega (arith, h.col_from)) h.col_to, h.row_from, h.col_to)))))
 
-      -- all pairs came up: each row is the reverse of its own
+      -- if all pairs are exchanged, each row is the one whose index was its reverse
       pub IsRowReversal-crossed : (old new : List A) (pairs : Region) → c ≤ half + 1 → length old ≡ row_width * 2 ^ (half + c)
           → ((x y : ℕ) → x < 2 ^ c → y < 2 ^ half → IsInRegion pairs x y)
           → IsCrossed half c row_width pairs old new → IsRowReversal row_width old new
@@ -148,14 +149,14 @@ module _ (half c : ℕ) (within : half ≤ c) where
             at r (rw same at h) ∙ ap (λ n. slice_get old (rev n r * row_width + j)) (sym same);
       }
 
--- one row or two have no pairs
+-- one row or two rows have no pairs
 pub IsCrossed-few : {A : Type 0} (digits row_width : ℕ) (pairs : Region) (xs : List A) → digits < 2
     → IsCrossed (digits / 2) (digits - digits / 2) row_width pairs xs xs
 IsCrossed-few digits row_width pairs xs few =
     let one : 2 ^ (digits / 2) ≡ 1 = let none : digits / 2 ≡ 0 = omega arith in rw none refl in
     IsCrossed-none (digits / 2) (digits - digits / 2) (omega arith) row_width pairs xs (λ m x y own h. omega (arith, own.high, own.low, one))
 
--- the pairs of lines have all pairs
+-- the pairs of lines contain all pairs
 pub IsCrossed-lines : {A : Type 0} (digits row_width rows : ℕ) (old new : List A)
     → IsCrossed (digits / 2) (digits - digits / 2) row_width (record { row_start = 0; row_end = rows; col_start = 0; col_end = lines_of digits }) old new
     → IsCrossed (digits / 2) (digits - digits / 2) row_width (record { row_start = 0; row_end = rows; col_start = 0; col_end = 2 ^ (digits - digits / 2) }) old new
@@ -168,8 +169,8 @@ IsCrossed-lines digits row_width rows old new crossed =
       | inr several ↦ rw (lines_of-all digits several) at crossed
     ]
 
--- The first line of the middle digit of a line of an even number, all lines of that digit, and the number y of the line, below
--- which there is room for the next line
+-- For a line: the first line with its middle digit, all lines with that middle digit, and the
+-- number y of the line. If the line has an even number, there is room for the next line after y.
 pub line-first : (digits line side : ℕ) → side ≡ 2 ^ (digits / 2) → line / 2 ^ (digits / 2) * side % 2 ^ (digits / 2) ≡ 0
 line-first digits line side is =
     let half = digits / 2 in

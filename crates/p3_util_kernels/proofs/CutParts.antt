@@ -1,4 +1,5 @@
--- A length that is cut into parts: where each begins, the regions of a matrix that it cuts, and numbers of pairs of parts.
+-- A length that is cut into parts: where each part begins, the regions of a matrix that the cut
+-- makes, and the numbers of pairs of parts.
 use Rattle.std.proofs.Common.{◌≡◌, ℕ, suc, ◌+◌, ◌-◌, ◌*◌, ◌/◌, ◌%◌, ◌^◌, ◌<◌, ◌≤◌, ◌⊎◌, Bool, true, false, if◌then◌else◌, min, max, nat_le, refl, ap, ◌∙◌, inl, inr, arith}
 use Rattle.std.specs.Int.{div_ceil}
 use Rattle.std.proofs.lemmas.Bool.{cases_lt, false_from_ne_true, le-leb, leb-true}
@@ -8,13 +9,13 @@ use Rattle.std.proofs.Math.Nat.{lt_of_mul-lt-mul_right, mod-eq_of_lt, mod-eq-sub
 use Rattle.p3_util_kernels.specs.Parts.{number_of_pair, pairs_of, part_of_matrix, parts_in, start_of}
 use Rattle.p3_util_kernels.specs.Region.{LiesInMatrix}
 
--- a part begins below the length, and there are no more parts than numbers
+-- a part begins below the length, and there are no more parts than the length has numbers
 pub start-below : (len step : ℕ) → 0 < step → (k : ℕ) → k < parts_in len step → k * step < len
 start-below len step some k below =
     let next : suc k * step ≤ parts_in len step * step = mul-le-mul_right step below in
     omega (arith, (div_ceil_times len step some).1, next)
 
--- where there is a part there is a number
+-- if there is a part, the length is not 0
 pub side-cut : (len step : ℕ) → 0 < step → (k : ℕ) → k < parts_in len step → 0 < len
 side-cut len step some k below = omega (arith, start-below len step some k below)
 
@@ -24,7 +25,7 @@ parts-within len step some =
     let each : len / step * 1 ≤ len / step * step = mul-le-mul_left (len / step) some in
     omega arith
 
--- a quotient that is rounded up is no more than is enough
+-- a quotient that is rounded up is the least number that is enough
 div_ceil-least : (a b n : ℕ) → 0 < b → a ≤ n * b → div_ceil a b ≤ n
 div_ceil-least a b n some enough =
     let next : div_ceil a b * b < (n + 1) * b = omega (arith, (div_ceil_times a b some).1, enough) in
@@ -35,7 +36,8 @@ module _ (len unit units step : ℕ) (some : 0 < unit) (most : 0 < units) (fits 
   step-some : 0 < step
   step-some = let positive : 1 * 1 ≤ units * unit = mul-le-mul most some in omega (arith, positive)
 
-  -- parts of a length whose step is a multiple of `unit`, or no less than the length, begin at multiples of `unit`
+  -- if the step is a multiple of `unit` or at least the length, all parts begin at multiples of
+  -- `unit`
   pub start-aligned : (k : ℕ) → k < parts_in len step → start_of len step k % unit ≡ 0
   start-aligned k below =
       let inside : k * step < len = start-below len step step-some k below in
@@ -52,7 +54,7 @@ module _ (len unit units step : ℕ) (some : 0 < unit) (most : 0 < units) (fits 
             rw start (mul-mod_left 0 unit)
       ]
 
-  -- the parts are no more than was asked for
+  -- there are at most as many parts as the caller asked for
   pub parts-few : (parts : ℕ) → 0 < parts → units ≡ max (div_ceil (div_ceil len unit) parts) 1 → parts_in len step ≤ parts
   parts-few parts asked units_are =
       let a : len ≤ div_ceil len unit * unit = (div_ceil_times len unit some).0 in
@@ -66,7 +68,7 @@ module _ (len unit units step : ℕ) (some : 0 < unit) (most : 0 < units) (fits 
       ] in
       div_ceil-least len step parts step-some enough
 
-  -- no shorter parts of whole units are few enough
+  -- a step of fewer whole units would make too many parts
   pub parts-least : (parts : ℕ) → 0 < parts → units ≡ max (div_ceil (div_ceil len unit) parts) 1
       → (n : ℕ) → 0 < n → parts_in len (n * unit) ≤ parts → step ≤ n * unit
   parts-least parts asked units_are n whole few =
@@ -78,7 +80,7 @@ module _ (len unit units step : ℕ) (some : 0 < unit) (most : 0 < units) (fits 
       let e : units * unit ≤ n * unit = mul-le-mul_right unit (omega (arith, d, units_are)) in
       omega (arith, e)
 
--- a part ends before a later one begins
+-- a part ends before a later part begins, or where it begins
 pub start-rising : (len step k l : ℕ) → k < l → start_of len step (k + 1) ≤ start_of len step l
 start-rising len step k l less = let rows : suc k * step ≤ l * step = mul-le-mul_right step less in omega (arith, rows)
 
@@ -97,14 +99,14 @@ part-inside width height true len step k side =
 part-inside width height false len step k side =
     record { rows_in_order = omega arith; rows_inside = omega arith; cols_in_order = omega arith; cols_inside = omega arith }
 
--- two parts of a matrix have no row, or no column, in common
+-- two parts of a matrix have no row or no column in common
 pub parts-apart : (width height : ℕ) (by_rows : Bool) (len step k l : ℕ) → k < l
     → let first = part_of_matrix width height by_rows len step k in
     let second = part_of_matrix width height by_rows len step l in (first.row_end ≤ second.row_start) ⊎ (first.col_end ≤ second.col_start)
 parts-apart width height true len step k l less = inl (start-rising len step k l less)
 parts-apart width height false len step k l less = inr (start-rising len step k l less)
 
--- which way around the circle is the shorter one
+-- which of the two ways around the circle of parts is the shorter one
 pair-near : (n i j : ℕ) → 2 * (j - i) ≤ n → number_of_pair n i j ≡ (j - i) * n + i
 pair-near n i j near = rw (le-leb (2 * (j - i)) n near) refl
 
@@ -113,7 +115,8 @@ pair-far n i j far =
     let not_near : nat_le (2 * (j - i)) n ≡ false = false_from_ne_true (nat_le (2 * (j - i)) n) (λ near. omega (arith, far, leb-true (2 * (j - i)) n near)) in
     rw not_near refl
 
--- A pair has a number below that of the pairs: the length of the shorter way, and the part where it begins.
+-- The number of a pair is below the number of pairs. It is made of the length of the shorter way
+-- and of the part where that way begins.
 module _ (n i j : ℕ) (in_order : i ≤ j) (below : j < n) where
   pub pair-below : number_of_pair n i j < pairs_of n
   pair-below =
@@ -128,7 +131,7 @@ module _ (n i j : ℕ) (in_order : i ≤ j) (below : j < n) where
         ])
       ]
 
--- no other pair has its number
+-- no two pairs have the same number
 pub pair-alone : (n i j k l : ℕ) → i ≤ j → j < n → k ≤ l → l < n → number_of_pair n i j ≡ number_of_pair n k l → (i ≡ k) × (j ≡ l)
 pair-alone n i j k l ij jn kl ln same =
     elim (cases_lt n (2 * (j - i))) [
@@ -150,7 +153,7 @@ pair-alone n i j k l ij jn kl ln same =
       ]
     ]
 
--- a pair that is made of its number has that number
+-- a pair that is computed from a number has that number
 pub pair-number : (n number first last : ℕ) → number < pairs_of n → first ≡ min (number % n) ((number % n + number / n) % n)
     → last ≡ max (number % n) ((number % n + number / n) % n) → number_of_pair n first last ≡ number
 pair-number n number first last below first_is last_is =

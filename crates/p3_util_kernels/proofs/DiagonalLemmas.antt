@@ -1,4 +1,4 @@
--- Blocks of a square exchanged across its diagonal, one after another.
+-- Blocks of a square are exchanged across its diagonal, one after another.
 use Rattle.std.proofs.Common.{◌≡◌, ℕ, ◌+◌, ◌*◌, ◌^◌, ◌<◌, ◌≤◌, ◌-◌, min, max, List, length, inl, inr, arith}
 use Rattle.std.specs.List.{swap}
 use Rattle.std.proofs.lemmas.Bool.{cases_lt}
@@ -17,7 +17,7 @@ use Rattle.p3_util_kernels.proofs.MirroredLemmas.{Mirrored-cut, Mirrored-none}
 use Rattle.p3_util_kernels.proofs.Pairs.{mul-parts_left}
 use Rattle.p3_util_kernels.proofs.RegionLemmas.{IsCut-cols, IsCut-rows}
 
--- a place of the square is before its last one
+-- a list that has the last place of a square has every place of it
 pub square_place : (base stride a b last n : ℕ) → a ≤ last → b ≤ last → base + last * stride + last < n → base + a * stride + b < n
 square_place base stride a b last n ha hb room = let rows : a * stride ≤ last * stride = mul-le-mul_right stride ha in omega arith
 
@@ -28,7 +28,8 @@ module _ (base stride : ℕ) where
       let same = same_from_place x y v w stride h.1 k.1 (omega arith) in
       (omega (arith, same.0, same.1), omega (arith, same.0, same.1))
 
-  -- the place of row a and column b of the square, as one of the block from row v and column w on
+  -- the place of row a and column b of the square, as a place of the block that begins at row v and
+  -- column w
   block_of : (v w a b : ℕ) → v ≤ a → w ≤ b → base + v * stride + w + (a - v) * stride + (b - w) ≡ base + a * stride + b
   block_of v w a b ha hb = omega (arith, mul-parts_left v (a - v) a stride (omega arith))
 
@@ -42,7 +43,7 @@ module _ (base stride : ℕ) where
         → SwapsAcross base stride first xs ys → SwapsAcross base stride second ys zs → SwapsAcross base stride whole xs zs
     cut_exchanged = Mirrored-cut _ _ (λ m n. n) (λ m x y h. (h.1, h.0)) same_pair
 
-    -- the items of row a and column b and of row b and column a exchanged
+    -- the item at row a and column b is exchanged with the one at row b and column a
     SwapsAcross-swap : (a b : ℕ) (xs : List A) → a < b → b < stride
         → base + a * stride + b < length xs → base + b * stride + a < length xs
         → SwapsAcross base stride (record { row_start = a; row_end = a + 1; col_start = b; col_end = b + 1 }) xs (swap xs (base + a * stride + b) (base + b * stride + a))
@@ -62,7 +63,7 @@ module _ (base stride : ℕ) where
         (cut_exchanged (record row { col_end = col + 1 }) _ _ _ _ _ (IsCut-cols (record row { col_end = col + 1 }) col from (omega arith)) before
         (rw (start, end) (SwapsAcross-swap line col ys (omega arith) within (omega arith) room)))
 
-    -- the items of a block right above the diagonal exchanged with their mirror images
+    -- the items of a block of 4 by 4 above the diagonal are exchanged with their mirror images
     pub SwapsAcross-block : (row col : ℕ) (xs ys : List A) → row + 4 ≤ col → col + 4 ≤ stride
         → BlocksExchanged 16 (base + row * stride + col) (base + col * stride + row) stride xs ys
         → SwapsAcross base stride (record { row_start = row; row_end = row + 4; col_start = col; col_end = col + 4 }) xs ys
@@ -86,7 +87,8 @@ module _ (base stride : ℕ) where
           ));
     }
 
-    -- the upper left quadrant, the upper right one with its mirror image, and the lower right one make the square
+    -- the upper left quadrant, the upper right one with its mirror image, and the lower right one
+    -- together make the square
     pub SwapsAcross-quadrants : (start mid end : ℕ) (xs ys zs ws : List A) → start ≤ mid → mid ≤ end
         → SwapsAcross base stride (record { row_start = start; row_end = mid; col_start = start; col_end = mid }) xs ys
         → SwapsAcross base stride (record { row_start = start; row_end = mid; col_start = mid; col_end = end }) ys zs

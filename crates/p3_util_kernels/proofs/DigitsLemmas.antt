@@ -1,11 +1,11 @@
--- Laws of binary digits, of sums over places, and of the reversal of digits.
+-- Laws of binary digits, of sums over the numbers below a bound, and of the reversal of digits.
 use Rattle.std.proofs.Common.{◌≡◌, ℕ, zero, suc, ◌+◌, ◌-◌, ◌*◌, ◌/◌, ◌%◌, ◌^◌, ◌<◌, ◌≤◌, refl, sym, ◌∙◌, ap, arith, bit_and, bit_or}
 use Rattle.std.proofs.Math.Nat.{pow-suc, div-one, mod-eq_of_lt, mul-mod_left}
 use Rattle.std.proofs.lemmas.Nat.{pow_pos, pow-add, shr_split, shr-shr, mod_below, div-mul-add, mod-mul-add, mul-add-lt, and_mask, shl_whole, or_shifted, shl-shr}
 use Rattle.std.proofs.lemmas.Nat.Bits.{bit_at-lt, bit_at-suc, bit_at-zero, bit_at_cat_low, same_from_bits_below}
 use Rattle.p3_util_kernels.specs.Digits.{bit, sum_below, rev, rev_word}
 
--- the digits below place k are those of the remainder by 2 ^ k
+-- the digits below place k are those of x % 2 ^ k
 pub bit-mod : (x k i : ℕ) → i < k → bit (x % 2 ^ k) i ≡ bit x i
 bit-mod x k i h =
     let e : bit (x / 2 ^ k * 2 ^ k + x % 2 ^ k) i ≡ bit (x % 2 ^ k) i = bit_at_cat_low (x / 2 ^ k) k (x % 2 ^ k) i h in
@@ -20,7 +20,7 @@ sum_below-same (suc n) f g h =
     let last : f n ≡ g n = h n (omega arith) in
     cc
 
--- a common factor goes before the sum
+-- a common factor can be taken out of a sum
 pub sum_below-scale : (c n : ℕ) (f : ℕ → ℕ) → sum_below n (λ i. c * f i) ≡ c * sum_below n f
 unfolding sum_below
 sum_below-scale c zero f = omega arith
@@ -28,12 +28,12 @@ sum_below-scale c (suc n) f =
     let below : sum_below n (λ i. c * f i) ≡ c * sum_below n f = sum_below-scale c n f in
     rw below (grind arith)
 
--- no digits, no number
+-- reversing no digits gives 0
 pub rev-zero : (x : ℕ) → rev zero x ≡ 0
 unfolding rev sum_below
 rev-zero x = refl
 
--- one digit more is put below the others
+-- with one more digit, the new digit becomes the lowest one
 pub rev-suc : (k x : ℕ) → rev (suc k) x ≡ 2 * rev k x + bit x k
 unfolding rev sum_below
 rev-suc k x =
@@ -47,7 +47,7 @@ rev-suc k x =
     let last : longer k ≡ bit x k = rw e (omega arith) in
     cc
 
--- a number of k digits stays one
+-- reversing k digits gives a number of k digits
 pub rev-lt : (k x : ℕ) → rev k x < 2 ^ k
 rev-lt zero x = rw (rev-zero x) (omega arith)
 rev-lt (suc k) x =
@@ -58,7 +58,7 @@ pub rev-mod : (k x : ℕ) → rev k (x % 2 ^ k) ≡ rev k x
 unfolding rev
 rev-mod k x = sum_below-same k _ _ (λ i less. ap (λ b. b * 2 ^ (k - 1 - i)) (bit-mod x k i less))
 
--- the lowest digit below the others, and the others above it
+-- a digit below the digits of r is the lowest digit, and those of r come above it
 double_bit : (r b : ℕ) → b < 2 → bit (2 * r + b) 0 ≡ b
 double_bit r b h = rw (div-one (2 * r + b)) (omega arith)
 
@@ -74,7 +74,7 @@ bit-rev (suc k) x zero h = rw (rev-suc k x) (double_bit (rev k x) (bit x k) (bit
 bit-rev (suc k) x (suc i) h =
     rw (rev-suc k x) (double_bits (rev k x) (bit x k) i (bit_at-lt x k) ∙ bit-rev k x i (omega arith) ∙ ap (λ j. bit x j) (omega arith))
 
--- reversed twice, the k low digits are as they were
+-- reversing k digits twice gives the k low digits back
 pub rev-rev : (k x : ℕ) → rev k (rev k x) ≡ x % 2 ^ k
 rev-rev k x =
     same_from_bits_below k (rev k (rev k x)) (x % 2 ^ k) (rev-lt k (rev k x)) (mod_below x (2 ^ k) (pow_pos k))
@@ -82,11 +82,12 @@ rev-rev k x =
     bit-rev k (rev k x) i h ∙ bit-rev k x (k - 1 - i) (omega arith)
     ∙ ap (λ j. bit x j) (omega arith) ∙ sym (bit-mod x k i h))
 
--- of a number of k digits, reversal is its own inverse
+-- for numbers of k digits, reversal is its own inverse
 pub rev-rev-below : (k x : ℕ) → x < 2 ^ k → rev k (rev k x) ≡ x
 rev-rev-below k x h = rev-rev k x ∙ mod-eq_of_lt h
 
--- the low digits come first, the high digits after them
+-- the reversed low digits are the high part of the result, and the reversed high digits the low
+-- part
 pub rev-add : (j k x : ℕ) → rev (j + k) x ≡ rev k x * 2 ^ j + rev j (x / 2 ^ k)
 rev-add zero k x =
     let e : 0 + k ≡ k = omega arith in
@@ -98,7 +99,7 @@ rev-add (suc j) k x =
     let p : 2 ^ suc j ≡ 2 ^ j * 2 = pow-suc 2 j in
     rw (e, rev-suc (j + k) x, rev-suc j (x / 2 ^ k), p, d, low) (grind arith)
 
--- the same of a number in two parts
+-- the same for a number in two parts
 pub rev-parts : (j k a y : ℕ) → y < 2 ^ k → rev (j + k) (a * 2 ^ k + y) ≡ rev k y * 2 ^ j + rev j a
 rev-parts j k a y h =
     let high : (a * 2 ^ k + y) / 2 ^ k ≡ a = div-mul-add a (2 ^ k) y h in
@@ -111,18 +112,20 @@ rev-one zero m few h = rw (rev-zero m) (omega arith)
 rev-one (suc zero) m few h = rw (rev-suc zero m, rev-zero m, div-one m) (omega arith)
 rev-one (suc (suc d)) m few h = absurd (omega arith)
 
--- a middle part and low digits
+-- a number that consists of a middle part and low digits
 pub middle-below : (q d m y : ℕ) → m < 2 ^ d → y < 2 ^ q → m * 2 ^ q + y < 2 ^ (d + q)
 middle-below q d m y middle h = rw (pow-add 2 d q) (omega (arith, mul-add-lt m (2 ^ q) y (2 ^ d) middle h))
 
--- The same of a number in three parts, of q digits, of at most one and of q, which stays in the middle.
+-- The same for a number in three parts: q digits, at most one digit, and q digits. The middle part
+-- stays in the middle.
 pub rev-around : (q d a m y : ℕ) → d ≤ 1 → m < 2 ^ d → y < 2 ^ q
     → rev (q + (d + q)) (a * 2 ^ (d + q) + (m * 2 ^ q + y)) ≡ rev q y * 2 ^ (d + q) + (m * 2 ^ q + rev q a)
 rev-around q d a m y few middle h =
     let split : 2 ^ (d + q) ≡ 2 ^ d * 2 ^ q = pow-add 2 d q in
     rw (rev-parts q (d + q) a (m * 2 ^ q + y) (middle-below q d m y middle h), rev-parts d q m y h, rev-one d m few middle, split) (grind arith)
 
--- The digits of two halves, reversed: the reversed halves in the other order, put together as code of words of w digits does.
+-- The two halves of a number, each reversed, are put together in the other order, as code for
+-- integers of w bits does it.
 abbrev joined_halves : (w k x : ℕ) → ℕ
 joined_halves w k x = bit_or (rev k (bit_and x (2 ^ k - 1)) * 2 ^ k % 2 ^ w) (rev k (x / 2 ^ k))
 
@@ -137,7 +140,7 @@ rev-halves w k x fits =
     )
     (rev-add k k x)
 
--- the same of the numbers of digits of the words that are reversed so
+-- the same for 16, 32 and 64 digits, at which the code does this
 pub rev_16 : (x : ℕ) → rev 16 x ≡ joined_halves 16 8 x
 rev_16 x = rev-halves 16 8 x (omega arith)
 
@@ -147,7 +150,7 @@ rev_32 x = rev-halves 32 16 x (omega arith)
 pub rev_64 : (x : ℕ) → rev 64 x ≡ joined_halves 64 32 x
 rev_64 x = rev-halves 64 32 x (omega arith)
 
--- what the whole word and a part of it are, reversed
+-- `rev_word 0` reverses all 64 digits, and for other numbers of digits `rev_word` is `rev`
 pub rev_word-zero : (x : ℕ) → rev_word 0 x ≡ rev 64 x
 unfolding rev_word
 rev_word-zero x = refl
@@ -157,7 +160,8 @@ unfolding rev_word
 rev_word-above zero x h = absurd (omega arith)
 rev_word-above (suc k) x h = refl
 
--- the k low digits reversed are the high end of the reversed word r, and for no digits the whole of it
+-- the k low digits, reversed, are the k highest of the 64 reversed digits r; if k is 0, the result
+-- is all of r
 pub rev_word-shr : (r k s x : ℕ) → r ≡ rev 64 x → (k ≡ 0 → s ≡ 0) → (0 < k → s + k ≡ 64) → r / 2 ^ s ≡ rev_word k x
 rev_word-shr r zero s x is whole part = rw (whole refl, div-one r) (is ∙ sym (rev_word-zero x))
 rev_word-shr r (suc k) s x is whole part =
@@ -165,12 +169,12 @@ rev_word-shr r (suc k) s x is whole part =
     let high = div-mul-add (rev (suc k) x) (2 ^ s) (rev s (x / 2 ^ suc k)) (rev-lt s (x / 2 ^ suc k)) in
     rw (is, ← e, rev-add s (suc k) x, rev_word-above (suc k) x (omega arith)) high
 
--- the number 0 is its own reverse
+-- the reverse of 0 is 0
 pub rev-of-zero : (k : ℕ) → rev k 0 ≡ 0
 rev-of-zero zero = rev-zero 0
 rev-of-zero (suc k) = rw (rev-suc k 0, rev-of-zero k, bit_at-zero k) refl
 
--- a number of k digits, reversed twice
+-- reversing a number of k digits twice gives it back
 pub rev_word-twice : (k x r : ℕ) → r ≡ rev_word k x → x < 2 ^ k → rev_word k r ≡ x
 rev_word-twice zero x r e h =
     let none : x ≡ 0 = omega arith in
@@ -181,7 +185,7 @@ rev_word-twice (suc k) x r e h =
     let once : r ≡ rev (suc k) x = e ∙ rev_word-above (suc k) x some in
     rev_word-above (suc k) r some ∙ ap (rev (suc k)) once ∙ rev-rev-below (suc k) x h
 
--- digits with s zeros below them
+-- a number with s zeros below its digits
 pub rev-shl : (q s a : ℕ) → rev (q + s) (a * 2 ^ s) ≡ rev q a
 rev-shl q s a =
     let low : rev s (a * 2 ^ s) ≡ 0 = sym (rev-mod s (a * 2 ^ s)) ∙ ap (rev s) (mul-mod_left a (2 ^ s)) ∙ rev-of-zero s in

@@ -1,4 +1,4 @@
--- Two blocks exchanged with their mirror images, item by item.
+-- Two blocks are exchanged with each other's mirror image, item by item.
 use Rattle.std.proofs.Common.{◌≡◌, ℕ, ◌+◌, ◌*◌, ◌<◌, ◌≤◌, List, length, inl, inr, ap, ◌∙◌, arith}
 use Rattle.std.specs.List.{swap}
 use Rattle.std.proofs.Math.Nat.{mul-le-mul_right}
@@ -8,16 +8,16 @@ use Rattle.std.proofs.lemmas.Nat.{same_from_place}
 use Rattle.p3_util_kernels.specs.Exchanged.{BlocksExchanged}
 use Rattle.p3_util_kernels.proofs.Exchange.{slice_get-swap_first, slice_get-swap_second, slice_get-swap_other}
 
--- a place of a block is not past its last one
+-- a place of a block is not after the last place of the block
 pub block_place : (i stride r c : ℕ) → r < 4 → c < 4 → i + r * stride + c < i + 3 * stride + 4
 block_place i stride r c hr hc = let rows : r * stride ≤ 3 * stride = mul-le-mul_right stride (omega arith) in omega arith
 
 module _ (i j stride : ℕ) (rows : 4 ≤ stride) (apart : i + 3 * stride + 4 ≤ j) where
-  -- a place of a block has one row and one column
+  -- a place of a block has only one row and one column
   same_place : (k a b r c : ℕ) → b < 4 → c < 4 → k + a * stride + b ≡ k + r * stride + c → (a ≡ r) × (b ≡ c)
   same_place k a b r c hb hc e = same_from_place a b r c stride (omega arith) (omega arith) (omega arith)
 
-  -- one more item
+  -- one more item is exchanged
   pub BlocksExchanged-more : {A : Type 0} (r c : ℕ) (old now next : List A) → r < 4 → c < 4 → j + 3 * stride + 4 ≤ length old
       → BlocksExchanged (4 * r + c) i j stride old now → next ≡ swap now (i + r * stride + c) (j + c * stride + r)
       → BlocksExchanged (4 * r + (c + 1)) i j stride old next

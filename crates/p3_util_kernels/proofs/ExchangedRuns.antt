@@ -10,18 +10,18 @@ use Rattle.p3_util_kernels.proofs.Exchange.{slice_get-swap_first, slice_get-swap
 
 -- edit 1
 
--- the runs named in the other order
+-- the same exchange with the two runs named in the other order
 pub RunsExchanged-turned : {A : Type 0} (i j len : ℕ) (old new : List A) → RunsExchanged i j len old new → RunsExchanged j i len old new
 RunsExchanged-turned i j len old new h = record { same_length = h.same_length; first = h.second; second = h.first; others = λ p k l. h.others p l k }
 
--- the lower run named first
+-- the same exchange with the lower run named first
 pub RunsExchanged-ordered : {A : Type 0} (i j low high len : ℕ) (old new : List A) → low ≡ min i j → high ≡ max i j
     → RunsExchanged low high len old new → RunsExchanged i j len old new
 RunsExchanged-ordered i j low high len old new is_low is_high h =
     grind (arith, h, RunsExchanged-turned j i len old new)
 
--- One pair of places is two runs of one item each. The place where such a run begins is the only one in it, so what is said
--- of a place of the run is said of that one.
+-- One pair of places is two runs of one item each. The place where such a run begins is the only
+-- place in it, so a statement about a place of the run is one about that place.
 pub RunsExchanged-one : {A : Type 0} (i j : ℕ) (old new : List A) → i < length old → j < length old → new ≡ swap old i j → RunsExchanged i j 1 old new
 RunsExchanged-one i j old new first_in second_in swapped = record {
   same_length = ap length swapped ∙ length-swap old i j;
@@ -30,8 +30,9 @@ RunsExchanged-one i j old new first_in second_in swapped = record {
   others = λ p h k. rw swapped (slice_get-swap_other old i j p (elim h [ inl l ↦ omega arith | inr r ↦ omega arith ]) (elim k [ inl l ↦ omega arith | inr r ↦ omega arith ]));
 }
 
--- Two runs, and the two that follow them at once, are two longer runs. Where the first two lie below the place that is looked
--- at, the others have it, and else the first two.
+-- Two exchanged runs, and two more that follow them directly, are two longer runs. If a place is
+-- past the end of the first two runs, the other two decide what is at it, and otherwise the first
+-- two do.
 joined : {A : Type 0} (i j n m : ℕ) (old now next : List A) → i + (n + m) ≤ j → RunsExchanged i j n old now
     → RunsExchanged (i + n) (j + n) m now next → RunsExchanged i j (n + m) old next
 joined i j n m old now next apart before after = record {
@@ -41,7 +42,7 @@ joined i j n m old now next apart before after = record {
   others = λ p h k. grind (arith, before.others p, after.others p);
 }
 
--- two runs exchanged, and then those that follow them
+-- two runs are exchanged, and then the two runs that follow them
 pub RunsExchanged-joined : {A : Type 0} (i j n m : ℕ) (old now next : List A) → (i + (n + m) ≤ j) ⊎ (j + (n + m) ≤ i)
     → RunsExchanged i j n old now → RunsExchanged (i + n) (j + n) m now next → RunsExchanged i j (n + m) old next
 RunsExchanged-joined i j n m old now next (inl up) before after = joined i j n m old now next up before after
@@ -49,7 +50,7 @@ RunsExchanged-joined i j n m old now next (inr down) before after =
     RunsExchanged-turned j i (n + m) old next
     (joined j i n m old now next down (RunsExchanged-turned i j n old now before) (RunsExchanged-turned (i + n) (j + n) m now next after))
 
--- a list cut at j, of whose parts the runs are exchanged
+-- a list is cut at j, and a run of one part is exchanged with a run of the other
 pub RunsExchanged-slices : {A : Type 0} (i j len n : ℕ) (xs front back first second : List A) → i + len ≤ j → j + len ≤ length xs → n ≡ len
     → front ≡ take j xs → back ≡ drop j xs → first ≡ take len back → second ≡ take n (drop i front)
     → RunsExchanged i j len xs ((take i front ++ (first ++ drop n (drop i front))) ++ (second ++ drop len back))

@@ -10,7 +10,7 @@ use Rattle.p3_util_kernels.specs.Region.{LiesInMatrix, cols_of, rows_of}
 use Rattle.p3_util_kernels.proofs.LevelsLemmas.{clog-above, clog-half, clog-le, lev_le}
 use Rattle.p3_util_kernels.proofs.RegionLemmas.{IsCut-rows, IsCut-cols}
 
--- at most 57 levels for a region of a matrix whose places fit a word
+-- the splits of a region nest at most 57 levels deep if the places of its matrix fit a usize
 pub lev-of_region : (region : Region) (width height : ℕ) → LiesInMatrix region width height → width < 2 ^ 64 → height < 2 ^ 64 → width * height < 2 ^ 64
     → lev (rows_of region) (cols_of region) ≤ 57
 lev-of_region region width height lies wide tall fits =
@@ -24,7 +24,7 @@ lev-of_whole whole width height is wide tall fits =
     let lies : LiesInMatrix whole width height = rw is (grind arith) in
     omega (arith, lev-of_region whole width height lies wide tall fits)
 
--- A side above 128 in two parts, its half rounded down and the rest.
+-- A side above 128 in two parts: its half, rounded down, and the rest of it.
 halves : (side half rest : ℕ) → 128 < side → half ≡ side / 2 → rest ≡ side - side / 2
     → (7 < clog side) × (clog rest + 1 ≡ clog side) × (clog half ≤ clog rest)
 halves side half rest h e f = (clog-above side 7 h, rw f (clog-half side (omega arith)), clog-le half rest (omega arith))
@@ -43,5 +43,5 @@ AreHalves-cols whole deep wide order =
     let sides = halves (cols_of whole) (middle - whole.col_start) (whole.col_end - middle) wide (omega arith) (omega arith) in
     grind (arith, nat_tests, sides, IsCut-cols whole middle (omega arith) (omega arith))
 
--- the two sides that are halved
+-- a region halved by its rows, and one halved by its columns
 pub ruleset halved = (AreHalves-rows, AreHalves-cols)

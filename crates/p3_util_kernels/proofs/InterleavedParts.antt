@@ -1,4 +1,4 @@
--- The parts of a call whose steps are made in turns, for `src/parts/laws/interleaved.rt`.
+-- The parts of a call whose steps are interleaved, for `src/parts/laws/interleaved.rt`.
 use Rattle.std.proofs.Common.{◌≡◌, ◌≢◌, ℕ, zero, suc, ◌+◌, ◌-◌, ◌*◌, ◌/◌, ◌^◌, ◌<◌, if◌then◌else◌, List, [], ◌∷◌, Some, get_or, length, slice_get, refl, sym, ◌∙◌, ap, arith}
 use Rattle.std.specs.Prelude.{All}
 use Rattle.std.proofs.lemmas.List.Elements.{All-head, All-weaker}
@@ -32,7 +32,7 @@ use Rattle.p3_util_kernels.proofs.PlansMade.{AreDone, done-all, done-more}
 use Rattle.p3_util_kernels.proofs.PutsMade.{region, regions-all}
 use Rattle.p3_util_kernels.proofs.RegionSteps.{region-stays}
 
--- the steps of each region alone put its transpose
+-- the steps of each region, made alone, put its transpose
 module _ {A : Type 0} (plan : TransposePlan) (input old : List A) (lists : List (List (ℕ × A))) (input_fits : length input ≡ plan.width * plan.height)
     (old_fits : length old ≡ plan.width * plan.height) (strange : NoItemInCommon input old)
     (alone : PutAlone plan.width plan.height plan.by_rows plan.cut.len plan.cut.step input old lists) where
@@ -84,7 +84,7 @@ module _ {A : Type 0} (plan : TransposePlan) (input old : List A) (lists : List 
 abbrev PlaceOf : {M : Type 0} (place : M → ℕ → ℕ → ℕ) (part : ℕ → M → ℕ → ℕ → Type 0) → ℕ → ℕ → Type 0
 PlaceOf {M} place part k p = (m : M) × (x : ℕ) × (y : ℕ) × part k m x y × (p ≡ place m x y)
 
--- the steps of each part alone exchange it with its mirror image
+-- the steps of each part, made alone, exchange it with its mirror image
 module _ {A M : Type 0} (count : ℕ) (place : M → ℕ → ℕ → ℕ) (part : ℕ → M → ℕ → ℕ → Type 0)
     (apart : (k l : ℕ) (m n : M) (x y v w : ℕ) → part k m x y → part l n v w → place m x y ≡ place n v w → k ≡ l) where
   mirrored-interleaved : (old : List A) (lists : List (List (ℕ × ℕ))) (all : List (ℕ × ℕ)) → length lists ≡ count
@@ -108,7 +108,7 @@ module _ {A M : Type 0} (count : ℕ) (place : M → ℕ → ℕ → ℕ) (part 
         swaps-differ all lists old (λ k steps e. All-weaker (PlaceOf place part k) (λ p. p < length old) (below k) (places_swapped steps) (own k steps e)) is differ,
       )
 
--- the one interleaving of one list
+-- a single list has only one interleaving, the list itself
 only-list : {S : Type 0} (all steps : List S) → IsInterleaved (steps ∷ []) all → all ≡ steps
 unfolding IsInterleaved
 only-list [] steps done = sym (All-head (λ steps. steps ≡ []) steps [] done)
@@ -120,7 +120,7 @@ one-list [] all one is = absurd (omega (arith, one))
 one-list (steps ∷ []) all one is = ap (λ s. Some s) (sym (only-list all steps is))
 one-list (steps ∷ more ∷ lists) all one is = absurd (omega (arith, one))
 
--- what the next phase of a plan asks, where there is one
+-- what the next phase of a plan needs from the list, if there is a next phase
 abbrev StillDiffer : {A : Type 0} (phase : Phase) (new : List A) → Type 0
 StillDiffer (Rows rows) new = Unit {0}
 StillDiffer (Pairs pairs) new = AllDiffer new
@@ -167,14 +167,14 @@ parts-interleaved (Blocks squares) old lists all of differ alone is =
     differ is in
     (made-all (λ j. j) (Blocks squares) (turns-plain count) old (after_swaps old all) of made.0, made.1)
 
--- exchanges that make a part, where it is known that there are some
+-- exchanges that make a part, if it is known that there are some
 pub alone-from : {A : Type 0} (phase : Phase) (k : ℕ) (old new : List A) → IsPartMade phase k old new (λ n. SwapsLead n old new)
     → (steps : List (ℕ × ℕ)) × (new ≡ after_swaps old steps) × IsMadeAlone phase k old steps
 alone-from (Rows rows) k old new (made, (steps, many, leads)) = (steps, sym leads, rw leads (made, many))
 alone-from (Pairs pairs) k old new (base, part, block, made, (steps, many, leads)) = (steps, sym leads, rw leads (base, part, block, made, many))
 alone-from (Blocks squares) k old new (base, part, block, made, (steps, many, leads)) = (steps, sym leads, rw leads (base, part, block, made, many))
 
--- one phase more of a plan
+-- one more phase of a plan
 next-phase : {A : Type 0} (row_width : ℕ) (plan : ReversalPlan) (n : ℕ) (phase : Phase) (old mid : List A) (lists : List (List (ℕ × ℕ))) (all : List (ℕ × ℕ)) (done : ℕ)
     → IsReversalPlan (length old) row_width plan → FitsRows (length old) row_width → length old < 2 ^ 64 → slice_get (phases_of plan) n ≡ Some phase
     → AreDone plan n old mid done → length mid ≡ length old → AllDiffer mid → MakeAlone phase mid lists → IsInterleaved lists all

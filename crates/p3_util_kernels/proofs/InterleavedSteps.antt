@@ -1,4 +1,4 @@
--- Steps of several lists that are made in turns, where no two lists have a place in common.
+-- Steps of several lists that are interleaved, where no two lists have a place in common.
 use Rattle.std.proofs.Common.{◌≡◌, ◌≢◌, ℕ, zero, suc, ◌⊎◌, ◌<◌, List, [], ◌∷◌, ◌++◌, Some, get_or, length, slice_get, slice_set, inl, inr, refl, sym, ◌∙◌, ap, arith}
 use Rattle.std.specs.Prelude.{All, Contains, swap}
 use Rattle.std.proofs.lemmas.Bool.{cases_eq, cases_lt}
@@ -12,8 +12,8 @@ use Rattle.p3_util_kernels.specs.PartSteps.{NoPlaceInCommon}
 use Rattle.p3_util_kernels.proofs.Exchange.{slice_get-set_other, slice_get-set_same, slice_get-swap_first, slice_get-swap_other, slice_get-swap_second}
 use Rattle.p3_util_kernels.proofs.SameList.{same_places}
 
--- What writes and exchanges have in common: a step has some places, changes no other, and leaves there what follows from what
--- was there.
+-- What writes and exchanges have in common: a step has some places, changes no other place, and
+-- what it leaves at its places depends only on what was at them.
 pub record AreSteps {A S : Type 0} (after : List A → List S → List A) (places : List S → List ℕ) : Type 1 where
   pub one : List A → S → List A
   pub at : S → ℕ → Type 0
@@ -73,7 +73,7 @@ swaps-are = record {
       ];
 }
 
--- the lists one after the other are one of their interleavings
+-- one interleaving of lists is to make one list after the other
 empty-first : {S : Type 0} (all : List S) (lists : List (List S)) → IsInterleaved lists all → IsInterleaved ([] ∷ lists) all
 unfolding IsInterleaved
 empty-first [] lists done = All-cons (λ steps. steps ≡ []) [] lists refl done
@@ -89,7 +89,7 @@ unfolding IsInterleaved
 in_turn-interleaved [] = All-nil (λ steps. steps ≡ [])
 in_turn-interleaved (first ∷ lists) = list-first first (in_turn lists) lists (empty-first (in_turn lists) lists (in_turn-interleaved lists))
 
--- a number below n with this property, or none
+-- either some number below n has this property, or none has it
 search-below : (n : ℕ) (P : ℕ → Type 0) → ((k : ℕ) → P k ⊎ (P k → ⊥)) → ((k : ℕ) × (k < n) × P k) ⊎ ((k : ℕ) → k < n → P k → ⊥)
 search-below zero P each = inr (λ k less h. omega (arith, less))
 search-below (suc n) P each =
@@ -113,11 +113,11 @@ module _ {A S : Type 0} {after : List A → List S → List A} {places : List S 
   after-length [] xs = ap length (are.none xs)
   after-length (s ∷ steps) xs = ap length (are.more xs s steps) ∙ after-length steps (are.one xs s) ∙ are.same_length xs s
 
-  -- the places of list k have a property
+  -- all places of list k have a property
   abbrev pub StayIn : (part : ℕ → ℕ → Type 0) → List (List S) → Type 0
   StayIn part lists = (k : ℕ) (steps : List S) → slice_get lists k ≡ Some steps → All (part k) (places steps)
 
-  -- so have those of its first step, and of the lists without it
+  -- then the places of its first step have it too, and so do those of the lists without that step
   pub first-taken : (part : ℕ → ℕ → Type 0) (lists : List (List S)) (k : ℕ) (s : S) (rest : List S) → StayIn part lists → slice_get lists k ≡ Some (s ∷ rest)
       → ((p : ℕ) → are.at s p → part k p) × StayIn part (slice_set lists k rest)
   first-taken part lists k s rest own e =
@@ -132,8 +132,8 @@ module _ {A S : Type 0} {after : List A → List S → List A} {places : List S 
             ],
       )
 
-  -- At places that are of list k alone, or of none, an interleaving leaves what list k leaves there alone. No list but k has one of
-  -- them, and list k no others.
+  -- At places that belong only to list k, or to no list, an interleaving leaves what list k would
+  -- leave there alone. No list except k has these places, and list k has no other places.
   module _ (n k : ℕ) (P : ℕ → Type 0) where
     abbrev AreOf : ℕ → ℕ → Type 0
     AreOf j p = (j ≡ k → P p × (p < n)) × (j ≢ k → P p → ⊥)
@@ -166,7 +166,7 @@ module _ {A S : Type 0} {after : List A → List S → List A} {places : List S 
               (same-at all (slice_set lists j rest) (are.one xs s) ys then_len len_ys then_own next (λ q g. are.others xs s q (λ a. (at_s q a).1 other g) ∙ same q g) p h)
         ]
 
-  -- Part k has the places of list k, and no place is of two parts.
+  -- List k has only places of part k, and no place belongs to two parts.
   module _ (part : ℕ → ℕ → Type 0) (apart : (k l : ℕ) → k ≢ l → NoPlaceInCommon (part k) (part l)) (xs : List A) (below : (k p : ℕ) → part k p → p < length xs)
       (lists : List (List S)) (own : StayIn part lists) where
     pub are-apart : AreApartBelow places (length xs) lists
@@ -175,7 +175,7 @@ module _ {A S : Type 0} {after : List A → List S → List A} {places : List S 
       apart = λ i j first second other e f p at at'. apart i j other p (All-contains (part i) (places first) p (own i first e) at) (All-contains (part j) (places second) p (own j second f) at');
     }
 
-    -- a place of a part holds what the steps of that part leave there alone
+    -- a place of a part holds what the steps of that part alone would leave there
     pub of-part : (all : List S) → IsInterleaved lists all → (k p : ℕ) → part k p → slice_get (after xs all) p ≡ slice_get (after xs (get_or lists k [])) p
     of-part all is k p h =
         same-at (length xs) k (part k) all lists xs xs refl refl
@@ -216,7 +216,7 @@ module _ {A S : Type 0} {after : List A → List S → List A} {places : List S 
             of-none part apart xs below lists own all turns p out ∙ sym (of-none part apart xs below lists own (in_turn lists) turn p out)
       ])
 
--- exchanges within a list of different items leave different items
+-- exchanges in a list of different items give a list of different items
 swap-differ : {A : Type 0} (xs : List A) (i j : ℕ) → i < length xs → j < length xs → AllDiffer xs → AllDiffer (swap xs i j)
 swap-differ xs i j hi hj differ p q hp hq e =
     let len = length-swap xs i j in

@@ -1,15 +1,15 @@
--- Two lists that are joined, and an exchange of an item of the first one with an item of the second.
+-- Two joined lists, and an exchange of an item of the first one with an item of the second one.
 use Rattle.std.proofs.Common.{ℕ, ◌≡◌, ◌+◌, ◌-◌, ◌<◌, List, ◌++◌, length, get_or, set, sym, ap, ◌∙◌, arith, length-append}
 use Rattle.std.proofs.lemmas.List.{get_or_append_left, get_or-append-add, get_or_read, length-set, set-append_left, set-append_right}
 use Rattle.std.proofs.lemmas.List.Edits.{swap_is}
 use Rattle.std.specs.List.{swap}
 
 module _ {A : Type 0} where
-  -- behind the first list's end
+  -- a write at a place after the end of the first list
   pub set-behind : (xs ys : List A) (n k : ℕ) (w : A) → length xs ≡ n → set (xs ++ ys) (n + k) w ≡ xs ++ set ys k w
   set-behind xs ys n k w is = let same : n + k - n ≡ k = omega arith in set-append_right xs ys n (n + k) w is (omega arith) ∙ ap (λ p. xs ++ set ys p w) same
 
-  -- one place in each list, which hold x and y
+  -- an exchange between one place in each list; the two places hold x and y
   pub across : (xs ys : List A) (i j : ℕ) (x y : A) → i < length xs → j < length ys → x ≡ get_or xs i x → y ≡ get_or ys j y
       → set xs i y ++ set ys j x ≡ swap (xs ++ ys) i (length xs + j)
   across xs ys i j x y li lj at-i at-j =

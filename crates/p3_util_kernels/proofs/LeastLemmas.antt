@@ -1,5 +1,5 @@
--- How many places a list of exchanges or of writes changes, how many numbers are their own reverse, and what follows for
--- the least number of steps.
+-- How many places a list of exchanges or of writes changes, how many numbers are their own reverse,
+-- and what follows from this for the least number of steps.
 use Rattle.std.proofs.Common.{◌≡◌, ◌≢◌, ◌↔◌, ℕ, zero, suc, Bool, true, not, ◌==◌, ◌+◌, ◌*◌, ◌/◌, ◌%◌, ◌^◌, ◌<◌, ◌≤◌, IsTrue, List, length, slice_get, ◌∙◌, ap, arith}
 use Rattle.std.proofs.Math.Nat.{pow-suc}
 use Rattle.std.proofs.lemmas.Bool.Decides.{nat_tests}
@@ -26,7 +26,7 @@ pub puts-change : {A : Type 0} → PutsChange A
 puts-change xs steps n test differ =
     omega (arith, written-change n (λ i. i) test (λ i j hi hj ti tj e. e) (places_put steps) xs _ (puts-written steps xs) differ, puts-places steps)
 
--- where as many places differ as steps name, these are the places of the steps
+-- if as many places differ as the steps name, the steps are at exactly these places
 at-changed : {A : Type 0} (n : ℕ) (test : ℕ → Bool) (places : List ℕ) (old new : List A) → Written places old new → DifferWhere n test old new
     → count_below n test ≡ length places → AreOnceAmong (λ p. (p < n) × IsTrue (test p)) places
 at-changed n test places old new written differ all =
@@ -47,8 +47,8 @@ least-puts {A} n place xs steps apart differ =
     let changed = written-change n place (λ i. true) (λ i j hi hj ti tj. apart i j hi hj) (places_put steps) xs _ (puts-written steps xs) (λ i less t. differ i less) in
     omega (arith, count-all n, changed, puts-places steps)
 
--- Of the numbers of k bits whose high digits are a and whose middle digit is m, one is its own reverse: the low digits are a
--- in reversed order.
+-- Of the numbers of k bits with high digits a and middle digit m, exactly one is its own reverse:
+-- the one whose low digits are a in reversed order.
 module _ (q d : ℕ) (few : d ≤ 1) where
   palindrome-of_row : (r y : ℕ) → r < 2 ^ (q + d) → y < 2 ^ q → (rev (q + (d + q)) (r * 2 ^ q + y) == r * 2 ^ q + y) ≡ (rev q (r / 2 ^ d) == y)
   palindrome-of_row r y hr hy =
@@ -72,7 +72,7 @@ palindromes k =
     let each = rw parts at (palindrome-of_row q d (omega arith)) in
     rw (all, ← rows) (count-rows (2 ^ (q + d)) (2 ^ q) (λ r. rev q (r / 2 ^ d)) (λ i. rev k i == i) (λ r h. rev-lt q (r / 2 ^ d)) each)
 
--- a number and its reverse differ where the lists do
+-- the lists differ at a place exactly if the place is not its own reverse
 reversal-differs-where : {A : Type 0} (k : ℕ) (old new : List A) → length old ≡ 2 ^ k → AllDiffer old → IsReversal old new
     → (i : ℕ) → i < 2 ^ k → IsTrue (not (rev k i == i)) ↔ (slice_get old i ≢ slice_get new i)
 reversal-differs-where k old new len apart reversed i h =
@@ -82,7 +82,7 @@ reversal-differs-where k old new len apart reversed i h =
       λ ne. grind (arith, nat_tests, ne, moved),
     )
 
--- the numbers of k bits that are not their own reverse come in pairs
+-- the numbers of k bits that are not their own reverse form pairs
 count-moved : (k : ℕ) → count_below (2 ^ k) (λ i. not (rev k i == i)) ≡ 2 * short_swaps k
 count-moved zero = omega (arith, count-not (2 ^ 0) (λ i. rev 0 i == i), palindromes 0)
 count-moved (suc k) =
@@ -93,14 +93,14 @@ pub reversal-differs : {A : Type 0} → ReversalDiffers A
 reversal-differs {A} k old new len apart reversed =
     (λ i. not (rev k i == i), count-moved k, reversal-differs-where k old new len apart reversed)
 
--- as many exchanges as pairs of numbers that are each other's reverse
+-- at least as many exchanges as there are pairs of numbers that are each other's reverse
 pub least-reversal : {A : Type 0} → LeastReversal A
 least-reversal {A} k xs steps len apart reversed =
     let differ : DifferWhere (2 ^ k) (λ i. not (rev k i == i)) xs (after_swaps xs steps) =
     λ i h. (reversal-differs-where k xs (after_swaps xs steps) len apart reversed i h).0 in
     omega (arith, swaps-change xs steps (2 ^ k) (λ i. not (rev k i == i)) differ, count-moved k)
 
--- a place off the diagonal is one where the lists differ
+-- the lists differ at a place exactly if the place is off the diagonal
 square-differs-where : {A : Type 0} (side : ℕ) (old new : List A) → length old ≡ side * side → AllDiffer old → IsTranspose side side old new
     → (p : ℕ) → p < side * side → IsTrue (not (p / side == p % side)) ↔ (slice_get old p ≢ slice_get new p)
 square-differs-where side old new len apart turned p h =
@@ -120,7 +120,7 @@ pub square-differs : {A : Type 0} → SquareDiffers A
 square-differs {A} side old new len apart turned =
     (λ p. not (p / side == p % side), count-off_diagonal side, square-differs-where side old new len apart turned)
 
--- as many exchanges as pairs of places that mirror one another
+-- at least as many exchanges as there are pairs of places that are mirror images of each other
 pub least-square : {A : Type 0} → LeastSquare A
 least-square {A} side xs steps len apart turned =
     let differ : DifferWhere (side * side) (λ p. not (p / side == p % side)) xs (after_swaps xs steps) =

@@ -10,11 +10,11 @@ use Rattle.p3_util_kernels.specs.Reversal.{IsZeroOrPowerOfTwo, IsReversible, Fit
 use Rattle.p3_util_kernels.proofs.LevelsLemmas.{clog_power, clog-zero}
 use Rattle.p3_util_kernels.proofs.PowersLemmas.{exponent-lt, exponent-same, highest, power_of_two_test}
 
--- the highest digit that is set is 1
+-- if 2 ^ j is the greatest power of two that is at most n, digit j of n is 1
 highest_bit : (n j : ℕ) → 2 ^ j ≤ n → n < 2 ^ suc j → bit_at n j ≡ 1
 highest_bit n j low high = grind (arith, div-mul-add 1 (2 ^ j) (n - 2 ^ j), pow-suc 2 j)
 
--- a number that shares no digit with the one before it has at most one digit set
+-- a number n that has no digit 1 in common with n - 1 has at most one digit 1
 pub unshared : (n : ℕ) → bit_and n (n - 1) ≡ 0 → IsZeroOrPowerOfTwo n
 unshared zero none = inl refl
 unshared (suc m) none =
@@ -23,7 +23,7 @@ unshared (suc m) none =
     let same : 2 ^ j ≡ suc m = grind (arith, shared, highest_bit (suc m) j, highest_bit (suc m - 1) j, ap (λ n. bit_at n j) none, bit_at-zero j) in
     inr (j, sym same)
 
--- what a call asks of a length says that it is zero or a power of two
+-- the precondition of a call on a length means that the length is zero or a power of two
 pub zero_or_power : (n : ℕ) → IsReversible n → IsZeroOrPowerOfTwo n
 zero_or_power n (inl fits) = fits
 zero_or_power n (inr test) =
@@ -32,24 +32,24 @@ zero_or_power n (inr test) =
       | inr one ↦ inr ((power_of_two_test n).0 one)
     ]
 
--- rows of one item
+-- for rows of one item, the condition on rows is the condition on the length
 pub FitsRows-one : (len row_width : ℕ) → row_width ≡ 1 → FitsRows len row_width ↔ IsZeroOrPowerOfTwo len
 FitsRows-one len row_width one = (
   λ (rows, fits, e). let same : len ≡ rows = e ∙ ap (λ w. w * rows) one ∙ omega arith in rw same fits,
   λ fits. let same : len ≡ row_width * len = rw one (omega arith) in (len, fits, same),
 )
 
--- what a call asks of a list says that its items are rows of one item
+-- the precondition of a call on a list, as one for rows of one item
 pub rows_of_one : (n : ℕ) → IsReversible n → FitsRows n 1
 rows_of_one n fits = (FitsRows-one n 1 refl).1 (zero_or_power n fits)
 
--- the width divides the length of rows
+-- the width of rows divides the length
 pub FitsRows-whole : (len row_width : ℕ) → (row_width ≡ 0 → ⊥) → FitsRows len row_width → len % row_width ≡ 0
 FitsRows-whole len row_width wide (rows, fits, e) =
     let place : rows * row_width + 0 ≡ len = omega arith in
     rw place at (mod-mul-add rows row_width 0 (omega arith))
 
--- of a length that the width divides, the number of rows decides
+-- if the width divides the length, the number of rows decides
 pub FitsRows-quotient : (len row_width : ℕ) → (len ≡ 0 → ⊥) → (row_width ≡ 0 → ⊥) → len % row_width ≡ 0
     → IsTrue (is_power_of_two (len / row_width)) ↔ FitsRows len row_width
 FitsRows-quotient len row_width some wide whole =
@@ -60,22 +60,22 @@ FitsRows-quotient len row_width some wide whole =
           elim fits [ inl none ↦ absurd (some (e ∙ rw none (omega arith))) | inr power ↦ rw same ((power_of_two_test rows).1 power) ],
     )
 
--- as many rows, as a power of two
+-- if two numbers of rows are powers of two and make the same length, they are equal
 pub rows-same : (row_width j k : ℕ) → 0 < row_width → row_width * 2 ^ j ≡ row_width * 2 ^ k → j ≡ k
 rows-same row_width j k wide e =
     exponent-same j k (sym (mul-div_cancel_left (2 ^ j) wide) ∙ ap (λ n. n / row_width) e ∙ mul-div_cancel_left (2 ^ k) wide)
 
--- 2 ^ h chunks of 2 ^ c items are rows
+-- 2 ^ h chunks of 2 ^ c items are rows of 2 ^ c items
 pub chunks_fit : (h c n : ℕ) → n ≡ 2 ^ (h + c) → FitsRows n (2 ^ c)
 chunks_fit h c n whole = (2 ^ h, inr (h, refl), omega (arith, pow-add 2 h c))
 
--- the number of chunks
+-- the number of chunks has the logarithm h
 pub chunks_counted : (h c n : ℕ) → n ≡ 2 ^ (h + c) → clog (n / 2 ^ c) ≡ h
 chunks_counted h c n whole =
     let chunks : n ≡ 2 ^ c * 2 ^ h = omega (arith, pow-add 2 h c) in
     clog_power _ h (ap (λ x. x / 2 ^ c) chunks ∙ mul-div_cancel_left (2 ^ h) (pow_pos c))
 
--- a list that is not empty, by the digits of the number of its rows
+-- for a list that is not empty: there are 2 ^ `digits` rows
 pub record IsDigitsOfRows (len row_width digits : ℕ) : Type 0 where
   pub wide : 0 < row_width
   pub rows : len / row_width ≡ 2 ^ digits
@@ -97,6 +97,6 @@ IsDigitsOfRows-from len row_width digits some (rows, inr (k, is), e) counted =
       few = λ small. omega (arith, exponent-lt k 63 (omega (arith, le-mul_of_pos_right (2 ^ k) wide)));
     }
 
--- no rows have no digits
+-- if there are no rows, the row indices have no digits
 pub no_digits : (len row_width : ℕ) → len ≡ 0 → clog (len / row_width) ≡ 0
 no_digits len row_width e = clog-zero (len / row_width) (rw e (zero-div row_width))

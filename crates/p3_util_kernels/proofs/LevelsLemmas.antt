@@ -1,4 +1,4 @@
--- How deep the split of a transpose nests.
+-- How deep the splits of a transpose nest.
 use Rattle.std.proofs.Common.{◌≡◌, ℕ, zero, suc, ◌+◌, ◌-◌, ◌*◌, ◌/◌, ◌^◌, ◌<◌, ◌≤◌, cond, ltb, inl, inr, ◌∙◌, sym, min, max, arith}
 use Rattle.std.proofs.Math.Nat.{pow-suc, pow-le-pow_right}
 use Rattle.std.proofs.lemmas.Bool.{cases_lt}
@@ -9,7 +9,7 @@ use Rattle.p3_util_kernels.specs.Digits.{sum_below}
 use Rattle.p3_util_kernels.specs.Levels.{clog, lev, nest}
 use Rattle.p3_util_kernels.proofs.PowersLemmas.{below_power, exponent-le, power-even}
 
--- the least exponent of a power that n does not pass
+-- the least exponent whose power is at least n
 least_power : (n bound : ℕ) → n ≤ 2 ^ bound → (k : ℕ) × (n ≤ 2 ^ k) × ((e : ℕ) → e < k → 2 ^ e < n)
 least_power n zero h = (0, h, λ e less. absurd (omega arith))
 least_power n (suc b) h =
@@ -18,7 +18,7 @@ least_power n (suc b) h =
       | inr le ↦ least_power n b le
     ]
 
--- as many powers are below n
+-- how many powers of two are below n
 counted_to : (n k m : ℕ) → n ≤ 2 ^ k → ((e : ℕ) → e < k → 2 ^ e < n) → sum_below m (λ e. cond (ltb (2 ^ e) n) 1 0) ≡ min m k
 unfolding sum_below
 counted_to n k zero h below = omega arith
@@ -35,18 +35,18 @@ clog_is n =
     let same : clog n ≡ least.0 = counted_to n least.0 n least.1 least.2 ∙ omega arith in
     rw same (least.1, least.2)
 
--- what `log2_ceil_usize` promises holds of `clog`
+-- `clog` has the properties that `log2_ceil_usize` promises
 pub clog-enough : (n : ℕ) → n ≤ 2 ^ clog n
 clog-enough n = (clog_is n).0
 
 pub clog-least : (n e : ℕ) → n ≤ 2 ^ e → clog n ≤ e
 clog-least n e h = grind (arith, (clog_is n).1 e)
 
--- no other number is the least one
+-- no other number has these properties
 pub clog_only : (n e : ℕ) → n ≤ 2 ^ e → ((d : ℕ) → n ≤ 2 ^ d → e ≤ d) → e ≡ clog n
 clog_only n e enough least = omega (arith, clog-least n e enough, least (clog n) (clog-enough n))
 
--- the logarithm of a power, and of zero
+-- the logarithm of a power of two, and of zero
 pub clog_power : (n k : ℕ) → n ≡ 2 ^ k → clog n ≡ k
 clog_power n k e = sym (clog_only n k (omega arith) (λ d h. exponent-le k d (omega arith)))
 
@@ -86,7 +86,7 @@ nest_small r c h = omega (arith, nest_le r c, clog-least r 7 (omega arith), clog
 -- the regions that are not split
 pub ruleset leaves = (nest_narrow, nest_small)
 
--- at most 57 levels for a region whose sides and whose product fit a word
+-- at most 57 levels for a region if its sides and their product fit a usize
 pub lev_le : (r c : ℕ) → r < 2 ^ 64 → c < 2 ^ 64 → r * c < 2 ^ 64 → lev r c ≤ 57
 lev_le r c h k fits =
     let tall = clog-least r 64 (omega arith) in

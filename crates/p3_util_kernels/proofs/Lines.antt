@@ -1,4 +1,5 @@
--- How many pairs of rows lines have: line l has l mod 2^q pairs, where one middle digit has 2^q lines.
+-- How many pairs of rows a line has: line l has l mod 2^q pairs, if each middle digit has 2^q
+-- lines.
 use Rattle.std.proofs.Common.{◌≡◌, ℕ, zero, suc, ◌+◌, ◌-◌, ◌*◌, ◌/◌, ◌%◌, ◌^◌, ◌<◌, ◌≤◌, min, inl, inr, refl, ap, ◌∙◌, arith}
 use Rattle.std.proofs.Math.Pow.{pow_mono}
 use Rattle.std.proofs.lemmas.Bool.{cases_eq, cases_lt, eq-eqb, ne_eqb}
@@ -17,7 +18,7 @@ use Rattle.p3_util_kernels.proofs.Pairs.{square_swaps-next, twice-pairs}
 use Rattle.p3_util_kernels.proofs.PowersLemmas.{power-even}
 use Rattle.p3_util_kernels.proofs.Sums.{sum-constant, sum-rows}
 
--- the number of a line's pairs where the line has an even number, and one more for the line after it
+-- a line of even number is followed by a line of the same middle digit, which has one more pair
 pub line-even : (q line : ℕ) → 0 < q → line % 2 ≡ 0 → (line % 2 ^ q + 1 < 2 ^ q) × ((line + 1) % 2 ^ q ≡ line % 2 ^ q + 1)
 line-even q line some even =
     let y = line % 2 ^ q in
@@ -27,7 +28,8 @@ line-even q line some even =
     let next : line + 1 ≡ line / 2 ^ q * 2 ^ q + (y + 1) = omega arith in
     (below, rw next (mod-mul-add (line / 2 ^ q) (2 ^ q) (y + 1) below))
 
--- The pairs of lines are all lines where a middle digit has more than one line. Elsewhere there are none.
+-- If a middle digit has more than one line, all lines belong to pairs of lines. Otherwise there are
+-- no pairs of lines.
 lines_of-few : (digits : ℕ) → digits < 2 → lines_of digits ≡ 0
 lines_of-few digits few = let none : digits / 2 ≡ 0 = omega arith in rw none (omega arith)
 
@@ -42,7 +44,7 @@ lines_of-inside digits = grind (arith, lines_of-few digits, lines_of-all digits)
 pub lines_of-several : (digits : ℕ) → 0 < lines_of digits → 2 ≤ digits
 lines_of-several digits some = grind (arith, lines_of-few digits)
 
--- two lines more
+-- two more lines
 pub pairs_in-more : (q : ℕ) (pairs : Region) (line : ℕ) → 0 < q → line % 2 ≡ 0 → pairs.col_start ≤ line
     → pairs_in (2 ^ q) (record pairs { col_end = line + 2 })
     ≡ pairs_in (2 ^ q) (record pairs { col_end = line })
@@ -54,12 +56,12 @@ pairs_in-more q pairs line some even from =
     let second : pairs.col_start + suc (line - pairs.col_start) ≡ line + 1 = omega arith in
     rw (count, first, second, (line-even q line some even).1) (omega arith)
 
--- no lines have none
+-- no lines have no pairs
 pub pairs_in-none : (side : ℕ) (pairs : Region) → pairs.col_end ≤ pairs.col_start → pairs_in side pairs ≡ 0
 unfolding sum_below
 pairs_in-none side pairs none = let count : pairs.col_end - pairs.col_start ≡ 0 = omega arith in rw count refl
 
--- nor has one row or two
+-- one row or two rows have no pairs either
 pub pairs_in-few : (digits : ℕ) (pairs : Region) → digits < 2 → pairs_in (2 ^ (digits / 2)) pairs ≡ 0
 pairs_in-few digits pairs few =
     let one : digits / 2 ≡ 0 = omega arith in
@@ -81,14 +83,14 @@ lines-short q d few =
     let lines : 2 ^ (d + q) ≡ e * n = pow-add 2 d q in
     rw (half, whole, lines) (omega arith)
 
--- those of all middle digits
+-- the pairs of all middle digits
 pub squares-short : (digits : ℕ) → 2 ^ (digits - digits / 2 - digits / 2) * square_swaps (2 ^ (digits / 2)) ≡ short_swaps digits
 squares-short digits =
     let rest : digits - digits / 2 - digits / 2 ≡ digits % 2 = omega arith in
     let parts : digits / 2 + (digits % 2 + digits / 2) ≡ digits = omega arith in
     rw rest (rw parts at (lines-short (digits / 2) (digits % 2) (omega arith)))
 
--- so many pairs have all lines
+-- the number of pairs of all lines
 pub pairs_in-all : (digits : ℕ) → digits < 64
     → pairs_in (2 ^ (digits / 2)) (record { row_start = 0; row_end = 2 ^ 64 - 1; col_start = 0; col_end = lines_of digits }) ≡ short_swaps digits
 pairs_in-all digits fits =
@@ -108,7 +110,7 @@ pairs_in-all digits fits =
           ∙ ap (λ n. squares * n) (numbers-sum side) ∙ squares-short digits)
     ]
 
--- so many has a block: its numbers above the diagonal of its square
+-- the number of pairs of a block: its pairs of numbers above the diagonal of its square
 pub pairs_in-block : (side stride step number base : ℕ) (region : Region) → 0 < step → IsBlock side stride step number base region
     → pairs_in side (record region { col_start = base + region.col_start; col_end = base + region.col_end }) ≡ swaps_of_block region
 pairs_in-block side stride step number base region some block =
@@ -133,7 +135,7 @@ pairs_in-block side stride step number base region some block =
           (sum_below-same (cols_of region) _ (λ i. rows_of region) (λ i less. omega (arith, at i less, above)) ∙ sum-constant (cols_of region) (rows_of region) ∙ omega arith)
     ]
 
--- Parts that begin at even numbers end at some.
+-- If all parts begin at even numbers and the side is even, they also end at even numbers.
 start-even : (side step k : ℕ) → 0 < step → side % 2 ≡ 0 → ((j : ℕ) → j < parts_in side step → start_of side step j % 2 ≡ 0) → k ≤ parts_in side step → start_of side step k % 2 ≡ 0
 start-even side step k some even starts within =
     elim (cases_lt k (parts_in side step)) [
@@ -141,7 +143,7 @@ start-even side step k some even starts within =
       | inr last ↦ let end : start_of side step k ≡ side = omega (arith, start-end side step some, let all : k ≡ parts_in side step = omega (arith, last, within) in ap (start_of side step) all) in rw end even
     ]
 
--- the lines of a block are pairs of lines
+-- the lines of a block are pairs of neighbouring lines
 pub AreLinePairs-block : (digits side stride step number base : ℕ) (region : Region) → 0 < step → IsBlock side stride step number base region
     → side ≡ 2 ^ (digits / 2) → stride ≡ 2 ^ (digits - digits / 2) → ((k : ℕ) → k < parts_in side step → start_of side step k % 2 ≡ 0) → 2 ≤ digits
     → AreLinePairs digits (record region { col_start = base + region.col_start; col_end = base + region.col_end })

@@ -1,4 +1,5 @@
--- Lists that are joined, and lists that are cut in two: what is at each place. How a length is cut into parts is in CutParts.
+-- Joined lists and lists that are cut in two: which item is at each place. How a length is cut into
+-- parts is in CutParts.
 use Rattle.std.proofs.Common.{◌≡◌, ℕ, ◌+◌, ◌<◌, List, ◌++◌, length, slice_get, take, drop, arith}
 use Rattle.std.proofs.lemmas.Grind.{common_steps}
 use Rattle.std.proofs.lemmas.Option.{gets}

@@ -1,4 +1,4 @@
--- What the strict logarithms ask of a number says that it is a power.
+-- A number that meets the precondition of a strict logarithm is a power.
 use Rattle.std.proofs.Common.{◌≡◌, ℕ, zero, suc, true, ◌==◌, ◌-◌, ◌&&◌, not, ◌^◌, ◌≢◌, bit_and, inl, inr}
 use Rattle.std.proofs.lemmas.Bool.{and_parts, or_cases, eqb-true, eqb-false, not-true, false≢true}
 use Rattle.std.specs.Int.{IsPowerOfTwo, is_power_of_two}

@@ -8,8 +8,9 @@ use Rattle.p3_util_kernels.proofs.DigitsLemmas.{rev-lt, rev-around}
 use Rattle.p3_util_kernels.proofs.ReversalLemmas.{IsReversal-from_power}
 use Rattle.p3_util_kernels.proofs.SideBySideLemmas.{each_part, in_row}
 
--- A list of 2 ^ size chunks of 2 ^ stride items, which are one square or two. Where its chunks are reversed, each square is
--- transposed, and the chunks are reversed again, the list is reversed by index bits.
+-- A list of 2 ^ size chunks of 2 ^ stride items, which form one square or two. If its chunks are
+-- reversed, then each square is transposed, and then the chunks are reversed again, the list is
+-- reversed by index bits.
 module _ {A : Type 0} (size stride : ℕ) (within : size ≤ stride) (few : stride ≤ size + 1) (old first second new : List A)
     (fits : length old ≡ 2 ^ (size + stride))
     (chunks : IsRowReversal (2 ^ stride) old first)

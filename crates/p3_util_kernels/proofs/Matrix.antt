@@ -1,11 +1,11 @@
--- The transpose of a list is one list, and the transpose of it is the list again.
+-- A list has only one transpose, and transposing twice gives the list back.
 use Rattle.std.proofs.Common.{◌≡◌, ℕ, ◌+◌, ◌*◌, ◌/◌, ◌%◌, ◌<◌, List, length, slice_get, sym, ap, ◌∙◌, arith}
 use Rattle.std.proofs.lemmas.Nat.{div-add-mod', div_below, mod_below}
 use Rattle.std.proofs.Math.Nat.{mul_comm, pos_of_ne-zero}
 use Rattle.p3_util_kernels.specs.Transpose.{IsTranspose}
 use Rattle.p3_util_kernels.proofs.SameList.{same_places}
 
--- a number below a product has a row and a column, and no other number has these
+-- a number below a product has a row and a column, and no other number has the same row and column
 pub row_and_column : (i rows cols : ℕ) → i < rows * cols → (i / cols < rows) × (i % cols < cols)
 row_and_column i rows cols h =
     let some : 0 < cols = pos_of_ne-zero (λ none. omega (arith, h, ap (λ n. rows * n) none)) in
@@ -14,7 +14,7 @@ row_and_column i rows cols h =
 pub same_number : (i j cols : ℕ) → i / cols ≡ j / cols → i % cols ≡ j % cols → i ≡ j
 same_number i j cols row column = sym (div-add-mod' i cols) ∙ rw (row, column) (div-add-mod' j cols)
 
--- what holds of each row and column holds of each place
+-- a property of each row and column is a property of each place
 pub each_place : (P : ℕ → Type 0) (rows cols p : ℕ) → p < rows * cols → ((r c : ℕ) → r < rows → c < cols → P (r * cols + c)) → P p
 each_place P rows cols p h all = let at = row_and_column p rows cols h in rw div-add-mod' at (all (p / cols) (p % cols) at.0 at.1)
 

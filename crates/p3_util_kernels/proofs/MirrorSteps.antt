@@ -1,4 +1,5 @@
--- Places that are exchanged with their mirror images, each pair once, so that as many exchanges as pairs are at these places.
+-- Places are exchanged with their mirror images, each pair once. If there are as many exchanges as
+-- pairs, the exchanges are at these places.
 use Rattle.std.proofs.Common.{◌≡◌, ◌≢◌, ℕ, Bool, cond, ◌==◌, ◌+◌, ◌*◌, ◌/◌, ◌%◌, ◌<◌, IsTrue, List, length, slice_get, inl, inr, sym, subst, ◌∙◌, ap, arith}
 use Rattle.std.proofs.lemmas.Bool.{cases_eq}
 use Rattle.p3_util_kernels.specs.Least.{AllDiffer, count_below, places_swapped}
@@ -7,7 +8,8 @@ use Rattle.p3_util_kernels.specs.PartSteps.{SwapsStay}
 use Rattle.p3_util_kernels.proofs.Counts.{count-twice}
 use Rattle.p3_util_kernels.proofs.WrittenPlaces.{AreOnceAmong-weaker, Changed, swaps-places, swaps-written, written-at}
 
--- The numbers below n that pass the test name pairs of places, an upper and a lower one, and no place is in two of them.
+-- Each number below n that passes the test names a pair of places, an upper one and a lower one. No
+-- place is in two pairs.
 module _ (n : ℕ) (test : ℕ → Bool) (upper lower : ℕ → ℕ)
     (uppers : (i j : ℕ) → i < n → j < n → IsTrue (test i) → IsTrue (test j) → upper i ≡ upper j → i ≡ j)
     (lowers : (i j : ℕ) → i < n → j < n → IsTrue (test i) → IsTrue (test j) → lower i ≡ lower j → i ≡ j)
@@ -16,7 +18,7 @@ module _ (n : ℕ) (test : ℕ → Bool) (upper lower : ℕ → ℕ)
   abbrev place : ℕ → ℕ
   place k = cond (k % 2 == 0) (upper (k / 2)) (lower (k / 2))
 
-  -- what holds of both places of each pair that passes holds of all
+  -- a property of both places of each pair that passes is a property of all these places
   each : (P : ℕ → ℕ → Type 0) → ((i : ℕ) → i < n → IsTrue (test i) → P (2 * i) (upper i)) → ((i : ℕ) → i < n → IsTrue (test i) → P (2 * i + 1) (lower i))
       → (k : ℕ) → k < 2 * n → IsTrue (test (k / 2)) → P k (place k)
   each P of_upper of_lower k less t =
@@ -41,7 +43,8 @@ module _ (n : ℕ) (test : ℕ → Bool) (upper lower : ℕ → ℕ)
       (λ j hj tj e. ap (λ x. 2 * x + 1) (lowers i j hi hj ti tj e)) l hl tl)
       k hk tk
 
-  -- Where all items differ, exchanged places change. So as many exchanges as pairs are at these places.
+  -- If all items differ, exchanged places change. So if there are as many exchanges as pairs, the
+  -- exchanges are at these places.
   pub mirror-stays : {A : Type 0} (old new : List A) (among : ℕ → Type 0) → AllDiffer old
       → ((i : ℕ) → i < n → IsTrue (test i) → (upper i < length old) × (lower i < length old) × among (upper i) × among (lower i)
       × (slice_get new (upper i) ≡ slice_get old (lower i)) × (slice_get new (lower i) ≡ slice_get old (upper i)))
@@ -56,7 +59,8 @@ module _ (n : ℕ) (test : ℕ → Bool) (upper lower : ℕ → ℕ)
       AreOnceAmong-weaker (λ p. (k : ℕ) × (k < 2 * n) × IsTrue (test (k / 2)) × (p ≡ place k)) among (places_swapped steps)
       (λ p (k, less, t, e). rw e (each (λ k p. among p) (λ i hi ti. (known i hi ti).2) (λ i hi ti. (known i hi ti).3) k less t)) at
 
--- The same of items that are exchanged as `Mirrored` says: number i names the place of `m i`, `x i` and the greater `y i`.
+-- The same for items that are exchanged as `Mirrored` says. Number i stands for the place of `m i`,
+-- `x i` and `y i`, and `y i` is greater than `x i`.
 module _ {A M : Type 0} (place : M → ℕ → ℕ → ℕ) (S : M → ℕ → ℕ → Type 0) (Same : M → M → Type 0)
     (turned : (m : M) (x y : ℕ) → S m x y → S m y x)
     (parts : (k l : M) (x y v w : ℕ) → S k x y → S l v w → place k x y ≡ place l v w → Same k l × (x ≡ v) × (y ≡ w))

@@ -1,4 +1,4 @@
--- Items exchanged with their mirror images, one part of the pairs after the other.
+-- Items are exchanged with their mirror images, first one part of the pairs and then the other.
 use Rattle.std.proofs.Common.{◌≡◌, ℕ, min, max, List, inl, inr, refl, ◌∙◌, arith}
 use Rattle.p3_util_kernels.specs.declared.transpose.regions.Region.{Region}
 use Rattle.p3_util_kernels.specs.Halves.{IsCut}
@@ -6,12 +6,13 @@ use Rattle.p3_util_kernels.specs.Mirrored.{Mirrored}
 use Rattle.p3_util_kernels.specs.Region.{IsInRegion}
 use Rattle.p3_util_kernels.proofs.RegionLemmas.{inside}
 
--- A pair lies on the line of its greater number, and the smaller one is its row there. Each place has one line and one row.
+-- A pair is on the line of its greater number, and its smaller number is its row on that line. Each
+-- place has only one line and one row.
 module _ {A M : Type 0} (place : M → ℕ → ℕ → ℕ) (Within : M → ℕ → ℕ → Type 0) (line : M → ℕ → ℕ)
     (turned : (m : M) (x y : ℕ) → Within m x y → Within m y x)
     (same : (m n : M) (x y v w : ℕ) → Within m x y → Within n v w → place m x y ≡ place n v w
     → (line m (max x y) ≡ line n (max v w)) × (min x y ≡ min v w)) where
-  -- where each pair is a place and itself, nothing is exchanged
+  -- if each pair is a place and itself, nothing is exchanged
   pub Mirrored-none : (region : Region) (xs : List A)
       → ((m : M) (x y : ℕ) → Within m x y → IsInRegion region (line m (max x y)) (min x y) → x ≡ y)
       → Mirrored place (λ m x y. Within m x y × IsInRegion region (line m (max x y)) (min x y)) xs xs

@@ -1,4 +1,4 @@
--- Short names, as code finds them: by the first mark, and by the first `::`.
+-- Short names, as the code finds them: by the first mark and by the first `::`.
 use Rattle.std.proofs.Common.{◌≡◌, ℕ, zero, suc, ◌+◌, ◌<◌, ◌≤◌, ◌≢◌, ◌⊎◌, true, false, ◌==◌, ◌&&◌, List, [], ◌∷◌, ◌++◌, length, get_or, take, drop, Some, None, refl, sym, add-one, append-nil, arith, inl, inr}
 use Rattle.std.proofs.lemmas.Bool.Decides.{nat_tests}
 use Rattle.std.proofs.lemmas.List.Quantifiers.{position-Some}
@@ -24,7 +24,7 @@ after_colons-none whole (b ∷ c ∷ t) h =
       | inr (test, not) ↦ rw test (after_colons-none whole (c ∷ t) (λ i le rest. h (suc i) (omega arith) rest))
     ]
 
--- one whose first `::` is at i
+-- a text whose first `::` is at i
 after_colons-first : (whole t : List ℕ) (i : ℕ) (rest : List ℕ) → ((k : ℕ) → k < i → (r : List ℕ) → drop k t ≢ 58 ∷ 58 ∷ r)
     → drop i t ≡ 58 ∷ 58 ∷ rest → after_colons whole t ≡ after_colons rest rest
 unfolding after_colons
@@ -51,7 +51,7 @@ pub last_part-after : (t : List ℕ) (i j : ℕ)
     → HasTextAt (58 ∷ 58 ∷ []) t i j → last_part t ≡ last_part (drop j t)
 last_part-after t i j before here = after_colons-first t t i (drop j t) before here.split
 
--- the last part is no longer than the text
+-- the part after the last `::` is no longer than the text
 after_colons-length : (whole t : List ℕ) (n : ℕ) → length whole ≤ n → length t ≤ n → length (after_colons whole t) ≤ n
 unfolding after_colons
 after_colons-length whole [] n h k = h
@@ -83,7 +83,7 @@ name_pieces-first (b ∷ t) (suc i) less before here =
     let rest = name_pieces-first t i (omega arith) (λ k below. before (suc k) (omega arith)) here in
     rw (before 0 (omega arith), rest) refl
 
--- the two rules of the short name, from what `position` answers
+-- the two rules for the short name, one for each answer of `position`
 pub short_name-unmarked : (t : List ℕ) → None ≡ position is_mark t → short_name t ≡ last_part t
 unfolding short_name
 short_name-unmarked t e =

@@ -1,4 +1,5 @@
--- Regions, and blocks of squares and of pairs of rows, that are made in any order, for `src/parts/laws/all_parts.rt`.
+-- Regions, blocks of squares and blocks of pairs of rows, made in any order, for
+-- `src/parts/laws/all_parts.rt`.
 use Rattle.std.proofs.Common.{◌≡◌, ℕ, suc, Bool, true, false, if◌then◌else◌, ◌+◌, ◌-◌, ◌*◌, ◌/◌, ◌^◌, ◌<◌, ◌≤◌, max, min, List, length, refl, sym, ap, ◌∙◌, arith}
 use Rattle.std.proofs.lemmas.Nat.{le-div, same_from_place}
 use Rattle.std.proofs.Math.Nat.{lt_of_mul-lt-mul_right, mul_comm, mul-le-mul_right}
@@ -25,7 +26,8 @@ use Rattle.p3_util_kernels.proofs.SideBySideLemmas.{in_row, row_length, squares_
 span : (from to each : ℕ) → from ≤ to → (to - from) * each ≡ to * each - from * each
 span from to each rising = omega (arith, mul-parts_left from (to - from) to each (omega arith))
 
--- what a part adds to a number that only grows
+-- g grows along a length; if each part adds what g grows by in it, all parts together add what g
+-- grows by in the whole length
 pub parts-add : (len step : ℕ) → 0 < step → (f g : ℕ → ℕ)
     → ((k : ℕ) → k < parts_in len step → (g (start_of len step k) ≤ g (start_of len step (k + 1))) × (f k ≡ g (start_of len step (k + 1)) - g (start_of len step k)))
     → g 0 + sum_below (parts_in len step) f ≡ g len
@@ -85,7 +87,7 @@ module _ (width height : ℕ) (len step : ℕ) (some : 0 < step) where
 
 -- blocks of squares
 module _ (side stride step : ℕ) (some : 0 < step) where
-  -- the exchange of a block, by the number of its square
+  -- the exchange of a block, stated with the number of its square
   pub block-exchanged : {A : Type 0} (k base : ℕ) (region : Region) (old new : List A) → IsBlock side stride step k base region → SwapsAcross base stride region old new
       → Mirrored {M = ℕ} (λ s a b. s * side + a * stride + b) (IsInBlock side stride step k) old new
   block-exchanged k base region old new block across = record {
@@ -134,7 +136,7 @@ module _ (half c width step : ℕ) (within : half ≤ c) (some : 0 < step) where
       let same = pairs-same k l m n x y v w here there e in
       block-same (2 ^ half) (2 ^ c) step some k l m.0 x y here.1 (rw (same.0.0, same.1, same.2) there.1)
 
-  -- the exchange of a block, by the middle digits of its pairs
+  -- the exchange of a block, stated with the middle digits of its pairs
   pub pairs-exchanged : {A : Type 0} (k base : ℕ) (region : Region) (old new : List A) → IsBlock (2 ^ half) (2 ^ c) step k base region
       → IsCrossed half c width (record region { col_start = base + region.col_start; col_end = base + region.col_end }) old new
       → Mirrored {M = ℕ × ℕ} (λ m x y. row_of half c m.0 x y * width + m.1) (InPairs k) old new
@@ -168,7 +170,7 @@ module _ (half c width step : ℕ) (within : half ≤ c) (some : 0 < step) where
             ) e);
       }
 
-  -- all blocks are the reversal of the rows
+  -- all blocks together make the reversal of the rows
   pub pairs-reversed : {A : Type 0} (turn : ℕ → ℕ) → IsOrder (blocks_of (2 ^ half) (2 ^ c) step) turn → (old new : List A) → c ≤ half + 1
       → length old ≡ width * 2 ^ (half + c) → Mirrored {M = ℕ × ℕ} (λ m x y. row_of half c m.0 x y * width + m.1) (AnyOf turn InPairs (blocks_of (2 ^ half) (2 ^ c) step)) old new
       → IsRowReversal width old new

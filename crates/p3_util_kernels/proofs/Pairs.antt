@@ -22,7 +22,7 @@ pairs-add h r = omega (arith, twice-pairs h, twice-pairs r, twice-pairs (h + r))
 pub square_swaps-next : (n : ℕ) → square_swaps (suc n) ≡ square_swaps n + n
 square_swaps-next n = let more : suc n ≡ n + 1 = omega arith in rw more (omega (arith, pairs-add n 1))
 
--- the products of two parts of one factor
+-- the products of the two parts of a factor add up to the product of the factor
 pub mul-parts_left : (h r n c : ℕ) → h + r ≡ n → h * c + r * c ≡ n * c
 mul-parts_left h r n c e = rw (← e) (omega arith)
 

@@ -1,4 +1,4 @@
--- The parts of a phase that are made in turns, for `src/parts/laws/all_parts.rt`.
+-- The parts of a phase, made one turn after the other, for `src/parts/laws/all_parts.rt`.
 use Rattle.std.proofs.Common.{◌≡◌, ℕ, ◌+◌, ◌-◌, ◌*◌, ◌/◌, ◌^◌, ◌<◌, ◌≤◌, List, length, inl, inr, refl, sym, ap, ◌∙◌, arith}
 use Rattle.std.proofs.lemmas.Bool.{cases_eq}
 use Rattle.p3_util_kernels.specs.declared.parts.reversal.Phase.{Phase}
@@ -34,7 +34,7 @@ AreMade (Pairs pairs) turn n old new =
 AreMade (Blocks squares) turn n old new =
     Mirrored {M = ℕ} (λ s a b. s * squares.cut.len + a * squares.stride + b) (AnyOf turn (IsInBlock squares.cut.len squares.stride squares.cut.step) n) old new
 
--- by so many exchanges
+-- the number of exchanges for the first n turns
 abbrev swaps_in_turns : (squares : Squares) (turn : ℕ → ℕ) (n : ℕ) → ℕ
 swaps_in_turns squares turn n = sum_below n (λ j. block_swaps squares.cut.len squares.cut.step squares.cut.some_step squares.stride (turn j))
 
@@ -60,7 +60,7 @@ made-length (Pairs pairs) turn n old new made = made.same_length
 made-length (Blocks squares) turn n old new made = made.same_length
 
 module _ (turn : ℕ → ℕ) where
-  -- one turn more
+  -- one more turn
   pub made-more : {A : Type 0} (phase : Phase) → IsOrder (parts_of phase) turn → (n : ℕ) (xs ys zs : List A) (Steps : ℕ → Type 0) → n < parts_of phase
       → AreMade phase turn n xs ys → IsPartMade phase (turn n) ys zs Steps → AreMade phase turn (n + 1) xs zs
   made-more (Rows rows) is n xs ys zs Steps less made next =

@@ -13,7 +13,7 @@ use Rattle.p3_util_kernels.specs.Reversal.{FitsRows}
 use Rattle.p3_util_kernels.proofs.Lengths.{IsDigitsOfRows-from, no_digits}
 use Rattle.p3_util_kernels.proofs.LevelsLemmas.{clog-zero}
 
--- so many items are so many rows of one item
+-- with rows of one item there are as many rows as items
 pub clog_of_ones : (len row_width : ℕ) → row_width ≡ 1 → clog len ≡ clog (len / row_width)
 clog_of_ones len row_width one = let same : len ≡ len / 1 = omega arith in rw one (ap clog same)
 
@@ -44,7 +44,7 @@ module _ (len : ℕ) (phase : Phase) where
       let blocks : IsPhaseOf (Blocks squares) len = rw (is.4, is.5) whole in
       one_more (Pairs pairs) (Blocks squares ∷ Pairs pairs ∷ []) chunks (one_more (Blocks squares) (Pairs pairs ∷ []) blocks (one_more (Pairs pairs) [] chunks none))
 
--- no items take no exchanges
+-- a list without items takes no exchanges
 call_swaps-none : (row_width : ℕ) → call_swaps 0 row_width ≡ 0
 call_swaps-none row_width =
     elim (cases_eq row_width 1) [
@@ -55,7 +55,7 @@ call_swaps-none row_width =
 beyond : (len one_part : ℕ) → one_part < len → nat_le len one_part ≡ false
 beyond len one_part less = false_from_ne_true (nat_le len one_part) (λ t. omega (arith, less, leb-true len one_part t))
 
--- how many exchanges a plan takes that is cut as it was asked for
+-- how many exchanges a plan takes if it is cut as the caller asked for
 pub plan-swaps : (len row_width parts one_part unit : ℕ) (plan : ReversalPlan) → IsReversalPlan len row_width plan → IsCutAsAsked len row_width parts one_part unit plan
     → swaps_of_plan plan len ≡ swaps_in_parts len row_width one_part
 plan-swaps len row_width parts one_part unit Nothing is cut = rw (is, le-leb 0 one_part (omega arith)) (sym (call_swaps-none row_width))

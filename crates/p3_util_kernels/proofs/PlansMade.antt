@@ -18,14 +18,14 @@ use Rattle.p3_util_kernels.proofs.LongPath.{IsReversal-composed}
 use Rattle.p3_util_kernels.proofs.PlansLemmas.{clog_of_ones}
 use Rattle.p3_util_kernels.proofs.SideBySideLemmas.{squares_of}
 
--- the first n phases of a plan are made, by so many exchanges
+-- the first n phases of a plan are made, with this number of exchanges
 abbrev pub AreDone : {A : Type 0} → (plan : ReversalPlan) (n : ℕ) (old new : List A) (steps : ℕ) → Type 0
 AreDone plan zero old new steps = (new ≡ old) × (steps ≡ 0)
 AreDone {A} plan (suc n) old new steps =
     (mid : List A) × (done more : ℕ) × AreDone plan n old mid done × (done + more ≡ steps)
     × ((phase : Phase) → slice_get (phases_of plan) n ≡ Some phase → IsPhaseMade phase mid new × (more ≡ swaps_of_phase phase (length mid)))
 
--- places exchanged in all squares
+-- the places of all squares are exchanged
 transposed : {A : Type 0} (half c side stride : ℕ) (old new : List A) → half ≤ c → side ≡ 2 ^ half → stride ≡ 2 ^ c
     → Mirrored {M = ℕ} (λ s a b. s * side + a * stride + b) (λ s a b. (s < stride / side) × (a < side) × (b < side)) old new
     → AreTransposed (2 ^ (c - half)) c half old new
@@ -53,7 +53,7 @@ phases-few (OnePart rows) = omega arith
 phases-few (ByPairs pairs) = omega arith
 phases-few (Long pairs squares) = omega arith
 
--- one phase more
+-- one more phase
 pub done-more : {A : Type 0} (plan : ReversalPlan) (n : ℕ) (phase : Phase) (old mid new : List A) (done : ℕ) → slice_get (phases_of plan) n ≡ Some phase
     → AreDone plan n old mid done → IsPhaseMade phase mid new → AreDone plan (n + 1) old new (done + swaps_of_phase phase (length mid))
 done-more plan n phase old mid new done at before made =
@@ -70,7 +70,7 @@ done-more plan n phase old mid new done at before made =
           subst (λ p. IsPhaseMade p mid new × (swaps_of_phase phase (length mid) ≡ swaps_of_phase p (length mid))) same (made, refl),
     )
 
--- after the last phase there is none
+-- if there is no phase with number n, all phases are done
 pub done-end : (plan : ReversalPlan) (n : ℕ) → n ≤ length (phases_of plan) → ((phase : Phase) → slice_get (phases_of plan) n ≡ Some phase → ⊥)
     → n ≡ length (phases_of plan)
 done-end plan n few none =

@@ -1,4 +1,4 @@
--- The regions of a plan that are put in turns, for `src/parts/laws/all_parts.rt`.
+-- The regions of a plan, put one turn after the other, for `src/parts/laws/all_parts.rt`.
 use Rattle.std.proofs.Common.{◌≡◌, ℕ, ◌+◌, ◌*◌, ◌<◌, if◌then◌else◌, List, length, inl, inr, sym, ◌∙◌, arith}
 use Rattle.std.proofs.lemmas.Bool.{cases_eq}
 use Rattle.std.proofs.Math.Nat.{mul-pos}
@@ -21,7 +21,7 @@ module _ (plan : TransposePlan) (turn : ℕ → ℕ) where
   abbrev pub region : ℕ → Region
   region k = part_of_matrix plan.width plan.height plan.by_rows plan.cut.len plan.cut.step k
 
-  -- the regions of the first n turns are put, by so many writes
+  -- the regions of the first n turns are put; `puts n` is the number of writes for them
   abbrev pub ArePut : {A : Type 0} (n : ℕ) (input old new : List A) → Type 0
   ArePut n = PutWhere (λ x y. (k : ℕ) × IsDone turn n k × IsInRegion (region k) x y) plan.width plan.height
 
@@ -39,7 +39,7 @@ module _ (plan : TransposePlan) (turn : ℕ → ℕ) where
         (part-apart plan.width plan.height plan.cut.len plan.cut.step plan.cut.some_step plan.by_rows (side n less)) n xs ys zs less done
         (record { same_length = next.same_length; places = next.places; others = next.others })
 
-    -- a matrix with no region has no item
+    -- a matrix without regions has no items
     none : count ≡ 0 → plan.width * plan.height ≡ 0
     none e =
         elim (cases_eq plan.cut.len 0) [

@@ -1,4 +1,4 @@
--- Regions of a matrix transposed one after another.
+-- Regions of a matrix are transposed one after another.
 use Rattle.std.proofs.Common.{◌≡◌, ℕ, ◌+◌, ◌-◌, ◌*◌, ◌<◌, ◌≤◌, List, inl, inr, ◌∙◌, arith}
 use Rattle.std.proofs.lemmas.Nat.{same_from_place}
 use Rattle.p3_util_kernels.specs.declared.transpose.regions.Region.{Region}
@@ -6,7 +6,7 @@ use Rattle.p3_util_kernels.specs.Halves.{IsCut, IsPart}
 use Rattle.p3_util_kernels.specs.Region.{IsInRegion, IsRegionTransposed, cols_of, rows_of}
 use Rattle.p3_util_kernels.proofs.Pairs.{mul-parts_left, mul-parts_right}
 
--- what is in a part is in the whole
+-- a place in a part is in the whole
 pub inside : (whole part : Region) (x y : ℕ) → IsPart whole part → IsInRegion part x y → IsInRegion whole x y
 inside whole part x y p h = grind (arith, p, h)
 
@@ -34,7 +34,7 @@ IsCut-cols whole mid from to = record {
   items = mul-parts_right (mid - whole.col_start) (whole.col_end - mid) (cols_of whole) (rows_of whole) (omega arith);
 }
 
--- two regions that cut one region give its transpose
+-- if a region is cut into two, putting one and then the other puts the region
 pub IsRegionTransposed-cut : {A : Type 0} (width height : ℕ) (input : List A) (whole first second : Region) (old mid new : List A) → whole.row_end ≤ height
     → IsCut whole first second → IsRegionTransposed first width height input old mid → IsRegionTransposed second width height input mid new
     → IsRegionTransposed whole width height input old new

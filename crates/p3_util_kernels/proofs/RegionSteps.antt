@@ -1,4 +1,5 @@
--- A region of a transpose names each of its places once, so as many writes as it has items are at these places.
+-- A region of a transpose names each of its places once. So if there are as many writes as it has
+-- items, the writes are at these places.
 use Rattle.std.proofs.Common.{◌≡◌, ◌≢◌, ℕ, ◌+◌, ◌*◌, ◌/◌, ◌%◌, ◌<◌, true, List, length, slice_get, sym, ◌∙◌, arith}
 use Rattle.std.proofs.lemmas.Nat.{mul-add-lt, same_from_place}
 use Rattle.p3_util_kernels.specs.declared.transpose.regions.Region.{Region}
@@ -10,7 +11,7 @@ use Rattle.p3_util_kernels.proofs.Matrix.{row_and_column, same_number}
 use Rattle.p3_util_kernels.proofs.WrittenPlaces.{AreOnceAmong-weaker, puts-places, puts-written, written-at}
 
 module _ (region : Region) (width height : ℕ) (inside : LiesInMatrix region width height) where
-  -- the column and the row of item i, column after column
+  -- the column and the row of item i, if items are counted column by column
   abbrev column : ℕ → ℕ
   column i = region.col_start + i / rows_of region
 
@@ -47,7 +48,7 @@ module _ (region : Region) (width height : ℕ) (inside : LiesInMatrix region wi
       AreOnceAmong-weaker (λ p. (i : ℕ) × (i < items_of region) × (true ≡ true) × (p ≡ place i)) (IsPlaceOfRegion region height) (places_put steps)
       (λ p (i, less, t, e). (column i, row i, in_region i less, e)) at
 
--- regions without a row or without a column in common
+-- regions that do not overlap have no place in common
 pub regions-apart : (first second : Region) (width height : ℕ) → LiesInMatrix first width height → LiesInMatrix second width height
     → ((x y : ℕ) → IsInRegion first x y → IsInRegion second x y → ⊥) → NoPlaceInCommon (IsPlaceOfRegion first height) (IsPlaceOfRegion second height)
 regions-apart first second width height in_first in_second none p (x, y, here, e) (u, v, there, f) =

@@ -1,4 +1,5 @@
--- Reversal of rows and of items: place by place, as its own inverse, and that a list has one.
+-- Reversal of rows and of items: place by place, that it is its own inverse, and that a list has
+-- only one reversal.
 use Rattle.std.proofs.Common.{◌≡◌, ℕ, ◌+◌, ◌*◌, ◌^◌, ◌<◌, List, length, slice_get, inl, inr, refl, sym, ap, ◌∙◌, arith}
 use Rattle.p3_util_kernels.specs.Digits.{rev}
 use Rattle.p3_util_kernels.specs.Reversal.{FitsRows, IsReversal, IsRowReversal, IsZeroOrPowerOfTwo}
@@ -15,7 +16,7 @@ IsReversal-places old new reversal k i e h =
     let to : rev k i * 1 + 0 ≡ rev k i = omega arith in
     rw (from, to) at (reversal.places k i 0 (omega arith) h (omega arith))
 
--- for a list of 2 ^ k items
+-- the same for a list of 2 ^ k items, in the other direction
 pub IsReversal-from_power : {A : Type 0} (k : ℕ) (old new : List A) → length old ≡ 2 ^ k → length new ≡ length old
     → ((i : ℕ) → i < length old → slice_get new i ≡ slice_get old (rev k i)) → IsReversal old new
 IsReversal-from_power k old new e same at = record {
@@ -27,7 +28,7 @@ IsReversal-from_power k old new e same at = record {
       rw (power, from, to) (at r (omega arith));
 }
 
--- the reversal of the reversal is the list
+-- reversing a list twice gives it back
 pub row_reversed_back : {A : Type 0} (row_width : ℕ) (old new : List A) → IsRowReversal row_width old new → IsRowReversal row_width new old
 row_reversed_back row_width old new reversal = record {
   same_length = sym reversal.same_length;
@@ -36,7 +37,7 @@ row_reversed_back row_width old new reversal = record {
       sym (reversal.places k (rev k r) j length_is (rev-lt k r) inside ∙ ap (λ q. slice_get old (q * row_width + j)) (rev-rev-below k r h));
 }
 
--- a list has one reversal
+-- a list has only one reversal
 pub IsRowReversal-unique : {A : Type 0} (row_width : ℕ) (old a b : List A) → FitsRows (length old) row_width
     → IsRowReversal row_width old a → IsRowReversal row_width old b → a ≡ b
 IsRowReversal-unique row_width old a b (rows, inl none, e) at bt =

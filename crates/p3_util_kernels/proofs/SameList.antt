@@ -1,4 +1,4 @@
--- Two lists with the same item at each place are one list.
+-- Two lists of the same length with the same item at each place are equal.
 use Rattle.std.proofs.Common.{◌≡◌, ℕ, ◌<◌, List, length, slice_get, arith}
 use Rattle.std.proofs.lemmas.List.{same_lists}
 use Rattle.std.proofs.lemmas.Option.{gets}

@@ -1,4 +1,4 @@
--- Squares side by side, transposed one after another.
+-- Squares that lie side by side are transposed one after another.
 use Rattle.std.proofs.Common.{◌≡◌, ℕ, ◌+◌, ◌-◌, ◌*◌, ◌/◌, ◌^◌, ◌<◌, ◌≤◌, List, slice_get, sym, ap, ◌∙◌, arith}
 use Rattle.std.proofs.lemmas.Nat.{div-mul-add, pow-add, pow_pos, mul-add-lt, same_from_place}
 use Rattle.p3_util_kernels.proofs.DigitsLemmas.{middle-below}
@@ -18,11 +18,11 @@ module _ (log_stride log_size : ℕ) (within : log_size ≤ log_stride) where
   pub row_length : 2 ^ (log_stride - log_size) * 2 ^ log_size ≡ 2 ^ log_stride
   row_length = sym (pow-add 2 (log_stride - log_size) log_size) ∙ ap (λ e. 2 ^ e) (omega arith)
 
-  -- a square and a column of it are within the row
+  -- a column of a square is a column of the whole row
   pub in_row : (s b : ℕ) → s < 2 ^ (log_stride - log_size) → b < 2 ^ log_size → s * 2 ^ log_size + b < 2 ^ log_stride
   in_row s b hs hb = let whole : log_stride - log_size + log_size ≡ log_stride = omega arith in rw whole at (middle-below log_size (log_stride - log_size) s b hs hb)
 
-  -- what holds of each row, square and column holds of each place
+  -- a property of each row, square and column is a property of each place
   pub each_part : (P : ℕ → Type 0)
       → ((a s b : ℕ) → a < 2 ^ log_size → s < 2 ^ (log_stride - log_size) → b < 2 ^ log_size → P (a * 2 ^ log_stride + (s * 2 ^ log_size + b)))
       → (p : ℕ) → p < 2 ^ (log_size + log_stride) → P p
@@ -32,7 +32,7 @@ module _ (log_stride log_size : ℕ) (within : log_size ≤ log_stride) where
       each_place (λ q. P (a * 2 ^ log_stride + q)) (2 ^ (log_stride - log_size)) (2 ^ log_size) q (rw (← row_length) at hq)
       (λ s b hs hb. all a s b ha hs hb))
 
-  -- the last place of a square is within the list
+  -- the list has the last place of each square
   pub square_room : (s n : ℕ) → n ≡ 2 ^ (log_size + log_stride) → s < 2 ^ (log_stride - log_size)
       → s * 2 ^ log_size + (2 ^ log_size - 1) * 2 ^ log_stride + (2 ^ log_size - 1) < n
   square_room s n whole hs =
@@ -41,7 +41,7 @@ module _ (log_stride log_size : ℕ) (within : log_size ≤ log_stride) where
       omega (arith, pow-add 2 log_size log_stride, mul-add-lt (2 ^ log_size - 1) (2 ^ log_stride) (s * 2 ^ log_size + (2 ^ log_size - 1)) (2 ^ log_size) last column)
 
   module _ {A : Type 0} where
-    -- a place of another square stays
+    -- the places of the other squares stay as they are
     elsewhere : (i s a b : ℕ) (now next : List A) → i < 2 ^ (log_stride - log_size) → s < 2 ^ (log_stride - log_size) → (s ≡ i → ⊥)
         → b < 2 ^ log_size → IsSquareTransposed (i * 2 ^ log_size) log_stride log_size now next
         → slice_get next (a * 2 ^ log_stride + (s * 2 ^ log_size + b)) ≡ slice_get now (a * 2 ^ log_stride + (s * 2 ^ log_size + b))
@@ -51,7 +51,7 @@ module _ (log_stride log_size : ℕ) (within : log_size ≤ log_stride) where
         let row = same_from_place a (s * 2 ^ log_size + b) c (i * 2 ^ log_size + d) (2 ^ log_stride) (in_row s b hs hb) (in_row i d hi hd) (omega arith) in
         apart (same_from_place s b i d (2 ^ log_size) hb hd row.1).0)
 
-    -- one square more
+    -- one more square is transposed
     pub AreTransposed-more : (i : ℕ) (old now next : List A) → i < 2 ^ (log_stride - log_size)
         → AreTransposed i log_stride log_size old now → IsSquareTransposed (i * 2 ^ log_size) log_stride log_size now next
         → AreTransposed (i + 1) log_stride log_size old next

@@ -1,4 +1,4 @@
--- Sums over following numbers.
+-- Sums over consecutive numbers.
 use Rattle.std.proofs.Common.{◌≡◌, ℕ, zero, suc, ◌+◌, ◌*◌, ◌/◌, ◌%◌, refl, arith}
 use Rattle.std.proofs.lemmas.Nat.{div-mul-add, mod-mul-add}
 use Rattle.p3_util_kernels.specs.Digits.{sum_below}
@@ -9,7 +9,7 @@ unfolding sum_below
 sum-add a zero f = let e : a + 0 ≡ a = omega arith in rw e (omega arith)
 sum-add a (suc b) f = let e : a + suc b ≡ suc (a + b) = omega arith in rw e (omega (arith, sum-add a b f))
 
--- row after row
+-- a sum over all places of a matrix, row by row
 pub sum-rows : (rows side : ℕ) (g : ℕ → ℕ → ℕ) → sum_below (rows * side) (λ q. g (q / side) (q % side)) ≡ sum_below rows (λ r. sum_below side (g r))
 unfolding sum_below
 sum-rows zero side g = let e : zero * side ≡ 0 = omega arith in rw e refl

@@ -1,4 +1,4 @@
--- Bounds of the numbers of swaps, from their closed forms.
+-- Bounds on the numbers of swaps, derived from their closed forms.
 use Rattle.std.proofs.Common.{◌≡◌, ℕ, ◌+◌, ◌-◌, ◌*◌, ◌/◌, ◌^◌, ◌≤◌, ◌∙◌, inl, inr, sym, ap, arith}
 use Rattle.std.proofs.Math.Nat.{mul-le-mul_left}
 use Rattle.std.proofs.lemmas.Nat.{pow-add}
@@ -11,11 +11,11 @@ use Rattle.p3_util_kernels.proofs.Lengths.{zero_or_power}
 use Rattle.p3_util_kernels.proofs.LevelsLemmas.{clog_power, clog-zero}
 use Rattle.p3_util_kernels.proofs.Pairs.{twice-pairs}
 
--- two swaps for each pair of places, and no more places than items
+-- each swap takes two places, and there are no more places than items
 pub short_swaps-le : (k : ℕ) → 2 * short_swaps k ≤ 2 ^ k
 short_swaps-le k = omega arith
 
--- rows: at most half as many swaps as items
+-- for rows: at most half as many swaps as items
 pub row_swaps-le : (row_width k : ℕ) → row_width * short_swaps k ≤ row_width * 2 ^ k / 2
 row_swaps-le row_width k =
     let scaled : row_width * (2 * short_swaps k) ≤ row_width * 2 ^ k = mul-le-mul_left row_width (short_swaps-le k) in
@@ -42,7 +42,7 @@ long_swaps-le k =
     let whole : size + stride ≡ k = omega arith in
     omega (arith, chunks_bound size stride (2 ^ k) (ap (λ e. 2 ^ e) (sym whole)), rw whole at (squares_swaps-le stride size (omega arith)))
 
--- the same of a length that is zero or a power of two
+-- the same for a length that is zero or a power of two
 pairs_of_rows : (row_width rows : ℕ) → IsZeroOrPowerOfTwo rows → row_width * short_swaps (clog rows) ≤ row_width * rows / 2
 pairs_of_rows row_width rows (inl none) = let zero : clog rows ≡ 0 = clog-zero rows none in rw zero (omega arith)
 pairs_of_rows row_width rows (inr (k, is)) = rw (clog_power rows k is, is) (row_swaps-le row_width k)

@@ -1,4 +1,4 @@
--- The written tables hold what their comments say, entry by entry.
+-- The tables in the source hold what their comments say, checked entry by entry.
 use Rattle.std.proofs.Common.{◌≡◌, ℕ, zero, suc, ◌+◌, ◌*◌, ◌/◌, ◌%◌, ◌^◌, ◌<◌, ◌≤◌, nat_lt, nat_le, ltb-true, leb-true, Bool, true, ◌&&◌, ◌==◌, get_or, bit_and, bit_or, subst, arith, inl, inr, eqb-true, refl, sym}
 use Rattle.std.proofs.lemmas.Bool.{cases_lt, and_parts}
 use Rattle.std.proofs.Math.Nat.{pow-le-pow_right}
@@ -26,7 +26,7 @@ pub powers_of_three-at : (e : ℕ) → e < 41 → get_or POWERS_OF_THREE e 0 ≡
 unfolding all_below
 powers_of_three-at e h = eqb-true _ _ (all_below-at (λ e. get_or POWERS_OF_THREE e 0 == 3 ^ e) 41 e refl h)
 
--- the exponent at place `top` is that of the greatest power of three below 2 ^ (top + 1)
+-- entry `top` is the exponent of the greatest power of three below 2 ^ (top + 1)
 is_greatest : ℕ → Bool
 is_greatest top =
     let x = get_or EXPONENTS_OF_THREE top 0 in
@@ -52,12 +52,12 @@ exponent_bound top h =
     let word : 2 ^ (top + 1) ≤ 2 ^ 64 = pow-le-pow_right (omega arith) within in
     (three-fits (get_or EXPONENTS_OF_THREE top 0)).0 (omega arith)
 
--- each entry is the number with its 6 digits reversed
+-- entry x is x with its 6 digits reversed
 pub reversed_six : (x : ℕ) → x < 64 → get_or REVERSED_SIX x 0 ≡ rev 6 x
 unfolding all_below rev sum_below
 reversed_six x h = eqb-true _ _ (all_below-at (λ x. get_or REVERSED_SIX x 0 == rev 6 x) 64 x refl h)
 
--- a byte by its eight digits, each moved to its place in the reversed byte
+-- a byte put together from its eight digits, each moved to its place in the reversed byte
 abbrev digits_moved : ℕ → ℕ
 digits_moved x =
     bit_or (bit_or (bit_or (bit_or (bit_or (bit_or (bit_or (bit_and x 1 * 128 % 256) (bit_and x 2 * 32 % 256)) (bit_and x 4 * 8 % 256))

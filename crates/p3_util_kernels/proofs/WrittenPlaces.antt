@@ -1,4 +1,5 @@
--- Places of a list that were written in turn, how many of them changed, and where the writes are if all of them did.
+-- Places of a list are written one after another: how many of them changed, and which places were
+-- written if all of them changed.
 use Rattle.std.proofs.Common.{◌≡◌, ◌≢◌, ℕ, Bool, not, ◌==◌, ◌&&◌, ◌*◌, ◌<◌, ◌≤◌, IsTrue, List, [], ◌∷◌, length, get_or, set, slice_get, slice_set, refl, sym, ◌∙◌, ap, arith}
 use Rattle.std.proofs.lemmas.Bool.{and_parts, eqb-false, eqb-true, not-true}
 use Rattle.std.proofs.lemmas.Bool.Decides.{nat_tests}
@@ -8,7 +9,7 @@ use Rattle.p3_util_kernels.specs.Least.{AreOnceAmong, after_puts, after_swaps, c
 use Rattle.p3_util_kernels.proofs.Counts.{count-none, count-once, count-some, count-split}
 use Rattle.p3_util_kernels.proofs.Exchange.{slice_get-set_other}
 
--- `new` is `old` after these places were written in turn, each with anything
+-- `new` is `old` after these places were written one after another, each with any item
 unfoldable pub Written : {A : Type 0} → List ℕ → List A → List A → Type 0
 Written [] old new = old ≡ new
 Written {A} (p ∷ places) old new = (mid : List A) × ((i : ℕ) → i ≢ p → slice_get old i ≡ slice_get mid i) × Written places mid new
@@ -55,7 +56,7 @@ module _ (n : ℕ) (place : ℕ → ℕ) where
   abbrev pub Changed : {A : Type 0} → (ℕ → Bool) → List A → List A → Type 0
   Changed test old new = (i : ℕ) → i < n → IsTrue (test i) → slice_get old (place i) ≢ slice_get new (place i)
 
-  -- all but one place, and what is known of it
+  -- the test without the numbers that name place p, and what is known of it
   abbrev but : (ℕ → Bool) → ℕ → ℕ → Bool
   but test p i = test i && not (place i == p)
 
@@ -68,7 +69,7 @@ module _ (n : ℕ) (place : ℕ → ℕ) where
   but-apart : (test : ℕ → Bool) (p : ℕ) → Apart test → Apart (but test p)
   but-apart test p apart i j hi hj ti tj = apart i j hi hj (but-test test p i ti) (but-test test p j tj)
 
-  -- what a write at p leaves
+  -- a write at p leaves the other places as they were
   but-changed : {A : Type 0} (test : ℕ → Bool) (p : ℕ) (old mid new : List A) → ((i : ℕ) → i ≢ p → slice_get old i ≡ slice_get mid i)
       → Changed test old new → Changed (but test p) mid new
   but-changed test p old mid new kept changed i less t e = changed i less (but-test test p i t) (kept (place i) (but-away test p i t) ∙ e)
@@ -78,7 +79,7 @@ module _ (n : ℕ) (place : ℕ → ℕ) where
       count-once n (λ i. test i && place i == p)
       (λ i j hi hj ti tj. grind (arith, nat_tests, apart i j hi hj, ti, tj))
 
-  -- no more places changed than were written
+  -- at most as many places changed as were written
   pub written-change : {A : Type 0} (test : ℕ → Bool) → Apart test → (places : List ℕ) (old new : List A) → Written places old new
       → Changed test old new → count_below n test ≤ length places
   unfolding Written
@@ -92,7 +93,8 @@ module _ (n : ℕ) (place : ℕ → ℕ) where
         written-change (but test p) (but-apart test p apart) places mid new rest (but-changed test p old mid new kept changed),
       )
 
-  -- where as many changed as were written, each place that was written is one of them, and none was written twice
+  -- if as many places changed as were written, each written place is one of the changed ones, and
+  -- none was written twice
   pub written-at : {A : Type 0} (test : ℕ → Bool) → Apart test → (places : List ℕ) (old new : List A) → Written places old new
       → Changed test old new → count_below n test ≡ length places → AreOnceAmong (λ p. (i : ℕ) × (i < n) × IsTrue (test i) × (p ≡ place i)) places
   unfolding Written

@@ -14,7 +14,7 @@ use Rattle.p3_util_run.specs.declared.fault.RunFault.TheVariants.{Memory, Write,
 use Rattle.p3_util_run.specs.declared.words.Command.{Command}
 use Rattle.p3_util_run.specs.declared.words.Command.TheVariants.{Revbits, Revrows, Transpose}
 
--- an input is the array of one list at most
+-- an input is the array of at most one list
 same_list : (input xs ys : List ℕ) → IsArrayOf input xs → IsArrayOf input ys → xs ≡ ys
 same_list input xs ys first second =
     let both : Some (array_of xs) ≡ Some (array_of ys) = sym first.1 ∙ second.1 in
@@ -51,11 +51,11 @@ one_text_of : (named : Option Command) (input a b : List ℕ) → IsSomeAnd name
 one_text_of None input a b p q = absurd p
 one_text_of (Some command) input a b p q = one_answer command input a b p q
 
--- words and an input have one text at most
+-- for the same words of the command line and the same input there is at most one output
 pub one_text : (words : List (List ℕ)) (input a b : List ℕ) → Out words input a → Out words input b → a ≡ b
 one_text words input a b p q = one_text_of (command_of words) input a b p q
 
--- what a command answers is what its words answer
+-- an output of a command is an output of the words that name the command
 out_from_answers : (words : List (List ℕ)) (command : Command) (input text : List ℕ) → Some command ≡ command_of words → Answers command input text
     → Out words input text
 out_from_answers words command input text named answer =
@@ -76,7 +76,7 @@ refuses_from_fault : (words : List (List ℕ)) (command : Command) (input : List
 refuses_from_fault words command input fault named told =
     let P : Option Command → Type 0 = λ o. MatchOption o (fault ≡ UnknownCommand) (λ k. Refuses k input fault) in subst P (sym named) told
 
--- what is known of a run that read all its input
+-- what is known of a run that read its whole input
 abbrev pub Ends : {T : Type 0} → Command → List ℕ → Result T RunFault → Type 0
 Ends command input r = MatchResult r (λ _. (text : List ℕ) × Answers command input text) (λ fault. IsSettled {T = ⊤} (Err fault) → Refuses command input fault)
 
@@ -91,7 +91,7 @@ pub ends_refused : (command : Command) (input : List ℕ) (fault : RunFault) →
 ends_refused command input fault (inl memory) settled = let P : RunFault → Type 0 = λ f. IsSettled {T = ⊤} (Err f) in absurd (subst P memory settled)
 ends_refused command input fault (inr refused) settled = refused
 
--- the clauses of `run`, of what is known when it ends
+-- the clauses of `run` about what is known when it ends
 pub wrote : {T : Type 0} → (words : List (List ℕ)) (command : Command) (a b x y : Option (List ℕ)) (input text : List ℕ) (r : Result T RunFault)
     → Some command ≡ command_of words → ReadsAll a b input → Answers command input text → OnOk r (Appends x y text)
     → OnOk r ((input' text' : List ℕ) × ReadsAll a b input' × Out words input' text' × Appends x y text')

@@ -1,3 +1,4 @@
+-- The modules of lemmas of this crate.
 pub mod Endings
 pub mod NumberLists
 pub mod Pieces

@@ -1,4 +1,5 @@
--- Lists of numbers as JSON: what is no list of them, and that their text has no float.
+-- Lists of numbers as JSON: which values are not such lists, and that the text of such a list has
+-- no float.
 use Rattle.std.proofs.Common.{◌≡◌, ℕ, ◌<◌, List, [], ◌∷◌, map, length, get_or, false, Some, None, Result, Ok, Err, IfOk, ap, subst, refl, sym, ◌∙◌, arith}
 use Rattle.std.proofs.lemmas.List.{get_or-map, length-map}
 use Rattle.std.specs.Option.{option_and_then}
@@ -22,7 +23,7 @@ numbers_injective (x ∷ xs) [] h = cc
 numbers_injective (x ∷ xs) (y ∷ ys) h =
     let first : x ≡ y = cc in let rest : map number_of xs ≡ map number_of ys = cc in let more = numbers_injective xs ys rest in cc
 
--- no two lists are written as one array
+-- no two different lists are written as the same array
 pub array_of_injective : (xs ys : List ℕ) → array_of xs ≡ array_of ys → xs ≡ ys
 array_of_injective xs ys h =
     let e : items_of (map number_of xs) ≡ items_of (map number_of ys) = cc in numbers_injective xs ys (items_of_injective _ _ e)
@@ -31,7 +32,7 @@ pub numbers_have_no_float : (xs : List ℕ) → items_have_float (items_of (map 
 numbers_have_no_float [] = refl
 numbers_have_no_float (x ∷ xs) = numbers_have_no_float xs
 
--- an item that is no number without a sign is in no list of them
+-- an item that is not an unsigned number is in no list of numbers
 pub refused_item : {A : Type 0} → (view : A → Data) (items : List A) (xs : List ℕ) (i : ℕ) (it : A) → i < length items → it ≡ get_or items i it
     → None ≡ option_and_then as_u64 (as_number (view it)) → map view items ≡ map number_of xs → ⊥
 refused_item view items xs i it in_range here none same =
@@ -43,14 +44,14 @@ refused_item view items xs i it in_range here none same =
     let bad : None ≡ Some (get_or xs i 0) = subst is_none read none in
     cc
 
--- what a value's array holds, where the value is the array of some numbers
+-- the items of a value's array, if the value is the array of some numbers
 pub items_of_numbers : (ds : List Data) (d : Data) (xs : List ℕ) → Some (items_of ds) ≡ as_array d → d ≡ array_of xs → ds ≡ map number_of xs
 items_of_numbers ds d xs items is =
     let e : Some (items_of ds) ≡ Some (items_of (map number_of xs)) = items ∙ ap as_array is in
     let inner : items_of ds ≡ items_of (map number_of xs) = cc in
     items_of_injective _ _ inner
 
--- the text of the array of numbers
+-- the text of an array of numbers
 pub text_of_numbers : {T E : Type 0} → (bytes : T → List ℕ) (d : Data) (xs : List ℕ) (r : Result T E) → d ≡ array_of xs
     → IfOk r (λ text. has_float d ≡ false → bytes text ≡ compact_text d) → IfOk r (λ text. bytes text ≡ compact_text (array_of xs))
 text_of_numbers bytes d xs (Ok text) same written =

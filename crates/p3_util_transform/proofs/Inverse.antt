@@ -1,4 +1,5 @@
--- The inverse transform is a transform by the inverse of the root, with each number scaled.
+-- The inverse transform is a transform with the inverse of the root, after which each number is
+-- scaled.
 use Rattle.std.proofs.Common.{◌≡◌, ℕ, ◌+◌, ◌-◌, ◌*◌, ◌%◌, ◌^◌, ◌<◌, List, length, get_or, refl, sym, ap, ◌∙◌, arith}
 use Rattle.std.proofs.Math.Nat.{mod-add-mod, mod-mod}
 use Rattle.std.proofs.lemmas.Nat.{mul-add-lt, pow_pos, pow-add, pow-mod}
@@ -9,7 +10,7 @@ use Rattle.p3_util_transform.specs.declared.field.TheConstants.{HALF, PRIME, ROO
 use Rattle.p3_util_transform.proofs.Remainders.{minus_one-odd, mod-mul, pow-mul}
 use Rattle.p3_util_transform.proofs.Sums.{sum_below-mod}
 
--- the inverse of a root is one
+-- the inverse of a root is a root
 pub IsRoot-inverse : (k root inverse : ℕ) → IsRoot k root → inverse ≡ root ^ (2 ^ k - 1) % PRIME → IsRoot k inverse
 IsRoot-inverse k root inverse is_root e h half =
     let z = root ^ 2 ^ h in
@@ -23,7 +24,7 @@ IsRoot-inverse k root inverse is_root e h half =
     ap (λ m. m ^ 2 ^ h % PRIME) e ∙ pow-mod (root ^ (2 ^ k - 1)) (2 ^ h) PRIME ∙ ap (λ m. m % PRIME) power ∙ minus_one-odd PRIME z n (is_root h half) in
     sym (mod-add-mod (inverse ^ 2 ^ h) PRIME 1) ∙ ap (λ m. (m + 1) % PRIME) same ∙ mod-add-mod z PRIME 1 ∙ is_root h half
 
--- a transform by the inverse, each number scaled
+-- a transform with the inverse of the root, and then each number scaled
 pub IsInverseTransformed-scaled : (k root inverse factor width : ℕ) (old mid new : List ℕ) → inverse ≡ root ^ (2 ^ k - 1) % PRIME → factor ≡ HALF ^ k % PRIME
     → length old ≡ width * 2 ^ k → IsTransformed inverse width (2 ^ k) old mid → length new ≡ length mid
     → ((i : ℕ) → i < length mid → get_or new i 0 ≡ get_or mid i 0 * factor % PRIME) → IsInverseTransformed k root width old new
@@ -45,7 +46,7 @@ IsInverseTransformed-scaled k root inverse factor width old mid new is_inverse i
       scaled (r * width + c) inside ∙ mod-mul PRIME (get_or mid (r * width + c) 0) wanted factor (HALF ^ k) item by;
 }
 
--- the same matrices by other names
+-- the same for equal matrices under other names
 pub IsInverseTransformed-same : (k k' width width' : ℕ) (old old' new new' : List ℕ) → k ≡ k' → width ≡ width' → old ≡ old' → new ≡ new'
     → IsInverseTransformed k (get_or ROOTS k 0) width old new → IsInverseTransformed k' (get_or ROOTS k' 0) width' old' new'
 IsInverseTransformed-same k k' width width' old old' new new' a b c d t = rw (sym a, sym b, sym c, sym d) t

@@ -1,4 +1,4 @@
--- One transform after the other gives the matrix back.
+-- Transforming a matrix and then transforming it back gives the matrix.
 use Rattle.std.proofs.Common.{◌≡◌, ◌≢◌, ℕ, zero, suc, ◌+◌, ◌-◌, ◌*◌, ◌/◌, ◌%◌, ◌^◌, ◌<◌, List, length, get_or, EachIndex, inl, inr, refl, sym, ap, ◌∙◌, arith}
 use Rattle.std.proofs.Math.Nat.{mod-eq_of_lt, mod-mod, mul-mod_left, mul_assoc, mul_comm, pow-suc, pow-zero}
 use Rattle.std.proofs.lemmas.Bool.{cases_eq, cases_lt}
@@ -14,7 +14,7 @@ use Rattle.p3_util_transform.proofs.Remainders.{minus_one-odd, mod-add, mod-by_m
 use Rattle.p3_util_transform.proofs.Sums.{sum_below-halves, sum_below-mod}
 use Rattle.p3_util_kernels.proofs.DigitsLemmas.{sum_below-same, sum_below-scale}
 
--- sums of sums, of nothing but one place, and of ones
+-- sums of sums, sums of ones, and sums in which only one term is not 0
 sum_below-add : (n : ℕ) (f g : ℕ → ℕ) → sum_below n (λ i. f i + g i) ≡ sum_below n f + sum_below n g
 unfolding sum_below
 sum_below-add zero f g = refl
@@ -73,7 +73,7 @@ odd_quotient k d q e some = elim (cases_eq (q % 2) 0) [
   | inr rest ↦ omega arith
 ]
 
--- the powers of a power of a root that is not 1 cancel
+-- if a power of a root is not 1, the powers of that power add up to 0
 root-square : (k w : ℕ) → IsRoot (suc k) w → IsRoot k (w * w)
 root-square k w is_root h e =
     let power : (w * w) ^ 2 ^ h ≡ w ^ 2 ^ (h + 1) =
@@ -115,14 +115,15 @@ powers_cancel (suc k) w d is_root some =
           mod-mul PRIME (z + 1) (z + 1) inner 0 refl none ∙ ap (λ m. m % PRIME) nothing
     ]
 
--- the exponents of one place of the inverse: the root to the power of i, times its inverse to the power of r
+-- the exponents at one place of the inverse: the root to the power of i, times its inverse to the
+-- power of r
 mixed : (w k i r j : ℕ) → w ^ (j * i) * (w ^ (2 ^ k - 1)) ^ (r * j) ≡ (w ^ (i + (2 ^ k - 1) * r)) ^ j
 mixed w k i r j =
     let n = 2 ^ k - 1 in
     let exponent : j * i + n * (r * j) ≡ (i + n * r) * j = grind arith in
     ap (λ m. w ^ (j * i) * m) (sym (pow-mul w n (r * j))) ∙ sym (pow-add w (j * i) (n * (r * j))) ∙ ap (λ m. w ^ m) exponent ∙ pow-mul w (i + n * r) j
 
--- another place: its powers cancel
+-- at a different place, the powers add up to 0
 apart : (k i r : ℕ) → i < 2 ^ k → r < 2 ^ k → i ≢ r → (i + (2 ^ k - 1) * r) % 2 ^ k ≢ 0
 apart k i r hi hr differ none =
     let d = i + (2 ^ k - 1) * r in
@@ -135,7 +136,7 @@ apart k i r hi hr differ none =
     let e : i + r * 2 ^ k ≡ r + q * 2 ^ k = omega arith in
     differ (sym (mod-eq_of_lt hi) ∙ mod-by_multiples (2 ^ k) i r r q e ∙ mod-eq_of_lt hr)
 
--- the same place: its powers are 1
+-- at the same place, all powers are 1
 together : (p k w r : ℕ) → w ^ 2 ^ k % p ≡ 1 % p → sum_below (2 ^ k) (λ j. (w ^ (r + (2 ^ k - 1) * r)) ^ j) % p ≡ 2 ^ k % p
 together p k w r one =
     let some : 0 < 2 ^ k = pow_pos k in
@@ -149,7 +150,7 @@ together p k w r one =
 halves_cancel : (k : ℕ) → (2 ^ k * HALF ^ k) % PRIME ≡ 1 % PRIME
 halves_cancel k = ap (λ m. m % PRIME) (sym (mul-pow 2 HALF k)) ∙ one-power PRIME (2 * HALF) k refl
 
--- a column there and back
+-- a column transformed and transformed back
 back : (k w : ℕ) (x y : ℕ → ℕ) (r : ℕ) → IsRoot k w → w ^ 2 ^ k % PRIME ≡ 1 % PRIME → r < 2 ^ k
     → ((j : ℕ) → j < 2 ^ k → y j ≡ sum_below (2 ^ k) (λ i. x i * w ^ (j * i)) % PRIME)
     → (sum_below (2 ^ k) (λ j. y j * (w ^ (2 ^ k - 1)) ^ (r * j)) * HALF ^ k) % PRIME ≡ x r % PRIME
@@ -181,7 +182,7 @@ back k w x y r is_root one hr is_y =
     ∙ ap (λ m. m % PRIME) (mul_assoc (x r) size (HALF ^ k))
     ∙ mod-mul PRIME (x r) (x r) (size * HALF ^ k) 1 refl (halves_cancel k) ∙ ap (λ m. m % PRIME) (omega arith)
 
--- what holds of each column holds of the list
+-- if all columns are equal, the lists are equal
 from_columns : (width k : ℕ) (old new : List ℕ) → length old ≡ width * 2 ^ k → length new ≡ length old
     → ((r c : ℕ) → r < 2 ^ k → c < width → get_or new (r * width + c) 0 ≡ get_or old (r * width + c) 0) → new ≡ old
 from_columns width k old new len same each =
@@ -191,7 +192,7 @@ from_columns width k old new len same each =
     let place : q / width * width + q % width ≡ q = div-add-mod' q width in
     rw place at (each (q / width) (q % width) (div_below q width (2 ^ k) some (omega arith)) (mod_below q width some)))
 
--- a matrix there and back
+-- a matrix transformed and transformed back
 pub IsInverseTransformed-same_list : (k root width : ℕ) (old mid new : List ℕ) → IsRoot k root → root ^ 2 ^ k % PRIME ≡ 1 % PRIME → AreBelowPrime old
     → length old ≡ width * 2 ^ k → IsTransformed root width (2 ^ k) old mid → IsInverseTransformed k root width mid new → new ≡ old
 IsInverseTransformed-same_list k root width old mid new is_root one below len there inverse =
@@ -200,7 +201,7 @@ IsInverseTransformed-same_list k root width old mid new is_root one below len th
     let y : ℕ → ℕ = λ j. get_or mid (j * width + c) 0 in
     inverse.places r c hr hc ∙ back k root x y r is_root one hr (λ j less. there.places j c less hc) ∙ mod-eq_of_lt (below (r * width + c)))
 
--- the inverse of a root, its order, and the inverse of that
+-- the inverse of a root: its order, and its own inverse
 inverse-one : (k w : ℕ) → w ^ 2 ^ k % PRIME ≡ 1 % PRIME → (w ^ (2 ^ k - 1) % PRIME) ^ 2 ^ k % PRIME ≡ 1 % PRIME
 inverse-one k w one =
     let n = 2 ^ k - 1 in
@@ -222,7 +223,7 @@ inverse-inverse k w one =
     ap (λ m. m % PRIME) alone ∙ mod-mul PRIME (v ^ n) (v ^ n) 1 (v * w) refl (sym product) ∙ ap (λ m. m % PRIME) regroup
     ∙ mod-mul PRIME (v ^ n * v) 1 w w power refl ∙ ap (λ m. m % PRIME) left
 
--- a column the other way round: the inverse first
+-- a column in the other direction: first the inverse transform
 forth : (k w : ℕ) (x y : ℕ → ℕ) (r : ℕ) → IsRoot k w → w ^ 2 ^ k % PRIME ≡ 1 % PRIME → r < 2 ^ k
     → ((j : ℕ) → j < 2 ^ k → y j ≡ (sum_below (2 ^ k) (λ i. x i * (w ^ (2 ^ k - 1)) ^ (j * i)) * HALF ^ k) % PRIME)
     → sum_below (2 ^ k) (λ j. y j * w ^ (r * j)) % PRIME ≡ x r % PRIME
@@ -247,7 +248,7 @@ forth k w x y r is_root one hr is_y =
     sum_below-mod PRIME size _ _ terms ∙ ap (λ m. m % PRIME) (sum_below-scale h size z ∙ mul_comm h (sum_below size z))
     ∙ back k v x t r (IsRoot-inverse k w v is_root refl) (inverse-one k w one) hr (λ j less. refl)
 
--- a matrix the other way round
+-- a matrix in the other direction
 pub IsTransformed-same_list : (k root width : ℕ) (old mid new : List ℕ) → IsRoot k root → root ^ 2 ^ k % PRIME ≡ 1 % PRIME → AreBelowPrime old
     → length old ≡ width * 2 ^ k → IsInverseTransformed k root width old mid → IsTransformed root width (2 ^ k) mid new → new ≡ old
 IsTransformed-same_list k root width old mid new is_root one below len inverse there =
@@ -261,6 +262,7 @@ Matrix-same a b items width height =
     let make : List ℕ → ℕ → ℕ → Matrix ℕ = λ x w h. record { items = x; width = w; height = h } in
     ap (λ x. make x a.width a.height) items ∙ ap (λ w. make b.items w a.height) width ∙ ap (λ h. make b.items b.width h) height
 
--- the numbers of a list, and what is past its end
+-- if the numbers at all indices of a list are below the prime, all numbers are, since past the end
+-- `get_or` gives 0
 pub AreBelowPrime-each : (xs : List ℕ) → EachIndex xs (λ i. get_or xs i 0 < PRIME) → AreBelowPrime xs
 AreBelowPrime-each xs each i = elim (cases_lt i (length xs)) [ inl inside ↦ each i inside | inr past ↦ rw (get_or_past xs i 0 past) (omega arith) ]

@@ -1,3 +1,4 @@
+-- The modules of lemmas of this crate.
 pub mod Inverse
 pub mod Law
 pub mod Numbers

@@ -14,7 +14,7 @@ pub root-square : (k : ℕ) → k < 27 → get_or ROOTS k 0 ≡ get_or ROOTS (k 
 root-square k h =
     eqb-true _ _ (all_below-at (λ k. get_or ROOTS k 0 == get_or ROOTS (k + 1) 0 ^ 2 % PRIME) 27 k squares_pass h)
 
--- one step of a power by squares
+-- one step of computing a power by squaring
 pub pow_halved : (p r b e : ℕ) → (r * (b * b % p) ^ (e / 2)) % p ≡ (r * b ^ (2 * (e / 2))) % p
 pow_halved p r b e =
     let twice : b ^ (2 * (e / 2)) ≡ (b * b) ^ (e / 2) = rw (mul-pow b b (e / 2)) (ap (λ n. b ^ n) (omega arith) ∙ pow-add b (e / 2) (e / 2)) in
@@ -32,7 +32,7 @@ pow_odd p r b e h =
     let last : r * b * b ^ (2 * (e / 2)) ≡ r * b ^ suc (2 * (e / 2)) = rw (pow-suc b (2 * (e / 2))) (grind arith) in
     mul-mod_first (r * b) ((b * b % p) ^ (e / 2)) p ∙ pow_halved p (r * b) b e ∙ ap (λ n. n % p) last ∙ ap (λ n. (r * b ^ n) % p) half
 
--- one factor more
+-- one more factor
 pub pow_more : (p b i r : ℕ) → r ≡ b ^ i % p → r * b % p ≡ b ^ (i + 1) % p
 pow_more p b i r e =
     let more : b ^ (i + 1) ≡ b ^ i * b = ap (λ n. b ^ n) (omega arith) ∙ pow-suc b i in

@@ -1,4 +1,4 @@
--- The transform of a part is joined of those of its even and its odd items.
+-- The transform of a part is joined from the transforms of its even and its odd items.
 use Rattle.std.proofs.Common.{◌≡◌, ℕ, suc, ◌+◌, ◌-◌, ◌*◌, ◌%◌, ◌^◌, ◌<◌, refl, sym, ap, ◌∙◌, arith}
 use Rattle.std.proofs.Math.Nat.{mod-mod, mul_comm, pow-suc, pow-zero}
 use Rattle.std.proofs.lemmas.Nat.{pow-add, mul-pow}
@@ -16,7 +16,7 @@ rev-even m b =
 rev-odd : (m b : ℕ) → rev (suc m) (2 * b + 1) ≡ 2 ^ m + rev m b
 rev-odd m b = rev-double m b 1 (omega arith) ∙ omega arith
 
--- the joining, in whole numbers
+-- how two parts are joined, in integers
 pub part-join : (x : ℕ → ℕ) (w m s b i : ℕ)
     → part x w m (suc s) b i ≡ part x w (suc m) s (2 * b) i + w ^ (2 ^ m * i) * part x w (suc m) s (2 * b + 1) i
 part-join x w m s b i =
@@ -35,7 +35,7 @@ part-join x w m s b i =
     ∙ ap (λ n. n + sum_below (2 ^ s) (λ j. f (2 * j + 1))) (sum_below-same (2 ^ s) _ _ even)
     ∙ ap (λ n. part x w (suc m) s (2 * b) i + n) (sum_below-same (2 ^ s) _ _ odd ∙ sum_below-scale (w ^ (2 ^ m * i)) (2 ^ s) _))
 
--- a part begins again after its last place
+-- a part repeats after its last place
 part-again : (p : ℕ) (x : ℕ → ℕ) (w m s b i : ℕ) → (w ^ (2 ^ (m + s)) + 1) % p ≡ 0 → part x w (suc m) s b (2 ^ s + i) % p ≡ part x w (suc m) s b i % p
 part-again p x w m s b i minus_one =
     let z = w ^ (2 ^ (m + s)) in
@@ -53,7 +53,7 @@ part-again p x w m s b i minus_one =
     ap (λ n. n % p) split ∙ mod-mul p (w ^ (2 ^ suc m * i * j)) (w ^ (2 ^ suc m * i * j)) ((z * z) ^ j) 1 refl one ∙ ap (λ n. n % p) (omega arith) in
     mod-mul p item item (w ^ (2 ^ suc m * (2 ^ s + i) * j)) (w ^ (2 ^ suc m * i * j)) refl reduced)
 
--- the first half of a joined part, of reduced numbers
+-- the first half of a joined part, with reduced numbers
 pub part-sum : (p : ℕ) (x : ℕ → ℕ) (w m s b i even odd t : ℕ) → even ≡ part x w (suc m) s (2 * b) i % p → odd ≡ part x w (suc m) s (2 * b + 1) i % p
     → t ≡ w ^ (2 ^ m * i) % p → (even + odd * t) % p ≡ part x w m (suc s) b i % p
 part-sum p x w m s b i even odd t is_even is_odd is_t =
@@ -66,7 +66,7 @@ part-sum p x w m s b i even odd t is_even is_odd is_t =
     mod-add p even a (odd * t) (c * u) even' (mod-mul p odd c t u odd' t')
     ∙ ap (λ n. (a + n) % p) (mul_comm c u) ∙ ap (λ n. n % p) (sym (part-join x w m s b i))
 
--- the second half
+-- the second half of a joined part
 pub part-difference : (p : ℕ) (x : ℕ → ℕ) (w m s b i even odd t : ℕ) → 0 < p → (w ^ (2 ^ (m + s)) + 1) % p ≡ 0
     → even ≡ part x w (suc m) s (2 * b) i % p → odd ≡ part x w (suc m) s (2 * b + 1) i % p → t ≡ w ^ (2 ^ m * i) % p
     → (even + p - odd * t % p) % p ≡ part x w m (suc s) b (2 ^ s + i) % p
@@ -89,7 +89,7 @@ part-difference p x w m s b i even odd t positive minus_one is_even is_odd is_t 
     ∙ mod-add p even a2 (odd * t * z) (u2 * c2) even' product
     ∙ ap (λ n. n % p) (sym (part-join x w m s b (2 ^ s + i)))
 
--- one part of all items is the transform, and a part of one item is that item
+-- one part with all items is the transform, and a part with one item is that item
 pub part-all : (x : ℕ → ℕ) (w k i : ℕ) → part x w 0 k 0 i ≡ sum_below (2 ^ k) (λ j. x j * w ^ (i * j))
 part-all x w k i = sum_below-same (2 ^ k) _ _ (λ j h.
     let place : rev 0 0 + j * 2 ^ 0 ≡ j = rw (rev-zero 0) (omega arith) in

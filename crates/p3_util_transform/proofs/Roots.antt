@@ -8,7 +8,7 @@ use Rattle.p3_util_transform.specs.declared.field.TheConstants.{PRIME, ROOTS}
 use Rattle.p3_util_transform.proofs.Numbers.{root-square}
 use Rattle.p3_util_transform.proofs.Remainders.{pow-mul}
 
--- by squares, root j + k leads to root k
+-- squaring root k + j j times gives root k
 roots-down : (j k : ℕ) → k + j ≤ 27 → get_or ROOTS (k + j) 0 ^ 2 ^ j % PRIME ≡ get_or ROOTS k 0 % PRIME
 roots-down zero k h =
     let place : k + 0 ≡ k = omega arith in
@@ -38,7 +38,7 @@ root-lt k h = elim (cases_lt k 27) [
   | inr last ↦ let is : k ≡ 27 = omega arith in rw is (omega arith)
 ]
 
--- the order of each root
+-- the order of each root divides 2 ^ k
 pub root-order : (k : ℕ) → k ≤ 27 → get_or ROOTS k 0 ^ 2 ^ k % PRIME ≡ 1 % PRIME
 root-order k h =
     let place : 0 + k ≡ k = omega arith in

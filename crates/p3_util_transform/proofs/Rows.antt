@@ -1,4 +1,4 @@
--- Two rows of a list of rows while they are joined, column by column.
+-- Two rows of a list of rows are joined column by column.
 use Rattle.std.proofs.Common.{◌≡◌, ◌≢◌, ℕ, ◌+◌, ◌-◌, ◌*◌, ◌%◌, ◌<◌, ◌≤◌, ◌⊎◌, List, length, get_or, set, length-set, get_or-set_same, get_or-set_other, inl, inr, refl, ◌∙◌, arith, below_more}
 use Rattle.std.proofs.lemmas.Bool.{cases_lt, cases_eq}
 use Rattle.std.proofs.lemmas.List.{set_past}
@@ -17,7 +17,7 @@ AreBelowPrime-set xs i v all small k = elim (cases_eq k i) [
   | inr other ↦ rw (get_or-set_other xs i k v 0 other) (all k)
 ]
 
--- of two rows the columns below c are joined, and all else is as it was
+-- the columns below c of two rows are joined, and everything else is as it was
 pub record JoinedBelow (width low high t c : ℕ) (old new : List ℕ) : Type 0 where
   pub same_length : length new ≡ length old
   pub below : AreBelowPrime new
@@ -26,7 +26,7 @@ pub record JoinedBelow (width low high t c : ℕ) (old new : List ℕ) : Type 0 
       → get_or new (high * width + j) 0 ≡ (get_or old (low * width + j) 0 + PRIME - get_or old (high * width + j) 0 * t % PRIME) % PRIME
   pub others : (q : ℕ) → ((j : ℕ) → j < c → (q ≢ low * width + j) × (q ≢ high * width + j)) → get_or new q 0 ≡ get_or old q 0
 
--- one column more
+-- one more column is joined
 pub JoinedBelow-more : (width low high t c : ℕ) (old now : List ℕ) (s d : ℕ) → JoinedBelow width low high t c old now
     → c < width → low < high → high * width + width ≤ length old
     → s ≡ (get_or now (low * width + c) 0 + get_or now (high * width + c) 0 * t % PRIME) % PRIME
@@ -66,7 +66,7 @@ JoinedBelow-more width low high t c old now s d before h apart inside sum differ
           new_other q (away c (omega arith)).0 (away c (omega arith)).1 ∙ before.others q (λ j less. away j (omega arith));
     }
 
--- rows that are joined, after steps that leave them alone, and before
+-- two rows that are joined, with steps before or after that leave them as they are
 pub AreJoined-later : (width low high t : ℕ) (old mid new : List ℕ) → AreJoined width low high t old mid → SameRow width low mid new → SameRow width high mid new
     → AreJoined width low high t old new
 AreJoined-later width low high t old mid new joined same_low same_high = record {
@@ -81,7 +81,7 @@ AreJoined-earlier width low high t old mid new same_low same_high joined = recor
   differences = λ c h. joined.differences c h ∙ rw (same_low c h, same_high c h) refl;
 }
 
--- of two halves of a block the rows below i are joined, and all other rows are as they were
+-- the rows below i of the two halves of a block are joined, and all other rows are as they were
 pub record HalvesJoined (width first half i stride : ℕ) (powers old new : List ℕ) : Type 0 where
   pub below : AreBelowPrime new
   pub joined : (j : ℕ) → j < i → AreJoined width (first + j) (first + half + j) (get_or powers (j * stride) 0) old new
@@ -104,7 +104,7 @@ HalvesJoined-more width first half i stride powers old mid new before h below no
       same r (apart i (omega arith)).0 (apart i (omega arith)).1 c k ∙ before.others r (λ j less. apart j (omega arith)) c k;
 }
 
--- of the blocks those below b are joined, and the rows after them are as they were
+-- the blocks below b are joined, and the rows after them are as they were
 pub record BlocksJoined (width half b stride : ℕ) (powers old new : List ℕ) : Type 0 where
   pub below : AreBelowPrime new
   pub joined : AreBlocksJoined width half b stride powers old new

@@ -1,4 +1,4 @@
--- The state of a transform: at first, from stage to stage, and at last.
+-- The state of a transform at the start, after each stage and at the end.
 use Rattle.std.proofs.Common.{◌≡◌, ℕ, suc, ◌+◌, ◌-◌, ◌*◌, ◌/◌, ◌%◌, ◌^◌, ◌<◌, List, [], ◌++◌, length, get_or, take, drop, inl, inr, refl, sym, ap, subst, ◌∙◌, arith}
 use Rattle.std.proofs.Math.Nat.{mod-eq_of_lt, mul_comm, mul-lt-mul_of_pos_right}
 use Rattle.std.proofs.lemmas.Bool.{cases_lt}
@@ -45,7 +45,7 @@ IsStage-first root width k old new len small reversal = record {
       rw (first, one, reversed_number width k b c old new len reversal hb hc) (sym (mod-eq_of_lt (small (rev k b * width + c))));
 }
 
--- the blocks of two neighbours joined
+-- two neighbouring blocks are joined
 pub IsStage-next : (root width m s : ℕ) (powers old mid new : List ℕ) → IsRoot (m + s + 1) root → ArePowers root (2 ^ (m + s)) powers
     → IsStage root width (m + 1) s old mid → length new ≡ length mid → AreBlocksJoined width (2 ^ s) (2 ^ m) (2 ^ m) powers mid new
     → IsStage root width m (s + 1) old new
@@ -84,7 +84,7 @@ IsStage-next root width m s powers old mid new is_root are_powers before same jo
       ];
 }
 
--- one block of all rows
+-- at the end, one block has all rows
 pub IsStage-last : (root width k : ℕ) (old new : List ℕ) → IsStage root width 0 k old new → IsTransformed root width (2 ^ k) old new
 IsStage-last root width k old new stage = record {
   same_length = stage.same_length;
@@ -93,7 +93,7 @@ IsStage-last root width k old new stage = record {
       rw (row, part-all (λ j. get_or old (j * width + c) 0) root k r) at (stage.places 0 r c (omega arith) hr hc);
 }
 
--- the rows of a stage, and half of them
+-- the number of rows of all blocks of a stage together, and half of it
 pub stage_rows : (k s : ℕ) → s < k → 2 ^ (k - 1 - s) * (2 * 2 ^ s) ≡ 2 ^ k
 stage_rows k s h =
     let exponent : k ≡ k - 1 - s + s + 1 = omega arith in
@@ -106,7 +106,7 @@ stage_half k s h =
     let split : 2 ^ k ≡ 2 ^ (k - 1 - s + s) * 2 ^ 1 = ap (λ n. 2 ^ n) exponent ∙ pow-add 2 (k - 1 - s + s) 1 in
     omega arith
 
--- stage s of k
+-- stage s of k stages
 pub IsStage-step : (root width k s : ℕ) (powers old mid new : List ℕ) → s < k → IsRoot k root → ArePowers root (2 ^ k / 2) powers
     → IsStage root width (k - s) s old mid → length new ≡ length mid → AreBlocksJoined width (2 ^ s) (2 ^ (k - 1 - s)) (2 ^ (k - 1 - s)) powers mid new
     → IsStage root width (k - (s + 1)) (s + 1) old new
@@ -119,12 +119,12 @@ IsStage-step root width k s powers old mid new h is_root are_powers before same 
     (subst (λ n. ArePowers root n powers) (sym (stage_half k s h)) are_powers)
     (subst (λ m. IsStage root width m s old mid) earlier before) same joined)
 
--- the same matrices by other names
+-- the same for equal matrices under other names
 pub IsTransformed-same : (root root' width width' height height' : ℕ) (old old' new new' : List ℕ) → root ≡ root' → width ≡ width' → height ≡ height'
     → old ≡ old' → new ≡ new' → IsTransformed root width height old new → IsTransformed root' width' height' old' new'
 IsTransformed-same root root' width width' height height' old old' new new' a b c d e t = rw (sym a, sym b, sym c, sym d, sym e) t
 
--- a whole list, written back
+-- a list that is written back as a whole
 pub written_back : (n : ℕ) (new old : List ℕ) → length new ≡ n → length old ≡ n → new ≡ take n (new ++ drop (length new) old)
 written_back n new old same all =
     let none : drop (length new) old ≡ [] = drop_all (length new) old (omega arith) in

@@ -1,7 +1,8 @@
-//! Everything of `p3-util` 0.8.0, with the proved calls in place of its own, for every type of items that these take, where
-//! words have 64 bits. `linear_map` stays the original's, since the proved map asks `K: Eq` of its type. So does
-//! `branch_hint`, by which the compiler keeps a branch, and what the proved package has not. On other systems all goes to the
-//! original. With the feature `parallel` long reversals and transposes run on all threads, and so do reversals of rows.
+//! Everything of `p3-util` 0.8.0. On 64-bit systems the proved calls replace its own, for every type of items that they
+//! accept. `linear_map` stays the original's, since the proved map needs `K: Eq` on its type. So do `branch_hint`,
+//! which makes the compiler keep a branch, and everything that the proved package does not have. On other systems
+//! everything is the original's. With the feature `parallel`, long reversals, long transposes and long reversals of
+//! rows run on all threads.
 #![no_std]
 
 #[cfg(all(feature = "parallel", target_pointer_width = "64"))]
@@ -21,18 +22,20 @@ pub use calls::{
 };
 pub use original::*;
 
-/// What the proved package has beside the original's names: calls in parts, holders of your own with exact numbers of steps, and
-/// the reversal of rows. On other systems it is not there.
+/// What the proved package has in addition to the original's names: calls in parts, your own holders (values that give
+/// access to a list only by index) with exact numbers of steps, and the reversal of rows. Other systems do not have
+/// this module.
 #[cfg(target_pointer_width = "64")]
 pub mod proved {
     pub use p3_util_proved::{kernels, parts};
 
-    /// As [`p3_util_proved::reverse_slice_row_index_bits`]. With the feature `parallel` long lists are reversed on all threads, so
-    /// items are `Send` with and without it. For others there is [`kernels::reverse::reverse_slice_row_index_bits`].
+    /// Does the same as [`p3_util_proved::reverse_slice_row_index_bits`]. With the feature `parallel`, long lists are
+    /// reversed on all threads, so items must be `Send`, with and without the feature. For other items use
+    /// [`kernels::reverse::reverse_slice_row_index_bits`].
     ///
     /// # Panics
     ///
-    /// Where the length is not `row_width` times zero or a power of two.
+    /// If the length is not `row_width` times zero or a power of two.
     #[inline]
     #[track_caller]
     pub fn reverse_slice_row_index_bits<F: Send>(vals: &mut [F], row_width: usize) {
@@ -40,8 +43,8 @@ pub mod proved {
     }
 }
 
-/// The name of the release whose calls are in use, and in a checkout of the repository that it is none. On other systems,
-/// where all is the original's, it is `None`.
+/// The name of the release whose calls are in use. In a checkout of the repository it says that this is no release. On
+/// other systems, where everything is the original's, it is `None`.
 pub const PROVED_BUILD: Option<&str> = if cfg!(target_pointer_width = "64") {
     Some("no release: a checkout of p3-util-proved")
 } else {

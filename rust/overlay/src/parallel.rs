@@ -1,4 +1,4 @@
-//! The calls on slices, of which the long ones run in parts on the threads of `p3-maybe-rayon`.
+//! The calls on slices. The long ones run in parts on the threads of `p3-maybe-rayon`.
 
 use alloc::vec::Vec;
 
@@ -6,10 +6,10 @@ use p3_maybe_rayon::prelude::*;
 use p3_util_proved::parts::ReversalPhases;
 pub use p3_util_proved::*;
 
-/// How many parts there are for each thread, about. They are of unequal size.
+/// The approximate number of parts for each thread. Parts differ in size.
 const PARTS_A_THREAD: usize = 4;
 
-/// How many parts to wish for, where the list is long enough and there is more than one thread.
+/// How many parts to ask for, if the list is long enough and there is more than one thread.
 fn wish(is_long: bool) -> Option<usize> {
     if !is_long {
         return None;
@@ -18,11 +18,11 @@ fn wish(is_long: bool) -> Option<usize> {
     (threads > 1).then(|| threads * PARTS_A_THREAD)
 }
 
-/// As [`p3_util_proved::reverse_slice_index_bits`], on all threads.
+/// Does the same as [`p3_util_proved::reverse_slice_index_bits`], on all threads.
 ///
 /// # Panics
 ///
-/// Where the length is neither zero nor a power of two.
+/// If the length is neither zero nor a power of two.
 #[inline]
 #[track_caller]
 pub fn reverse_slice_index_bits<F: Send + Sync>(vals: &mut [F]) {
@@ -32,11 +32,11 @@ pub fn reverse_slice_index_bits<F: Send + Sync>(vals: &mut [F]) {
     run_phases(p3_util_proved::parts::reversal(vals, parts));
 }
 
-/// As [`p3_util_proved::reverse_slice_row_index_bits`], on all threads.
+/// Does the same as [`p3_util_proved::reverse_slice_row_index_bits`], on all threads.
 ///
 /// # Panics
 ///
-/// Where the length is not `row_width` times zero or a power of two.
+/// If the length is not `row_width` times zero or a power of two.
 #[inline]
 #[track_caller]
 pub fn reverse_slice_row_index_bits<F: Send>(vals: &mut [F], row_width: usize) {
@@ -56,18 +56,18 @@ fn run_phases<F: Send>(phases: ReversalPhases<'_, F>) {
 
 #[allow(dead_code, reason = "the original's transposes may be kept in their place")]
 pub mod transpose {
-    //! Transposes of matrices that are held as flat slices, row after row.
+    //! Transposes of matrices that are stored as flat slices, row after row.
 
     use super::*;
 
-    /// The least number of items that are transposed in parts. Fewer take less time on one thread.
+    /// The least number of items that are transposed in parts. Fewer items take less time on one thread.
     const LEAST_ITEMS: usize = 1 << 18;
 
-    /// As [`p3_util_proved::transpose::transpose`], on all threads.
+    /// Does the same as [`p3_util_proved::transpose::transpose`], on all threads.
     ///
     /// # Panics
     ///
-    /// Where the length of `input` or of `output` is not `width` times `height`, as a product that does not wrap.
+    /// If the length of `input` or of `output` is not `width` times `height`, or if this product wraps.
     #[inline]
     #[track_caller]
     pub fn transpose<T: Copy + Send + Sync>(input: &[T], output: &mut [T], width: usize, height: usize) {

@@ -5,9 +5,9 @@ use p3_util_proved::reverse_slice_row_index_bits;
 
 use crate::refusal::refusal;
 
-/// The number of parts that a transpose has for a wish. The longer side is cut into steps of a multiple of 16, the
-/// smallest one that gives no more parts than the wish. With the feature `checked` the width is always the side that is
-/// cut.
+/// The number of parts that a transpose has if a caller asks for `wish` parts. The longer side is cut into steps of a
+/// multiple of 16, the smallest one that gives no more than `wish` parts. With the feature `checked` the width is
+/// always the side that is cut.
 #[test]
 fn parts_of_transposes() {
     let cases = [

@@ -159,7 +159,8 @@ fn none_and_one() {
     }
 }
 
-/// How many parts the phases of a long list have for a wish. These are the numbers in the documentation.
+/// How many parts the phases of a long list have if a caller asks for `wish` parts. These are the numbers in the
+/// documentation.
 #[test]
 #[cfg(not(feature = "checked"))]
 fn parts_of_phases() {

@@ -87,8 +87,8 @@ fn by_strips(rows: Range<usize>, cols: Range<usize>, most: usize) -> impl Iterat
     })
 }
 
-/// The columns and rows of a matrix by strips of 16 rows. In a strip four columns go at a time: by blocks of four rows,
-/// or in a lower strip at the bottom all rows of it.
+/// The columns and rows of a matrix by strips of 16 rows. In a strip, four columns are put together, in blocks of four
+/// rows. If the strip at the bottom is lower, four of its columns are put together with all their rows.
 fn by_blocks(width: usize, height: usize) -> impl Iterator<Item = (usize, usize)> {
     let strips = (0..height).step_by(16).map(move |top| top..height.min(top + 16));
     let groups = strips.flat_map(move |rows| (0..width).step_by(4).map(move |x| (rows.clone(), x..x + 4)));

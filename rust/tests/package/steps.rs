@@ -88,8 +88,8 @@ fn a_count_goes_on_from_the_one_before() {
 
 /// The exchanges of 2^`bits` rows of `width` items, in order. Two rows are exchanged item by item. The first of the two
 /// is the one whose low digits are the greater number. The line of a pair is the number of its first row without the
-/// high digits. Lines go two at a time, and within two lines the pairs go by the low digits of the second row and then
-/// by those of the first.
+/// high digits. Lines are taken two at a time. Within two lines, the pairs are in the order of the low digits of the
+/// second row and then of those of the first.
 fn short_order(bits: u32, width: usize) -> Vec<(usize, usize)> {
     let side = 1 << (bits / 2);
     let mut pairs: Vec<_> = (0..1 << bits)
@@ -119,9 +119,10 @@ fn short_path_in_order() {
     }
 }
 
-/// The exchanges of a square of 2^`log_side` rows that begins at `base`. The square regions above the diagonal go by
-/// their first column. Each is halved until its parts have at most 16 rows and 8 columns. The rows are halved if there
-/// are more than twice as many rows as columns, otherwise the columns. The parts go row after row.
+/// The exchanges of a square of 2^`log_side` rows that begins at `base`. The square regions above the diagonal are in
+/// the order of their first columns. Each is halved until its parts have at most 16 rows and 8 columns. The rows are
+/// halved if there are more than twice as many rows as columns, otherwise the columns. The items of a part go row after
+/// row.
 fn square_order(base: usize, log_stride: usize, log_side: u32) -> Vec<(usize, usize)> {
     let halved = |rows, cols| match (rows <= 16 && cols <= 8, rows > 2 * cols) {
         (true, _) => None,

@@ -1,11 +1,11 @@
--- A list behind a header.
+-- A list behind a header: exchanges in it, and the header stays as it was.
 use Rattle.std.proofs.Common.{◌≡◌, ℕ, ◌+◌, ◌-◌, ◌<◌, List, [], ◌∷◌, length, get_or, set, drop, slice_get, refl, arith, length-drop}
 use Rattle.std.specs.List.{swap}
 use Rattle.std.proofs.lemmas.List.{drop-set-add, get_or-drop}
 use Rattle.std.proofs.lemmas.List.Edits.{swap_is}
 use Rattle.p3_util_kernels.proofs.Exchange.{slice_get-swap_other}
 
--- a list behind a header
+-- the header is the first `skip` items of xs, and the list behind it is the rest
 module _ {A : Type 0} (skip : ℕ) where
   read_behind : (xs : List A) (i : ℕ) (d : A) → get_or (drop skip xs) i d ≡ get_or xs (skip + i) d
   read_behind xs i d = grind (arith, get_or-drop)

@@ -1,5 +1,5 @@
--- Reversed digits of even and odd numbers, of half a number and in a longer list, std's test of a power of two, and a third of a
--- power of three.
+-- Reversed digits of even and odd numbers, of half a number and of a number of more digits; std's
+-- test for a power of two; and a third of a power of three.
 use Rattle.std.proofs.Common.{◌≡◌, ℕ, zero, suc, ◌+◌, ◌*◌, ◌/◌, ◌%◌, ◌^◌, ◌<◌, inl, true, refl, sym, ap, ◌∙◌, arith}
 use Rattle.std.proofs.lemmas.Nat.{pow-add, mod-mul-add}
 use Rattle.std.specs.Int.{is_power_of_two}
@@ -20,17 +20,19 @@ rev_odd k b =
     let one : rev 1 1 ≡ 1 = rw (rev-suc 0 1, rev-zero 1) refl in
     rw (double, rev-parts k 1 b 1 (omega arith), one) (omega arith)
 
--- a pair of neighbours lies in the list of twice as many
+-- if a list of 2 ^ k items has place i, a list of twice as many items has the pair of neighbours 2i
+-- and 2i + 1
 pub pair_below : (k i : ℕ) → i < 2 ^ k → 2 * i + 1 < 2 ^ (k + 1)
 pair_below k i h =
     let double : 2 ^ (k + 1) ≡ 2 ^ k * 2 ^ 1 = pow-add 2 k 1 in
     omega arith
 
--- A number that passes std's test has a logarithm. The search knows it; a proof by hand names the lemma.
+-- A number that passes std's test has a logarithm. The search finds this by itself; a proof by hand
+-- has to name the lemma.
 pub power_of_two_test : (n : ℕ) → is_power_of_two n ≡ true → HasLog2 n
 power_of_two_test n tested = inl ((power_test n).0 tested)
 
--- Half an index has the reverse of the index, without its highest digit.
+-- The reverse of half an index is the reverse of the index without its highest digit.
 pub half : (k i : ℕ) → rev k (i / 2) ≡ rev (k + 1) i % 2 ^ k
 half k i =
     let below : rev k (i / 2) < 2 ^ k = rev-lt k (i / 2) in
@@ -45,13 +47,13 @@ half k i =
           sym (ap (λ n. n % 2 ^ k) whole ∙ mod-mul-add 1 (2 ^ k) (rev k (i / 2)) below)
     ] refl
 
--- the number of pairs of a list of twice as many
+-- a list of 2 ^ (k + 1) items has 2 ^ k pairs
 pub half_length : (n k : ℕ) → n ≡ 2 ^ (k + 1) → n / 2 ≡ 2 ^ k
 half_length n k e =
     let double : 2 ^ (k + 1) ≡ 2 ^ k * 2 ^ 1 = pow-add 2 k 1 in
     omega arith
 
--- A number of k digits has the same digits in a longer number, and reversed they are its highest.
+-- A number of k digits has the same digits among k + s digits. Reversed, they are the highest ones.
 pub rev_longer : (k s i : ℕ) → i < 2 ^ k → rev (k + s) i ≡ rev k i * 2 ^ s
 rev_longer k s i h =
     let order : k + s ≡ s + k = omega arith in

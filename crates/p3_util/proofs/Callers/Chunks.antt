@@ -1,4 +1,5 @@
--- What calls on chunks add up, what padded lanes do, and what a padded list has at a place.
+-- What calls on chunks add up to, what padded lanes add up to, and which item a padded list has at
+-- a place.
 use Rattle.std.proofs.Common.{◌≡◌, ℕ, zero, suc, ◌+◌, ◌-◌, ◌<◌, ◌≤◌, Some, List, [], ◌∷◌, ◌++◌, length, get_or, map, slice_get, sum, refl, sym, ap, ◌∙◌, arith}
 use Rattle.std.proofs.lemmas.List.Folds.{sum_by-replicate}
 use Rattle.std.proofs.lemmas.List.Sums.{sum-map, sum_by-append, sum_by-cons}
@@ -9,7 +10,8 @@ use Rattle.p3_util.specs.Pieces.{padded, padded_pieces, pieces}
 use Rattle.p3_util.proofs.PiecesLemmas.{joined-pieces}
 use Rattle.p3_util_kernels.proofs.ListParts.{slice_get-append_left, slice_get-append_right}
 
--- Where each step over a piece adds its bytes to what `total` reads, the steps over all pieces add the bytes of all.
+-- If each step over a piece adds the sum of the piece to what `total` reads, the steps over all
+-- pieces add the sum of all items.
 pub folded_sum : {H : Type 0} (step : H → List ℕ → H → Type 0) (total : H → ℕ) (rows : List (List ℕ)) (f last : H)
     → ((f g : H) (piece : List ℕ) → step f piece g → total g ≡ total f + sum piece) → FoldsTo step f rows last → total last ≡ total f + sum (flat rows)
 folded_sum step total [] f last adds same = ap total (sym same) ∙ omega arith
@@ -19,7 +21,7 @@ folded_sum step total (piece ∷ rows) f last adds (g, one, rest) =
     let all : sum (piece ++ flat rows) ≡ sum piece + sum (flat rows) = sum_by-append (λ x. x) piece (flat rows) in
     omega arith
 
--- Lanes that are filled with 0 add up to what the list does.
+-- Lanes that are filled with 0 have the same sum as the list.
 lane_sum : (n : ℕ) (xs : List ℕ) → sum (padded n 0 xs) ≡ sum xs
 lane_sum n xs = rw (sum_by-append (λ x. x) xs (replicate (n - length xs) 0), sum_by-replicate (λ x. x) (n - length xs) 0) (omega arith)
 
@@ -36,7 +38,7 @@ lanes_sum n (row ∷ rows) =
 pub padded_sum : (n : ℕ) (xs : List ℕ) → 0 < n → sum (map sum (padded_pieces n 0 xs)) ≡ sum xs
 padded_sum n xs some = sum-map sum (padded_pieces n 0 xs) ∙ rw (lanes_sum n (pieces n xs), joined-pieces n xs some) refl
 
--- a list that is padded, read
+-- which item a padded list has at a place
 module _ {A : Type 0} (fill : A) where
   fill_read : (n i : ℕ) → get_or (replicate n fill) i fill ≡ fill
   fill_read zero i = refl

@@ -1,4 +1,4 @@
--- A column of a matrix as a list, and items that lie some places apart.
+-- A column of a matrix as a list, and items at equal distances from each other.
 use Rattle.std.proofs.Common.{◌≡◌, ℕ, ◌+◌, ◌-◌, ◌*◌, ◌<◌, ◌≤◌, Some, List, length, get_or, slice_get, set, sym, ap, ◌∙◌, arith}
 use Rattle.std.proofs.Math.Nat.{mul-le-mul_right}
 use Rattle.std.proofs.lemmas.Option.{slice_get-get_or}
@@ -8,7 +8,7 @@ use Rattle.p3_util.specs.ItemsAt.{IsSameOutside, column_of, items_at}
 use Rattle.p3_util.proofs.ItemsAtLemmas.{items_at-set, items_at-swap, length-items_at, slice_get-items_at}
 use Rattle.p3_util.proofs.Callers.Places.{others_swapped, others_written}
 
--- a column of a matrix
+-- a place of a column is a place of the matrix
 pub column_inside : (width height column row : ℕ) → column < width → row < height → row * width + column < height * width
 column_inside width height column row hc hr = omega (arith, mul-add-lt row width column height hr hc)
 
@@ -22,7 +22,7 @@ module _ {A : Type 0} (width height column : ℕ) (xs : List A) (fits : length x
   pub column_place : (row : ℕ) → row < height → slice_get (column_of width height column xs) row ≡ slice_get xs (row * width + column)
   column_place = slice_get-items_at (λ row. row * width + column) height xs inside
 
-  -- what an index into the list read
+  -- an item that was read from the matrix by its index is an item of the column
   pub column_read : (row : ℕ) (item : A) → row < height → item ≡ get_or xs (row * width + column) item
       → slice_get (column_of width height column xs) row ≡ Some item
   column_read row item hr read = column_place row hr ∙ slice_get-get_or xs (row * width + column) item (inside row hr) ∙ ap Some (sym read)
@@ -34,7 +34,7 @@ module _ {A : Type 0} (width height column : ℕ) (xs : List A) (fits : length x
   pub column_written : (i : ℕ) (v : A) → i < height → column_of width height column (set xs (i * width + column) v) ≡ set (column_of width height column xs) i v
   column_written = items_at-set (λ row. row * width + column) height xs inside (λ a b ha hb e. (same_from_place a column b column width hc hc e).0)
 
-  -- what lies outside of it stays
+  -- an exchange of two items of the column changes nothing outside of the column
   pub others_of_swap : (i j : ℕ) → i < height → j < height
       → IsSameOutside width height column xs (swap xs (i * width + column) (j * width + column))
   others_of_swap = others_swapped (λ row. row * width + column) height xs
@@ -44,7 +44,7 @@ module _ {A : Type 0} (width height column : ℕ) (xs : List A) (fits : length x
 
 pub ruleset column_others = (others_of_swap, others_of_write)
 
--- n items that lie `step` places apart, from place `from` on
+-- n items, each `step` places after the one before, from place `from` on
 pub strided_inside : (from step n i len : ℕ) → i < n → from + (n - 1) * step < len → from + i * step < len
 strided_inside from step n i len h room =
     let rows : i * step ≤ (n - 1) * step = mul-le-mul_right step (omega arith) in

@@ -1,4 +1,4 @@
--- A region in two parts, and a reversal by chunks and squares, with their numbers of steps.
+-- A region put in two parts, and a reversal by chunks and squares, with their numbers of steps.
 use Rattle.std.proofs.Common.{◌≡◌, ℕ, ◌+◌, ◌*◌, ◌^◌, ◌-◌, ◌/◌, ◌<◌, ◌≤◌, List, length, refl, arith}
 use Rattle.std.proofs.lemmas.Nat.{pow_pos}
 use Rattle.p3_util_kernels.specs.declared.transpose.regions.Region.{Region}
@@ -13,7 +13,8 @@ use Rattle.p3_util_kernels.proofs.RegionLemmas.{IsCut-cols, IsCut-rows, IsRegion
 use Rattle.p3_util_kernels.proofs.SideBySideLemmas.{AreTransposed-more, square_room}
 
 module _ {A : Type 0} where
-  -- A region put in two parts: the rows before `middle` and then those from there on, or the columns.
+  -- A region is put in two parts: the rows before `middle` and then the rows from `middle` on. The
+  -- same for columns.
   pub region_of_rows : (region : Region) (middle width height : ℕ) (input old mid new : List A)
       → region.row_start ≤ middle → middle ≤ region.row_end → region.row_end ≤ height
       → IsRegionTransposed (record region { row_end = middle }) width height input old mid
@@ -30,8 +31,8 @@ module _ {A : Type 0} where
   region_of_cols region middle width height input old mid new from to inside =
       IsRegionTransposed-cut width height input region _ _ old mid new inside (IsCut-cols region middle from to)
 
--- A list of 2 ^ log_size rows of 2 ^ log_stride items, in which squares lie side by side: the last place of each is inside the
--- list, and one square more is transposed.
+-- A list of 2 ^ log_size rows of 2 ^ log_stride items, in which squares lie side by side: the list
+-- has the last place of each square, and one more square is transposed.
 module _ (log_stride log_size : ℕ) (within : log_size ≤ log_stride) where
   pub square_inside : (s n : ℕ) → n ≡ 2 ^ (log_size + log_stride) → s < 2 ^ (log_stride - log_size)
       → s * 2 ^ log_size + (2 ^ log_size - 1) * 2 ^ log_stride + (2 ^ log_size - 1) < n
@@ -50,7 +51,7 @@ module _ (log_stride log_size : ℕ) (within : log_size ≤ log_stride) where
         let base : 0 * 2 ^ log_size ≡ 0 = omega arith in
         square_more 0 old old new (pow_pos (log_stride - log_size)) (no_square old) (rw base square)
 
--- chunks, one square or two, and chunks again: the order and the number of swaps
+-- chunks, then one square or two, then chunks again: the order of the items and the number of swaps
 module _ (k : ℕ) where
   pub reversed_by_squares : {A : Type 0} (old first second new : List A) → length old ≡ 2 ^ k → IsRowReversal (2 ^ (k - k / 2)) old first
       → AreTransposed (2 ^ (k - k / 2 - k / 2)) (k - k / 2) (k / 2) first second → IsRowReversal (2 ^ (k - k / 2)) second new → IsReversal old new
@@ -61,7 +62,8 @@ module _ (k : ℕ) where
 pub swaps_around : (c0 c1 c2 c3 a b : ℕ) → c1 ≡ counted c0 a → c2 ≡ counted c1 b → c3 ≡ counted c2 a → c3 ≡ counted c0 (2 * a + b)
 swaps_around c0 c1 c2 c3 a b e f g = omega arith
 
--- the numbers of items of a region's two parts, added up, and over one counter
+-- the numbers of items of a region's two parts add up to that of the region, and so does a counter
+-- that counts both parts
 pub rows_in_two : (start middle end cols : ℕ) → start ≤ middle → middle ≤ end → (middle - start) * cols + (end - middle) * cols ≡ (end - start) * cols
 rows_in_two start middle end cols from to = mul-parts_left (middle - start) (end - middle) (end - start) cols (omega arith)
 

@@ -1,5 +1,5 @@
--- What a reordering keeps: the new list is a permutation of the old one, so what holds of each item holds again, and sums and
--- numbers of items stay.
+-- What a reordering keeps: the new list is a permutation of the old one. So a property of all old
+-- items is one of all new items, and sums and counts stay the same.
 use Rattle.std.proofs.Common.{◌≡◌, ◌≢◌, ℕ, suc, ◌+◌, ◌-◌, ◌*◌, ◌/◌, ◌%◌, ◌^◌, ◌<◌, min, inl, inr, Some, List, [], ◌∷◌, length, get_or, slice_get, take, drop, refl, sym, ap, ◌∙◌, arith, length-append, length-drop, map, sum}
 use Rattle.std.specs.List.{remove, zip}
 use Rattle.std.specs.Prelude.{IsPermutation}
@@ -23,7 +23,7 @@ use Rattle.std.proofs.Math.Nat.{mod-add-div'}
 use Rattle.std.proofs.lemmas.Nat.{mul-add-lt, same_from_place}
 
 module _ {A : Type 0} where
-  -- Item i of a list, in the list without item p.
+  -- where item i of a list is in the list without item p
   at_removed : (xs : List A) (p i : ℕ) → p < length xs → i ≢ p → slice_get (remove xs p) (i - min 1 (i - p)) ≡ slice_get xs i
   at_removed xs p i hp apart =
       let front : length (take p xs) ≡ p = length-take-le p xs (omega arith) in
@@ -44,8 +44,8 @@ module _ {A : Type 0} where
   some_item : (xs : List A) (p : ℕ) (y : A) → p < length xs → Some y ≡ slice_get xs p → y ≡ get_or xs p y
   some_item xs p y hp at = let read = slice_get-get_or xs p y hp in cc
 
-  -- A list that has at each place i what another has at the place `from i`, where no two places come from one, is a permutation
-  -- of that list.
+  -- If a list has at each place i the item that another list has at the place `from i`, and `from`
+  -- gives different places for different i, the list is a permutation of the other one.
   pub permuted_by_places : (from : ℕ → ℕ) (old new : List A) → length new ≡ length old
       → ((i : ℕ) → i < length new → from i < length old)
       → ((i j : ℕ) → i < length new → j < length new → from i ≡ from j → i ≡ j)
@@ -64,7 +64,7 @@ module _ {A : Type 0} where
       (λ i h. at (suc i) (omega arith) ∙ sym (at_removed old p (from (suc i)) hp (others i h))) in
       IsPermutation-trans old (y ∷ remove old p) (y ∷ new) (IsPermutation-remove old p y hp (some_item old p y hp (at 0 (omega arith)))) (IsPermutation-cons y (remove old p) new rest)
 
-  -- a reversal of rows, and so of items, and a transpose
+  -- a reversal of rows is a permutation, and so are a reversal of items and a transpose
   pub rows_permuted : (w rows : ℕ) (old new : List A) → IsRowReversal w old new → length old ≡ w * rows → IsZeroOrPowerOfTwo rows → IsPermutation old new
   rows_permuted w rows old new reversal len (inl none) =
       let empty : length old ≡ 0 = len ∙ (rw none (omega arith)) in
@@ -98,8 +98,8 @@ module _ {A : Type 0} where
 
 pub ruleset permuted = (reversed_permuted, permuted_reversal, rows_permuted, transposed_permuted)
 
--- The place from which an item came, and the place to which one went, in the form that `grind` finds: what holds of each item of one
--- list then holds of each item of the other.
+-- The place from which an item came, and the place to which it went, in the form that `grind`
+-- finds. With these, a property of each item of one list holds for each item of the other.
 module _ {A : Type 0} where
   from_place : (k : ℕ) (d : A) (old new : List A) → IsPermutation old new → k < length new
       → (get_or new k d ≡ get_or new k d) × ((j : ℕ) × (j < length old) × (get_or new k d ≡ get_or old j d))
@@ -123,7 +123,7 @@ module _ {A : Type 0} where
       → (get_or new k d ≡ get_or new k d) × ((j : ℕ) × (j < length old) × (get_or new k d ≡ get_or old j d))
   transposed_from w rows k d old new turned len h = from_place k d old new (transposed_permuted w rows old new turned len) h
 
--- the sum of all items
+-- the sum of all items stays the same
 pub reversed_sum : (old new : List ℕ) → IsReversal old new → IsReversible (length old) → sum new ≡ sum old
 reversed_sum old new reversal fits = sum_by-IsPermutation (λ x. x) old new (reversed_permuted old new reversal fits)
 
@@ -137,7 +137,8 @@ pub ruleset kept = (reversed_from, reversed_to, rows_from, transposed_from)
 
 pub ruleset kept_sum = (reversed_sum, rows_sum, transposed_sum)
 
--- the numbers that a function has of the pairs of two lists that are reversed alike, and their products
+-- If two lists are reversed in the same way, a function of the pairs of their items has the same
+-- sum over all pairs. The last lemma is this for the products.
 pairs_alike : (f : ℕ × ℕ → ℕ) (xs ys xs' ys' : List ℕ) → IsReversal xs xs' → IsReversal ys ys' → IsReversible (length xs) → length ys ≡ length xs
     → sum (map f (zip xs' ys')) ≡ sum (map f (zip xs ys))
 pairs_alike f xs ys xs' ys' one other fits same =

@@ -13,7 +13,7 @@ use Rattle.std.specs.Option.{UnwrapsOrElse, unwrap_or}
 use Rattle.p3_util.specs.LinearMap.{put, value_at}
 use Rattle.p3_util.proofs.MapLemmas.{lookup_put}
 
--- after `insert`: what a look-up finds
+-- what a look-up finds after `insert`
 module _ {K V : Type 0} {eq : K → K → Bool} (laws : IsEquivalence eq) where
   pub key_found : (pairs : List (K × V)) (k : K) (v : V) → value_at eq (put eq pairs k v) k ≡ Some v
   key_found pairs k v = lookup_put laws pairs k v k ∙ rw (laws.refl k) refl
@@ -21,7 +21,7 @@ module _ {K V : Type 0} {eq : K → K → Bool} (laws : IsEquivalence eq) where
   pub key_others : (pairs : List (K × V)) (k : K) (v : V) (q : K) → eq k q ≡ false → value_at eq (put eq pairs k v) q ≡ value_at eq pairs q
   key_others pairs k v q apart = lookup_put laws pairs k v q ∙ rw apart refl
 
--- the same where the keys are numbers
+-- the same for keys that are numbers
 module _ {V : Type 0} where
   pub number_found : (pairs : List (ℕ × V)) (k : ℕ) (v : V) → value_at nat_eq (put nat_eq pairs k v) k ≡ Some v
   number_found = key_found nat_eq_equiv
@@ -33,7 +33,7 @@ pub ruleset put_found = (key_found, number_found)
 
 pub ruleset put_others = (key_others, number_others)
 
--- the first value whose key passes, replaced
+-- all values, after the first value whose key passes the test was replaced
 value_replaced : {K V : Type 0} (test : K → Bool) (es : List (K × V)) (old new : V) → lookup test es ≡ Some old
     → values_of (set_value test es new) ≡ set (values_of es) (position_or_len test (keys_of es)) new
 value_replaced test [] old new found = absurd (cc)
@@ -46,19 +46,20 @@ value_replaced test (e ∷ es) old new found =
           rw next (ap (λ l. e.1 ∷ l) (value_replaced test es old new later))
     ] found
 
--- after `insert`: what all values are, and what they add up to where they are numbers
+-- all values after `insert`, and their sum if they are numbers
 module _ {K V : Type 0} (eq : K → K → Bool) (pairs : List (K × V)) (k : K) (v : V) where
   -- the value of a new key comes last
   pub new_value_last : value_at eq pairs k ≡ None → values_of (put eq pairs k v) ≡ values_of pairs ++ v ∷ []
   new_value_last absent = rw absent (map-append (λ (x : K × V). x.1) pairs ((k, v) ∷ []))
 
-  -- that of a known key takes the place of the old one
+  -- the value of a known key replaces the old one
   pub known_value_replaced : (old : V) → value_at eq pairs k ≡ Some old
       → values_of (put eq pairs k v) ≡ set (values_of pairs) (position_or_len (eq k) (keys_of pairs)) v
   known_value_replaced old found = rw found (value_replaced (eq k) pairs old v found)
 
--- The values of a map to numbers, where 0 stands for a key that is not there: `insert` adds to their sum what it adds to the
--- value, and no value is above the sum.
+-- A map whose values are numbers, where 0 stands for the value of a key that is not in the map:
+-- `insert` adds to the sum of the values what it adds to the value of the key, and no value is
+-- above the sum.
 module _ {K : Type 0} {eq : K → K → Bool} (laws : IsEquivalence eq) (pairs : List (K × ℕ)) (k : K) where
   pub key_summed : (v : ℕ) → sum (values_of (put eq pairs k v)) + unwrap_or (value_at eq pairs k) 0 ≡ sum (values_of pairs) + v
   key_summed v =
@@ -70,7 +71,7 @@ module _ {K : Type 0} {eq : K → K → Bool} (laws : IsEquivalence eq) (pairs :
   pub key_within_sum : unwrap_or (value_at eq pairs k) 0 ≤ sum (values_of pairs)
   key_within_sum = lookup-le-sum (eq k) pairs
 
-  -- the value that `get_or_insert_with` lends, where its closure gives 0
+  -- the value that `get_or_insert_with` lends if its closure returns 0
   pub key_or_zero : (given : ℕ → Type 0) (value : ℕ) → UnwrapsOrElse (value_at eq pairs k) given value → ((x : ℕ) → given x → x ≡ 0)
       → unwrap_or (value_at eq pairs k) 0 ≡ value
   key_or_zero given value lent zero_given =
@@ -79,7 +80,7 @@ module _ {K : Type 0} {eq : K → K → Bool} (laws : IsEquivalence eq) (pairs :
         | None ↦ λ made. sym (zero_given value made)
       ] lent
 
--- the same where the keys are texts, as `&str` compares them
+-- the same for keys that are texts, as `&str` compares them
 abbrev pub text_eq : Bor (List ℕ) → Bor (List ℕ) → Bool
 text_eq x y = pointwise nat_eq x.now y.now
 
@@ -94,7 +95,7 @@ module _ (pairs : List (Bor (List ℕ) × ℕ)) (k : Bor (List ℕ)) where
       → unwrap_or (value_at text_eq pairs k) 0 ≡ value
   text_or_zero = key_or_zero (on_texts_equal (λ x. x.now)) pairs k
 
--- the same where the keys are numbers
+-- the same for keys that are numbers
 module _ (pairs : List (ℕ × ℕ)) (k : ℕ) where
   pub number_summed : (v : ℕ) → sum (values_of (put nat_eq pairs k v)) + unwrap_or (value_at nat_eq pairs k) 0 ≡ sum (values_of pairs) + v
   number_summed = key_summed nat_eq_equiv pairs k

@@ -1,11 +1,11 @@
--- Two lists that move together, as the list of their pairs.
+-- Two lists whose items are exchanged alike, as one list of pairs.
 use Rattle.std.proofs.Common.{◌≡◌, ℕ, zero, suc, ◌<◌, List, [], ◌∷◌, length, get_or, set, refl, ap, arith}
 use Rattle.std.specs.List.{swap, zip}
 use Rattle.std.proofs.lemmas.List.{length-set}
 use Rattle.std.proofs.lemmas.Slice.Zip.{get_or-zip}
 use Rattle.std.proofs.lemmas.List.Edits.{swap_is}
 
--- two lists that move together
+-- two lists of the same length, and the list of their pairs
 module _ {K V : Type 0} where
   pub zip_length : (ks : List K) (vs : List V) → length vs ≡ length ks → length (zip ks vs) ≡ length ks
   zip_length [] [] same = refl

@@ -1,10 +1,11 @@
--- A list of some items is written or reordered, and all other items stay.
+-- Some items of a list are written or exchanged, and all other items stay.
 use Rattle.std.proofs.Common.{ℕ, ◌<◌, List, set}
 use Rattle.std.specs.List.{swap}
 use Rattle.p3_util.specs.ItemsAt.{AreOthersSame}
 use Rattle.p3_util_kernels.proofs.Exchange.{slice_get-set_other, slice_get-swap_other}
 
--- A list of some items is written or reordered at places that a function gives: all others stay.
+-- A function gives the places of some items. If these are written or exchanged, all other items
+-- stay.
 module _ {A : Type 0} (place : ℕ → ℕ) (n : ℕ) where
   pub others_swapped : (xs : List A) (i j : ℕ) → i < n → j < n → AreOthersSame place n xs (swap xs (place i) (place j))
   others_swapped xs i j hi hj p out = slice_get-swap_other xs (place i) (place j) p (out i hi) (out j hj)

@@ -9,7 +9,7 @@ use Rattle.p3_util_kernels.specs.Region.{IsInRegion, IsRegionTransposed}
 use Rattle.p3_util_kernels.specs.Square.{IsSquareTransposed}
 use Rattle.p3_util_kernels.proofs.SameList.{same_places}
 
--- A square transposed twice is as it was.
+-- A square that is transposed twice is as it was.
 module _ {A : Type 0} (base log_stride log_size : ℕ) (old mid new : List A) (second : IsSquareTransposed base log_stride log_size mid new)
     (first : IsSquareTransposed base log_stride log_size old mid) (apart : log_size ≤ log_stride) where
   row : ℕ → ℕ
@@ -54,7 +54,7 @@ module _ {A : Type 0} (base log_stride log_size : ℕ) (old mid new : List A) (s
   pub square_back : new ≡ old
   square_back = same_places new old (second.same_length ∙ first.same_length) (λ k h. back_at k)
 
--- Two regions are put in either order.
+-- Two regions may be put in either order.
 within : (region : Region) (x y : ℕ) → IsInRegion region x y ⊎ (IsInRegion region x y → ⊥)
 within region x y = elim (cases_lt y region.row_start) [
   | inl out ↦ inr (λ i. omega (arith, i.row_from))
@@ -71,7 +71,7 @@ within region x y = elim (cases_lt y region.row_start) [
 ]
 
 module _ {A : Type 0} (width height : ℕ) (input : List A) where
-  -- what a region puts at a place, and what it leaves
+  -- what a region puts at a place, and which places it leaves as they were
   put_at : (region : Region) (old new : List A) → IsRegionTransposed region width height input old new → region.row_end ≤ height
       → (p : ℕ) → IsInRegion region (p / height) (p % height) → slice_get new p ≡ slice_get input (p % height * width + p / height)
   put_at region old new put inside p here =

@@ -1,4 +1,5 @@
--- Place i of a reversal, from it and to it; the other way round; that a list has one; and that two of them are the list again.
+-- Where an item goes and comes from in a reversal; that a list has only one reversal; and that
+-- reversing it twice gives the list back.
 use Rattle.std.proofs.Common.{◌≡◌, ℕ, ◌+◌, ◌*◌, ◌^◌, ◌<◌, List, length, map, slice_get, sym, ap, ◌∙◌, arith}
 use Rattle.std.proofs.lemmas.List.{length-map}
 use Rattle.std.proofs.lemmas.Option.{slice_get-map}
@@ -14,12 +15,12 @@ module _ {A : Type 0} where
   pub reversed_place : (k i : ℕ) (old new : List A) → IsReversal old new → length old ≡ 2 ^ k → i < 2 ^ k → slice_get new i ≡ slice_get old (rev k i)
   reversed_place k i old new reversal e h = IsReversal-places old new reversal k i e h
 
-  -- a list that has at each place what stood at the reverse of the place
+  -- a list is reversed if it has at each place the item that was at the reverse of the place
   pub reversed_by_places : (k : ℕ) (old new : List A) → length new ≡ length old → length old ≡ 2 ^ k
       → ((i : ℕ) → i < 2 ^ k → slice_get new i ≡ slice_get old (rev k i)) → IsReversal old new
   reversed_by_places k old new same len at = IsReversal-from_power k old new len same (λ i h. at i (omega arith))
 
-  -- the places 2i and 2i + 1, which are those of one half and of the other
+  -- the items at the places 2i and 2i + 1, which come from one half and from the other
   pub reversed_even : (k i : ℕ) (old new : List A) → IsReversal old new → length old ≡ 2 ^ (k + 1) → i < 2 ^ k → slice_get new (2 * i) ≡ slice_get old (rev k i)
   reversed_even k i old new reversal e h =
       reversed_place (k + 1) (2 * i) old new reversal e (omega (arith, pair_below k i h)) ∙ ap (slice_get old) (rev_even k i)
@@ -30,7 +31,7 @@ module _ {A : Type 0} where
       let halves : rev (k + 1) (2 * i + 1) ≡ rev k i + 2 ^ k = rev_odd k i ∙ omega arith in
       reversed_place (k + 1) (2 * i + 1) old new reversal e (pair_below k i h) ∙ ap (slice_get old) halves
 
-  -- the other way round: the old list by the places of the new one
+  -- the other direction: an item of the old list, by its place in the new one
   pub row_back : (row_width k r j : ℕ) (old new : List A) → IsRowReversal row_width old new → length new ≡ row_width * 2 ^ k → r < 2 ^ k
       → j < row_width → slice_get old (r * row_width + j) ≡ slice_get new (rev k r * row_width + j)
   row_back row_width k r j old new reversal = (row_reversed_back row_width old new reversal).places k r j
@@ -38,7 +39,8 @@ module _ {A : Type 0} where
   pub item_back : (k i : ℕ) (old new : List A) → IsReversal old new → length old ≡ 2 ^ k → i < 2 ^ k → slice_get old i ≡ slice_get new (rev k i)
   item_back k i old new reversal e = reversed_place k i new old (row_reversed_back 1 old new reversal) (reversal.same_length ∙ e)
 
-  -- One reversal, and twice is the same. The condition comes last: a search has it once the lists are found.
+  -- A list has only one reversal, and reversing it twice gives it back. The condition on the length
+  -- is the last argument: the search can prove it only after it has found the lists.
   pub reversed_once : (old a b : List A) → IsReversal old a → IsReversal old b → IsReversible (length old) → a ≡ b
   reversed_once old a b one other fits = IsReversal-unique old a b (zero_or_power (length old) fits) one other
 
@@ -56,7 +58,7 @@ module _ {A : Type 0} where
 
 pub ruleset reversed_back = (row_back, item_back)
 
--- a reversal, the same done to each item, and a reversal back
+-- a reversal, then the same function applied to each item, then a reversal back
 module _ {A B : Type 0} (f : A → B) where
   reversal_of_worked : (old new : List A) → IsReversal old new → IsReversal (map f old) (map f new)
   reversal_of_worked old new reversal = record {

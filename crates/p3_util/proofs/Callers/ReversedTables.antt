@@ -1,4 +1,4 @@
--- What an index reads of a reversal.
+-- What an index reads from a reversed list.
 use Rattle.std.proofs.Common.{◌≡◌, ℕ, ◌+◌, ◌*◌, ◌^◌, ◌<◌, Some, List, length, get_or, slice_get, sym, ap, ◌∙◌, arith}
 use Rattle.std.proofs.lemmas.List.{get_or_default}
 use Rattle.std.proofs.lemmas.Option.{slice_get-get_or}
@@ -9,7 +9,8 @@ use Rattle.p3_util.proofs.Callers.Bits.{pair_below, rev_even, rev_odd, half_leng
 use Rattle.p3_util.proofs.Callers.Reverse.{reversed_place}
 
 module _ {A : Type 0} where
-  -- the same as an index reads it, and an item that is read before and one that is read after
+  -- the same for an item as an index reads it, for one that is read before the reversal and for one
+  -- that is read after it
   pub reversed_index : (k i : ℕ) (d : A) (old new : List A) → IsReversal old new → length old ≡ 2 ^ k → i < 2 ^ k → get_or new i d ≡ get_or old (rev k i) d
   reversed_index k i d old new reversal e h =
       grind (arith, reversed_place k i old new reversal e h, rev-lt k i, reversal.same_length, slice_get-get_or)
@@ -19,7 +20,7 @@ module _ {A : Type 0} where
   reversed_item k i before after old new reversal e h at-old at-new =
       at-old ∙ get_or_default old (rev k i) before after (rw e (rev-lt k i)) ∙ sym (at-new ∙ reversed_index k i after old new reversal e h)
 
-  -- an item that is read after the reversal, at a place and at the reverse of one
+  -- an item that is read after the reversal, at a place or at the reverse of a place
   pub reversed_item_at : (k i : ℕ) (item : A) (old new : List A) → IsReversal old new → length old ≡ 2 ^ k → i < 2 ^ k
       → item ≡ get_or new i item → slice_get old (rev k i) ≡ Some item
   reversed_item_at k i item old new reversal e h read =
@@ -30,7 +31,7 @@ module _ {A : Type 0} where
   reversed_item_from k i item old new reversal e h read =
       ap (slice_get old) (sym (rev-rev-below k i h)) ∙ reversed_item_at k (rev k i) item old new reversal e (rev-lt k i) read
 
-  -- the same where the item is a number, which an index reads with 0 for no place
+  -- the same for an item that `get_or` reads with a default, such as 0 for a number
   pub reversed_some : (k i : ℕ) (d : A) (old new : List A) → IsReversal old new → length old ≡ 2 ^ k → i < 2 ^ k
       → slice_get old (rev k i) ≡ Some (get_or new i d)
   reversed_some k i d old new reversal e h =
@@ -41,7 +42,7 @@ module _ {A : Type 0} where
   reversed_some_from k i d old new reversal e h =
       ap (slice_get old) (sym (rev-rev-below k i h)) ∙ reversed_some k (rev k i) d old new reversal e (rev-lt k i)
 
-  -- the same as an index reads them
+  -- the items at even and odd places, as an index reads them
   pub even_index : (k i : ℕ) (d : A) (old new : List A) → IsReversal old new → length old ≡ 2 ^ (k + 1) → i < 2 ^ k
       → get_or new (2 * i) d ≡ get_or old (rev k i) d
   even_index k i d old new reversal e h =

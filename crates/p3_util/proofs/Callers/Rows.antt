@@ -4,8 +4,8 @@ use borrow.Rule.Slice.PartMut.{mid_of, put_mid}
 use Rattle.std.proofs.lemmas.List.{length-take-le}
 use Rattle.p3_util_kernels.proofs.ListParts.{slice_get-append_left, slice_get-append_right, slice_get-drop, slice_get-take}
 
--- A list after a write to the part of k items from place a on, which holds `part` then, as in `&mut xs[a..a + k]`. Every other
--- place holds what it held.
+-- A list after a write to the k items from place a on, for example through `&mut xs[a..a + k]`.
+-- These places then hold `part`, and every other place holds what it held.
 module _ {A : Type 0} (a k : ℕ) (xs part : List A) (fits : a + k ≤ length xs) (same : length part ≡ k) where
   pub part_length : length (put_mid a k xs part) ≡ length xs
   part_length =
@@ -30,6 +30,6 @@ module _ {A : Type 0} (a k : ℕ) (xs part : List A) (fits : a + k ≤ length xs
       ∙ slice_get-append_right part (drop k (drop a xs)) (p - a) (p - a - k) (omega arith)
       ∙ slice_get-drop k (drop a xs) (p - a - k) (p - a) (omega arith) ∙ slice_get-drop a xs (p - a) p (omega arith)
 
--- the part itself, read
+-- an item of the part itself
 pub part_read : {A : Type 0} (a k j : ℕ) (xs : List A) → j < k → slice_get (mid_of a k xs) j ≡ slice_get xs (a + j)
 part_read a k j xs h = slice_get-take k (drop a xs) j h ∙ slice_get-drop a xs j (a + j) (omega arith)

@@ -1,4 +1,5 @@
--- That a list has one transpose, there and back, first rows and columns, what a region leaves, and a reversal by way of a transpose.
+-- That a list has only one transpose; transposing there and back; the first row and column; what a
+-- region leaves as it was; and a reversal by way of a transpose.
 use Rattle.std.proofs.Common.{◌≡◌, ℕ, ◌+◌, ◌*◌, ◌/◌, ◌%◌, ◌^◌, ◌<◌, ◌≤◌, List, length, slice_get, refl, sym, ap, ◌∙◌, arith}
 use Rattle.p3_util_kernels.specs.Transpose.{IsTranspose}
 use Rattle.p3_util_kernels.proofs.Matrix.{IsTranspose-twice, IsTranspose-unique}
@@ -12,7 +13,8 @@ use Rattle.p3_util_kernels.proofs.DigitsLemmas.{rev-lt, rev-parts}
 use Rattle.p3_util_kernels.proofs.ReversalLemmas.{IsReversal-from_power}
 
 module _ {A : Type 0} where
-  -- One transpose, and there and back is the same. The second one comes first, so that a search finds its lists.
+  -- A list has only one transpose, and transposing there and back gives it back. The second
+  -- transpose is the first argument, so that the search finds its lists.
   pub transposed_once : (width height : ℕ) (old a b : List A) → IsTranspose width height old a → IsTranspose width height old b
       → length old ≡ width * height → a ≡ b
   transposed_once width height old a b one other fits = IsTranspose-unique width height old a b one other
@@ -38,7 +40,7 @@ module _ {A : Type 0} where
 
 pub ruleset transposed_first = (first_in_rows, first_row)
 
--- what a region leaves, by row and column
+-- what a region leaves as it was, by row and column
 module _ {A : Type 0} (region : Region) (width height : ℕ) (input old new : List A) (put : IsRegionTransposed region width height input old new)
     (inside : region.row_end ≤ height) (x y : ℕ) (hy : y < height) where
   pub outside_stays : (IsInRegion region x y → ⊥) → slice_get new (x * height + y) ≡ slice_get old (x * height + y)
@@ -65,7 +67,7 @@ module _ {A : Type 0} (region : Region) (width height : ℕ) (input old new : Li
 
 pub ruleset region_others = (above_stays, below_stays, left_stays, right_stays)
 
--- rows reversed, transposed, and rows reversed
+-- reversing the rows, transposing, and reversing the rows of the transpose reverses the whole list
 pub reversed_by_sides : {A : Type 0} (a b width height : ℕ) (old mid out new : List A) → IsRowReversal height out new → IsTranspose width height mid out
     → IsRowReversal width old mid → width ≡ 2 ^ a → height ≡ 2 ^ b → length old ≡ width * height → IsReversal old new
 reversed_by_sides a b width height old mid out new columns turned rows wide tall len =

@@ -1,4 +1,4 @@
--- A region from its columns, a matrix from its rows, and a square from its quadrants.
+-- A region put column by column, a matrix put row by row, and a square transposed by quadrants.
 use Rattle.std.proofs.Common.{◌≡◌, ◌≢◌, ℕ, ◌+◌, ◌-◌, ◌*◌, ◌^◌, ◌<◌, ◌≤◌, ◌⊎◌, List, length, slice_get, ◌∙◌, ap, arith}
 use Rattle.std.proofs.lemmas.Nat.{pow-add, pow_pos}
 use Rattle.std.proofs.Math.Pow.{pow_mono}
@@ -11,7 +11,7 @@ use Rattle.p3_util_kernels.proofs.DiagonalLemmas.{IsSquareTransposed-from_across
 use Rattle.p3_util_kernels.proofs.Pairs.{mul-parts_left, pairs-add}
 use Rattle.p3_util_kernels.proofs.RegionLemmas.{IsCut-rows}
 
--- the items of a column, put at following cells, are the transpose of that column
+-- if the items of a column are put at consecutive cells, that column of the region is transposed
 pub region_of_column : {A : Type 0} (region : Region) (width height col : ℕ) (input items old new : List A)
     → length new ≡ length old
     → ((t : ℕ) → t < rows_of region → slice_get items t ≡ slice_get input ((region.row_start + t) * width + col))
@@ -29,26 +29,28 @@ region_of_column region width height col input items old new same read places ot
   others = λ p out. others p (grind (arith, out col (p - col * height)));
 }
 
--- the number of items of a matrix's rows up to one, and of the rows from there on
+-- the items of the rows before `row` and of the rows from `row` on are those of all rows before
+-- `end`
 pub rows_from_top : (row end cols : ℕ) → row ≤ end → row * cols + (end - row) * (cols - 0) ≡ end * cols
 rows_from_top row end cols order =
     let all : cols - 0 ≡ cols = omega arith in
     let whole : row + (end - row) ≡ end = omega arith in
     rw all (omega (arith, ap (λ n. n * cols) whole))
 
--- A region exchanged across the diagonal of a square in two parts: the rows before `middle` and then those from there on.
+-- A region is exchanged across the diagonal of a square in two parts: the rows before `middle` and
+-- then the rows from `middle` on.
 pub rows_across : {A : Type 0} (base stride : ℕ) (region : Region) (middle : ℕ) (old mid new : List A) → region.row_start ≤ middle → middle ≤ region.row_end
     → SwapsAcross base stride (record region { row_end = middle }) old mid → SwapsAcross base stride (record region { row_start = middle }) mid new
     → SwapsAcross base stride region old new
 rows_across base stride region middle old mid new from to = cut_exchanged base stride region _ _ old mid new (IsCut-rows region middle from to)
 
--- a place of a square on the diagonal of a larger one
+-- a place of a square that lies on the diagonal of a larger square
 shifted : (base stride start a b : ℕ) → start ≤ a → start ≤ b → base + start * stride + start + (a - start) * stride + (b - start) ≡ base + a * stride + b
 shifted base stride start a b ha hb =
     let rows : start * stride + (a - start) * stride ≡ a * stride = mul-parts_left start (a - start) a stride (omega arith) in
     omega arith
 
--- such a square, as a region of the larger one
+-- the transpose of such a square is an exchange of a region of the larger one across its diagonal
 across_of_square : {A : Type 0} (base log_stride log_size start : ℕ) (old new : List A) → start + 2 ^ log_size ≤ 2 ^ log_stride
     → IsSquareTransposed (base + start * 2 ^ log_stride + start) log_stride log_size old new
     → SwapsAcross base (2 ^ log_stride) (record { row_start = start; row_end = start + 2 ^ log_size; col_start = start; col_end = start + 2 ^ log_size }) old new
@@ -63,7 +65,7 @@ across_of_square base log_stride log_size start old new within square = record {
       out 0 (start + a) (start + b) ((omega arith, omega arith), record { row_from = omega arith; row_to = omega arith; col_from = omega arith; col_to = omega arith }) (e ∙ there));
 }
 
--- a square of more than one item, whose quadrants have 2 ^ (log_size - 1) rows
+-- a square of more than one item: each of its quadrants has 2 ^ (log_size - 1) rows
 module _ (log_size : ℕ) (some : log_size ≢ 0) where
   pub twice_half : 2 ^ log_size ≡ 2 ^ (log_size - 1) + 2 ^ (log_size - 1)
   twice_half =

@@ -1,4 +1,5 @@
--- An item of rows in the list of all items, and rows that are reversed as one list.
+-- An item of one of several rows in the list of all items, and rows that are reversed, seen as one
+-- list.
 use Rattle.std.proofs.Common.{◌≡◌, ℕ, zero, suc, ◌+◌, ◌*◌, ◌/◌, ◌%◌, ◌^◌, ◌<◌, List, [], length, get_or, slice_get, refl, sym, ap, ◌∙◌, arith}
 use Rattle.std.proofs.lemmas.Nat.{div-mul-add, mod-mul-add, mul-add-lt}
 use Rattle.p3_util.specs.Flat.{IsFlat}
@@ -8,7 +9,7 @@ use Rattle.p3_util_kernels.specs.Reversal.{IsReversal, IsRowReversal}
 use Rattle.p3_util_kernels.proofs.DigitsLemmas.{rev-lt}
 use Rattle.p3_util.proofs.Callers.ReversedTables.{reversed_index}
 
--- item c of row r of rows of n items, in the list of all items
+-- item c of row r in the list of all items, if each row has n items
 pub flat_place : {A : Type 0} (n : ℕ) (rows : List (List A)) (items : List A) (r c : ℕ) → IsFlat n rows items → r < length rows → c < n
     → slice_get items (r * n + c) ≡ slice_get (get_or rows r []) c
 flat_place zero rows items r c at hr hc = absurd (omega arith)
@@ -19,7 +20,7 @@ flat_place (suc m) rows items r c at hr hc =
     let column : (r * n + c) % n ≡ c = mod-mul-add r n c hc in
     at.places (r * n + c) inside ∙ rw (row, column) refl
 
--- rows of n items that are reversed, as one list
+-- rows of n items that are reversed, seen as one list
 pub elements_reversed : {A : Type 0} (n : ℕ) (rows moved : List (List A)) (xs ys : List A) → IsFlat n rows xs → IsReversal rows moved → IsFlat n moved ys
     → IsRowReversal n xs ys
 elements_reversed n rows moved xs ys flat-xs reversal flat-ys = record {

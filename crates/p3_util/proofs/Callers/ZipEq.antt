@@ -1,4 +1,5 @@
--- The pair at a place, the first and the second parts of all pairs, and a sum that is taken by remainders.
+-- The pair at a place, the first and the second parts of all pairs, and a sum that is reduced at
+-- each step.
 use Rattle.std.proofs.Common.{◌≡◌, ℕ, zero, suc, ◌+◌, ◌*◌, ◌/◌, ◌%◌, ◌<◌, Some, List, [], ◌∷◌, length, map, slice_get, sum, refl, sym, ap, ◌∙◌, arith}
 use Rattle.std.proofs.lemmas.List.Sums.{sum-map}
 use Rattle.std.proofs.Math.Nat.{add-mul-mod_self_right, mod-add-div'}
@@ -24,7 +25,7 @@ zip_seconds [] (y ∷ ys) same = absurd (omega arith)
 zip_seconds (x ∷ xs) [] same = absurd (omega arith)
 zip_seconds (x ∷ xs) (y ∷ ys) same = ap (λ l. y ∷ l) (zip_seconds xs ys (omega arith))
 
--- A fold that takes a remainder at each step is the remainder of the sum.
+-- A fold that takes the remainder at each step gives the remainder of the sum.
 module _ {A : Type 0} (f : A → ℕ) (m : ℕ) where
   one_remainder : (a b y : ℕ) → b % m ≡ a % m → (b % m + y) % m ≡ (a + y) % m
   one_remainder a b y e =
@@ -37,7 +38,7 @@ module _ {A : Type 0} (f : A → ℕ) (m : ℕ) where
   remainders [] a b e = e
   remainders (x ∷ xs) a b e = remainders xs (a + f x) (b % m + f x) (one_remainder a b (f x) e)
 
-  -- the same where the state is reduced first
+  -- the same if the state is reduced before each step
   reduced : (xs : List A) (a b : ℕ) → b % m ≡ a % m → fold (λ s x. (s % m + f x) % m) (b % m) xs ≡ fold (λ s x. s + f x) a xs % m
   reduced [] a b e = e
   reduced (x ∷ xs) a b e =

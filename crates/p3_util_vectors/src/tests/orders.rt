@@ -74,7 +74,7 @@ fn puts(rt: &impl Abort, alloc: Global, call: Put, shape: Shape) -> Vec<usize> {
     puts
 }
 
-/// Asserts that of each `len` writes, counted from the first, all are in one part of a matrix of
+/// Asserts that in each group of `len` consecutive writes, all are in one part of a matrix of
 /// `height` rows that is cut into parts of `side` columns and rows.
 fn check_parts(rt: &impl Abort, puts: &[usize], height: usize, len: usize, side: usize) {
     let mut part = (None, None);
@@ -100,9 +100,9 @@ fn blocks_of_tiles_in_order(rt: HostRuntime) {
     check_parts(&rt, &puts, 32, 256, 16);
 }
 
-/// Of the first 16384 writes each 16 are one below the other, and all are in one part of 128
-/// columns and rows. The third part is below this one; without a split it would be to the right of
-/// the second. The last part has 65 columns.
+/// The first 16384 writes are all in one part of 128 columns and rows, and in each group of 16 of
+/// them every write is right below the one before. The third part is below this one; without a
+/// split it would be to the right of the second. The last part has 65 columns.
 #[test]
 fn parts_of_a_split_in_order(rt: HostRuntime) {
     let shape = Shape {

@@ -178,8 +178,8 @@ fn joined_slices(rt: HostRuntime) {
     equal(&rt, &(front, back), &([0, 4, 2], [6, 1, 5, 3, 7]));
 }
 
-/// Lengths, widths of rows, and whether the length is rows of that width whose number is zero or a
-/// power of two.
+/// Lengths, widths of rows, and whether a list of that length consists of such rows and their
+/// number is zero or a power of two.
 const LENGTHS: [(usize, usize, bool); 10] = [
     (12, 3, true),
     (9, 3, false),

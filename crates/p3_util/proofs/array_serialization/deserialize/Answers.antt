@@ -1,3 +1,5 @@
+-- What the loop has read when it returns, by the lemmas on the items of a JSON list, and that a
+-- value has only one answer.
 use Rattle.std.proofs.Common.{map, take, ◌∙◌, arith}
 use Rattle.std.proofs.Math.ListN.{length-set}
 use Rattle.std.proofs.lemmas.List.{length-map}

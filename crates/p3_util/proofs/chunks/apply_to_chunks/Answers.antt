@@ -1,3 +1,5 @@
+-- The loop that fills the buffer, and the calls on all pieces at its end: by the lemmas on
+-- `FoldsWhole`.
 use denote.Param.Always.{mut_next}
 use Rattle.std.proofs.Common.{rules, ap, take, refl, arith}
 use Rattle.std.proofs.lemmas.List.{length-replicate}

@@ -2,7 +2,8 @@ use Rattle.std.proofs.Common.{rules}
 use Rattle.p3_util.proofs.ZipEqRuns.{asked-runs, pairs-runs, pairs-length}
 use Rattle.p3_util.proofs.zip_eq.zip_eq.Goals as goal
 
--- Before `returns-clause-length`, which wants the same test of the lengths, so that it is named first where that is missing.
+-- This stands before `returns-clause-length`, which needs the same test of the lengths, so that the
+-- checker names this clause first if the test is missing.
 pub returns-clause-lengths : goal.returns-clause-lengths
 returns-clause-lengths g c = search rules
 

@@ -1,4 +1,4 @@
--- The last state is that of `absorb_blocks`, and no search names it.
+-- Proved by hand: the last state is that of `absorb_blocks`, and the search does not find it.
 use Rattle.p3_util.proofs.Callers.{folded_sum}
 use Rattle.p3_util_callers.proofs.chunks.add_blocks.Goals as goal
 

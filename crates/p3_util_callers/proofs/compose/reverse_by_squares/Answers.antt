@@ -4,7 +4,7 @@ use Rattle.p3_util.specs.SwapCounts.{long_swaps, short_swaps, square_swaps}
 use Rattle.p3_util.proofs.Callers.{reversed_by_squares, swaps_around}
 use Rattle.p3_util_callers.proofs.compose.reverse_by_squares.Goals as goal
 
--- the swaps of the three passes
+-- the number of swaps of all three passes
 swaps : (bits c0 c1 c2 c3 : ℕ) → c1 ≡ counted c0 (short_swaps (bits / 2) * 2 ^ (bits - bits / 2))
     → c2 ≡ counted c1 (2 ^ (bits - bits / 2 - bits / 2) * square_swaps (2 ^ (bits / 2)))
     → c3 ≡ counted c2 (short_swaps (bits / 2) * 2 ^ (bits - bits / 2)) → c3 ≡ counted c0 (long_swaps bits)

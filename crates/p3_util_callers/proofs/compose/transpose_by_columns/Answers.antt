@@ -1,4 +1,5 @@
--- The number of steps needs no answer, since the function names the lemma for it.
+-- The goal for the number of steps needs no answer here, since the function itself names the lemma
+-- for it.
 use Rattle.std.proofs.Common.{arith}
 use Rattle.p3_util.proofs.Callers.{region_of_cols, cols_in_two}
 use Rattle.p3_util_callers.proofs.compose.transpose_by_columns.Goals as goal

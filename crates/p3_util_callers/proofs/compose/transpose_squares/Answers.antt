@@ -7,7 +7,7 @@ use Rattle.p3_util_callers.proofs.compose.transpose_squares.Goals as goal
 second_base : (log_stride log_size : ℕ) → log_size < log_stride → log_stride < 64 → 1 * 2 ^ log_size % 2 ^ 64 ≡ 1 * 2 ^ log_size
 second_base log_stride log_size less small = one_shl log_size 64 (omega arith) ∙ omega arith
 
--- there are two where the rows are longer than they are many
+-- there are two squares if a row has more items than there are rows
 two_squares : (log_stride log_size : ℕ) → log_size < log_stride → log_stride ≤ log_size + 1 → 2 ^ (log_stride - log_size) ≡ 2
 two_squares log_stride log_size less few = let one : log_stride - log_size ≡ 1 = omega arith in rw one (omega arith)
 

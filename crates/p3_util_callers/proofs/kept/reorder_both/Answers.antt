@@ -1,4 +1,4 @@
--- The lemma takes both reversals, and no search brings them together.
+-- Proved by hand: the lemma takes both reversals, and the search does not bring them together.
 use Rattle.p3_util.proofs.Callers.{reversed_alike}
 use Rattle.p3_util_callers.proofs.kept.reorder_both.Goals as goal
 

@@ -2,7 +2,7 @@ use Rattle.std.proofs.Common.{◌≡◌, ◌++◌, [], drop}
 use Rattle.p3_util_callers.specs.MapCalls.{pairs_after, answers_of}
 use Rattle.p3_util_callers.proofs.linear_map.run_calls.Given as goal
 
--- the calls that are left lead where all calls do
+-- the remaining calls, made on the map as it is now, lead where all calls lead
 abbrev pub invariant-loop-call : goal.invariant-loop-call
 invariant-loop-call g l = record {
   pairs : pairs_after g.K.PartialEq.eq l.map (drop l.call-index l.calls) ≡ pairs_after g.K.PartialEq.eq [] l.calls;

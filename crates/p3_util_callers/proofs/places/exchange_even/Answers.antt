@@ -1,3 +1,4 @@
+-- The places are 2 * k, and the search does not find this function.
 use Rattle.std.proofs.Common.{◌*◌, arith}
 use Rattle.p3_util.proofs.ItemsAtLemmas.{items_at-swap}
 use Rattle.p3_util_callers.proofs.places.exchange_even.Goals as goal

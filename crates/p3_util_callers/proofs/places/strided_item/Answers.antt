@@ -1,4 +1,4 @@
--- No search finds the function of the places.
+-- Proved by hand: the search does not find the function that gives the places.
 use Rattle.std.proofs.Common.{◌∙◌, Some, ap, sym}
 use Rattle.std.proofs.lemmas.Option.{slice_get-get_or}
 use Rattle.p3_util.proofs.Callers.{strided_inside, strided_place}

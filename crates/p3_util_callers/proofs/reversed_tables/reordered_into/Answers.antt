@@ -1,4 +1,4 @@
--- The lemma is given what the loop keeps, up to its end.
+-- Proved by hand: the lemma takes what the loop invariant states at the end of the loop.
 use Rattle.std.proofs.Common.{arith}
 use Rattle.p3_util.proofs.Callers.{reversed_by_places}
 use Rattle.p3_util_callers.proofs.reversed_tables.reordered_into.Goals as goal

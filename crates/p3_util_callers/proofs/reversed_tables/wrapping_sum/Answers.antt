@@ -1,4 +1,4 @@
--- No search finds the function of the items that the lemmas take.
+-- Proved by hand: the lemmas take a function of the items, and the search does not find it.
 use Rattle.std.proofs.Common.{◌%◌, ◌^◌, ◌∙◌, ap, arith}
 use Rattle.std.proofs.lemmas.List.Sums.{sum-map}
 use Rattle.p3_util.proofs.Callers.{remainders_summed}

@@ -1,4 +1,5 @@
--- The row lies in the list by a product, and the lemma that adds it to the rows above speaks of it as a part of the list.
+-- Proved by hand: the code finds the row in the list by a product, and the lemma that adds the row
+-- to those above it states it as a part of the list.
 use Rattle.std.proofs.Common.{◌+◌, ◌*◌, ◌≤◌, arith}
 use Rattle.std.proofs.Math.Nat.{mul-le-mul_right}
 use Rattle.p3_util_callers.proofs.EachRowLemmas.{rows_more}

@@ -1,3 +1,4 @@
+-- Each logarithm is at most 64, since a usize is below 2 ^ 64, so the sum of two fits.
 use Rattle.std.proofs.Common.{◌≤◌, arith}
 use Rattle.p3_util_callers.proofs.transpose.levels_of.Goals as goal
 

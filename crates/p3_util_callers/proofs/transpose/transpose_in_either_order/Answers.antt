@@ -1,3 +1,4 @@
+-- Two regions may be put in either order, by the lemma on them.
 use Rattle.p3_util.proofs.Callers.{either_order}
 use Rattle.p3_util_callers.proofs.transpose.transpose_in_either_order.Goals as goal
 

@@ -1,3 +1,4 @@
+-- A place outside of the region keeps its item.
 use Rattle.std.proofs.Common.{rules}
 use Rattle.p3_util.proofs.Callers.{region_others}
 use Rattle.p3_util_callers.proofs.transpose.transpose_inside.Goals as goal

@@ -1,4 +1,4 @@
--- No search goes through the places of two squares.
+-- Proved by hand: the search does not go through the places of two squares.
 use Rattle.p3_util.proofs.Callers.{square_back}
 use Rattle.p3_util_callers.proofs.transpose.transpose_square_twice.Goals as goal
 

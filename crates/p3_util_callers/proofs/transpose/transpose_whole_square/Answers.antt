@@ -1,3 +1,4 @@
+-- The square is the whole list, so its transpose is the list's.
 use Rattle.std.proofs.Common.{◌∙◌, zero-add}
 use Rattle.p3_util_callers.proofs.transpose.transpose_whole_square.Goals as goal
 

@@ -1,3 +1,4 @@
+-- Each turn of the loop exchanges one more item of the row across the diagonal.
 use Rattle.std.proofs.Common.{◌≡◌, ◌+◌, ◌-◌, ◌*◌, length, refl, arith}
 use Rattle.p3_util_kernels.specs.declared.transpose.regions.Region.{Region}
 use Rattle.p3_util.proofs.Callers.{item_across, square_place}

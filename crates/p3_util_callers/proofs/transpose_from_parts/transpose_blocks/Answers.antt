@@ -1,3 +1,4 @@
+-- Each turn of the loop adds the columns of one more block to the region.
 use Rattle.std.proofs.Common.{◌≡◌, ◌+◌, ◌*◌, arith}
 use Rattle.p3_util.proofs.Callers.{region_of_cols}
 use Rattle.p3_util_callers.proofs.transpose_from_parts.transpose_blocks.Goals as goal

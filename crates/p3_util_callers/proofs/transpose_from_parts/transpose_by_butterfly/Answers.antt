@@ -1,3 +1,4 @@
+-- Each turn of the loop adds one more column to the region.
 use Rattle.std.proofs.Common.{◌≡◌, ℕ, ◌+◌, ◌*◌, ◌<◌, slice_get, arith}
 use Rattle.p3_util.proofs.Callers.{region_of_cols, region_of_column}
 use Rattle.p3_util_callers.proofs.transpose_from_parts.transpose_by_butterfly.Goals as goal

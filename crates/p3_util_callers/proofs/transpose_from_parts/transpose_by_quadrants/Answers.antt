@@ -17,7 +17,7 @@ exchange_quadrants-requires-clause-ready g c =
     let side : 2 * 2 ^ (c.args.log_size - 1) ≡ 2 ^ c.args.log_size = omega (arith, twice_half c.args.log_size c.if-log_size-eq0.false) in
     rw (c.power-half.ensures, c.power-stride.ensures, side) (record { room = rw same c.requires.room; length_fits = rw same (omega arith) })
 
--- where the last quadrant begins, and that it has room
+-- where the last quadrant begins, and that the list has room for it
 pub transpose_square_on-requires-2-clause-room : goal.transpose_square_on-requires-2-clause-room
 transpose_square_on-requires-2-clause-room g c =
     let same = c.exchange_quadrants.ensures.swapped.same_length ∙ c.transpose_square_on.ensures.transposed.same_length in

@@ -1,3 +1,4 @@
+-- Each turn of the loop adds one more row to the region.
 use Rattle.std.proofs.Common.{◌≤◌, arith}
 use Rattle.p3_util.proofs.Callers.{region_of_rows, rows_from_top}
 use Rattle.p3_util_kernels.specs.declared.transpose.regions.Region.{Region}

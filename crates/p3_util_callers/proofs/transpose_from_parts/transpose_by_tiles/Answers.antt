@@ -1,3 +1,4 @@
+-- Each turn of the loop adds the rows of one more row of tiles to the region.
 use Rattle.std.proofs.Common.{◌≡◌, arith}
 use Rattle.p3_util.proofs.Callers.{region_of_rows, rows_in_two}
 use Rattle.p3_util_callers.proofs.transpose_from_parts.transpose_by_tiles.Goals as goal

@@ -1,3 +1,4 @@
+-- What the loan of an item ends as, if there is such an item and if there is none.
 use Rattle.std.proofs.Common.{sym, ap, ◌∙◌}
 use Rattle.std.specs.Option.{option_copied_mut}
 use Rattle.p3_util_callers.proofs.NoPlace.{set-none}

@@ -1,4 +1,4 @@
--- No search finds the function of the items that the lemma takes.
+-- Proved by hand: the lemma takes a function of the items, and the search does not find it.
 use Rattle.std.proofs.Common.{◌*◌, ◌^◌, ◌∙◌, arith}
 use Rattle.std.specs.List.{zip}
 use Rattle.p3_util.proofs.Callers.{remainders_summed}

@@ -1,3 +1,4 @@
+-- The entry of the table is the exponent, by the lemmas on the tables.
 use Rattle.p3_util_kernels.proofs.Tables.{exponent_found, exponent_bound}
 use Rattle.p3_util_kernels.proofs.bits.exponent_of_three.Goals as goal
 

@@ -1,3 +1,4 @@
+-- The number 0 is not a power of three.
 use Rattle.std.proofs.Common.{ℕ, subst, sym, arith}
 use Rattle.std.specs.Prelude.{◌↔◌, IsTrue, ◌==◌}
 use mathlib.Core.Bool.{not}

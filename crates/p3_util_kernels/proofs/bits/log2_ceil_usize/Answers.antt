@@ -1,3 +1,4 @@
+-- The number of digits of n - 1 is the least exponent whose power is at least n.
 use Rattle.std.proofs.Common.{arith}
 use Rattle.std.proofs.lemmas.Nat.{pow_pos}
 use Rattle.p3_util_kernels.proofs.LevelsLemmas.{clog_only}

@@ -1,3 +1,4 @@
+-- The place of the lowest digit 1 of a power of two is its exponent.
 use Rattle.std.proofs.Common.{◌^◌, ◌≤◌, ◌∙◌, ap, sym, arith}
 use Rattle.p3_util_kernels.proofs.LevelsLemmas.{clog_power}
 use Rattle.p3_util_kernels.proofs.Logs.{power_of_two}

@@ -1,3 +1,4 @@
+-- The table gives the exponent, and a power of three has only one.
 use Rattle.std.proofs.Common.{sym, ◌∙◌, arith}
 use Rattle.p3_util_kernels.proofs.Logs.{power_of_three}
 use Rattle.p3_util_kernels.proofs.PowersLemmas.{three-only, three-pos, three-strict}

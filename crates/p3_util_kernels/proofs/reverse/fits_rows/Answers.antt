@@ -1,3 +1,4 @@
+-- The number of rows decides, by the lemmas on lengths of rows.
 use Rattle.std.proofs.Common.{eqb-true}
 use Rattle.p3_util_kernels.proofs.Lengths.{FitsRows-one, FitsRows-quotient, FitsRows-whole}
 use Rattle.p3_util_kernels.proofs.reverse.fits_rows.Goals as goal

@@ -1,3 +1,4 @@
+-- Reversing twice gives the list back.
 use Rattle.std.proofs.Common.{rules}
 use Rattle.p3_util_kernels.proofs.ReversalLemmas.{row_reversed_back}
 use Rattle.p3_util_kernels.proofs.reverse.reverse_counted.Goals as goal

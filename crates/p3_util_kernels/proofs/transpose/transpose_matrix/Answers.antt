@@ -1,3 +1,4 @@
+-- 64 levels are enough for the splits of the whole matrix.
 use Rattle.std.proofs.Common.{◌≡◌, ℕ, ◌-◌, ◌*◌, arith}
 use Rattle.std.proofs.Math.Nat.{mul_comm}
 use Rattle.p3_util_kernels.specs.declared.transpose.regions.Region.{Region}

@@ -1,3 +1,4 @@
+-- The text of an array of numbers has no float, so it is written exactly.
 use Rattle.std.proofs.Common.{◌≡◌, ◌∙◌, map, take, string_bytes, ap, arith}
 use Rattle.std.proofs.lemmas.List.{take_all}
 use Rattle.serde_json.specs.Data.{array}

@@ -1,3 +1,4 @@
+-- If the numbers are refused, the input is the array of no list.
 use Rattle.std.proofs.Common.{◌≡◌, ◌∙◌, Some, map, ap, sym}
 use Rattle.serde_json.specs.Read.{read}
 use Rattle.serde_json.specs.View.{view}

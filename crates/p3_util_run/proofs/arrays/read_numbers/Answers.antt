@@ -1,3 +1,4 @@
+-- An item that is not an unsigned number is in no list of numbers.
 use Rattle.serde_json.specs.View.{view}
 use Rattle.p3_util_run.proofs.NumberLists.{refused_item}
 use Rattle.p3_util_run.proofs.arrays.read_numbers.Goals as goal

@@ -3,6 +3,7 @@ use Rattle.std.specs.Io.KnownBytes.{Consumes}
 use Rattle.p3_util_run.specs.declared.watched.InputEnd.TheVariants.{Ahead}
 use Rattle.p3_util_run.proofs.program.read_all.Given as goal
 
+-- the input so far is what was taken from the reader
 abbrev pub invariant-reads : goal.invariant-reads
 invariant-reads g l =
     Consumes (g.R.Read.remaining l.fn.reader.inner) (g.R.Read.remaining l.reader.inner) l.input.items

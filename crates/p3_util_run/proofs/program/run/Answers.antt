@@ -1,3 +1,4 @@
+-- How each ending of a run follows from what it read, answered and wrote.
 use Rattle.std.proofs.Common.{sym, subst, string_bytes, Err}
 use Rattle.std.specs.Prelude.{⊤}
 use Rattle.p3_util_run.specs.Program.{Answers, texts_of}

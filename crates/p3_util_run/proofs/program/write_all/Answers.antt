@@ -1,3 +1,4 @@
+-- Each turn of the loop writes one more piece of the text.
 use Rattle.std.proofs.Common.{arith}
 use Rattle.std.proofs.lemmas.Bool.Decides.{nat_tests}
 use Rattle.p3_util_run.proofs.Pieces.{part_more}

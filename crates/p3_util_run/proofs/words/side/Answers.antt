@@ -1,3 +1,4 @@
+-- The number that `parse` reads is the side that the word names.
 use Rattle.std.proofs.Common.{sym}
 use Rattle.p3_util_run.proofs.Sides.{side_parsed}
 use Rattle.p3_util_run.proofs.words.side.Goals as goal

@@ -1,3 +1,4 @@
+-- Each turn of the loop is one step of squaring, for an even or for an odd exponent.
 use Rattle.std.proofs.Common.{◌≡◌, ◌*◌, ◌%◌, ◌∙◌, rules}
 use Rattle.p3_util_transform.specs.declared.field.TheConstants.{PRIME}
 use Rattle.p3_util_transform.proofs.Numbers.{pow_even, pow_odd}

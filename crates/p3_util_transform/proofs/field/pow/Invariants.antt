@@ -2,6 +2,7 @@ use Rattle.std.proofs.Common.{◌≡◌, ◌*◌, ◌%◌, ◌^◌, ◌<◌}
 use Rattle.p3_util_transform.specs.declared.field.TheConstants.{PRIME}
 use Rattle.p3_util_transform.proofs.field.pow.Given as goal
 
+-- the power so far, times the square to the power of the remaining exponent, is the result
 abbrev pub invariant-loop-left : goal.invariant-loop-left
 invariant-loop-left l = record {
   reduced : l.power < PRIME;

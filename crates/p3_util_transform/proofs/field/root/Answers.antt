@@ -1,3 +1,4 @@
+-- The roots of the table are below the prime, and root k is one as `IsRoot` says.
 use Rattle.std.proofs.Common.{arith}
 use Rattle.p3_util_transform.proofs.Roots.{IsRoot-table, root-lt}
 use Rattle.p3_util_transform.proofs.field.root.Goals as goal

@@ -1,3 +1,4 @@
+-- The inverse of a root is a root.
 use Rattle.std.proofs.Common.{◌≡◌, ◌-◌, ◌%◌, ◌^◌, get_or, rules}
 use Rattle.p3_util_transform.specs.declared.field.TheConstants.{PRIME, ROOTS}
 use Rattle.p3_util_transform.proofs.Inverse.{IsRoot-inverse}

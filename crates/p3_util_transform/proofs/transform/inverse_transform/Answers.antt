@@ -1,3 +1,4 @@
+-- A transform with the inverse of the root, and then each number scaled, is the inverse transform.
 use Rattle.std.proofs.Common.{◌≡◌, length, get_or, rules}
 use Rattle.p3_util_transform.specs.declared.field.TheConstants.{ROOTS}
 use Rattle.p3_util_transform.proofs.Inverse.{IsInverseTransformed-scaled}

@@ -1,3 +1,4 @@
+-- The list that is written back holds the inverse transform.
 use Rattle.std.proofs.Common.{◌≡◌, length, sym, ap, ◌∙◌, rules}
 use Rattle.p3_util_transform.proofs.Inverse.{IsInverseTransformed-same}
 use Rattle.p3_util_kernels.proofs.PowersLemmas.{exponent-same}

@@ -1,3 +1,4 @@
+-- Each turn of the loop writes one more power.
 use Rattle.std.proofs.Common.{◌<◌, ◌∙◌, length, get_or-set_same, get_or-set_other, below_more, rules, arith}
 use Rattle.p3_util_transform.specs.declared.field.TheConstants.{PRIME}
 use Rattle.p3_util_transform.proofs.Numbers.{pow_more}

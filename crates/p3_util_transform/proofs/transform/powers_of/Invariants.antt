@@ -2,6 +2,7 @@ use Rattle.std.proofs.Common.{◌≡◌, ℕ, ◌%◌, ◌^◌, ◌<◌, get_or,
 use Rattle.p3_util_transform.specs.declared.field.TheConstants.{PRIME}
 use Rattle.p3_util_transform.proofs.transform.powers_of.Given as goal
 
+-- the places before i hold the powers of the root
 abbrev pub invariant-loop-i : goal.invariant-loop-i
 invariant-loop-i l = record {
   len : vec_len l.powers ≡ l.count;

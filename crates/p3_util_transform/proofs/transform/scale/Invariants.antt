@@ -3,6 +3,7 @@ use Rattle.p3_util_transform.specs.Stages.{AreBelowPrime}
 use Rattle.p3_util_transform.specs.declared.field.TheConstants.{PRIME}
 use Rattle.p3_util_transform.proofs.transform.scale.Given as goal
 
+-- the numbers so far are scaled, and the others are as they were
 abbrev pub invariant-loop-value : goal.invariant-loop-value
 invariant-loop-value l = record {
   below : AreBelowPrime l.values;

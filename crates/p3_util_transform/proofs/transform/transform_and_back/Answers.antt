@@ -1,3 +1,4 @@
+-- Transforming and transforming back gives the matrix.
 use Rattle.std.proofs.Common.{◌≡◌, ◌*◌, ◌^◌, length, get_or, ap, ◌∙◌}
 use Rattle.p3_util_transform.specs.Transform.{IsInverseTransformed, IsTransformed}
 use Rattle.p3_util_transform.specs.declared.field.TheConstants.{ROOTS}

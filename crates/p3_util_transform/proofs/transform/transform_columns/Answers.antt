@@ -1,3 +1,4 @@
+-- The list that is written back holds the transform.
 use Rattle.std.proofs.Common.{◌≡◌, ◌^◌, length, get_or, sym, ap, ◌∙◌, rules}
 use Rattle.p3_util_transform.specs.declared.field.TheConstants.{ROOTS}
 use Rattle.p3_util_kernels.proofs.PowersLemmas.{exponent-same}

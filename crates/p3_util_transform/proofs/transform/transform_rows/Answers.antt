@@ -1,3 +1,5 @@
+-- The reversal makes the first stage, each turn makes one more, and the last stage is the
+-- transform.
 use Rattle.std.proofs.Common.{◌≡◌, ◌-◌, ◌*◌, ◌%◌, ◌^◌, ◌<◌, ◌∙◌, length, sym, subst, rules, arith}
 use Rattle.std.proofs.Math.Nat.{mul_comm, mul-lt-mul_of_pos_right}
 use Rattle.std.proofs.lemmas.Nat.{one_shl, pow_below, pow_pos, pow-add}

@@ -2,6 +2,7 @@ use Rattle.std.proofs.Common.{ℕ, ◌-◌, ◌/◌, ◌^◌}
 use Rattle.p3_util_transform.specs.Stages.{AreBelowPrime, ArePowers, IsRoot, IsStage}
 use Rattle.p3_util_transform.proofs.transform.transform_rows.Given as goal
 
+-- the values are at stage s
 abbrev pub invariant-loop-s : goal.invariant-loop-s
 invariant-loop-s l = record {
   below : AreBelowPrime l.values;

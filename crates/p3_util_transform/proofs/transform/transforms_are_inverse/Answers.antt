@@ -1,3 +1,4 @@
+-- The inverse transform undoes the transform, in either order.
 use Rattle.std.proofs.Common.{get_or}
 use Rattle.p3_util_transform.specs.declared.field.TheConstants.{ROOTS}
 use Rattle.p3_util_transform.proofs.Law.{AreBelowPrime-each, IsInverseTransformed-same_list, IsTransformed-same_list}

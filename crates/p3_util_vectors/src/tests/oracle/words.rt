@@ -1,8 +1,8 @@
 //! Logarithms, powers, reversed digits and short names, worked out by hand and from the original
 //! crate.
 
-/// Numbers, with the least exponent of a power of two that is not less, and the greatest exponent
-/// of one that is not greater.
+/// Numbers, each with the least exponent of a power of two that is at least the number, and the
+/// greatest exponent of one that is at most the number.
 pub const LOGARITHMS: [(usize, usize, usize); 11] = [
     (0, 0, 0),
     (1, 0, 0),

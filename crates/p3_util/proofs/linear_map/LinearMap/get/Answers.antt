@@ -1,3 +1,4 @@
+-- The look-up at the place that `position` found, and the one that found no place.
 use Rattle.std.proofs.Common.{◌∙◌, ap, get_or}
 use Rattle.p3_util.proofs.MapLemmas.{lookup_nowhere, lookup_at_place}
 use Rattle.p3_util.proofs.linear_map.LinearMap.get.Goals as goal

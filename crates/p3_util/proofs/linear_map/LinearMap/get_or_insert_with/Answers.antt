@@ -1,3 +1,5 @@
+-- The loan of a value that was there and of one that was pushed: each writes the value of the key,
+-- and the keys stay distinct.
 use Rattle.std.proofs.Common.{◌∙◌, sym, refl, rules}
 use Rattle.p3_util.proofs.MapLemmas.{lookup_nowhere, lookup_at_place, put_at_place, put_new, distinct_set_at_place, distinct_new, same_loan, write_pushed, pair_pushed}
 use Rattle.p3_util.proofs.linear_map.LinearMap.get_or_insert_with.Goals as goal

@@ -18,7 +18,8 @@ returns-in-Some-clause-known_keys g c h =
     let found = rw (← c.self.view_is) at c.in-Some.ensures in
     rw (← c.self.view_is) (keys_set_at_place g.K.PartialEq.eq _ _ _ _ found c.index_mut.ensures.value _)
 
--- After the clauses `put` and `known_keys`, so that these are named first where the pairs are others.
+-- This stands after the clauses `put` and `known_keys`, so that the checker names those first if
+-- the pairs are wrong.
 pub invariant_of-self : goal.invariant_of-self
 invariant_of-self g c =
     let found = rw (← c.self.view_is) at c.in-Some.ensures in

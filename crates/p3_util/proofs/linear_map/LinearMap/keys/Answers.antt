@@ -1,3 +1,4 @@
+-- A run of the iterator gives the keys in order.
 use Rattle.std.specs.Map.Iter.{deref}
 use Rattle.p3_util.proofs.MapLemmas.{run_in_order}
 use Rattle.p3_util.proofs.linear_map.LinearMap.keys.Goals as goal

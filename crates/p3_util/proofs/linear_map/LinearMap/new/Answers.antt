@@ -1,3 +1,4 @@
+-- An empty list of pairs has distinct keys.
 use Rattle.p3_util.proofs.MapLemmas.{distinct_none}
 use Rattle.p3_util.proofs.linear_map.LinearMap.new.Goals as goal
 

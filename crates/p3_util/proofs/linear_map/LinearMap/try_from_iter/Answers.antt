@@ -1,3 +1,4 @@
+-- The run of the source that the loop made, when the map is complete and when memory was refused.
 use Rattle.std.proofs.Common.{◌≡◌, [], None, rules}
 use Rattle.std.proofs.iter.runs.Consumers.{total_runs}
 use Rattle.p3_util.specs.LinearMap.{value_at, put_all}

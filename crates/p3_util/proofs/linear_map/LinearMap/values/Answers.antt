@@ -1,3 +1,4 @@
+-- A run of the iterator gives the values in order.
 use Rattle.std.specs.Map.Iter.{deref}
 use Rattle.p3_util.proofs.MapLemmas.{run_in_order}
 use Rattle.p3_util.proofs.linear_map.LinearMap.values.Goals as goal

@@ -1,5 +1,5 @@
--- The walk of `item_at`: two loans in a row, the second of what the first lent. What the rows end as is put together from
--- what each of the two calls says.
+-- The walk through the code of `item_at`. It takes two loans, the second one from what the first
+-- one lent. What the rows are at the end follows from what each of the two calls states.
 use Rattle.std.proofs.Common.{◌≡◌, ℕ, List, [], ◌∷◌, ◌<◌, ◌*◌, ◌^◌, refl, sym, ap, ◌∙◌, w64, MutBor, slice_set, slice_index_or, length}
 use Rattle.std.proofs.raw_atomic.Walks.{proved}
 use Rattle.std.proofs.lemmas.List.{get_or_default}

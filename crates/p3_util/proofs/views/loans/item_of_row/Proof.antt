@@ -1,5 +1,6 @@
--- The walk of `item_of_row`: the borrow checker does not follow a loan from an array to one of its items. The array is
--- taken apart into the items before, the one that is lent and the items behind, and put together once the loan ends.
+-- The walk through the code of `item_of_row`. The borrow checker does not follow a loan from an
+-- array to one of its items. So the array is taken apart into the items before, the one that is
+-- lent and the items after it, and is put together again when the loan ends.
 use mathlib.Core.Path.{◌≡◌, refl, sym, ap, subst, ◌∙◌}
 use Prim.Native.Nat.{ℕ, zero, suc, ◌+◌, ◌*◌, ◌^◌, ◌<◌, ◌≤◌}
 use native.Mathlib.Nat.{mul-le-mul_right, zero-mul, suc-mul}
@@ -58,7 +59,7 @@ first_of : {A : Type 0} (xs : List A) → 0 < length xs → A
 first_of [] any = absurd (omega arith)
 first_of (x ∷ xs) any = x
 
--- the machine's word for the size of an item is that size wherever a product with it fits a word
+-- `capped size` gives the same product with k as `size` does if that product fits 64 bits
 uncapped : (k size : ℕ) → k * size < 2 ^ 64 → k * capped size ≡ k * size
 uncapped zero size fits = zero-mul (capped size) ∙ sym (zero-mul size)
 uncapped (suc k) size fits = let product = suc-mul k size in ap (λ (j : ℕ). suc k * j) (capped_is size (omega arith))
@@ -80,7 +81,7 @@ module _ (X : RattleType) (n : ℕ) {M : Type 1} {𝓤 : Ura M} (𝓛 : Logic �
     abbrev s : ℕ
     s = size (layout X)
 
-    -- where item i lies
+    -- where item i is in memory
     abbrev spot : ℕ
     spot = i * s + o
 
@@ -96,7 +97,7 @@ module _ (X : RattleType) (n : ℕ) {M : Type 1} {𝓤 : Ura M} (𝓛 : Logic �
     abbrev Others : SProp 𝓤
     Others = sep 𝓤 (sem 𝓛 (items before o)) (sem 𝓛 (items behind (spot + s)))
 
-    -- an array in memory is its items side by side, n of them
+    -- an array in memory consists of its n items side by side
     apart : (ws : List X.Denot) → ent 𝓤 (sem 𝓛 ((mem (Row X n)).own_at ws b o)) (guard 𝓤 (length ws ≡ n) (sem 𝓛 (items ws o)))
     apart ws = qed 𝓛 (‵ (part_at (Array (Item X n) n) full_share ws b o) ∷ []) ∵
         use1 𝓛 (‵ (fsep (feq ℕ (length ws) n) (side_by_side (Item X n) full_share ws b o))) (Array-apart 𝓛 (Item X n) full_share tt n ws b o) $

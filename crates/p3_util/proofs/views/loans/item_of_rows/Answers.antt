@@ -1,3 +1,4 @@
+-- The item that is lent is item i of all rows, and a write to it is one to that item.
 use Rattle.std.proofs.Common.{refl, sym}
 use Rattle.p3_util.proofs.FlatLemmas.{get-at, put-at}
 use Rattle.p3_util.proofs.views.loans.item_of_rows.Goals as goal

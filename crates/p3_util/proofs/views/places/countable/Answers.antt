@@ -1,3 +1,5 @@
+-- After as many rows as a `usize` can count the items of, there is one more row. So no `usize` can
+-- count all items, and the result is empty.
 use Rattle.std.proofs.Common.{arith, sym, ◌∙◌}
 use Rattle.p3_util.proofs.FlatLemmas.{countable-past}
 use Rattle.p3_util.proofs.views.places.countable.Goals as goal

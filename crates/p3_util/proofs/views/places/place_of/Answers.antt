@@ -1,3 +1,4 @@
+-- The row of a place is one of the rows, and begins at the place that the code computes.
 use Rattle.std.proofs.Common.{◌/◌, length}
 use Rattle.p3_util.proofs.FlatLemmas.{row_within, starts_at}
 use Rattle.p3_util.proofs.views.places.place_of.Goals as goal

@@ -1,3 +1,4 @@
+-- The exchange between two rows is one in the list of all items.
 use Rattle.std.proofs.Common.{◌<◌, [], ap, arith, get_or, length, set, ◌∙◌}
 use Rattle.std.proofs.lemmas.List.{get_or_default}
 use Rattle.p3_util.proofs.FlatLemmas.{flat-exchange}

@@ -1,3 +1,4 @@
+-- The exchange is one in the list of all items, within one row or between two.
 use Rattle.std.proofs.Common.{arith}
 use Rattle.p3_util.proofs.FlatLemmas.{swap-at, later-first}
 use Rattle.p3_util.proofs.views.rows.exchange_items.Goals as goal

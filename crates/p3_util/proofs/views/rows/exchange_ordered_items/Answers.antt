@@ -1,3 +1,4 @@
+-- The exchange within one row is one in the list of all items.
 use Rattle.std.proofs.Common.{arith}
 use Rattle.p3_util.proofs.FlatLemmas.{swap-at, one_row}
 use Rattle.p3_util.proofs.views.rows.exchange_ordered_items.Goals as goal

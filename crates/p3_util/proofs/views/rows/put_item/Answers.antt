@@ -1,3 +1,4 @@
+-- The write to a row is one to the list of all items.
 use Rattle.std.proofs.Common.{refl}
 use Rattle.p3_util.proofs.FlatLemmas.{put-at}
 use Rattle.p3_util.proofs.views.rows.put_item.Goals as goal

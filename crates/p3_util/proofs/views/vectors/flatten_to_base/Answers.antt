@@ -1,3 +1,5 @@
+-- Each turn of the loop moves one more row. After the loop the items are those of all rows, in
+-- order.
 use Rattle.std.proofs.Common.{◌≡◌, ◌*◌, ap, arith, length, rules, ◌∙◌}
 use Rattle.std.proofs.Math.Nat.{mul-mod_left}
 use Rattle.std.proofs.lemmas.List.{take_all}

@@ -3,6 +3,7 @@ use Rattle.p3_util.specs.Flat.{flat}
 use Rattle.p3_util.specs.Pieces.{pieces}
 use Rattle.p3_util.proofs.views.vectors.flatten_to_base.Given as goal
 
+-- the items of the rows so far are moved, and there is room for all items
 abbrev pub invariant-loop-row : goal.invariant-loop-row
 invariant-loop-row g l = record {
   moved : l.items.items ≡ flat (take l.row-index l.fn.vec.items);

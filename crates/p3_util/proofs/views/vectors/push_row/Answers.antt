@@ -1,3 +1,4 @@
+-- Each turn of the loop moves one more item.
 use Rattle.std.proofs.Common.{arith}
 use Rattle.p3_util.proofs.Moved.{left-more, moved-more}
 use Rattle.p3_util.proofs.views.vectors.push_row.Goals as goal

@@ -1,6 +1,7 @@
 use Rattle.std.proofs.Common.{◌≡◌, ◌+◌, ◌++◌, take, drop, vec_len, vec_capacity}
 use Rattle.p3_util.proofs.views.vectors.push_row.Given as goal
 
+-- the items so far are moved, and the capacity is as it was
 abbrev pub invariant-loop-item : goal.invariant-loop-item
 invariant-loop-item g l = record {
   moved : l.items.items ≡ l.initial.items.items ++ take l.item-index l.initial.row;

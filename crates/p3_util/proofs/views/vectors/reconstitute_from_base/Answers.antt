@@ -33,7 +33,7 @@ loop-preserved g c =
       room = search rules;
     }
 
--- as many items as the rows have, where n divides their number
+-- if n divides the number of items, the rows have as many items
 whole_rows : (total rows counter n : ℕ) → rows ≡ counter → total / n ≤ counter → counter ≤ total / n → total % n ≡ 0 → total ≡ rows * n
 whole_rows total rows counter n made over under divides =
     let count : total / n ≡ rows = omega arith in
@@ -41,7 +41,7 @@ whole_rows total rows counter n made over under divides =
     let times : total / n * n ≡ rows * n = ap (λ k. k * n) count in
     omega (arith, place, divides, times)
 
--- no item is left behind as many rows as that
+-- no item is left after that many rows
 none_left : {A : Type 0} (all items left : List A) (total counter n : ℕ) → all ≡ items ++ left → length left + counter * n ≡ total → total / n ≤ counter → total % n ≡ 0 → items ≡ all
 none_left all items [] total counter n is len over divides = sym (is ∙ append-nil items)
 none_left all items (x ∷ xs) total counter n is len over divides =

@@ -4,6 +4,7 @@ use Rattle.p3_util.specs.Flat.{flat}
 use Rattle.p3_util.specs.Pieces.{pieces}
 use Rattle.p3_util.proofs.views.vectors.reconstitute_from_base.Given as goal
 
+-- the items so far are moved into whole rows, and there is room for all rows
 abbrev pub invariant-loop : goal.invariant-loop
 invariant-loop g l = record {
   moved : l.fn.vec.items ≡ flat l.rows.items ++ into_iter_items l.items;

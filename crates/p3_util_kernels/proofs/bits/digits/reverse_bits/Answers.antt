@@ -5,7 +5,8 @@ use Rattle.p3_util_kernels.proofs.Logs.{power_of_two}
 use Rattle.p3_util_kernels.proofs.PowersLemmas.{lowest-power}
 use Rattle.p3_util_kernels.proofs.bits.digits.reverse_bits.Goals as goal
 
--- A number of k digits, reversed, is one, also where k is 0 and the whole word is reversed.
+-- The reverse of a number of k digits is a number of k digits. This also holds if k is 0, where
+-- `rev_word` reverses all 64 digits.
 reversed_below : (k n x r : ℕ) → n ≡ 2 ^ k → r ≡ rev_word k x → x < n → r < n
 reversed_below zero n x r is e h =
     let none : x ≡ 0 = omega arith in

@@ -1,3 +1,4 @@
+-- Each turn of the loop passes one more `::`. After the loop there is none.
 use Rattle.std.proofs.Common.{rules, sym, ◌∙◌, ap}
 use Rattle.p3_util_kernels.specs.Names.{last_part}
 use Rattle.p3_util_kernels.proofs.NamesLemmas.{last_part-after, last_part-whole}

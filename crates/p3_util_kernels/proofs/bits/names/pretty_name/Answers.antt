@@ -3,7 +3,7 @@ use Rattle.p3_util_kernels.specs.Names.{short_name, last_part}
 use Rattle.p3_util_kernels.proofs.NamesLemmas.{length-last_part, short_name-unmarked, short_name-marked, cut_after_mark}
 use Rattle.p3_util_kernels.proofs.bits.names.pretty_name.Goals as goal
 
--- what was joined so far, with one part more
+-- the text joined so far, with one more part
 joined : (old part after rest whole new : List ℕ) → new ≡ old ++ part → rest ≡ part ++ after → old ++ rest ≡ whole → new ++ after ≡ whole
 joined old part after rest whole new one two three =
     ap (λ s. s ++ after) one ∙ append_assoc old part after ∙ ap (λ s. old ++ s) (sym two) ∙ three

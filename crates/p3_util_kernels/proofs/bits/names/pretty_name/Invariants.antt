@@ -4,6 +4,7 @@ use denote.Shadow.{shadow}
 use Rattle.p3_util_kernels.specs.Names.{short_name}
 use Rattle.p3_util_kernels.proofs.bits.names.pretty_name.Given as goal
 
+-- what was joined so far, with the short name of the rest, is the short name of all
 abbrev pub invariant-loop-end : goal.invariant-loop-end
 invariant-loop-end l = record {
   text : shadow (Utf8 l.rest);

@@ -1,3 +1,4 @@
+-- How many parts there are and where they begin, by the lemmas on cutting a length.
 use Rattle.std.proofs.Common.{arith}
 use Rattle.p3_util_kernels.proofs.CutParts.{parts-few, parts-least, start-aligned}
 use Rattle.p3_util_kernels.proofs.parts.Cut.new.Goals as goal

@@ -1,3 +1,4 @@
+-- The pair that is computed from a number has that number.
 use Rattle.p3_util_kernels.proofs.CutParts.{pair-number}
 use Rattle.p3_util_kernels.proofs.parts.Cut.pair.Goals as goal
 

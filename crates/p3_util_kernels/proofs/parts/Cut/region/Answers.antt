@@ -1,3 +1,4 @@
+-- A part of a matrix lies in it.
 use Rattle.std.proofs.Common.{true, false}
 use Rattle.p3_util_kernels.proofs.CutParts.{part-inside}
 use Rattle.p3_util_kernels.proofs.parts.Cut.region.Goals as goal

@@ -1,3 +1,5 @@
+-- The lines of a block are pairs of lines and have as many pairs as the block; fewer than two
+-- digits have no pairs.
 use Rattle.std.proofs.Common.{◌≡◌, ◌*◌, arith}
 use Rattle.p3_util_kernels.proofs.CrossingLemmas.{IsCrossed-few}
 use Rattle.p3_util_kernels.proofs.Lines.{AreLinePairs-block, pairs_in-block, pairs_in-few}

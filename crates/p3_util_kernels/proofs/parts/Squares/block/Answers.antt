@@ -1,3 +1,4 @@
+-- The block of this number, and that the columns of its square are columns of the row.
 use Rattle.std.proofs.Common.{refl, sym, arith}
 use Rattle.p3_util_kernels.proofs.BlocksLemmas.{block-is, square-inside}
 use Rattle.p3_util_kernels.proofs.parts.Squares.block.Goals as goal

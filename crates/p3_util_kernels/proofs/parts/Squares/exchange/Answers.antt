@@ -1,3 +1,4 @@
+-- The block meets the preconditions of the kernels for blocks.
 use Rattle.std.proofs.Common.{arith}
 use Rattle.p3_util_kernels.proofs.BlocksLemmas.{block-above, block-cols, block-ready, block-rows}
 use Rattle.p3_util_kernels.proofs.parts.Squares.exchange.Goals as goal

@@ -1,3 +1,4 @@
+-- The number of a block determines the block.
 use Rattle.p3_util_kernels.proofs.BlocksLemmas.{block-alone}
 use Rattle.p3_util_kernels.proofs.parts.laws.block_of_number.Goals as goal
 

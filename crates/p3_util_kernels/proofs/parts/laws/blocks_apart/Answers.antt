@@ -1,3 +1,4 @@
+-- Two blocks have no place in common.
 use Rattle.p3_util_kernels.proofs.BlocksLemmas.{blocks-apart}
 use Rattle.p3_util_kernels.proofs.parts.laws.blocks_apart.Goals as goal
 

@@ -1,3 +1,4 @@
+-- Each place of a list of rows belongs to a block. A row that stays counts as a pair with itself.
 use Rattle.p3_util_kernels.proofs.PartsCover.{rows-covered}
 use Rattle.p3_util_kernels.proofs.parts.laws.blocks_cover_rows.Goals as goal
 

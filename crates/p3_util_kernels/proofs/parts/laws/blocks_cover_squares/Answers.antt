@@ -1,3 +1,4 @@
+-- Each place of a square belongs to a block.
 use Rattle.p3_util_kernels.proofs.PartsCover.{squares-covered}
 use Rattle.p3_util_kernels.proofs.parts.laws.blocks_cover_squares.Goals as goal
 

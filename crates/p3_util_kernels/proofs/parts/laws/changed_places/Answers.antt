@@ -1,3 +1,4 @@
+-- If as many places changed as the steps name, the steps are at exactly these places.
 use Rattle.p3_util_kernels.proofs.LeastLemmas.{puts-at_changed, swaps-at_changed}
 use Rattle.p3_util_kernels.proofs.parts.laws.changed_places.Goals as goal
 

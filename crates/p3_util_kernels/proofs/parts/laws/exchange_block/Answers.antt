@@ -1,3 +1,4 @@
+-- If all items differ, the exchanges of a block stay at its places.
 use Rattle.p3_util_kernels.proofs.BlockSteps.{block-steps}
 use Rattle.p3_util_kernels.proofs.BlocksLemmas.{block-alone}
 use Rattle.p3_util_kernels.proofs.parts.laws.exchange_block.Goals as goal

@@ -1,3 +1,4 @@
+-- If all items differ, the exchanges of a block of pairs of rows stay at its places.
 use Rattle.p3_util_kernels.proofs.BlockSteps.{pairs-steps}
 use Rattle.p3_util_kernels.proofs.BlocksLemmas.{block-alone}
 use Rattle.p3_util_kernels.proofs.parts.laws.exchange_row_pairs.Goals as goal

@@ -1,3 +1,4 @@
+-- Each pair has a number below the number of pairs, and no two have the same.
 use Rattle.p3_util_kernels.proofs.CutParts.{pair-alone, pair-below}
 use Rattle.p3_util_kernels.proofs.parts.laws.pairs_have_numbers.Goals as goal
 

@@ -1,3 +1,4 @@
+-- Each place of the matrix belongs to a part.
 use Rattle.p3_util_kernels.proofs.PartsCover.{matrix-covered}
 use Rattle.p3_util_kernels.proofs.parts.laws.parts_cover_matrix.Goals as goal
 

@@ -1,3 +1,4 @@
+-- Two different parts of a matrix have no row or no column in common.
 use Rattle.p3_util_kernels.proofs.CutParts.{parts-apart}
 use Rattle.p3_util_kernels.proofs.parts.laws.parts_of_matrix.Goals as goal
 

@@ -1,3 +1,4 @@
+-- If no item of the input is in the output, the writes of a region stay at its places.
 use Rattle.p3_util_kernels.proofs.CutParts.{part-inside, side-cut}
 use Rattle.p3_util_kernels.proofs.RegionSteps.{region-stays}
 use Rattle.p3_util_kernels.proofs.parts.laws.put_region.Goals as goal

@@ -1,3 +1,4 @@
+-- Two regions that do not overlap have no place in common.
 use Rattle.std.proofs.Common.{arith}
 use Rattle.p3_util_kernels.proofs.RegionSteps.{regions-apart}
 use Rattle.p3_util_kernels.proofs.parts.laws.regions_apart.Goals as goal

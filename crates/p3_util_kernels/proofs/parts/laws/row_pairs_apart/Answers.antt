@@ -1,3 +1,4 @@
+-- Two blocks of pairs of rows have no place in common.
 use Rattle.std.proofs.Common.{◌-◌, ◌/◌, sym, ◌∙◌}
 use Rattle.p3_util_kernels.proofs.OrderedParts.{pairs-apart}
 use Rattle.p3_util_kernels.proofs.PhasesMade.{half-first}

@@ -1,3 +1,4 @@
+-- Four writes, one after the other, are four steps of the holder.
 use Rattle.std.proofs.Common.{refl}
 use Rattle.p3_util_kernels.proofs.places.Cells.put_four.Goals as goal
 

@@ -1,3 +1,4 @@
+-- Each turn of the loop exchanges one more item of the block, at places in order.
 use Rattle.std.proofs.Common.{arith}
 use Rattle.p3_util_kernels.proofs.ExchangedBlocks.{BlocksExchanged-more, block_place}
 use Rattle.p3_util_kernels.proofs.places.Places.exchange_blocks.Goals as goal

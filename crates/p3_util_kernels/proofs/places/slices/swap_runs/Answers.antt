@@ -1,3 +1,4 @@
+-- The exchange between the two parts of the slice is one of runs in the slice.
 use Rattle.std.proofs.Common.{arith}
 use Rattle.p3_util_kernels.proofs.ExchangedRuns.{RunsExchanged-ordered, RunsExchanged-slices}
 use Rattle.p3_util_kernels.proofs.places.slices.swap_runs.Goals as goal

@@ -10,7 +10,7 @@ returns-clause-order g c =
     (rw whole (sym c.len.ensures ∙ c.log2_strict_usize-bits.ensures.power))
     c.reverse_chunks-m.ensures.order c.transpose_squares-m.ensures.transposed c.reverse_chunks.ensures.order
 
--- as many swaps as the three passes together
+-- the number of swaps is that of the three passes together
 pub returns-clause-holder : goal.returns-clause-holder
 returns-clause-holder g c =
     let trans = g.met.M.Places.same_holder_trans in

@@ -1,3 +1,5 @@
+-- Each turn of the loop exchanges the pairs for one more x. After the loop all pairs of the two
+-- lines are exchanged.
 use Rattle.std.proofs.Common.{◌≡◌, ◌+◌, ◌-◌, ◌*◌, ◌/◌, ◌%◌, ◌^◌, refl, arith}
 use Rattle.std.proofs.lemmas.Nat.{div-add-mod'}
 use Rattle.p3_util_kernels.proofs.CrossingLemmas.{IsCrossed-last, IsCrossed-more, IsCrossed-none, line-next}

@@ -2,7 +2,7 @@ use Rattle.std.proofs.Common.{◌+◌, ◌-◌, ◌*◌, ◌/◌}
 use Rattle.p3_util_kernels.specs.Crossing.{IsCrossed}
 use Rattle.p3_util_kernels.proofs.reverse.pairs.exchange_lines.Given as goal
 
--- the pairs of these lines below `x` are exchanged
+-- the pairs of these two lines whose smaller number is below `x` are exchanged
 abbrev pub invariant-loop-x : goal.invariant-loop-x
 invariant-loop-x g l = record {
   crossed : IsCrossed (l.rows.digits / 2) (l.rows.digits - l.rows.digits / 2) l.rows.width

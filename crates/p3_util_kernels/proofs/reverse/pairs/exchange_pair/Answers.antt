@@ -1,3 +1,4 @@
+-- The two rows of a pair do not overlap, and their exchange is the pair's.
 use Rattle.std.proofs.Common.{◌≡◌, ◌≢◌, ◌-◌, ◌*◌, ◌/◌, ◌^◌, arith}
 use Rattle.std.proofs.lemmas.Nat.{div-add-mod', pow_pos}
 use Rattle.p3_util_kernels.proofs.CrossingLemmas.{IsCrossed-pair, middle-lt, pair-apart, runs-apart}

@@ -2,8 +2,8 @@ use Rattle.std.proofs.Common.{◌≡◌, ◌*◌, arith}
 use Rattle.p3_util_kernels.proofs.ExchangedRuns.{RunsExchanged-one}
 use Rattle.p3_util_kernels.proofs.reverse.pairs.exchange_rows.Goals as goal
 
--- Rows of one item are exchanged by one exchange of places. The factor 1 is taken out of each place, and out of what the
--- list has to hold.
+-- Rows of one item are exchanged by one exchange of two places. The factor 1 is taken out of each
+-- place and out of the precondition on the list.
 pub returns-then-row_width-eq1-clause-exchanged : goal.returns-then-row_width-eq1-clause-exchanged
 returns-then-row_width-eq1-clause-exchanged g c =
     let one = c.if-row_width-eq1.true in

@@ -7,7 +7,7 @@ use Rattle.p3_util_kernels.proofs.Tables.{reversed_six}
 use Rattle.p3_util_kernels.specs.declared.reverse.pairs.TheConstants.{REVERSED_SIX}
 use Rattle.p3_util_kernels.proofs.reverse.pairs.reverse_digits.Goals as goal
 
--- 64 shifted to the right by a few digits
+-- 64 shifted to the right by at most 6 digits
 step : (digits : ℕ) → digits ≤ 6 → 64 / 2 ^ digits ≡ 2 ^ (6 - digits)
 step digits few =
     let all : (6 - digits) + digits ≡ 6 = omega arith in

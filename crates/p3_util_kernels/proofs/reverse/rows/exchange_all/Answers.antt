@@ -11,7 +11,8 @@ use Rattle.p3_util_kernels.proofs.Lengths.{IsDigitsOfRows-from, no_digits}
 use Rattle.p3_util_kernels.proofs.Lines.{lines_of-several, pairs_in-all}
 use Rattle.p3_util_kernels.proofs.reverse.rows.exchange_all.Goals as goal
 
--- two rows or more are the rows of a list
+-- a list whose row indices have two digits or more meets the precondition of the kernels for pairs
+-- of rows
 ready : {A : Type 0} (row_width digits : ℕ) (xs : List A) → FitsRows (length xs) row_width → digits ≡ clog (length xs / row_width)
     → length xs < 2 ^ 64 → 2 ≤ digits → HoldsRows row_width digits xs
 ready row_width digits xs fits counted small several =
@@ -19,7 +20,7 @@ ready row_width digits xs fits counted small several =
     let rows = IsDigitsOfRows-from (length xs) row_width digits some fits counted in
     record { wide = rows.wide; few = rows.few small; rows = rows.whole; length_fits = small }
 
--- no rows, one row and two have no digits to speak of
+-- the number of digits of the row indices is below 64, also for a list without rows
 few : (len row_width digits : ℕ) → FitsRows len row_width → digits ≡ clog (len / row_width) → len < 2 ^ 64 → digits < 64
 few len row_width digits fits counted small =
     elim (cases_eq len 0) [

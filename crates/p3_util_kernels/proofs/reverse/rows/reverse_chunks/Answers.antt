@@ -1,3 +1,4 @@
+-- The chunks are rows of a list, and the number of chunks has the exponent that the code computes.
 use Rattle.std.proofs.Common.{◌≡◌, ◌+◌, ◌*◌, ◌^◌, sym, arith}
 use Rattle.p3_util_kernels.specs.SwapCounts.{short_swaps}
 use Rattle.p3_util_kernels.proofs.Lengths.{chunks_counted, chunks_fit}

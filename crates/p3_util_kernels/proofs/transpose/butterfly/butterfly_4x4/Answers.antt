@@ -1,3 +1,4 @@
+-- The two stages make the transpose of the block.
 use Rattle.p3_util_kernels.proofs.StagesLemmas.{IsBlockTransposed-from_stages}
 use Rattle.p3_util_kernels.proofs.transpose.butterfly.butterfly_4x4.Goals as goal
 

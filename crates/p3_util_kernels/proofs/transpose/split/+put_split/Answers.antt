@@ -1,4 +1,4 @@
--- The recursion of the split, whose measure is the number of levels that are left.
+-- The recursion of the split. Its measure is the number of levels that remain.
 use Rattle.std.proofs.Common.{arith, rules}
 use Rattle.p3_util_kernels.specs.Region.{cols_of, rows_of}
 use Rattle.p3_util_kernels.proofs.HalvesLemmas.{lev-of_region}
@@ -8,8 +8,9 @@ use Rattle.p3_util_kernels.proofs.transpose.split.+put_split.Goals as goal
 
 -- edit 1
 
--- The splits of a region that is halved nest at least once, so a level is there to be taken off. Those of each half nest at
--- least one level less, so that the levels that are left are enough.
+-- The splits of a region that is halved nest at least one level deep, so there is a level to
+-- subtract. The splits of each half nest at least one level less deep, so the levels that remain
+-- are enough.
 pub overflow_sub-levels : goal.overflow_sub-levels
 overflow_sub-levels g t c =
     omega (arith, c.halves.ensures.first_levels, c.requires.enough)
@@ -30,8 +31,8 @@ put_split-out-requires-2 g t c =
     let inside = c.halves.ensures.cut.second_inside in
     λ κs k. (omega (arith, c.decreases, c.requires.enough), grind (arith, rules, c.requires.ready, c.requires.enough, inside))
 
--- Each place of the region lies in one of its halves, and in one alone. So the second half leaves what the first one put, and
--- both together put as many items as the region has.
+-- Each place of the region is in exactly one of its halves. So the second half leaves what the
+-- first one put, and both together put as many items as the region has.
 pub returns-clause-transposed : goal.returns-clause-transposed
 returns-clause-transposed g t c =
     IsRegionTransposed-cut c.args.matrix.width c.args.matrix.height _ c.args.region c.halves.result.0 c.halves.result.1 _ _ _ c.requires.ready.inside.rows_inside c.halves.ensures.cut
@@ -41,8 +42,8 @@ pub returns-clause-holder : goal.returns-clause-holder
 returns-clause-holder g t c =
     g.met.M.Cells.same_holder_trans _ _ _ _ _ _ c.put_split-out.ensures.holder c.put_split-out-2.ensures.holder (omega (arith, c.halves.ensures.cut.items))
 
--- One split and those of the half that nests deeper are as many as the region nests. That is at most 57 in a matrix whose
--- places fit a word.
+-- One split, and then the splits of the half that nests deeper, give the depth of the region. It is
+-- at most 57 if the places of the matrix fit a usize.
 pub returns-clause-nested : goal.returns-clause-nested
 returns-clause-nested g t c =
     omega (arith, c.halves.ensures.nested)

@@ -1,3 +1,4 @@
+-- The two halves of a region, exchanged, are the region exchanged.
 use Rattle.p3_util_kernels.proofs.DiagonalLemmas.{cut_exchanged}
 use Rattle.p3_util_kernels.proofs.transpose.square.+exchange_region.Goals as goal
 

@@ -1,3 +1,4 @@
+-- The quadrants make the square, and their pairs are those of the square.
 use Rattle.std.proofs.Common.{◌≡◌, ◌+◌, ◌-◌, ◌/◌, refl, arith}
 use Rattle.p3_util_kernels.proofs.DiagonalLemmas.{SwapsAcross-quadrants}
 use Rattle.p3_util_kernels.proofs.Pairs.{pairs-add}

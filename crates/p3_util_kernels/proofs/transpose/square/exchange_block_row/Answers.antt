@@ -1,3 +1,4 @@
+-- Each turn of the loop exchanges one more block of the row of blocks.
 use Rattle.std.proofs.Common.{◌≡◌, ◌*◌, ◌≤◌, ◌+◌, ◌-◌, length, arith}
 use Rattle.std.proofs.Math.Nat.{mul-le-mul_right}
 use Rattle.p3_util_kernels.proofs.DiagonalLemmas.{SwapsAcross-block, cut_exchanged, square_place}

@@ -1,3 +1,4 @@
+-- Each turn of the loop exchanges some more rows of the region: four of them as blocks, or one.
 use Rattle.std.proofs.Common.{◌≡◌, ◌+◌, ◌-◌, arith}
 use Rattle.p3_util_kernels.proofs.DiagonalLemmas.{cut_exchanged}
 use Rattle.p3_util_kernels.proofs.RegionLemmas.{IsCut-rows}

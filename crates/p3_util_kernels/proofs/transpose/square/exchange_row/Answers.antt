@@ -1,3 +1,4 @@
+-- Each turn of the loop exchanges one more item of the row.
 use Rattle.std.proofs.Common.{◌≡◌, ◌*◌, ◌≤◌, ◌+◌, ◌-◌, length, refl, arith}
 use Rattle.std.proofs.Math.Nat.{mul-le-mul_right}
 use Rattle.p3_util_kernels.proofs.DiagonalLemmas.{SwapsAcross-item, square_place}

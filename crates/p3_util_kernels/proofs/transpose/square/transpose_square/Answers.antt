@@ -1,3 +1,4 @@
+-- The whole square, exchanged across its diagonal, is its transpose.
 use Rattle.std.proofs.Common.{◌^◌, ◌≤◌, zero-add, arith}
 use Rattle.std.proofs.Math.Pow.{pow_mono}
 use Rattle.p3_util_kernels.proofs.DiagonalLemmas.{IsSquareTransposed-from_across}

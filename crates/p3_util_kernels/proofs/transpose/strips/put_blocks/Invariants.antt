@@ -2,6 +2,7 @@ use Rattle.std.proofs.Common.{◌+◌, ◌*◌}
 use Rattle.p3_util_kernels.specs.Region.{IsRegionTransposed}
 use Rattle.p3_util_kernels.proofs.transpose.strips.put_blocks.Given as goal
 
+-- the first k groups of rows are put
 abbrev pub invariant-loop-k : goal.invariant-loop-k
 invariant-loop-k g l = record {
   transposed : IsRegionTransposed (record l.region { row_end = l.region.row_start + l.k * l.rows }) l.matrix.width l.matrix.height

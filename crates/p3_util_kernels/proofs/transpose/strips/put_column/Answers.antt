@@ -1,3 +1,5 @@
+-- Each turn of the loop adds one more group of items to the column. After the loop the rest of the
+-- column is added.
 use Rattle.std.proofs.Common.{◌≡◌, ◌+◌, ◌-◌, ◌*◌, ◌/◌, arith}
 use Rattle.p3_util_kernels.proofs.ColumnsLemmas.{HoldsColumn-some, IsColumnPut-more}
 use Rattle.p3_util_kernels.specs.declared.transpose.strips.TheConstants.{COLUMN_ITEMS}

@@ -3,6 +3,7 @@ use Rattle.p3_util_kernels.specs.Columns.{IsColumnPut}
 use Rattle.p3_util_kernels.specs.declared.transpose.strips.TheConstants.{COLUMN_ITEMS}
 use Rattle.p3_util_kernels.proofs.transpose.strips.put_column.Given as goal
 
+-- the groups of items before this one are put
 abbrev pub invariant-loop-group : goal.invariant-loop-group
 invariant-loop-group g l = record {
   put : IsColumnPut (l.group * COLUMN_ITEMS) l.from l.matrix.width l.to (g.R.Source.items l.matrix.source)

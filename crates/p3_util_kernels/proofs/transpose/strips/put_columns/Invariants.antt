@@ -2,6 +2,7 @@ use Rattle.std.proofs.Common.{◌-◌, ◌*◌}
 use Rattle.p3_util_kernels.specs.Region.{IsRegionTransposed, rows_of}
 use Rattle.p3_util_kernels.proofs.transpose.strips.put_columns.Given as goal
 
+-- the columns before `col` are put
 abbrev pub invariant-loop-col : goal.invariant-loop-col
 invariant-loop-col g l = record {
   transposed : IsRegionTransposed (record l.region { col_end = l.col }) l.matrix.width l.matrix.height (g.R.Source.items l.matrix.source)

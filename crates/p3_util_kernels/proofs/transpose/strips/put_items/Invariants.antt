@@ -1,6 +1,7 @@
 use Rattle.p3_util_kernels.specs.Columns.{IsColumnPut}
 use Rattle.p3_util_kernels.proofs.transpose.strips.put_items.Given as goal
 
+-- the first t items of the column are put
 abbrev pub invariant-loop-t : goal.invariant-loop-t
 invariant-loop-t g l = record {
   put : IsColumnPut l.t l.from l.matrix.width l.to (g.R.Source.items l.matrix.source) (g.M.Cells.items l.fn.out) (g.M.Cells.items l.out);

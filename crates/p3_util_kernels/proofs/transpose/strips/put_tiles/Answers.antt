@@ -1,3 +1,4 @@
+-- Each turn of the loop adds the columns of one more tile to the region.
 use Rattle.std.proofs.Common.{◌≡◌, arith}
 use Rattle.p3_util_kernels.specs.Region.{items_of}
 use Rattle.p3_util_kernels.proofs.RegionLemmas.{IsCut-cols, IsRegionTransposed-cut}

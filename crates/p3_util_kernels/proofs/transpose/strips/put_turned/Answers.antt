@@ -1,3 +1,5 @@
+-- The places of the block are in the lists, and its four columns, one after the other, make the
+-- transpose.
 use Rattle.std.proofs.Common.{◌≡◌, ◌+◌, ◌*◌, refl, arith}
 use Rattle.p3_util_kernels.specs.Stages.{in_order}
 use Rattle.p3_util_kernels.proofs.TurnedLemmas.{block_inside, column_turned, no_column, one_column}

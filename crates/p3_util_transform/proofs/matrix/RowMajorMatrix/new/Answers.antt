@@ -3,13 +3,13 @@ use Rattle.std.proofs.Math.Nat.{mul-div_cancel_left}
 use Rattle.p3_util_transform.proofs.matrix.RowMajorMatrix.new.Goals as goal
 use Rattle.p3_util_transform.proofs.matrix.RowMajorMatrix.new.Goals.{then-width-eq0, else-width-eq0}
 
--- whole rows are counted by the quotient
+-- if rows have items, the quotient is the number of rows
 counted : (n w x h : ℕ) → n ≡ w * x → w ≢ 0 → h ≡ n / w → n ≡ w * h
 counted n w x h e some quotient =
     let positive : 0 < w = omega arith in
     e ∙ ap (λ q. w * q) (sym (quotient ∙ ap (λ m. m / w) e ∙ mul-div_cancel_left x positive))
 
--- and rows of no items hold none
+-- if rows have no items, there are no items at all
 none : (n w x h : ℕ) → n ≡ w * x → w ≡ 0 → n ≡ w * h
 none n w x h e empty =
     let nothing : 0 * x ≡ 0 * h = omega arith in

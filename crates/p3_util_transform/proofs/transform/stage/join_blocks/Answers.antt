@@ -1,3 +1,4 @@
+-- Each turn of the loop joins one more block.
 use Rattle.p3_util_transform.proofs.Rows.{BlocksJoined-more}
 use Rattle.p3_util_transform.proofs.transform.stage.join_blocks.Goals as goal
 

@@ -1,3 +1,4 @@
+-- Each turn of the loop joins one more pair of rows.
 use Rattle.p3_util_transform.proofs.Rows.{HalvesJoined-more}
 use Rattle.p3_util_transform.proofs.transform.stage.join_halves.Goals as goal
 

@@ -1,3 +1,4 @@
+-- Each turn of the loop joins one more column of the two rows.
 use Rattle.std.proofs.Common.{◌+◌, ◌*◌, ◌<◌, rules, arith}
 use Rattle.std.proofs.lemmas.Nat.{same_from_place}
 use Rattle.p3_util_transform.proofs.Rows.{JoinedBelow-more}

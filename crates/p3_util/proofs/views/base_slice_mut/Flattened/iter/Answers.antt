@@ -1,3 +1,4 @@
+-- A run of the iterator gives the items in order.
 use Rattle.std.specs.Map.Iter.{deref}
 use Rattle.p3_util.proofs.MapLemmas.{run_in_order}
 use Rattle.p3_util.proofs.views.base_slice_mut.Flattened.iter.Goals as goal

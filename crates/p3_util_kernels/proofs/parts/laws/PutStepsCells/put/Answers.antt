@@ -1,3 +1,4 @@
+-- One write makes one step of the holder.
 use Rattle.p3_util_kernels.specs.PartSteps.{one_put}
 use Rattle.p3_util_kernels.proofs.parts.laws.PutStepsCells.put.Goals as goal
 

@@ -1,3 +1,4 @@
+-- One exchange makes one step of the holder.
 use Rattle.p3_util_kernels.specs.PartSteps.{one_swap}
 use Rattle.p3_util_kernels.proofs.parts.laws.SwapStepsPlaces.exchange.Goals as goal
 

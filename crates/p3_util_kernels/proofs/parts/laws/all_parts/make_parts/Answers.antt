@@ -1,3 +1,4 @@
+-- Each turn of the loop makes one more part of the phase. After the loop all parts are made.
 use Rattle.std.proofs.Common.{◌≡◌, arith}
 use Rattle.p3_util_kernels.specs.AnyOrder.{turn_of}
 use Rattle.p3_util_kernels.specs.Plans.{parts_of}

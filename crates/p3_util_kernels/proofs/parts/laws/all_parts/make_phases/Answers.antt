@@ -1,3 +1,4 @@
+-- Each turn of the loop makes one more phase of the plan. After the loop all phases are made.
 use Rattle.std.proofs.Common.{◌≡◌, ◌+◌, Some, slice_get, length, refl, sym, ◌∙◌, arith}
 use Rattle.std.proofs.lemmas.Option.{slice_get_within}
 use Rattle.p3_util_kernels.specs.Plans.{phases_of, swaps_of_phase}

@@ -1,3 +1,4 @@
+-- Each turn of the loop puts one more region. After the loop all regions are put.
 use Rattle.std.proofs.Common.{◌≡◌, ◌∙◌, refl, arith}
 use Rattle.p3_util_kernels.proofs.AnyOrderLemmas.{put-none, sum_below-next, sum_below-zero}
 use Rattle.p3_util_kernels.specs.AnyOrder.{turn_of}

@@ -1,3 +1,4 @@
+-- The plan takes `swaps_in_parts` exchanges, and without lists the orders are those of the numbers.
 use Rattle.p3_util_kernels.proofs.AnyOrderLemmas.{orders-plain}
 use Rattle.p3_util_kernels.proofs.PlansLemmas.{plan-swaps}
 use Rattle.p3_util_kernels.proofs.parts.laws.all_parts.reverse_in_parts.Goals as goal

@@ -1,3 +1,5 @@
+-- If no two lists have a place in common, an interleaving has the result of the lists one after the
+-- other. That order is one of the interleavings.
 use Rattle.p3_util_kernels.proofs.InterleavedSteps.{in_turn-interleaved, puts-are, same-in_turn, swaps-are}
 use Rattle.p3_util_kernels.proofs.parts.laws.interleaved.interleaved.Goals as goal
 

@@ -1,3 +1,4 @@
+-- The exchanges of a part, from the fact that there are some.
 use Rattle.p3_util_kernels.proofs.InterleavedParts.{alone-from}
 use Rattle.p3_util_kernels.proofs.parts.laws.interleaved.part_alone.Goals as goal
 

@@ -1,3 +1,4 @@
+-- If all items differ, the interleaved exchanges of all parts make the phase.
 use Rattle.p3_util_kernels.proofs.InterleavedParts.{parts-interleaved}
 use Rattle.p3_util_kernels.proofs.parts.laws.interleaved.parts_interleaved.Goals as goal
 

@@ -1,3 +1,4 @@
+-- The writes of a region, from the fact that there are some.
 use Rattle.std.proofs.Common.{sym}
 use Rattle.p3_util_kernels.proofs.parts.laws.interleaved.region_alone.Goals as goal
 

@@ -1,3 +1,5 @@
+-- If no item of the input is in the output, the interleaved writes of all regions put the
+-- transpose.
 use Rattle.p3_util_kernels.proofs.InterleavedParts.{regions-apart, regions-interleaved}
 use Rattle.p3_util_kernels.proofs.parts.laws.interleaved.regions_interleaved.Goals as goal
 

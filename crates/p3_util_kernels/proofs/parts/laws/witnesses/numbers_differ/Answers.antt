@@ -1,3 +1,4 @@
+-- The numbers from 0 on all differ, and numbers below n differ from numbers that are at least n.
 use Rattle.std.proofs.Common.{get_or, arith, sym, ◌∙◌}
 use Rattle.std.proofs.lemmas.Option.{same_Some, slice_get-get_or}
 use Rattle.p3_util_kernels.proofs.parts.laws.witnesses.numbers_differ.Goals as goal

@@ -1,3 +1,4 @@
+-- The rising and the falling list of numbers are orders.
 use Rattle.std.proofs.Common.{◌-◌, refl, arith}
 use Rattle.p3_util_kernels.proofs.AnyOrderLemmas.{order-from}
 use Rattle.p3_util_kernels.proofs.parts.laws.witnesses.orders.Goals as goal

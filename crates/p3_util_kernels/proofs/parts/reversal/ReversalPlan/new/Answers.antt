@@ -1,3 +1,4 @@
+-- The phases of the plan are phases of the list, by the lemma on plans.
 use Rattle.std.proofs.Common.{◌≡◌, sym, ◌∙◌, arith}
 use Rattle.p3_util_kernels.specs.Levels.{clog}
 use Rattle.p3_util_kernels.specs.declared.parts.reversal.ReversalPlan.TheVariants.{ByPairs, Long}

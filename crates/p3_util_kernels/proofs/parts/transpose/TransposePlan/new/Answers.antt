@@ -4,7 +4,7 @@ use Rattle.p3_util_kernels.proofs.CutParts.{parts-within}
 use Rattle.p3_util_kernels.proofs.parts.transpose.TransposePlan.new.Goals as goal
 use Rattle.p3_util_kernels.proofs.parts.transpose.TransposePlan.new.Goals.{then-height-eq0, else-height-eq0+then-by_rows, else-height-eq0+else-by_rows}
 
--- a matrix with no item has no row or no column
+-- a matrix without items has no rows or no columns
 empty : (width height : ℕ) → (width ≡ 0 → ⊥) × (height ≡ 0 → ⊥) → width * height ≡ 0 → ⊥
 empty width height some none = omega (arith, none, mul-pos {m = width} {n = height} (omega (arith, some)) (omega (arith, some)))
 

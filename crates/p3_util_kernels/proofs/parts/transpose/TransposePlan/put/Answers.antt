@@ -1,3 +1,4 @@
+-- 64 levels are enough for the splits of a region.
 use Rattle.std.proofs.Common.{arith}
 use Rattle.p3_util_kernels.proofs.HalvesLemmas.{lev-of_region}
 use Rattle.p3_util_kernels.proofs.parts.transpose.TransposePlan.put.Goals as goal

@@ -1,3 +1,5 @@
+-- A list without items has no digits. Otherwise the number of rows is a power of two, whose
+-- exponent is the number of digits.
 use Rattle.std.proofs.Common.{inl, refl, sym}
 use Rattle.p3_util_kernels.proofs.Lengths.{IsDigitsOfRows-from, no_digits}
 use Rattle.p3_util_kernels.proofs.reverse.pairs.RowDigits.of.Goals as goal
