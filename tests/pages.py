@@ -250,8 +250,8 @@ def check_specs():
     for path, texts in files.items():
         says_private = "private" in re.match(r"(?:--.*\n)*", read(path))[0]
         if texts and says_private == any(name in used for name in texts):
-            yield f"{path}:1: its first lines say that it serves private contracts, and a public one stands on it" if says_private \
-                else f"{path}:1: no public contract stands on it, and its first lines do not say that it serves private ones"
+            yield f"{path}:1: its first lines say that it serves private contracts, and a public one uses its definitions" if says_private \
+                else f"{path}:1: no public contract uses its definitions, and its first lines do not say that it serves private ones"
 
 
 def wrong():

@@ -75,8 +75,8 @@ of_program() {
     ((n > 1)) || failed "$name" 'no growth was refused'
 }
 
-# beside CRATE TEST: the number of requests for memory that a test's comment states.
-beside() {
+# stated CRATE TEST: the number of requests for memory that a test's comment states.
+stated() {
     local path=${2%::*}
     awk -v name="${2##*::}" '
         /^\/\/\/ .*[0-9]+ requests? for memory\.$/ { count = $(NF - 3) }
@@ -87,7 +87,7 @@ beside() {
 # of_test CRATE PROGRAM TEST
 of_test() {
     local n=0 status wanted
-    wanted=$(beside "$1" "$3")
+    wanted=$(stated "$1" "$3")
     while :; do
         n=$((n + 1))
         refusing "$n" "$2" "$3" </dev/null
@@ -96,7 +96,7 @@ of_test() {
         [[ -e $work/refused ]] || break
     done
     echo "$3: $((n - 1)) growths, each refused once"
-    [[ $((n - 1)) == "$wanted" ]] || failed "$3" "it made $((n - 1)) requests, and ${wanted:-no number} is written beside it"
+    [[ $((n - 1)) == "$wanted" ]] || failed "$3" "it made $((n - 1)) requests, and its comment states ${wanted:-no number}"
 }
 
 program=crates/p3_util_run/out/p3_util_run

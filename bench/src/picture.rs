@@ -86,10 +86,10 @@ impl<'a> Panel<'a> {
     }
 
     fn draw(&self, out: &mut String, head: &str) {
-        let beside = self.rows[0].beside();
+        let original = self.rows[0].compared_with();
         let _ = writeln!(
             out,
-            "<text x=\"8\" y=\"16\" font-size=\"14\">{head}: time where {beside} takes 1</text>"
+            "<text x=\"8\" y=\"16\" font-size=\"14\">{head}: time if {original} takes 1</text>"
         );
         self.colors(out);
         self.scale(out);

@@ -63,12 +63,12 @@ impl Row {
         self.original.map(|original| self.proved / original)
     }
 
-    /// The ratio to the contender that [`Row::beside`] names.
+    /// The ratio to the contender that [`Row::compared_with`] names.
     pub fn relative(&self) -> f64 {
         self.ratio().unwrap_or_else(|| self.copies())
     }
 
-    pub fn beside(&self) -> &'static str {
+    pub fn compared_with(&self) -> &'static str {
         match (self.original, self.call()) {
             (Some(_), "rows") => "a loop over pairs of rows",
             (Some(_), _) => "the original",
@@ -122,7 +122,7 @@ pub fn wide(rows: &[Row], unit: Unit) -> String {
         }
         let _ = write!(out, "| {call} |");
         for size in &sizes {
-            let _ = write!(out, " items of {size} |");
+            let _ = write!(out, " items of {size} bytes |");
         }
         let _ = writeln!(out, "\n|---|{}", "---|".repeat(sizes.len()));
         for shape in distinct(group.iter().map(|row| row.case.work.shape())) {
@@ -165,9 +165,12 @@ fn summary(name: &str, rows: &[Row], sizes: &[usize]) -> String {
     let Some(first) = rows.first() else {
         return String::new();
     };
-    let mut out = format!("| {name}beside {} | mean | worst | where |", first.beside());
+    let mut out = format!(
+        "| {name}compared with {} | mean | worst | where |",
+        first.compared_with()
+    );
     for size in sizes {
-        let _ = write!(out, " items of {size} |");
+        let _ = write!(out, " items of {size} bytes |");
     }
     let _ = writeln!(out, "\n|---|---|---|---|{}", "---|".repeat(sizes.len()));
     for (name, has) in groups() {
