@@ -26,9 +26,9 @@ pub record AreApartBelow {S : Type 0} (places : List S → List ℕ) (n : ℕ) (
   pub apart : (i j : ℕ) (first second : List S) → i ≢ j → slice_get lists i ≡ Some first → slice_get lists j ≡ Some second
       → NoPlaceInCommon (Contains (places first)) (Contains (places second))
 
--- Let lists of steps be `AreApartBelow` the length of a list. Then every interleaving of them has
--- the same effect on that list as `in_turn`, which makes the steps of one list after those of the
--- other
+-- If no two of several lists of steps have a place in common, and all places are in the list xs,
+-- then every interleaving of the steps has the same result on xs as `in_turn`. `AreApartBelow`
+-- states this condition, and `after` gives the result of steps
 abbrev pub SameInTurn : {A S : Type 0} → (List A → List S → List A) → (List S → List ℕ) → Type 0
 SameInTurn {A} {S} after places = (xs : List A) (lists : List (List S)) (all : List S) → AreApartBelow places (length xs) lists
     → IsInterleaved lists all → after xs all ≡ after xs (in_turn lists)

@@ -18,9 +18,9 @@ pub record FollowEachOther (count len : ℕ) (start : ℕ → ℕ) : Type 0 wher
 abbrev pub parts_in : (len step : ℕ) → ℕ
 parts_in len step = div_ceil len step
 
--- Parts of `step` numbers are no longer than necessary: a positive multiple of `unit` is at least
--- `step` if parts of that length cut the numbers below `len` into at most `parts` parts. If `parts`
--- is 0, it counts as 1.
+-- Parts of `step` numbers are no longer than necessary: every positive multiple of `unit` is at
+-- least `step` if parts of that length cut the numbers below `len` into at most `parts` parts. If
+-- `parts` is 0, it counts as 1.
 abbrev pub IsLeastStep : (parts unit len step : ℕ) → Type 0
 IsLeastStep parts unit len step = (units : ℕ) → 0 < units → parts_in len (units * unit) ≤ max parts 1 → step ≤ units * unit
 

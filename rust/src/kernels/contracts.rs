@@ -93,7 +93,7 @@
 //! | `rev_word bit_len x` | what `reverse_bits_len` returns: `rev bit_len x`. If `bit_len` is 0, it is `rev 64 x` instead, which reverses all 64 bits |
 //! | `IsPowerOfThree n` | n is `3 ^ e` for some e |
 //! | `HasLog2 n` | n is a power of two. There are three ways to show this: std's `IsPowerOfTwo`; a call of std's `is_power_of_two` that returned true; or, if n is a literal, a test that the checker evaluates. The last two ways spare callers a proof |
-//! | `HasLog3 n` | n is a power of three. There are two ways to show this: `IsPowerOfThree`, or a test that compares n with the 41 powers of three that fit a usize. If n is a literal, the checker evaluates this test |
+//! | `HasLog3 n` | n is a power of three. There are two ways to show this: `IsPowerOfThree`; or a test that compares n with the 41 powers of three that fit a usize, and that the checker evaluates if n is a literal |
 //! | `clog n` | the least e with `n ≤ 2 ^ e`. This is the number of powers of two below n |
 //! | `lev r c` | how often a region of r rows and c columns can be halved at its longer side until both sides are at most 128, which is 2 ^ 7: `(clog r - 7) + (clog c - 7)`, where a negative difference counts as 0 |
 //! | `nest r c` | how deep the splits of a region of r rows and c columns nest: `lev r c`, or 0 if one side is at most 2 from the start, because such a region is not split |
