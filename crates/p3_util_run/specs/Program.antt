@@ -13,9 +13,9 @@ use Rattle.p3_util_run.specs.declared.fault.RunFault.TheVariants.{UnknownCommand
 use Rattle.p3_util_run.specs.declared.words.Command.{Command}
 use Rattle.p3_util_run.specs.declared.words.Command.TheVariants.{Revbits, Revrows, Transpose}
 
--- `Fits command len` says that the command can rearrange a list of `len` items. For `revbits` that
--- is zero or a power of two. For `revrows` it is the row width times zero or a power of two. For
--- `transpose` it is the width times the height
+-- `Fits command len` says that the command can rearrange a list of `len` items. For `revbits`,
+-- `len` is zero or a power of two. For `revrows`, it is the row width times zero or a power of two.
+-- For `transpose`, it is the width times the height
 abbrev pub Fits : Command → ℕ → Type 0
 Fits Revbits len = IsZeroOrPowerOfTwo len
 Fits (Revrows width) len = FitsRows len width

@@ -13,7 +13,7 @@ pub record Watch (T : Type 0) : Type 0 where
   pub input_end : InputEnd
   pub is_flushed : Bool
 
--- the count of failures after one more. It stops at the largest u64
+-- the count of failures after one more. A count stops at the largest u64
 abbrev pub noted : ℕ → ℕ
 noted count = min (2 ^ 64 - 1) (count + 1)
 
@@ -40,6 +40,6 @@ end_after_read (Err _) bytes Ahead = Ahead
 end_after_read r bytes Reached = Passed
 end_after_read r bytes Passed = Passed
 
--- `HasFailed old new` says that a `Watch` failed in between: its count rose, or is at its maximum
+-- a `Watch` failed in between: its count rose, or is at its maximum
 abbrev pub HasFailed : {T : Type 0} → Watch T → Watch T → Type 0
 HasFailed old new = (old.failures < new.failures) ⊎ (new.failures ≡ 2 ^ 64 - 1)
