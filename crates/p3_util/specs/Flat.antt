@@ -3,15 +3,15 @@
 use Rattle.std.specs.Prelude.{ℕ, ◌≡◌, ◌*◌, ◌/◌, ◌%◌, ◌^◌, ◌<◌, if◌then◌else◌, nat_lt, List, [], length, slice_get, slice_index_or}
 use Rattle.std.specs.List.{flat_map}
 
--- the items of the rows, row after row
+-- the items of the rows as one list, row after row
 abbrev pub flat : {A : Type 0} → List (List A) → List A
 flat rows = flat_map (λ row. row) rows
 
--- the items of the rows if a `usize` can count them, and otherwise no items
+-- `flat rows` if a `usize` can count its items, and otherwise the empty list
 abbrev pub countable_items : {A : Type 0} → List (List A) → List A
 countable_items rows = if nat_lt (length (flat rows)) (2 ^ 64) then flat rows else []
 
--- `items` are the items of the rows in order, if each row has n items: item i is item `i % n` of
+-- `items` has the items of the rows in order, for rows of n items each: item i is item `i % n` of
 -- row `i / n`
 pub record IsFlat {A : Type 0} (n : ℕ) (rows : List (List A)) (items : List A) : Type 0 where
   pub len : length items ≡ length rows * n

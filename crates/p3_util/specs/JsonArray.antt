@@ -8,8 +8,8 @@ use Rattle.p3_util.specs.declared.array_serialization.ElementError.TheVariants.{
 use Rattle.p3_util.specs.declared.array_serialization.ArrayError.{ArrayError}
 use Rattle.p3_util.specs.declared.array_serialization.ArrayError.TheVariants.{NotArray, Element, Length}
 
--- why a value is not an element of a type: because of its kind or its range, or because it is a
--- float
+-- why a JSON value is not an element of a type: because of its kind, because it is out of range, or
+-- because it is a float
 pub data Refusal : Type 0 where
   wrong_kind : Refusal
   out_of_range : Refusal
@@ -21,16 +21,16 @@ listed no_items = []
 listed (item d ds) = d ∷ listed ds
 
 module _ {T : Type 0} (wants_memory : Bool) where
-  -- an error that the reading of one value explains; out of memory occurs only for a type that may
-  -- need memory
+  -- the error has its cause in how one value was read. Out of memory occurs only for a type that
+  -- may need memory
   abbrev pub IsCause : Result T Refusal → ElementError → Type 0
   IsCause r Kind = r ≡ Err wrong_kind
   IsCause r Range = r ≡ Err out_of_range
   IsCause r Float = r ≡ Err a_float
   IsCause r Memory = IsTrue wants_memory
 
-  -- what may be returned when one value is read: the element, a `Refusal`, or out of memory if the
-  -- type may need some
+  -- what may be returned when one JSON value is read: the element, the error for its `Refusal`, or,
+  -- if the type may need memory, the error that memory ran out
   abbrev pub IsElementAnswer : Result T Refusal → Result T ElementError → Type 0
   IsElementAnswer r (Ok x) = r ≡ Ok x
   IsElementAnswer r (Err e) = IsCause r e
@@ -41,21 +41,24 @@ module _ {T : Type 0} (reading : Data → Result T Refusal) where
   AreReadAs ds xs = map reading ds ≡ map Ok xs
 
   module _ (wants_memory : Bool) (n : ℕ) where
-    -- What may be returned when a JSON list is read as n elements. The first that applies: the
-    -- first refused item among the first n, with its cause; a wrong length; the elements.
+    -- What may be returned when a JSON list is read as n elements. It is the first of these that
+    -- applies: the error that names the first item, among the first n, that was not read, with its
+    -- cause; the error for a wrong length; the elements.
     abbrev pub IsListAnswer : List Data → Result (List T) ArrayError → Type 0
     IsListAnswer ds (Err NotArray) = ⊥
     IsListAnswer ds (Err (Element i e)) = (i < n) × ((xs : List T) × AreReadAs (take i ds) xs) × ((d : Data) × (slice_get ds i ≡ Some d) × IsCause wants_memory (reading d) e)
     IsListAnswer ds (Err (Length got)) = ((xs : List T) × AreReadAs (take n ds) xs) × (got ≡ length ds) × (got ≢ n)
     IsListAnswer ds (Ok xs) = AreReadAs ds xs × (length ds ≡ n)
 
-    -- What may be returned when any value is read as n elements. The first that applies: that it is
-    -- not a list; the first refused item among the first n, with its cause; a wrong length; the
+    -- r may be returned when the JSON value d is read as an array of n elements. It is the first of
+    -- these that applies: the error that d is not a list; the error that names the first item,
+    -- among the first n, that was not read, with its cause; the error for a wrong length; the
     -- elements.
     abbrev pub IsArrayAnswer : Data → Result (List T) ArrayError → Type 0
     IsArrayAnswer d r = MatchOption (option_map listed (as_array d)) (r ≡ Err NotArray) (λ ds. IsListAnswer ds r)
 
--- the elements themselves, or out of memory at an element whose type may need memory
+-- `IsSameOrMemory wants_memory xs r` says that r has the elements xs, or, if the type may need
+-- memory, that memory ran out at some element
 abbrev pub IsSameOrMemory : {T : Type 0} → Bool → List T → Result (List T) ArrayError → Type 0
 IsSameOrMemory wants_memory xs (Ok ys) = ys ≡ xs
 IsSameOrMemory wants_memory xs (Err (Element i Memory)) = IsTrue wants_memory

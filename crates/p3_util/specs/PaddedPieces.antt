@@ -17,29 +17,31 @@ module _ {S A : Type 0} {n : ℕ} where
   abbrev pub padded_source : ArrayChunksPadded S A n → S
   padded_source s = s.iter
 
-  -- whether the iterator inside has returned `None`; after that it is not called again
+  -- whether the iterator inside has returned `None`. After that it is not called again
   abbrev pub padded_done : ArrayChunksPadded S A n → Bool
   padded_done s = s.done
 
-  -- the item that fills the last piece
+  -- the item with which the last piece is filled
   abbrev pub padded_fill : ArrayChunksPadded S A n → A
   padded_fill s = s.default
 
-  -- the iterator inside may be called, or will not be called because pieces have no items or it has
-  -- ended
+  -- the iterator inside may be called, as `can` says. Nothing is required if pieces have no items
+  -- or if the iterator inside has ended, because then it is not called
   abbrev pub padded_can : (S → Type 0) → ArrayChunksPadded S A n → Type 0
   padded_can can s = 0 < n → padded_done s ≡ false → can (padded_source s)
 
-  -- there is no further piece: the iterator inside is not called, or returns `None` and ends
+  -- There is no further piece: the iterator inside is not called, or it returns `None` and ends
   abbrev pub HasNoPiece : (S → Option A → S → Type 0) → ArrayChunksPadded S A n → ArrayChunksPadded S A n → Type 0
   HasNoPiece steps s t = MatchBool (if n == 0 then true else padded_done s) (t ≡ s) (steps (padded_source s) None (padded_source t) × (padded_done t ≡ true))
 
-  -- a call yields the next piece, filled to n items, or `None` if no item is left
+  -- A call of `next` in state s may return r and leave state t: r is the next piece, filled to n
+  -- items, or `None` if there is no further piece. `steps` says the same of the iterator inside
   abbrev pub padded_steps : (S → Option A → S → Type 0) → ArrayChunksPadded S A n → Option (List A) → ArrayChunksPadded S A n → Type 0
   padded_steps steps s r t = (padded_fill t ≡ padded_fill s) × MatchOption r (HasNoPiece steps s t)
       (λ piece. (padded_done s ≡ false) × ((xs : List A) × TakesPiece steps n (padded_source s) xs (padded_done t) (padded_source t) × (piece ≡ padded n (padded_fill s) xs)))
 
-  -- the number of pieces that are left, which the items that are left make
+  -- how many pieces are left at most, if there is a bound. It follows from how many items the
+  -- iterator inside has left at most, which `left` gives
   abbrev pub padded_left : (S → Count) → ArrayChunksPadded S A n → Count
   padded_left left s = count_unless (n == 0) (count_map (piece_count n) (count_unless (padded_done s) (left (padded_source s))))
 
@@ -52,11 +54,11 @@ pub record IsPaddedRun {S T A : Type 0} {steps : S → Option (List A) → S →
   pub count : p.len ≡ piece_count n q.len
   pub joined : flat_map (λ piece. piece) p.items ≡ q.items ++ replicate (p.len * n - q.len) fill
 
--- each run of calls comes from a run of the iterator inside, and its pieces are `padded_pieces` of
--- that run's items
+-- For every sequence of calls of `next` from state s on, there is one of the iterator inside, and
+-- the pieces that were returned are `padded_pieces` of the items that it returned
 abbrev pub PadsRuns : {S A : Type 0} {n : ℕ} → (S → Option A → S → Type 0) → A → ArrayChunksPadded S A n → Type 0
 PadsRuns {n = n} steps fill s = EachRunFrom (padded_steps steps) s (λ p. SomeRun steps (padded_source s) (IsPaddedRun n fill p))
 
--- after `None` only `None` follows
+-- after `None`, every further call returns `None`
 abbrev pub EndsForGood : {S A : Type 0} → (S → Option A → S → Type 0) → Type 0
 EndsForGood {S} {A} steps = (s t u : S) (r : Option A) → steps s None t → steps t r u → r ≡ None

@@ -7,8 +7,8 @@ use Rattle.std.specs.Fn.{Mut, CalledAt}
 use Rattle.std.specs.Int.{div_ceil}
 use Rattle.std.specs.List.{range_with_len, FoldsTo}
 
--- the number of pieces of n items in a list of `items` items: the quotient, rounded up, and none
--- for n = 0
+-- the number of pieces of n items in a list of `items` items: the quotient, rounded up, and 0 if n
+-- is 0
 abbrev pub piece_count : (n items : ℕ) → ℕ
 piece_count zero items = 0
 piece_count (suc k) items = div_ceil items (suc k)
@@ -18,8 +18,8 @@ module _ {A : Type 0} where
   abbrev pub piece : (n : ℕ) → List A → (p : ℕ) → List A
   piece n xs p = take n (drop (p * n) xs)
 
-  -- the list cut into pieces of n items, where the last piece may be shorter. The number of pieces
-  -- is the length divided by n, rounded up, and for n = 0 there is none
+  -- the list xs cut into pieces of n items. The last piece may be shorter. The number of pieces is
+  -- the length divided by n, rounded up. If n is 0, there is no piece
   unfoldable pub pieces : (n : ℕ) → List A → List (List A)
   pieces n xs = map (piece n xs) (range_with_len 0 (piece_count n (length xs)))
 
@@ -27,11 +27,11 @@ module _ {A : Type 0} where
   abbrev pub padded : (n : ℕ) → A → List A → List A
   padded n fill xs = xs ++ replicate (n - length xs) fill
 
-  -- `pieces` of the list, each filled to n items with `fill`
+  -- `pieces n xs`, each of them filled to n items with `fill`
   abbrev pub padded_pieces : (n : ℕ) → A → List A → List (List A)
   padded_pieces n fill xs = map (padded n fill) (pieces n xs)
 
--- f was called on each piece of n items of xs, in order. A list of states, one more than the
--- pieces, begins with f, and each call led from one state to the next
+-- The closure f was called on each piece of n items of xs, in order. The first call used f, and
+-- each later call used the closure as the call before had left it. `g` says what one call does
 abbrev pub CallsOnPieces : {F A : Type 0} → Mut F (Bor (List A) × Unit {0}) (Unit {0}) → (n : ℕ) → F → List A → Type 0
 CallsOnPieces {F} g n f xs = (last : F) × FoldsTo (λ p piece q. CalledAt g p piece tt q) f (pieces n xs) last

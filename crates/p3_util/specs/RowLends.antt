@@ -1,4 +1,4 @@
--- What rows become when a `&mut` to one of their items was returned. Only the private clauses of
+-- What rows become when a `&mut` to one of their items ends. Only the private clauses of
 -- `views::loans` cite these definitions, but they have to be in `specs` nevertheless.
 use Rattle.std.specs.Prelude.{ℕ, Option, List, [], ◌≡◌, slice_index_or, slice_set}
 use Rattle.std.specs.Option.{OnSome}

@@ -1,4 +1,4 @@
--- What a holder of rows becomes when a `&mut` to one of their items was returned.
+-- What a holder of rows becomes when a `&mut` to one of their items ends.
 -- Source: new.
 use Rattle.std.specs.Prelude.{ℕ, Option, List, ◌≡◌, slice_set}
 use Rattle.std.specs.Option.{OnSome}
@@ -13,7 +13,8 @@ module _ (S T : RattleType) (items : S.Denot → List T.Denot) (same_rows : S.De
   abbrev pub HasKept : S.Denot → Type 0
   HasKept last = same_rows rows.now last × (items last ≡ items rows.now)
 
-  -- the rows end up with item i as it was last written through l, and every other item is
-  -- unchanged; if l has no item, all items are unchanged
+  -- l is a `&mut` to item i of the rows, or `None`. When the loan ends, item i has the value that
+  -- was last written through l, and every other item is unchanged. If l is `None`, all items are
+  -- unchanged
   abbrev pub lends_item : Fml
   lends_item = LendsSo S T rows l HasWritten HasKept

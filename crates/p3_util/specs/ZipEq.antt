@@ -5,8 +5,8 @@ use Rattle.std.specs.Iterator.{Yields, Count, size}
 use Rattle.std.specs.Iterator.Runs.{Run, SomeRun, EachRunFrom, ProjectsRun}
 use Rattle.p3_util.specs.declared.zip_eq.ZipEq.{ZipEq}
 
--- the length that an iterator states is true, now and after any calls: each item lowers it by one,
--- and `None` comes when it is 0
+-- The length that an iterator in state s states, which `left` gives, is true now and after any
+-- calls: each item lowers it by one, and it is 0 when `None` is returned
 pub record HasTrueLength {S A : Type 0} (steps : S → Option A → S → Type 0) (left : S → Count) (s : S) : Type 0 where
   pub item : (xs : List A) (t : S) (x : A) (u : S) → Yields steps s xs t → steps t (Some x) u → size (left t) ≡ size (left u) + 1
   pub none : (xs : List A) (t u : S) → Yields steps s xs t → steps t None u → size (left t) ≡ 0
@@ -39,21 +39,23 @@ module _ {S T : Type 0} where
   zip_eq_second z = z.second
 
   module _ {A B : Type 0} (steps : S → Option A → S → Type 0) (others : T → Option B → T → Type 0) where
-    -- a call calls both iterators, and yields a pair if both yield an item and otherwise `None`
+    -- A call of `next` in state s may return r and leave state t. It calls both iterators, and
+    -- returns a pair if both return an item, and otherwise `None`
     abbrev pub zip_eq_steps : ZipEq S T → Option (A × B) → ZipEq S T → Type 0
     zip_eq_steps s r t = (o : Option A) × (p : Option B) × steps (zip_eq_first s) o (zip_eq_first t) × others (zip_eq_second s) p (zip_eq_second t)
         × MatchOption r ((o ≡ None) ⊎ (p ≡ None)) (λ x. (o ≡ Some x.0) × (p ≡ Some x.1))
 
-    -- each run of calls comes from a run of the first iterator and a run of the second, and pairs
-    -- their items in order
+    -- For every sequence of calls of `next` on z, there is one of the first iterator and one of the
+    -- second, and the pairs that were returned are their items, paired in order
     abbrev pub PairsRuns : ZipEq S T → Type 0
     PairsRuns z = EachRunFrom zip_eq_steps z (λ p. SomeRun steps (zip_eq_first z) (λ u. SomeRun others (zip_eq_second z) (λ v. IsPairsRun p u v)))
 
-    -- each run of calls comes from runs of both iterators, which have all that the two were called
-    -- for
+    -- The same as `PairsRuns`, except that the two sequences have all calls that `next` made of the
+    -- iterators
     abbrev pub AskedRuns : ZipEq S T → Type 0
     AskedRuns z = EachRunFrom zip_eq_steps z (λ p. SomeRun steps (zip_eq_first z) (λ u. SomeRun others (zip_eq_second z) (λ v. IsAskedRun p u v)))
 
--- the number of pairs that are left, which is the number of items left in the first iterator
+-- how many pairs are left at most, if there is a bound: as many as the first iterator has items
+-- left, which `left` gives
 abbrev pub zip_eq_left : {S T : Type 0} → (S → Count) → ZipEq S T → Count
 zip_eq_left left z = left (zip_eq_first z)

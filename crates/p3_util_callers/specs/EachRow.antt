@@ -2,7 +2,8 @@
 use Rattle.std.specs.Prelude.{ℕ, ◌≡◌, ◌+◌, ◌*◌, ◌^◌, ◌<◌, ◌≤◌, List, length, slice_get}
 use Rattle.p3_util.specs.Digits.{rev}
 
--- Each of the first `rows` rows of `row_width` items is reversed by index bits, and all else stays.
+-- Each of the first `rows` rows of `row_width` items is reversed by index bits, and all other items
+-- stay where they are.
 pub record AreRowsReversed {A : Type 0} (row_width rows : ℕ) (old new : List A) : Type 0 where
   pub same_length : length new ≡ length old
   pub places : (k r j : ℕ) → row_width ≡ 2 ^ k → r < rows → j < row_width

@@ -1,11 +1,12 @@
--- What a list of calls on a map in insertion order answers and leaves, call by call.
+-- What a list of calls on a map in insertion order returns and leaves, call by call.
 use Rattle.std.specs.Prelude.{Bool, List, [], ◌∷◌, Option, Some, unwrap_or, fold}
 use Rattle.p3_util.specs.LinearMap.{value_at, with_value, put}
 use Rattle.p3_util_callers.specs.declared.linear_map.Call.{Call}
 use Rattle.p3_util_callers.specs.declared.linear_map.Call.TheVariants.{Insert, Get, Write, GetOrInsert}
 
 module _ {K V : Type 0} (eq : K → K → Bool) where
-  -- what one call answers: the value that its key has when it comes, and `GetOrInsert` the one that the key has from then on
+  -- What one call returns: the value that its key had before the call. `GetOrInsert` returns the
+  -- value that the key has from then on.
   abbrev pub answer_of : List (K × V) → Call K V → Option V
   answer_of pairs (Insert k v) = value_at eq pairs k
   answer_of pairs (Get k) = value_at eq pairs k
@@ -19,11 +20,11 @@ module _ {K V : Type 0} (eq : K → K → Bool) where
   after pairs (Write k v) = with_value eq pairs k v
   after pairs (GetOrInsert k v) = put eq pairs k (unwrap_or (value_at eq pairs k) v)
 
-  -- the pairs after all calls, in turn
+  -- the pairs after all calls, in order
   abbrev pub pairs_after : List (K × V) → List (Call K V) → List (K × V)
   pairs_after pairs calls = fold after pairs calls
 
-  -- the answers of all calls, in turn
+  -- what all calls return, in order
   abbrev pub answers_of : List (K × V) → List (Call K V) → List (Option V)
   answers_of pairs [] = []
   answers_of pairs (call ∷ calls) = answer_of pairs call ∷ answers_of (after pairs call) calls

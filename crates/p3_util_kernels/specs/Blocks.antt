@@ -7,14 +7,16 @@ use Rattle.p3_util_kernels.specs.Parts.{number_of_pair, pairs_of, parts_in, star
 use Rattle.p3_util_kernels.specs.Region.{items_of, rows_of}
 use Rattle.p3_util_kernels.specs.SwapCounts.{square_swaps}
 
--- the number of blocks on the diagonals and above them, for squares of `side` rows that lie side by
--- side in rows of `stride` items
+-- Squares of `side` rows lie side by side in rows of `stride` items. The rows and the columns of
+-- each square are cut into parts of `step`, which cuts the square into blocks. This is the number
+-- of blocks on and above the diagonals of all squares
 abbrev pub blocks_of : (side stride step : ℕ) → ℕ
 blocks_of side stride step = stride / side * pairs_of (parts_in side step)
 
--- The block with this number is `region` in the square that begins at place `base`. It has the rows
--- of one part of the side, and the columns of the same part or of a later one. Blocks are numbered
--- square by square: those of a square have consecutive numbers.
+-- Of the blocks that `blocks_of` counts, the one with this number is `region` in the square that
+-- begins at place `base`. Its rows are one part of the square's rows, and its columns are the same
+-- part of the columns or a later one. Blocks are numbered square by square: those of one square
+-- have consecutive numbers.
 pub record IsBlock (side stride step number base : ℕ) (region : Region) : Type 0 where
   pub square : ℕ
   pub row : ℕ
@@ -26,7 +28,7 @@ pub record IsBlock (side stride step number base : ℕ) (region : Region) : Type
   pub inside : base + side ≤ stride
   pub region_is : region ≡ record { row_start = start_of side step row; row_end = start_of side step (row + 1); col_start = start_of side step col; col_end = start_of side step (col + 1) }
 
--- the number of exchanges for a block: for a block on the diagonal those of a square's transpose,
--- and for one above it one for each item
+-- the number of exchanges for a block. A block on the diagonal takes `square_swaps` of its rows,
+-- and a block above it takes one exchange for each item
 abbrev pub swaps_of_block : Region → ℕ
 swaps_of_block region = if region.row_start == region.col_start then square_swaps (rows_of region) else items_of region

@@ -1,9 +1,10 @@
--- Neighbouring items of a column of a matrix, put at consecutive cells. These definitions serve the
--- private contracts of the transposes alone.
+-- Neighbouring items of a column of a matrix, put at consecutive cells. These definitions serve
+-- only the private contracts of the transposes.
 use Rattle.std.specs.Prelude.{ℕ, ◌≡◌, ◌+◌, ◌*◌, ◌^◌, ◌<◌, ◌≤◌, ◌⊎◌, List, length, slice_get}
 
--- The lists are long enough for `rows` items of `input`, at `from` and then every `width` places,
--- and for as many cells of `out` from `to` on. Both lengths fit a usize.
+-- The column is the `rows` items of `input` that begin at place `from` and are `width` places
+-- apart. `input` has all of them, and `out` has as many cells from `to` on. Both lengths fit a
+-- usize.
 pub record HoldsColumn {A : Type 0} (rows from width to : ℕ) (input out : List A) : Type 0 where
   pub inside : (t : ℕ) → t < rows → from + t * width < length input
   pub room : to + rows ≤ length out

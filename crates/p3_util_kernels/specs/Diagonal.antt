@@ -7,9 +7,9 @@ use Rattle.p3_util_kernels.specs.declared.transpose.regions.Region.{Region}
 use Rattle.p3_util_kernels.specs.Mirrored.{Mirrored}
 use Rattle.p3_util_kernels.specs.Region.{IsInRegion}
 
--- the items of the region above the diagonal of a square are exchanged with their mirror images
--- below it, and all other items stay. Row a and column b of the square are at place
--- `base + a * stride + b`
+-- Row a and column b of a square are at place `base + a * stride + b`. The items of the region that
+-- are above the diagonal are exchanged with their mirror images below it. All other items stay
+-- where they are
 abbrev pub SwapsAcross : {A : Type 0} (base stride : ℕ) (region : Region) (old new : List A) → Type 0
 SwapsAcross base stride region old new =
     Mirrored {M = ℕ} (λ m a b. base + a * stride + b) (λ m a b. ((a < stride) × (b < stride)) × IsInRegion region (max a b) (min a b)) old new

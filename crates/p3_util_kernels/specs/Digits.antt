@@ -1,8 +1,8 @@
--- Binary digits and their reversal, defined by quotients, remainders and powers.
+-- The bits of a number and their reversal, defined by quotients, remainders and powers.
 -- Source: the documentation and the tests of `reverse_bits_len` of p3-util 0.8.0.
 use Rattle.std.specs.Prelude.{ℕ, zero, suc, ◌+◌, ◌-◌, ◌*◌, ◌/◌, ◌%◌, ◌^◌}
 
--- digit i of x in base 2, counted from the lowest: `x / 2 ^ i % 2`
+-- bit i of x, counted from the lowest one: `x / 2 ^ i % 2`
 abbrev pub bit : ℕ → ℕ → ℕ
 bit x i = (x / 2 ^ i) % 2
 
@@ -11,13 +11,12 @@ unfoldable pub sum_below : (n : ℕ) → (ℕ → ℕ) → ℕ
 sum_below zero f = 0
 sum_below (suc n) f = sum_below n f + f n
 
--- the k low digits of x in reversed order: digit i of x, which is `bit x i`, becomes digit
--- `k - 1 - i`
+-- the k low bits of x in reversed order: bit i of x, which is `bit x i`, becomes bit `k - 1 - i`
 unfoldable pub rev : (k x : ℕ) → ℕ
 rev k x = sum_below k (λ i. bit x i * 2 ^ (k - 1 - i))
 
--- what `reverse_bits_len` returns: `rev bit_len x`, or for 0 bits all 64 digits reversed,
--- `rev 64 x`
+-- what `reverse_bits_len` returns: `rev bit_len x`. If `bit_len` is 0, it is `rev 64 x` instead,
+-- which reverses all 64 bits
 unfoldable pub rev_word : (bit_len x : ℕ) → ℕ
 rev_word zero x = rev 64 x
 rev_word (suc k) x = rev (suc k) x

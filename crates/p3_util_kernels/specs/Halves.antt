@@ -15,8 +15,8 @@ pub record IsPart (whole part : Region) : Type 0 where
   pub rows : whole.row_start ≤ whole.row_end → part.row_start ≤ part.row_end
   pub cols : whole.col_start ≤ whole.col_end → part.col_start ≤ part.col_end
 
--- One region is cut into two. Each place of it lies in exactly one of them, and together they have
--- as many items as it has.
+-- A region is cut into two parts. Each place of the region lies in exactly one of them, and
+-- together they have as many items as the region.
 pub record IsCut (whole first second : Region) : Type 0 where
   pub parts : (x y : ℕ) → IsInRegion whole x y → (IsInRegion first x y) ⊎ (IsInRegion second x y)
   pub apart : (x y : ℕ) → IsInRegion first x y → IsInRegion second x y → ⊥
@@ -24,8 +24,8 @@ pub record IsCut (whole first second : Region) : Type 0 where
   pub second_inside : IsPart whole second
   pub items : items_of first + items_of second ≡ items_of whole
 
--- One region is cut into two. The splits of each part nest at least one level less deep, and those
--- of one of them exactly one level less.
+-- A region is cut into two parts. In each part the splits nest at least one level less deep than in
+-- the region, and in one of the parts exactly one level less.
 pub record AreHalves (whole first second : Region) : Type 0 where
   pub cut : IsCut whole first second
   pub first_levels : lev (rows_of first) (cols_of first) < lev (rows_of whole) (cols_of whole)

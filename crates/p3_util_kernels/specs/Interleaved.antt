@@ -9,51 +9,56 @@ use Rattle.p3_util_kernels.specs.PartSteps.{NoPlaceInCommon}
 use Rattle.p3_util_kernels.specs.Plans.{IsPartMade, parts_of}
 use Rattle.p3_util_kernels.specs.Region.{IsRegionTransposed, items_of}
 
--- `all` is an interleaving of the lists: each of its steps is the first remaining step of one list,
--- and at the end no list has a step left.
+-- `all` is an interleaving of the lists: each step of `all` is the first remaining step of one of
+-- the lists, and at the end no list has a step left.
 unfoldable pub IsInterleaved : {S : Type 0} → (lists : List (List S)) (all : List S) → Type 0
 IsInterleaved lists [] = All (λ steps. steps ≡ []) lists
 IsInterleaved {S} lists (step ∷ all) = (k : ℕ) × (rest : List S) × (slice_get lists k ≡ Some (step ∷ rest)) × IsInterleaved (slice_set lists k rest) all
 
--- the steps of the lists, one list after the other
+-- all steps of the lists, one list after the other
 abbrev pub in_turn : {S : Type 0} → List (List S) → List S
 in_turn lists = flat_map (λ steps. steps) lists
 
--- all steps are at places below n, and no two lists have a place in common
+-- All steps of the lists are at places below n, and no two lists have a place in common. `places`
+-- gives the places of a list of steps
 pub record AreApartBelow {S : Type 0} (places : List S → List ℕ) (n : ℕ) (lists : List (List S)) : Type 0 where
   pub below : (k : ℕ) (steps : List S) → slice_get lists k ≡ Some steps → All (λ p. p < n) (places steps)
   pub apart : (i j : ℕ) (first second : List S) → i ≢ j → slice_get lists i ≡ Some first → slice_get lists j ≡ Some second
       → NoPlaceInCommon (Contains (places first)) (Contains (places second))
 
--- every interleaving of such lists has the same result as the lists one after the other
+-- If no two of several lists of steps have a place in common, and all places are in the list xs,
+-- then every interleaving of the steps has the same result on xs as `in_turn`. `AreApartBelow`
+-- states this condition, and `after` gives the result of steps
 abbrev pub SameInTurn : {A S : Type 0} → (List A → List S → List A) → (List S → List ℕ) → Type 0
 SameInTurn {A} {S} after places = (xs : List A) (lists : List (List S)) (all : List S) → AreApartBelow places (length xs) lists
     → IsInterleaved lists all → after xs all ≡ after xs (in_turn lists)
 
--- these writes alone put the region of part k of a matrix, and there is one write for each of its
--- items
+-- The writes `steps`, made on `old` without those of any other part, put the transpose of the
+-- region that `part_of_matrix` gives for part k. There is one write for each item of the region
 abbrev pub IsPutAlone : {A : Type 0} (width height : ℕ) (by_rows : Bool) (len step k : ℕ) (input old : List A) (steps : List (ℕ × A)) → Type 0
 IsPutAlone width height by_rows len step k input old steps =
     let region = part_of_matrix width height by_rows len step k in
     (length steps ≡ items_of region) × IsRegionTransposed region width height input old (after_puts old steps)
 
--- there is one such list for each region
+-- `lists` has one list of writes for each region, and `IsPutAlone` holds for each of them
 abbrev pub PutAlone : {A : Type 0} (width height : ℕ) (by_rows : Bool) (len step : ℕ) (input old : List A) (lists : List (List (ℕ × A))) → Type 0
 PutAlone {A} width height by_rows len step input old lists =
     (length lists ≡ parts_in len step)
     × ((k : ℕ) (steps : List (ℕ × A)) → slice_get lists k ≡ Some steps → IsPutAlone width height by_rows len step k input old steps)
 
--- these exchanges alone make part k of a phase, and there are as many as the part takes
+-- The exchanges `steps`, made on `old` without those of any other part, do what `IsPartMade` says
+-- about part k of the phase, and there are as many as it says
 abbrev pub IsMadeAlone : {A : Type 0} (phase : Phase) (k : ℕ) (old : List A) (steps : List (ℕ × ℕ)) → Type 0
 IsMadeAlone phase k old steps = IsPartMade phase k old (after_swaps old steps) (λ n. length steps ≡ n)
 
--- there is one such list for each part
+-- `lists` has one list of exchanges for each part of the phase, and `IsMadeAlone` holds for each of
+-- them
 abbrev pub MakeAlone : {A : Type 0} (phase : Phase) (old : List A) (lists : List (List (ℕ × ℕ))) → Type 0
 MakeAlone phase old lists =
     (length lists ≡ parts_of phase) × ((k : ℕ) (steps : List (ℕ × ℕ)) → slice_get lists k ≡ Some steps → IsMadeAlone phase k old steps)
 
--- the phases are made one after the other, and the exchanges of each phase's parts in any
--- interleaving
+-- `AreMadeInterleaved phases old new` says that the phases, run one after the other, turn `old`
+-- into `new`. In each phase, the exchanges of its parts are made in some interleaving
 abbrev pub AreMadeInterleaved : {A : Type 0} (phases : List Phase) (old new : List A) → Type 0
 AreMadeInterleaved [] old new = new ≡ old
 AreMadeInterleaved (phase ∷ phases) old new =

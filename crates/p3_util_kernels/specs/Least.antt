@@ -7,23 +7,24 @@ use Rattle.p3_util_kernels.specs.Reversal.{IsReversal}
 use Rattle.p3_util_kernels.specs.SwapCounts.{short_swaps, square_swaps}
 use Rattle.p3_util_kernels.specs.Transpose.{IsTranspose}
 
--- the list after exchanges made one after the other: each is a pair of places, whose items are
--- exchanged
+-- `after_swaps xs steps` is the list xs after exchanges that are made one after the other. Each of
+-- the `steps` is a pair of places, and the items there are exchanged
 unfoldable pub after_swaps : {A : Type 0} → List A → List (ℕ × ℕ) → List A
 after_swaps xs [] = xs
 after_swaps xs (pair ∷ steps) = after_swaps (swap xs pair.0 pair.1) steps
 
--- the list after writes made one after the other: each is a place and the item that is put there
+-- `after_puts xs steps` is the list xs after writes that are made one after the other. Each of the
+-- `steps` is a place and the item that is put there
 unfoldable pub after_puts : {A : Type 0} → List A → List (ℕ × A) → List A
 after_puts xs [] = xs
 after_puts xs (put ∷ steps) = after_puts (slice_set xs put.0 put.1) steps
 
--- the places of a list of exchanges in order, two for each exchange
+-- the places of a list of exchanges, in order, two for each exchange
 unfoldable pub places_swapped : List (ℕ × ℕ) → List ℕ
 places_swapped [] = []
 places_swapped (pair ∷ steps) = pair.0 ∷ pair.1 ∷ places_swapped steps
 
--- the places of a list of writes in order
+-- the places of a list of writes, in order, one for each write
 unfoldable pub places_put : {A : Type 0} → List (ℕ × A) → List ℕ
 places_put [] = []
 places_put (put ∷ steps) = put.0 ∷ places_put steps
@@ -45,16 +46,16 @@ DifferAt n count old new = (test : ℕ → Bool) × (count_below n test ≡ coun
 abbrev pub AreApart : ℕ → (ℕ → ℕ) → Type 0
 AreApart n place = (i j : ℕ) → i < n → j < n → place i ≡ place j → i ≡ j
 
--- no two places of the list have equal items
+-- no two items of the list xs are equal
 abbrev pub AllDiffer : {A : Type 0} → List A → Type 0
 AllDiffer xs = (i j : ℕ) → i < length xs → j < length xs → slice_get xs i ≡ slice_get xs j → i ≡ j
 
--- m exchanges change at most `2 * m` places
+-- for items of the type A: m exchanges change at most `2 * m` places
 abbrev pub SwapsChange : Type 0 → Type 0
 SwapsChange A = (xs : List A) (steps : List (ℕ × ℕ)) (n : ℕ) (test : ℕ → Bool)
     → DifferWhere n test xs (after_swaps xs steps) → count_below n test ≤ 2 * length steps
 
--- m writes change at most m places
+-- for items of the type A: m writes change at most m places
 abbrev pub PutsChange : Type 0 → Type 0
 PutsChange A = (xs : List A) (steps : List (ℕ × A)) (n : ℕ) (test : ℕ → Bool)
     → DifferWhere n test xs (after_puts xs steps) → count_below n test ≤ length steps
@@ -64,46 +65,50 @@ pub record AreOnceAmong (among : ℕ → Type 0) (places : List ℕ) : Type 0 wh
   pub inside : All among places
   pub once : AllPairs (λ a b. a ≢ b) places
 
--- if m exchanges change `2 * m` places, the exchanges are at exactly these places, and each place
--- belongs to one exchange
+-- for items of the type A: if m exchanges change `2 * m` places, the exchanges are at exactly these
+-- places, and each place belongs to one exchange
 abbrev pub SwapsAtChanged : Type 0 → Type 0
 SwapsAtChanged A = (xs : List A) (steps : List (ℕ × ℕ)) (n : ℕ) (test : ℕ → Bool) → DifferWhere n test xs (after_swaps xs steps)
     → count_below n test ≡ 2 * length steps → AreOnceAmong (λ p. (p < n) × IsTrue (test p)) (places_swapped steps)
 
--- if m writes change m places, there is exactly one write at each of these places
+-- for items of the type A: if m writes change m places, there is exactly one write at each of these
+-- places
 abbrev pub PutsAtChanged : Type 0 → Type 0
 PutsAtChanged A = (xs : List A) (steps : List (ℕ × A)) (n : ℕ) (test : ℕ → Bool) → DifferWhere n test xs (after_puts xs steps)
     → count_below n test ≡ length steps → AreOnceAmong (λ p. (p < n) × IsTrue (test p)) (places_put steps)
 
--- of the numbers of k bits, `2 ^ ceil(k / 2)` are their own reverse
+-- of the `2 ^ k` numbers of k bits, `2 ^ ceil(k / 2)` are their own reverse
 abbrev pub Palindromes : Type 0
 Palindromes = (k : ℕ) → count_below (2 ^ k) (λ i. rev k i == i) ≡ 2 ^ ((k + 1) / 2)
 
--- any list of exchanges that reverses `2 ^ k` different items has at least `short_swaps k`
--- exchanges
+-- for items of the type A: if `2 ^ k` items are all different, every list of exchanges that
+-- reverses them has at least `short_swaps k` exchanges
 abbrev pub LeastReversal : Type 0 → Type 0
 LeastReversal A = (k : ℕ) (xs : List A) (steps : List (ℕ × ℕ)) → length xs ≡ 2 ^ k → AllDiffer xs
     → IsReversal xs (after_swaps xs steps) → short_swaps k ≤ length steps
 
--- any list of exchanges that transposes a square of different items has at least
--- `square_swaps side` exchanges
+-- for items of the type A: if the items of a square of `side` rows are all different, every list of
+-- exchanges that transposes it has at least `square_swaps side` exchanges
 abbrev pub LeastSquare : Type 0 → Type 0
 LeastSquare A = (side : ℕ) (xs : List A) (steps : List (ℕ × ℕ)) → length xs ≡ side * side → AllDiffer xs
     → IsTranspose side side xs (after_swaps xs steps) → square_swaps side ≤ length steps
 
--- any list of writes that leaves another item at each of n different places has at least n writes
+-- for items of the type A: if a list of writes changes the items at n different places, it has at
+-- least n writes
 abbrev pub LeastPuts : Type 0 → Type 0
 LeastPuts A = (n : ℕ) (place : ℕ → ℕ) (xs : List A) (steps : List (ℕ × A)) → AreApart n place
     → ((i : ℕ) → i < n → slice_get xs (place i) ≢ slice_get (after_puts xs steps) (place i)) → n ≤ length steps
 
--- a list of `2 ^ k` different items differs from its reversal at `2 * short_swaps k` places, two
--- for each exchange of the shortest list
+-- for items of the type A: if the items of a list of `2 ^ k` items are all different, it differs
+-- from its reversal at `2 * short_swaps k` places, two for each exchange of the shortest list of
+-- exchanges that reverses it
 abbrev pub ReversalDiffers : Type 0 → Type 0
 ReversalDiffers A = (k : ℕ) (old new : List A) → length old ≡ 2 ^ k → AllDiffer old
     → IsReversal old new → DifferAt (2 ^ k) (2 * short_swaps k) old new
 
--- a square of different items differs from its transpose at `side * (side - 1)` places, all but
--- those on the diagonal
+-- for items of the type A: if the items of a square of `side` rows are all different, it differs
+-- from its transpose at `side * (side - 1)` places. These are all places except those on the
+-- diagonal
 abbrev pub SquareDiffers : Type 0 → Type 0
 SquareDiffers A = (side : ℕ) (old new : List A) → length old ≡ side * side → AllDiffer old
     → IsTranspose side side old new → DifferAt (side * side) (side * (side - 1)) old new

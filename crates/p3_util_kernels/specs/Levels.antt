@@ -3,17 +3,18 @@
 use Rattle.std.specs.Prelude.{ℕ, ◌+◌, ◌-◌, ◌^◌, ◌&&◌, nat_lt, if◌then◌else◌}
 use Rattle.p3_util_kernels.specs.Digits.{sum_below}
 
--- the least e with `n ≤ 2 ^ e`, which is the number of powers of two below n.
+-- the least e with `n ≤ 2 ^ e`. This is the number of powers of two below n.
 -- Source: the documentation of `log2_ceil_usize` of p3-util 0.8.0.
 unfoldable pub clog : ℕ → ℕ
 clog n = sum_below n (λ e. if nat_lt (2 ^ e) n then 1 else 0)
 
--- how often a region of r rows and c columns can be halved at its longer side until both are at
--- most 128, which is 2 ^ 7: `(clog r - 7) + (clog c - 7)`, where a difference is at least 0
+-- how often a region of r rows and c columns can be halved at its longer side until both sides are
+-- at most 128, which is 2 ^ 7: `(clog r - 7) + (clog c - 7)`, where a negative difference counts as
+-- 0
 abbrev pub lev : (r c : ℕ) → ℕ
 lev r c = (clog r - 7) + (clog c - 7)
 
--- how many splits nest in the split of such a region: `lev r c`, or 0 if one side is at most 2 from
--- the start, since a part with such a side is not split
+-- how deep the splits of a region of r rows and c columns nest: `lev r c`, or 0 if one side is at
+-- most 2 from the start, because such a region is not split
 abbrev pub nest : (r c : ℕ) → ℕ
 nest r c = if nat_lt 2 r && nat_lt 2 c then lev r c else 0

@@ -1,6 +1,6 @@
 -- Items of a list exchanged with their mirror images. A place has a fixed part `m` and two numbers,
--- and its mirror image has the same two numbers in the other order. This definition serves private
--- contracts alone.
+-- and its mirror image has the same two numbers in the other order. This definition serves only
+-- private contracts.
 use Rattle.std.specs.Prelude.{ℕ, ◌≡◌, ◌≢◌, List, length, slice_get}
 
 -- If S holds for m, x and y, the item at `place m x y` comes from `place m y x`. Every other place

@@ -17,8 +17,8 @@ unfoldable pub name_pieces : List ℕ → List (List ℕ)
 name_pieces [] = [] ∷ []
 name_pieces (b ∷ t) = if is_mark b then (b ∷ []) ∷ name_pieces t else in_front b (name_pieces t)
 
--- the part after the last `::` of the text, where each `::` is found from the left, or `whole` if
--- there is none
+-- the part after the last `::` of the text, or `whole` if there is none. The search for `::` goes
+-- from left to right
 unfoldable pub after_colons : (whole text : List ℕ) → List ℕ
 after_colons whole [] = whole
 after_colons whole (b ∷ []) = whole
@@ -28,7 +28,8 @@ after_colons whole (b ∷ c ∷ t) = if b == 58 && c == 58 then after_colons t t
 abbrev pub last_part : List ℕ → List ℕ
 last_part t = after_colons t t
 
--- the text is cut after each `<`, `>` and `,`, and the parts of the pieces after their last `::`
--- are joined in order. Each `::` is found from the left, so `a:::b` gives `:b`
+-- The text t is cut into pieces after each `<`, `>` and `,`. Of each piece only the part after its
+-- last `::` is kept, and a piece without `::` is kept whole. What is kept is joined in order. The
+-- search for `::` goes from left to right, so `a:::b` gives `:b`
 unfoldable pub short_name : List ℕ → List ℕ
 short_name t = flat_map last_part (name_pieces t)

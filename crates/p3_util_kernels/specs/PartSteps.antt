@@ -1,6 +1,6 @@
 -- Steps from one list to another, and the places that they change. These definitions serve private
--- contracts: those of `src/parts/laws.rt` and of the files below it. The lemmas let a holder state
--- that such steps exist.
+-- contracts: those of `src/parts/laws.rt` and of the files below it. With the lemmas a holder can
+-- state that such steps exist.
 -- Source: new.
 use Rattle.std.proofs.Common.{◌≡◌, ◌≢◌, ℕ, ◌+◌, ◌-◌, ◌*◌, ◌/◌, ◌^◌, ◌<◌, min, max, List, [], ◌∷◌, ◌++◌, length, slice_get, slice_set, length-append, refl, sym, ◌∙◌, ap, arith}
 use Rattle.std.specs.Prelude.{swap}
@@ -10,31 +10,31 @@ use Rattle.p3_util_kernels.specs.Crossing.{row_of}
 use Rattle.p3_util_kernels.specs.Least.{AreOnceAmong, after_puts, after_swaps, places_put, places_swapped}
 use Rattle.p3_util_kernels.specs.Region.{IsInRegion}
 
--- some n steps turn the first list into the second, where `after xs steps` is the list xs after the
+-- some n steps turn the list `old` into `new`, where `after xs steps` is the list xs after the
 -- steps
 abbrev pub StepsLead : {A S : Type 0} → (List A → List S → List A) → ℕ → List A → List A → Type 0
 StepsLead {A} {S} after n old new = (steps : List S) × (length steps ≡ n) × (after old steps ≡ new)
 
--- any n steps that turn the first list into the second are at different places, each of which has
--- the property `among`
+-- whenever n steps turn the list `old` into `new`, their places are all different, and each has the
+-- property `among`
 abbrev pub StepsStay : {A S : Type 0} → (List A → List S → List A) → (List S → List ℕ) → (ℕ → Type 0) → ℕ → List A → List A → Type 0
 StepsStay {A} {S} after places among n old new = (steps : List S) → length steps ≡ n → after old steps ≡ new → AreOnceAmong among (places steps)
 
--- some n writes turn the first list into the second, by `after_puts`
+-- `PutsLead n old new` says that some n writes turn the list `old` into `new`, by `after_puts`
 abbrev pub PutsLead : {A : Type 0} → ℕ → List A → List A → Type 0
 PutsLead = StepsLead after_puts
 
--- any n writes that turn the first list into the second are at different places, each of which has
--- the given property
+-- `PutsStay among n old new` says: whenever n writes turn the list `old` into `new`, their places
+-- are all different, and each has the property `among`
 abbrev pub PutsStay : {A : Type 0} → (ℕ → Type 0) → ℕ → List A → List A → Type 0
 PutsStay = StepsStay after_puts places_put
 
--- some n exchanges turn the first list into the second, by `after_swaps`
+-- `SwapsLead n old new` says that some n exchanges turn the list `old` into `new`, by `after_swaps`
 abbrev pub SwapsLead : {A : Type 0} → ℕ → List A → List A → Type 0
 SwapsLead = StepsLead after_swaps
 
--- any n exchanges that turn the first list into the second are at different places, each of which
--- has the given property
+-- `SwapsStay among n old new` says: whenever n exchanges turn the list `old` into `new`, their
+-- places are all different, and each has the property `among`
 abbrev pub SwapsStay : {A : Type 0} → (ℕ → Type 0) → ℕ → List A → List A → Type 0
 SwapsStay = StepsStay after_swaps places_swapped
 
@@ -46,7 +46,7 @@ NoPlaceInCommon first second = (p : ℕ) → first p → second p → ⊥
 abbrev pub PartsCover : (whole : ℕ → Type 0) (count : ℕ) (part : ℕ → ℕ → Type 0) → Type 0
 PartsCover whole count part = (p : ℕ) → whole p → (k : ℕ) × (k < count) × part k p
 
--- the two lists have no item in common
+-- no item of one list is equal to an item of the other
 abbrev pub NoItemInCommon : {A : Type 0} → List A → List A → Type 0
 NoItemInCommon xs ys = (i j : ℕ) → i < length xs → j < length ys → slice_get xs i ≢ slice_get ys j
 
@@ -54,24 +54,26 @@ NoItemInCommon xs ys = (i j : ℕ) → i < length xs → j < length ys → slice
 abbrev pub IsPlaceOfRegion : (region : Region) (height p : ℕ) → Type 0
 IsPlaceOfRegion region height p = (x y : ℕ) × IsInRegion region x y × (p ≡ x * height + y)
 
--- row a and column b of square s lie in the block with this number or in its mirror image; the
+-- row a and column b of square s lie in the block with this number or in its mirror image. The
 -- squares lie side by side
 abbrev pub IsInBlock : (side stride step number s a b : ℕ) → Type 0
 IsInBlock side stride step number s a b =
     (base : ℕ) × (region : Region) × IsBlock side stride step number base region × (base ≡ s * side) × IsInRegion region (max a b) (min a b)
 
--- p is a place of the block with this number or of its mirror image, for squares side by side in
--- rows of `stride` items
+-- p is a place in the block with this number or in its mirror image. The blocks are those that
+-- `blocks_of` counts
 abbrev pub IsPlaceOfBlock : (side stride step number p : ℕ) → Type 0
 IsPlaceOfBlock side stride step number p = (s a b : ℕ) × IsInBlock side stride step number s a b × (p ≡ s * side + a * stride + b)
 
--- p is a place of one of the squares that fit side by side into rows of `stride` items
+-- p is a place in one of the squares of `side` rows that fit side by side into rows of `stride`
+-- items
 abbrev pub IsPlaceOfSquares : (side stride p : ℕ) → Type 0
 IsPlaceOfSquares side stride p =
     (square a b : ℕ) × (square < stride / side) × (a < side) × (b < side) × (p ≡ square * side + a * stride + b)
 
--- p is a place of a row that belongs to the pairs of the block with this number, for `2 ^ digits`
--- rows, as in `IsCrossed`
+-- There are `2 ^ digits` rows of `row_width` items. The block with this number stands for pairs of
+-- rows, in the way that `IsCrossed` describes, and p is a place in one of these rows. A row that
+-- stays where it is counts as a pair with itself
 abbrev pub IsPlaceOfPairs : (digits row_width step number p : ℕ) → Type 0
 IsPlaceOfPairs digits row_width step number p =
     let half = digits / 2 in

@@ -16,14 +16,14 @@ use Rattle.p3_util_kernels.specs.Parts.{IsLeastStep, parts_in}
 use Rattle.p3_util_kernels.specs.Reversal.{FitsRows, IsRowReversal}
 use Rattle.p3_util_kernels.specs.SwapCounts.{long_swaps, reversal_swaps, row_swaps, short_swaps, square_swaps}
 
--- the phases of a plan, in order
+-- the phases of a plan of a reversal, in order
 abbrev pub phases_of : (plan : ReversalPlan) → List Phase
 phases_of Nothing = []
 phases_of (OnePart rows) = Rows rows ∷ []
 phases_of (ByPairs pairs) = Pairs pairs ∷ []
 phases_of (Long pairs squares) = Pairs pairs ∷ Blocks squares ∷ Pairs pairs ∷ []
 
--- the plan is one for the reversal of the rows of a list of `len` items
+-- the plan is one for reversing the rows of `row_width` items of a list of `len` items
 abbrev pub IsReversalPlan : (len row_width : ℕ) (plan : ReversalPlan) → Type 0
 IsReversalPlan len row_width Nothing = len ≡ 0
 IsReversalPlan len row_width (OnePart rows) = (0 < len) × (rows.width ≡ row_width) × (rows.digits ≡ clog (len / row_width))
@@ -34,9 +34,10 @@ IsReversalPlan len row_width (Long pairs squares) =
     (0 < len) × (row_width ≡ 1) × (pairs.rows.width ≡ 2 ^ (digits - half)) × (pairs.rows.digits ≡ half) × (squares.stride ≡ 2 ^ (digits - half))
     × (squares.cut.len ≡ 2 ^ half)
 
--- Up to `one_part` items the plan is one part. Beyond that, the sides of the squares are cut into
--- at most `parts` parts, where 0 counts as 1, and the parts are no longer than necessary. The parts
--- of pairs of rows begin at even numbers, and those of squares of items at multiples of `unit`.
+-- Up to `one_part` items the plan has at most one part. Beyond that, each side of a square is cut
+-- into at most `parts` parts, where 0 for `parts` counts as 1. The parts are no longer than
+-- necessary, as `IsLeastStep` says with the unit 2 for pairs of rows, and with the unit `unit` for
+-- squares of items.
 abbrev pub IsCutAsAsked : (len row_width parts one_part unit : ℕ) (plan : ReversalPlan) → Type 0
 IsCutAsAsked len row_width parts one_part unit Nothing = len ≡ 0
 IsCutAsAsked len row_width parts one_part unit (OnePart rows) = len ≤ one_part
@@ -61,13 +62,13 @@ IsPhaseOf (Rows rows) len = FitsRows len rows.width × (rows.digits ≡ clog (le
 IsPhaseOf (Pairs pairs) len = (0 < pairs.rows.width) × (pairs.rows.digits < 64) × (len ≡ pairs.rows.width * 2 ^ pairs.rows.digits)
 IsPhaseOf (Blocks squares) len = len ≡ squares.cut.len * squares.stride
 
--- the number of exchanges for the reversal of rows of `row_width` items by one call
+-- the number of exchanges when one call reverses the rows of `row_width` items
 abbrev pub call_swaps : (len row_width : ℕ) → ℕ
 call_swaps len row_width = if row_width == 1 then reversal_swaps len else row_swaps len row_width
 
--- Part `number` of a phase is made, and `Steps` holds for its number of steps: all rows are
--- reversed, the pairs of rows of a block are exchanged, or a block is exchanged with its mirror
--- image.
+-- Part `number` of the phase turns `old` into `new`, and `Steps` holds for the number of its
+-- exchanges. Depending on the phase, the part reverses all rows, exchanges the pairs of rows of a
+-- block, or exchanges a block with its mirror image.
 abbrev pub IsPartMade : {A : Type 0} → (phase : Phase) (number : ℕ) (old new : List A) (Steps : ℕ → Type 0) → Type 0
 IsPartMade (Rows rows) number old new Steps =
     IsRowReversal rows.width old new × Steps (call_swaps (length old) rows.width)
@@ -80,7 +81,8 @@ IsPartMade (Blocks squares) number old new Steps =
     (base : ℕ) × (region : Region) × IsBlock squares.cut.len squares.stride squares.cut.step number base region
     × SwapsAcross base squares.stride region old new × Steps (swaps_of_block region)
 
--- all parts of a phase are made: the rows are reversed, or each square is transposed
+-- All parts of the phase together turn `old` into `new`: all rows are reversed, or each square is
+-- transposed
 abbrev pub IsPhaseMade : {A : Type 0} → (phase : Phase) (old new : List A) → Type 0
 IsPhaseMade (Rows rows) old new = IsRowReversal rows.width old new
 IsPhaseMade (Pairs pairs) old new = IsRowReversal pairs.rows.width old new
@@ -88,22 +90,23 @@ IsPhaseMade (Blocks squares) old new =
     let side = squares.cut.len in
     Mirrored {M = ℕ} (λ s a b. s * side + a * squares.stride + b) (λ s a b. (s < squares.stride / side) × (a < side) × (b < side)) old new
 
--- the number of exchanges for all parts of a phase, for a list of `len` items
+-- the number of exchanges in all parts of a phase, for a list of `len` items
 abbrev pub swaps_of_phase : (phase : Phase) (len : ℕ) → ℕ
 swaps_of_phase (Rows rows) len = call_swaps len rows.width
 swaps_of_phase (Pairs pairs) len = pairs.rows.width * short_swaps pairs.rows.digits
 swaps_of_phase (Blocks squares) len = squares.stride / squares.cut.len * square_swaps squares.cut.len
 
--- the number of exchanges for all phases of a plan, for a list of `len` items: as many as the call
--- makes on the same path
+-- the number of exchanges in all phases of a plan, for a list of `len` items. The call makes as
+-- many if it takes the same path
 abbrev pub swaps_of_plan : (plan : ReversalPlan) (len : ℕ) → ℕ
 swaps_of_plan Nothing len = 0
 swaps_of_plan (OnePart rows) len = call_swaps len rows.width
 swaps_of_plan (ByPairs pairs) len = row_swaps len pairs.rows.width
 swaps_of_plan (Long pairs squares) len = long_swaps (clog len)
 
--- The number of exchanges for the reversal of rows in parts. Up to `one_part` items it is that of
--- the call. Beyond that it is that of the rows, or for rows of one item that of the long path.
+-- The number of exchanges when the rows of a list of `len` items are reversed in parts. Up to
+-- `one_part` items it is the number for the call. Beyond that it is `long_swaps (clog len)` for
+-- rows of one item, and `row_swaps len row_width` for other rows.
 abbrev pub swaps_in_parts : (len row_width one_part : ℕ) → ℕ
 swaps_in_parts len row_width one_part =
     if nat_le len one_part then call_swaps len row_width else if row_width == 1 then long_swaps (clog len) else row_swaps len row_width

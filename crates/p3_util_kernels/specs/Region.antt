@@ -11,7 +11,8 @@ pub record IsInRegion (region : Region) (x y : ℕ) : Type 0 where
   pub col_from : region.col_start ≤ x
   pub col_to : x < region.col_end
 
--- the region lies in a matrix of `height` rows of `width` items
+-- The region lies in a matrix of `height` rows of `width` items. Neither its rows nor its columns
+-- end before they begin
 pub record LiesInMatrix (region : Region) (width height : ℕ) : Type 0 where
   pub rows_in_order : region.row_start ≤ region.row_end
   pub rows_inside : region.row_end ≤ height
@@ -30,17 +31,17 @@ cols_of region = region.col_end - region.col_start
 abbrev pub items_of : Region → ℕ
 items_of region = rows_of region * cols_of region
 
--- `input` has `height` rows of `width` items. For each row y and column x of the region, place
--- `x * height + y` of `new` holds the item at place `y * width + x` of `input`. Every other place
--- holds what it held in `old`.
+-- `input` has `height` rows of `width` items, and an output changes from `old` to `new`. For each
+-- row y and column x of the region, item `x * height + y` of `new` is item `y * width + x` of
+-- `input`. Every other item of the output stays as it was.
 -- Source: the rectangular transposes of p3-util 0.8.0.
 pub record IsRegionTransposed {A : Type 0} (region : Region) (width height : ℕ) (input old new : List A) : Type 0 where
   pub same_length : length new ≡ length old
   pub places : (x y : ℕ) → IsInRegion region x y → slice_get new (x * height + y) ≡ slice_get input (y * width + x)
   pub others : (p : ℕ) → ((x y : ℕ) → IsInRegion region x y → p ≢ x * height + y) → slice_get new p ≡ slice_get old p
 
--- both lists have `width * height` items, fewer than `2 ^ 64`, and the region lies in a matrix of
--- that width and height. Only private functions have this precondition.
+-- Both lists have `width * height` items, which is less than `2 ^ 64`, and the region lies in a
+-- matrix of that width and height. Only private functions have this precondition.
 pub record IsReady {A : Type 0} (region : Region) (width height : ℕ) (input out : List A) : Type 0 where
   pub inside : LiesInMatrix region width height
   pub input_fits : length input ≡ width * height

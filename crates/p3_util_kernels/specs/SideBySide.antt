@@ -1,10 +1,10 @@
--- Squares side by side in a list, of which the first ones are transposed. This definition serves
--- the private contract of the long path's `transpose_squares`, and callers that build such a path
--- from public calls.
+-- Squares that lie side by side in a list, the first of which are transposed. This definition
+-- serves the private contract of `transpose_squares` on the long path, and callers that build such
+-- a path from public calls.
 use Rattle.std.specs.Prelude.{ℕ, ◌≡◌, ◌+◌, ◌-◌, ◌*◌, ◌^◌, ◌<◌, ◌≤◌, List, length, slice_get}
 
--- The list is 2 ^ log_size rows of 2 ^ log_stride items, so squares lie side by side in it. The
--- first `count` of them are transposed, and the others are unchanged.
+-- The list has `2 ^ log_size` rows of `2 ^ log_stride` items, so squares of `2 ^ log_size` rows lie
+-- side by side in it. The first `count` squares are transposed, and the others are unchanged.
 pub record AreTransposed {A : Type 0} (count log_stride log_size : ℕ) (old new : List A) : Type 0 where
   pub same_length : length new ≡ length old
   pub crossed : (s a b : ℕ) → s < count → a < 2 ^ log_size → b < 2 ^ log_size

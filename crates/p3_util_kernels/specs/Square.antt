@@ -2,9 +2,10 @@
 -- Source: `transpose_in_place_square` of p3-util 0.8.0.
 use Rattle.std.specs.Prelude.{ℕ, ◌≡◌, ◌≢◌, ◌+◌, ◌*◌, ◌^◌, ◌<◌, List, length, slice_get}
 
--- The square has `2 ^ log_size` rows and as many columns. Its first place is `base`, and each row
--- begins `2 ^ log_stride` places after the row before. Row a and column b of `new` hold the item
--- from row b and column a of `old`, and all other items stay.
+-- A square in a list has `2 ^ log_size` rows and as many columns. It begins at place `base`, and
+-- each row begins `2 ^ log_stride` places after the row before it. In row a and column b, the
+-- square in `new` has the item that the square in `old` has in row b and column a. All other items
+-- stay where they are.
 pub record IsSquareTransposed {A : Type 0} (base log_stride log_size : ℕ) (old new : List A) : Type 0 where
   pub same_length : length new ≡ length old
   pub places : (a b : ℕ) → a < 2 ^ log_size → b < 2 ^ log_size

@@ -8,28 +8,28 @@ use Rattle.p3_util_kernels.specs.declared.places.Four.{Four}
 abbrev pub item_at : {A : Type 0} → List (List A) → ℕ → ℕ → Option A
 item_at rows r c = option_and_then (λ row. slice_get row c) (slice_get rows r)
 
--- in a block of 4 by 4 items, the lowest bit of each item's row number is exchanged with the lowest
--- bit of its column number
+-- Both lists are the rows of a block of 4 by 4 items. From `old` to `new`, each item moves to the
+-- place for which the lowest bits of its row number and its column number are exchanged
 abbrev pub IsStageOne : {A : Type 0} → List (List A) → List (List A) → Type 0
 IsStageOne old new =
     (P p Q q : ℕ) → P < 2 → p < 2 → Q < 2 → q < 2 → item_at new (2 * P + p) (2 * Q + q) ≡ item_at old (2 * P + q) (2 * Q + p)
 
--- in a block of 4 by 4 items, the higher bit of each item's row number is exchanged with the higher
--- bit of its column number
+-- Both lists are the rows of a block of 4 by 4 items. From `old` to `new`, each item moves to the
+-- place for which the higher bits of its row number and its column number are exchanged
 abbrev pub IsStageTwo : {A : Type 0} → List (List A) → List (List A) → Type 0
 IsStageTwo old new =
     (P p Q q : ℕ) → P < 2 → p < 2 → Q < 2 → q < 2 → item_at new (2 * P + p) (2 * Q + q) ≡ item_at old (2 * Q + p) (2 * P + q)
 
--- a block of 4 by 4 items is transposed
+-- Both lists are the rows of a block of 4 by 4 items, and `new` is the transpose of `old`
 abbrev pub IsBlockTransposed : {A : Type 0} → List (List A) → List (List A) → Type 0
 IsBlockTransposed old new = (r c : ℕ) → r < 4 → c < 4 → item_at new r c ≡ item_at old c r
 
--- four items as a list
+-- the items of a `Four` as a list
 -- Source: new.
 abbrev pub in_order : {A : Type 0} → Four A → List A
 in_order four = four.0 ∷ four.1 ∷ four.2 ∷ four.3 ∷ []
 
--- the rows of a block of 4 by 4 items as lists
+-- the rows of a block of 4 by 4 items, as a list of lists
 -- Source: new.
 abbrev pub rows_in_order : {A : Type 0} → Four (Four A) → List (List A)
 rows_in_order rows = in_order rows.0 ∷ in_order rows.1 ∷ in_order rows.2 ∷ in_order rows.3 ∷ []

@@ -5,7 +5,7 @@ use Rattle.std.specs.Fmt.{decimal}
 use Rattle.p3_util_run.specs.declared.fault.RunFault.{RunFault}
 use Rattle.p3_util_run.specs.declared.fault.RunFault.TheVariants.{UnknownCommand, Read, NotAnArray, BadLength, NotTheLength, Memory, Write, BadRows}
 
--- the line for a fault, with its numbers in decimal and without the line feed at its end
+-- the line that is printed for a fault, without the line feed at its end. Numbers are decimal
 abbrev pub fault_text : RunFault → List ℕ
 fault_text UnknownCommand = codes "error: unknown command"
 fault_text Read = codes "error: input cannot be read"

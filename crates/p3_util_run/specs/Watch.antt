@@ -4,15 +4,16 @@ use Rattle.std.specs.Prelude.{Bool, ℕ, ◌≡◌, ◌+◌, ◌-◌, ◌^◌, �
 use Rattle.p3_util_run.specs.declared.watched.InputEnd.{InputEnd}
 use Rattle.p3_util_run.specs.declared.watched.InputEnd.TheVariants.{Ahead, Reached, Passed}
 
--- what a contract sees of a watched reader or writer: the value inside, how often it failed,
--- whether the input ended, and whether the output is flushed
+-- what a contract sees of a `Watched`, which is a reader or a writer whose failures are counted:
+-- the reader or writer inside, the number of its failures, how far a reader has read, and whether a
+-- writer is flushed
 pub record Watch (T : Type 0) : Type 0 where
   pub inner : T
   pub failures : ℕ
   pub input_end : InputEnd
   pub is_flushed : Bool
 
--- the count after one more failure
+-- the count of failures after one more. A count stops at the largest u64
 abbrev pub noted : ℕ → ℕ
 noted count = min (2 ^ 64 - 1) (count + 1)
 
@@ -25,13 +26,13 @@ count_after_call (Err _) count = noted count
 abbrev pub moves_none : ℕ → List ℕ → Bool
 moves_none n bytes = n == 0 && nat_lt 0 (length bytes)
 
--- the count after a write of these bytes, which has also failed if there were bytes and it took
--- none of them
+-- the count after a write of these bytes. It has failed if it returned an error, or if there were
+-- bytes and it took none of them
 abbrev pub count_after_write : {E : Type 0} → Result ℕ E → List ℕ → ℕ → ℕ
 count_after_write (Ok n) bytes count = if moves_none n bytes then noted count else count
 count_after_write (Err _) bytes count = noted count
 
--- where the reader is after a read into these bytes: it is at its end when it yields no byte for at
+-- where the reader is after a read into these bytes. It is at its end when it yields no byte for at
 -- least one, and each later read goes past the end
 abbrev pub end_after_read : {E : Type 0} → Result ℕ E → List ℕ → InputEnd → InputEnd
 end_after_read (Ok n) bytes Ahead = if moves_none n bytes then Reached else Ahead

@@ -7,7 +7,7 @@ use Rattle.std.specs.Str.{bytes_eq}
 use Rattle.p3_util_run.specs.declared.words.Command.{Command}
 use Rattle.p3_util_run.specs.declared.words.Command.TheVariants.{Revbits, Revrows, Transpose}
 
--- the number that decimal digits stand for: each digit counts a power of ten
+-- the number that decimal digits stand for
 abbrev pub decimal_value : List ℕ → ℕ
 decimal_value [] = 0
 decimal_value (digit ∷ rest) = (digit - 48) * 10 ^ length rest + decimal_value rest
@@ -28,8 +28,9 @@ abbrev pub revrows_of : Option ℕ → Option Command
 revrows_of (Some width) = Some (Revrows width)
 revrows_of None = None
 
--- the command that the arguments name: `revbits` alone, `revrows` and a width, or `transpose` and
--- two sides, the width first. Each number has one or more digits and is below `2 ^ 64`
+-- `command_of words` is the command that the program's arguments name: `revbits` alone, `revrows`
+-- and a width, or `transpose` and two sides, the width first. Each number has one or more digits
+-- and is below `2 ^ 64`. If the arguments name no command, it is `None`
 abbrev pub command_of : List (List ℕ) → Option Command
 command_of [] = None
 command_of (name ∷ []) = if bytes_eq name (codes "revbits") then Some Revbits else None

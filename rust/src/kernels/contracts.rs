@@ -88,67 +88,67 @@
 //!
 //! | Name | Meaning |
 //! |---|---|
-//! | `bit x i` | digit i of x in base 2, counted from the lowest: `x / 2 ^ i % 2` |
-//! | `rev k x` | the k low digits of x in reversed order: digit i of x, which is `bit x i`, becomes digit `k - 1 - i` |
-//! | `rev_word bit_len x` | what `reverse_bits_len` returns: `rev bit_len x`, or for 0 bits all 64 digits reversed, `rev 64 x` |
-//! | `IsPowerOfThree n` | n is 3 to some power |
-//! | `HasLog2 n` | n is a power of two, either by std's `IsPowerOfTwo` or by one of two tests. The tests spare callers a proof: one evaluates for a number that is written out, and the other is std's `is_power_of_two` |
-//! | `HasLog3 n` | n is a power of three, either by definition or by a test against the 41 powers that fit a usize. The test evaluates for a number that is written out |
-//! | `clog n` | the least e with `n ≤ 2 ^ e`, which is the number of powers of two below n |
-//! | `lev r c` | how often a region of r rows and c columns can be halved at its longer side until both are at most 128, which is 2 ^ 7: `(clog r - 7) + (clog c - 7)`, where a difference is at least 0 |
-//! | `nest r c` | how many splits nest in the split of such a region: `lev r c`, or 0 if one side is at most 2 from the start, since a part with such a side is not split |
-//! | `short_name t` | the text is cut after each `<`, `>` and `,`, and the parts of the pieces after their last `::` are joined in order. Each `::` is found from the left, so `a:::b` gives `:b` |
+//! | `bit x i` | bit i of x, counted from the lowest one: `x / 2 ^ i % 2` |
+//! | `rev k x` | the k low bits of x in reversed order: bit i of x, which is `bit x i`, becomes bit `k - 1 - i` |
+//! | `rev_word bit_len x` | what `reverse_bits_len` returns: `rev bit_len x`. If `bit_len` is 0, it is `rev 64 x` instead, which reverses all 64 bits |
+//! | `IsPowerOfThree n` | n is `3 ^ e` for some e |
+//! | `HasLog2 n` | n is a power of two. There are three ways to show this: std's `IsPowerOfTwo`; a call of std's `is_power_of_two` that returned true; or, if n is a literal, a test that the checker evaluates. The last two ways spare callers a proof |
+//! | `HasLog3 n` | n is a power of three. There are two ways to show this: `IsPowerOfThree`; or a test that compares n with the 41 powers of three that fit a usize, and that the checker evaluates if n is a literal |
+//! | `clog n` | the least e with `n ≤ 2 ^ e`. This is the number of powers of two below n |
+//! | `lev r c` | how often a region of r rows and c columns can be halved at its longer side until both sides are at most 128, which is 2 ^ 7: `(clog r - 7) + (clog c - 7)`, where a negative difference counts as 0 |
+//! | `nest r c` | how deep the splits of a region of r rows and c columns nest: `lev r c`, or 0 if one side is at most 2 from the start, because such a region is not split |
+//! | `short_name t` | The text t is cut into pieces after each `<`, `>` and `,`. Of each piece only the part after its last `::` is kept, and a piece without `::` is kept whole. What is kept is joined in order. The search for `::` goes from left to right, so `a:::b` gives `:b` |
 //! | `IsZeroOrPowerOfTwo n` | n is 0 or a power of two |
-//! | `IsReversible n` | n is 0 or a power of two, either by definition or by one of two tests. The tests spare callers a proof: one evaluates for a number that is written out, and the other is std's `is_power_of_two` |
-//! | `FitsRows len row_width` | `len` items are rows of `row_width` items each, and the number of rows is 0 or a power of two |
-//! | `IsRowReversal row_width old new` | With `2 ^ k` rows of `row_width` items, row r of `new` is row `rev k r` of `old`, item by item, and the length stays the same |
-//! | `IsReversal old new` | With `2 ^ k` items, place i of `new` holds the item from place `rev k i` of `old`. This is `IsRowReversal` for rows of one item |
-//! | `RunsExchanged i j len old new` | the `len` items from place i on are exchanged with the `len` items from place j on, in order, and all other items stay |
-//! | `BlocksExchanged n i j stride old new` | The first n items of a block of 4 by 4 items are exchanged with their mirror images in another block. The rows of both blocks begin `stride` places apart, and the blocks begin at places i and j. Row r and column c of one block correspond to column r and row c of the other, and items are counted row after row. All other items stay |
-//! | `IsTranspose width height old new` | `old` has `height` rows of `width` items, and `new` is its transpose, `width` rows of `height` items. Place `x * height + y` of `new` holds the item at place `y * width + x` of `old`, for x < width and y < height |
-//! | `LiesInMatrix region width height` | the region lies in a matrix of `height` rows of `width` items |
+//! | `IsReversible n` | n is 0 or a power of two. There are three ways to show this: `IsZeroOrPowerOfTwo`; a call of std's `is_power_of_two` that returned true; or, if n is a literal, a test that the checker evaluates. The last two ways spare callers a proof |
+//! | `FitsRows len row_width` | `len` items fill whole rows of `row_width` items, and the number of rows is 0 or a power of two |
+//! | `IsRowReversal row_width old new` | The two lists have the same length. If `old` has `2 ^ k` rows of `row_width` items, row r of `new` has the items of row `rev k r` of `old`, in the same order |
+//! | `IsReversal old new` | The two lists have the same length. If `old` has `2 ^ k` items, item i of `new` is item `rev k i` of `old`. This is `IsRowReversal` for rows of one item |
+//! | `RunsExchanged i j len old new` | The `len` items that begin at place i are exchanged, in order, with the `len` items that begin at place j. All other items stay where they are |
+//! | `BlocksExchanged n i j stride old new` | Two blocks of 4 by 4 items begin at places i and j, and the rows of both begin `stride` places apart. The first n items of the block at i, counted row after row, are exchanged with their mirror images in the block at j: row r and column c of one block with row c and column r of the other. All other items stay where they are |
+//! | `IsTranspose width height old new` | `old` has `height` rows of `width` items. `new` is its transpose, which has `width` rows of `height` items: item `x * height + y` of `new` is item `y * width + x` of `old`, for x < width and y < height |
+//! | `LiesInMatrix region width height` | The region lies in a matrix of `height` rows of `width` items. Neither its rows nor its columns end before they begin |
 //! | `rows_of region` | the number of rows of the region |
 //! | `cols_of region` | the number of columns of the region |
 //! | `items_of region` | the number of items of the region |
-//! | `IsRegionTransposed region width height input old new` | `input` has `height` rows of `width` items. For each row y and column x of the region, place `x * height + y` of `new` holds the item at place `y * width + x` of `input`. Every other place holds what it held in `old` |
-//! | `IsStageOne old new` | in a block of 4 by 4 items, the lowest bit of each item's row number is exchanged with the lowest bit of its column number |
-//! | `IsStageTwo old new` | in a block of 4 by 4 items, the higher bit of each item's row number is exchanged with the higher bit of its column number |
-//! | `IsBlockTransposed old new` | a block of 4 by 4 items is transposed |
-//! | `in_order four` | four items as a list |
-//! | `rows_in_order rows` | the rows of a block of 4 by 4 items as lists |
-//! | `IsSquareTransposed base log_stride log_size old new` | The square has `2 ^ log_size` rows and as many columns. Its first place is `base`, and each row begins `2 ^ log_stride` places after the row before. Row a and column b of `new` hold the item from row b and column a of `old`, and all other items stay |
-//! | `short_swaps k` | the number of pairs of different numbers of k bits that are each other's reverse: `(2 ^ k - 2 ^ ceil(k / 2)) / 2`, since `2 ^ ceil(k / 2)` of the `2 ^ k` numbers are their own reverse |
-//! | `row_swaps items row_width` | the number of swaps for `items` items in rows of `row_width`: one for each item of a row and each pair of rows, `row_width * short_swaps (clog (items / row_width))` |
-//! | `square_swaps side` | the number of pairs of places of a square of `side` rows that mirror each other across its diagonal: `side * (side - 1) / 2` |
-//! | `long_swaps k` | the number of swaps for `2 ^ k` items by chunks, squares and chunks, with `h = k / 2` and `c = k - h`: `2 * short_swaps h * 2 ^ c + 2 ^ (c - h) * square_swaps (2 ^ h)` |
-//! | `reversal_swaps items` | the number of swaps for `items` items, zero or a power of two: `short_swaps (clog items)` up to 8192 items, and `long_swaps (clog items)` beyond |
-//! | `counted c s` | the count c after s more steps, which is `min (2 ^ 128 - 1) (c + s)` |
-//! | `same_holder n a b` | b is a after n exchanges. If the holder borrows its items, it also says that b borrows the same slice as a, so a change to the holder is a change to that slice. A holder that does not count its exchanges ignores n. Of `Cells`: b is a after n puts. The rest is the same as for `Places` |
+//! | `IsRegionTransposed region width height input old new` | `input` has `height` rows of `width` items, and an output changes from `old` to `new`. For each row y and column x of the region, item `x * height + y` of `new` is item `y * width + x` of `input`. Every other item of the output stays as it was |
+//! | `IsStageOne old new` | Both lists are the rows of a block of 4 by 4 items. From `old` to `new`, each item moves to the place for which the lowest bits of its row number and its column number are exchanged |
+//! | `IsStageTwo old new` | Both lists are the rows of a block of 4 by 4 items. From `old` to `new`, each item moves to the place for which the higher bits of its row number and its column number are exchanged |
+//! | `IsBlockTransposed old new` | Both lists are the rows of a block of 4 by 4 items, and `new` is the transpose of `old` |
+//! | `in_order four` | the items of a `Four` as a list |
+//! | `rows_in_order rows` | the rows of a block of 4 by 4 items, as a list of lists |
+//! | `IsSquareTransposed base log_stride log_size old new` | A square in a list has `2 ^ log_size` rows and as many columns. It begins at place `base`, and each row begins `2 ^ log_stride` places after the row before it. In row a and column b, the square in `new` has the item that the square in `old` has in row b and column a. All other items stay where they are |
+//! | `short_swaps k` | the number of pairs of different k-bit numbers that are each other's reverse. Of the `2 ^ k` numbers, `2 ^ ceil(k / 2)` are their own reverse, so there are `(2 ^ k - 2 ^ ceil(k / 2)) / 2` pairs |
+//! | `row_swaps items row_width` | the number of swaps for reversing `items` items in rows of `row_width` items. Each pair of rows takes `row_width` swaps, so this is `row_width * short_swaps (clog (items / row_width))` |
+//! | `square_swaps side` | the number of swaps for transposing a square of `side` rows, one for each pair of places that mirror each other across the diagonal: `side * (side - 1) / 2` |
+//! | `long_swaps k` | the number of swaps for reversing `2 ^ k` items on the long path. It reverses the order of chunks, transposes squares, and reverses the order of chunks again. With `h = k / 2` and `c = k - h` this takes `2 * short_swaps h * 2 ^ c + 2 ^ (c - h) * square_swaps (2 ^ h)` swaps |
+//! | `reversal_swaps items` | the number of swaps for reversing `items` items, where `items` is zero or a power of two: `short_swaps (clog items)` up to 8192 items, and `long_swaps (clog items)` beyond |
+//! | `counted c s` | the count c after s more steps. A count stops at the largest u128, so this is `min (2 ^ 128 - 1) (c + s)` |
+//! | `same_holder n a b` | b is a after n exchanges. If the holder borrows its items, it also says that b borrows the same slice as a, so a change to the holder is a change to that slice. A holder that does not count its exchanges ignores n. For `Cells`: b is a after n puts. The rest is the same as for `Places` |
 //!
 //! # Names for the chunks, the map and `zip_eq`
 //!
 //! | Name | Meaning |
 //! |---|---|
-//! | `flat rows` | the items of the rows, row after row |
-//! | `pieces n xs` | the list cut into pieces of n items, where the last piece may be shorter. The number of pieces is the length divided by n, rounded up, and for n = 0 there is none |
-//! | `padded_pieces n fill xs` | `pieces` of the list, each filled to n items with `fill` |
-//! | `CallsOnPieces g n f xs` | f was called on each piece of n items of xs, in order. A list of states, one more than the pieces, begins with f, and each call led from one state to the next |
+//! | `flat rows` | the items of the rows as one list, row after row |
+//! | `pieces n xs` | the list xs cut into pieces of n items. The last piece may be shorter. The number of pieces is the length divided by n, rounded up. If n is 0, there is no piece |
+//! | `padded_pieces n fill xs` | `pieces n xs`, each of them filled to n items with `fill` |
+//! | `CallsOnPieces g n f xs` | The closure f was called on each piece of n items of xs, in order. The first call used f, and each later call used the closure as the call before had left it. `g` says what one call does |
 //! | `padded_source s` | the iterator inside an `ArrayChunksPadded` |
-//! | `padded_done s` | whether the iterator inside has returned `None`; after that it is not called again |
-//! | `padded_fill s` | the item that fills the last piece |
-//! | `padded_steps steps s r t` | a call yields the next piece, filled to n items, or `None` if no item is left |
-//! | `PadsRuns steps fill s` | each run of calls comes from a run of the iterator inside, and its pieces are `padded_pieces` of that run's items |
-//! | `EndsForGood steps` | after `None` only `None` follows |
-//! | `HasTrueLength steps left s` | the length that an iterator states is true, now and after any calls: each item lowers it by one, and `None` comes when it is 0 |
+//! | `padded_done s` | whether the iterator inside has returned `None`. After that it is not called again |
+//! | `padded_fill s` | the item with which the last piece is filled |
+//! | `padded_steps steps s r t` | A call of `next` in state s may return r and leave state t: r is the next piece, filled to n items, or `None` if there is no further piece. `steps` says the same of the iterator inside |
+//! | `PadsRuns steps fill s` | For every sequence of calls of `next` from state s on, there is one of the iterator inside, and the pieces that were returned are `padded_pieces` of the items that it returned |
+//! | `EndsForGood steps` | after `None`, every further call returns `None` |
+//! | `HasTrueLength steps left s` | The length that an iterator in state s states, which `left` gives, is true now and after any calls: each item lowers it by one, and it is 0 when `None` is returned |
 //! | `zip_eq_first z` | the first of the two iterators of a `ZipEq` |
 //! | `zip_eq_second z` | the second of the two iterators of a `ZipEq` |
-//! | `zip_eq_steps steps others s r t` | a call calls both iterators, and yields a pair if both yield an item and otherwise `None` |
-//! | `PairsRuns steps others z` | each run of calls comes from a run of the first iterator and a run of the second, and pairs their items in order |
-//! | `AskedRuns steps others z` | each run of calls comes from runs of both iterators, which have all that the two were called for |
-//! | `zip_eq_left left z` | the number of pairs that are left, which is the number of items left in the first iterator |
-//! | `HasDistinctKeys eq pairs` | no two pairs have equal keys |
-//! | `value_at eq pairs k` | the value of the pair whose key is equal to k, if there is one |
-//! | `put eq pairs k v` | the pairs after k is given the value v: a known key keeps its place and its spelling, and a new pair goes to the end |
-//! | `put_all eq pairs xs` | the pairs after each pair of xs is inserted in order, as by `put` |
-//! | `lends_value K V eq m k r` | the key k has the value that was last written through r; if r is `None`, the map stays as it is |
-//! | `lends_put K V eq m k r` | the key k has the value that was last written through r, as after `put`; if r is `Err`, the map stays as it is |
+//! | `zip_eq_steps steps others s r t` | A call of `next` in state s may return r and leave state t. It calls both iterators, and returns a pair if both return an item, and otherwise `None` |
+//! | `PairsRuns steps others z` | For every sequence of calls of `next` on z, there is one of the first iterator and one of the second, and the pairs that were returned are their items, paired in order |
+//! | `AskedRuns steps others z` | The same as `PairsRuns`, except that the two sequences have all calls that `next` made of the iterators |
+//! | `zip_eq_left left z` | how many pairs are left at most, if there is a bound: as many as the first iterator has items left, which `left` gives |
+//! | `HasDistinctKeys eq pairs` | no two pairs have keys that are equal by `eq` |
+//! | `value_at eq pairs k` | the value of the pair whose key is equal to k, or `None` if there is no such pair |
+//! | `put eq pairs k v` | the pairs after k was given the value v. If a key is already equal to k, its pair keeps its place and that key, and only the value changes. Otherwise a new pair is added at the end |
+//! | `put_all eq pairs xs` | the pairs after each pair of xs was inserted, in order, as by `put` |
+//! | `lends_value K V eq m k r` | r is a `&mut` to the value of the key k in the map m, or `None`. When the loan ends, the key has the value that was last written through r, and every other pair is unchanged. If r is `None`, the map is unchanged |
+//! | `lends_put K V eq m k r` | r is a `&mut` to the value of the key k in the map m, or an `Err`. When the loan ends, the map is as after `put` of the value that was last written through r. If r is an `Err`, the map is unchanged |
