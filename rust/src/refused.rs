@@ -74,7 +74,7 @@
 //! p3_util_proved::assert_send::<p3_util_proved::parts::ReversalPart<'_, std::rc::Rc<u8>>>();
 //! ```
 //!
-//! None of them can be cloned, so no part can run twice:
+//! Neither parts nor iterators over them can be cloned, so no part can run twice:
 //!
 //! ```compile_fail,E0277
 //! p3_util_proved::assert_clone::<p3_util_proved::parts::TransposeParts<'_, u8>>();
@@ -105,7 +105,8 @@
 //! part.run();
 //! ```
 //!
-//! As long as one of them exists, its list is borrowed, and for a transpose the input too:
+//! As long as a part or an iterator over parts exists, its list is borrowed. For a transpose, the input is borrowed
+//! too:
 //!
 //! ```
 //! use p3_util_proved::parts::{reversal, transpose};
