@@ -75,8 +75,8 @@ impl Cut {
         (from, from + self.step.min(self.len - from))
     }
 
-    /// Part `k` of a matrix. This cut is made along the rows of the matrix if `by_rows` is true,
-    /// and along its columns otherwise.
+    /// Part `k` of a matrix. This cut divides the rows of the matrix if `by_rows` is true, and its
+    /// columns otherwise.
     pub(crate) fn region<R>(self, matrix: &Matrix<R>, by_rows: bool, k: usize) -> Region
         requires side { self.len ≡ if by_rows then matrix.now.height else matrix.now.width }
         requires below { k < parts_in self.len self.step }
@@ -102,9 +102,9 @@ impl Cut {
         count * (count + 1) / 2
     }
 
-    /// The two parts of pair `number`, the earlier part first. To number the pairs, the parts are
-    /// put in a circle. The pairs of a part with itself come first. Then come the pairs of a part
-    /// with the next part in the circle, then those of a part with the second next one, and so on.
+    /// The two parts of pair `number`, the earlier part first. For these numbers, the parts form a
+    /// circle. First come the pairs of a part with itself, then those of a part with the next part
+    /// in the circle, then those of a part with the one after that, and so on.
     pub(crate) fn pair(self, number: usize) -> (usize, usize)
         requires few { parts_in self.len self.step < 2 ^ 32 }
         requires below { number < pairs_of (parts_in self.len self.step) }
@@ -182,8 +182,8 @@ impl Squares {
         (square, region)
     }
 
-    /// Exchanges block `number` with its mirror image across the diagonal of its square. A block on
-    /// the diagonal is transposed by this.
+    /// Exchanges block `number` with its mirror image across the diagonal of its square. For a
+    /// block on the diagonal, this is a transpose.
     pub(crate) fn exchange<M: Places>(self, m: M, number: usize) -> M
         requires below { number < blocks_of self.cut.len self.stride self.cut.step }
         requires whole { length (M.items m) ≡ self.cut.len * self.stride }

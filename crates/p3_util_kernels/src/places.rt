@@ -41,7 +41,7 @@ pub use slices::{SliceCells, SlicePlaces, SliceSource};
 #[repr(C)]
 pub struct Four<T>(pub T, pub T, pub T, pub T);
 
-/// A list whose items can only be exchanged. They can neither be read nor be moved in any other
+/// A list whose items can only be exchanged: they can neither be read nor be moved in any other
 /// way.
 ///
 /// In a contract, `items` is the list of the holder's items. `same_holder n a b` says that n
@@ -90,8 +90,7 @@ pub trait Places {
         ensures exchanged { RunsExchanged i j len (items self.old) (items self.new) }
         ensures holder { same_holder len self.old self.new }
     {
-        // `len` is called for its contract, from which the proof learns that the length fits in a
-        // usize.
+        // The contract of `len` tells the proof that the length fits in a usize.
         let _ = self.len();
         for t in 0..len {
             self.exchange(i + t, j + t);
@@ -110,8 +109,7 @@ pub trait Places {
         ensures exchanged { BlocksExchanged 16 i j stride (items self.old) (items self.new) }
         ensures holder { same_holder 16 self.old self.new }
     {
-        // `len` is called for its contract, from which the proof learns that the length fits in a
-        // usize.
+        // The contract of `len` tells the proof that the length fits in a usize.
         let _ = self.len();
         for r in 0..4 {
             for c in 0..4 {
@@ -132,7 +130,7 @@ pub trait Places {
         → m + n ≡ all → same_holder all a c };
 }
 
-/// A list into which items can be put, and which cannot be read.
+/// A list into which items can be put, and from which none can be read.
 ///
 /// In a contract, `items` is the list of the holder's items. `same_holder n a b` says that n puts
 /// turn the holder a into b, and otherwise the same as for [`Places`].
@@ -166,8 +164,7 @@ pub trait Cells {
             → slice_get (items self.new) p ≡ slice_get (items self.old) p }
         ensures holder { same_holder 4 self.old self.new }
     {
-        // `len` is called for its contract, from which the proof learns that the length fits in a
-        // usize.
+        // The contract of `len` tells the proof that the length fits in a usize.
         let _ = self.len();
         self.put(i, four.0);
         self.put(i + 1, four.1);
@@ -190,7 +187,7 @@ pub trait Cells {
         → m + n ≡ all → same_holder all a c };
 }
 
-/// A list whose items can be read, and which cannot be changed.
+/// A list whose items can be read but not changed.
 ///
 /// In a contract, `items` is the list of the source's items.
 pub trait Source {
@@ -216,8 +213,7 @@ pub trait Source {
         ensures { (t : ℕ) → t < 4 → slice_get (in_order result) t
             ≡ slice_get (items self.now) (i + t) }
     {
-        // `len` is called for its contract, from which the proof learns that the length fits in a
-        // usize.
+        // The contract of `len` tells the proof that the length fits in a usize.
         let _ = self.len();
         Four(self.at(i), self.at(i + 1), self.at(i + 2), self.at(i + 3))
     }

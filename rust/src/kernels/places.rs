@@ -37,7 +37,7 @@ pub use slices::{SliceCells, SlicePlaces, SliceSource};
 #[repr(C)]
 pub struct Four<T>(pub T, pub T, pub T, pub T);
 
-/// A list whose items can only be exchanged. They can neither be read nor be moved in any other
+/// A list whose items can only be exchanged: they can neither be read nor be moved in any other
 /// way.
 ///
 /// In a contract, `items` is the list of the holder's items. `same_holder n a b` says that n
@@ -108,8 +108,7 @@ pub trait Places {
     /// ```
     #[inline(always)]
     fn exchange_runs(&mut self, i: usize, j: usize, len: usize) {
-        // `len` is called for its contract, from which the proof learns that the length fits in a
-        // usize.
+        // The contract of `len` tells the proof that the length fits in a usize.
         let _ = self.len();
         for t in 0..len {
             self.exchange(i + t, j + t);
@@ -134,8 +133,7 @@ pub trait Places {
     /// ```
     #[inline(always)]
     fn exchange_blocks(&mut self, i: usize, j: usize, stride: usize) {
-        // `len` is called for its contract, from which the proof learns that the length fits in a
-        // usize.
+        // The contract of `len` tells the proof that the length fits in a usize.
         let _ = self.len();
         for r in 0..4 {
             for c in 0..4 {
@@ -151,7 +149,7 @@ pub trait Places {
     }
 }
 
-/// A list into which items can be put, and which cannot be read.
+/// A list into which items can be put, and from which none can be read.
 ///
 /// In a contract, `items` is the list of the holder's items. `same_holder n a b` says that n puts
 /// turn the holder a into b, and otherwise the same as for [`Places`].
@@ -201,8 +199,7 @@ pub trait Cells {
     /// ```
     #[inline(always)]
     fn put_four(&mut self, i: usize, four: &Four<Self::Item>) {
-        // `len` is called for its contract, from which the proof learns that the length fits in a
-        // usize.
+        // The contract of `len` tells the proof that the length fits in a usize.
         let _ = self.len();
         self.put(i, four.0);
         self.put(i + 1, four.1);
@@ -226,7 +223,7 @@ pub trait Cells {
     }
 }
 
-/// A list whose items can be read, and which cannot be changed.
+/// A list whose items can be read but not changed.
 ///
 /// In a contract, `items` is the list of the source's items.
 pub trait Source {
@@ -270,8 +267,7 @@ pub trait Source {
     /// ```
     #[inline(always)]
     fn four(&self, i: usize) -> Four<Self::Item> {
-        // `len` is called for its contract, from which the proof learns that the length fits in a
-        // usize.
+        // The contract of `len` tells the proof that the length fits in a usize.
         let _ = self.len();
         Four(self.at(i), self.at(i + 1), self.at(i + 2), self.at(i + 3))
     }

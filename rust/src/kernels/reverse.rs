@@ -6,14 +6,14 @@
 //! slices, calls that count their swaps, and the choice of the path. The modules below it have the
 //! paths:
 //!
-//! - `rows` reverses the order of rows of any width. It exchanges each two rows whose indices are
-//!   each other's reverse. With rows of one item this is the short path, which is taken for at most
-//!   `SHORT_PATH_ITEMS` items.
+//! - `rows` reverses the order of rows of any width. It exchanges each pair of rows whose indices
+//!   are each other's reverse. With rows of one item this is the short path, which is taken for at
+//!   most `SHORT_PATH_ITEMS` items.
 //! - `long` is the long path, which is taken for more items. It makes more swaps, in an order that
 //!   suits lists that do not fit in a cache.
 //! - `pairs` finds the pairs of rows and exchanges them. Both paths use it.
 //!
-//! It is proved that each call leaves the list in the order of bit reversal (`IsReversal`,
+//! It is proved that each call leaves the list in bit-reversed order (`IsReversal`,
 //! `IsRowReversal`). For the calls that count, the exact number of swaps is proved too. The order
 //! of the swaps is only tested. Which path a call on a slice takes can be seen only in its speed.
 
@@ -137,8 +137,8 @@ pub fn reverse_rows_counted<S: Places>(places: &mut S, row_width: usize) -> u128
 }
 
 /// Reverses `m` by index bits, as [`reverse_slice_index_bits`] does: by the short path up to 8192
-/// items, and by the long one for more. A list of n items takes at most 3n/2 swaps. The length must
-/// be zero or a power of two, which `fits_rows(m.len(), 1)` checks.
+/// items, and by the long one if there are more. A list of n items takes at most 3n/2 swaps. The
+/// length must be zero or a power of two, which `fits_rows(m.len(), 1)` checks.
 ///
 /// # Contract
 ///

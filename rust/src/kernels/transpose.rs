@@ -69,9 +69,8 @@ pub const fn fits_matrix(input_len: usize, output_len: usize, width: usize, heig
 /// be `width * height`, which this call does not check.
 ///
 /// The item at `y * width + x` of `input` is put at `x * height + y` of `output`. If you transpose
-/// `output`, as a matrix of `width` rows of `height` items, you get `input` again. The items are
-/// put in the same order as the one in which [`transpose_on`] writes them. [`fits_matrix`] checks
-/// both lengths.
+/// `output`, as a matrix of `width` rows of `height` items, you get `input` again. [`transpose_on`]
+/// writes the items in the same order. [`fits_matrix`] checks both lengths.
 ///
 /// # Contract
 ///

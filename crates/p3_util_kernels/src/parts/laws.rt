@@ -134,7 +134,7 @@ pub(crate) fn regions_apart(first: Region, second: Region, width: usize, height:
     ensures { NoPlaceInCommon (IsPlaceOfRegion first height) (IsPlaceOfRegion second height) }
 {}
 
-/// Two parts of a matrix that is cut along its rows or along its columns have no place of the
+/// If the rows or the columns of a matrix are cut, two different parts have no place of the
 /// transpose in common.
 pub(crate) fn parts_of_matrix(
     width: usize,
@@ -208,7 +208,7 @@ pub(crate) fn block_of_number(squares: Squares, number: usize)
         → (base ≡ other_base) × (region ≡ other_region) }
 {}
 
-/// Two blocks of `squares`, each with its mirror image, have no place in common.
+/// Two different blocks of `squares`, each with its mirror image, have no place in common.
 pub(crate) fn blocks_apart(squares: Squares, first: usize, second: usize)
     requires { first ≢ second }
     ensures { NoPlaceInCommon (IsPlaceOfBlock squares.cut.len squares.stride squares.cut.step first)

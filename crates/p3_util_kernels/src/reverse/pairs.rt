@@ -1,8 +1,9 @@
 //! The pairs of rows that a bit reversal exchanges.
 //!
-//! The index of one of 2^k rows has three parts. The high part has `half = k / 2` digits, and `x`
-//! stands for its reverse. The part `middle` is one digit if k is odd, and empty otherwise. The low
-//! part `y` has `half` digits. In the reversed index, `y` and `x` have changed places:
+//! There are 2^k rows, and the index of a row has three parts. The high part has `half = k / 2`
+//! digits, and `x` stands for its reverse. The part `middle` is one digit if k is odd, and empty
+//! otherwise. The low part `y` has `half` digits. In the reversed index, `x` and `y` have changed
+//! places:
 //!
 //! ```text
 //!     index      rev(x)  middle  y         k = 5, x = 01, middle = 1, y = 11:   10 1 11
@@ -99,9 +100,9 @@ impl RowDigits {
     }
 }
 
-/// Exchanges the pairs of rows that `pairs` stands for. The columns of this region are lines. Row
-/// `x` of a line is the pair of `x` and the line's `y`, if `x < y`. Two lines are exchanged at a
-/// time.
+/// Exchanges the pairs of rows that the region `pairs` stands for. A column of the region is a
+/// line. Row `x` of a column is the pair of `x` and the `y` of that line, if `x < y`. Two lines are
+/// exchanged at a time.
 #[inline(always)]
 pub(crate) fn exchange_pairs<M: Places>(m: M, rows: RowDigits, pairs: Region) -> M
     requires lines { AreLinePairs rows.digits pairs }

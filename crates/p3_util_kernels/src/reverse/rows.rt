@@ -1,5 +1,5 @@
-//! Bit reversal of the order of rows of any width: each two rows whose indices are each other's
-//! reverse are exchanged once. Single items are reversed as rows of one item.
+//! Bit reversal of the order of rows of any width. Each pair of rows whose indices are each other's
+//! reverse is exchanged once. Single items are reversed as rows of one item.
 
 ghost use Rattle.std.specs.Prelude.{◌≡◌, ℕ, ◌+◌, ◌*◌, ◌/◌, ◌^◌, ◌<◌, ◌≤◌, length};
 ghost use Rattle.p3_util_kernels.specs.Levels.{clog};
@@ -29,9 +29,9 @@ pub fn reverse_row_index_bits_on<S: Places>(m: &mut Swaps<S>, row_width: usize)
     m.count = reverse_rows(Swaps::resumed(&mut m.holder, m.count), rows).swaps();
 }
 
-/// Reverses `m` by index bits, as [`reverse_slice_index_bits`] does. Each two items whose indices
-/// are each other's reverse are swapped once. The length must be zero or a power of two, which
-/// `fits_rows(m.len(), 1)` checks.
+/// Reverses `m` by index bits, as [`reverse_slice_index_bits`] does. Each pair of items whose
+/// indices are each other's reverse is swapped once. The length must be zero or a power of two,
+/// which `fits_rows(m.len(), 1)` checks.
 ///
 /// [`reverse_slice_index_bits`]: crate::reverse::reverse_slice_index_bits
 #[tactic(auto, using(crate::proofs::SwapCountsLemmas::short_bound))]
@@ -48,11 +48,11 @@ pub fn reverse_index_bits_short<S: Places>(m: &mut Swaps<S>)
 }
 
 /// Reverses the order of chunks by index bits. There are `2^h` chunks of `2^c` items, for an h of
-/// `lb_num_chunks` and a c of `lb_chunk_size`. Place `i` gets the item from place `rev(h, i / 2^c)
-/// * 2^c + i mod 2^c`, where `rev(h, x)` has the h bits of x in reversed order. A list of n items
-/// takes at most n/2 swaps. The length must be `2^(h + c)`. To check the length, compare it with
-/// the power that [`checked_log_size_sum`](crate::bits::checked_log_size_sum) returns for the two
-/// exponents.
+/// `lb_num_chunks` and a c of `lb_chunk_size`. Place `i` gets the item from place
+/// `rev(h, i / 2^c) * 2^c + i mod 2^c`, where `rev(h, x)` has the h bits of x in reversed order. A
+/// list of n items takes at most n/2 swaps. The length must be `2^(h + c)`. To check the length,
+/// compare it with the power that [`checked_log_size_sum`](crate::bits::checked_log_size_sum)
+/// returns for the two exponents.
 #[tactic(auto, using(crate::proofs::SwapCountsLemmas::chunks_bound))]
 pub fn reverse_chunks_on<S: Places>(m: &mut Swaps<S>, lb_num_chunks: usize, lb_chunk_size: usize)
     requires { length (S.items m.old.holder) ≡ 2 ^ (lb_num_chunks + lb_chunk_size) }
@@ -101,8 +101,8 @@ pub(crate) fn reverse_rows<M: Places>(m: M, rows: RowDigits) -> M
     ensures order { IsRowReversal rows.width (M.items m) (M.items result) }
     ensures holder { M.same_holder (row_swaps (length (M.items m)) rows.width) m result }
 {
-    // In a case for one number of digits, the compiler unrolls the exchanges of all pairs. Each
-    // further case would be one more copy of these exchanges. With too many copies, Rattle's
+    // In the cases with a fixed number of digits, the compiler unrolls the exchanges of all pairs.
+    // Each further case would be one more copy of these exchanges. With too many copies, Rattle's
     // compiler no longer inlines this function.
     match rows.digits {
         2 => exchange_all(m, RowDigits { digits: 2, ..rows }),

@@ -4,8 +4,8 @@ use crate::kernels::parts::Cut;
 use crate::kernels::places::{Cells, Source};
 use crate::kernels::transpose::{ENOUGH_LEVELS, Matrix, Strips, TILE_SIDE, put_split};
 
-/// The transpose of a matrix of `height` rows of `width` items, cut into regions along its rows or
-/// along its columns.
+/// The transpose of a matrix of `height` rows of `width` items, cut into regions of neighbouring
+/// rows or of neighbouring columns.
 #[derive(Clone, Copy, Debug)]
 pub(crate) struct TransposePlan {
     width: usize,

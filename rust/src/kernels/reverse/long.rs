@@ -1,9 +1,9 @@
 //! Bit reversal of long lists in three passes: chunks, squares, and chunks again.
 //!
-//! A list of `2^k` items is seen as `2^half` rows of `2^c` items, with `half = k / 2` and `c = k -
-//! half`. These rows are the chunks. Since `c` is `half` or `half + 1`, the rows form one square,
-//! or two squares side by side. So the bits of an index are those of its row, then one bit for its
-//! square if there are two, and then those of its column.
+//! A list of `2^k` items is seen as `2^half` rows of `2^c` items, with `half = k / 2` and
+//! `c = k - half`. These rows are the chunks. Since `c` is `half` or `half + 1`, the rows form one
+//! square, or two squares side by side. So the bits of an index are those of its row, then one bit
+//! for its square if there are two, and then those of its column.
 //!
 //! The first pass reverses the order of the chunks by index bits, and so reverses the bits of the
 //! row. The second pass transposes each square, so the bits of the row and those of the column

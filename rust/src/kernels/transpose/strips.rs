@@ -34,7 +34,7 @@ const BLOCK_SIDE: usize = 4;
 /// The greatest number of rows of a strip of kind `High` or `Blocks`.
 const STRIP_ROWS: usize = 128;
 
-/// A column is put by loops over this many items each. The compiler knows how long they are.
+/// A column is put by loops over this many items each. The compiler knows how long these loops are.
 const COLUMN_ITEMS: usize = 8;
 
 /// The kinds of strips. All strips of a region are of the same kind.
@@ -47,11 +47,12 @@ pub(crate) enum Strips {
     /// At most 16 rows, put tile after tile, and each tile block after block.
     Tiles,
     /// At most 16 rows, put tile after tile, and each tile row after row. This suits items of 32
-    /// and of 64 bytes. `Strips::of` never returns this kind: the caller of a kernel may choose it.
+    /// and of 64 bytes. `Strips::of` never returns this kind, but the caller of a kernel may choose
+    /// it.
     Wide,
     /// At most 128 rows, put 4 columns at a time, in blocks that a holder may transpose in
-    /// registers. This suits items of 4 and of 8 bytes. `Strips::of` never returns this kind: the
-    /// caller of a kernel may choose it.
+    /// registers. This suits items of 4 and of 8 bytes. `Strips::of` never returns this kind, but
+    /// the caller of a kernel may choose it.
     Blocks,
 }
 
@@ -64,8 +65,8 @@ impl Strips {
     /// two. The cache lines of a high strip then fall into few sets of the cache, and each line is
     /// evicted before its next item is read. Those of 16 rows stay in the cache. With other widths,
     /// the rows are spread over the sets of the cache. A high strip is better there, since it puts
-    /// longer runs of consecutive cells. A small matrix stays in the cache in any order, and is put
-    /// block by block.
+    /// longer runs of consecutive cells. A small matrix stays in the cache whatever the order is,
+    /// and is put block by block.
     pub(crate) fn of<R: Source + Copy>(matrix: Matrix<R>) -> Self {
         if matrix.width % TILE_SIDE != 0 {
             Strips::High
@@ -85,8 +86,9 @@ impl Strips {
         }
     }
 
-    /// The row at which the strip from row `row` on ends, in a region that ends at row `end`. The
-    /// number of rows of a `Blocks` strip is a multiple of 4, unless fewer than 4 rows are left.
+    /// The row after the last one of the strip that begins at row `row`. The region ends before row
+    /// `end`. The number of rows of a `Blocks` strip is a multiple of 4, unless fewer than 4 rows
+    /// are left.
     #[inline(always)]
     fn end(self, row: usize, end: usize) -> usize {
         match self {

@@ -1,9 +1,9 @@
 //! Runs all parts of a call, with the parts of each phase in any order. This has the same effect as
 //! the call, and takes as many steps.
 //!
-//! An order is a slice that gives the number of the part for each of the first turns. In a turn
-//! after the end of the slice, the part with the same number as the turn runs. So the empty slice
-//! stands for the order 0, 1, 2 and so on.
+//! An order is a slice with the number of the part that runs in each of the first turns. In each
+//! later turn, the part with the same number as the turn runs. So the empty slice stands for the
+//! order 0, 1, 2 and so on.
 
 ghost use Rattle.std.specs.Prelude.{◌≡◌, ℕ, ◌*◌, ◌^◌, ◌<◌, Some, length, slice_get};
 ghost use Rattle.p3_util_kernels.specs.AnyOrder.{IsOrder, order_of, turn_of};

@@ -36,7 +36,7 @@ pub(crate) fn regions_interleaved<T>(plan: TransposePlan)
 {}
 
 /// Each region of a plan has a list of puts that puts the region by itself, as
-/// [`regions_interleaved`] requires.
+/// [`regions_interleaved`] assumes.
 pub(crate) fn region_alone<C: Cells, R: Source<Item = C::Item> + Copy>(
     out: C,
     source: R,
@@ -65,7 +65,7 @@ pub(crate) fn parts_interleaved<T>(phase: Phase)
 {}
 
 /// Each part of a phase has a list of exchanges that has the effect of the part by itself, as
-/// [`parts_interleaved`] requires.
+/// [`parts_interleaved`] assumes.
 pub(crate) fn part_alone<M: Places>(m: M, phase: Phase, number: usize) -> M
     requires below { number < parts_of phase }
     requires list { IsPhaseOf phase (length (M.items m)) }
