@@ -35,8 +35,8 @@
 //!
 //! # How many parts
 //!
-//! The argument `parts` says how many parts you ask for. The call may have another number of parts. If you ask for 0
-//! parts, this counts as 1. A transpose has at most as many parts as you ask for.
+//! With the argument `parts` you ask for a number of parts. The call may be cut into another number. Asking for 0 parts
+//! counts as asking for 1. A transpose has at most as many parts as you ask for.
 //!
 //! A phase of a reversal is cut like a square, by a grid. If you ask for N parts, each side of the square is cut into
 //! at most P = 1 + ⌊2√(N − 1)⌋ pieces, and each block of the grid on or above the diagonal is a part. So a phase has
@@ -63,9 +63,9 @@
 //! # }
 //! ```
 //!
-//! It is good to ask for four parts for each thread. Parts differ in size: a block on a diagonal has about half as many
-//! exchanges as a block above it. A list that is empty, or whose items have no bytes, has no parts, and its reversal
-//! has no phases.
+//! Four parts for each thread are a good number to ask for. Parts differ in size: a block on a diagonal has about half
+//! as many exchanges as a block above it. A list that is empty, or whose items have no bytes, has no parts, and its
+//! reversal has no phases.
 //!
 //! - A transpose is cut along its longer side, at multiples of 16 rows or columns.
 //! - A reversal of up to [`one_part_reversal`] items is one part, since for these lists the call itself is faster. A
@@ -80,20 +80,21 @@
 //!
 //! # What is not run
 //!
-//! A part that is dropped without being run leaves its cells, or its pairs of items, as they are. The loop `for _part
-//! in parts {}` drops all parts, and the compiler does not warn about this. Memory is safe whatever you drop, forget or
-//! run in another order, and wherever a panic comes from. After that, a reversal leaves the items in some order, each
-//! of them once.
+//! A part that is dropped without being run leaves its cells, or its pairs of items, as they are. The loop
+//! `for _part in parts {}` drops all parts, and the compiler does not warn about this. Memory is safe whatever you
+//! drop, forget or run in another order, and wherever a panic comes from. In all these cases, a reversal leaves the
+//! items in some order, each of them once.
 //!
 //! # Why this is safe
 //!
 //! Two parts that may run at the same time never touch the same index. No index belongs to two parts of a phase. Each
 //! part makes an exact number of steps, and all of its steps are at indices of that part. A step is one exchange of two
 //! items or one write of an item. This is proved for reversals of lists whose items all differ, and for transposes of
-//! an input that has no item in common with the output. Items do not matter, however: a kernel cannot look at an item,
-//! so a part touches the same indices whatever its items are. A part runs at most once, because `run` consumes it. The
-//! next phase cannot begin before all parts of a phase are gone, because these parts borrow the [`ReversalPhases`]. The
-//! package's README says under "Of threads" what of this is proved, and what is checked by review.
+//! an input that has no item in common with the output. For other lists it makes no difference: a kernel cannot look at
+//! an item, so a part touches the same indices whatever its items are. A part runs at most once, because `run` consumes
+//! it. The next phase cannot begin before all parts of a phase are gone, because these parts borrow the
+//! [`ReversalPhases`]. The package's README says under "Of threads" what of this is proved, and what is checked by
+//! review.
 use core::fmt;
 use core::iter::FusedIterator;
 
@@ -185,8 +186,8 @@ pub fn transpose<'a, T: Copy + Send + Sync>(
     }
 }
 
-/// Cuts [`reverse_slice_index_bits`](crate::reverse_slice_index_bits) into phases, and asks for `parts` parts: see [how
-/// many there are](self#how-many-parts).
+/// Cuts [`reverse_slice_index_bits`](crate::reverse_slice_index_bits) into phases. `parts` determines [how many
+/// parts](self#how-many-parts) a phase has.
 ///
 /// Items go to other threads, but no two threads share one, so they need not be `Sync`.
 ///
@@ -203,8 +204,8 @@ pub fn reversal<F: Send>(vals: &mut [F], parts: usize) -> ReversalPhases<'_, F> 
     }
 }
 
-/// Cuts [`reverse_slice_row_index_bits`](crate::reverse_slice_row_index_bits) into phases, and asks for `parts` parts:
-/// see [how many there are](self#how-many-parts).
+/// Cuts [`reverse_slice_row_index_bits`](crate::reverse_slice_row_index_bits) into phases. `parts` determines [how many
+/// parts](self#how-many-parts) a phase has.
 ///
 /// Items go to other threads, but no two threads share one, so they need not be `Sync`.
 ///

@@ -4,9 +4,9 @@
 //! It is proved that a kernel whose own precondition holds meets the preconditions of `exchange`, `put` and `at`, for
 //! every holder. So the holders here check no index. `reverse`, `reverse_rows`, `transpose`, `transpose_in_parts` and
 //! `Phases::new` check the kernel's precondition first. `next_phase`, `split_first`, `put` and `exchange` check
-//! nothing. Their preconditions follow from private fields, which are always set together. A comment in each of these
-//! functions says which field gives which clause. The holders are private to this file, so nothing else can make one.
-//! With the feature `checked`, other holders replace them, which check each index.
+//! nothing. Their preconditions follow from private fields, which are always set together. Comments in these functions
+//! say which field gives which clause. The holders are private to this file, so nothing else can make one. With the
+//! feature `checked`, other holders replace them, which check each index.
 //!
 //! The parts of a call share one list. The holder of a part is a pointer and a length. It makes references to one place
 //! or one run at a time, never to the whole list: see `SliceItems`. Which parts a call has, and what each part does, is
@@ -327,20 +327,20 @@ mod slices {
         #[inline(always)]
         fn put(&mut self, i: usize, v: T) {
             debug_assert!(i < self.len);
-            // SAFETY: the place is within the slice, by the `requires` of `Cells::put`.
+            // SAFETY: the cell is within the slice, by the `requires` of `Cells::put`.
             unsafe { *self.first.add(i) = v }
             // Without the fence, the compiler would read eight items before it writes them, because it knows that the
             // input and the output do not overlap. For processors with AVX-512 it would turn these reads, which are in
-            // eight rows, into one gather. For items of 4 and 8 bytes, that takes two to four times as long as item by
-            // item. The fence keeps each read after the write that comes before it in the program. It has no effect on
-            // the processor.
+            // eight rows, into one gather. For items of 4 and 8 bytes, that takes two to four times as long as moving
+            // one item after the other. The fence keeps each read after the write that comes before it in the program.
+            // It has no effect on the processor.
             compiler_fence(Ordering::SeqCst);
         }
 
         #[inline(always)]
         fn put_four(&mut self, i: usize, four: &Four<T>) {
             debug_assert!(self.len >= 4 && i <= self.len - 4);
-            // SAFETY: the four places are within the slice, by the `requires` of `Cells::put_four`. A `Four` has the
+            // SAFETY: the four cells are within the slice, by the `requires` of `Cells::put_four`. A `Four` has the
             // same layout as four items of a slice, since it is `repr(C)`.
             unsafe { self.first.add(i).cast::<Four<T>>().write(*four) }
         }

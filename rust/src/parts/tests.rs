@@ -53,8 +53,8 @@ impl Cells for &mut Noted {
     }
 }
 
-/// Runs each part on its own list, which has the numbers below `len`. Checks that part `number` leaves `wanted(number,
-/// place)` at each place, and that no place is changed twice. Returns how many places are changed.
+/// Runs each part on its own list, which has the numbers below `len`. Checks that part `number` leaves
+/// `wanted(number, place)` at each place, and that no place is changed twice. Returns how many places are changed.
 fn check(len: usize, count: usize, run: impl Fn(&mut Noted, usize), wanted: impl Fn(usize, usize) -> usize) -> usize {
     let mut places = BTreeSet::new();
     for number in 0..count {

@@ -86,7 +86,7 @@ pub(super) fn turned_4([a, b, c, d]: [Register; 4]) -> [Register; 4] {
     [p, q, r, s]
 }
 
-/// Does the same as [`turned_block`], in registers if the items have 4 or 8 bytes.
+/// Does the same as [`turned_block`], in registers if [`side`] is above 1 for these items.
 #[inline(always)]
 pub(super) fn turned<T: Copy>(rows: &Four<Four<T>>) -> Four<Four<T>> {
     match side::<T>() {
