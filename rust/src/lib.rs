@@ -67,8 +67,8 @@ mod bits;
 mod checked;
 /// The proved sources themselves, with their contracts as documentation. Here a reversal or a transpose also takes a
 /// list of your own, by a *holder*: a value that gives access to a list by index. Calls that count tell you how many
-/// exchanges or writes they make, and their contracts give the exact number. [`places`](kernels::places) has the traits
-/// for holders. [`contracts`](kernels::contracts) says what the names in a contract mean.
+/// swaps or writes they make, and their contracts give the exact number. [`places`](kernels::places) has the traits for
+/// holders. [`contracts`](kernels::contracts) says what the names in a contract mean.
 ///
 /// No function here checks its precondition. If the precondition does not hold, a call may leave the list in another
 /// order, panic or never end, but it never touches memory outside the lists. Check the precondition before you call. In

@@ -89,9 +89,9 @@
 //!
 //! Two parts that may run at the same time never touch the same index. No index belongs to two parts of a phase. Each
 //! part makes an exact number of steps, and all of its steps are at indices of that part. A step is one exchange of two
-//! items or one write of an item. This is proved for reversals of lists whose items all differ, and for transposes of
-//! an input that has no item in common with the output. For other lists it makes no difference: a kernel cannot look at
-//! an item, so a part touches the same indices whatever its items are. A part runs at most once, because `run` consumes
+//! items or one put of an item. This is proved for reversals of lists whose items all differ, and for transposes of an
+//! input that has no item in common with the output. For other lists it makes no difference: a kernel cannot look at an
+//! item, so a part touches the same indices whatever its items are. A part runs at most once, because `run` consumes
 //! it. The next phase cannot begin before all parts of a phase are gone, because these parts borrow the
 //! [`ReversalPhases`]. The package's README says under "Of threads" what of this is proved, and what is checked by
 //! review.

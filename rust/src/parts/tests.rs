@@ -73,8 +73,8 @@ fn check(len: usize, count: usize, run: impl Fn(&mut Noted, usize), wanted: impl
     places.len()
 }
 
-/// Checks the parts of the transpose of a matrix. Its items are the numbers from `len` on, so that each write changes
-/// its cell. The matrix is cut along its longer side, or always along its columns if `may_cut_rows` is false.
+/// Checks the parts of the transpose of a matrix. Its items are the numbers from `len` on, so that each put changes its
+/// cell. The matrix is cut along its longer side, or always along its columns if `may_cut_rows` is false.
 fn check_matrix(width: usize, height: usize, parts: usize, may_cut_rows: bool) {
     let len = width * height;
     let input: Vec<usize> = (len..2 * len).collect();
