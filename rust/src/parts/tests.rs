@@ -239,8 +239,8 @@ fn blocks_of_squares() {
     }
 }
 
-/// Runs the phases of long lists, of which there are three, and of long rows, of which there is one. No two parts of a
-/// phase change the same place.
+/// Runs all phases of long lists, which have three phases, and of lists of long rows, which have one phase. No two
+/// parts of a phase change the same place.
 #[test]
 fn long_lists() {
     for (digits, row_width, count) in [(9, 1, 3), (14, 1, 3), (15, 1, 3), (19, 1, 3), (10, 20, 1)] {

@@ -56,7 +56,7 @@ fn transposes<T: Number>(width: usize, height: usize, parts: usize, threads: usi
     assert!(output.into_iter().eq((0..input.len()).map(transposed)));
 }
 
-/// Reverses 2^`digits` rows of numbers, in phases that are cut by sides of at most `parts` pieces.
+/// Reverses 2^`digits` rows of numbers, in phases whose squares are cut into at most `parts` pieces on each side.
 fn reverses<T: Number>(digits: u32, row_width: usize, parts: usize, threads: usize) {
     let mut list: Vec<T> = (0..row_width << digits).map(T::of).collect();
     let mut phases = Phases::new(&mut list, row_width, parts, 0).unwrap();
