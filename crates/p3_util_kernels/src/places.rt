@@ -90,7 +90,7 @@ pub trait Places {
         ensures exchanged { RunsExchanged i j len (items self.old) (items self.new) }
         ensures holder { same_holder len self.old self.new }
     {
-        // The contract of `len` tells the proof that the length fits in a usize.
+        // `len` is called for its contract, which tells the proof that the length fits a usize.
         let _ = self.len();
         for t in 0..len {
             self.exchange(i + t, j + t);
@@ -109,7 +109,7 @@ pub trait Places {
         ensures exchanged { BlocksExchanged 16 i j stride (items self.old) (items self.new) }
         ensures holder { same_holder 16 self.old self.new }
     {
-        // The contract of `len` tells the proof that the length fits in a usize.
+        // `len` is called for its contract, which tells the proof that the length fits a usize.
         let _ = self.len();
         for r in 0..4 {
             for c in 0..4 {
@@ -164,7 +164,7 @@ pub trait Cells {
             → slice_get (items self.new) p ≡ slice_get (items self.old) p }
         ensures holder { same_holder 4 self.old self.new }
     {
-        // The contract of `len` tells the proof that the length fits in a usize.
+        // `len` is called for its contract, which tells the proof that the length fits a usize.
         let _ = self.len();
         self.put(i, four.0);
         self.put(i + 1, four.1);
@@ -213,13 +213,13 @@ pub trait Source {
         ensures { (t : ℕ) → t < 4 → slice_get (in_order result) t
             ≡ slice_get (items self.now) (i + t) }
     {
-        // The contract of `len` tells the proof that the length fits in a usize.
+        // `len` is called for its contract, which tells the proof that the length fits a usize.
         let _ = self.len();
         Four(self.at(i), self.at(i + 1), self.at(i + 2), self.at(i + 3))
     }
 }
 
-/// Transposes a block of 4 by 4 items: takes the rows of the block and returns its columns.
+/// The columns of a block of 4 by 4 items that has these rows.
 #[inline(always)]
 pub(crate) fn turned_block<T: Copy>(rows: &Four<Four<T>>) -> Four<Four<T>>
     ensures { IsBlockTransposed (rows_in_order rows.now) (rows_in_order result) }

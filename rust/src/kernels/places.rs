@@ -108,7 +108,7 @@ pub trait Places {
     /// ```
     #[inline(always)]
     fn exchange_runs(&mut self, i: usize, j: usize, len: usize) {
-        // The contract of `len` tells the proof that the length fits in a usize.
+        // `len` is called for its contract, which tells the proof that the length fits a usize.
         let _ = self.len();
         for t in 0..len {
             self.exchange(i + t, j + t);
@@ -133,7 +133,7 @@ pub trait Places {
     /// ```
     #[inline(always)]
     fn exchange_blocks(&mut self, i: usize, j: usize, stride: usize) {
-        // The contract of `len` tells the proof that the length fits in a usize.
+        // `len` is called for its contract, which tells the proof that the length fits a usize.
         let _ = self.len();
         for r in 0..4 {
             for c in 0..4 {
@@ -199,7 +199,7 @@ pub trait Cells {
     /// ```
     #[inline(always)]
     fn put_four(&mut self, i: usize, four: &Four<Self::Item>) {
-        // The contract of `len` tells the proof that the length fits in a usize.
+        // `len` is called for its contract, which tells the proof that the length fits a usize.
         let _ = self.len();
         self.put(i, four.0);
         self.put(i + 1, four.1);
@@ -267,13 +267,13 @@ pub trait Source {
     /// ```
     #[inline(always)]
     fn four(&self, i: usize) -> Four<Self::Item> {
-        // The contract of `len` tells the proof that the length fits in a usize.
+        // `len` is called for its contract, which tells the proof that the length fits a usize.
         let _ = self.len();
         Four(self.at(i), self.at(i + 1), self.at(i + 2), self.at(i + 3))
     }
 }
 
-/// Transposes a block of 4 by 4 items: takes the rows of the block and returns its columns.
+/// The columns of a block of 4 by 4 items that has these rows.
 #[inline(always)]
 pub(crate) fn turned_block<T: Copy>(rows: &Four<Four<T>>) -> Four<Four<T>> {
     let Four(a, b, c, d) = *rows;

@@ -37,7 +37,7 @@ impl<S: Places> Swaps<S> {
         ensures count { result.count ≡ count }
         ensures len_fits { length (S.items holder) < 2 ^ 64 }
     {
-        // The contract of `len` tells the proof that the length fits in a usize.
+        // `len` is called for its contract, which tells the proof that the length fits a usize.
         let _ = holder.len();
         Swaps { holder, count }
     }
@@ -104,7 +104,7 @@ impl<C: Cells> Writes<C> {
         ensures count { result.count ≡ count }
         ensures len_fits { length (C.items holder) < 2 ^ 64 }
     {
-        // The contract of `len` tells the proof that the length fits in a usize.
+        // `len` is called for its contract, which tells the proof that the length fits a usize.
         let _ = holder.len();
         Writes { holder, count }
     }

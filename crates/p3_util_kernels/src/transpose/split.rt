@@ -135,7 +135,7 @@ pub(crate) fn put_split<M: Cells, R: Source<Item = M::Item> + Copy>(
     (out, 1 + nested.max(nested_after))
 }
 
-/// Whether `region` is a leaf, which is put without a split.
+/// Whether `region` is put without a split.
 #[tactic(auto, using(crate::proofs::LevelsLemmas::nest_narrow, crate::proofs::LevelsLemmas::nest_small))]
 fn is_leaf(region: Region) -> bool
     requires rows_in_order { region.row_start ≤ region.row_end }

@@ -33,7 +33,7 @@ impl<S: Places> Swaps<S> {
     /// A counter around `holder` that starts at `count`.
     #[inline(always)]
     pub(crate) fn resumed(holder: S, count: u128) -> Self {
-        // The contract of `len` tells the proof that the length fits in a usize.
+        // `len` is called for its contract, which tells the proof that the length fits a usize.
         let _ = holder.len();
         Swaps { holder, count }
     }
@@ -125,7 +125,7 @@ impl<C: Cells> Writes<C> {
     /// A counter around `holder` that starts at `count`.
     #[inline(always)]
     pub(crate) fn resumed(holder: C, count: u128) -> Self {
-        // The contract of `len` tells the proof that the length fits in a usize.
+        // `len` is called for its contract, which tells the proof that the length fits a usize.
         let _ = holder.len();
         Writes { holder, count }
     }

@@ -119,7 +119,7 @@ pub(crate) fn put_split<M: Cells, R: Source<Item = M::Item> + Copy>(
     (out, 1 + nested.max(nested_after))
 }
 
-/// Whether `region` is a leaf, which is put without a split.
+/// Whether `region` is put without a split.
 fn is_leaf(region: Region) -> bool {
     let (rows, cols) = (region.rows(), region.cols());
     rows.min(cols) <= NARROW_SIDE || rows.max(cols) <= LEAF_SIDE
