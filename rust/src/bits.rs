@@ -16,8 +16,8 @@ use crate::kernels::bits as proved;
 #[must_use]
 #[track_caller]
 pub const fn log2_strict_usize(n: usize) -> usize {
-    // The call below is proved for every power of two. This check for powers of two is also a hint to the compiler,
-    // which learns from it what `1 << log2_strict_usize(n)` is. For 0, the shift by 64 is a shift by 0, and 1 is not 0.
+    // The call below is proved for every power of two. This check is also a hint to the compiler, which learns from it
+    // what `1 << log2_strict_usize(n)` is. If `n` is 0, the shift by 64 is a shift by 0. It gives 1, which is not `n`.
     assert!(1_usize.wrapping_shl(n.trailing_zeros()) == n, "Not a power of two");
     proved::log2_strict_usize(n)
 }
@@ -40,9 +40,9 @@ pub const fn log3_strict_usize(n: usize) -> usize {
     proved::log3_strict_usize(n)
 }
 
-/// Reverses the low binary digits of `x` and drops the others: as many digits as `n`, a power of two, has below its set
-/// digit. An `n` of 1 reverses all 64 digits, as a `bit_len` of 0 does in [`reverse_bits_len`]. For a power of two this
-/// is [`kernels::bits::reverse_bits`](proved::reverse_bits).
+/// Reverses the k low binary digits of `x` and drops the others, for an `n` of 2^k. An `n` of 1 reverses all 64 digits,
+/// as a `bit_len` of 0 does in [`reverse_bits_len`]. For a power of two this is
+/// [`kernels::bits::reverse_bits`](proved::reverse_bits).
 ///
 /// # Panics
 ///

@@ -1,12 +1,13 @@
-//! The holders of slices when the feature `checked` is on. They check each index. The parts of a call do not share one
-//! list: each part has a range of its own.
+//! The holders of slices with the feature `checked`. They check each index. Here the parts of a call do not share the
+//! list: each part has a range of it for itself.
 
 use core::mem::take;
 
 use crate::kernels::places::{Cells, Places};
 pub(crate) use crate::kernels::places::{SliceCells, SlicePlaces, SliceSource};
 
-/// A range of a list that begins at place `before`. Its places keep the numbers that they have in the whole list.
+/// A range of a list, for one part. The range begins at place `before` of the list, and its places have the same
+/// indices as in the list.
 pub(crate) struct PartItems<'a, T> {
     items: &'a mut [T],
     before: usize,
@@ -15,7 +16,7 @@ pub(crate) struct PartItems<'a, T> {
 }
 
 impl<'a, T> PartItems<'a, T> {
-    /// The whole list, which is cut into shares of `share` places each. The last share may have fewer.
+    /// The whole list. [`PartItems::share`] cuts it into shares of `share` places each. The last share may have fewer.
     pub(crate) fn in_shares(items: &'a mut [T], share: usize) -> Self {
         PartItems {
             before: 0,

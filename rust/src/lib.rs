@@ -1,11 +1,12 @@
 //! Bit reversal, transposes and the other small functions of `p3-util` 0.8.0, under the original's names, built on
 //! proved sources.
 //!
-//! The module [`kernels`] has the proved code: it was proved as Rust with contracts, which it keeps as documentation.
-//! The functions next to it are those of the original. A function without a condition is a proved function itself or
-//! calls one. The others check their condition, panic if it does not hold, and call the proved function, to which their
-//! documentation links. [`reverse_bits`] and [`reverse_bits_len`] check it only with debug assertions, and the others
-//! always. [`kernels::contracts`] says how to read a contract.
+//! The module [`kernels`] has the proved code. It was proved as Rust with contracts, and its documentation still has
+//! these contracts. The functions next to this module are those of the original. If the original needs a condition,
+//! such as a length that is a power of two, the function here checks that condition and panics if it does not hold.
+//! Otherwise it calls the proved function, to which its documentation links. [`reverse_bits`] and [`reverse_bits_len`]
+//! check their conditions only with debug assertions. A function without a condition is a proved function itself or
+//! calls one. [`kernels::contracts`] says how to read a contract.
 //!
 //! ```
 //! use p3_util_proved::{reverse_slice_index_bits, transpose::transpose};
@@ -19,7 +20,8 @@
 //! assert_eq!(columns, [0, 1, 4, 5, 2, 3, 6, 7]);
 //! ```
 //!
-//! Bytes in chunks, two iterators of equal length, and a map that keeps the order of its keys:
+//! There are also calls that cut an iterator into chunks and pair two iterators of equal length, and a map that keeps
+//! its keys in the order of insertion:
 //!
 //! ```
 //! use p3_util_proved::linear_map::LinearMap;
@@ -41,8 +43,8 @@
 //!
 //! # Features
 //!
-//! - `checked`: the kernels check each index of a slice, and this crate has no unsafe code. Results are the same. Cargo
-//!   enables a feature for the whole program if one crate asks for it.
+//! - `checked`: the kernels check each index of a slice, and this crate has no unsafe code. Results are the same. If
+//!   one crate of a program enables the feature, cargo enables it for the whole program.
 //!
 //! No feature is on by default. The crate is `no_std` with `alloc`, has no dependency and no build script, and starts
 //! no thread. [`parts`] cuts a call into parts for threads of your own.
@@ -63,12 +65,14 @@ use core::any::type_name;
 mod bits;
 #[cfg(feature = "checked")]
 mod checked;
-/// The proved sources themselves, with their contracts as documentation. Every call is here for holders of your own,
-/// and with the exact number of its steps. [`contracts`](kernels::contracts) says what the names in a contract mean.
+/// The proved sources themselves, with their contracts as documentation. Here a reversal or a transpose also takes a
+/// list of your own, by a *holder*: a value that gives access to a list by index. Calls that count tell you how many
+/// swaps or writes they make, and their contracts give the exact number. [`places`](kernels::places) has the traits for
+/// holders. [`contracts`](kernels::contracts) says what the names in a contract mean.
 ///
-/// Nothing here checks a condition. If a condition does not hold, a call leaves another order, panics or does not end,
-/// but it never touches memory outside the lists. A caller checks the condition beforehand, where `len` is the length
-/// of the holder:
+/// No function here checks its precondition. If the precondition does not hold, a call may leave the list in another
+/// order, panic or never end, but it never touches memory outside the lists. Check the precondition before you call. In
+/// these tests, `len` is the length of the holder:
 ///
 /// | Call of [`reverse`](kernels::reverse) or [`transpose`](kernels::transpose) | Test |
 /// |---|---|
@@ -78,10 +82,11 @@ mod checked;
 /// | `reverse_chunks_on` | `checked_log_size_sum(lb_num_chunks, lb_chunk_size)` is `Some((_, items))` where `items` is `len` |
 /// | `transpose`, `transpose_counted`, `transpose_source_counted`, `transpose_on`, `transpose_source_on` | `fits_matrix(input_len, len, width, height)` |
 /// | `transpose_region_counted`, `transpose_region_on`, `transpose_source_region_counted`, `transpose_source_region_on` | the same, and `region.fits(width, height)` |
-/// | `transpose_split_on`, `transpose_source_split_on` | the same as for a region; `levels` of 64 are always enough |
+/// | `transpose_split_on`, `transpose_source_split_on` | the same as for a region; 64 `levels` are always enough |
 /// | `transpose_square_on` | `fits_square(len, base, log_stride, log_size)` |
 ///
-/// To reverse a container of your own, implement [`Places`](kernels::places::Places) for it. The swaps are counted:
+/// To reverse a container of your own, implement [`Places`](kernels::places::Places) for it. This call also counts the
+/// swaps:
 ///
 /// ```
 /// use p3_util_proved::kernels::{places::Places, reverse::reverse_counted};
@@ -106,8 +111,9 @@ mod checked;
 /// assert_eq!(list[..8], [0, 1, 8, 3, 4, 5, 12, 7]);
 /// ```
 ///
-/// A transpose reads from a [`Source`](kernels::places::Source) and writes to [`Cells`](kernels::places::Cells). Here
-/// the input is computed when it is read, the output is a list of columns, and the writes are counted:
+/// A transpose reads from a [`Source`](kernels::places::Source) and writes to [`Cells`](kernels::places::Cells). In
+/// this example, an item of the input is computed when it is read, and the output is a list of columns. The call also
+/// counts the writes:
 ///
 /// ```
 /// use p3_util_proved::kernels::places::{Cells, Source};
@@ -227,10 +233,11 @@ fn refuse_items(len: usize) -> ! {
     panic!("Not a power of two: {len} items")
 }
 
-/// Reverses the order of the rows of `vals`, of `row_width` items each, by index bits.
+/// Reverses the order of the rows of `vals` by index bits. Each row has `row_width` items.
 ///
-/// With 2^k rows, row `r` becomes the row whose index has the k bits of `r` in reversed order. No item is cloned or
-/// dropped. The kernel is that of [`kernels::reverse::reverse_slice_row_index_bits`], whose contract says this.
+/// With 2^k rows, the row at index `r` comes from the index that has the k bits of `r` in reversed order. No item is
+/// cloned or dropped. The kernel is that of [`kernels::reverse::reverse_slice_row_index_bits`], whose contract says
+/// this.
 ///
 /// ```
 /// let mut rows = [0, 1, 10, 11, 20, 21, 30, 31];
@@ -249,7 +256,7 @@ pub fn reverse_slice_row_index_bits<F>(vals: &mut [F], row_width: usize) {
     }
 }
 
-/// Panics with a message about the length and the width, which do not fit.
+/// Panics with a message that says why the length does not fit the row width.
 #[cold]
 #[inline(never)]
 #[track_caller]

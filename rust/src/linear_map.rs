@@ -10,11 +10,12 @@ pub use crate::kernels::linear_map::{Iter, Keys, Values};
 use crate::memory::{Global, granted};
 
 /// A map in insertion order, for few keys. A lookup compares each stored key with the given one, as in
-/// `stored == given`. So it takes time proportional to the number of pairs, and inserting n new keys takes time
+/// `stored == given`. So a lookup takes time proportional to the number of pairs, and inserting n new keys takes time
 /// proportional to n^2.
 ///
-/// Each method calls the proved one of the same name of [`kernels::linear_map::LinearMap`](proved::LinearMap), whose
-/// contract says what it does. The proved method returns an error if memory runs out, and this one panics.
+/// Each method calls the method of the same name of the proved [`kernels::linear_map::LinearMap`](proved::LinearMap),
+/// whose contract says what it does. If memory runs out, the proved method returns an error, and the method here
+/// panics.
 ///
 /// ```
 /// use p3_util_proved::linear_map::LinearMap;
@@ -55,8 +56,8 @@ impl<K: Eq, V> LinearMap<K, V> {
         self.0.get_mut(k)
     }
 
-    /// Gives `k` the value `v`, and returns the value that it had before. A known key keeps its place and its stored
-    /// spelling. A new pair goes to the end.
+    /// Stores the value `v` for the key `k`, and returns the value that was stored for an equal key before. If there
+    /// was an equal key, that key stays, at its place in the order. Otherwise the new pair goes to the end.
     ///
     /// # Panics
     ///

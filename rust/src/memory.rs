@@ -1,5 +1,5 @@
 //! The types that the proved sources use instead of `Vec` and `String`. Their calls return an error if memory runs out,
-//! and the error types implement the traits that Rust expects of them.
+//! and the error types implement the traits that Rust expects of an error.
 
 use core::error::Error;
 use core::fmt::{self, Debug, Display, Formatter};
@@ -38,7 +38,7 @@ pub struct PushError<T> {
     pub value: T,
 }
 
-/// The value of the result of a call that allocates.
+/// Returns the value of a successful call that allocates.
 ///
 /// # Panics
 ///
@@ -51,8 +51,8 @@ pub(crate) fn granted<T, E>(answer: Result<T, E>) -> T {
     }
 }
 
-/// A string whose calls fail if there is no memory to grow. It is read as a `str`, and `into` turns it into the
-/// `String` of `alloc`.
+/// A string whose calls return an error if there is no memory for it to grow. It is read as a `str`, and `into` turns
+/// it into the `String` of `alloc`.
 #[derive(Clone, PartialEq, Eq)]
 pub struct String(alloc::string::String);
 
@@ -104,7 +104,7 @@ impl From<String> for alloc::string::String {
     }
 }
 
-/// A vector whose calls fail if there is no memory to grow.
+/// A vector whose calls return an error if there is no memory for it to grow.
 #[derive(Debug, PartialEq, Eq)]
 pub struct Vec<T>(alloc::vec::Vec<T>);
 

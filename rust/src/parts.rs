@@ -1,8 +1,8 @@
 //! Transposes and reversals in parts, for threads of your own. This package starts none.
 //!
 //! A call is cut into parts, each of which may run on any thread. The parts of a transpose may run in any order. A
-//! reversal has phases: the parts of one phase may run in any order, and all of them have to be done before the next
-//! phase begins. All parts together have the same effect as the call. Nothing is allocated.
+//! reversal has phases: the parts of one phase may run in any order, and all parts of that phase have to be done before
+//! the next phase begins. All parts together have the same effect as the call. Nothing is allocated.
 //!
 //! ```
 //! use std::thread::scope;
@@ -29,22 +29,24 @@
 //! the phase is done. One scope around all phases does not compile: its threads could still run parts of one phase when
 //! the next one begins.
 //!
-//! With rayon, a phase is `phase.par_bridge().for_each(ReversalPart::run)`, or
-//! `phase.collect::<Vec<_>>().into_par_iter().for_each(ReversalPart::run)`. The first needs no list of the parts: each
-//! thread takes the next one behind a lock. Both return when all parts are done.
+//! With rayon, run a phase by `phase.par_bridge().for_each(ReversalPart::run)`, or by
+//! `phase.collect::<Vec<_>>().into_par_iter().for_each(ReversalPart::run)`. The first way needs no list of the parts:
+//! each thread takes the next part behind a lock. Both ways return when all parts are done.
 //!
 //! # How many parts
 //!
-//! The number of parts that you pass to a call is a wish, and 0 counts as 1. A transpose has at most that many parts.
+//! With the argument `parts` you ask for a number of parts. The call may be cut into another number. Asking for 0 parts
+//! counts as asking for 1. A transpose has at most as many parts as you ask for.
 //!
-//! A reversal is cut by a grid. For a wish of N, each side of a square is cut into at most P = 1 + ⌊2√(N − 1)⌋ parts,
-//! and a phase has P(P + 1) / 2 parts: about two for each part of the wish. It has twice as many if there are two
-//! squares. A short side has fewer parts.
+//! A phase of a reversal is cut like a square, by a grid. If you ask for N parts, each side of the square is cut into
+//! at most P = 1 + ⌊2√(N − 1)⌋ pieces, and each block of the grid on or above the diagonal is a part. So a phase has
+//! P(P + 1) / 2 parts: about two for each part that you ask for. It has twice as many if there are two squares, and
+//! fewer if a side is too short for P pieces.
 //!
 //! ```
 //! use p3_util_proved::parts::reversal;
 //!
-//! // The number of items, the wish, and how many parts each phase has.
+//! // The number of items, how many parts are asked for, and how many parts each phase has.
 //! let table = [
 //!     (1 << 20, 16, [36, 36, 36]),
 //!     (1 << 21, 16, [36, 72, 36]),
@@ -61,50 +63,56 @@
 //! # }
 //! ```
 //!
-//! A good wish is four parts for each thread. Parts differ in size: a block on a diagonal has about half as many
-//! exchanges as another. A list that is empty, or whose items have no bytes, has no parts, and its reversal has no
-//! phases.
+//! Four parts for each thread are a good number to ask for. Parts differ in size: a block on a diagonal has about half
+//! as many exchanges as a block above it. A list that is empty, or whose items have no bytes, has no parts, and its
+//! reversal has no phases.
 //!
 //! - A transpose is cut along its longer side, at multiples of 16 rows or columns.
-//! - A reversal of up to [`one_part_reversal`] items is one part, since there the call itself is faster. A longer one,
-//!   of 2^k items, has three phases. In the second, each square of 2^(k / 2) rows is cut into a grid, at multiples of
-//!   16, and a part is one of its blocks on or above the diagonal. There is one square if k is even, and two if it is
-//!   odd. In the first and the third, 2^(k / 2) runs are reversed. Their pairs are cut like the items of a square that
-//!   has as many items, at multiples of 2.
-//! - A reversal of longer rows has one phase, whose pairs of rows are cut in the same way. It is one part if the list
-//!   has no more items than [`one_part_reversal`] says. 4 rows are one part too, since they have one pair.
+//! - A reversal of up to [`one_part_reversal`] items is one part, since for these lists the call itself is faster. A
+//!   longer reversal, of 2^k items, has three phases. The second phase transposes squares of 2^(k / 2) rows: one square
+//!   if k is even, and two if k is odd. Each square is cut into a grid, at multiples of 16, and a part is one of its
+//!   blocks on or above the diagonal. The first and the third phase reverse the order of 2^(k / 2) runs of items. The
+//!   pairs of runs are cut like a list of 2^(k / 2) items, but at multiples of 2.
+//! - A reversal of longer rows has one phase, whose pairs of rows are cut in the same way. This phase is one part if
+//!   the list has no more items than [`one_part_reversal`] says. It is also one part if there are 4 rows, since these
+//!   have only one pair.
 //! - With the feature `checked` a transpose is cut along its columns, and a reversal is one part.
 //!
 //! # What is not run
 //!
-//! A part that is dropped leaves its cells, or its pairs of items, as they are. `for _part in parts {}` drops all of
-//! them, and the compiler does not warn about it. Memory is safe whatever is dropped, forgotten or run in another
-//! order, and wherever a panic comes from. A reversal then leaves the items in some order, each of them once.
+//! A part that is dropped without being run leaves its cells, or its pairs of items, as they are. The loop
+//! `for _part in parts {}` drops all parts, and the compiler does not warn about this. Memory is safe whatever you
+//! drop, forget or run in another order, and wherever a panic comes from. In all these cases, a reversal leaves the
+//! items in some order, each of them once.
 //!
 //! # Why this is safe
 //!
-//! Two parts that may run at the same time never touch the same index. Each part makes an exact number of steps, each
-//! of them at an index of that part, and no index belongs to two parts of a phase. That is proved for lists whose items
-//! all differ. A part touches the same indices whatever its items are: a kernel cannot look at an item. A part is run
-//! at most once, because running it consumes it, and a phase begins after the one before it, because its parts borrow
-//! the phases. The package's README says under "Of threads" what of this is proved, and what is checked by review.
+//! Two parts that may run at the same time never touch the same index. No index belongs to two parts of a phase. Each
+//! part makes an exact number of steps, and all of its steps are at indices of that part. A step is one exchange of two
+//! items or one put of an item. This is proved for reversals of lists whose items all differ, and for transposes of an
+//! input that has no item in common with the output. For other lists it makes no difference: a kernel cannot look at an
+//! item, so a part touches the same indices whatever its items are. A part runs at most once, because `run` consumes
+//! it. The next phase cannot begin before all parts of a phase are gone, because these parts borrow the
+//! [`ReversalPhases`]. The package's README says under "Of threads" what of this is proved, and what is checked by
+//! review.
 use core::fmt;
 use core::iter::FusedIterator;
 
 use crate::kernels::parts::Phase;
 use crate::unchecked::{self, Parts, Phases, Regions};
 
-/// The number of items above which a reversal is cut, whatever their size.
+/// A list of more items is cut, whatever the size of its items.
 const CUT_ITEMS: usize = 1 << 18;
 
-/// The number of bytes above which a reversal is cut if it has more than [`CUT_WIDE_ITEMS`] items.
+/// A list of more bytes is cut if it has more than [`CUT_WIDE_ITEMS`] items.
 const CUT_BYTES: usize = 1 << 21;
 
-/// The number of items up to which a reversal is one part, however many bytes they have.
+/// A list of at most this many items is one part, however many bytes they have.
 const CUT_WIDE_ITEMS: usize = 1 << 16;
 
-/// The greatest number of items of this type that [`reversal`] and [`row_reversal`] leave as one part: 2^18, or as many
-/// as 2^21 bytes hold, but 2^16 at the least. Up to that number the call itself is faster than its parts.
+/// The greatest number of items of this type that [`reversal`] and [`row_reversal`] leave as one part. It is 2^18, or
+/// the number of items that 2^21 bytes hold if that is less, but at least 2^16. Up to that number the call itself is
+/// faster than its parts.
 ///
 /// ```
 /// use p3_util_proved::parts::one_part_reversal;
@@ -140,8 +148,8 @@ pub struct TransposePart<'a, T>(Parts<'a, T, Regions<&'a [T]>>);
 #[must_use = "a reversal is done by the parts of its phases, and none has run yet"]
 pub struct ReversalPhases<'a, F>(Phases<'a, F>);
 
-/// The remaining parts of a phase, as an iterator of known length. As long as one of them exists, there is no other
-/// phase.
+/// The remaining parts of a phase, as an iterator of known length. As long as one of these parts exists, the next phase
+/// cannot begin.
 #[must_use = "a part that is not run leaves the list neither as it was nor reversed"]
 pub struct ReversalParts<'a, F>(Parts<'a, F, Phase>);
 
@@ -149,9 +157,10 @@ pub struct ReversalParts<'a, F>(Parts<'a, F, Phase>);
 #[must_use = "a part that is not run leaves the list neither as it was nor reversed"]
 pub struct ReversalPart<'a, F>(Parts<'a, F, Phase>);
 
-/// The greatest number of parts that a side is cut into for a wish of this many parts. P parts of a side make P(P + 1)
-/// / 2 blocks. These are about two for each part of the wish, so that threads that take one after the other end at
-/// about the same time. More blocks would be smaller, and small blocks make less use of the caches.
+/// The greatest number of pieces that a side is cut into if the caller asks for `wish` parts. P pieces of a side make
+/// P(P + 1) / 2 blocks. These are about two for each part that the caller asks for, so that threads that take one block
+/// after the other end at about the same time. More blocks would be smaller, and small blocks make less use of the
+/// caches.
 const fn parts_of_side(wish: usize) -> usize {
     1 + wish.saturating_sub(1).saturating_mul(4).isqrt()
 }
@@ -177,8 +186,8 @@ pub fn transpose<'a, T: Copy + Send + Sync>(
     }
 }
 
-/// Cuts [`reverse_slice_index_bits`](crate::reverse_slice_index_bits) into phases, for a wish of `parts` parts: see
-/// [how many there are](self#how-many-parts).
+/// Cuts [`reverse_slice_index_bits`](crate::reverse_slice_index_bits) into phases. `parts` determines [how many
+/// parts](self#how-many-parts) a phase has.
 ///
 /// Items go to other threads, but no two threads share one, so they need not be `Sync`.
 ///
@@ -195,8 +204,8 @@ pub fn reversal<F: Send>(vals: &mut [F], parts: usize) -> ReversalPhases<'_, F> 
     }
 }
 
-/// Cuts [`reverse_slice_row_index_bits`](crate::reverse_slice_row_index_bits) into phases, for a wish of `parts` parts:
-/// see [how many there are](self#how-many-parts).
+/// Cuts [`reverse_slice_row_index_bits`](crate::reverse_slice_row_index_bits) into phases. `parts` determines [how many
+/// parts](self#how-many-parts) a phase has.
 ///
 /// Items go to other threads, but no two threads share one, so they need not be `Sync`.
 ///
@@ -230,7 +239,8 @@ impl<F> ReversalPhases<'_, F> {
 
     /// Passes the parts of each phase to `run`, one phase after the other. A part that `run` drops is not done.
     ///
-    /// A scope of threads stands inside `run`. It waits for its threads, so the phase is done when `run` returns.
+    /// Open a scope of threads inside `run`, as in this example. The scope waits for its threads, so the phase is done
+    /// when `run` returns.
     ///
     /// ```
     /// use std::thread::scope;

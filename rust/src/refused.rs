@@ -43,7 +43,8 @@
 //!
 //! # Parts
 //!
-//! Parts, and the iterators over them, can be sent to other threads together with their items:
+//! Parts, the iterators over parts, and the phases of a reversal can be sent to other threads together with their
+//! items:
 //!
 //! ```
 //! use p3_util_proved::assert_send;
@@ -74,7 +75,7 @@
 //! p3_util_proved::assert_send::<p3_util_proved::parts::ReversalPart<'_, std::rc::Rc<u8>>>();
 //! ```
 //!
-//! None of them can be cloned, so no part can run twice:
+//! No value of these types can be cloned, so no part can run twice:
 //!
 //! ```compile_fail,E0277
 //! p3_util_proved::assert_clone::<p3_util_proved::parts::TransposeParts<'_, u8>>();
@@ -105,7 +106,7 @@
 //! part.run();
 //! ```
 //!
-//! As long as one of them exists, its list is borrowed, and for a transpose the input too:
+//! As long as a value of one of these types exists, its list is borrowed. For a transpose, the input is borrowed too:
 //!
 //! ```
 //! use p3_util_proved::parts::{reversal, transpose};

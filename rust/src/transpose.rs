@@ -4,19 +4,20 @@ use crate::kernels::places::Source;
 use crate::kernels::transpose::{Matrix, Strips};
 use crate::unchecked;
 
-/// The number of items above which a matrix of wide items may be put 16 columns at a time, row after row.
+/// Items of 32 and of 64 bytes are *wide*. A matrix of more wide items than this may be put 16 columns at a time, row
+/// after row.
 const WIDE_ITEMS: usize = 1 << 20;
 
-/// The least number of columns of such a matrix.
+/// The least number of columns of a matrix of wide items that is put in this way.
 const WIDE_COLUMNS: usize = 16;
 
-/// The number of bytes that each of its columns is a multiple of. A column becomes a row of the output, and items of
-/// such rows that are in the same column compete for one set of the first-level cache.
+/// A matrix of wide items is put in this way if the number of bytes of a column is a multiple of this. A column becomes
+/// a row of the output. The items in one column of such rows compete for one set of the first-level cache.
 const WIDE_COLUMN_BYTES: usize = 4096;
 
-/// Writes the transpose of `input`, a matrix of `height` rows of `width` items, to `output`.
+/// Transposes `input`, a matrix of `height` rows of `width` items, into `output`.
 ///
-/// The item at `input[y * width + x]` is written to `output[x * height + y]`. The kernel is that of
+/// The item at `input[y * width + x]` goes to `output[x * height + y]`. The kernel is that of
 /// [`kernels::transpose::transpose`](crate::kernels::transpose::transpose), whose contract says this.
 ///
 /// ```
@@ -45,7 +46,7 @@ pub fn transpose<T: Copy + Send + Sync>(input: &[T], output: &mut [T], width: us
     }
 }
 
-/// Panics with the original's message about the first length that is not the product. Here the product is computed
+/// Panics with the original's message about the first length that is not `width * height`. Here the product is computed
 /// without overflow.
 #[cold]
 #[inline(never)]
@@ -66,22 +67,22 @@ pub(crate) fn refuse(input: usize, output: usize, width: usize, height: usize) -
 /// The least number of rows and of columns of a matrix that is put by blocks in registers.
 const BLOCKS_SIDE: usize = 8;
 
-/// The least number of items of such a matrix if its blocks leave a row or a column over.
+/// A matrix of fewer items is put by blocks in registers only if 4 divides both sides.
 const BLOCKS_ITEMS: usize = 128;
 
-/// The greatest number of items of 8 bytes of such a matrix.
+/// A matrix of items of 8 bytes is put by blocks in registers only if it has at most this many items.
 const BLOCKS_LONG_ITEMS: usize = 1 << 15;
 
-/// Matrices with these numbers of items of 4 bytes, up to the number above which a matrix is split, are put by blocks
-/// only if 16 divides the width.
+/// A matrix of items of 4 bytes whose number of items is in this range is put by blocks in registers only if 16 divides
+/// its width. The range ends at the greatest number of items of a matrix that is not split.
 const BLOCKS_GAP: core::ops::RangeInclusive<usize> = (1 << 18) + 1..=1 << 20;
 
-/// The strips by which a matrix is put, as a whole or in parts. They are the kernels' own choice, which depends on the
-/// shape alone, except for two kinds of matrices that take less time in another order. Strips only determine the order
-/// of the writes.
+/// The kind of strips by which a matrix is put, as a whole or in parts. It only determines the order of the puts. It is
+/// the kind that the kernels themselves choose, by the shape alone, except for two kinds of matrices that take less
+/// time in another order.
 ///
 /// - Items of 4 bytes, and up to 32768 items of 8 bytes, are put by blocks that are transposed in registers, if no side
-///   is below 8. With less than 128 items the blocks must be whole. With 262145 to 1048576 items of 4 bytes, 16 must
+///   is below 8. With fewer than 128 items, 4 must divide both sides. With 262145 to 1048576 items of 4 bytes, 16 must
 ///   divide the width.
 /// - More than 1048576 items of 32 or of 64 bytes are put 16 columns at a time, row after row, if there are at least 16
 ///   columns and each has a multiple of 4096 bytes.

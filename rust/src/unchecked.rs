@@ -1,18 +1,19 @@
-//! The kernels on slices. All unsafe code of the package is in this file and in `vectors_unchecked.rs`, which
-//! transposes squares of items of 4 and of 8 bytes in vector registers and is used only by this file.
+//! Runs the kernels on slices. All unsafe code of the package is in this file and in `vectors_unchecked.rs`. That file
+//! transposes squares of items of 4 and of 8 bytes in vector registers. Only this file uses it.
 //!
-//! It is proved that a kernel meets the preconditions of `exchange`, `put` and `at` for every holder, as long as its
-//! own precondition holds. So the holders here check no index. `reverse`, `reverse_rows`, `transpose`,
-//! `transpose_in_parts` and `Phases::new` check the precondition first. `next_phase`, `split_first`, `put` and
-//! `exchange` check nothing: their preconditions follow from private fields that these functions set together, and a
-//! comment next to each says which field gives which clause. The holders are private to this file, so nothing else can
-//! make one. With the feature `checked` other holders take their place, which check each index.
+//! It is proved that a kernel whose own precondition holds meets the preconditions of `exchange`, `put` and `at`, for
+//! every holder. So the holders here check no index. `reverse`, `reverse_rows`, `transpose`, `transpose_in_parts` and
+//! `Phases::new` check the kernel's precondition first. `next_phase`, `split_first`, `put` and `exchange` check
+//! nothing. Their preconditions follow from private fields, which are always set together. Comments in these functions
+//! say which field gives which clause. The holders are private to this file, so nothing else can make one. With the
+//! feature `checked`, other holders replace them, which check each index.
 //!
 //! The parts of a call share one list. The holder of a part is a pointer and a length. It makes references to one place
-//! or one run at a time, never to the whole list: see `SliceItems`. Which parts there are, and what each one does, is
-//! proved code, as the kernels are (`kernels/parts.rs`). It is proved (`crates/p3_util_kernels/src/parts/laws.rt`) that
-//! two parts of a phase have no place in common, and that the steps of all parts, interleaved in any way, have the
-//! effect of the call. The package's README lists under "Of threads" what of this is not proved but checked by review.
+//! or one run at a time, never to the whole list: see `SliceItems`. Which parts a call has, and what each part does, is
+//! decided by proved code (`kernels/parts.rs`), as the steps of a kernel are. It is proved
+//! (`crates/p3_util_kernels/src/parts/laws.rt`) that two parts of a phase have no place in common, and that the steps
+//! of the parts of a phase, interleaved in any way, have the effect of the phase. The package's README says under "Of
+//! threads" for which lists this is proved, and what is checked by review.
 
 use core::ops::Range;
 
@@ -37,8 +38,8 @@ pub(crate) fn reverse<F>(vals: &mut [F]) -> bool {
     fits
 }
 
-/// Reverses the rows of `row_width` items of `vals` by index bits if the number of rows is zero or a power of two.
-/// Returns whether it is.
+/// Reverses the order of the rows of `vals`, of `row_width` items each, by index bits if the number of rows is zero or
+/// a power of two. Returns whether it is.
 #[inline]
 pub(crate) fn reverse_rows<F>(vals: &mut [F], row_width: usize) -> bool {
     let fits = fits_rows(vals.len(), row_width);
@@ -49,8 +50,8 @@ pub(crate) fn reverse_rows<F>(vals: &mut [F], row_width: usize) -> bool {
     fits
 }
 
-/// Writes the transpose of `input`, a matrix of `height` rows of `width` items, to `output` if both lists have that
-/// many items. Returns whether they have.
+/// Transposes `input`, a matrix of `height` rows of `width` items, into `output` if both lists have `width * height`
+/// items. Returns whether they have.
 #[inline]
 pub(crate) fn transpose<T: Copy>(input: &[T], output: &mut [T], width: usize, height: usize) -> bool {
     let fits = fits_matrix(input.len(), output.len(), width, height);
@@ -67,18 +68,18 @@ pub(crate) use vectors::HERE as TURNS_IN_REGISTERS;
 #[cfg(feature = "checked")]
 pub(crate) const TURNS_IN_REGISTERS: bool = false;
 
-/// The parts of a phase that have these numbers, for a list. No other `Parts` has one of these numbers.
+/// Some parts of a phase: those that have these numbers. No other `Parts` of the phase has one of these numbers.
 ///
-/// The fields are set together, by `transpose_in_parts` and by `Phases::next_phase`: `items` is the list that `phase`
-/// was made for, and `numbers` are below the number of its parts. They are private, and there is no `Clone`, so that
-/// stays true.
+/// `transpose_in_parts` and `Phases::next_phase` set the fields together: `items` is the list that `phase` was made
+/// for, and `numbers` are below the number of parts of `phase`. The fields are private, and `Parts` is not `Clone`, so
+/// this stays true.
 pub(crate) struct Parts<'a, T, P> {
     items: PartItems<'a, T>,
     phase: P,
     numbers: Range<usize>,
 }
 
-/// A matrix that is transposed in regions, and the strips that each region is put by.
+/// A matrix that is transposed in regions, and the kind of strips by which each region is put.
 #[derive(Clone, Copy)]
 pub(crate) struct Regions<R> {
     source: R,
@@ -86,7 +87,7 @@ pub(crate) struct Regions<R> {
     strips: Strips,
 }
 
-/// The parts of [`transpose`], or `None` if the lists do not have that many items.
+/// The parts of [`transpose`], or `None` if one of the lists does not have `width * height` items.
 pub(crate) fn transpose_in_parts<'a, T: Copy>(
     source: &'a [T],
     output: &'a mut [T],
@@ -102,7 +103,7 @@ pub(crate) fn transpose_in_parts<'a, T: Copy>(
     let plan = TransposePlan::new(width, height, parts, cfg!(not(feature = "checked")));
     let strips = strips_of(Matrix::new(SliceSource::new(source), width, height));
     let count = if size_of::<T>() == 0 { 0 } else { plan.count() };
-    // If the columns are cut, each region has a run of this many cells, except for the last one, which may have fewer.
+    // If the columns are cut, each region fills a run of this many cells. The last region may fill fewer.
     let share = if count == 0 { 0 } else { plan.items(0) };
     Some(Parts {
         items: PartItems::in_shares(output, share),
@@ -111,8 +112,8 @@ pub(crate) fn transpose_in_parts<'a, T: Copy>(
     })
 }
 
-/// A list whose rows are reversed in phases, and the number of the next phase. The plan is the one that `Phases::new`
-/// made for this list, or has no phase.
+/// A list whose rows are reversed in phases, and the number of the next phase. `Phases::new` made the plan for this
+/// list, or made a plan without phases.
 pub(crate) struct Phases<'a, F> {
     vals: &'a mut [F],
     plan: ReversalPlan,
@@ -120,8 +121,8 @@ pub(crate) struct Phases<'a, F> {
 }
 
 impl<'a, F> Phases<'a, F> {
-    /// The phases of [`reverse_rows`], or `None` if the list does not have such rows. Each side of a square is cut into
-    /// at most `parts` parts. Up to `one_part` items are one part, and items without bytes have no phase.
+    /// The phases of [`reverse_rows`], or `None` if that call would return `false`. Each side of a square is cut into
+    /// at most `parts` parts. A list of up to `one_part` items is one part. A list of items without bytes has no phase.
     pub(crate) fn new(vals: &'a mut [F], row_width: usize, parts: usize, one_part: usize) -> Option<Self> {
         if !fits_rows(vals.len(), row_width) {
             return None;
@@ -136,8 +137,8 @@ impl<'a, F> Phases<'a, F> {
         let phase = self.plan.phase(self.next)?;
         self.next += 1;
         // `plan` was made for the length of `vals`. So by the clause `phases` of `ReversalPlan::new` this phase is one
-        // for a list of that length, which is the clause `list` of `Phase::exchange`. If it was made for 0 items, there
-        // is no phase. The parts borrow `self`, so nobody can ask for the next phase before they are gone.
+        // for a list of that length, which is the clause `list` of `Phase::exchange`. If `plan` was made for 0 items,
+        // it has no phase. The parts borrow `self`, so nobody can ask for the next phase while one of them exists.
         let len = self.vals.len();
         Some(Parts {
             items: PartItems::in_shares(self.vals, len),
@@ -146,7 +147,7 @@ impl<'a, F> Phases<'a, F> {
         })
     }
 
-    /// How many phases are done. No phase is under way when this is called, because its parts would borrow `self`.
+    /// How many phases are done. No phase is under way when this is called: its parts would still borrow `self`.
     pub(crate) fn done(&self) -> usize {
         self.next
     }
@@ -155,8 +156,8 @@ impl<'a, F> Phases<'a, F> {
 impl<T, P: Copy> Parts<'_, T, P> {
     /// Removes the first part and returns it.
     pub(crate) fn split_first(&mut self) -> Option<Self> {
-        // `Range::next` yields each number once, so no two parts have the same one, and parts with different numbers
-        // have no place in common. Therefore a part may have a share of `items`.
+        // `Range::next` yields each number once, so no two parts have the same number, and parts with different numbers
+        // have no place in common. Therefore the part may have a share of `items` while other parts have theirs.
         let number = self.numbers.next()?;
         Some(Parts {
             items: self.items.share(),
@@ -180,7 +181,7 @@ impl<T: Copy> Parts<'_, T, Regions<&[T]>> {
 }
 
 impl<T: Copy, R> Parts<'_, T, Regions<R>> {
-    /// Puts the remaining regions, whose items `source` has.
+    /// Puts the remaining regions, with their items from `source`.
     fn put_from(mut self, source: impl Source<Item = T> + Copy) {
         // The clause `below` of `TransposePlan::put` holds because `numbers` are below the plan's count. `input_fits`
         // and `output_fits` hold because `source` and `items` are the lists that `transpose_in_parts` checked for this
@@ -201,7 +202,7 @@ impl<F> Parts<'_, F, Phase> {
     }
 }
 
-/// Slices as holders that check no index, except with debug assertions.
+/// Holders of slices, which check no index except with debug assertions.
 #[cfg(not(feature = "checked"))]
 mod slices {
     use core::marker::PhantomData;
@@ -213,17 +214,17 @@ mod slices {
 
     /// The items of a slice, as places or as cells, for one kernel or for one part.
     ///
-    /// Other parts of a phase have such a holder of the same list at the same time. So no function of this type makes a
-    /// reference to the whole list, nor to a place or a run that it does not change. A reference to something that
-    /// another part changes is undefined behaviour, even if nothing is read through it, and no test and no race
-    /// detector would notice it.
+    /// Other parts of a phase may have such a holder of the same list at the same time. So no function of this type
+    /// makes a reference to the whole list, or to a place or a run that it does not change. A reference to something
+    /// that another part changes is undefined behaviour, even if nothing is read through the reference. No test and no
+    /// race detector would notice that.
     pub(super) struct SliceItems<'a, T> {
         first: *mut T,
         len: usize,
         slice: PhantomData<&'a mut [T]>,
     }
 
-    // SAFETY: it may do nothing to the items that the `&mut [T]` from which it was made may not do.
+    // SAFETY: a `SliceItems` is made from a `&mut [T]`, and may do to the items only what that reference may do.
     unsafe impl<T: Send> Send for SliceItems<'_, T> {}
 
     impl<'a, T> SliceItems<'a, T> {
@@ -236,7 +237,7 @@ mod slices {
             }
         }
 
-        /// The items, for several parts. Every share is the whole list.
+        /// The items, for several parts. Each part gets a share, and every share is the whole list.
         pub(super) fn in_shares(slice: &'a mut [T], _: usize) -> Self {
             SliceItems::new(slice)
         }
@@ -259,8 +260,8 @@ mod slices {
         fn exchange(&mut self, i: usize, j: usize) {
             debug_assert!(i < self.len && j < self.len);
             // SAFETY: both places are within the slice, by the clauses `first` and `second` of `Places::exchange`. They
-            // may be the same place, to which there must not be two references. Checking for that would make exchanging
-            // items of 8 bytes take half as long again.
+            // may be the same place, and there must not be two references to one place, so this uses pointers. With a
+            // check for equal places, exchanging items of 8 bytes would take half as long again.
             unsafe { core::ptr::swap(self.first.add(i), self.first.add(j)) }
         }
 
@@ -283,8 +284,8 @@ mod slices {
             run(i).swap_with_slice(run(j));
         }
 
-        /// Exchanges squares that are transposed in registers, for items of 4 and of 8 bytes. For other items a square
-        /// is one item.
+        /// Exchanges the blocks by squares, whose side is `vectors::side`. A square of items of 4 or of 8 bytes is
+        /// transposed in registers. For other items, a square is one item.
         #[inline(always)]
         fn exchange_blocks(&mut self, i: usize, j: usize, stride: usize) {
             let (n, size) = (self.len, stride.saturating_mul(3).saturating_add(4));
@@ -326,19 +327,20 @@ mod slices {
         #[inline(always)]
         fn put(&mut self, i: usize, v: T) {
             debug_assert!(i < self.len);
-            // SAFETY: the place is within the slice, by the `requires` of `Cells::put`.
+            // SAFETY: the cell is within the slice, by the `requires` of `Cells::put`.
             unsafe { *self.first.add(i) = v }
-            // The compiler knows that the input and the output do not overlap, so it would read eight items before it
-            // writes them. For processors with AVX-512 it would turn these reads, which are in eight rows, into one
-            // gather. For items of 4 and 8 bytes that takes two to four times as long as item by item. A compiler fence
-            // keeps each read behind the write before it. It has no effect on the processor.
+            // Without the fence, the compiler would read eight items before it writes them, because it knows that the
+            // input and the output do not overlap. For processors with AVX-512 it would turn these reads, which are in
+            // eight rows, into one gather. For items of 4 and 8 bytes, that takes two to four times as long as moving
+            // one item after the other. The fence keeps each read after the write that comes before it in the program.
+            // It has no effect on the processor.
             compiler_fence(Ordering::SeqCst);
         }
 
         #[inline(always)]
         fn put_four(&mut self, i: usize, four: &Four<T>) {
             debug_assert!(self.len >= 4 && i <= self.len - 4);
-            // SAFETY: the four places are within the slice, by the `requires` of `Cells::put_four`. A `Four` has the
+            // SAFETY: the four cells are within the slice, by the `requires` of `Cells::put_four`. A `Four` has the
             // same layout as four items of a slice, since it is `repr(C)`.
             unsafe { self.first.add(i).cast::<Four<T>>().write(*four) }
         }
@@ -372,14 +374,14 @@ mod slices {
         #[inline(always)]
         fn at(&self, i: usize) -> T {
             debug_assert!(i < self.items.len());
-            // SAFETY: the place is within the slice, by the `requires` of `Source::at`.
+            // SAFETY: the index is within the slice, by the `requires` of `Source::at`.
             unsafe { *self.items.get_unchecked(i) }
         }
 
         #[inline(always)]
         fn four(&self, i: usize) -> Four<T> {
             debug_assert!(self.items.len() >= 4 && i <= self.items.len() - 4);
-            // SAFETY: the four places are within the slice, by the `requires` of `Source::four`. A `Four` has the same
+            // SAFETY: the four indices are within the slice, by the `requires` of `Source::four`. A `Four` has the same
             // layout as four items of a slice, since it is `repr(C)`.
             unsafe { self.items.as_ptr().add(i).cast::<Four<T>>().read() }
         }
@@ -391,7 +393,7 @@ mod vectors_unchecked;
 #[cfg(not(feature = "checked"))]
 use vectors_unchecked as vectors;
 
-/// The result of a shuffle of two registers with these items.
+/// Shuffles two registers that hold these items. Returns the items of the result.
 #[cfg(all(test, not(feature = "checked")))]
 fn shuffled<T: Copy, const N: usize>(
     shuffle: fn(vectors::Register, vectors::Register) -> vectors::Register,

@@ -1,5 +1,5 @@
-//! Arithmetic on integers: logarithms and powers, the reversal of binary digits, and the short
-//! names of types.
+//! Logarithms and powers of integers, the reversal of their binary digits, and the short names of
+//! types.
 
 ghost use Rattle.std.specs.Prelude.{◌≡◌, ℕ, ◌+◌, ◌*◌, ◌^◌, ◌<◌, ◌≤◌, ◌↔◌, IsTrue, SomeIff, length, slice_index};
 ghost use Rattle.p3_util_kernels.specs.Powers.{HasLog2, HasLog3, IsPowerOfThree};
@@ -56,8 +56,8 @@ static POWERS_OF_THREE: [usize; 41] = [
     12_157_665_459_056_928_801,
 ];
 
-/// Entry `t` is the exponent of the greatest power of three below `2^(t + 1)`. If a power of three
-/// has its highest binary digit at place `t`, the entry is its exponent.
+/// Entry `t` is the exponent of the greatest power of three below `2^(t + 1)`. So if bit `t` is the
+/// highest set bit of a power of three, entry `t` is the exponent of that power.
 static EXPONENTS_OF_THREE: [u8; 64] = [
     0, 1, 1, 2, 3, 3, 4, 5, 5, 6, 6, 7, 8, 8, 9, 10, 10, 11, 11, 12, 13, 13, 14, 15, 15, 16, 17,
     17, 18, 18, 19, 20, 20, 21, 22, 22, 23, 23, 24, 25, 25, 26, 27, 27, 28, 29, 29, 30, 30, 31, 32,
@@ -109,7 +109,7 @@ pub(crate) const fn pow2(exponent: usize) -> usize
     1 << exponent
 }
 
-/// `2^log_degree`, or `None` if it does not fit a `usize`.
+/// `2^log_degree`, or `None` if it does not fit in a `usize`.
 #[inline]
 #[must_use]
 pub const fn checked_pow2(log_degree: usize) -> Option<usize>
@@ -122,7 +122,7 @@ pub const fn checked_pow2(log_degree: usize) -> Option<usize>
     }
 }
 
-/// `a + b` and `2^(a + b)`, or `None` if the power does not fit a `usize`.
+/// `a + b` and `2^(a + b)`, or `None` if the power does not fit in a `usize`.
 #[inline]
 #[must_use]
 pub const fn checked_log_size_sum(a: usize, b: usize) -> Option<(usize, usize)>
@@ -136,7 +136,8 @@ pub const fn checked_log_size_sum(a: usize, b: usize) -> Option<(usize, usize)>
     }
 }
 
-/// The logarithm to base 2 of a power of two. std's `is_power_of_two` checks `n`.
+/// The logarithm to base 2 of `n`, which must be a power of two. std's `is_power_of_two` checks
+/// that.
 #[inline]
 pub const fn log2_strict_usize(n: usize) -> usize
     requires { HasLog2 n }
@@ -147,7 +148,8 @@ pub const fn log2_strict_usize(n: usize) -> usize
     n.trailing_zeros() as usize
 }
 
-/// The logarithm to base 3 of a power of three. [`is_power_of_three`] checks `n`.
+/// The logarithm to base 3 of `n`, which must be a power of three. [`is_power_of_three`] checks
+/// that.
 #[inline]
 pub const fn log3_strict_usize(n: usize) -> usize
     requires { HasLog3 n }
@@ -167,8 +169,8 @@ pub const fn is_power_of_three(n: usize) -> bool
     n != 0 && powers_of_three()[exponent_of_three(n.ilog2() as usize)] == n
 }
 
-/// The table of the powers of three: all that fit a `usize`. No two of them share their highest
-/// binary digit.
+/// The table of all powers of three that fit in a `usize`. The highest set bits of any two of them
+/// are at different positions.
 #[tactic(auto, using(crate::proofs::Tables::powers))]
 #[inline]
 const fn powers_of_three() -> &'static [usize; 41]
@@ -180,8 +182,7 @@ const fn powers_of_three() -> &'static [usize; 41]
     &POWERS_OF_THREE
 }
 
-/// The exponent of the power of three whose highest binary digit is at place `top`, if there is
-/// one.
+/// The exponent of the power of three whose highest set bit is bit `top`, if there is such a power.
 #[inline]
 const fn exponent_of_three(top: usize) -> usize
     requires { top < 64 }
@@ -191,7 +192,7 @@ const fn exponent_of_three(top: usize) -> usize
     EXPONENTS_OF_THREE[top] as usize
 }
 
-/// The array of its own indices: `[0, 1, .., N - 1]`.
+/// The array `[0, 1, .., N - 1]`, in which each item is its own index.
 #[inline]
 #[must_use]
 pub const fn indices_arr<const N: usize>() -> [usize; N]

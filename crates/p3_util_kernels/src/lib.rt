@@ -1,5 +1,5 @@
-//! Bit reversal and transposes of large slices, and the traits of the lists that their kernels
-//! change and count.
+//! Bit reversal and transposes of large slices. The module [`places`] has the traits through which
+//! they reach a list, and counters for the changes that they make.
 #![tactic(auto)]
 
 pub mod bits;

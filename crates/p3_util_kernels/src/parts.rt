@@ -1,15 +1,15 @@
-//! Calls that are cut into parts, each of which may run on a thread of its own. No thread is
-//! started here.
+//! Cuts a call into parts, each of which may run on a thread of its own. No thread is started here.
 //!
-//! - A *plan* says how a call is cut: a [`TransposePlan`] or a [`ReversalPlan`].
-//! - A transpose is cut into regions, which may be put in any order.
-//! - A reversal is cut into *phases*: three or one, and none if the list is empty. A phase must be
-//!   done before the next one begins. The parts of a phase may be made in any order. A part is all
-//!   rows, or a block of [`RowPairs`] or of [`Squares`].
+//! - A *plan* says how a call is cut: a [`TransposePlan`] for a transpose, and a [`ReversalPlan`]
+//!   for a reversal.
+//! - A transpose is cut into regions. Each region is a part, and the parts may run in any order.
+//! - A reversal is cut into *phases*: three or one, and none if the list is empty. All parts of a
+//!   phase must be done before the next phase begins, but they may run in any order. A phase has
+//!   one part, or each block of [`RowPairs`] or of [`Squares`] is a part.
 //! - A [`Cut`] cuts consecutive numbers, such as the columns of a matrix, into parts.
 //!
 //! The module `laws`, which only the Rattle sources have, states what is proved about the parts:
-//! which places each one changes, that two parts of a phase have no place in common, and that all
+//! which places each part changes, that two parts of a phase have no place in common, and that all
 //! parts together have the effect of the call.
 
 ghost use Rattle.std.specs.Prelude.{length, ◌≡◌, ℕ, ◌+◌, ◌-◌, ◌*◌, ◌/◌, ◌%◌, ◌^◌, ◌<◌, ◌≤◌, if◌then◌else◌, max};
@@ -41,7 +41,7 @@ pub(crate) struct Cut {
 
 impl Cut {
     /// Cuts the numbers below `len` into at most `parts` parts. Each part begins at a multiple of
-    /// `unit`, and the parts are no longer than necessary. If `parts` is 0, it counts as 1.
+    /// `unit`, and the parts are no longer than necessary. A `parts` of 0 counts as 1.
     pub(crate) fn new(len: usize, parts: usize, unit: usize) -> Cut
         requires { 0 < unit }
         ensures len { result.len ≡ len }
@@ -75,7 +75,8 @@ impl Cut {
         (from, from + self.step.min(self.len - from))
     }
 
-    /// Part `k` of a matrix. This cut is that of its rows or of its columns.
+    /// Part `k` of a matrix. This cut divides the rows of the matrix if `by_rows` is true, and its
+    /// columns otherwise.
     pub(crate) fn region<R>(self, matrix: &Matrix<R>, by_rows: bool, k: usize) -> Region
         requires side { self.len ≡ if by_rows then matrix.now.height else matrix.now.width }
         requires below { k < parts_in self.len self.step }
@@ -101,9 +102,9 @@ impl Cut {
         count * (count + 1) / 2
     }
 
-    /// The two parts of pair `number`, the earlier one first. The parts stand in a circle. The
-    /// pairs of each part with itself come first, then those of each part with the next one, and so
-    /// on.
+    /// The two parts of pair `number`, the earlier part first. For these numbers, the parts form a
+    /// circle. First come the pairs of a part with itself, then those of a part with the next part
+    /// in the circle, then those of a part with the one after that, and so on.
     pub(crate) fn pair(self, number: usize) -> (usize, usize)
         requires few { parts_in self.len self.step < 2 ^ 32 }
         requires below { number < pairs_of (parts_in self.len self.step) }
@@ -118,8 +119,8 @@ impl Cut {
     }
 }
 
-/// Squares that lie side by side in rows of `stride` items. The rows and the columns of each square
-/// are cut in the same way, which gives blocks.
+/// Squares that lie side by side in a list of rows of `stride` items. The rows of each square are
+/// cut by `cut`, and so are its columns. This divides the squares into blocks.
 #[derive(Clone, Copy, Debug)]
 pub(crate) struct Squares {
     stride: usize,
@@ -130,9 +131,9 @@ pub(crate) struct Squares {
 }
 
 impl Squares {
-    /// The squares of 2^(`digits` / 2) rows and columns, in rows of 2^(`digits` - `digits` / 2)
-    /// items. The sides are cut into at most `parts` parts, at multiples of `unit`. If `parts` is
-    /// 0, it counts as 1.
+    /// The squares of a list of 2^`digits` items. Each has 2^(`digits` / 2) rows and columns, and
+    /// the rows of the list have 2^(`digits` - `digits` / 2) items. The sides of a square are cut
+    /// into at most `parts` parts, at multiples of `unit`. A `parts` of 0 counts as 1.
     pub(crate) fn new(digits: usize, parts: usize, unit: usize) -> Squares
         requires unit { 0 < unit }
         requires digits { digits < 64 }
@@ -150,7 +151,7 @@ impl Squares {
         }
     }
 
-    /// The number of blocks on the diagonals and above them.
+    /// The number of blocks that are on the diagonal of their square or above it.
     pub(crate) fn count(self) -> usize
         ensures { result ≡ blocks_of self.cut.len self.stride self.cut.step }
     {
@@ -181,7 +182,8 @@ impl Squares {
         (square, region)
     }
 
-    /// Exchanges block `number` with its mirror image: a block on the diagonal is transposed.
+    /// Exchanges block `number` with its mirror image across the diagonal of its square. For a
+    /// block on the diagonal, this is a transpose.
     pub(crate) fn exchange<M: Places>(self, m: M, number: usize) -> M
         requires below { number < blocks_of self.cut.len self.stride self.cut.step }
         requires whole { length (M.items m) ≡ self.cut.len * self.stride }
@@ -199,9 +201,10 @@ impl Squares {
     }
 }
 
-/// The pairs of rows that the reversal of `rows` exchanges. The two numbers of a pair are a row and
-/// a column of a square, and there is one square for each middle digit. So the pairs are cut in the
-/// same way as squares of items.
+/// The pairs of rows that the reversal of `rows` exchanges. The module `reverse::pairs` names a
+/// pair by a middle digit and by two numbers `x < y`. Here `x` is seen as a row and `y` as a column
+/// of a square, and there is one square for each middle digit. So the pairs are cut in the same way
+/// as squares of items.
 #[derive(Clone, Copy)]
 pub(crate) struct RowPairs {
     rows: RowDigits,
@@ -213,8 +216,8 @@ pub(crate) struct RowPairs {
 }
 
 impl RowPairs {
-    /// The pairs of `rows`. Each side is cut into at most `parts` parts, at even numbers. If
-    /// `parts` is 0, it counts as 1.
+    /// The pairs of `rows`. Each side of a square is cut into at most `parts` parts, at even
+    /// numbers. A `parts` of 0 counts as 1.
     pub(crate) fn new(rows: RowDigits, parts: usize) -> RowPairs
         requires { rows.digits < 64 }
         ensures rows { result.rows ≡ rows }
@@ -227,7 +230,7 @@ impl RowPairs {
         }
     }
 
-    /// Exchanges the pairs of rows of block `number`.
+    /// Exchanges the two rows of each pair in block `number`.
     pub(crate) fn exchange<M: Places>(self, m: M, number: usize) -> M
         requires below { number < blocks_of self.squares.cut.len self.squares.stride
             self.squares.cut.step }
@@ -242,7 +245,7 @@ impl RowPairs {
             × M.same_holder (self.rows.width * swaps_of_block region) m result }
     {
         let (square, region) = self.squares.block(number);
-        // One or two rows have no pairs.
+        // One or two rows have no pair to exchange.
         if self.rows.digits < 2 {
             return m;
         }

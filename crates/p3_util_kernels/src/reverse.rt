@@ -1,19 +1,21 @@
 //! Bit reversal of lists: item `i` moves to the index whose binary digits are those of `i` in
-//! reversed order. Rows of a list are reversed in the same way, by the index of the row.
+//! reversed order. The rows of a list can be reordered in the same way, by the index of each row.
+//! The items within a row then keep their order.
 //!
-//! This file has the calls on slices, the counted calls and the choice of a path. The modules below
-//! it have the paths:
+//! A reversal takes one of two paths, the short one or the long one. This file has the calls on
+//! slices, calls that count their swaps, and the choice of the path. The modules below it have the
+//! paths:
 //!
-//! - `rows` reverses rows of any width. It exchanges each pair of rows whose indices are each
-//!   other's reverse. For rows of one item this is the short path, which is used for at most
-//!   `SHORT_PATH_ITEMS` items.
-//! - `long` is the long path, for more items. It makes more swaps, in an order that suits lists
-//!   that do not fit in a cache.
-//! - `pairs` lists the pairs of rows and exchanges them. Both paths use it.
+//! - `rows` reverses the order of rows of any width. It exchanges each pair of rows whose indices
+//!   are each other's reverse. With rows of one item this is the short path, which is taken for at
+//!   most `SHORT_PATH_ITEMS` items.
+//! - `long` is the long path, which is taken for more items. It makes more swaps, in an order that
+//!   suits lists that do not fit in a cache.
+//! - `pairs` finds the pairs of rows and exchanges them. Both paths use it.
 //!
-//! For each call it is proved that the list ends up in reversed order (`IsReversal`,
-//! `IsRowReversal`). For the counted calls the exact number of swaps is proved too. The order of
-//! the swaps is only tested. Which path a call on a slice takes can be seen only in its speed.
+//! It is proved that each call leaves the list in bit-reversed order (`IsReversal`,
+//! `IsRowReversal`). For the calls that count, the exact number of swaps is proved too. The order
+//! of the swaps is only tested. Which path a call on a slice takes can be seen only in its speed.
 
 ghost use Rattle.std.specs.Prelude.{◌≡◌, ℕ, ◌*◌, ◌/◌, ◌^◌, ◌↔◌, ◌≤◌, IsTrue, length};
 ghost use Rattle.p3_util_kernels.specs.Reversal.{FitsRows, IsReversal, IsReversible, IsRowReversal, IsZeroOrPowerOfTwo};
@@ -33,12 +35,12 @@ pub(crate) use rows::reverse_rows;
 use rows::reverse_short;
 pub use rows::{reverse_chunks_on, reverse_index_bits_short, reverse_row_index_bits_on};
 
-/// The greatest number of items that the short path reverses.
+/// A list of at most this many items takes the short path, and a longer one takes the long path.
 const SHORT_PATH_ITEMS: usize = 8192;
 
-/// Whether `len` items are rows of `row_width` items each and the number of rows is zero or a power
-/// of two. With a `row_width` of 1 this says whether `len` is zero or a power of two. With a
-/// `row_width` of 0 it says whether `len` is zero.
+/// Whether `len` items can be cut into rows of `row_width` items so that the number of rows is zero
+/// or a power of two. With a `row_width` of 1 this says whether `len` is zero or a power of two.
+/// With a `row_width` of 0 it says whether `len` is zero.
 #[inline]
 #[must_use]
 pub const fn fits_rows(len: usize, row_width: usize) -> bool
@@ -51,12 +53,12 @@ pub const fn fits_rows(len: usize, row_width: usize) -> bool
     len == 0 || (len % row_width == 0 && (len / row_width).is_power_of_two())
 }
 
-/// Reverses the order of `vals` by index bits. The length must be zero or a power of two. This call
-/// does not check it.
+/// Reverses the order of `vals` by index bits. The length must be zero or a power of two, which
+/// this call does not check.
 ///
 /// With 2^k items, index `i` gets the item from the index that has the k bits of `i` in reversed
-/// order. A second call restores the order. No item is cloned or dropped. To check the length, use
-/// `fits_rows(vals.len(), 1)` or std's `is_power_of_two`.
+/// order. A second call restores the original order. No item is cloned or dropped. To check the
+/// length, use `fits_rows(vals.len(), 1)` or std's `is_power_of_two`.
 pub fn reverse_slice_index_bits<F>(vals: &mut [F])
     requires { IsReversible (length vals.old) }
     ensures order { IsReversal vals.old vals.new }
@@ -65,8 +67,8 @@ pub fn reverse_slice_index_bits<F>(vals: &mut [F])
     let _ = reverse_items(vals);
 }
 
-/// Reverses `places` by index bits with a new counter, as [`reverse_index_bits_on`] does with a
-/// given one, and returns the number of exchanges. The length must be zero or a power of two, which
+/// Reverses `places` by index bits, as [`reverse_index_bits_on`] does, and returns the number of
+/// swaps. The swaps are counted from 0. The length must be zero or a power of two, which
 /// `fits_rows(places.len(), 1)` checks.
 #[tactic(auto, using(crate::proofs::SwapCountsLemmas::reversal_bound))]
 #[inline(always)]
@@ -81,11 +83,12 @@ pub fn reverse_counted<S: Places>(places: &mut S) -> u128
     reverse_index_bits(Swaps::new(places)).swaps()
 }
 
-/// Reverses the order of the rows of `vals`, of `row_width` items each, by index bits. The number
-/// of rows must be zero or a power of two. This call does not check it.
+/// Reverses the order of the rows of `vals` by index bits. Each row has `row_width` items. The
+/// number of rows must be zero or a power of two, which this call does not check.
 ///
-/// With 2^k rows, row `r` becomes the row whose index has the k bits of `r` in reversed order. A
-/// second call restores the order. No item is cloned or dropped. [`fits_rows`] checks the length.
+/// With 2^k rows, the row at index `r` comes from the index that has the k bits of `r` in reversed
+/// order. A second call restores the original order. No item is cloned or dropped. [`fits_rows`]
+/// checks the length.
 pub fn reverse_slice_row_index_bits<F>(vals: &mut [F], row_width: usize)
     requires { FitsRows (length vals.old) row_width }
     ensures order { IsRowReversal row_width vals.old vals.new }
@@ -94,9 +97,9 @@ pub fn reverse_slice_row_index_bits<F>(vals: &mut [F], row_width: usize)
     let _ = reverse_rows_of_items(vals, row_width);
 }
 
-/// Reverses the rows of `places`, of `row_width` items each, by index bits with a new counter, as
-/// [`reverse_row_index_bits_on`] does with a given one, and returns the number of exchanges. The
-/// number of rows must be zero or a power of two, which [`fits_rows`] checks.
+/// Reverses the order of the rows of `places` by index bits, as [`reverse_row_index_bits_on`] does,
+/// and returns the number of swaps. The swaps are counted from 0. Each row has `row_width` items.
+/// The number of rows must be zero or a power of two, which [`fits_rows`] checks.
 #[tactic(auto, using(crate::proofs::SwapCountsLemmas::rows_bound))]
 #[inline(always)]
 pub fn reverse_rows_counted<S: Places>(places: &mut S, row_width: usize) -> u128
@@ -112,8 +115,8 @@ pub fn reverse_rows_counted<S: Places>(places: &mut S, row_width: usize) -> u128
 }
 
 /// Reverses `m` by index bits, as [`reverse_slice_index_bits`] does: by the short path up to 8192
-/// items, and by the long one beyond. A list of n items takes at most 3n/2 swaps. The length must
-/// be zero or a power of two, which `fits_rows(m.len(), 1)` checks.
+/// items, and by the long one if there are more. A list of n items takes at most 3n/2 swaps. The
+/// length must be zero or a power of two, which `fits_rows(m.len(), 1)` checks.
 #[tactic(auto, using(crate::proofs::SwapCountsLemmas::reversal_bound))]
 pub fn reverse_index_bits_on<S: Places>(m: &mut Swaps<S>)
     requires { IsReversible (length (S.items m.old.holder)) }
@@ -127,9 +130,9 @@ pub fn reverse_index_bits_on<S: Places>(m: &mut Swaps<S>)
     m.count = reverse_index_bits(Swaps::resumed(&mut m.holder, m.count)).swaps();
 }
 
-/// Runs the kernel on the slice and returns the slice. A proof learns nothing about a slice that
-/// was lent to a holder if the holder was then passed by value. So the contract is about the slice
-/// that is returned.
+/// Runs the kernel on a holder of the slice and returns the slice. The kernel takes the holder by
+/// value. After that, a proof knows nothing about the slice that the holder borrowed, so the
+/// contract is about the slice that is returned.
 #[inline(always)]
 fn reverse_items<F>(vals: &mut [F]) -> &mut [F]
     requires { IsReversible (length vals.old) }
@@ -140,7 +143,7 @@ fn reverse_items<F>(vals: &mut [F]) -> &mut [F]
     items
 }
 
-/// The same as [`reverse_items`], for rows.
+/// Does the same as [`reverse_items`], for rows.
 #[inline(always)]
 fn reverse_rows_of_items<F>(vals: &mut [F], row_width: usize) -> &mut [F]
     requires { FitsRows (length vals.old) row_width }

@@ -1,21 +1,26 @@
 //! Transposes of matrices that are stored as flat lists, row after row.
 //!
-//! This file has the calls on slices, the counted calls and the choice of a path. A matrix of at
-//! most `LARGE_MATRIX` items is transposed as one region. A larger one is split into regions first.
-//! The modules below it have the parts:
+//! A *region* is a rectangle in a matrix: the items that lie in some neighbouring rows and in some
+//! neighbouring columns. To *put* a region is to put each of its items into the cell that it has in
+//! the transpose.
 //!
-//! - `regions` defines a region of a matrix (some neighbouring rows, and some neighbouring columns
-//!   of them) and how it is cut in two.
-//! - `split` halves the longer side of a large region until the parts are small.
-//! - `strips` puts a region strip by strip. `Strips::of` chooses the kind of strip, and is the
-//!   place to begin if you want to change strips.
+//! A transpose takes one of two paths. A matrix of at most `LARGE_MATRIX` items is put as one
+//! region. A larger one is split into regions first. This file has the calls on slices, calls that
+//! count their writes, and the choice of the path. The modules below it do the rest:
+//!
+//! - `regions` defines matrices and regions, and cuts a region in two.
+//! - `split` halves the longer side of a large region, and does the same with each half, until the
+//!   parts are small or narrow.
+//! - `strips` puts a region strip by strip. A strip is some neighbouring rows of the region.
+//!   `Strips::of` chooses the kind of strips. Begin there if you want to change strips.
 //! - `square` transposes a square inside a list in place, by exchanges. The long path of a bit
 //!   reversal uses it.
 //! - `butterfly` transposes a block of 4 by 4 items in two stages. No kernel uses it.
 //!
-//! For each call it is proved that every item is put where it belongs (`IsTranspose`,
-//! `IsRegionTransposed`). For the counted calls it is also proved that each item takes exactly one
-//! write. The order of the writes, and so the choice of strips, is only tested.
+//! It is proved that each call puts every item where it belongs (`IsTranspose`,
+//! `IsRegionTransposed`). For the calls that count, it is also proved that each item takes exactly
+//! one write. The order of the writes is only tested, and so is the choice of strips, on which it
+//! depends.
 
 ghost use Rattle.std.specs.Prelude.{◌≡◌, ◌+◌, ◌*◌, ◌^◌, ◌<◌, ◌↔◌, IsTrue, length};
 ghost use Rattle.p3_util_kernels.specs.Region.{IsRegionTransposed, LiesInMatrix, items_of};
@@ -42,12 +47,12 @@ pub(crate) use strips::{Strips, TILE_SIDE};
 /// The greatest number of items of a matrix that is not split.
 const LARGE_MATRIX: usize = 1_048_576;
 
-/// More levels than the split of any matrix needs.
+/// How many levels of splits a transpose is given. No matrix needs as many.
 pub(crate) const ENOUGH_LEVELS: u32 = 64;
 
-/// Whether an input and an output of these lengths each hold exactly a matrix of `height` rows of
-/// `width` items. The product is computed without wrapping. This is the test for the conditions of
-/// [`transpose`] and [`transpose_on`].
+/// Whether an input and an output of these lengths both have `width * height` items. If that
+/// product overflows, they do not. This tests the preconditions of [`transpose`] and
+/// [`transpose_on`].
 #[inline]
 #[must_use]
 pub const fn fits_matrix(input_len: usize, output_len: usize, width: usize, height: usize) -> bool
@@ -59,12 +64,12 @@ pub const fn fits_matrix(input_len: usize, output_len: usize, width: usize, heig
     }
 }
 
-/// Writes to `output` the transpose of `input`, a matrix of `height` rows of `width` items. Both
-/// lengths must be `width * height`. This call does not check them.
+/// Transposes `input`, a matrix of `height` rows of `width` items, into `output`. Both lengths must
+/// be `width * height`, which this call does not check.
 ///
-/// The item at `y * width + x` of `input` is written to `x * height + y` of `output`. If you
-/// transpose `output`, as a matrix of `width` rows of `height` items, you get `input` again. Items
-/// are written in the same order as by [`transpose_on`]. [`fits_matrix`] checks both lengths.
+/// The item at `y * width + x` of `input` is put at `x * height + y` of `output`. If you transpose
+/// `output`, as a matrix of `width` rows of `height` items, you get `input` again. [`transpose_on`]
+/// writes the items in the same order. [`fits_matrix`] checks both lengths.
 #[tactic(auto, using(crate::proofs::Matrix::transpose_turned))]
 pub fn transpose<T: Copy>(input: &[T], output: &mut [T], width: usize, height: usize)
     requires input_fits { length input.now ≡ width * height }
@@ -75,8 +80,8 @@ pub fn transpose<T: Copy>(input: &[T], output: &mut [T], width: usize, height: u
     let _ = transpose_items(Matrix::new(SliceSource::new(input), width, height), output);
 }
 
-/// Writes the transpose of `input` to `cells` with a new counter, as [`transpose_on`] does with a
-/// given one, and returns the number of writes. Both lengths must be `width * height`, which
+/// Writes the transpose of `input` to `cells`, as [`transpose_on`] does, and returns the number of
+/// writes. The writes are counted from 0. Both lengths must be `width * height`, which
 /// [`fits_matrix`] checks.
 pub fn transpose_counted<C: Cells>(
     input: &[C::Item],
@@ -111,8 +116,9 @@ where
 
 /// Writes the transpose of `input` to `out`, as [`transpose`] does, in exactly `width * height`
 /// writes. Both lengths must be `width * height`, which [`fits_matrix`] checks. If 16 divides
-/// `width`, up to 1024 items are put by blocks of 4 by 4, as far as there are 16 whole rows. No
-/// clause says so, but tests of the order of writes show it.
+/// `width`, a matrix of up to 1024 items is written 16 rows at a time, in blocks of 4 by 4 items.
+/// If fewer than 16 rows remain, they are written column after column. The contract does not say
+/// so, but tests of the order of the writes show it.
 pub fn transpose_on<C: Cells>(input: &[C::Item], out: &mut Writes<C>, width: usize, height: usize)
     requires input_fits { length input.now ≡ width * height }
     requires output_fits { length (C.items out.old.holder) ≡ width * height }
@@ -140,10 +146,11 @@ where
     out.count = transpose_matrix(counter, matrix, Strips::of(matrix)).writes();
 }
 
-/// Writes the transpose of `region`, a part of the matrix `input`, to `out`, with one write for
-/// each item. For each row y and column x of the region, the item at `y * width + x` of `input` is
-/// written to `x * height + y`. All other cells stay. Both lengths must be `width * height`, which
-/// [`fits_matrix`] checks. The region must lie in the matrix, which [`Region::fits`] checks.
+/// Writes the transpose of `region` to `out`, with one write for each item. The region is a part of
+/// `input`, a matrix of `height` rows of `width` items. For each row y and column x of the region,
+/// the item at `y * width + x` of `input` is written to cell `x * height + y`. All other cells keep
+/// their items. Both lengths must be `width * height`, which [`fits_matrix`] checks. The region
+/// must lie in the matrix, which [`Region::fits`] checks.
 pub fn transpose_region_on<C: Cells>(
     input: &[C::Item],
     out: &mut Writes<C>,
@@ -162,8 +169,8 @@ pub fn transpose_region_on<C: Cells>(
     transpose_source_region_on(&SliceSource::new(input), out, region, width, height);
 }
 
-/// Writes the transpose of `region`, a part of the matrix that any source has, to `out`, as
-/// [`transpose_region_on`] does for a slice. The conditions are the same.
+/// Writes the transpose of a region of any source to `out`, as [`transpose_region_on`] does for a
+/// slice. The preconditions are the same.
 pub fn transpose_source_region_on<R, C>(
     input: &R,
     out: &mut Writes<C>,
@@ -187,8 +194,8 @@ where
     out.count = put_strips(counter, matrix, region, Strips::of(matrix)).writes();
 }
 
-/// Writes the transpose of `region` to `cells` with a new counter, as [`transpose_region_on`] does
-/// with a given one, and returns the number of writes. The conditions are the same.
+/// Writes the transpose of `region` to `cells`, as [`transpose_region_on`] does, and returns the
+/// number of writes. The writes are counted from 0. The preconditions are the same.
 pub fn transpose_region_counted<C: Cells>(
     input: &[C::Item],
     cells: &mut C,
@@ -207,9 +214,9 @@ pub fn transpose_region_counted<C: Cells>(
     transpose_source_region_counted(&SliceSource::new(input), cells, region, width, height)
 }
 
-/// Writes the transpose of `region`, a part of the matrix that any source has, to `cells` with a
-/// new counter, as [`transpose_source_region_on`] does with a given one, and returns the number of
-/// writes. The conditions are the same.
+/// Writes the transpose of a region of any source to `cells`, as [`transpose_source_region_on`]
+/// does, and returns the number of writes. The writes are counted from 0. The preconditions are the
+/// same.
 pub fn transpose_source_region_counted<R, C>(
     input: &R,
     cells: &mut C,
@@ -232,9 +239,9 @@ where
     put_strips(Writes::new(cells), matrix, region, Strips::of(matrix)).writes()
 }
 
-/// Runs the kernel on the slice and returns the slice. A proof learns nothing about a slice that
-/// was lent to a holder if the holder was then passed by value. So the contract is about the slice
-/// that is returned.
+/// Runs the kernel on a holder of the slice and returns the slice. The kernel takes the holder by
+/// value. After that, a proof knows nothing about the slice that the holder borrowed, so the
+/// contract is about the slice that is returned.
 #[inline(always)]
 fn transpose_items<T: Copy, R: Source<Item = T> + Copy>(
     matrix: Matrix<R>,
@@ -250,9 +257,9 @@ fn transpose_items<T: Copy, R: Source<Item = T> + Copy>(
     values
 }
 
-/// The kernel of [`transpose_source_on`], with the given strips. Here and below, the source is
-/// passed by value. Behind a reference, the address of its items would be read from memory again
-/// for each item.
+/// The kernel of [`transpose_source_on`], with the given strips. The source is passed by value,
+/// here and in the functions that this one calls. Behind a reference, the address of the items
+/// would be read from memory again for each item.
 pub(crate) fn transpose_matrix<M: Cells, R: Source<Item = M::Item> + Copy>(
     out: M,
     matrix: Matrix<R>,
@@ -270,7 +277,8 @@ pub(crate) fn transpose_matrix<M: Cells, R: Source<Item = M::Item> + Copy>(
         return out;
     }
     match strips {
-        // Since the compiler knows the strips here, the smallest matrices take a third less time.
+        // Here the compiler knows the kind of strips, so the smallest matrices take a third less
+        // time.
         Strips::High => put_strips(out, matrix, whole, Strips::High),
         strips => put_strips(out, matrix, whole, strips),
     }

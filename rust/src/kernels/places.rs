@@ -1,25 +1,29 @@
-//! Lists that are read and changed by index alone, and counters that count each change.
+//! Lists that are reached by index alone, and counters that count the changes to such lists.
 //!
-//! The kernels of this crate are generic over these traits. A kernel cannot reach the list in any
-//! other way, so a contract can say exactly how many changes it makes. These terms are used
-//! throughout the crate:
+//! These terms are used throughout the crate:
 //!
-//! - A *holder* gives access to a list by index: [`SlicePlaces`] or [`SliceCells`] for a slice, a
-//!   view of rows, or a type of your own. A slice itself is not a holder.
+//! - A *holder* gives access to a list by index. [`SlicePlaces`] and [`SliceCells`] are holders for
+//!   slices. A view of rows can be a holder too, and so can a type of your own. A slice itself is
+//!   not a holder.
 //! - A *place* is an index of a list whose items can be exchanged ([`Places`]). A *cell* is an
-//!   index of a list whose items can be written ([`Cells`]). A *source* is a list that is only read
-//!   ([`Source`]).
-//! - A *step* is one exchange of two places or one put of an item.
-//! - A *counter* is a holder around another holder, and counts its steps. [`Swaps`] counts
-//!   exchanges: a counted exchange is a *swap*. [`Writes`] counts puts: a counted put is a *write*.
-//! - A *kernel* takes a holder by value and returns it with the list changed. Its contract gives
-//!   the exact number of steps that the holder made, so a kernel can neither leave out a step nor
-//!   make an extra one.
+//!   index of a list into which items can be put ([`Cells`]). A *source* is a holder of a list that
+//!   can only be read ([`Source`]).
+//! - A *step* is one change of the list: the holder *exchanges* the items at two places, or it
+//!   *puts* one item into a cell.
+//! - A *counter* is a holder around another holder, and counts the steps of the holder inside.
+//!   [`Swaps`] counts exchanges, and an exchange that it counts is called a *swap*. [`Writes`]
+//!   counts puts, and a put that it counts is called a *write*.
+//! - A *kernel* is the generic function that does the work of a call. It takes a holder by value,
+//!   changes the list and returns the holder.
 //!
-//! A reference to a holder is a holder too. A call on a slice runs its kernel on a holder of the
-//! slice. A call whose name ends in `_counted` runs it on a new counter around the reference that
-//! it is given. A call whose name ends in `_on` runs it on a counter that continues from the
-//! caller's count.
+//! A kernel is generic over the traits below, and cannot reach the list in any other way. So its
+//! contract can give the exact number of steps that the holder makes. The kernel can neither leave
+//! out a step nor make an extra one.
+//!
+//! A reference to a holder is a holder too. A call on a slice runs its kernel on a holder of that
+//! slice. A call whose name ends in `_counted` is given a reference to a holder. It runs its kernel
+//! on a new counter around that reference. A call whose name ends in `_on`, `_short` or `_long` is
+//! given a counter. It runs its kernel on a counter that continues from the given count.
 
 mod counters;
 mod references;
@@ -33,12 +37,13 @@ pub use slices::{SliceCells, SlicePlaces, SliceSource};
 #[repr(C)]
 pub struct Four<T>(pub T, pub T, pub T, pub T);
 
-/// A list whose items can be exchanged. They can be neither read nor moved in another way.
+/// A list whose items can only be exchanged: they can neither be read nor be moved in any other
+/// way.
 ///
-/// A contract sees an implementation as the list of its items. `same_holder n a b` says that b is a
-/// after n exchanges. If the holder borrows its items, it also says that b borrows the same slice
-/// as a, so a change to the holder is a change to that slice. A holder that does not count its
-/// exchanges ignores n.
+/// In a contract, `items` is the list of the holder's items. `same_holder n a b` says that n
+/// exchanges turn the holder a into b. If the holder borrows its items, `same_holder` also says
+/// that b borrows the same slice as a, so a change to the holder is a change to that slice. A
+/// holder that does not count its exchanges ignores n.
 pub trait Places {
     /// The type of the items.
     type Item;
@@ -68,8 +73,8 @@ pub trait Places {
     /// ```
     fn exchange(&mut self, i: usize, j: usize);
 
-    /// Does the same as `exchange`, for `i < j`. A holder may do this without comparing `i` and
-    /// `j`.
+    /// Does the same as `exchange`, for `i < j`. A holder need not check here whether the two
+    /// places are the same.
     ///
     /// # Contract
     ///
@@ -86,9 +91,9 @@ pub trait Places {
         self.exchange(i, j);
     }
 
-    /// Exchanges the `len` items from place `i` on with the `len` items from place `j` on, in
-    /// order. The two runs must not overlap. A holder may do this in a faster way than by its
-    /// `exchange`.
+    /// Exchanges two runs of `len` consecutive items: those from place `i` on and those from place
+    /// `j` on. Each run keeps its order. The runs must not overlap. A holder may have a faster way
+    /// to do this than `len` calls of `exchange`.
     ///
     /// # Contract
     ///
@@ -109,10 +114,10 @@ pub trait Places {
         }
     }
 
-    /// Exchanges a block of 4 by 4 items with the mirror image of another one. The rows of both
-    /// begin `stride` places apart, and the blocks begin at places `i` and `j`. The item in row r
-    /// and column c of each block goes to row c and column r of the other. The two blocks must not
-    /// overlap. A kernel calls this only if the holder's `by_blocks` says so.
+    /// Exchanges two blocks of 4 by 4 items, each with the mirror image of the other: the item in
+    /// row r and column c of a block goes to row c and column r of the other block. The blocks
+    /// begin at places `i` and `j`, and the rows of each block begin `stride` places apart. The
+    /// blocks must not overlap. A kernel calls this only if `by_blocks` returns true.
     ///
     /// # Contract
     ///
@@ -142,15 +147,15 @@ pub trait Places {
     }
 }
 
-/// A list whose items can be written, and not read.
+/// A list into which items can be put, and from which none can be read.
 ///
-/// A contract sees an implementation as the list of its items. `same_holder n a b` says that b is a
-/// after n puts. The rest is the same as for [`Places`].
+/// In a contract, `items` is the list of the holder's items. `same_holder n a b` says that n puts
+/// turn the holder a into b, and otherwise the same as for [`Places`].
 pub trait Cells {
     /// The type of the items.
     type Item: Copy;
 
-    /// The number of places.
+    /// The number of cells.
     ///
     /// # Contract
     ///
@@ -161,7 +166,7 @@ pub trait Cells {
     /// ```
     fn len(&self) -> usize;
 
-    /// Writes `v` at place `i`. All other items stay.
+    /// Puts `v` into cell `i`. All other cells keep their items.
     ///
     /// # Contract
     ///
@@ -174,8 +179,8 @@ pub trait Cells {
     /// ```
     fn put(&mut self, i: usize, v: Self::Item);
 
-    /// Writes four items at the places from `i` on. All other items stay. A holder may do this in a
-    /// faster way than by its `put`.
+    /// Puts four items into the cells from `i` on. All other cells keep their items. A holder may
+    /// have a faster way to do this than four calls of `put`.
     ///
     /// # Contract
     ///
@@ -199,8 +204,8 @@ pub trait Cells {
         self.put(i + 3, four.3);
     }
 
-    /// The columns of a block of 4 by 4 items that has these rows. A holder may compute them in a
-    /// faster way.
+    /// Transposes a block of 4 by 4 items: takes the rows of the block and returns its columns. A
+    /// holder may have a faster way to do this.
     ///
     /// # Contract
     ///
@@ -215,9 +220,9 @@ pub trait Cells {
     }
 }
 
-/// A list whose items can be read, and not changed.
+/// A list whose items can be read but not changed.
 ///
-/// A contract sees an implementation as the list of its items.
+/// In a contract, `items` is the list of the source's items.
 pub trait Source {
     /// The type of the items.
     type Item: Copy;
@@ -233,7 +238,7 @@ pub trait Source {
     /// ```
     fn len(&self) -> usize;
 
-    /// The item at place `i`.
+    /// The item at index `i`.
     ///
     /// # Contract
     ///
@@ -245,7 +250,8 @@ pub trait Source {
     /// ```
     fn at(&self, i: usize) -> Self::Item;
 
-    /// The four items from place `i` on. A holder may read them in a faster way than by its `at`.
+    /// The four items from index `i` on. A source may have a faster way to read them than four
+    /// calls of `at`.
     ///
     /// # Contract
     ///
@@ -263,12 +269,12 @@ pub trait Source {
     }
 }
 
-/// Does nothing. A function that passes the length of a list tells its proof that this length fits a
-/// `usize`.
+/// Does nothing. A function that passes the length of a list tells its proof that this length fits in
+/// a `usize`.
 #[inline(always)]
 fn length_fits(_len: usize) {}
 
-/// The columns of a block of 4 by 4 items that has these rows.
+/// Transposes a block of 4 by 4 items: takes the rows of the block and returns its columns.
 #[inline(always)]
 pub(crate) fn turned_block<T: Copy>(rows: &Four<Four<T>>) -> Four<Four<T>> {
     let Four(a, b, c, d) = *rows;

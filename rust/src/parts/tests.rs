@@ -53,8 +53,8 @@ impl Cells for &mut Noted {
     }
 }
 
-/// Runs each part on its own list of the numbers below `len`. Part `number` leaves `wanted(number, place)` at each
-/// place, and no place is changed twice. Returns how many places are changed.
+/// Runs each part on its own list, which has the numbers below `len`. Checks that part `number` leaves
+/// `wanted(number, place)` at each place, and that no place is changed twice. Returns how many places are changed.
 fn check(len: usize, count: usize, run: impl Fn(&mut Noted, usize), wanted: impl Fn(usize, usize) -> usize) -> usize {
     let mut places = BTreeSet::new();
     for number in 0..count {
@@ -73,8 +73,8 @@ fn check(len: usize, count: usize, run: impl Fn(&mut Noted, usize), wanted: impl
     places.len()
 }
 
-/// Checks the parts of the transpose of a matrix. Its items are the numbers from `len` on, so that each write changes
-/// its cell. The matrix is cut along its longer side, or always along its columns if `may_cut_rows` is false.
+/// Checks the parts of the transpose of a matrix. Its items are the numbers from `len` on, so that each put changes its
+/// cell. The matrix is cut along its longer side, or always along its columns if `may_cut_rows` is false.
 fn check_matrix(width: usize, height: usize, parts: usize, may_cut_rows: bool) {
     let len = width * height;
     let input: Vec<usize> = (len..2 * len).collect();
@@ -109,7 +109,7 @@ fn regions_of_matrices() {
     }
 }
 
-/// The numbers below a length, as a source and as cells. Only what is written is stored.
+/// Cells for more items than memory holds. Only what is put is stored.
 struct Far {
     len: usize,
     puts: Vec<(usize, usize)>,
@@ -143,7 +143,7 @@ impl Source for Numbers {
     }
 }
 
-/// The last part of a matrix with one row or one column, which is its own transpose. No index overflows.
+/// Runs the last part of matrices with one row or one column. Such a matrix is its own transpose. No index overflows.
 #[test]
 fn regions_of_long_matrices() {
     let longest = usize::MAX;
@@ -174,8 +174,8 @@ fn reversed(digits: usize, i: usize) -> usize {
     (0..digits).fold(0, |rev, place| rev << 1 | i >> place & 1)
 }
 
-/// The index of a row with `digits` digits, in three: the middle digit, the high half in reversed order, and the low
-/// half.
+/// The three parts of the index of a row, which has `digits` digits: the middle digit, the high half in reversed order,
+/// and the low half.
 fn names(digits: usize, row: usize) -> (usize, usize, usize) {
     let half = digits / 2;
     let (high, rest) = (row >> (digits - half), row % (1 << (digits - half)));
@@ -239,7 +239,8 @@ fn blocks_of_squares() {
     }
 }
 
-/// Notes the places of a long list, which has three phases, and of long rows, which have one phase.
+/// Runs all phases of long lists, which have three phases, and of lists of long rows, which have one phase. No two
+/// parts of a phase change the same place.
 #[test]
 fn long_lists() {
     for (digits, row_width, count) in [(9, 1, 3), (14, 1, 3), (15, 1, 3), (19, 1, 3), (10, 20, 1)] {
@@ -301,8 +302,8 @@ fn count_and_share(sizes: impl IntoIterator<Item = usize>) -> (usize, usize) {
 /// alone. Only this test notices if a list is not cut, or is cut into parts of very different sizes.
 #[test]
 fn shares_of_reversals() {
-    /// The number of binary digits (there are 2^digits rows), the width of a row, the wish, and for each phase the
-    /// number of parts and the largest share.
+    /// The number of binary digits (there are 2^digits rows), the width of a row, how many parts are asked for, and for
+    /// each phase the number of parts and the largest share.
     type Case = (usize, usize, usize, &'static [(usize, usize)]);
     let cases: [Case; 16] = [
         (20, 1, 0, &[(1, 1000), (1, 1000), (1, 1000)]),
@@ -362,7 +363,7 @@ fn shares_of_transposes() {
     }
 }
 
-/// How many phases a list has. Up to a certain length the list is one part.
+/// How many phases a list has. Up to a given length, a list is one part.
 #[test]
 fn lists_up_to_one_part() {
     let phases = |len, row_width, one_part| {

@@ -1,4 +1,4 @@
-//! Which strips a matrix is put by, and the order of the writes for the strips that only this package chooses.
+//! Tests by which strips a matrix is put, and the order of the puts for the strips that only this package chooses.
 
 use core::marker::PhantomData;
 use std::vec::Vec;
@@ -7,7 +7,7 @@ use super::*;
 use crate::kernels::places::{Cells, Four, SliceSource, turned_block};
 use crate::kernels::transpose::transpose_matrix;
 
-/// A number of items that are never read.
+/// A source of this many items, which are never read.
 struct Unread<T>(usize, PhantomData<T>);
 
 impl<T> Clone for Unread<T> {
@@ -64,7 +64,8 @@ fn blocks_of_small_items() {
         assert_eq!(has_blocks::<u32>(width, height), turns, "{width} by {height}");
         assert!(is_by_shape::<u64>(width, height), "{width} by {height}");
     }
-    // A side below 8, sides without whole blocks, and a large width that is not a multiple of 16.
+    // These have a side below 8, or few items and blocks that are not whole, or many items and a width that is not a
+    // multiple of 16.
     for (width, height) in [(7, 1000), (1000, 7), (8, 9), (11, 11), (513, 512), (1000, 1000)] {
         assert!(is_by_shape::<u32>(width, height), "{width} by {height}");
     }
@@ -84,14 +85,15 @@ fn wide_items_of_large_matrices() {
             "{width} by {height}"
         );
     }
-    // Columns of a multiple of 2048 bytes, and of 4096.
+    // With items of 32 bytes, a column here has a multiple of 2048 bytes, which is too few. With items of 64 bytes, it
+    // has a multiple of 4096.
     for (width, height) in [(1000, 1600), (16_400, 64)] {
         assert!(
             !is_wide::<[u8; 32]>(width, height) && is_wide::<[u64; 8]>(width, height),
             "{width} by {height}"
         );
     }
-    // One item too few, a multiple of 32 rows, and 15 columns.
+    // The first has one item too few, the second only a multiple of 32 rows, and the third only 15 columns.
     for (width, height) in [(1024, 1024), (16_400, 96), (15, 131_072)] {
         assert!(
             !is_wide::<[u8; 32]>(width, height) && !is_wide::<[u64; 8]>(width, height),
@@ -102,7 +104,7 @@ fn wide_items_of_large_matrices() {
     assert!(!is_wide::<[u64; 5]>(2048, 2048) && !is_wide::<[u64; 16]>(2048, 2048));
 }
 
-/// The cells of a transpose. They note the order of the writes.
+/// The cells of a transpose, which note the order of the puts.
 struct Noted {
     items: Vec<usize>,
     puts: Vec<usize>,
@@ -121,8 +123,8 @@ impl Cells for Noted {
     }
 }
 
-/// The columns and rows of a matrix in the order of wide strips: 16 rows at a time, in these 16 columns at a time, and
-/// in each such tile row after row. A piece with fewer rows or columns is put column after column.
+/// The column and the row of each item, in the order of wide strips: 16 rows at a time, of these 16 columns at a time,
+/// and each such tile row after row. A piece with fewer rows or columns is put column after column.
 fn by_wide_strips(width: usize, height: usize) -> Vec<(usize, usize)> {
     let mut places = Vec::new();
     for top in (0..height).step_by(16) {
@@ -164,8 +166,8 @@ fn wide_strips_in_order() {
     }
 }
 
-/// Cells that write four items at once in their own way, and count how often they do. They can be set to exchange two
-/// columns of each block that they transpose.
+/// Cells that put four items at once in their own way, and count how often they do so. If `CHANGED` is true, they
+/// exchange two columns of each block that they transpose.
 struct ByFours<const CHANGED: bool> {
     items: Vec<usize>,
     fours: usize,
@@ -193,7 +195,7 @@ impl<const CHANGED: bool> Cells for ByFours<CHANGED> {
     }
 }
 
-/// Numbers that are read four at a time wherever a block is whole.
+/// Numbers that have to be read four at a time wherever a block is whole.
 #[derive(Clone, Copy)]
 struct Numbers {
     width: usize,
@@ -235,7 +237,7 @@ fn blocks_by_holders_of_ones_own() {
         let right = put_by_fours::<false>(width, height);
         assert!(right.items.into_iter().eq((0..width * height).map(transposed)));
         assert_eq!(right.fours, width / 4 * (height / 4) * 4, "{width} by {height}");
-        // The test notices a block with exchanged columns.
+        // So this test notices if a block has two columns exchanged.
         let wrong = put_by_fours::<true>(width, height);
         assert!(!wrong.items.into_iter().eq((0..width * height).map(transposed)));
     }

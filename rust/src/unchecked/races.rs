@@ -1,5 +1,6 @@
-//! Parts on several threads, with lists that are cut even if they are short. `rust/test` runs these tests with a race
-//! detector. It also runs cuts that overlap, and the detector must report each of them.
+//! Runs parts on several threads, on lists that are cut even if they are short. `rust/test` runs these tests with a
+//! race detector. It also runs the ignored tests, each of which runs two parts that overlap, and the detector must
+//! report each of these races.
 
 use std::iter::from_fn;
 use std::thread::scope;
@@ -45,7 +46,7 @@ impl Number for usize {
     }
 }
 
-/// Transposes a matrix of numbers in about `parts` parts.
+/// Transposes a matrix of numbers in at most `parts` parts.
 fn transposes<T: Number>(width: usize, height: usize, parts: usize, threads: usize) {
     let input: Vec<T> = (0..width * height).map(T::of).collect();
     let mut output = std::vec![T::of(0); input.len()];
@@ -55,7 +56,7 @@ fn transposes<T: Number>(width: usize, height: usize, parts: usize, threads: usi
     assert!(output.into_iter().eq((0..input.len()).map(transposed)));
 }
 
-/// Reverses 2^`digits` rows of numbers, in phases that are cut along sides of at most `parts` parts.
+/// Reverses 2^`digits` rows of numbers, in phases whose squares are cut into at most `parts` pieces on each side.
 fn reverses<T: Number>(digits: u32, row_width: usize, parts: usize, threads: usize) {
     let mut list: Vec<T> = (0..row_width << digits).map(T::of).collect();
     let mut phases = Phases::new(&mut list, row_width, parts, 0).unwrap();
@@ -79,7 +80,7 @@ fn parts_on_threads() {
     }
 }
 
-/// Runs one part of each of two phases of the same list, on two threads.
+/// Takes two phases of the same list, and runs one part of each, on two threads.
 fn run_both<'a, T: Send, P: Copy + Send>(
     mut parts: Parts<'a, T, P>,
     phases: [(P, usize); 2],

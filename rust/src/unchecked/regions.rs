@@ -1,5 +1,5 @@
-//! What the parts of a transpose read: each item once, in the order of their strips. A test of results would notice
-//! neither a second read nor another order.
+//! Tests what the parts of a transpose read: each item once, in the order that the strips have. A test of results would
+//! notice neither a second read nor another order.
 
 use core::cell::RefCell;
 use core::mem::discriminant;
@@ -8,7 +8,7 @@ use std::vec::Vec;
 use super::*;
 use crate::kernels::transpose::transpose_matrix;
 
-/// A slice that notes the place of each read.
+/// A slice that notes the index of each read.
 #[derive(Clone, Copy)]
 struct Noted<'a> {
     items: &'a [usize],
@@ -28,7 +28,7 @@ impl Source for Noted<'_> {
     }
 }
 
-/// Calls `call` with the numbers below `len` and returns the places that it reads, in order.
+/// Calls `call` with the numbers below `len` and returns the indices that it reads, in order.
 fn reads(len: usize, call: impl FnOnce(&[usize], &mut [usize], Noted)) -> Vec<usize> {
     let items: Vec<usize> = (0..len).collect();
     let mut output = items.clone();
@@ -73,7 +73,8 @@ fn strips_of_the_parts() {
     }
 }
 
-/// The parts use the strips that the whole call uses. For large items these are not the strips that the kernels choose.
+/// The parts use the strips that the whole call uses. For a large matrix of large items these are not the strips that
+/// the kernels choose.
 #[test]
 fn strips_of_the_call() {
     fn is_of_call<T: Copy>(item: T, width: usize, height: usize) -> bool {

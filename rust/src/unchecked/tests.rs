@@ -1,5 +1,5 @@
-//! What each step of a holder of a slice does. With debug assertions and with the feature `checked`, each step also
-//! checks its precondition.
+//! Tests what each step of a holder of a slice does. With debug assertions, and with the feature `checked`, each step
+//! also checks its precondition.
 
 use std::boxed::Box;
 use std::fmt::Debug;
@@ -9,8 +9,8 @@ use super::{SliceCells, SlicePlaces, SliceSource};
 use crate::kernels::places::{Cells, Four, Places, Source};
 use crate::kernels::transpose::{Matrix, Strips, transpose_matrix, transpose_square};
 
-/// The result of a call on the numbers below 6, each as an item of five bytes. For such items std checks, if it is
-/// told to, that no place is borrowed twice.
+/// The result of a call on the numbers below 6, each as an item of five bytes. For items of this size, std tests that
+/// no place is borrowed twice if it is compiled with `-Zub-checks`.
 fn left(call: impl FnOnce(&mut SlicePlaces<[u8; 5]>)) -> [u8; 6] {
     let mut list = [0, 1, 2, 3, 4, 5].map(|number| [number; 5]);
     call(&mut SlicePlaces::new(&mut list));
@@ -32,7 +32,8 @@ fn exchanges_of_runs() {
     assert_eq!(left(|places| places.exchange_runs(6, 0, 0)), [0, 1, 2, 3, 4, 5]);
 }
 
-/// Compares the result of a call on the first `len` items. The item at each place has to be number `wanted(place)`.
+/// Compares the result of a call on a list of `len` items, of which number `i` is `item(i)`. Each place has to hold
+/// item number `wanted(place)`.
 fn leaves<T: Debug + PartialEq>(
     len: usize,
     item: impl Fn(usize) -> T,
@@ -346,7 +347,7 @@ mod refused {
     }
 }
 
-/// With the feature `checked` a share of a list gives access to its own places only. A place has the same index as in
+/// With the feature `checked`, a share of a list gives access only to its own places, which have the same indices as in
 /// the list.
 #[cfg(feature = "checked")]
 #[test]

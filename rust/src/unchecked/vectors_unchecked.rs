@@ -1,11 +1,11 @@
 //! Squares of items of 4 and of 8 bytes, transposed in the vector registers of x86-64 and of aarch64. Only
 //! `unchecked.rs` uses this file.
 //!
-//! A register holds whole items. These may be pointers, or have bytes that were never written. So a register is never
-//! read as a number. It is a [`MaybeUninit`]: copying it keeps each byte as it is, and keeps what a pointer points
-//! into. The shuffles of `core::arch` take numbers. Therefore a shuffle here is one assembly instruction, with the same
-//! effect as Rust code that moves such bytes one by one. It touches no memory: Rust reads and writes all items, so a
-//! race detector sees these accesses.
+//! A register holds whole items. Items may be pointers, or have bytes that were never written, so a register must never
+//! be read as a number. It is a [`MaybeUninit`]: a copy of it keeps each byte as it is, and keeps the provenance of
+//! each pointer. The shuffles of `core::arch` take numbers. Therefore a shuffle here is one assembly instruction. It
+//! has the same effect as Rust code that moves such bytes one by one, and touches no memory. All items are read and
+//! written by Rust code, so a race detector sees these accesses.
 
 use core::array::from_fn;
 use core::mem::{MaybeUninit, transmute_copy};
@@ -26,10 +26,10 @@ pub(crate) const HERE: bool =
 /// Two items of 8 bytes, or four of 4 bytes.
 pub(super) type Register = MaybeUninit<Vector>;
 
-/// A function from the rows of a square to its columns. Both are registers.
+/// A function that takes the rows of a square and returns its columns. Each row and each column is a register.
 type Turned<const SIDE: usize> = fn([Register; SIDE]) -> [Register; SIDE];
 
-/// The side of a square of such items that is transposed in registers, or 1 if none is.
+/// The side of a square of items of type `T` that is transposed in registers, or 1 if none is.
 pub(super) const fn side<T>() -> usize {
     match size_of::<T>() {
         4 if HERE => 4,
@@ -38,16 +38,17 @@ pub(super) const fn side<T>() -> usize {
     }
 }
 
-/// Defines functions that are one instruction each, given by its name on x86-64, and by its name on aarch64 with the
-/// parts of a register.
+/// Defines functions that are one instruction each. A line has the name of the function, the name of the instruction on
+/// x86-64, and its name on aarch64 with the form of the register's parts.
 macro_rules! shuffles {
     ($($name:ident: $x86:literal, $arm:literal $parts:literal)*) => {$(
         #[inline(always)]
         #[allow(unused)] // If `side` is 1, nothing is shuffled.
         pub(super) fn $name(a: Register, b: Register) -> Register {
             let mut to = a;
-            // SAFETY (of all three): the instruction reads two registers, writes one, and does nothing else. Any 16 bytes
-            // are a `Register`. With AVX it has three operands, because older instructions are slow among those of AVX.
+            // SAFETY (of all three): the instruction reads two registers, writes one, and does nothing else. Any 16
+            // bytes are a `Register`. With AVX it has three operands, because an older instruction is slow if it comes
+            // between those of AVX.
             #[cfg(all(target_feature = "sse2", not(target_feature = "avx")))]
             unsafe { core::arch::asm!(concat!($x86, " {}, {}"), inlateout(xmm_reg) to, in(xmm_reg) b,
                 options(pure, nomem, nostack, preserves_flags)) }
@@ -62,8 +63,8 @@ macro_rules! shuffles {
     )*};
 }
 
-// These interleave the parts a0 a1 .. and b0 b1 .. of two registers as a0 b0 ..: those of the low halves, and those of
-// the high halves.
+// Each of these interleaves parts of two registers: from a0 a1 .. and b0 b1 .. it makes a0 b0 a1 b1 .., for the parts
+// in the low halves or in the high halves.
 shuffles! {
     low_4: "punpckldq", "zip1" "4s"
     high_4: "punpckhdq", "zip2" "4s"
@@ -85,7 +86,7 @@ pub(super) fn turned_4([a, b, c, d]: [Register; 4]) -> [Register; 4] {
     [p, q, r, s]
 }
 
-/// Does the same as [`turned_block`], in registers if the items fit them.
+/// Does the same as [`turned_block`], in registers if [`side`] is above 1 for these items.
 #[inline(always)]
 pub(super) fn turned<T: Copy>(rows: &Four<Four<T>>) -> Four<Four<T>> {
     match side::<T>() {

@@ -9,13 +9,13 @@ use std::alloc::{AllocError, Global};
 /// `Vec<Option<u32>>`.
 ///
 /// The name is cut after each `<`, `>` and `,`. Of each piece, only what follows its last `::` is
-/// kept, where each `::` is found from left to right. So a bracket or a `&` in front of a path is
-/// lost with the path, and `a:::b` becomes `:b`.
+/// kept. So a bracket or a `&` in front of a path is lost with the path. Each `::` is looked for
+/// from left to right, so `a:::b` becomes `:b`.
 ///
 /// # Errors
 ///
 /// `AllocError` if there is no memory for as many bytes as `name` has. The call requests no more
-/// than that. An empty name is never refused.
+/// than that. With an empty name it never fails.
 pub fn pretty_name(alloc: Global, name: &str) -> Result<String, AllocError>
     ensures short { IfOk result (λ s. string_bytes s ≡ short_name name.now) }
     ensures refused { OnErr result (0 < length name.now) }

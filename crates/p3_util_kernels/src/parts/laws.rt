@@ -1,11 +1,12 @@
 //! What makes it safe to run the parts of a call on several threads.
 //!
-//! Nothing calls these functions, and the package is made without them: each is there for its
-//! contract. Some run one part of a plan on a holder whose contract says that its steps exist, and
-//! state which places they change. Others state that two parts have no place in common, and that
-//! each place belongs to some part. `all_parts` runs all parts, in any order. `interleaved` states
-//! the same for every interleaving of the steps of several parts, as threads may make them.
-//! `witnesses` shows that the preconditions can be met.
+//! No other code calls the functions of this module, and the package is made without them: each is
+//! there for its contract. Some run one part of a plan, on a holder whose contract says that the
+//! steps of the part exist. Their contracts say at which places these steps are. Other functions
+//! state that two parts have no place in common, and that each place belongs to some part.
+//! `all_parts` runs all parts, in any order. `interleaved` states the same for every interleaving
+//! of the steps of several parts, as threads may make them. `witnesses` shows that the
+//! preconditions can be met.
 
 ghost use Rattle.std.specs.Prelude.{◌≡◌, ◌≢◌, ℕ, ◌⊎◌, ◌+◌, ◌-◌, ◌*◌, ◌/◌, ◌^◌, ◌<◌, ◌≤◌, ◌↔◌, false, if◌then◌else◌, length};
 ghost use Rattle.p3_util_kernels.specs.Blocks.{IsBlock, blocks_of, swaps_of_block};
@@ -27,8 +28,8 @@ use crate::parts::{Cut, Phase, RowPairs, Squares, TransposePlan};
 use crate::places::{Cells, Places, Source};
 use crate::transpose::{Matrix, Region, Strips};
 
-/// A holder whose `same_holder n a b` says that n puts exist that turn the items of `a` into those
-/// of `b`.
+/// A holder whose `same_holder n a b` says that some n puts turn the items of `a` into those of
+/// `b`.
 #[derive(Drop)]
 struct PutSteps<C> {
     cells: C,
@@ -55,8 +56,8 @@ impl<C: Cells> Cells for PutSteps<C> {
         (C.items b.cells) (C.items c.cells) };
 }
 
-/// A holder whose `same_holder n a b` says that n exchanges exist that turn the items of `a` into
-/// those of `b`.
+/// A holder whose `same_holder n a b` says that some n exchanges turn the items of `a` into those
+/// of `b`.
 #[derive(Drop)]
 struct SwapSteps<S> {
     places: S,
@@ -87,16 +88,16 @@ impl<S: Places> Places for SwapSteps<S> {
         (S.items b.places) (S.items c.places) };
 }
 
-/// If as many places changed as there were writes, or twice as many as there were exchanges, then
-/// the steps are at exactly these places, and no two steps have a place in common.
+/// If m puts changed m places, or m exchanges changed 2m places, then these steps are at exactly
+/// the places that changed, and no two steps have a place in common.
 pub(crate) fn changed_places<T>()
     ensures swaps { SwapsAtChanged T }
     ensures puts { PutsAtChanged T }
 {}
 
-/// Puts a region of a plan with any strips. It takes as many writes as the region has items. If no
-/// item of the input is in the output, the writes are at the places of the region's transpose, one
-/// at each.
+/// Puts a region of a plan, by any strips, in as many puts as the region has items. If the output
+/// has no item of the input before the call, the puts are at the places of the region's transpose,
+/// one at each.
 pub(crate) fn put_region<C: Cells, R: Source<Item = C::Item> + Copy>(
     out: C,
     source: R,
@@ -124,8 +125,8 @@ pub(crate) fn put_region<C: Cells, R: Source<Item = C::Item> + Copy>(
         .cells
 }
 
-/// Two regions of one matrix that have no row, or no column, in common have no place of the
-/// transpose in common.
+/// Two regions of one matrix have no place of the transpose in common if one ends before the other
+/// begins, by rows or by columns.
 pub(crate) fn regions_apart(first: Region, second: Region, width: usize, height: usize)
     requires first { LiesInMatrix first width height }
     requires second { LiesInMatrix second width height }
@@ -133,7 +134,7 @@ pub(crate) fn regions_apart(first: Region, second: Region, width: usize, height:
     ensures { NoPlaceInCommon (IsPlaceOfRegion first height) (IsPlaceOfRegion second height) }
 {}
 
-/// Two parts of a matrix that is cut along its rows or along its columns have no place of the
+/// If the rows or the columns of a matrix are cut, two different parts have no place of the
 /// transpose in common.
 pub(crate) fn parts_of_matrix(
     width: usize,
@@ -170,9 +171,9 @@ pub(crate) fn cells_follow(plan: TransposePlan, number: usize)
         × (p < start_of plan.cut.len plan.cut.step (number + 1) * plan.height)) }
 {}
 
-/// Exchanges a block of squares side by side with its mirror image, by an exact number of
-/// exchanges. If all items of the list differ, the exchanges are at places of the block and of its
-/// mirror image, and no two of them have a place in common.
+/// Exchanges a block of `squares` with its mirror image, by an exact number of exchanges. If all
+/// items of the list differ, the exchanges are at places of the block and of its mirror image, and
+/// no two exchanges have a place in common.
 pub(crate) fn exchange_block<S: Places>(places: S, squares: Squares, number: usize) -> S
     requires below { number < blocks_of squares.cut.len squares.stride squares.cut.step }
     requires whole { length (S.items places) ≡ squares.cut.len * squares.stride }
@@ -207,15 +208,16 @@ pub(crate) fn block_of_number(squares: Squares, number: usize)
         → (base ≡ other_base) × (region ≡ other_region) }
 {}
 
-/// Two blocks of squares side by side have no place in common.
+/// Two different blocks of `squares`, each with its mirror image, have no place in common.
 pub(crate) fn blocks_apart(squares: Squares, first: usize, second: usize)
     requires { first ≢ second }
     ensures { NoPlaceInCommon (IsPlaceOfBlock squares.cut.len squares.stride squares.cut.step first)
         (IsPlaceOfBlock squares.cut.len squares.stride squares.cut.step second) }
 {}
 
-/// Exchanges the pairs of rows of a block by an exact number of exchanges. If all items of the list
-/// differ, the exchanges are at places of these rows, and no two of them have a place in common.
+/// Exchanges the two rows of each pair in a block, by an exact number of exchanges. If all items of
+/// the list differ, the exchanges are at places of these rows, and no two exchanges have a place in
+/// common.
 pub(crate) fn exchange_row_pairs<S: Places>(places: S, pairs: RowPairs, number: usize) -> S
     requires below { number < blocks_of pairs.squares.cut.len pairs.squares.stride
         pairs.squares.cut.step }
@@ -240,7 +242,7 @@ pub(crate) fn exchange_row_pairs<S: Places>(places: S, pairs: RowPairs, number: 
         .places
 }
 
-/// The pairs of rows of two blocks have no place in common.
+/// The pairs of rows in two different blocks have no place in common.
 pub(crate) fn row_pairs_apart(pairs: RowPairs, first: usize, second: usize)
     requires { first ≢ second }
     ensures { NoPlaceInCommon (IsPlaceOfPairs pairs.rows.digits pairs.rows.width
@@ -256,15 +258,15 @@ pub(crate) fn parts_cover_matrix(width: usize, height: usize, by_rows: bool, cut
         (λ k. IsPlaceOfRegion (part_of_matrix width height by_rows cut.len cut.step k) height) }
 {}
 
-/// Each place of squares side by side belongs to one of their blocks.
+/// Each place of the squares belongs to one of their blocks or to its mirror image.
 pub(crate) fn blocks_cover_squares(squares: Squares)
     ensures { PartsCover (IsPlaceOfSquares squares.cut.len squares.stride)
         (blocks_of squares.cut.len squares.stride squares.cut.step)
         (IsPlaceOfBlock squares.cut.len squares.stride squares.cut.step) }
 {}
 
-/// Each place of a list of rows belongs to the pairs of rows of one of the blocks, if a row that
-/// stays counts as a pair with itself.
+/// Each place of a list of rows belongs to the pairs of rows in one of the blocks. Here a row that
+/// stays where it is counts as a pair with itself.
 pub(crate) fn blocks_cover_rows(pairs: RowPairs)
     ensures { PartsCover (λ p. p < pairs.rows.width * 2 ^ pairs.rows.digits)
         (blocks_of pairs.squares.cut.len pairs.squares.stride pairs.squares.cut.step)

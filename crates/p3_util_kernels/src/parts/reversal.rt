@@ -1,4 +1,4 @@
-//! The phases that a reversal is cut into, and their parts.
+//! The phases that a reversal is cut into, and the parts of each phase.
 
 ghost use Rattle.std.specs.Prelude.{◌≡◌, ℕ, ◌-◌, ◌/◌, ◌^◌, ◌<◌, ◌≤◌, Some, length, max, slice_get};
 ghost use Rattle.p3_util_kernels.specs.Parts.{IsLeastStep, parts_in};
@@ -10,14 +10,15 @@ use crate::places::Places;
 use crate::reverse::{RowDigits, reverse_index_bits, reverse_rows};
 use crate::transpose::TILE_SIDE;
 
-/// A pass over the list, which is made in parts.
+/// A phase: one pass over the list, which runs in parts.
 #[derive(Clone, Copy)]
 pub(crate) enum Phase {
-    /// All rows are reversed, as one part.
+    /// The whole reversal of these rows, as one part.
     Rows(RowDigits),
-    /// All pairs of rows are exchanged, by blocks.
+    /// Each pair of rows is exchanged. A part is a block of these pairs.
     Pairs(RowPairs),
-    /// Squares are transposed, by blocks.
+    /// Each square is transposed. A part is a block of a square, with the mirror image of the
+    /// block.
     Blocks(Squares),
 }
 
@@ -26,19 +27,21 @@ pub(crate) enum Phase {
 pub(crate) enum ReversalPlan {
     /// The list is empty, so there is nothing to do.
     Nothing,
-    /// A short list, as one part.
+    /// A short list: one phase, which has one part.
     OnePart(RowDigits),
-    /// A long list of rows of several items: blocks of its pairs of rows.
+    /// A long list of rows of several items: one phase, in which the pairs of rows are exchanged.
     ByPairs(RowPairs),
-    /// A long list of rows of one item: the pairs of its chunks, then its squares, and then the
-    /// same pairs again.
+    /// A long list of rows of one item: three phases, which are the three passes of the module
+    /// `reverse::long`. The pairs of chunks are exchanged, then the squares are transposed, and
+    /// then the same pairs are exchanged again.
     Long(RowPairs, Squares),
 }
 
 impl ReversalPlan {
-    /// Cuts the reversal of the rows of `row_width` items of a list of `len` items. Up to
-    /// `one_part` items it is one part. Beyond that, each side of a square is cut into at most
-    /// `parts` parts, and so are the pairs of rows. If `parts` is 0, it counts as 1.
+    /// Cuts the reversal of a list of `len` items, in rows of `row_width` items. A list of at most
+    /// `one_part` items is one part. For a longer list, the sides of the squares of items are cut
+    /// into at most `parts` parts, and so are those of the squares of pairs of rows. A `parts` of 0
+    /// counts as 1.
     pub(crate) fn new(len: usize, row_width: usize, parts: usize, one_part: usize) -> ReversalPlan
         requires { FitsRows len row_width }
         ensures plan { IsReversalPlan len row_width result }
@@ -75,7 +78,7 @@ impl ReversalPlan {
     }
 }
 
-/// The pairs of the chunks of a list of 2^`digits` items, and its squares.
+/// The pairs of chunks of a list of 2^`digits` items, and the squares of that list.
 fn chunks_and_squares(digits: usize, parts: usize) -> (RowPairs, Squares)
     requires { digits < 64 }
     ensures width { result.0.rows.width ≡ 2 ^ (digits - digits / 2) }
@@ -104,7 +107,7 @@ impl Phase {
         }
     }
 
-    /// Makes the exchanges of part `number`.
+    /// Runs part `number`: makes all of its exchanges.
     pub(crate) fn exchange<M: Places>(self, m: M, number: usize) -> M
         requires below { number < parts_of self }
         requires list { IsPhaseOf self (length (M.items m)) }

@@ -8,8 +8,8 @@ use crate::parts::Cut;
 use crate::places::{Cells, Source};
 use crate::transpose::{ENOUGH_LEVELS, Matrix, Strips, TILE_SIDE, put_split};
 
-/// The transpose of a matrix of `height` rows of `width` items, cut into regions along its rows or
-/// along its columns.
+/// The transpose of a matrix of `height` rows of `width` items, cut into regions of neighbouring
+/// rows or of neighbouring columns.
 #[derive(Clone, Copy, Debug)]
 pub(crate) struct TransposePlan {
     width: usize,
@@ -22,9 +22,9 @@ pub(crate) struct TransposePlan {
 }
 
 impl TransposePlan {
-    /// Cuts the longer side into at most `parts` parts, at multiples of the side of a tile. If the
-    /// rows may not be cut, the columns are always cut. If `parts` is 0, it counts as 1. A matrix
-    /// without items has no region.
+    /// Cuts the longer side into at most `parts` parts, at multiples of the side of a tile. If
+    /// `may_cut_rows` is false, the columns are cut, whichever side is longer. A `parts` of 0
+    /// counts as 1. A matrix without items has no region.
     pub(crate) fn new(
         width: usize,
         height: usize,
@@ -64,8 +64,8 @@ impl TransposePlan {
         self.cut.count()
     }
 
-    /// The number of items of region `number`. If the columns are cut, these items are put at
-    /// consecutive cells, right after those of the regions before it.
+    /// The number of items of region `number`. If the columns are cut, the items of a region fill
+    /// consecutive cells, right after the cells of the region before it.
     pub(crate) fn items(self, number: usize) -> usize
         requires { number < parts_in self.cut.len self.cut.step }
         ensures { result ≡ items_of (part_of_matrix self.width self.height self.by_rows self.cut.len
@@ -79,8 +79,8 @@ impl TransposePlan {
         region.rows() * region.cols()
     }
 
-    /// Puts the transpose of region `number` of `source` into `out`, which has cells for the
-    /// transpose of the whole matrix, with the given strips.
+    /// Puts region `number` of the matrix in `source`, by the given strips. The list `out` has the
+    /// cells of the whole transpose.
     pub(crate) fn put<C: Cells, R: Source<Item = C::Item> + Copy>(
         self,
         out: C,

@@ -1,9 +1,9 @@
-//! Counters around holders, which count each exchange and each put.
+//! Counters: holders around another holder, which count its exchanges or its puts.
 //!
-//! A counter is itself a holder, as [`places`](crate::places) explains. Its count rises by the
-//! number of steps that the holder inside makes. The fields are visible in this crate because the
-//! `_on` calls lend the holder inside to a kernel. A kernel is generic over its holder, so it
-//! cannot name the fields.
+//! A counter is itself a holder, as [`places`](crate::places) explains. The count rises by the
+//! number of steps that the holder inside makes. The fields are visible in the whole crate, because
+//! the `_on` calls lend the holder inside to a kernel. The kernel itself cannot reach the fields of
+//! a counter, since it is generic over its holder.
 
 ghost use Rattle.std.specs.Prelude.{◌≡◌, ℕ, ◌+◌, ◌-◌, ◌*◌, ◌^◌, ◌<◌, ◌≤◌, ◌⊎◌, List, length, swap, slice_set};
 ghost use Rattle.std.proofs.Common.{rules};
@@ -12,7 +12,7 @@ ghost use Rattle.p3_util_kernels.specs.Steps.{counted};
 
 use crate::places::{Cells, Places, length_fits};
 
-/// A holder of places that counts its exchanges. The count stops at `u128::MAX`.
+/// A counter around a holder of places. It counts exchanges. The count stops at `u128::MAX`.
 #[derive(Debug, Drop)]
 pub struct Swaps<S> {
     pub(crate) holder: S,
@@ -48,8 +48,8 @@ impl<S: Places> Swaps<S> {
         self.holder.len()
     }
 
-    /// Exchanges the items at places `i` and `j` by one exchange of the holder inside, and counts
-    /// it.
+    /// Makes one swap: the holder inside exchanges the items at places `i` and `j`, and the counter
+    /// counts this.
     #[inline(always)]
     pub fn swap(&mut self, i: usize, j: usize)
         requires first { i < length (S.items self.old.holder) }
@@ -62,7 +62,7 @@ impl<S: Places> Swaps<S> {
         self.count = self.count.saturating_add(1);
     }
 
-    /// The number of exchanges so far, at most `u128::MAX`.
+    /// The number of swaps so far, at most `u128::MAX`.
     pub fn swaps(&self) -> u128
         ensures { result ≡ self.now.count }
     {
@@ -78,7 +78,7 @@ impl<S: Places> Swaps<S> {
     }
 }
 
-/// A holder of cells that counts its writes. The count stops at `u128::MAX`.
+/// A counter around a holder of cells. It counts puts. The count stops at `u128::MAX`.
 #[derive(Debug, Drop)]
 pub struct Writes<C> {
     pub(crate) holder: C,
@@ -107,14 +107,14 @@ impl<C: Cells> Writes<C> {
         Writes { holder, count }
     }
 
-    /// The number of places.
+    /// The number of cells.
     pub fn len(&self) -> usize
         ensures { result ≡ length (C.items self.now.holder) }
     {
         self.holder.len()
     }
 
-    /// Writes `v` at place `i` by one put of the holder inside, and counts it.
+    /// Makes one write: the holder inside puts `v` into cell `i`, and the counter counts this.
     #[inline(always)]
     pub fn put(&mut self, i: usize, v: C::Item)
         requires { i < length (C.items self.old.holder) }

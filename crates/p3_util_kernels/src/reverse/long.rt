@@ -1,12 +1,13 @@
 //! Bit reversal of long lists in three passes: chunks, squares, and chunks again.
 //!
-//! With `2^k` items, `half = k / 2` and `c = k - half`, the list is `2^half` rows of `2^c` items.
-//! These rows are the chunks. Since `c` is `half` or `half + 1`, the list is one square or two
-//! squares side by side. So the index of an item consists of its row, its square and its column.
+//! A list of `2^k` items is seen as `2^half` rows of `2^c` items, with `half = k / 2` and
+//! `c = k - half`. These rows are the chunks. Since `c` is `half` or `half + 1`, the rows form one
+//! square, or two squares side by side. So the bits of an index are those of its row, then one bit
+//! for its square if there are two, and then those of its column.
 //!
-//! The first pass reverses the order of the chunks, and with it the bits of the row. The second
-//! pass transposes each square, which exchanges row and column. The third pass is the first one
-//! again.
+//! The first pass reverses the order of the chunks by index bits, and so reverses the bits of the
+//! row. The second pass transposes each square, so the bits of the row and those of the column
+//! change places. The third pass does the same as the first one.
 
 ghost use Rattle.std.specs.Prelude.{◌≡◌, ℕ, ◌+◌, ◌-◌, ◌*◌, ◌/◌, ◌^◌, ◌<◌, ◌≤◌, length};
 ghost use Rattle.p3_util_kernels.specs.Levels.{clog};
@@ -21,11 +22,11 @@ use crate::reverse::rows::reverse_chunks;
 use crate::transpose::transpose_square;
 
 /// Reverses `m` by index bits, as
-/// [`reverse_slice_index_bits`](crate::reverse::reverse_slice_index_bits) does, by chunks and
-/// squares. A list of n items takes at most 3n/2 swaps. That is more than
-/// [`reverse_index_bits_short`](crate::reverse::reverse_index_bits_short) makes, but their order
-/// suits lists that do not fit in a cache. The length must be a power of two, which std's
-/// `is_power_of_two` checks, and at least 4.
+/// [`reverse_slice_index_bits`](crate::reverse::reverse_slice_index_bits) does, in three passes
+/// over chunks and squares. A list of n items takes at most 3n/2 swaps.
+/// [`reverse_index_bits_short`](crate::reverse::reverse_index_bits_short) takes at most n/2, but
+/// the order of the swaps here suits lists that do not fit in a cache. The length must be at least
+/// 4, and a power of two, which std's `is_power_of_two` checks.
 #[tactic(auto, using(crate::proofs::SwapCountsLemmas::long_bound))]
 pub fn reverse_index_bits_long<S: Places>(m: &mut Swaps<S>)
     requires fits { IsReversible (length (S.items m.old.holder)) }
@@ -55,9 +56,9 @@ pub(crate) fn reverse_long<M: Places>(m: M) -> M
     reverse_chunks(m, half, bits - half)
 }
 
-/// Transposes each of the squares that lie side by side in `m`. Each has `2^log_size` rows and
-/// columns, and `m` is `2^log_size` rows of `2^log_stride` items. A list of n items takes at most
-/// n/2 swaps.
+/// Transposes each of the squares that lie side by side in `m`. The list is `2^log_size` rows of
+/// `2^log_stride` items, and each square has `2^log_size` rows and columns. A list of n items takes
+/// at most n/2 exchanges.
 fn transpose_squares<M: Places>(m: M, log_stride: usize, log_size: usize) -> M
     requires within { log_size ≤ log_stride }
     requires whole { length (M.items m) ≡ 2 ^ (log_size + log_stride) }

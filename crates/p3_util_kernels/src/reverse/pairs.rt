@@ -1,8 +1,9 @@
 //! The pairs of rows that a bit reversal exchanges.
 //!
-//! With 2^k rows and `half = k / 2`, the index of a row has three parts: `half` high digits, whose
-//! reverse is `x`; one digit `middle` if k is odd; and `half` low digits `y`. The reversed index
-//! has the reverse of `y`, the same middle digit and `x`:
+//! There are 2^k rows, and the index of a row has three parts. The high part has `half = k / 2`
+//! digits, and `x` stands for its reverse. The part `middle` is one digit if k is odd, and empty
+//! otherwise. The low part `y` has `half` digits. In the reversed index, `x` and `y` have changed
+//! places:
 //!
 //! ```text
 //!     index      rev(x)  middle  y         k = 5, x = 01, middle = 1, y = 11:   10 1 11
@@ -10,11 +11,13 @@
 //! ```
 //!
 //! So for each middle digit and all `x < y`, the row of `x` and `y` is exchanged with the row of
-//! `y` and `x`. No other pairs of rows are exchanged, and no index is tested.
+//! `y` and `x`. This reaches each pair of rows exactly once, so no loop has to test an index. All
+//! other rows stay where they are.
 //!
-//! A *line* is all pairs that have the same middle digit and the same `y`. The pairs of two
-//! neighbouring lines are exchanged in one loop over `x`. Their rows lie side by side, so if rows
-//! are short, they are in the cache at the same time.
+//! A *line* is all pairs that have the same middle digit and the same `y`. One loop over `x`
+//! exchanges the pairs of two neighbouring lines, `y` and `y + 1`. For each `x`, it exchanges the
+//! row of `x` and `y` and the row of `x` and `y + 1`, which are neighbours in the list. If rows are
+//! short, both rows are in the cache at the same time.
 
 ghost use Rattle.std.specs.Prelude.{◌≡◌, ℕ, ◌+◌, ◌-◌, ◌*◌, ◌/◌, ◌%◌, ◌^◌, ◌<◌, ◌≤◌, ◌⊎◌, length, min};
 ghost use Rattle.p3_util_kernels.specs.Crossing.{AreLinePairs, HoldsRows, IsCrossed, lines_of, pairs_in};
@@ -73,8 +76,8 @@ impl RowDigits {
         }
     }
 
-    /// All pairs of rows. `row_end` is `usize::MAX`, which no smaller number reaches, so the
-    /// compiler can leave out the comparison with it.
+    /// All pairs of rows. `row_end` is `usize::MAX`, which is greater than any `x`, so the compiler
+    /// can leave out the comparison with it.
     #[inline(always)]
     pub(crate) fn all_pairs(self) -> Region
         requires { self.digits < 64 }
@@ -85,7 +88,8 @@ impl RowDigits {
           col_end = lines_of self.digits;
         } }
     {
-        // One or two rows have one line for each middle digit, and so no pair of lines.
+        // With one or two rows there is only one line for each middle digit, so there is no pair of
+        // lines.
         let line_pairs = pow2(self.digits % 2) * (pow2(self.digits / 2) / 2);
         Region {
             row_start: 0,
@@ -96,8 +100,9 @@ impl RowDigits {
     }
 }
 
-/// Exchanges these pairs of rows. A column of `pairs` is a line, and a row of it is the smaller
-/// number of a pair. Two lines are exchanged at a time.
+/// Exchanges the pairs of rows that the region `pairs` stands for. A column of the region is a
+/// line. Row `x` of a column is the pair of `x` and the `y` of that line, if `x < y`. Two lines are
+/// exchanged at a time.
 #[inline(always)]
 pub(crate) fn exchange_pairs<M: Places>(m: M, rows: RowDigits, pairs: Region) -> M
     requires lines { AreLinePairs rows.digits pairs }
@@ -114,8 +119,7 @@ pub(crate) fn exchange_pairs<M: Places>(m: M, rows: RowDigits, pairs: Region) ->
     m
 }
 
-/// Exchanges the pairs of rows of `line` and of the next line whose smaller numbers are in
-/// `from..to`.
+/// Exchanges those pairs of rows of `line`, and of the line after it, whose `x` is in `from..to`.
 #[tactic(auto, using(crate::proofs::CrossingLemmas::line_parts))]
 #[inline(always)]
 fn exchange_lines<M: Places>(m: M, rows: RowDigits, line: usize, from: usize, to: usize) -> M
@@ -134,7 +138,7 @@ fn exchange_lines<M: Places>(m: M, rows: RowDigits, line: usize, from: usize, to
     let half = rows.digits / 2;
     let side = pow2(half);
     // The shift is a division by `side`. Rattle's compiler would turn `line / side * side` into
-    // `line - y`, which makes a slower loop.
+    // `line - y`, which would make the loop slower.
     let first = (line >> half) * side;
     let y = line % side;
     let mut m = m;
@@ -149,8 +153,8 @@ fn exchange_lines<M: Places>(m: M, rows: RowDigits, line: usize, from: usize, to
     }
 }
 
-/// Exchanges the row of `x` and `y` with the row of `y` and `x`. `first` is the first line with the
-/// middle digit of both rows.
+/// Exchanges the row of `x` and `y` with the row of `y` and `x`. Both rows have the same middle
+/// digit, and `first` is the first line with that digit.
 #[inline(always)]
 fn exchange_pair<M: Places>(m: M, rows: RowDigits, first: usize, x: usize, y: usize) -> M
     requires first { first % 2 ^ (rows.digits / 2) ≡ 0 }
@@ -169,7 +173,7 @@ fn exchange_pair<M: Places>(m: M, rows: RowDigits, first: usize, x: usize, y: us
     exchange_rows(m, rows.width, i, j)
 }
 
-/// Exchanges rows `i` and `j`. If a row has several items, the rows are exchanged as two runs.
+/// Exchanges rows `i` and `j`.
 #[inline(always)]
 fn exchange_rows<M: Places>(m: M, row_width: usize, i: usize, j: usize) -> M
     requires apart { (i * row_width + row_width ≤ j * row_width)
@@ -190,8 +194,7 @@ fn exchange_rows<M: Places>(m: M, row_width: usize, i: usize, j: usize) -> M
     m
 }
 
-/// The index of the row whose high digits are those of `x` in reversed order and whose other digits
-/// are `low`.
+/// The index of the row whose high part is `x` in reversed order, and whose other digits are `low`.
 #[inline(always)]
 fn row_at(digits: usize, x: usize, low: usize) -> usize
     requires few { digits < 64 }
@@ -204,7 +207,7 @@ fn row_at(digits: usize, x: usize, low: usize) -> usize
     reverse_digits(x, half) * pow2(digits - half) + low
 }
 
-/// Reverses `x`, which has at most `digits` binary digits. Up to six digits are read from the
+/// Reverses `x`, which has at most `digits` binary digits. Up to six digits are looked up in the
 /// table, and more are reversed by halves.
 #[inline(always)]
 fn reverse_digits(x: usize, digits: usize) -> usize

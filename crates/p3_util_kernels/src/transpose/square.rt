@@ -1,8 +1,8 @@
-//! The transpose of a square of items in place, by quadrants.
+//! Transposes a square of items in place, by quadrants.
 //!
-//! Row `a` and column `b` of the square are at place `base + a * stride + b` of the list. Each
-//! exchange is of two places that are mirror images of each other across the diagonal, and each
-//! such pair is exchanged once.
+//! The item in row `a` and column `b` of the square is at place `base + a * stride + b` of the
+//! list. Its mirror image across the diagonal is the item in row `b` and column `a`. Each item
+//! above the diagonal is exchanged once with its mirror image. There are no other exchanges.
 
 ghost use Rattle.std.specs.Prelude.{◌≡◌, ℕ, ◌+◌, ◌-◌, ◌*◌, ◌/◌, ◌%◌, ◌^◌, ◌<◌, ◌≤◌, ◌↔◌, IsTrue, length};
 ghost use Rattle.p3_util_kernels.specs.Diagonal.{HoldsSquare, SwapsAcross};
@@ -14,10 +14,10 @@ use crate::bits::pow2;
 use crate::places::{Places, Swaps};
 use crate::transpose::regions::Region;
 
-/// The greatest numbers of rows and columns of a region that is exchanged row by row instead of
-/// being cut.
+/// The greatest number of rows of a leaf: a region that is exchanged without being cut further.
 const LEAF_ROWS: usize = 16;
 
+/// The greatest number of columns of a leaf.
 const LEAF_COLS: usize = 8;
 
 /// Where a square lies in a list: its first place, and how far apart its rows begin.
@@ -27,10 +27,10 @@ pub(crate) struct Square {
     pub stride: usize,
 }
 
-/// Whether a list of `len` items holds the square of `s = 2^log_size` rows and columns that begins
-/// at place `base` and whose rows begin `2^log_stride` places apart. No row may reach into the next
-/// one, and the last place of the square must lie in the list. The place is computed without
-/// wrapping. This is the test for the conditions of [`transpose_square_on`].
+/// Whether a list of `len` items holds a square of `s = 2^log_size` rows and columns. The square
+/// begins at place `base`, and its rows begin `2^log_stride` places apart. No row may reach into
+/// the next one, and the last place of the square must lie in the list. That place is computed
+/// without wrapping. This tests the preconditions of [`transpose_square_on`].
 #[inline]
 #[must_use]
 pub const fn fits_square(len: usize, base: usize, log_stride: usize, log_size: usize) -> bool
@@ -50,9 +50,9 @@ pub const fn fits_square(len: usize, base: usize, log_stride: usize, log_size: u
     }
 }
 
-/// Transposes in place the square of `s = 2^log_size` rows and columns that begins at place `base`
-/// and whose rows begin `2^log_stride` places apart, by `s * (s - 1) / 2` exchanges. All other
-/// places stay.
+/// Transposes a square in place, by `s * (s - 1) / 2` swaps. The square has `s = 2^log_size` rows
+/// and columns. It begins at place `base`, and its rows begin `2^log_stride` places apart. All
+/// other places keep their items.
 ///
 /// `log_size` must be at most `log_stride`, so that no row reaches into the next one, and
 /// `log_stride` must be below 64. The list must hold the last place of the square,
@@ -99,8 +99,8 @@ pub(crate) fn transpose_square<M: Places>(
     transpose_diagonal(m, square, 0, pow2(log_size))
 }
 
-/// Transposes the part of the square that has the `size` rows and columns from `start` on, by
-/// quadrants.
+/// Transposes a smaller square inside `square`, by quadrants: the one with the `size` rows and the
+/// `size` columns from `start` on.
 pub(crate) fn transpose_diagonal<M: Places>(m: M, square: Square, start: usize, size: usize) -> M
     requires within { start + size ≤ square.stride }
     requires ready { HoldsSquare square.base square.stride (start + size - 1) (M.items m) }
@@ -128,9 +128,9 @@ pub(crate) fn transpose_diagonal<M: Places>(m: M, square: Square, start: usize, 
     transpose_diagonal(m, square, start + half, size - half)
 }
 
-/// Exchanges a region above the diagonal with its mirror image below. A large region is cut in
-/// half: between two rows if it is more than about twice as high as wide, and otherwise between two
-/// columns.
+/// Exchanges a region above the diagonal with its mirror image below the diagonal. A region that is
+/// not a leaf is cut in half: between two rows if it has more than about twice as many rows as
+/// columns, and otherwise between two columns.
 pub(crate) fn exchange_region<M: Places>(m: M, square: Square, region: Region) -> M
     requires rows_in_order { region.row_start ≤ region.row_end }
     requires cols_in_order { region.col_start ≤ region.col_end }
@@ -142,7 +142,7 @@ pub(crate) fn exchange_region<M: Places>(m: M, square: Square, region: Region) -
 {
     let (rows, cols) = (region.rows(), region.cols());
     if rows <= LEAF_ROWS && cols == LEAF_COLS {
-        // Most leaves have `LEAF_COLS` columns, and here the compiler knows the number.
+        // Most leaves have `LEAF_COLS` columns. Here the compiler knows that number.
         exchange_leaf(m, square, region.with_known_sides(rows, LEAF_COLS))
     } else if rows <= LEAF_ROWS && cols < LEAF_COLS {
         exchange_leaf(m, square, region)
@@ -157,8 +157,8 @@ pub(crate) fn exchange_region<M: Places>(m: M, square: Square, region: Region) -
     }
 }
 
-/// Does the same as [`exchange_region`], row after row, or by blocks if that is faster for the
-/// holder.
+/// Does the same as [`exchange_region`], but without cutting the region: row after row, or by
+/// blocks if they are faster for the holder.
 #[inline(always)]
 fn exchange_leaf<M: Places>(m: M, square: Square, region: Region) -> M
     requires rows_in_order { region.row_start ≤ region.row_end }
@@ -183,8 +183,8 @@ fn exchange_leaf<M: Places>(m: M, square: Square, region: Region) -> M
     m
 }
 
-/// Exchanges the items of the four rows from `row` on in the columns of `region`, which are to the
-/// right of the diagonal, with their mirror images, by blocks of 4 by 4 items.
+/// Exchanges items of the four rows from `row` on with their mirror images, by blocks of 4 by 4
+/// items. These are the items in the columns of `region`, which are to the right of the diagonal.
 #[inline(always)]
 fn exchange_block_row<M: Places>(m: M, square: Square, row: usize, region: Region) -> M
     requires cols_in_order { region.col_start ≤ region.col_end }
@@ -205,8 +205,8 @@ fn exchange_block_row<M: Places>(m: M, square: Square, row: usize, region: Regio
     m
 }
 
-/// Exchanges the items of row `row` in the columns of `region`, which are to the right of the
-/// diagonal, with their mirror images.
+/// Exchanges items of row `row` with their mirror images. These are the items in the columns of
+/// `region`, which are to the right of the diagonal.
 #[inline(always)]
 fn exchange_row<M: Places>(m: M, square: Square, row: usize, region: Region) -> M
     requires cols_in_order { region.col_start ≤ region.col_end }

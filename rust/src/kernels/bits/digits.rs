@@ -1,12 +1,12 @@
-//! The reversal of the binary digits of an integer. Its two halves are reversed and change places,
-//! and each half is reversed in the same way, down to bytes.
+//! Reverses the binary digits of an integer by halves: the two halves change places, and each half
+//! is reversed in the same way, down to bytes.
 //!
-//! LLVM compiles this to one instruction on ARM, and to a byte swap with three steps on x86-64. For
-//! std's `reverse_bits` Rattle's compilers make a loop over single digits, which takes about 20 ns
-//! for each call.
+//! LLVM compiles this to one instruction on ARM, and to a byte swap and three rounds of masks and
+//! shifts on x86-64. For std's `reverse_bits`, Rattle's compilers make a loop over single digits
+//! instead, which takes about 20 ns for each call.
 
-/// Reverses the low binary digits of `x`: as many as `n`, a power of two, has below its set digit.
-/// This is `reverse_bits_len(x, log2 n)`. std's `is_power_of_two` checks `n`.
+/// Reverses the k low binary digits of `x`, for an `n` of 2^k. This is `reverse_bits_len(x, k)`.
+/// `n` must be a power of two, which std's `is_power_of_two` checks.
 ///
 /// # Contract
 ///
@@ -24,7 +24,7 @@ pub const fn reverse_bits(x: usize, n: usize) -> usize {
 }
 
 /// Reverses the `bit_len` low binary digits of `x` and drops the others. A `bit_len` of 0 reverses
-/// all 64 digits. `bit_len` must not be above 64.
+/// all 64 digits. `bit_len` must be at most 64.
 ///
 /// # Contract
 ///
@@ -60,9 +60,9 @@ const fn reverse_u16(x: u16) -> u16 {
     ((reverse_u8((x & 0xff) as u8) as u16) << 8) | reverse_u8((x >> 8) as u8) as u16
 }
 
-/// Reverses a byte digit by digit. The compiler evaluates a constant table of reversed numbers in a
-/// seventh of the time that it needs when halves go down to single digits, and makes the same
-/// instructions.
+/// Reverses a byte digit by digit. If halves went down to single digits instead, the compiler would
+/// make the same instructions, but it would take seven times as long to evaluate a constant table
+/// of reversed numbers.
 #[inline]
 const fn reverse_u8(x: u8) -> u8 {
     ((x & 0x01) << 7)

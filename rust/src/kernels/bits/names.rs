@@ -6,13 +6,13 @@ use crate::memory::{AllocError, Global, String};
 /// `Vec<Option<u32>>`.
 ///
 /// The name is cut after each `<`, `>` and `,`. Of each piece, only what follows its last `::` is
-/// kept, where each `::` is found from left to right. So a bracket or a `&` in front of a path is
-/// lost with the path, and `a:::b` becomes `:b`.
+/// kept. So a bracket or a `&` in front of a path is lost with the path. Each `::` is looked for
+/// from left to right, so `a:::b` becomes `:b`.
 ///
 /// # Errors
 ///
 /// `AllocError` if there is no memory for as many bytes as `name` has. The call requests no more
-/// than that. An empty name is never refused.
+/// than that. With an empty name it never fails.
 ///
 /// # Contract
 ///

@@ -1,13 +1,13 @@
-//! Counters around holders, which count each exchange and each put.
+//! Counters: holders around another holder, which count its exchanges or its puts.
 //!
-//! A counter is itself a holder, as [`places`](crate::kernels::places) explains. Its count rises by the
-//! number of steps that the holder inside makes. The fields are visible in this crate because the
-//! `_on` calls lend the holder inside to a kernel. A kernel is generic over its holder, so it
-//! cannot name the fields.
+//! A counter is itself a holder, as [`places`](crate::kernels::places) explains. The count rises by the
+//! number of steps that the holder inside makes. The fields are visible in the whole crate, because
+//! the `_on` calls lend the holder inside to a kernel. The kernel itself cannot reach the fields of
+//! a counter, since it is generic over its holder.
 
 use crate::kernels::places::{Cells, Places, length_fits};
 
-/// A holder of places that counts its exchanges. The count stops at `u128::MAX`.
+/// A counter around a holder of places. It counts exchanges. The count stops at `u128::MAX`.
 #[derive(Debug)]
 pub struct Swaps<S> {
     pub(crate) holder: S,
@@ -50,8 +50,8 @@ impl<S: Places> Swaps<S> {
         self.holder.len()
     }
 
-    /// Exchanges the items at places `i` and `j` by one exchange of the holder inside, and counts
-    /// it.
+    /// Makes one swap: the holder inside exchanges the items at places `i` and `j`, and the counter
+    /// counts this.
     ///
     /// # Contract
     ///
@@ -70,7 +70,7 @@ impl<S: Places> Swaps<S> {
         self.count = self.count.saturating_add(1);
     }
 
-    /// The number of exchanges so far, at most `u128::MAX`.
+    /// The number of swaps so far, at most `u128::MAX`.
     ///
     /// # Contract
     ///
@@ -98,7 +98,7 @@ impl<S: Places> Swaps<S> {
     }
 }
 
-/// A holder of cells that counts its writes. The count stops at `u128::MAX`.
+/// A counter around a holder of cells. It counts puts. The count stops at `u128::MAX`.
 #[derive(Debug)]
 pub struct Writes<C> {
     pub(crate) holder: C,
@@ -128,7 +128,7 @@ impl<C: Cells> Writes<C> {
         Writes { holder, count }
     }
 
-    /// The number of places.
+    /// The number of cells.
     ///
     /// # Contract
     ///
@@ -141,7 +141,7 @@ impl<C: Cells> Writes<C> {
         self.holder.len()
     }
 
-    /// Writes `v` at place `i` by one put of the holder inside, and counts it.
+    /// Makes one write: the holder inside puts `v` into cell `i`, and the counter counts this.
     ///
     /// # Contract
     ///

@@ -1,4 +1,5 @@
-//! The holders of slices: one to exchange items, one to write items and one to read items.
+//! The holders of slices. [`SlicePlaces`] exchanges items, [`SliceCells`] puts items into the
+//! slice, and [`SliceSource`] reads items.
 
 use crate::kernels::places::{Cells, Places, Source};
 
@@ -47,14 +48,15 @@ impl<'a, F> Places for SlicePlaces<'a, F> {
     }
 }
 
-/// Exchanges the items at places `i` and `j` without comparing `i` and `j`.
+/// Exchanges the items at places `i` and `j`. Since `i < j`, it does not check whether the two
+/// places are the same.
 #[inline(always)]
 fn swap_ordered<F>(items: &mut [F], i: usize, j: usize) {
     let (front, back) = items.split_at_mut(j);
     core::mem::swap(&mut front[i], &mut back[0]);
 }
 
-/// Exchanges the `len` items of `items` from place `i` on with those from place `j` on.
+/// Exchanges two runs of `len` items: those from place `i` on and those from place `j` on.
 #[inline(always)]
 fn swap_runs<F>(items: &mut [F], i: usize, j: usize, len: usize) {
     let (low, high) = (i.min(j), i.max(j));
@@ -62,10 +64,10 @@ fn swap_runs<F>(items: &mut [F], i: usize, j: usize, len: usize) {
     front[low..low + len].swap_with_slice(&mut back[..len]);
 }
 
-/// The cells of a mutable slice. All writes are made in the slice itself.
+/// The cells of a mutable slice. All items are put into the slice itself.
 #[derive(Debug)]
 pub struct SliceCells<'a, T> {
-    /// The slice that is written.
+    /// The slice into which items are put.
     pub values: &'a mut [T],
 }
 
@@ -97,7 +99,7 @@ impl<'a, T: Copy> Cells for SliceCells<'a, T> {
     }
 }
 
-/// A slice as a source: its items are only read.
+/// A source that reads the items of a slice.
 #[derive(Clone, Copy, Debug)]
 pub struct SliceSource<'a, T> {
     /// The slice that is read.

@@ -1,12 +1,12 @@
-//! Bit reversal of rows of any width: each pair of rows whose indices are each other's reverse is
-//! exchanged once. The reversal of single items is that of rows of one item.
+//! Bit reversal of the order of rows of any width. Each pair of rows whose indices are each other's
+//! reverse is exchanged once. Single items are reversed as rows of one item.
 
 use crate::kernels::places::{Places, Swaps};
 use crate::kernels::reverse::pairs::{RowDigits, exchange_pairs};
 
-/// Reverses the rows of `m`, of `row_width` items each, by index bits. With 2^k rows, row `r`
-/// becomes the row whose index has the k bits of `r` in reversed order. The number of rows must be
-/// zero or a power of two, which [`fits_rows`] checks.
+/// Reverses the order of the rows of `m` by index bits. Each row has `row_width` items. With 2^k
+/// rows, the row at index `r` comes from the index that has the k bits of `r` in reversed order.
+/// The number of rows must be zero or a power of two, which [`fits_rows`] checks.
 ///
 /// [`fits_rows`]: crate::kernels::reverse::fits_rows
 ///
@@ -28,8 +28,8 @@ pub fn reverse_row_index_bits_on<S: Places>(m: &mut Swaps<S>, row_width: usize) 
     m.count = reverse_rows(Swaps::resumed(&mut m.holder, m.count), rows).swaps();
 }
 
-/// Reverses `m` by index bits, as [`reverse_slice_index_bits`] does, by one exchange of each pair
-/// of places whose indices are each other's reverse. The length must be zero or a power of two,
+/// Reverses `m` by index bits, as [`reverse_slice_index_bits`] does. Each pair of items whose
+/// indices are each other's reverse is swapped once. The length must be zero or a power of two,
 /// which `fits_rows(m.len(), 1)` checks.
 ///
 /// [`reverse_slice_index_bits`]: crate::kernels::reverse::reverse_slice_index_bits
@@ -51,11 +51,12 @@ pub fn reverse_index_bits_short<S: Places>(m: &mut Swaps<S>) {
     m.count = reverse_short(Swaps::resumed(&mut m.holder, m.count)).swaps();
 }
 
-/// Reverses the order of the `2^lb_num_chunks` chunks of `2^lb_chunk_size` items by index bits.
-/// With h and c for these two exponents, place `i` gets the item from
-/// `rev(h, i / 2^c) * 2^c + i mod 2^c`. A list of n items takes at most n/2 swaps. The length must
-/// be `2^(h + c)`. To check it, compare it with the power that
-/// [`checked_log_size_sum`](crate::kernels::bits::checked_log_size_sum) returns for both exponents.
+/// Reverses the order of chunks by index bits. There are `2^h` chunks of `2^c` items, for an h of
+/// `lb_num_chunks` and a c of `lb_chunk_size`. Place `i` gets the item from place
+/// `rev(h, i / 2^c) * 2^c + i mod 2^c`, where `rev(h, x)` has the h bits of x in reversed order. A
+/// list of n items takes at most n/2 swaps. The length must be `2^(h + c)`. To check the length,
+/// compare it with the power that [`checked_log_size_sum`](crate::kernels::bits::checked_log_size_sum)
+/// returns for the two exponents.
 ///
 /// # Contract
 ///
@@ -93,9 +94,9 @@ pub(crate) fn reverse_chunks<M: Places>(m: M, lb_num_chunks: usize, lb_chunk_siz
 /// The kernel of [`reverse_row_index_bits_on`].
 #[inline(always)]
 pub(crate) fn reverse_rows<M: Places>(m: M, rows: RowDigits) -> M {
-    // If the compiler knows a small number of digits, it unrolls the exchanges of all pairs. Each
-    // further case is one more copy of them, and with too many copies Rattle's compiler no longer
-    // inlines this function.
+    // In the cases with a fixed number of digits, the compiler unrolls the exchanges of all pairs.
+    // Each further case would be one more copy of these exchanges. With too many copies, Rattle's
+    // compiler no longer inlines this function.
     match rows.digits {
         2 => exchange_all(m, RowDigits { digits: 2, ..rows }),
         3 => exchange_all(m, RowDigits { digits: 3, ..rows }),
@@ -104,7 +105,7 @@ pub(crate) fn reverse_rows<M: Places>(m: M, rows: RowDigits) -> M {
     }
 }
 
-/// Exchanges the pairs of rows of all lines.
+/// Exchanges all pairs of rows whose indices are each other's reverse.
 #[inline(always)]
 fn exchange_all<M: Places>(m: M, rows: RowDigits) -> M {
     exchange_pairs(m, rows, rows.all_pairs())

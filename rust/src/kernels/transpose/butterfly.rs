@@ -1,9 +1,9 @@
 //! The transpose of a block of 4 by 4 items in two stages. Each stage exchanges one bit of the row
 //! number with the same bit of the column number.
 //!
-//! It is for callers who have such a block, and no kernel uses it. To make an array of 16 items, a
-//! proof has to know that their bytes fit in memory, and nothing says that for the items of an
-//! arbitrary source.
+//! These functions are for callers who have such a block. No kernel uses them: to make an array of
+//! 16 items, a proof has to show that their bytes fit in memory, which it cannot show for the items
+//! of an arbitrary source.
 
 /// The transpose of a block: the item in row r and column c of the result comes from row c and
 /// column r.
@@ -49,7 +49,8 @@ pub fn butterfly_stage2<T: Copy>(block: [[T; 4]; 4]) -> [[T; 4]; 4] {
     stage2_of_rows(a, b, c, d)
 }
 
-/// Exchanges the odd items of rows 0 and 2 with the even items of rows 1 and 3.
+/// Exchanges the items in the odd columns of rows 0 and 2 with those in the even columns of rows 1
+/// and 3.
 fn stage1_of_rows<T: Copy>(a: [T; 4], b: [T; 4], c: [T; 4], d: [T; 4]) -> [[T; 4]; 4] {
     [
         [a[0], b[0], a[2], b[2]],
@@ -59,7 +60,8 @@ fn stage1_of_rows<T: Copy>(a: [T; 4], b: [T; 4], c: [T; 4], d: [T; 4]) -> [[T; 4
     ]
 }
 
-/// Joins the low halves of rows 0 and 2, and their high halves. The same is done with rows 1 and 3.
+/// Makes two rows from rows 0 and 2: one of their first halves, and one of their second halves.
+/// Does the same with rows 1 and 3.
 fn stage2_of_rows<T: Copy>(a: [T; 4], b: [T; 4], c: [T; 4], d: [T; 4]) -> [[T; 4]; 4] {
     [
         [a[0], a[1], c[0], c[1]],

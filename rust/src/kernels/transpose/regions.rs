@@ -1,6 +1,6 @@
-//! The matrix that is read, its regions, and the parts that a region is cut into.
+//! Matrices, their regions, and the parts that a region is cut into.
 
-/// A matrix of `height` rows of `width` items. `source` has them row after row.
+/// A matrix of `height` rows of `width` items. The items are in `source`, row after row.
 #[derive(Clone, Copy)]
 pub(crate) struct Matrix<R> {
     pub source: R,
@@ -31,7 +31,7 @@ impl<R> Matrix<R> {
     }
 }
 
-/// A part of a matrix: the rows `row_start..row_end`, and of these the columns
+/// A rectangle in a matrix: the items that lie in the rows `row_start..row_end` and in the columns
 /// `col_start..col_end`.
 #[derive(Clone, Copy, Debug, PartialEq, Eq)]
 pub struct Region {
@@ -47,8 +47,8 @@ pub struct Region {
 
 impl Region {
     /// Whether the region lies in a matrix of `height` rows of `width` items:
-    /// `row_start <= row_end <= height` and `col_start <= col_end <= width`. This is the test for
-    /// the condition that the calls on a region have.
+    /// `row_start <= row_end <= height` and `col_start <= col_end <= width`. This tests the
+    /// precondition that the calls on a region have in common.
     ///
     /// # Contract
     ///
@@ -78,7 +78,7 @@ impl Region {
         self.col_end - self.col_start
     }
 
-    /// The part of the region in the rows `start..end` of the matrix.
+    /// The region with the same columns and with the rows `start..end` of the matrix.
     #[inline(always)]
     pub(crate) fn with_rows(self, start: usize, end: usize) -> Region {
         Region {
@@ -88,7 +88,7 @@ impl Region {
         }
     }
 
-    /// The part of the region in the columns `start..end` of the matrix.
+    /// The region with the same rows and with the columns `start..end` of the matrix.
     #[inline(always)]
     pub(crate) fn with_cols(self, start: usize, end: usize) -> Region {
         Region {
@@ -98,24 +98,24 @@ impl Region {
         }
     }
 
-    /// Cuts the region above row `middle` of the matrix. Returns the rows above it, and the row
-    /// itself with the rows below.
+    /// Cuts the region above row `middle` of the matrix. Returns the upper part, which ends before
+    /// that row, and the lower part, which begins with it.
     #[inline(always)]
     pub(crate) fn cut_rows(self, middle: usize) -> (Region, Region) {
         let upper = self.with_rows(self.row_start, middle);
         (upper, self.with_rows(middle, self.row_end))
     }
 
-    /// Cuts the region to the left of column `middle` of the matrix. Returns the columns to the
-    /// left of it, and the column itself with the columns to the right.
+    /// Cuts the region to the left of column `middle` of the matrix. Returns the left part, which
+    /// ends before that column, and the right part, which begins with it.
     #[inline(always)]
     pub(crate) fn cut_cols(self, middle: usize) -> (Region, Region) {
         let left = self.with_cols(self.col_start, middle);
         (left, self.with_cols(middle, self.col_end))
     }
 
-    /// Returns the same region. If the compiler knows `rows` and `cols`, it then knows the region's
-    /// numbers of rows and columns.
+    /// Returns the same region. If the caller passes constants, the compiler then knows how many
+    /// rows and columns the region has.
     #[inline(always)]
     pub(crate) fn with_known_sides(self, rows: usize, cols: usize) -> Region {
         Region {

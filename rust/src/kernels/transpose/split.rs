@@ -1,26 +1,26 @@
-//! The transpose of a large region. Its longer side is halved until the parts are small enough to
-//! be put strip by strip.
+//! Puts a large region: halves its longer side, and does the same with each half, until the parts
+//! are leaves. A *leaf* is a part that is small or narrow. It is put strip by strip.
 
 use crate::kernels::places::{Cells, SliceSource, Source, Writes};
 use crate::kernels::transpose::regions::{Matrix, Region};
 use crate::kernels::transpose::strips::{Strips, put_strips};
 
-/// A part is not halved if neither of its sides is greater than this.
+/// A part is a leaf if neither of its sides is greater than this.
 const LEAF_SIDE: usize = 128;
 
-/// A part is not halved if one of its sides is not greater than this, however long the other one
+/// A part is also a leaf if one of its sides is not greater than this, however long the other side
 /// is.
 const NARROW_SIDE: usize = 2;
 
 /// Writes the transpose of `region` to `out`, as
-/// [`transpose_region_on`](crate::kernels::transpose::transpose_region_on) does, but by halves. Returns how
-/// many splits are nested on the longest path, which is at most 57.
+/// [`transpose_region_on`](crate::kernels::transpose::transpose_region_on) does, but splits the region
+/// first. Returns how deep the splits nest, which is at most 57.
 ///
 /// There is no split if both sides of the region are at most 128 or one of them is at most 2.
-/// Otherwise the longer side is halved, or the rows if both sides are equal. Each half is put in
-/// the same way, with one level less. `levels` limits how deep splits may nest, and must be enough
-/// for the region. 64 levels are enough for every region of a matrix. The other conditions are
-/// those of [`transpose_region_on`](crate::kernels::transpose::transpose_region_on).
+/// Otherwise the longer side is halved. If both sides are equal, the rows are halved. Each half is
+/// then split and written in the same way. `levels` limits how deep the splits may nest, and must
+/// be enough for the region. 64 levels are enough for every region of a matrix. The other
+/// preconditions are those of [`transpose_region_on`](crate::kernels::transpose::transpose_region_on).
 ///
 /// # Contract
 ///
@@ -50,7 +50,7 @@ pub fn transpose_split_on<C: Cells>(
 }
 
 /// Writes the transpose of a region of any source to `out`, as [`transpose_split_on`] does for a
-/// slice. The conditions are the same.
+/// slice. The preconditions are the same.
 ///
 /// # Contract
 ///
@@ -86,8 +86,8 @@ where
     nested
 }
 
-/// Puts `region` by halves with a counter that starts at `count`. Returns the holder inside, the
-/// new count and how many splits are nested.
+/// Splits and puts `region`, with a counter that starts at `count`. Returns the holder inside the
+/// counter, the new count, and how deep the splits nest.
 fn put_split_resumed<C: Cells, R: Source<Item = C::Item> + Copy>(
     cells: C,
     count: u128,
@@ -101,8 +101,8 @@ fn put_split_resumed<C: Cells, R: Source<Item = C::Item> + Copy>(
     (done.into_inner(), count, nested)
 }
 
-/// The kernel of [`transpose_source_split_on`]: puts `region` by halves with at most `levels`
-/// levels, and each leaf by `strips`. Also returns how many splits are nested.
+/// The kernel of [`transpose_source_split_on`]. Splits `region` into leaves, with splits that nest
+/// at most `levels` deep, and puts each leaf by `strips`. Also returns how deep the splits nest.
 pub(crate) fn put_split<M: Cells, R: Source<Item = M::Item> + Copy>(
     out: M,
     matrix: Matrix<R>,
@@ -125,7 +125,7 @@ fn is_leaf(region: Region) -> bool {
     rows.min(cols) <= NARROW_SIDE || rows.max(cols) <= LEAF_SIDE
 }
 
-/// Halves `region` at its longer side. If both sides are equal, the rows are halved.
+/// Halves the longer side of `region`. If both sides are equal, the rows are halved.
 fn halves(region: Region) -> (Region, Region) {
     let (rows, cols) = (region.rows(), region.cols());
     if rows >= cols {

@@ -1,26 +1,28 @@
-//! How the transpose of a region is put, strip by strip, with one write for each item.
+//! Puts a region strip by strip, with one put for each item.
 //!
-//! - The item in row y and column x of the matrix is at `y * width + x` of its source. It is put at
-//!   cell `x * height + y`.
-//! - A *region* is some neighbouring rows of the matrix, and of these some neighbouring columns.
-//! - A region is cut into *strips*, each of which is some of its rows. The strips are put from top
-//!   to bottom, most of them column after column.
-//! - A *tile* is 16 columns of a strip of 16 rows. A *block* is 4 by 4 items of a tile or of a
-//!   strip that is put by blocks, or one row of a tile.
+//! - The item in row y and column x of the matrix is at `y * width + x` of its source. It is put
+//!   into cell `x * height + y`.
+//! - A *region* is a rectangle in the matrix: the items that lie in some neighbouring rows and in
+//!   some neighbouring columns. To *put* a region, or a part of one, is to put each of its items
+//!   into its cell.
+//! - A *strip* is some neighbouring rows of a region. A region is cut into strips, which are put
+//!   from top to bottom. Most strips are put column after column.
+//! - A *tile* is 16 columns of a strip of 16 rows. A *block* is 4 by 4 items of a strip, or in a
+//!   strip of kind [`Strips::Wide`] one row of a tile.
 //!
 //! [`Strips`] lists the kinds of strips, and [`Strips::of`] chooses one by the shape of the matrix.
-//! That choice only changes the order of the writes: the contracts of the functions below are the
-//! same for every kind. To add a kind, add a variant, say in `rows` how many rows it has, and
-//! handle it in `put_strip`.
+//! That choice only changes the order of the puts: the contracts of the functions below are the
+//! same for every kind. To add a kind, add a variant, say in `rows` how many rows its strips have,
+//! and handle it in `put_strip`.
 //!
-//! Each function takes the holder by value and returns it, so that it stays in registers in the
-//! loops.
+//! Each function takes the holder by value and returns it. This keeps the holder in registers in
+//! the loops.
 
 use crate::kernels::places::{Cells, Four, Source};
 use crate::kernels::transpose::regions::{Matrix, Region};
 
-/// The greatest number of items of a small matrix. A small matrix is put by tiles if 16 divides its
-/// width.
+/// The greatest number of items of a small matrix. A small matrix is put tile after tile if 16
+/// divides its width.
 const SMALL_MATRIX: usize = 1024;
 
 /// The side of a tile.
@@ -29,41 +31,42 @@ pub(crate) const TILE_SIDE: usize = 16;
 /// The side of a block.
 const BLOCK_SIDE: usize = 4;
 
-/// The greatest number of rows of a high strip, and of a strip that is put by blocks.
+/// The greatest number of rows of a strip of kind `High` or `Blocks`.
 const STRIP_ROWS: usize = 128;
 
-/// The number of items of a column that are put in one loop of known length.
+/// A column is put by loops over this many items each. The compiler knows how long these loops are.
 const COLUMN_ITEMS: usize = 8;
 
-/// The kinds of strips that a region is cut into, from top to bottom.
+/// The kinds of strips. All strips of a region are of the same kind.
 #[derive(Clone, Copy)]
 pub(crate) enum Strips {
     /// At most 128 rows, put column after column.
     High,
-    /// At most 16 rows, put column after column. So each column of a tile is a run of 16 items at
-    /// consecutive cells.
+    /// At most 16 rows, put column after column. A column of 16 rows fills 16 consecutive cells.
     Low,
-    /// At most 16 rows, put tile after tile, and each tile by its blocks.
+    /// At most 16 rows, put tile after tile, and each tile block after block.
     Tiles,
     /// At most 16 rows, put tile after tile, and each tile row after row. This suits items of 32
-    /// and of 64 bytes. `Strips::of` never returns it: the caller of a kernel chooses it.
+    /// and of 64 bytes. `Strips::of` never returns this kind, but the caller of a kernel may choose
+    /// it.
     Wide,
-    /// At most 128 rows, put 4 columns at a time by blocks that are transposed in registers. This
-    /// suits items of 4 and of 8 bytes. `Strips::of` never returns it: the caller of a kernel
-    /// chooses it.
+    /// At most 128 rows, put 4 columns at a time, in blocks that a holder may transpose in
+    /// registers. This suits items of 4 and of 8 bytes. `Strips::of` never returns this kind, but
+    /// the caller of a kernel may choose it.
     Blocks,
 }
 
 impl Strips {
-    /// The strips for `matrix`, chosen by its shape alone. Every call in Rattle uses this choice.
-    /// The package of plain Rust knows the size of an item and may choose other strips.
+    /// The kind of strips for `matrix`, chosen by its shape alone. Every call in Rattle uses this
+    /// choice. The plain Rust package knows the size of an item and may choose another kind.
     ///
-    /// A strip is read column by column, and so in all of its rows at once. If 16 divides the
-    /// width, the rows may begin a multiple of a high power of two apart. Then the cache lines of a
-    /// high strip fall into few sets of the cache, and they are evicted before their next items are
-    /// read. Those of 16 rows stay. Rows at other distances are spread over the sets, and a high
-    /// strip then writes longer runs of consecutive cells. A small matrix stays in the cache in any
-    /// order, and is put block by block.
+    /// A strip is read column by column, so a cache line of each of its rows is in use at the same
+    /// time. If 16 divides the width, the distance of two rows may be a multiple of a high power of
+    /// two. The cache lines of a high strip then fall into few sets of the cache, and each line is
+    /// evicted before its next item is read. Those of 16 rows stay in the cache. With other widths,
+    /// the rows are spread over the sets of the cache. A high strip is better there, since it puts
+    /// longer runs of consecutive cells. A small matrix stays in the cache whatever the order is,
+    /// and is put block by block.
     pub(crate) fn of<R: Source + Copy>(matrix: Matrix<R>) -> Self {
         if matrix.width % TILE_SIDE != 0 {
             Strips::High
@@ -83,9 +86,9 @@ impl Strips {
         }
     }
 
-    /// The end of the strip that begins at row `row`, in a region that ends at row `end`. The
-    /// number of rows of a strip of blocks is a multiple of 4, as long as there are at least 4
-    /// rows.
+    /// The row after the last one of the strip that begins at row `row`. The region ends before row
+    /// `end`. The number of rows of a `Blocks` strip is a multiple of 4, unless fewer than 4 rows
+    /// are left.
     #[inline(always)]
     fn end(self, row: usize, end: usize) -> usize {
         match self {
@@ -95,8 +98,8 @@ impl Strips {
         }
     }
 
-    /// Whether a strip of `rows` rows is put by blocks, as far as they are whole. A tile needs all
-    /// of its 16 rows.
+    /// Whether a strip of `rows` rows is put by blocks, as long as these are whole. A strip of
+    /// tiles must have all 16 rows for that.
     #[inline(always)]
     fn has_blocks(self, rows: usize) -> bool {
         match self {
@@ -133,7 +136,7 @@ pub(crate) fn put_strips<M: Cells, R: Source<Item = M::Item> + Copy>(
     strips: Strips,
 ) -> M {
     if region.cols() == 0 {
-        // Without columns there is no item, however many rows the region has.
+        // A region without columns has no item, however many rows it has.
         return out;
     }
     let mut out = out;
@@ -160,7 +163,7 @@ fn put_strip<M: Cells, R: Source<Item = M::Item> + Copy>(
         Strips::Tiles => put_tiles(out, matrix, region, Strips::Tiles),
         Strips::Wide => put_tiles(out, matrix, region, Strips::Wide),
         Strips::Blocks => put_tiles(out, matrix, region, Strips::Blocks),
-        // Most low strips have `TILE_SIDE` rows, and here the compiler knows the number.
+        // Most strips of kind `Low` have `TILE_SIDE` rows. Here the compiler knows that number.
         Strips::Low if rows == TILE_SIDE => put_columns(
             out,
             matrix,
@@ -170,8 +173,8 @@ fn put_strip<M: Cells, R: Source<Item = M::Item> + Copy>(
     }
 }
 
-/// Puts a strip, with as many columns at a time as a block of `strips` has. No function puts a
-/// whole tile: a tile is some of these steps.
+/// Puts a strip, with as many columns at a time as a block of `strips` has. There is no function
+/// for a tile: a tile takes four rounds of this loop, or one round for `Strips::Wide`.
 #[inline(always)]
 fn put_tiles<M: Cells, R: Source<Item = M::Item> + Copy>(
     out: M,
@@ -189,8 +192,8 @@ fn put_tiles<M: Cells, R: Source<Item = M::Item> + Copy>(
     out
 }
 
-/// Puts the blocks that lie one below the other, or the columns that do not fill blocks at the edge
-/// of a matrix.
+/// Puts a piece of a strip that is as wide as a block: its blocks, from top to bottom. If the piece
+/// does not consist of whole blocks, as at the edge of a matrix, it is put column after column.
 #[inline(always)]
 fn put_blocks<M: Cells, R: Source<Item = M::Item> + Copy>(
     out: M,
@@ -212,7 +215,8 @@ fn put_blocks<M: Cells, R: Source<Item = M::Item> + Copy>(
     out
 }
 
-/// Puts a block: in registers, or column after column.
+/// Puts a block: by whole rows, so that a holder may transpose it in registers, or column after
+/// column.
 #[inline(always)]
 fn put_block<M: Cells, R: Source<Item = M::Item> + Copy>(
     out: M,
@@ -228,7 +232,8 @@ fn put_block<M: Cells, R: Source<Item = M::Item> + Copy>(
     }
 }
 
-/// Puts a block of 4 by 4 items by whole rows, which a holder may transpose in registers.
+/// Puts a block of 4 by 4 items. It reads the rows of the block, transposes them, and puts the
+/// columns. A holder may do each of these in registers.
 #[inline(always)]
 fn put_turned<M: Cells, R: Source<Item = M::Item> + Copy>(
     out: M,
@@ -273,8 +278,9 @@ fn put_columns<M: Cells, R: Source<Item = M::Item> + Copy>(
     out
 }
 
-/// Puts the `rows` items of a column, from index `from` of the source on, at consecutive cells from
-/// `to` on. Most are put in loops of known length, and the rest in one more loop.
+/// Puts a column of `rows` items into consecutive cells from `to` on. The column begins at index
+/// `from` of the source. Most items are put by loops of `COLUMN_ITEMS` items, and the rest by one
+/// more loop.
 #[inline(always)]
 fn put_column<M: Cells, R: Source<Item = M::Item> + Copy>(
     out: M,

@@ -1,8 +1,9 @@
-//! Runs all parts of a call. This has the effect of the call and takes as many steps, and the parts
-//! of a phase may run in any order.
+//! Runs all parts of a call, with the parts of each phase in any order. This has the same effect as
+//! the call, and takes as many steps.
 //!
-//! An order is a slice of numbers of parts, one for each of the first turns. Each turn after these
-//! belongs to the part with the same number. So the empty slice is the order of the numbers.
+//! An order is a slice with the number of the part that runs in each of the first turns. In each
+//! later turn, the part with the same number as the turn runs. So the empty slice stands for the
+//! order 0, 1, 2 and so on.
 
 ghost use Rattle.std.specs.Prelude.{◌≡◌, ℕ, ◌*◌, ◌^◌, ◌<◌, Some, length, slice_get};
 ghost use Rattle.p3_util_kernels.specs.AnyOrder.{IsOrder, order_of, turn_of};
@@ -15,7 +16,7 @@ use crate::parts::{Phase, ReversalPlan, TransposePlan};
 use crate::places::{Cells, Places, Source};
 use crate::transpose::{Matrix, Strips};
 
-/// The part that turn `j` belongs to.
+/// The number of the part that runs in turn `j`.
 fn turn(order: &[usize], j: usize) -> usize
     ensures { result ≡ turn_of order.now j }
 {
@@ -46,7 +47,7 @@ pub(crate) fn put_regions<C: Cells, R: Source<Item = C::Item> + Copy>(
     out
 }
 
-/// Makes all parts of a phase in the given order.
+/// Runs all parts of a phase in the given order.
 pub(crate) fn make_parts<M: Places>(m: M, phase: Phase, order: &[usize]) -> M
     requires order { IsOrder (parts_of phase) (turn_of order.now) }
     requires list { IsPhaseOf phase (length (M.items m)) }
@@ -61,7 +62,7 @@ pub(crate) fn make_parts<M: Places>(m: M, phase: Phase, order: &[usize]) -> M
     m
 }
 
-/// An order of the parts for each phase.
+/// For each phase of a reversal, an order of its parts.
 #[derive(Clone, Copy)]
 pub(crate) struct Orders<'a> {
     pub first: &'a [usize],
@@ -83,7 +84,8 @@ impl<'a> Orders<'a> {
     }
 }
 
-/// Makes all phases of a plan for a reversal, each with an order of its own for its parts.
+/// Runs all phases of a plan for a reversal. The parts of each phase run in the order for that
+/// phase.
 pub(crate) fn make_phases<M: Places>(
     m: M,
     row_width: usize,
@@ -108,8 +110,8 @@ pub(crate) fn make_phases<M: Places>(
     m
 }
 
-/// Transposes a matrix by the regions of a plan that is made for it. The conditions are only those
-/// of the call.
+/// Transposes a matrix by the regions of a plan, which is made here. The preconditions are those of
+/// the call that is not cut.
 pub(crate) fn transpose_in_parts<C: Cells, R: Source<Item = C::Item> + Copy>(
     out: C,
     matrix: Matrix<R>,
@@ -128,8 +130,8 @@ pub(crate) fn transpose_in_parts<C: Cells, R: Source<Item = C::Item> + Copy>(
     put_regions(out, matrix.source, plan, strips, &[])
 }
 
-/// Reverses rows by the phases of a plan that is made for them. The condition is only that of the
-/// call.
+/// Reverses rows by the phases of a plan, which is made here. The precondition is that of the call
+/// that is not cut.
 pub(crate) fn reverse_in_parts<M: Places>(
     m: M,
     row_width: usize,

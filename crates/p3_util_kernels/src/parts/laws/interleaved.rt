@@ -14,16 +14,17 @@ use crate::parts::{Phase, ReversalPlan, TransposePlan};
 use crate::places::{Cells, Places, Source};
 use crate::transpose::Strips;
 
-/// If no two lists of steps have a place in common, every interleaving of them has the same result
-/// as the lists one after the other, which is itself an interleaving.
+/// If no two lists of steps have a place in common, every interleaving of the lists has the same
+/// result as the lists one after the other. The lists one after the other are an interleaving too.
 pub(crate) fn interleaved<T>()
     ensures puts { SameInTurn {A = T} after_puts places_put }
     ensures swaps { SameInTurn {A = T} after_swaps places_swapped }
     ensures in_turn { (lists : List (List T)) → IsInterleaved lists (in_turn lists) }
 {}
 
-/// For writes that put each region of a plan alone: if no item of the input is in the output, no
-/// two regions have a place in common, and every interleaving of the writes puts the transpose.
+/// Take a list of puts for each region of a plan. Each list by itself puts its region, with one put
+/// for each item. If the output has no item of the input beforehand, no two of the lists have a
+/// place in common, and every interleaving of them puts the whole transpose.
 pub(crate) fn regions_interleaved<T>(plan: TransposePlan)
     ensures { (input old : List T) (lists : List (List (ℕ × T)))
         → length input ≡ plan.width * plan.height → length old ≡ plan.width * plan.height
@@ -34,7 +35,8 @@ pub(crate) fn regions_interleaved<T>(plan: TransposePlan)
         → IsTranspose plan.width plan.height input (after_puts old all)) }
 {}
 
-/// The writes that put a region of a plan do so alone.
+/// Each region of a plan has a list of puts that puts the region by itself, as
+/// [`regions_interleaved`] assumes.
 pub(crate) fn region_alone<C: Cells, R: Source<Item = C::Item> + Copy>(
     out: C,
     source: R,
@@ -52,8 +54,9 @@ pub(crate) fn region_alone<C: Cells, R: Source<Item = C::Item> + Copy>(
     put_region(out, source, plan, number, strips)
 }
 
-/// For exchanges that make each part of a phase alone: if all items differ, every interleaving of
-/// them makes the phase.
+/// Take a list of exchanges for each part of a phase. Each list by itself has the effect of its
+/// part, in as many exchanges as the part takes. If all items differ, every interleaving of the
+/// lists has the effect of the phase.
 pub(crate) fn parts_interleaved<T>(phase: Phase)
     ensures { (old : List T) (lists : List (List (ℕ × ℕ))) (all : List (ℕ × ℕ))
         → IsPhaseOf phase (length old) → AllDiffer old
@@ -61,7 +64,8 @@ pub(crate) fn parts_interleaved<T>(phase: Phase)
         → IsPhaseMade phase old (after_swaps old all) }
 {}
 
-/// The exchanges that make a part of a phase do so alone.
+/// Each part of a phase has a list of exchanges that has the effect of the part by itself, as
+/// [`parts_interleaved`] assumes.
 pub(crate) fn part_alone<M: Places>(m: M, phase: Phase, number: usize) -> M
     requires below { number < parts_of phase }
     requires list { IsPhaseOf phase (length (M.items m)) }
@@ -72,8 +76,8 @@ pub(crate) fn part_alone<M: Places>(m: M, phase: Phase, number: usize) -> M
     phase.exchange(SwapSteps { places: m }, number).places
 }
 
-/// The phases of a plan, made one after the other with the exchanges of each phase's parts in any
-/// interleaving, are the reversal.
+/// If the phases of a plan run one after the other, and the exchanges of the parts of each phase
+/// are interleaved in any way, the result is the reversal. This holds if all items differ.
 pub(crate) fn phases_interleaved<T>(row_width: usize, plan: ReversalPlan)
     ensures { (old new : List T) → FitsRows (length old) row_width
         → IsReversalPlan (length old) row_width plan → length old < 2 ^ 64

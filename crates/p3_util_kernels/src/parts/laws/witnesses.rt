@@ -1,13 +1,13 @@
-//! Lists and orders that meet the preconditions of the laws, so none of these preconditions is
-//! impossible to meet.
+//! Lists and orders that meet the preconditions of the laws. They show that these preconditions can
+//! be met.
 
 ghost use Rattle.std.specs.Prelude.{◌≡◌, ℕ, ◌-◌, ◌<◌, ◌≤◌, All, List, Some, length, slice_get};
 ghost use Rattle.p3_util_kernels.specs.AnyOrder.{IsOrder, turn_of};
 ghost use Rattle.p3_util_kernels.specs.Least.{AllDiffer};
 ghost use Rattle.p3_util_kernels.specs.PartSteps.{NoItemInCommon};
 
-/// The order from the first part to the last one is an order, and so is the order from the last
-/// part to the first one.
+/// The parts from the first one to the last one are an order (`IsOrder`), and so are the parts from
+/// the last one to the first one.
 pub(crate) fn orders()
     ensures rising { (count : ℕ) (order : List ℕ)
         → ((j : ℕ) → j < count → slice_get order j ≡ Some j)
