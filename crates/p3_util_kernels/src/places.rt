@@ -215,8 +215,8 @@ pub trait Source {
     }
 }
 
-/// Does nothing. A function that passes the length of a list tells its proof that this length fits in
-/// a `usize`.
+/// Does nothing. A function that passes the length of a list tells its proof that this length fits
+/// in a `usize`.
 #[inline(always)]
 fn length_fits(_len: usize) {}
 
