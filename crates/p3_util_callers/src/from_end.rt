@@ -70,7 +70,7 @@ impl<'a, T> Places for FromEndMut<'a, T> {
     }
 
     fn exchange(&mut self, i: usize, j: usize) {
-        swap_from_end(self.items, i, j);
+        exchange_from_end(self.items, i, j);
     }
 
     ghost same_holder_refl = { Prim.search rules };
@@ -110,7 +110,7 @@ fn put_from_end<T: Copy>(items: &mut [T], i: usize, v: T)
 
 /// Exchanges the items that are `i` and `j` places before the last one.
 #[tactic(auto, using(p3_util::proofs::Callers::from_end_swapped))]
-fn swap_from_end<T>(items: &mut [T], i: usize, j: usize)
+fn exchange_from_end<T>(items: &mut [T], i: usize, j: usize)
     requires first { i < length items.old }
     requires second { j < length items.old }
     ensures { reverse items.new ≡ swap (reverse items.old) i j }

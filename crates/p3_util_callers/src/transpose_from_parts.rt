@@ -346,7 +346,7 @@ fn exchange_row_across<S: Places>(
     requires row { row < half }
     requires within { 2 * half ≤ stride }
     requires ready { HoldsSquare base stride (2 * half - 1) (S.items places.old) }
-    ensures swapped { SwapsAcross base stride
+    ensures exchanged { SwapsAcross base stride
         (record { row_start = row; row_end = row + 1; col_start = half; col_end = 2 * half })
         (S.items places.old) (S.items places.new) }
     ensures holder { S.same_holder half places.old places.new }
@@ -361,7 +361,7 @@ fn exchange_row_across<S: Places>(
 fn exchange_quadrants<S: Places>(places: &mut S, base: usize, stride: usize, half: usize)
     requires within { 2 * half ≤ stride }
     requires ready { HoldsSquare base stride (2 * half - 1) (S.items places.old) }
-    ensures swapped { SwapsAcross base stride
+    ensures exchanged { SwapsAcross base stride
         (record { row_start = 0; row_end = half; col_start = half; col_end = 2 * half })
         (S.items places.old) (S.items places.new) }
     ensures holder { S.same_holder (half * half) places.old places.new }

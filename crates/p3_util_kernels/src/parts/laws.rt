@@ -59,11 +59,11 @@ impl<C: Cells> Cells for PutSteps<C> {
 /// A holder whose `same_holder n a b` says that some n exchanges turn the items of `a` into those
 /// of `b`.
 #[derive(Drop)]
-struct SwapSteps<S> {
+struct ExchangeSteps<S> {
     places: S,
 }
 
-impl<S: Places> Places for SwapSteps<S> {
+impl<S: Places> Places for ExchangeSteps<S> {
     type Item = S::Item;
 
     ghost items = { λ h. S.items h.places };
@@ -188,7 +188,7 @@ pub(crate) fn exchange_block<S: Places>(places: S, squares: Squares, number: usi
         → SwapsAcross base squares.stride region (S.items places) (S.items result) }
 {
     Phase::Blocks(squares)
-        .exchange(SwapSteps { places }, number)
+        .exchange(ExchangeSteps { places }, number)
         .places
 }
 
@@ -238,7 +238,7 @@ pub(crate) fn exchange_row_pairs<S: Places>(places: S, pairs: RowPairs, number: 
         (S.items places) (S.items result) }
 {
     Phase::Pairs(pairs)
-        .exchange(SwapSteps { places }, number)
+        .exchange(ExchangeSteps { places }, number)
         .places
 }
 

@@ -41,12 +41,12 @@ impl<'a, F> Places for SlicePlaces<'a, F> {
 
     #[inline(always)]
     fn exchange_ordered(&mut self, i: usize, j: usize) {
-        swap_ordered(self.items, i, j);
+        exchange_ordered_items(self.items, i, j);
     }
 
     #[inline(always)]
     fn exchange_runs(&mut self, i: usize, j: usize, len: usize) {
-        swap_runs(self.items, i, j, len);
+        exchange_runs_of_items(self.items, i, j, len);
     }
 
     ghost same_holder_refl = { Prim.search rules };
@@ -57,7 +57,7 @@ impl<'a, F> Places for SlicePlaces<'a, F> {
 /// Exchanges the items at places `i` and `j`. Since `i < j`, it does not check whether the two
 /// places are the same.
 #[inline(always)]
-fn swap_ordered<F>(items: &mut [F], i: usize, j: usize)
+fn exchange_ordered_items<F>(items: &mut [F], i: usize, j: usize)
     requires order { i < j }
     requires fits { j < length items.old }
     ensures { items.new ≡ swap items.old i j }
@@ -68,7 +68,7 @@ fn swap_ordered<F>(items: &mut [F], i: usize, j: usize)
 
 /// Exchanges two runs of `len` items: those from place `i` on and those from place `j` on.
 #[inline(always)]
-fn swap_runs<F>(items: &mut [F], i: usize, j: usize, len: usize)
+fn exchange_runs_of_items<F>(items: &mut [F], i: usize, j: usize, len: usize)
     requires apart { (i + len ≤ j) ⊎ (j + len ≤ i) }
     requires first { i + len ≤ length items.old }
     requires second { j + len ≤ length items.old }

@@ -104,7 +104,7 @@ pub(crate) fn transpose_square<M: Places>(
 pub(crate) fn transpose_diagonal<M: Places>(m: M, square: Square, start: usize, size: usize) -> M
     requires within { start + size ≤ square.stride }
     requires ready { HoldsSquare square.base square.stride (start + size - 1) (M.items m) }
-    ensures swapped { SwapsAcross square.base square.stride
+    ensures exchanged { SwapsAcross square.base square.stride
         (record {
           row_start = start;
           row_end = start + size;
@@ -137,7 +137,7 @@ pub(crate) fn exchange_region<M: Places>(m: M, square: Square, region: Region) -
     requires above { region.row_end ≤ region.col_start }
     requires within { region.col_end ≤ square.stride }
     requires ready { HoldsSquare square.base square.stride (region.col_end - 1) (M.items m) }
-    ensures swapped { SwapsAcross square.base square.stride region (M.items m) (M.items result) }
+    ensures exchanged { SwapsAcross square.base square.stride region (M.items m) (M.items result) }
     ensures holder { M.same_holder (items_of region) m result }
 {
     let (rows, cols) = (region.rows(), region.cols());
@@ -166,7 +166,7 @@ fn exchange_leaf<M: Places>(m: M, square: Square, region: Region) -> M
     requires above { region.row_end ≤ region.col_start }
     requires within { region.col_end ≤ square.stride }
     requires ready { HoldsSquare square.base square.stride (region.col_end - 1) (M.items m) }
-    ensures swapped { SwapsAcross square.base square.stride region (M.items m) (M.items result) }
+    ensures exchanged { SwapsAcross square.base square.stride region (M.items m) (M.items result) }
     ensures holder { M.same_holder (items_of region) m result }
 {
     let mut m = m;
@@ -192,7 +192,7 @@ fn exchange_block_row<M: Places>(m: M, square: Square, row: usize, region: Regio
     requires above { row + 4 ≤ region.col_start }
     requires within { region.col_end ≤ square.stride }
     requires ready { HoldsSquare square.base square.stride (region.col_end - 1) (M.items m) }
-    ensures swapped { SwapsAcross square.base square.stride
+    ensures exchanged { SwapsAcross square.base square.stride
         (record region { row_start = row; row_end = row + 4 }) (M.items m) (M.items result) }
     ensures holder { M.same_holder (4 * cols_of region) m result }
 {
@@ -213,7 +213,7 @@ fn exchange_row<M: Places>(m: M, square: Square, row: usize, region: Region) -> 
     requires above { row < region.col_start }
     requires within { region.col_end ≤ square.stride }
     requires ready { HoldsSquare square.base square.stride (region.col_end - 1) (M.items m) }
-    ensures swapped { SwapsAcross square.base square.stride
+    ensures exchanged { SwapsAcross square.base square.stride
         (record region { row_start = row; row_end = row + 1 }) (M.items m) (M.items result) }
     ensures holder { M.same_holder (region.col_end - region.col_start) m result }
 {

@@ -39,26 +39,26 @@ impl<'a, F> Places for SlicePlaces<'a, F> {
 
     #[inline(always)]
     fn exchange_ordered(&mut self, i: usize, j: usize) {
-        swap_ordered(self.items, i, j);
+        exchange_ordered_items(self.items, i, j);
     }
 
     #[inline(always)]
     fn exchange_runs(&mut self, i: usize, j: usize, len: usize) {
-        swap_runs(self.items, i, j, len);
+        exchange_runs_of_items(self.items, i, j, len);
     }
 }
 
 /// Exchanges the items at places `i` and `j`. Since `i < j`, it does not check whether the two
 /// places are the same.
 #[inline(always)]
-fn swap_ordered<F>(items: &mut [F], i: usize, j: usize) {
+fn exchange_ordered_items<F>(items: &mut [F], i: usize, j: usize) {
     let (front, back) = items.split_at_mut(j);
     core::mem::swap(&mut front[i], &mut back[0]);
 }
 
 /// Exchanges two runs of `len` items: those from place `i` on and those from place `j` on.
 #[inline(always)]
-fn swap_runs<F>(items: &mut [F], i: usize, j: usize, len: usize) {
+fn exchange_runs_of_items<F>(items: &mut [F], i: usize, j: usize, len: usize) {
     let (low, high) = (i.min(j), i.max(j));
     let (front, back) = items.split_at_mut(high);
     front[low..low + len].swap_with_slice(&mut back[..len]);

@@ -5,7 +5,7 @@ use Rattle.p3_util_callers.proofs.transpose_from_parts.exchange_quadrants.Given 
 -- the rows before this one are exchanged
 abbrev pub invariant-loop-row : goal.invariant-loop-row
 invariant-loop-row g l = record {
-  swapped : SwapsAcross l.base l.stride (record { row_start = 0; row_end = l.row; col_start = l.half; col_end = 2 * l.half })
+  exchanged : SwapsAcross l.base l.stride (record { row_start = 0; row_end = l.row; col_start = l.half; col_end = 2 * l.half })
       (g.S.Places.items l.fn.places) (g.S.Places.items l.places);
   holder : g.S.Places.same_holder (l.row * l.half) l.fn.places l.places;
 }

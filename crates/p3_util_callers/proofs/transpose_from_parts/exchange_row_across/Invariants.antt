@@ -5,7 +5,7 @@ use Rattle.p3_util_callers.proofs.transpose_from_parts.exchange_row_across.Given
 -- the items before `col` are exchanged
 abbrev pub invariant-loop-col : goal.invariant-loop-col
 invariant-loop-col g l = record {
-  swapped : SwapsAcross l.base l.stride (record { row_start = l.row; row_end = l.row + 1; col_start = l.half; col_end = l.col })
+  exchanged : SwapsAcross l.base l.stride (record { row_start = l.row; row_end = l.row + 1; col_start = l.half; col_end = l.col })
       (g.S.Places.items l.fn.places) (g.S.Places.items l.places);
   holder : g.S.Places.same_holder (l.col - l.half) l.fn.places l.places;
 }

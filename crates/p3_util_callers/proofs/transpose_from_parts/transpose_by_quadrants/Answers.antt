@@ -20,7 +20,7 @@ exchange_quadrants-requires-clause-ready g c =
 -- where the last quadrant begins, and that the list has room for it
 pub transpose_square_on-requires-2-clause-room : goal.transpose_square_on-requires-2-clause-room
 transpose_square_on-requires-2-clause-room g c =
-    let same = c.exchange_quadrants.ensures.swapped.same_length ∙ c.transpose_square_on.ensures.transposed.same_length in
+    let same = c.exchange_quadrants.ensures.exchanged.same_length ∙ c.transpose_square_on.ensures.transposed.same_length in
     rw (c.power-half.ensures, c.power-stride.ensures, same) (last_quadrant_room c.args.base c.args.log_stride c.args.log_size c.if-log_size-eq0.false _ c.requires.room)
 
 pub overflow_mul-half : goal.overflow_mul-half
@@ -41,7 +41,7 @@ overflow_add-base-2 g c =
 pub returns-clause-transposed : goal.returns-clause-transposed
 returns-clause-transposed g c =
     square_of_quadrants c.args.base c.args.log_stride c.args.log_size c.if-log_size-eq0.false c.requires.rows_apart _ _ _ _ c.transpose_square_on.ensures.transposed
-    (rw (c.power-half.ensures, c.power-stride.ensures) at c.exchange_quadrants.ensures.swapped)
+    (rw (c.power-half.ensures, c.power-stride.ensures) at c.exchange_quadrants.ensures.exchanged)
     (rw (c.power-half.ensures, c.power-stride.ensures) at c.transpose_square_on-2.ensures.transposed)
 
 pub returns-clause-count : goal.returns-clause-count

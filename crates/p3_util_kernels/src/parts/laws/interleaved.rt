@@ -9,7 +9,7 @@ ghost use Rattle.p3_util_kernels.specs.Plans.{IsPhaseMade, IsPhaseOf, IsReversal
 ghost use Rattle.p3_util_kernels.specs.Reversal.{FitsRows, IsRowReversal};
 ghost use Rattle.p3_util_kernels.specs.Transpose.{IsTranspose};
 
-use crate::parts::laws::{SwapSteps, put_region};
+use crate::parts::laws::{ExchangeSteps, put_region};
 use crate::parts::{Phase, ReversalPlan, TransposePlan};
 use crate::places::{Cells, Places, Source};
 use crate::transpose::Strips;
@@ -73,7 +73,7 @@ pub(crate) fn part_alone<M: Places>(m: M, phase: Phase, number: usize) -> M
     ensures { (steps : List (ℕ × ℕ)) × (M.items result ≡ after_swaps (M.items m) steps)
         × IsMadeAlone phase number (M.items m) steps }
 {
-    phase.exchange(SwapSteps { places: m }, number).places
+    phase.exchange(ExchangeSteps { places: m }, number).places
 }
 
 /// If the phases of a plan run one after the other, and the exchanges of the parts of each phase

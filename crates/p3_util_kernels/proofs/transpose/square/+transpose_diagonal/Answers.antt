@@ -4,15 +4,15 @@ use Rattle.p3_util_kernels.proofs.DiagonalLemmas.{SwapsAcross-quadrants}
 use Rattle.p3_util_kernels.proofs.Pairs.{pairs-add}
 use Rattle.p3_util_kernels.proofs.transpose.square.+transpose_diagonal.Goals as goal
 
-pub returns-then-size-le1-clause-swapped : goal.returns-then-size-le1-clause-swapped
-returns-then-size-le1-clause-swapped g t c = grind arith
+pub returns-then-size-le1-clause-exchanged : goal.returns-then-size-le1-clause-exchanged
+returns-then-size-le1-clause-exchanged g t c = grind arith
 
-pub returns-clause-swapped : goal.returns-clause-swapped
-returns-clause-swapped g t c =
+pub returns-clause-exchanged : goal.returns-clause-exchanged
+returns-clause-exchanged g t c =
     let half = c.args.size / 2 in
     let end : c.args.start + half + (c.args.size - half) ≡ c.args.start + c.args.size = omega arith in
-    SwapsAcross-quadrants _ _ _ (c.args.start + half) _ _ _ _ _ (omega arith) (omega arith) c.transpose_diagonal-m.ensures.swapped
-    c.exchange_region-m.ensures.swapped (rw end at c.transpose_diagonal.ensures.swapped)
+    SwapsAcross-quadrants _ _ _ (c.args.start + half) _ _ _ _ _ (omega arith) (omega arith) c.transpose_diagonal-m.ensures.exchanged
+    c.exchange_region-m.ensures.exchanged (rw end at c.transpose_diagonal.ensures.exchanged)
 
 pub returns-clause-holder : goal.returns-clause-holder
 returns-clause-holder g t c =

@@ -12,7 +12,7 @@ loop-row-preserved-then-region-row-ge4 g c =
     record {
       from = omega arith;
       to = omega arith;
-      swapped = cut_exchanged _ _ done _ _ _ _ _ cut c.loop-row.invariant.swapped c.exchange_block_row-m.ensures.swapped;
+      exchanged = cut_exchanged _ _ done _ _ _ _ _ cut c.loop-row.invariant.exchanged c.exchange_block_row-m.ensures.exchanged;
       holder = g.met.M.Places.same_holder_trans _ _ _ _ _ _ c.loop-row.invariant.holder c.exchange_block_row-m.ensures.holder (omega (arith, rw four at cut.items));
     }
 
@@ -24,9 +24,9 @@ loop-row-preserved g c =
     record {
       from = omega arith;
       to = omega arith;
-      swapped = cut_exchanged _ _ done _ _ _ _ _ cut c.loop-row.invariant.swapped c.exchange_row-m.ensures.swapped;
+      exchanged = cut_exchanged _ _ done _ _ _ _ _ cut c.loop-row.invariant.exchanged c.exchange_row-m.ensures.exchanged;
       holder = g.met.M.Places.same_holder_trans _ _ _ _ _ _ c.loop-row.invariant.holder c.exchange_row-m.ensures.holder (omega (arith, rw one at cut.items));
     }
 
-pub returns-clause-swapped : goal.returns-clause-swapped
-returns-clause-swapped g c = let end : c.loop-row.row ≡ c.args.region.row_end = omega arith in rw end at c.loop-row.invariant.swapped
+pub returns-clause-exchanged : goal.returns-clause-exchanged
+returns-clause-exchanged g c = let end : c.loop-row.row ≡ c.args.region.row_end = omega arith in rw end at c.loop-row.invariant.exchanged

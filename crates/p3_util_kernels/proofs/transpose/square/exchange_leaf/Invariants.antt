@@ -8,7 +8,7 @@ abbrev pub invariant-loop-row : goal.invariant-loop-row
 invariant-loop-row g l = record {
   from : l.region.row_start ≤ l.row;
   to : l.row ≤ l.region.row_end;
-  swapped : SwapsAcross l.square.base l.square.stride (record l.region { row_end = l.row }) (g.M.Places.items l.initial.m) (g.M.Places.items l.m);
+  exchanged : SwapsAcross l.square.base l.square.stride (record l.region { row_end = l.row }) (g.M.Places.items l.initial.m) (g.M.Places.items l.m);
   holder : g.M.Places.same_holder ((l.row - l.region.row_start) * cols_of l.region) l.initial.m l.m;
 }
 

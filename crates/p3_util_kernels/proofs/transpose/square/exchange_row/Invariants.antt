@@ -5,6 +5,6 @@ use Rattle.p3_util_kernels.proofs.transpose.square.exchange_row.Given as goal
 -- the items before `col` are exchanged
 abbrev pub invariant-loop-col : goal.invariant-loop-col
 invariant-loop-col g l = record {
-  swapped : SwapsAcross l.base l.stride (record l.fn.region { row_start = l.row; row_end = l.row + 1; col_end = l.col }) (g.M.Places.items l.initial.m) (g.M.Places.items l.m);
+  exchanged : SwapsAcross l.base l.stride (record l.fn.region { row_start = l.row; row_end = l.row + 1; col_end = l.col }) (g.M.Places.items l.initial.m) (g.M.Places.items l.m);
   holder : g.M.Places.same_holder (l.col - l.fn.region.col_start) l.initial.m l.m;
 }

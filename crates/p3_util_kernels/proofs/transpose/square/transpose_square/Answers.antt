@@ -12,4 +12,4 @@ transpose_diagonal-requires-clause-within g c =
 pub returns-clause-transposed : goal.returns-clause-transposed
 returns-clause-transposed g c =
     IsSquareTransposed-from_across c.args.base c.args.log_stride c.args.log_size _ _ c.requires.rows_apart
-    (rw (c.pow2.ensures, c.pow2-2.ensures, zero-add) at c.transpose_diagonal.ensures.swapped)
+    (rw (c.pow2.ensures, c.pow2-2.ensures, zero-add) at c.transpose_diagonal.ensures.exchanged)

@@ -1,7 +1,7 @@
 -- The exchange between the two parts of the slice is one in the slice.
 use Rattle.std.proofs.Common.{◌≡◌, ◌+◌, ◌∙◌, length, sym, arith}
 use Rattle.p3_util_kernels.proofs.JoinedLists.{across}
-use Rattle.p3_util_kernels.proofs.places.slices.swap_ordered.Goals as goal
+use Rattle.p3_util_kernels.proofs.places.slices.exchange_ordered_items.Goals as goal
 
 pub returns : goal.returns
 returns g c =
