@@ -25,12 +25,12 @@ fn run_all<P>(threads: usize, parts: impl Iterator<Item = P> + Send, run: fn(P))
 fn main() {
     let threads = available_parallelism().map_or(1, NonZero::get);
     // Parts differ in size, so there are more of them than threads.
-    let wish = 4 * threads;
+    let asked = 4 * threads;
 
     let (width, height) = (2048, 1024);
     let matrix: Vec<u32> = (0..1 << 21).collect();
     let mut columns = vec![0; matrix.len()];
-    let parts = parts::transpose(&matrix, &mut columns, width, height, wish);
+    let parts = parts::transpose(&matrix, &mut columns, width, height, asked);
     println!("a transpose in {} parts", parts.len());
     run_all(threads, parts, TransposePart::run);
     let mut expected = vec![0; matrix.len()];
@@ -39,7 +39,7 @@ fn main() {
 
     let mut list = matrix.clone();
     // All parts of a phase are done before the next phase begins. The compiler makes sure of that.
-    parts::reversal(&mut list, wish).for_each_phase(|parts| {
+    parts::reversal(&mut list, asked).for_each_phase(|parts| {
         println!("a phase of a reversal in {} parts", parts.len());
         run_all(threads, parts, ReversalPart::run);
     });

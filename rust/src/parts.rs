@@ -55,9 +55,9 @@
 //!     (1 << 24, 256, [528, 528, 528]),
 //! ];
 //! # if cfg!(not(feature = "checked")) {
-//! for (items, wish, parts) in table {
+//! for (items, asked, parts) in table {
 //!     let mut list = vec![0u8; items];
-//!     let mut phases = reversal(&mut list, wish);
+//!     let mut phases = reversal(&mut list, asked);
 //!     assert_eq!(parts.map(|_| phases.next_phase().unwrap().len()), parts);
 //! }
 //! # }
@@ -157,12 +157,12 @@ pub struct ReversalParts<'a, F>(Parts<'a, F, Phase>);
 #[must_use = "a part that is not run leaves the list neither as it was nor reversed"]
 pub struct ReversalPart<'a, F>(Parts<'a, F, Phase>);
 
-/// The greatest number of pieces that a side is cut into if the caller asks for `wish` parts. P pieces of a side make
+/// The greatest number of pieces that a side is cut into if the caller asks for `parts` parts. P pieces of a side make
 /// P(P + 1) / 2 blocks. These are about two for each part that the caller asks for, so that threads that take one block
 /// after the other end at about the same time. More blocks would be smaller, and small blocks make less use of the
 /// caches.
-const fn parts_of_side(wish: usize) -> usize {
-    1 + wish.saturating_sub(1).saturating_mul(4).isqrt()
+const fn parts_of_side(parts: usize) -> usize {
+    1 + parts.saturating_sub(1).saturating_mul(4).isqrt()
 }
 
 /// Cuts [`transpose::transpose`](crate::transpose::transpose) into at most `parts` parts.

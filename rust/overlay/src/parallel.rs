@@ -10,7 +10,7 @@ pub use p3_util_proved::*;
 const PARTS_A_THREAD: usize = 4;
 
 /// How many parts to ask for, if the list is long enough and there is more than one thread.
-fn wish(is_long: bool) -> Option<usize> {
+fn parts_to_ask_for(is_long: bool) -> Option<usize> {
     if !is_long {
         return None;
     }
@@ -26,7 +26,7 @@ fn wish(is_long: bool) -> Option<usize> {
 #[inline]
 #[track_caller]
 pub fn reverse_slice_index_bits<F: Send + Sync>(vals: &mut [F]) {
-    let Some(parts) = wish(vals.len() > p3_util_proved::parts::one_part_reversal::<F>()) else {
+    let Some(parts) = parts_to_ask_for(vals.len() > p3_util_proved::parts::one_part_reversal::<F>()) else {
         return p3_util_proved::reverse_slice_index_bits(vals);
     };
     run_phases(p3_util_proved::parts::reversal(vals, parts));
@@ -40,7 +40,7 @@ pub fn reverse_slice_index_bits<F: Send + Sync>(vals: &mut [F]) {
 #[inline]
 #[track_caller]
 pub fn reverse_slice_row_index_bits<F: Send>(vals: &mut [F], row_width: usize) {
-    let Some(parts) = wish(vals.len() > p3_util_proved::parts::one_part_reversal::<F>()) else {
+    let Some(parts) = parts_to_ask_for(vals.len() > p3_util_proved::parts::one_part_reversal::<F>()) else {
         return p3_util_proved::reverse_slice_row_index_bits(vals, row_width);
     };
     run_phases(p3_util_proved::parts::row_reversal(vals, row_width, parts));
@@ -71,7 +71,7 @@ pub mod transpose {
     #[inline]
     #[track_caller]
     pub fn transpose<T: Copy + Send + Sync>(input: &[T], output: &mut [T], width: usize, height: usize) {
-        let Some(parts) = wish(input.len() >= LEAST_ITEMS) else {
+        let Some(parts) = parts_to_ask_for(input.len() >= LEAST_ITEMS) else {
             return p3_util_proved::transpose::transpose(input, output, width, height);
         };
         let parts: Vec<_> = p3_util_proved::parts::transpose(input, output, width, height, parts).collect();

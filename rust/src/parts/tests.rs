@@ -148,12 +148,12 @@ impl Source for Numbers {
 fn regions_of_long_matrices() {
     let longest = usize::MAX;
     let shapes = [(1, 1 << 32), (1, 1 << 40), (1, longest)];
-    for ((width, height), wish) in shapes
+    for ((width, height), asked) in shapes
         .into_iter()
-        .flat_map(|shape| [0, 1, 16, longest].map(|wish| (shape, wish)))
+        .flat_map(|shape| [0, 1, 16, longest].map(|asked| (shape, asked)))
     {
         for (width, height, may_cut_rows) in [(width, height, true), (height, width, true), (height, width, false)] {
-            let plan = TransposePlan::new(width, height, wish, may_cut_rows);
+            let plan = TransposePlan::new(width, height, asked, may_cut_rows);
             let (len, last) = (width * height, plan.count() - 1);
             assert_eq!(last * plan.items(0) + plan.items(last), len);
             if plan.items(last) <= 16 {
@@ -164,7 +164,7 @@ fn regions_of_long_matrices() {
             }
         }
         // A single column is not cut.
-        let plan = TransposePlan::new(width, height, wish, false);
+        let plan = TransposePlan::new(width, height, asked, false);
         assert_eq!((plan.count(), plan.items(0)), (1, height));
     }
 }
@@ -323,9 +323,9 @@ fn shares_of_reversals() {
         (16, 16, 64, &[(136, 8)]),
         (2, 1 << 17, 64, &[(1, 1000)]),
     ];
-    for (digits, row_width, wish, wanted) in cases {
+    for (digits, row_width, asked, wanted) in cases {
         let len = row_width << digits;
-        let plan = ReversalPlan::new(len, row_width, parts_of_side(wish), 1 << 18);
+        let plan = ReversalPlan::new(len, row_width, parts_of_side(asked), 1 << 18);
         let exchanges_of = |phase: Phase, number| {
             let mut counted = Counted { len, exchanges: 0 };
             let _ = phase.exchange(&mut counted, number);
@@ -335,8 +335,8 @@ fn shares_of_reversals() {
         let got: Vec<_> = phases
             .map(|phase| count_and_share((0..phase.count()).map(|number| exchanges_of(phase, number))))
             .collect();
-        assert_eq!(got, wanted, "2^{digits} rows of {row_width} by a wish of {wish}");
-        let most = match (digits, wish) {
+        assert_eq!(got, wanted, "2^{digits} rows of {row_width} if {asked} are asked for");
+        let most = match (digits, asked) {
             (10.., 64..) => 20,
             (10.., 16..) => 40,
             _ => 1000,
@@ -356,10 +356,10 @@ fn shares_of_transposes() {
         (1024, 1024, 16, (16, 63)),
         (100, 100, 64, (7, 160)),
     ];
-    for (width, height, wish, wanted) in cases {
-        let plan = TransposePlan::new(width, height, wish, true);
+    for (width, height, asked, wanted) in cases {
+        let plan = TransposePlan::new(width, height, asked, true);
         let got = count_and_share((0..plan.count()).map(|number| plan.items(number)));
-        assert_eq!(got, wanted, "{width} by {height} by a wish of {wish}");
+        assert_eq!(got, wanted, "{width} by {height} if {asked} are asked for");
     }
 }
 

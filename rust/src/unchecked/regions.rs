@@ -43,9 +43,9 @@ fn reads(len: usize, call: impl FnOnce(&[usize], &mut [usize], Noted)) -> Vec<us
 
 #[test]
 fn each_item_is_read_once() {
-    for (width, height, wish) in [(64, 64, 1), (64, 64, 4), (100, 40, 3), (40, 100, 3), (5, 3, 9)] {
+    for (width, height, asked) in [(64, 64, 1), (64, 64, 4), (100, 40, 3), (40, 100, 3), (5, 3, 9)] {
         let mut read = reads(width * height, |items, output, source| {
-            let mut parts = transpose_in_parts(items, output, width, height, wish).unwrap();
+            let mut parts = transpose_in_parts(items, output, width, height, asked).unwrap();
             while let Some(part) = parts.split_first() {
                 part.put_from(source);
             }

@@ -5,8 +5,8 @@ use p3_util_proved::reverse_slice_row_index_bits;
 
 use crate::refusal::refusal;
 
-/// The number of parts that a transpose has if a caller asks for `wish` parts. The longer side is cut into steps of a
-/// multiple of 16, the smallest one that gives no more than `wish` parts. With the feature `checked` the width is
+/// The number of parts that a transpose has if a caller asks for `asked` parts. The longer side is cut into steps of a
+/// multiple of 16, the smallest one that gives no more than `asked` parts. With the feature `checked` the width is
 /// always the side that is cut.
 #[test]
 fn parts_of_transposes() {
@@ -24,12 +24,12 @@ fn parts_of_transposes() {
         (17, 16, 9, [2, 2]),
         (16, 17, 9, [2, 1]),
     ];
-    for (width, height, wish, [by_both, by_columns]) in cases {
+    for (width, height, asked, [by_both, by_columns]) in cases {
         let input = vec![0u8; width * height];
         let mut output = input.clone();
-        let count = transpose(&input, &mut output, width, height, wish).len();
+        let count = transpose(&input, &mut output, width, height, asked).len();
         let wanted = if cfg!(feature = "checked") { by_columns } else { by_both };
-        assert_eq!(count, wanted, "{width} by {height} by a wish of {wish}");
+        assert_eq!(count, wanted, "{width} by {height} if {asked} are asked for");
     }
 }
 
@@ -37,9 +37,9 @@ fn parts_of_transposes() {
 /// each part.
 #[test]
 fn parts_that_are_left() {
-    for (bits, wish) in [(4, 3), (18, 4), (19, 1), (19, 9), (20, 16)] {
+    for (bits, asked) in [(4, 3), (18, 4), (19, 1), (19, 9), (20, 16)] {
         let mut list = vec![0u8; 1 << bits];
-        reversal(&mut list, wish).for_each_phase(|mut parts| {
+        reversal(&mut list, asked).for_each_phase(|mut parts| {
             for left in (0..parts.len()).rev() {
                 assert!(parts.next().is_some());
                 assert_eq!((parts.len(), parts.size_hint()), (left, (left, Some(left))));

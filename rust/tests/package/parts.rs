@@ -159,7 +159,7 @@ fn none_and_one() {
     }
 }
 
-/// How many parts the phases of a long list have if a caller asks for `wish` parts. These are the numbers in the
+/// How many parts the phases of a long list have if a caller asks for `asked` parts. These are the numbers in the
 /// documentation.
 #[test]
 #[cfg(not(feature = "checked"))]
@@ -170,11 +170,11 @@ fn parts_of_phases() {
         (20, 64, [136, 136, 136]),
         (20, 256, [136, 528, 136]),
     ];
-    for (bits, wish, wanted) in cases {
+    for (bits, asked, wanted) in cases {
         let mut list = vec![0u8; 1 << bits];
         let mut counts = vec![];
-        reversal(&mut list, wish).for_each_phase(|parts| counts.push(parts.len()));
-        assert_eq!(counts, wanted, "2^{bits} items by a wish of {wish}");
+        reversal(&mut list, asked).for_each_phase(|parts| counts.push(parts.len()));
+        assert_eq!(counts, wanted, "2^{bits} items if {asked} are asked for");
     }
 }
 
