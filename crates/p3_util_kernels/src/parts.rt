@@ -4,8 +4,8 @@
 //!   for a reversal.
 //! - A transpose is cut into regions. Each region is a part, and the parts may run in any order.
 //! - A reversal is cut into *phases*: three or one, and none if the list is empty. All parts of a
-//!   phase must be done before the next phase begins, but they may run in any order. A phase has
-//!   one part, or each block of [`RowPairs`] or of [`Squares`] is a part.
+//!   phase must be done before the next phase begins, but they may run in any order. A phase is a
+//!   single part, or it has one part for each block of its [`RowPairs`] or of its [`Squares`].
 //! - A [`Cut`] cuts consecutive numbers, such as the columns of a matrix, into parts.
 //!
 //! The module `laws`, which only the Rattle sources have, states what is proved about the parts:
@@ -102,9 +102,9 @@ impl Cut {
         count * (count + 1) / 2
     }
 
-    /// The two parts of pair `number`, the earlier part first. For these numbers, the parts form a
-    /// circle. First come the pairs of a part with itself, then those of a part with the next part
-    /// in the circle, then those of a part with the one after that, and so on.
+    /// The two parts of pair `number`, the earlier part first. The pairs are numbered as if the
+    /// parts lay in a circle. First come the pairs of a part with itself, then those of a part with
+    /// the next part in the circle, then those of a part with the one after that, and so on.
     pub(crate) fn pair(self, number: usize) -> (usize, usize)
         requires few { parts_in self.len self.step < 2 ^ 32 }
         requires below { number < pairs_of (parts_in self.len self.step) }

@@ -3,8 +3,8 @@
 //! These terms are used throughout the crate:
 //!
 //! - A *holder* gives access to a list by index. [`SlicePlaces`] and [`SliceCells`] are holders for
-//!   slices. A view of rows can be a holder too, and so can a type of your own. A slice itself is
-//!   not a holder.
+//!   slices. A view that shows a list of rows as one list of items can be a holder too, and so can
+//!   a type of your own. A slice itself is not a holder.
 //! - A *place* is an index of a list whose items can be exchanged ([`Places`]). A *cell* is an
 //!   index of a list into which items can be put ([`Cells`]). A *source* is a holder of a list that
 //!   can only be read ([`Source`]).
@@ -131,7 +131,7 @@ pub trait Places {
 /// A list into which items can be put, and from which none can be read.
 ///
 /// In a contract, `items` is the list of the holder's items. `same_holder n a b` says that n puts
-/// turn the holder a into b, and otherwise the same as for [`Places`].
+/// turn the holder a into b. The rest is the same as for [`Places`].
 pub trait Cells {
     /// The type of the items.
     type Item: Copy;
@@ -215,8 +215,8 @@ pub trait Source {
     }
 }
 
-/// Does nothing. A function that passes the length of a list tells its proof that this length fits
-/// in a `usize`.
+/// Does nothing at run time. A function calls it with the length of a list, so that its proof knows
+/// that this length fits in a `usize`.
 #[inline(always)]
 fn length_fits(_len: usize) {}
 

@@ -19,8 +19,8 @@
 //!
 //! It is proved that each call puts every item where it belongs (`IsTranspose`,
 //! `IsRegionTransposed`). For the calls that count, it is also proved that each item takes exactly
-//! one write. The order of the writes is only tested, and so is the choice of strips, on which it
-//! depends.
+//! one write. The order of the writes, and the choice of strips on which this order depends, are
+//! only tested.
 
 ghost use Rattle.std.specs.Prelude.{◌≡◌, ◌+◌, ◌*◌, ◌^◌, ◌<◌, ◌↔◌, IsTrue, length};
 ghost use Rattle.p3_util_kernels.specs.Region.{IsRegionTransposed, LiesInMatrix, items_of};

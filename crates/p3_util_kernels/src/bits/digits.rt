@@ -9,7 +9,7 @@ ghost use Rattle.std.specs.Prelude.{◌≡◌, ℕ, ◌^◌, ◌<◌, ◌≤◌,
 ghost use Rattle.p3_util_kernels.specs.Digits.{rev, rev_word};
 ghost use Rattle.p3_util_kernels.specs.Powers.{HasLog2};
 
-/// Reverses the k low binary digits of `x`, for an `n` of 2^k. This is `reverse_bits_len(x, k)`.
+/// Reverses the k low binary digits of `x`, where `n` is 2^k. This is `reverse_bits_len(x, k)`.
 /// `n` must be a power of two, which std's `is_power_of_two` checks.
 #[inline]
 pub const fn reverse_bits(x: usize, n: usize) -> usize

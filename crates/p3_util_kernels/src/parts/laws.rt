@@ -4,9 +4,9 @@
 //! there for its contract. Some run one part of a plan, on a holder whose contract says that the
 //! steps of the part exist. Their contracts say at which places these steps are. Other functions
 //! state that two parts have no place in common, and that each place belongs to some part.
-//! `all_parts` runs all parts, in any order. `interleaved` states the same for every interleaving
-//! of the steps of several parts, as threads may make them. `witnesses` shows that the
-//! preconditions can be met.
+//! `all_parts` runs all parts, in any order within a phase, and states that this has the effect of
+//! the call. `interleaved` states the same for every interleaving of the steps of several parts, as
+//! threads may make them. `witnesses` shows that the preconditions can be met.
 
 ghost use Rattle.std.specs.Prelude.{◌≡◌, ◌≢◌, ℕ, ◌⊎◌, ◌+◌, ◌-◌, ◌*◌, ◌/◌, ◌^◌, ◌<◌, ◌≤◌, ◌↔◌, false, if◌then◌else◌, length};
 ghost use Rattle.p3_util_kernels.specs.Blocks.{IsBlock, blocks_of, swaps_of_block};

@@ -15,7 +15,7 @@ pub struct SlicePlaces<'a, F> {
 }
 
 impl<'a, F> SlicePlaces<'a, F> {
-    /// A holder of the items of `items`. Place `i` is index `i` of the slice.
+    /// A holder for the slice `items`. Place `i` is index `i` of the slice.
     pub fn new(items: &'a mut [F]) -> Self
         ensures { result.items ≡ items.entry }
     {
@@ -87,7 +87,7 @@ pub struct SliceCells<'a, T> {
 }
 
 impl<'a, T: Copy> SliceCells<'a, T> {
-    /// A holder of the items of `values`. Cell `i` is index `i` of the slice.
+    /// A holder for the slice `values`. Cell `i` is index `i` of the slice.
     pub fn new(values: &'a mut [T]) -> Self
         ensures { result.values ≡ values.entry }
     {

@@ -16,8 +16,9 @@
 //!
 //! A *line* is all pairs that have the same middle digit and the same `y`. One loop over `x`
 //! exchanges the pairs of two neighbouring lines, `y` and `y + 1`. For each `x`, it exchanges the
-//! row of `x` and `y` and the row of `x` and `y + 1`, which are neighbours in the list. If rows are
-//! short, both rows are in the cache at the same time.
+//! pair of `x` and `y`, and then the pair of `x` and `y + 1`. The row of `x` and `y` and the row of
+//! `x` and `y + 1` are neighbours in the list. If rows are short, both rows are in the cache at the
+//! same time.
 
 ghost use Rattle.std.specs.Prelude.{◌≡◌, ℕ, ◌+◌, ◌-◌, ◌*◌, ◌/◌, ◌%◌, ◌^◌, ◌<◌, ◌≤◌, ◌⊎◌, length, min};
 ghost use Rattle.p3_util_kernels.specs.Crossing.{AreLinePairs, HoldsRows, IsCrossed, lines_of, pairs_in};

@@ -47,8 +47,8 @@ pub fn reverse_index_bits_short<S: Places>(m: &mut Swaps<S>)
     m.count = reverse_short(Swaps::resumed(&mut m.holder, m.count)).swaps();
 }
 
-/// Reverses the order of chunks by index bits. There are `2^h` chunks of `2^c` items, for an h of
-/// `lb_num_chunks` and a c of `lb_chunk_size`. Place `i` gets the item from place
+/// Reverses the order of chunks by index bits. There are `2^h` chunks of `2^c` items, where h is
+/// `lb_num_chunks` and c is `lb_chunk_size`. Place `i` gets the item from place
 /// `rev(h, i / 2^c) * 2^c + i mod 2^c`, where `rev(h, x)` has the h bits of x in reversed order. A
 /// list of n items takes at most n/2 swaps. The length must be `2^(h + c)`. To check the length,
 /// compare it with the power that [`checked_log_size_sum`](crate::bits::checked_log_size_sum)

@@ -34,9 +34,8 @@ pub(crate) enum ReversalPlan {
 
 impl ReversalPlan {
     /// Cuts the reversal of a list of `len` items, in rows of `row_width` items. A list of at most
-    /// `one_part` items is one part. For a longer list, the sides of the squares of items are cut
-    /// into at most `parts` parts, and so are those of the squares of pairs of rows. A `parts` of 0
-    /// counts as 1.
+    /// `one_part` items is one part. For a longer list, each side of a square of the [`RowPairs`]
+    /// or of the [`Squares`] is cut into at most `parts` parts. A `parts` of 0 counts as 1.
     pub(crate) fn new(len: usize, row_width: usize, parts: usize, one_part: usize) -> ReversalPlan {
         if len == 0 {
             return ReversalPlan::Nothing;

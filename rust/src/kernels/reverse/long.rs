@@ -7,7 +7,8 @@
 //!
 //! The first pass reverses the order of the chunks by index bits, and so reverses the bits of the
 //! row. The second pass transposes each square, so the bits of the row and those of the column
-//! change places. The third pass does the same as the first one.
+//! change places. The third pass does the same as the first one, and so reverses the bits that were
+//! those of the column.
 
 use crate::kernels::bits::{log2_strict_usize, pow2};
 use crate::kernels::places::{Places, Swaps};

@@ -7,8 +7,8 @@
 //!   into its cell.
 //! - A *strip* is some neighbouring rows of a region. A region is cut into strips, which are put
 //!   from top to bottom. Most strips are put column after column.
-//! - A *tile* is 16 columns of a strip of 16 rows. A *block* is 4 by 4 items of a strip, or in a
-//!   strip of kind [`Strips::Wide`] one row of a tile.
+//! - A *tile* is 16 columns of a strip of 16 rows. A *block* is 4 by 4 items of a strip. In a strip
+//!   of kind [`Strips::Wide`], a block is one row of a tile instead.
 //!
 //! [`Strips`] lists the kinds of strips, and [`Strips::of`] chooses one by the shape of the matrix.
 //! That choice only changes the order of the puts: the contracts of the functions below are the
@@ -98,8 +98,8 @@ impl Strips {
         }
     }
 
-    /// Whether a strip of `rows` rows is put by blocks, as long as these are whole. A strip of
-    /// tiles must have all 16 rows for that.
+    /// Whether a strip of `rows` rows is put by blocks, except for pieces that do not consist of
+    /// whole blocks. A strip of tiles is put by blocks only if it has all 16 rows.
     #[inline(always)]
     fn has_blocks(self, rows: usize) -> bool {
         match self {

@@ -1,9 +1,9 @@
 //! Runs all parts of a call, with the parts of each phase in any order. This has the same effect as
 //! the call, and takes as many steps.
 //!
-//! An order is a slice with the number of the part that runs in each of the first turns. In each
-//! later turn, the part with the same number as the turn runs. So the empty slice stands for the
-//! order 0, 1, 2 and so on.
+//! An order is a slice. Its item at index `j` is the number of the part that runs in turn `j`. In a
+//! turn for which the slice has no item, the part with the same number as the turn runs. So the
+//! empty slice stands for the order 0, 1, 2 and so on.
 
 ghost use Rattle.std.specs.Prelude.{◌≡◌, ℕ, ◌*◌, ◌^◌, ◌<◌, Some, length, slice_get};
 ghost use Rattle.p3_util_kernels.specs.AnyOrder.{IsOrder, order_of, turn_of};
@@ -110,8 +110,8 @@ pub(crate) fn make_phases<M: Places>(
     m
 }
 
-/// Transposes a matrix by the regions of a plan, which is made here. The preconditions are those of
-/// the call that is not cut.
+/// Makes a plan for the transpose of a matrix, and puts all regions of the plan. The preconditions
+/// are those of a transpose that is not cut.
 pub(crate) fn transpose_in_parts<C: Cells, R: Source<Item = C::Item> + Copy>(
     out: C,
     matrix: Matrix<R>,
@@ -130,8 +130,8 @@ pub(crate) fn transpose_in_parts<C: Cells, R: Source<Item = C::Item> + Copy>(
     put_regions(out, matrix.source, plan, strips, &[])
 }
 
-/// Reverses rows by the phases of a plan, which is made here. The precondition is that of the call
-/// that is not cut.
+/// Makes a plan for a reversal of rows, and runs all phases of the plan. The precondition is that
+/// of a reversal that is not cut.
 pub(crate) fn reverse_in_parts<M: Places>(
     m: M,
     row_width: usize,

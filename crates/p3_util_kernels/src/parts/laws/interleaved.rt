@@ -22,9 +22,9 @@ pub(crate) fn interleaved<T>()
     ensures in_turn { (lists : List (List T)) → IsInterleaved lists (in_turn lists) }
 {}
 
-/// Take a list of puts for each region of a plan. Each list by itself puts its region, with one put
-/// for each item. If the output has no item of the input beforehand, no two of the lists have a
-/// place in common, and every interleaving of them puts the whole transpose.
+/// Take, for each region of a plan, a list of puts that by itself puts the region, with one put for
+/// each item. If the output has no item of the input beforehand, no two of the lists have a place
+/// in common, and every interleaving of them puts the whole transpose.
 pub(crate) fn regions_interleaved<T>(plan: TransposePlan)
     ensures { (input old : List T) (lists : List (List (ℕ × T)))
         → length input ≡ plan.width * plan.height → length old ≡ plan.width * plan.height
@@ -54,9 +54,9 @@ pub(crate) fn region_alone<C: Cells, R: Source<Item = C::Item> + Copy>(
     put_region(out, source, plan, number, strips)
 }
 
-/// Take a list of exchanges for each part of a phase. Each list by itself has the effect of its
-/// part, in as many exchanges as the part takes. If all items differ, every interleaving of the
-/// lists has the effect of the phase.
+/// Take, for each part of a phase, a list of exchanges that by itself has the effect of the part,
+/// in as many exchanges as the part takes. If all items differ, every interleaving of the lists has
+/// the effect of the phase.
 pub(crate) fn parts_interleaved<T>(phase: Phase)
     ensures { (old : List T) (lists : List (List (ℕ × ℕ))) (all : List (ℕ × ℕ))
         → IsPhaseOf phase (length old) → AllDiffer old

@@ -6,8 +6,8 @@ ghost use Rattle.p3_util_kernels.specs.AnyOrder.{IsOrder, turn_of};
 ghost use Rattle.p3_util_kernels.specs.Least.{AllDiffer};
 ghost use Rattle.p3_util_kernels.specs.PartSteps.{NoItemInCommon};
 
-/// The parts from the first one to the last one are an order (`IsOrder`), and so are the parts from
-/// the last one to the first one.
+/// The numbers of all parts from the first to the last are an order (`IsOrder`), and so are those
+/// from the last to the first.
 pub(crate) fn orders()
     ensures rising { (count : ℕ) (order : List ℕ)
         → ((j : ℕ) → j < count → slice_get order j ≡ Some j)
