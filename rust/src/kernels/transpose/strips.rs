@@ -13,7 +13,8 @@
 //! [`Strips`] lists the kinds of strips, and [`Strips::of`] chooses one by the shape of the matrix.
 //! That choice only changes the order of the puts: the contracts of the functions below are the
 //! same for every kind. To add a kind, add a variant, say in `rows` how many rows its strips have,
-//! and handle it in `put_strip`.
+//! and handle it in `put_strip`. If its strips are put by blocks, `block_rows`, `block_cols` and
+//! `has_blocks` say what the blocks are.
 //!
 //! Each function takes the holder by value and returns it. This keeps the holder in registers in
 //! the loops.
