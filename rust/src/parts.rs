@@ -93,8 +93,8 @@
 //! input that has no item in common with the output. For other lists it makes no difference: a kernel cannot look at an
 //! item, so a part touches the same indices whatever its items are. A part runs at most once, because `run` consumes
 //! it. The next phase cannot begin before all parts of a phase are gone, because these parts borrow the
-//! [`ReversalPhases`]. The package's README says under "Of threads" what of this is proved, and what is checked by
-//! review.
+//! [`ReversalPhases`]. The section "Threads" of the package's README says what of this is proved, and what is checked
+//! by review.
 use core::fmt;
 use core::iter::FusedIterator;
 

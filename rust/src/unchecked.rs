@@ -12,8 +12,8 @@
 //! or one run at a time, never to the whole list: see `SliceItems`. Which parts a call has, and what each part does, is
 //! decided by proved code (`kernels/parts.rs`), as the steps of a kernel are. It is proved
 //! (`crates/p3_util_kernels/src/parts/laws.rt`) that two parts of a phase have no place in common, and that the steps
-//! of the parts of a phase, interleaved in any way, have the effect of the phase. The package's README says under "Of
-//! threads" for which lists this is proved, and what is checked by review.
+//! of the parts of a phase, interleaved in any way, have the effect of the phase. The section "Threads" of the package's
+//! README says for which lists this is proved, and what is checked by review.
 
 use core::ops::Range;
 
