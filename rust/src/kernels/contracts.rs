@@ -29,7 +29,8 @@
 //! - `requires`: the length is zero or a power of two. The call does not test that.
 //! - `order`: the new list is the old one in the order of reversed index bits. `inverse`: the same call again restores
 //!   the old list.
-//! - `count` and `bound`: the result is this exact function of the length, and is at most 3n/2 for n items.
+//! - `count` and `bound`: the result is `reversal_swaps` of the length, which is the exact number of swaps. It is at
+//!   most 3n/2 for n items.
 //! - `holder`: the holder made exactly as many exchanges as the call returns. If the holder borrows a slice, it still
 //!   borrows the same slice, so the new list is in that slice.
 //!
@@ -72,7 +73,7 @@
 //! | `UnwrapsOrElse r P v` | v is the value in r, or, if r is `None`, a value for which P holds |
 //! | `option_copied r`, `option_copied_mut r`, `deref x` | `Some` of what is behind the reference in r, or `None`; what is behind the reference x |
 //! | `K.eq` | the `==` of the type K |
-//! | `F.pre f x`, `F.post f x y` | `f(x)` may be called; it may return y |
+//! | `F.pre f x`, `F.post f x y` | `f(x)` may be called; `f(x)` may return y |
 //! | `H.IsAlwaysCallable h`, `H.FnMut` | h may be called with every argument, again and again; what calls of a closure of type H do |
 //! | `I.IntoIter`, `I.into_iter_gives x i` | the type of the iterators that the `into_iter` of I returns; `into_iter` of x may return i |
 //! | `I.can_next i`, `I.next_gives i r j` | `next` may be called on the iterator i; `next` on i may return r, and then leaves the iterator as j |
@@ -82,7 +83,7 @@
 //! | `YieldsThen .. i xs r j`, `Drains .. i xs` | calls of `next` on i returned the items xs, then a call returned r, and left the iterator as j; the same with `None` as r |
 //! | `WholeRun .. i P` | P holds for a run of calls of `next` on i that ends with a `None`. The items that a run p returned are `p.items` |
 //! | `ShowsInOrder f` | calls of `next` return the items that were left, in order, where f says how an item is read |
-//! | `ensures*`, `sem 𝓛 A` | a clause on what lies in memory: A holds for the borrow that the call returns, and for what it leaves when it ends |
+//! | `ensures*`, `sem 𝓛 A` | a clause on what lies in memory: A holds for the borrow that the call returns, and for what this borrow leaves when it ends |
 //! | `K.row` | how memory holds a K |
 //!
 //! # Names for this package's kernels
