@@ -2,16 +2,17 @@
 //! What the names and marks in the contracts mean.
 //!
 //! A `requires` is what the caller has to prove, and an `ensures` is what the call promises. The word after `requires`
-//! or `ensures` is the clause's name. A function stands before its arguments, without brackets or commas: `rev k i`. A
-//! clause sees a number as a whole number. It sees a slice or an array as the list of its items, a text as the list of
-//! its bytes, a map as the list of its pairs, and an iterator of a map as the list of what it has not yet returned.
+//! or `ensures` is the clause's name. A function stands before its arguments, without brackets or commas: `rev k i` is
+//! the function `rev` of k and i. A clause sees a number as a whole number. It sees a slice or an array as the list of
+//! its items, a text as the list of its bytes, a map as the list of its pairs, and an iterator of a map as the list of
+//! what it has not yet returned.
 //!
 //! No function of `kernels` tests its `requires`. The repository has each definition as the checker reads it, in
 //! the `specs` folders of its crates.
 //!
 //! # A contract, word by word
 //!
-//! This call reverses any list and counts the swaps:
+//! This call reverses the list of any holder, and counts the swaps:
 //!
 //! ```text
 //! pub fn reverse_counted<S: Places>(places: &mut S) -> u128
@@ -23,14 +24,15 @@
 //!     ensures holder { S.same_holder result places.old places.new }
 //! ```
 //!
-//! - `S` is the type of a *holder*, which has the list, and `S.items` is that list. A slice's
-//!   holder is `SlicePlaces::new(values)`.
+//! - `S` is the type of a *holder*, a value that gives access to a list by index. `S.items`
+//!   is that list. For a slice, the holder is `SlicePlaces::new(values)`.
 //! - `requires`: the length is zero or a power of two. The call does not test that.
 //! - `order`: the new list is the old one in the order of reversed index bits. `inverse`: the same call again restores
 //!   the old list.
-//! - `count` and `bound`: the call returns this exact function of the length, which is at most 3n/2.
-//! - `holder`: the call made exactly as many exchanges as it returns, in this holder. A borrowed slice is still the
-//!   same slice.
+//! - `count` and `bound`: the result is `reversal_swaps` of the length, which is the exact number of swaps. It is at
+//!   most 3n/2 for n items.
+//! - `holder`: the holder made exactly as many exchanges as the call returns. If the holder borrows a slice, it still
+//!   borrows the same slice, so the new list is in that slice.
 //!
 //! # Marks, and names from Rust and its std
 //!
@@ -42,14 +44,14 @@
 //! | `x.entry` | x itself, as it was passed to the call |
 //! | `x.0`, `x.1`, `x.2`, `x.3`, `(x, y)` | the parts of a tuple, from the first on, and a pair |
 //! | `x.items`, `x.slice`, `x.values`, `x.holder`, `x.count`, `x.given` | the field of that name, which may be private |
-//! | `S.items x` | the list that a holder or a source x of the type S has; in a trait `items` alone |
+//! | `S.items x` | the list of a holder or a source x of the type S; in a trait this is written `items x` |
 //! | `A ≡ B` | A and B are equal |
 //! | `A → B`, `A ↔ B` | B holds if A holds; B holds exactly if A holds |
 //! | `A × B`, `A ⊎ B`, `¬ A` | both hold; one of them holds; A does not hold |
 //! | `(x : T) → A`, `(x : T) × A` | A holds for every x of the type T; A holds for some x of the type T |
 //! | `λ x. A` | the function that takes x to A |
 //! | `let x = A`, `in B` | B, in which x stands for A |
-//! | `f {x = A}` | f, with A for its argument x, which is usually left out |
+//! | `f {x = A}` | f with A as its argument x, an argument that is usually left out |
 //! | `ℕ`, `List T`, `K × V` | the whole numbers from 0 on; the lists of items of T; the pairs of a K and a V |
 //! | `+`, `-`, `*`, `/`, `%`, `^` | sum, difference, product, quotient rounded down, remainder and power of whole numbers without an upper limit; the difference is 0 if it would be negative |
 //! | `<`, `≤`, `A == B` | A is less than B; at most B; the `bool` that says whether two numbers are equal |
@@ -71,17 +73,17 @@
 //! | `UnwrapsOrElse r P v` | v is the value in r, or, if r is `None`, a value for which P holds |
 //! | `option_copied r`, `option_copied_mut r`, `deref x` | `Some` of what is behind the reference in r, or `None`; what is behind the reference x |
 //! | `K.eq` | the `==` of the type K |
-//! | `F.pre f x`, `F.post f x y` | `f(x)` may be called; it may return y |
+//! | `F.pre f x`, `F.post f x y` | `f(x)` may be called; `f(x)` may return y |
 //! | `H.IsAlwaysCallable h`, `H.FnMut` | h may be called with every argument, again and again; what calls of a closure of type H do |
-//! | `I.IntoIter`, `I.into_iter_gives x i` | the type of the iterators of an `IntoIterator`; i may be what `into_iter` makes of x |
-//! | `I.can_next i`, `I.next_gives i r j` | `next` may be called on i; it may return r, and then leaves the iterator as j |
-//! | `I.remaining i`, `at_most n`, `size c` | how many items i has left at most, if there is a bound; the bound n; the number of the bound c |
-//! | `UpTo c n`, `IsWithinCount n c` | c is a bound, and at most n; n is at most c, if c is a bound |
-//! | `IsFiniteIterable .. x` | whatever `into_iter` makes of x may be called, and has a bound |
-//! | `YieldsThen .. i xs r j`, `Drains .. i xs` | calls of `next` on i returned the items xs and then r, and left j; the same, and r is `None` |
-//! | `WholeRun .. i P` | P holds for some calls of `next` on i up to the first `None`; for such calls p, `p.items` are the items |
-//! | `ShowsInOrder f` | calls of `next` return the items that were left, in order, each read by f |
-//! | `ensures*`, `sem 𝓛 A` | a clause on what lies in memory: A holds for the borrow that the call returns, and for what it leaves when it ends |
+//! | `I.IntoIter`, `I.into_iter_gives x i` | the type of the iterators that the `into_iter` of I returns; `into_iter` of x may return i |
+//! | `I.can_next i`, `I.next_gives i r j` | `next` may be called on the iterator i; `next` on i may return r, and then leaves the iterator as j |
+//! | `I.remaining i`, `at_most n`, `size c` | a bound on how many items the iterator i has left, or none; the bound n; the number that the bound c states |
+//! | `UpTo c n`, `IsWithinCount n c` | c is a bound, and its number is at most n; if c is a bound, n is at most its number |
+//! | `IsFiniteIterable .. x` | `next` may be called on each iterator that `into_iter` may make of x, and there is a bound on the items of this iterator |
+//! | `YieldsThen .. i xs r j`, `Drains .. i xs` | calls of `next` on i returned the items xs, then a call returned r, and left the iterator as j; the same with `None` as r |
+//! | `WholeRun .. i P` | P holds for a run of calls of `next` on i that ends with a `None`. The items that a run p returned are `p.items` |
+//! | `ShowsInOrder f` | calls of `next` return the items that were left, in order, where f says how an item is read |
+//! | `ensures*`, `sem 𝓛 A` | a clause on what lies in memory: A holds for the borrow that the call returns, and for what this borrow leaves when it ends |
 //! | `K.row` | how memory holds a K |
 //!
 //! # Names for this package's kernels
