@@ -140,6 +140,45 @@ fn by_wide_strips(width: usize, height: usize) -> Vec<(usize, usize)> {
     places
 }
 
+/// The column and the row of each item, in the order of strips by blocks: at most 128 rows at a time, and a multiple of
+/// four rows as long as four are left. Of such a strip, four columns are put at a time, by blocks of 4 by 4 items, and
+/// each block column after column. A piece that blocks do not fill is put column after column.
+fn by_strips_of_blocks(width: usize, height: usize) -> Vec<(usize, usize)> {
+    let mut places = Vec::new();
+    let mut top = 0;
+    while top < height {
+        let rows = match height - top {
+            left @ 0..4 => left,
+            left @ 4..128 => left / 4 * 4,
+            _ => 128,
+        };
+        for left in (0..width).step_by(4) {
+            let cols = left..width.min(left + 4);
+            let block_rows = if rows >= 4 && cols.len() == 4 { 4 } else { rows };
+            for top in (top..top + rows).step_by(block_rows) {
+                places.extend(cols.clone().flat_map(|x| (top..top + block_rows).map(move |y| (x, y))));
+            }
+        }
+        top += rows;
+    }
+    places
+}
+
+/// Checks that a transpose by these strips puts the items in this order of their columns and rows.
+fn check_order(strips: Strips, (width, height): (usize, usize), order: Vec<(usize, usize)>) {
+    let input: Vec<usize> = (0..width * height).collect();
+    let blank = Noted {
+        items: input.clone(),
+        puts: Vec::new(),
+    };
+    let matrix = Matrix::new(SliceSource::new(&input), width, height);
+    let Noted { items, puts } = transpose_matrix(blank, matrix, strips);
+    let places = puts.iter().map(|place| (place / height, place % height));
+    assert!(places.eq(order), "{width} by {height}");
+    let transposed = |place: usize| place % height * width + place / height;
+    assert!(items.into_iter().eq((0..input.len()).map(transposed)));
+}
+
 #[test]
 fn wide_strips_in_order() {
     for (width, height) in [
@@ -152,17 +191,24 @@ fn wide_strips_in_order() {
         (33, 31),
         (1000, 16),
     ] {
-        let input: Vec<usize> = (0..width * height).collect();
-        let blank = Noted {
-            items: input.clone(),
-            puts: Vec::new(),
-        };
-        let matrix = Matrix::new(SliceSource::new(&input), width, height);
-        let Noted { items, puts } = transpose_matrix(blank, matrix, Strips::Wide);
-        let places = puts.iter().map(|place| (place / height, place % height));
-        assert!(places.eq(by_wide_strips(width, height)), "{width} by {height}");
-        let transposed = |place: usize| place % height * width + place / height;
-        assert!(items.into_iter().eq((0..input.len()).map(transposed)));
+        check_order(Strips::Wide, (width, height), by_wide_strips(width, height));
+    }
+}
+
+#[test]
+fn strips_of_blocks_in_order() {
+    for (width, height) in [
+        (4, 4),
+        (8, 12),
+        (9, 12),
+        (8, 15),
+        (3, 9),
+        (33, 31),
+        (6, 128),
+        (10, 130),
+        (7, 263),
+    ] {
+        check_order(Strips::Blocks, (width, height), by_strips_of_blocks(width, height));
     }
 }
 
