@@ -44,10 +44,10 @@ pub struct Four<T>(pub T, pub T, pub T, pub T);
 /// A list whose items can only be exchanged: they can neither be read nor be moved in any other
 /// way.
 ///
-/// In a contract, `items` is the list of the holder's items. `same_holder n a b` says that n
-/// exchanges turn the holder a into b. If the holder borrows its items, `same_holder` also says
-/// that b borrows the same slice as a, so a change to the holder is a change to that slice. A
-/// holder that does not count its exchanges ignores n.
+/// In a contract, `items` is the list of the holder's items. `same_holder n a b` says that b is the
+/// holder a after n exchanges. What that means depends on the holder. If the holder counts, the
+/// count of b is n more than the count of a. If it does not count, it ignores n. If it borrows its
+/// items, b borrows the same slice as a, so a change to the holder is a change to that slice.
 pub trait Places {
     /// The type of the items.
     type Item;
@@ -99,7 +99,8 @@ pub trait Places {
     /// Exchanges two blocks of 4 by 4 items, each with the mirror image of the other: the item in
     /// row r and column c of a block goes to row c and column r of the other block. The blocks
     /// begin at places `i` and `j`, and the rows of each block begin `stride` places apart. The
-    /// blocks must not overlap. A kernel calls this only if `by_blocks` returns true.
+    /// block at `i` must end before the block at `j` begins. A kernel calls this only if `by_blocks`
+    /// returns true.
     #[inline(always)]
     fn exchange_blocks(&mut self, i: usize, j: usize, stride: usize)
         requires rows { 4 ≤ stride }
@@ -130,8 +131,8 @@ pub trait Places {
 
 /// A list into which items can be put, and from which none can be read.
 ///
-/// In a contract, `items` is the list of the holder's items. `same_holder n a b` says that n puts
-/// turn the holder a into b. The rest is the same as for [`Places`].
+/// In a contract, `items` is the list of the holder's items. `same_holder n a b` says that b is the
+/// holder a after n puts. The rest is the same as for [`Places`].
 pub trait Cells {
     /// The type of the items.
     type Item: Copy;

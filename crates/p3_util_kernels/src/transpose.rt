@@ -4,9 +4,10 @@
 //! neighbouring columns. To *put* a region is to put each of its items into the cell that it has in
 //! the transpose.
 //!
-//! A transpose takes one of two paths. A matrix of at most `LARGE_MATRIX` items is put as one
-//! region. A larger one is split into regions first. This file has the calls on slices, calls that
-//! count their writes, and the choice of the path. The modules below it do the rest:
+//! The transpose of a whole matrix takes one of two paths. A matrix of at most `LARGE_MATRIX` items
+//! is put as one region. A larger one is split into regions first. A call for a region of a matrix
+//! puts that region without a split. This file has the calls on slices, calls that count their
+//! writes, and the choice of the path. The modules below it do the rest:
 //!
 //! - `regions` defines matrices and regions, and cuts a region in two.
 //! - `split` halves the longer side of a large region, and does the same with each half, until the
@@ -240,8 +241,9 @@ where
 }
 
 /// Runs the kernel on a holder of the slice and returns the slice. The kernel takes the holder by
-/// value. After that, a proof knows nothing about the slice that the holder borrowed, so the
-/// contract is about the slice that is returned.
+/// value. After that, a proof knows nothing about the slice that the holder borrowed. So the
+/// contract is about the slice that is returned, and says by `ghost_name` that this is the slice
+/// `output`.
 #[inline(always)]
 fn transpose_items<T: Copy, R: Source<Item = T> + Copy>(
     matrix: Matrix<R>,

@@ -125,7 +125,7 @@
 //! | `long_swaps k` | the number of swaps for reversing `2 ^ k` items on the long path. It reverses the order of chunks, transposes squares, and reverses the order of chunks again. With `h = k / 2` and `c = k - h` this takes `2 * short_swaps h * 2 ^ c + 2 ^ (c - h) * square_swaps (2 ^ h)` swaps |
 //! | `reversal_swaps items` | the number of swaps for reversing `items` items, where `items` is zero or a power of two: `short_swaps (clog items)` up to 8192 items, and `long_swaps (clog items)` beyond |
 //! | `counted c s` | the count c after s more steps. A count stops at the largest u128, so this is `min (2 ^ 128 - 1) (c + s)` |
-//! | `same_holder n a b` | n exchanges turn the holder a into b. If the holder borrows its items, `same_holder` also says that b borrows the same slice as a, so a change to the holder is a change to that slice. A holder that does not count its exchanges ignores n. For `Cells`: n puts turn the holder a into b. The rest is the same as for `Places` |
+//! | `same_holder n a b` | b is the holder a after n exchanges. What that means depends on the holder. If the holder counts, the count of b is n more than the count of a. If it does not count, it ignores n. If it borrows its items, b borrows the same slice as a, so a change to the holder is a change to that slice. For `Cells`: b is the holder a after n puts. The rest is the same as for `Places` |
 //!
 //! # Names for the chunks, the map and `zip_eq`
 //!

@@ -2,15 +2,15 @@
 //! reversed order. The rows of a list can be reordered in the same way, by the index of each row.
 //! The items within a row then keep their order.
 //!
-//! A reversal takes one of two paths, the short one or the long one. This file has the calls on
-//! slices, calls that count their swaps, and the choice of the path. The modules below it have the
-//! paths:
+//! A reversal of single items takes one of two paths, the short one or the long one. A reversal of
+//! rows always takes the path of the module `rows`. This file has the calls on slices, calls that
+//! count their swaps, and the choice of the path. The modules below it have the paths:
 //!
 //! - `rows` reverses the order of rows of any width. It exchanges each pair of rows whose indices
-//!   are each other's reverse. With rows of one item this is the short path, which is taken for at
-//!   most `SHORT_PATH_ITEMS` items.
-//! - `long` is the long path, which is taken for more items. It makes more swaps, in an order that
-//!   suits lists that do not fit in a cache.
+//!   are each other's reverse. With rows of one item this is the short path. A call for single
+//!   items takes it for at most `SHORT_PATH_ITEMS` items.
+//! - `long` is the long path, which a call for single items takes for more items. It makes more
+//!   swaps, in an order that suits lists that do not fit in a cache.
 //! - `pairs` finds the pairs of rows and exchanges them. Both paths use it.
 //!
 //! It is proved that each call leaves the list in bit-reversed order (`IsReversal`,
@@ -158,8 +158,9 @@ pub fn reverse_index_bits_on<S: Places>(m: &mut Swaps<S>) {
 }
 
 /// Runs the kernel on a holder of the slice and returns the slice. The kernel takes the holder by
-/// value. After that, a proof knows nothing about the slice that the holder borrowed, so the
-/// contract is about the slice that is returned.
+/// value. After that, a proof knows nothing about the slice that the holder borrowed. So the
+/// contract is about the slice that is returned, and says by `ghost_name` that this is the slice
+/// `vals`.
 #[inline(always)]
 fn reverse_items<F>(vals: &mut [F]) -> &mut [F] {
     let SlicePlaces { items } = reverse_index_bits(SlicePlaces::new(vals));
