@@ -120,7 +120,7 @@ def of_holders():
         text = " ".join(found.read().replace("///", " ").split())
     places, cells = re.findall(rf"`{OF_HOLDERS}` says that (.*?)\.? pub trait (?:Places|Cells) ", text)
     cells = re.sub(r"\[(`\w+`)\]", r"\1", cells)
-    return f"| `{OF_HOLDERS}` | {places}. For `Cells`: {cells} | `src/places.rt`: new |"
+    return f"| `{OF_HOLDERS}` | For `Places`: {places}. For `Cells`: {cells} | `src/places.rt`: new |"
 
 
 def tables():

@@ -25,8 +25,8 @@ module _ {S A : Type 0} {n : ℕ} where
   abbrev pub padded_fill : ArrayChunksPadded S A n → A
   padded_fill s = s.default
 
-  -- the iterator inside may be called, as `can` says. Nothing is required if pieces have no items
-  -- or if the iterator inside has ended, because then it is not called
+  -- `can` allows a call of the iterator inside. Nothing is required if pieces have no items or if
+  -- the iterator inside has ended, because then it is not called
   abbrev pub padded_can : (S → Type 0) → ArrayChunksPadded S A n → Type 0
   padded_can can s = 0 < n → padded_done s ≡ false → can (padded_source s)
 

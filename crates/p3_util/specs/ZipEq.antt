@@ -5,8 +5,8 @@ use Rattle.std.specs.Iterator.{Yields, Count, size}
 use Rattle.std.specs.Iterator.Runs.{Run, SomeRun, EachRunFrom, ProjectsRun}
 use Rattle.p3_util.specs.declared.zip_eq.ZipEq.{ZipEq}
 
--- The length that an iterator in state s states, which `left` gives, is true now and after any
--- calls: each item lowers it by one, and it is 0 when `None` is returned
+-- `left` gives the length that an iterator in state s claims to have. This length is true now and
+-- after any calls: each item lowers it by one, and it is 0 when `None` is returned
 pub record HasTrueLength {S A : Type 0} (steps : S → Option A → S → Type 0) (left : S → Count) (s : S) : Type 0 where
   pub item : (xs : List A) (t : S) (x : A) (u : S) → Yields steps s xs t → steps t (Some x) u → size (left t) ≡ size (left u) + 1
   pub none : (xs : List A) (t u : S) → Yields steps s xs t → steps t None u → size (left t) ≡ 0
@@ -50,8 +50,8 @@ module _ {S T : Type 0} where
     abbrev pub PairsRuns : ZipEq S T → Type 0
     PairsRuns z = EachRunFrom zip_eq_steps z (λ p. SomeRun steps (zip_eq_first z) (λ u. SomeRun others (zip_eq_second z) (λ v. IsPairsRun p u v)))
 
-    -- The same as `PairsRuns`, except that the two sequences have all calls that `next` made of the
-    -- iterators
+    -- The same as `PairsRuns`, except that the two sequences have all calls of the iterators that
+    -- `next` made, also those whose item found no partner
     abbrev pub AskedRuns : ZipEq S T → Type 0
     AskedRuns z = EachRunFrom zip_eq_steps z (λ p. SomeRun steps (zip_eq_first z) (λ u. SomeRun others (zip_eq_second z) (λ v. IsAskedRun p u v)))
 

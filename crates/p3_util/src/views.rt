@@ -17,7 +17,7 @@ pub use base_slice_mut::{BaseSliceMut, Flattened, as_base_slice_mut};
 pub use rows::Rows;
 pub use vectors::{flatten_to_base, reconstitute_from_base};
 
-/// The number of items in `count` arrays of `n` items, or `None` if it does not fit a `usize`.
+/// The number of items in `count` arrays of `n` items, or `None` if it does not fit in a `usize`.
 pub fn flat_len(count: usize, n: usize) -> Option<usize>
     ensures { SomeIff result (count * n < 2 ^ 64) (count * n) }
 {

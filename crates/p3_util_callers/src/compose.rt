@@ -76,7 +76,8 @@ pub fn reverse_items_and_rows<S: Places>(places: &mut S, row_width: usize) -> u1
         result ≡ reversal_swaps n + row_swaps n row_width }
     ensures holder { S.same_holder result places.old places.new }
 {
-    // Called so that the proof knows that the length fits a usize. So the sum fits too.
+    // The contract of `len` says that the length fits in a usize. So the sum of the two numbers of
+    // swaps fits in a u128.
     let _ = places.len();
     let items = reverse_counted(places);
     let rows = reverse_rows_counted(places, row_width);

@@ -24,7 +24,7 @@ pub struct Joined<'a, F> {
 }
 
 impl<'a, F> Joined<'a, F> {
-    /// Joins two slices. The sum of their lengths must fit a `usize`.
+    /// Joins two slices. The sum of their lengths must fit in a `usize`.
     pub fn new(front: &'a mut [F], back: &'a mut [F]) -> Self
         requires { length front.old + length back.old < 2 ^ 64 }
         ensures front { result.front ≡ front.entry }

@@ -10,7 +10,7 @@ use Rattle.p3_util_kernels.specs.Region.{LiesInMatrix, cols_of, rows_of}
 use Rattle.p3_util_kernels.proofs.LevelsLemmas.{clog-above, clog-half, clog-le, lev_le}
 use Rattle.p3_util_kernels.proofs.RegionLemmas.{IsCut-rows, IsCut-cols}
 
--- the splits of a region nest at most 57 levels deep if the places of its matrix fit a usize
+-- the splits of a region nest at most 57 levels deep if the places of its matrix fit in a usize
 pub lev-of_region : (region : Region) (width height : ℕ) → LiesInMatrix region width height → width < 2 ^ 64 → height < 2 ^ 64 → width * height < 2 ^ 64
     → lev (rows_of region) (cols_of region) ≤ 57
 lev-of_region region width height lies wide tall fits =

@@ -86,7 +86,7 @@ nest_small r c h = omega (arith, nest_le r c, clog-least r 7 (omega arith), clog
 -- the regions that are not split
 pub ruleset leaves = (nest_narrow, nest_small)
 
--- at most 57 levels for a region if its sides and their product fit a usize
+-- at most 57 levels for a region if its sides and their product fit in a usize
 pub lev_le : (r c : ℕ) → r < 2 ^ 64 → c < 2 ^ 64 → r * c < 2 ^ 64 → lev r c ≤ 57
 lev_le r c h k fits =
     let tall = clog-least r 64 (omega arith) in

@@ -26,10 +26,10 @@ pub record IsRowItem (half c row_width m t x y : ℕ) : Type 0 where
   pub high : x < 2 ^ half
   pub low : y < 2 ^ half
 
--- The index of a row has three parts: `half` high bits, whose reverse is x; then `c - half` middle
--- bits m; and then `half` low bits y. The row is exchanged, item by item, with the row for which x
--- and y are swapped, if the region `pairs` has row `min x y` and column `m * 2 ^ half + max x y`.
--- All other rows stay where they are
+-- The index of a row has `half + c` bits: `half` high bits, then `c - half` middle bits, and then
+-- `half` low bits. x is the reverse of the high bits, m is the middle bits, and y is the low bits.
+-- The row is exchanged, item by item, with the row for which x and y are swapped, if the region
+-- `pairs` has row `min x y` and column `m * 2 ^ half + max x y`. All other rows stay where they are
 abbrev pub IsCrossed : {A : Type 0} (half c row_width : ℕ) (pairs : Region) (old new : List A) → Type 0
 IsCrossed half c row_width pairs old new =
     Mirrored {M = ℕ × ℕ} (λ m x y. row_of half c m.0 x y * row_width + m.1)
@@ -55,8 +55,8 @@ pub record AreLinePairs (digits : ℕ) (pairs : Region) : Type 0 where
 abbrev pub pairs_in : (side : ℕ) (pairs : Region) → ℕ
 pairs_in side pairs = sum_below (cols_of pairs) (λ i. min pairs.row_end ((pairs.col_start + i) % side) - pairs.row_start)
 
--- the list has `2 ^ digits` rows of `row_width` items, its length fits a usize, and `row_width` is
--- at least 1
+-- the list has `2 ^ digits` rows of `row_width` items, its length fits in a usize, and `row_width`
+-- is at least 1
 pub record HoldsRows {A : Type 0} (row_width digits : ℕ) (items : List A) : Type 0 where
   pub wide : 0 < row_width
   pub few : digits < 64

@@ -14,7 +14,7 @@ abbrev pub SwapsAcross : {A : Type 0} (base stride : ℕ) (region : Region) (old
 SwapsAcross base stride region old new =
     Mirrored {M = ℕ} (λ m a b. base + a * stride + b) (λ m a b. ((a < stride) × (b < stride)) × IsInRegion region (max a b) (min a b)) old new
 
--- the list has the place of row `last` and column `last`, and its length fits a usize
+-- the list has the place of row `last` and column `last`, and its length fits in a usize
 pub record HoldsSquare {A : Type 0} (base stride last : ℕ) (items : List A) : Type 0 where
   pub room : base + last * stride + last < length items
   pub length_fits : length items < 2 ^ 64

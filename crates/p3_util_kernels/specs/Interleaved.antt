@@ -19,16 +19,16 @@ IsInterleaved {S} lists (step ∷ all) = (k : ℕ) × (rest : List S) × (slice_
 abbrev pub in_turn : {S : Type 0} → List (List S) → List S
 in_turn lists = flat_map (λ steps. steps) lists
 
--- All steps of the lists are at places below n, and no two lists have a place in common. `places`
--- gives the places of a list of steps
+-- `places` gives the places of a list of steps. All steps of the lists are at places below n, and
+-- no two lists have a place in common
 pub record AreApartBelow {S : Type 0} (places : List S → List ℕ) (n : ℕ) (lists : List (List S)) : Type 0 where
   pub below : (k : ℕ) (steps : List S) → slice_get lists k ≡ Some steps → All (λ p. p < n) (places steps)
   pub apart : (i j : ℕ) (first second : List S) → i ≢ j → slice_get lists i ≡ Some first → slice_get lists j ≡ Some second
       → NoPlaceInCommon (Contains (places first)) (Contains (places second))
 
--- If no two of several lists of steps have a place in common, and all places are in the list xs,
--- then every interleaving of the steps has the same result on xs as `in_turn`. `AreApartBelow`
--- states this condition, and `after` gives the result of steps
+-- `after` gives the result of a list of steps on a list. Take several lists of steps that
+-- `AreApartBelow` the length of a list xs. Then every interleaving of the steps has the same result
+-- on xs as `in_turn`
 abbrev pub SameInTurn : {A S : Type 0} → (List A → List S → List A) → (List S → List ℕ) → Type 0
 SameInTurn {A} {S} after places = (xs : List A) (lists : List (List S)) (all : List S) → AreApartBelow places (length xs) lists
     → IsInterleaved lists all → after xs all ≡ after xs (in_turn lists)

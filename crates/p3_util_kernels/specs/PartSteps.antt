@@ -71,7 +71,8 @@ abbrev pub IsPlaceOfSquares : (side stride p : ℕ) → Type 0
 IsPlaceOfSquares side stride p =
     (square a b : ℕ) × (square < stride / side) × (a < side) × (b < side) × (p ≡ square * side + a * stride + b)
 
--- There are `2 ^ digits` rows of `row_width` items. The block with this number stands for pairs of
+-- There are `2 ^ digits` rows of `row_width` items. The sides of the squares of pairs are cut into
+-- parts of `step` numbers, and `number` is the number of a block. This block stands for pairs of
 -- rows, in the way that `IsCrossed` describes, and p is a place in one of these rows. A row that
 -- stays where it is counts as a pair with itself
 abbrev pub IsPlaceOfPairs : (digits row_width step number p : ℕ) → Type 0

@@ -18,9 +18,9 @@ pub record FollowEachOther (count len : ℕ) (start : ℕ → ℕ) : Type 0 wher
 abbrev pub parts_in : (len step : ℕ) → ℕ
 parts_in len step = div_ceil len step
 
--- Parts of `step` numbers are no longer than necessary: every positive multiple of `unit` is at
--- least `step` if parts of that length cut the numbers below `len` into at most `parts` parts. If
--- `parts` is 0, it counts as 1.
+-- Parts of `step` numbers are no longer than necessary. Take any positive multiple L of `unit`. If
+-- parts of L numbers cut the numbers below `len` into at most `parts` parts, then L is at least
+-- `step`. If `parts` is 0, it counts as 1.
 abbrev pub IsLeastStep : (parts unit len step : ℕ) → Type 0
 IsLeastStep parts unit len step = (units : ℕ) → 0 < units → parts_in len (units * unit) ≤ max parts 1 → step ≤ units * unit
 
@@ -42,9 +42,9 @@ part_of_matrix width height by_rows len step k =
 abbrev pub pairs_of : ℕ → ℕ
 pairs_of n = n * (n + 1) / 2
 
--- The number of the pair of parts i and j, for i ≤ j. Imagine the n parts in a circle, and take the
--- shorter way from one part of the pair to the other, or the way from i to j if both ways are
--- equally long. The number is n times the length of this way, plus the number of the part at which
--- it begins. So different pairs have different numbers.
+-- The number of the pair of parts i and j, for i ≤ j. Imagine the n parts in a circle. Count the
+-- steps from part to part on the shorter way from one part of the pair to the other, or on the way
+-- from i to j if both ways are equally long. The number is n times the number of these steps, plus
+-- the number of the part at which the way begins. So different pairs have different numbers.
 abbrev pub number_of_pair : (n i j : ℕ) → ℕ
 number_of_pair n i j = if nat_le (2 * (j - i)) n then (j - i) * n + i else (n - (j - i)) * n + j

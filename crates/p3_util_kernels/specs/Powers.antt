@@ -20,7 +20,8 @@ abbrev pub HasLog2 : ℕ → Type 0
 HasLog2 n = IsPowerOfTwo n ⊎ IsTrue (not (n == 0) && bit_and n (n - 1) == 0 || is_power_of_two n)
 
 -- n is a power of three. There are two ways to show this: `IsPowerOfThree`; or a test that compares
--- n with the 41 powers of three that fit a usize, and that the checker evaluates if n is a literal.
+-- n with the 41 powers of three that fit in a usize, and that the checker evaluates if n is a
+-- literal.
 -- Source: new.
 abbrev pub HasLog3 : ℕ → Type 0
 HasLog3 n = IsPowerOfThree n ⊎ IsTrue (any_below 41 (λ e. n == 3 ^ e))

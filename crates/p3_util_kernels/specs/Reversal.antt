@@ -9,9 +9,9 @@ use Rattle.p3_util_kernels.specs.Digits.{rev}
 abbrev pub IsZeroOrPowerOfTwo : ℕ → Type 0
 IsZeroOrPowerOfTwo n = (n ≡ 0) ⊎ IsPowerOfTwo n
 
--- n is 0 or a power of two. There are three ways to show this: `IsZeroOrPowerOfTwo`; a call of
--- std's `is_power_of_two` that returned true; or, if n is a literal, a test that the checker
--- evaluates. The last two ways spare callers a proof.
+-- `IsZeroOrPowerOfTwo n`, which may be shown in one of three ways: by itself; by a call of std's
+-- `is_power_of_two` that returned true; or, if n is a literal, by a test that the checker evaluates.
+-- The last two ways spare callers a proof.
 -- Source: new.
 abbrev pub IsReversible : ℕ → Type 0
 IsReversible n = IsZeroOrPowerOfTwo n ⊎ IsTrue (bit_and n (n - 1) == 0 || is_power_of_two n)

@@ -8,14 +8,14 @@ use Rattle.p3_util_kernels.specs.declared.places.Four.{Four}
 abbrev pub item_at : {A : Type 0} → List (List A) → ℕ → ℕ → Option A
 item_at rows r c = option_and_then (λ row. slice_get row c) (slice_get rows r)
 
--- Both lists are the rows of a block of 4 by 4 items. From `old` to `new`, each item moves to the
--- place for which the lowest bits of its row number and its column number are exchanged
+-- Both lists are the rows of a block of 4 by 4 items. From `old` to `new`, the low bit of the row
+-- number of each item is exchanged with the low bit of its column number
 abbrev pub IsStageOne : {A : Type 0} → List (List A) → List (List A) → Type 0
 IsStageOne old new =
     (P p Q q : ℕ) → P < 2 → p < 2 → Q < 2 → q < 2 → item_at new (2 * P + p) (2 * Q + q) ≡ item_at old (2 * P + q) (2 * Q + p)
 
--- Both lists are the rows of a block of 4 by 4 items. From `old` to `new`, each item moves to the
--- place for which the higher bits of its row number and its column number are exchanged
+-- Both lists are the rows of a block of 4 by 4 items. From `old` to `new`, the high bit of the row
+-- number of each item is exchanged with the high bit of its column number
 abbrev pub IsStageTwo : {A : Type 0} → List (List A) → List (List A) → Type 0
 IsStageTwo old new =
     (P p Q q : ℕ) → P < 2 → p < 2 → Q < 2 → q < 2 → item_at new (2 * P + p) (2 * Q + q) ≡ item_at old (2 * Q + p) (2 * P + q)

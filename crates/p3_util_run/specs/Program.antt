@@ -86,8 +86,8 @@ IsSettled (Err Memory) = ⊥
 IsSettled (Err Write) = ⊥
 IsSettled (Err (BadRows width len)) = ⊤
 
--- A reader had exactly the bytes of `input` left, and now it has none left. `old` and `new` are
--- what it had left before and after, if that is known
+-- A reader had exactly the bytes of `input` left, and now it has none left. `old` and `new` are the
+-- bytes that it had left before and after, or `None` if they are not known
 abbrev pub ReadsAll : Option (List ℕ) → Option (List ℕ) → List ℕ → Type 0
 ReadsAll old new input = Consumes old new input × IsAtEnd new
 

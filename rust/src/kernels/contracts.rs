@@ -95,13 +95,13 @@
 //! | `rev_word bit_len x` | what `reverse_bits_len` returns: `rev bit_len x`. If `bit_len` is 0, it is `rev 64 x` instead, which reverses all 64 bits |
 //! | `IsPowerOfThree n` | n is `3 ^ e` for some e |
 //! | `HasLog2 n` | n is a power of two. There are three ways to show this: std's `IsPowerOfTwo`; a call of std's `is_power_of_two` that returned true; or, if n is a literal, a test that the checker evaluates. The last two ways spare callers a proof |
-//! | `HasLog3 n` | n is a power of three. There are two ways to show this: `IsPowerOfThree`; or a test that compares n with the 41 powers of three that fit a usize, and that the checker evaluates if n is a literal |
+//! | `HasLog3 n` | n is a power of three. There are two ways to show this: `IsPowerOfThree`; or a test that compares n with the 41 powers of three that fit in a usize, and that the checker evaluates if n is a literal |
 //! | `clog n` | the least e with `n ≤ 2 ^ e`. This is the number of powers of two below n |
 //! | `lev r c` | how often a region of r rows and c columns can be halved at its longer side until both sides are at most 128, which is 2 ^ 7: `(clog r - 7) + (clog c - 7)`, where a negative difference counts as 0 |
 //! | `nest r c` | how deep the splits of a region of r rows and c columns nest: `lev r c`, or 0 if one side is at most 2 from the start, because such a region is not split |
 //! | `short_name t` | The text t is cut into pieces after each `<`, `>` and `,`. Of each piece only the part after its last `::` is kept, and a piece without `::` is kept whole. What is kept is joined in order. The search for `::` goes from left to right, so `a:::b` gives `:b` |
 //! | `IsZeroOrPowerOfTwo n` | n is 0 or a power of two |
-//! | `IsReversible n` | n is 0 or a power of two. There are three ways to show this: `IsZeroOrPowerOfTwo`; a call of std's `is_power_of_two` that returned true; or, if n is a literal, a test that the checker evaluates. The last two ways spare callers a proof |
+//! | `IsReversible n` | `IsZeroOrPowerOfTwo n`, which may be shown in one of three ways: by itself; by a call of std's `is_power_of_two` that returned true; or, if n is a literal, by a test that the checker evaluates. The last two ways spare callers a proof |
 //! | `FitsRows len row_width` | `len` items fill whole rows of `row_width` items, and the number of rows is 0 or a power of two |
 //! | `IsRowReversal row_width old new` | The two lists have the same length. If `old` has `2 ^ k` rows of `row_width` items, row r of `new` has the items of row `rev k r` of `old`, in the same order |
 //! | `IsReversal old new` | The two lists have the same length. If `old` has `2 ^ k` items, item i of `new` is item `rev k i` of `old`. This is `IsRowReversal` for rows of one item |
@@ -113,8 +113,8 @@
 //! | `cols_of region` | the number of columns of the region |
 //! | `items_of region` | the number of items of the region |
 //! | `IsRegionTransposed region width height input old new` | `input` has `height` rows of `width` items, and an output changes from `old` to `new`. For each row y and column x of the region, item `x * height + y` of `new` is item `y * width + x` of `input`. Every other item of the output stays as it was |
-//! | `IsStageOne old new` | Both lists are the rows of a block of 4 by 4 items. From `old` to `new`, each item moves to the place for which the lowest bits of its row number and its column number are exchanged |
-//! | `IsStageTwo old new` | Both lists are the rows of a block of 4 by 4 items. From `old` to `new`, each item moves to the place for which the higher bits of its row number and its column number are exchanged |
+//! | `IsStageOne old new` | Both lists are the rows of a block of 4 by 4 items. From `old` to `new`, the low bit of the row number of each item is exchanged with the low bit of its column number |
+//! | `IsStageTwo old new` | Both lists are the rows of a block of 4 by 4 items. From `old` to `new`, the high bit of the row number of each item is exchanged with the high bit of its column number |
 //! | `IsBlockTransposed old new` | Both lists are the rows of a block of 4 by 4 items, and `new` is the transpose of `old` |
 //! | `in_order four` | the items of a `Four` as a list |
 //! | `rows_in_order rows` | the rows of a block of 4 by 4 items, as a list of lists |
@@ -125,7 +125,7 @@
 //! | `long_swaps k` | the number of swaps for reversing `2 ^ k` items on the long path. It reverses the order of chunks, transposes squares, and reverses the order of chunks again. With `h = k / 2` and `c = k - h` this takes `2 * short_swaps h * 2 ^ c + 2 ^ (c - h) * square_swaps (2 ^ h)` swaps |
 //! | `reversal_swaps items` | the number of swaps for reversing `items` items, where `items` is zero or a power of two: `short_swaps (clog items)` up to 8192 items, and `long_swaps (clog items)` beyond |
 //! | `counted c s` | the count c after s more steps. A count stops at the largest u128, so this is `min (2 ^ 128 - 1) (c + s)` |
-//! | `same_holder n a b` | b is the holder a after n exchanges. What that means depends on the holder. If the holder counts, the count of b is n more than the count of a. If it does not count, it ignores n. If it borrows its items, b borrows the same slice as a, so a change to the holder is a change to that slice. For `Cells`: b is the holder a after n puts. The rest is the same as for `Places` |
+//! | `same_holder n a b` | For `Places`: b is the holder a after n exchanges. What that means depends on the holder. If the holder counts, the count of b is n more than the count of a. If it does not count, it ignores n. If it borrows its items, b borrows the same slice as a, so a change to the holder is a change to that slice. For `Cells`: b is the holder a after n puts. The rest is the same as for `Places` |
 //!
 //! # Names for the chunks, the map and `zip_eq`
 //!
@@ -141,12 +141,12 @@
 //! | `padded_steps steps s r t` | A call of `next` in state s may return r and leave state t: r is the next piece, filled to n items, or `None` if there is no further piece. `steps` says the same of the iterator inside |
 //! | `PadsRuns steps fill s` | For every sequence of calls of `next` from state s on, there is one of the iterator inside, and the pieces that were returned are `padded_pieces` of the items that it returned |
 //! | `EndsForGood steps` | after `None`, every further call returns `None` |
-//! | `HasTrueLength steps left s` | The length that an iterator in state s states, which `left` gives, is true now and after any calls: each item lowers it by one, and it is 0 when `None` is returned |
+//! | `HasTrueLength steps left s` | `left` gives the length that an iterator in state s claims to have. This length is true now and after any calls: each item lowers it by one, and it is 0 when `None` is returned |
 //! | `zip_eq_first z` | the first of the two iterators of a `ZipEq` |
 //! | `zip_eq_second z` | the second of the two iterators of a `ZipEq` |
 //! | `zip_eq_steps steps others s r t` | A call of `next` in state s may return r and leave state t. It calls both iterators, and returns a pair if both return an item, and otherwise `None` |
 //! | `PairsRuns steps others z` | For every sequence of calls of `next` on z, there is one of the first iterator and one of the second, and the pairs that were returned are their items, paired in order |
-//! | `AskedRuns steps others z` | The same as `PairsRuns`, except that the two sequences have all calls that `next` made of the iterators |
+//! | `AskedRuns steps others z` | The same as `PairsRuns`, except that the two sequences have all calls of the iterators that `next` made, also those whose item found no partner |
 //! | `zip_eq_left left z` | how many pairs are left at most, if there is a bound: as many as the first iterator has items left, which `left` gives |
 //! | `HasDistinctKeys eq pairs` | no two pairs have keys that are equal by `eq` |
 //! | `value_at eq pairs k` | the value of the pair whose key is equal to k, or `None` if there is no such pair |

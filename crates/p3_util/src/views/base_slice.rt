@@ -29,7 +29,7 @@ impl<'a, Base, const N: usize> Model for BaseSlice<'a, Base, N> {
 
 /// Views the arrays in `buf` as the list of their items, array after array. Nothing is copied.
 ///
-/// The number of items must fit a `usize`, which [`flat_len`](super::flat_len) checks.
+/// The number of items must fit in a `usize`, which [`flat_len`](super::flat_len) checks.
 pub fn as_base_slice<Base, const N: usize>(buf: &[[Base; N]]) -> BaseSlice<'_, Base, N>
     requires { length buf.now * N < 2 ^ 64 }
     ensures items { result ≡ flat buf.now }

@@ -30,7 +30,7 @@ pub type BaseSliceMut<'a, Base, const N: usize> = Flattened<&'a mut [[Base; N]]>
 /// Views the arrays in `buf` as the list of their items, array after array, to exchange or write
 /// them. Nothing is copied.
 ///
-/// The number of items must fit a `usize`, which [`flat_len`](super::flat_len) checks.
+/// The number of items must fit in a `usize`, which [`flat_len`](super::flat_len) checks.
 pub fn as_base_slice_mut<Base, const N: usize>(buf: &mut [[Base; N]]) -> BaseSliceMut<'_, Base, N>
     requires { length buf.old * N < 2 ^ 64 }
     ensures rows { result.rows ≡ buf.entry }

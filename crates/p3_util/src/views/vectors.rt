@@ -13,7 +13,7 @@ use std::{array, mem};
 /// Moves the items of the arrays in `vec` to one vector, array after array. Each item is moved
 /// once.
 ///
-/// The number of items must fit a `usize`, which [`flat_len`](super::flat_len) checks.
+/// The number of items must fit in a `usize`, which [`flat_len`](super::flat_len) checks.
 ///
 /// # Errors
 ///

@@ -21,7 +21,7 @@ fn logarithms(rt: HostRuntime) {
     }
 }
 
-/// The powers of three, of which 41 fit a `usize`, and numbers next to them.
+/// The powers of three, of which 41 fit in a `usize`, and numbers next to them.
 #[test]
 fn powers_of_three(rt: HostRuntime) {
     let mut power = 1usize;

@@ -17,7 +17,7 @@ pub const LOGARITHMS: [(usize, usize, usize); 11] = [
     (usize::MAX, 64, 63),
 ];
 
-/// Exponents, with the power of two if it fits a `usize`.
+/// Exponents, with the power of two if it fits in a `usize`.
 pub const POWERS: [(usize, Option<usize>); 9] = [
     (0, Some(1)),
     (1, Some(2)),
@@ -30,7 +30,7 @@ pub const POWERS: [(usize, Option<usize>); 9] = [
     (usize::MAX, None),
 ];
 
-/// Two exponents, with their sum and its power of two if that fits a `usize`.
+/// Two exponents, with their sum and its power of two if that fits in a `usize`.
 pub const SUMS: [(usize, usize, Option<(usize, usize)>); 12] = [
     (0, 0, Some((0, 1))),
     (5, 0, Some((5, 32))),

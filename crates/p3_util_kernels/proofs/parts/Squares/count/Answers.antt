@@ -1,4 +1,4 @@
--- There are no more blocks than items, so their number fits a usize.
+-- There are no more blocks than items, so their number fits in a usize.
 use Rattle.std.proofs.Common.{arith}
 use Rattle.p3_util_kernels.proofs.BlocksLemmas.{blocks-few}
 use Rattle.p3_util_kernels.proofs.parts.Squares.count.Goals as goal

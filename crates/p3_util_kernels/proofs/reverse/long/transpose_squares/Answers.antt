@@ -6,12 +6,12 @@ use Rattle.p3_util_kernels.proofs.reverse.long.transpose_squares.Goals as goal
 
 -- edit 1
 
--- the exponents add up to at most 63, since the length of the list fits a usize
+-- the exponents add up to at most 63, since the length of the list fits in a usize
 few : (log_stride log_size n : ℕ) → n ≡ 2 ^ (log_size + log_stride) → n < 2 ^ 64 → log_size + log_stride ≤ 63
 few log_stride log_size n whole fits = exponent-lt (log_size + log_stride) 63 (omega arith)
 
 -- The exponents of the side and of the number of squares are below 64, since the length of the list
--- is a power of two that fits a usize.
+-- is a power of two that fits in a usize.
 pub pow2-side-requires : goal.pow2-side-requires
 pow2-side-requires g c = omega (arith, few c.args.log_stride c.args.log_size _ c.requires.whole (omega arith))
 

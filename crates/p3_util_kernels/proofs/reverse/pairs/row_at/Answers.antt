@@ -5,7 +5,7 @@ use Rattle.p3_util_kernels.specs.Digits.{rev}
 use Rattle.p3_util_kernels.proofs.DigitsLemmas.{rev-lt}
 use Rattle.p3_util_kernels.proofs.reverse.pairs.row_at.Goals as goal
 
--- the index of a row, as the code computes it, is below the number of rows, which fits a usize
+-- the index of a row, as the code computes it, is below the number of rows, which fits in a usize
 row_fits : (digits x low high reversed : ℕ) → digits < 64 → low < 2 ^ (digits - digits / 2)
     → high ≡ 2 ^ (digits - digits / 2) → reversed ≡ rev (digits / 2) x
     → (reversed * high + low < 2 ^ digits) × (2 ^ digits ≤ 2 ^ 63)

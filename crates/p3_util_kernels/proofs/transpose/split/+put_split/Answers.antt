@@ -43,7 +43,7 @@ returns-clause-holder g t c =
     g.met.M.Cells.same_holder_trans _ _ _ _ _ _ c.put_split-out.ensures.holder c.put_split-out-2.ensures.holder (omega (arith, c.halves.ensures.cut.items))
 
 -- One split, and then the splits of the half that nests deeper, give the depth of the region. It is
--- at most 57 if the places of the matrix fit a usize.
+-- at most 57 if the places of the matrix fit in a usize.
 pub returns-clause-nested : goal.returns-clause-nested
 returns-clause-nested g t c =
     omega (arith, c.halves.ensures.nested)

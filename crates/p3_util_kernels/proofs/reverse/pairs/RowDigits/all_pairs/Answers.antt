@@ -1,4 +1,4 @@
--- The number of lines that belong to pairs of lines fits a usize.
+-- The number of lines that belong to pairs of lines fits in a usize.
 use Rattle.std.proofs.Common.{◌-◌, ◌/◌, ◌^◌, ◌≤◌, arith}
 use Rattle.std.proofs.Math.Pow.{pow_mono}
 use Rattle.p3_util_kernels.proofs.Lines.{lines_of-inside}
