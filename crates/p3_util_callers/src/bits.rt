@@ -11,8 +11,8 @@ use p3_util::bits::{
     log3_strict_usize, reverse_bits, reverse_bits_len,
 };
 
-/// The least power of two that is at least `len`: a transform pads its input to this length. `None`
-/// if that power is 2^64.
+/// The least power of two that is at least `len`, or `None` if that power is 2^64. A transform pads
+/// its input to this length.
 #[tactic(auto, using(p3_util::proofs::Callers::power_up))]
 pub fn padded_len(len: usize) -> Option<usize>
     ensures none { result ≡ None → (k : ℕ) → k < 64 → 2 ^ k < len }

@@ -35,7 +35,8 @@ pub fn add_blocks<H: FnMut(&[u8]) + Drop>(bytes: &[u8], add: H)
     absorb_blocks(bytes, add);
 }
 
-/// Cuts `xs` into lanes of 4. The last lane is filled with `fill`.
+/// Cuts `xs` into lanes of 4. If 4 does not divide the length, the last lane is filled up with
+/// `fill`.
 pub fn lanes(alloc: Global, xs: &[u32], fill: u32) -> Result<Vec<[u32; 4]>, AllocError>
     ensures { IfOk result (λ v. v.items ≡ padded_pieces 4 fill xs.now) }
 {

@@ -19,8 +19,8 @@ use p3_util::transpose::{
 };
 use std::alloc::{AllocError, Global};
 
-/// Transposes `matrix`, of `height` rows of `width` items, by way of `scratch`, and returns `true`.
-/// If the lengths are not those of such a matrix, returns `false` and changes nothing.
+/// Transposes `matrix`, of `height` rows of `width` items, by way of `scratch`, and returns `true`,
+/// if both have `width * height` items. Otherwise returns `false` and changes nothing.
 pub fn transpose_by_way_of<T: Copy>(
     matrix: &mut [T],
     scratch: &mut [T],

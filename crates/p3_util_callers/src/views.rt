@@ -27,7 +27,8 @@ pub fn reverse_items<T, const N: usize>(rows: &mut [[T; N]])
 }
 
 /// Reverses the items of `rows`, taken as one list, by index bits and returns `true`. If their
-/// number does not fit, returns `false` and changes nothing.
+/// number does not fit in a `usize`, or is neither zero nor a power of two, returns `false` and
+/// changes nothing.
 pub fn reverse_items_where_they_fit<T, const N: usize>(rows: &mut [[T; N]]) -> bool
     ensures done { IsTrue result → IsReversal (flat rows.old) (flat rows.new) }
     ensures left { IsFalse result → rows.new ≡ rows.old }
