@@ -180,7 +180,7 @@ pub fn transpose<'a, T: Copy + Send + Sync>(
     parts: usize,
 ) -> TransposeParts<'a, T> {
     let lengths = [input.len(), output.len()];
-    match unchecked::transpose_in_parts(input, output, width, height, parts) {
+    match unchecked::parts_of_transpose(input, output, width, height, parts) {
         Some(parts) => TransposeParts(parts),
         None => crate::transpose::refuse(lengths[0], lengths[1], width, height),
     }

@@ -2,7 +2,7 @@
 //! transposes squares of items of 4 and of 8 bytes in vector registers. Only this file uses it.
 //!
 //! It is proved that a kernel whose own precondition holds meets the preconditions of `exchange`, `put` and `at`, for
-//! every holder. So the holders here check no index. `reverse`, `reverse_rows`, `transpose`, `transpose_in_parts` and
+//! every holder. So the holders here check no index. `reverse`, `reverse_rows`, `transpose`, `parts_of_transpose` and
 //! `Phases::new` check the kernel's precondition first. `next_phase`, `split_first`, `put` and `exchange` check
 //! nothing. Their preconditions follow from private fields, which are always set together. Comments in these functions
 //! say which field gives which clause. The holders are private to this file, so nothing else can make one. With the
@@ -70,7 +70,7 @@ pub(crate) const TURNS_IN_REGISTERS: bool = false;
 
 /// Some parts of a phase: those that have these numbers. No other `Parts` of the phase has one of these numbers.
 ///
-/// `transpose_in_parts` and `Phases::next_phase` set the fields together: `items` is the list that `phase` was made
+/// `parts_of_transpose` and `Phases::next_phase` set the fields together: `items` is the list that `phase` was made
 /// for, and `numbers` are below the number of parts of `phase`. The fields are private, and `Parts` is not `Clone`, so
 /// this stays true.
 pub(crate) struct Parts<'a, T, P> {
@@ -88,7 +88,7 @@ pub(crate) struct Regions<R> {
 }
 
 /// The parts of [`transpose`], or `None` if one of the lists does not have `width * height` items.
-pub(crate) fn transpose_in_parts<'a, T: Copy>(
+pub(crate) fn parts_of_transpose<'a, T: Copy>(
     source: &'a [T],
     output: &'a mut [T],
     width: usize,
@@ -184,7 +184,7 @@ impl<T: Copy, R> Parts<'_, T, Regions<R>> {
     /// Puts the remaining regions, with their items from `source`.
     fn put_from(mut self, source: impl Source<Item = T> + Copy) {
         // The clause `below` of `TransposePlan::put` holds because `numbers` are below the plan's count. `input_fits`
-        // and `output_fits` hold because `source` and `items` are the lists that `transpose_in_parts` checked for this
+        // and `output_fits` hold because `source` and `items` are the lists that `parts_of_transpose` checked for this
         // plan.
         let Regions { plan, strips, .. } = self.phase;
         self.numbers

@@ -50,7 +50,7 @@ impl Number for usize {
 fn transposes<T: Number>(width: usize, height: usize, parts: usize, threads: usize) {
     let input: Vec<T> = (0..width * height).map(T::of).collect();
     let mut output = std::vec![T::of(0); input.len()];
-    let parts = transpose_in_parts(&input, &mut output, width, height, parts).unwrap();
+    let parts = parts_of_transpose(&input, &mut output, width, height, parts).unwrap();
     run_on(threads, parts, Parts::put);
     let transposed = |place| T::of(place % height * width + place / height);
     assert!(output.into_iter().eq((0..input.len()).map(transposed)));
@@ -115,7 +115,7 @@ fn exchanges_both(len: usize, row_width: usize, number: usize, parts: [(usize, u
 fn overlapping_regions() {
     let input: Vec<u32> = (0..64 * 64).collect();
     let mut output = input.clone();
-    let parts = transpose_in_parts(&input, &mut output, 64, 64, 1).unwrap();
+    let parts = parts_of_transpose(&input, &mut output, 64, 64, 1).unwrap();
     let cuts = [(2, 0), (4, 1)].map(|(count, part)| {
         let plan = TransposePlan::new(64, 64, count, true);
         (Regions { plan, ..parts.phase }, part)

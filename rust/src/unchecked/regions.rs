@@ -45,7 +45,7 @@ fn reads(len: usize, call: impl FnOnce(&[usize], &mut [usize], Noted)) -> Vec<us
 fn each_item_is_read_once() {
     for (width, height, asked) in [(64, 64, 1), (64, 64, 4), (100, 40, 3), (40, 100, 3), (5, 3, 9)] {
         let mut read = reads(width * height, |items, output, source| {
-            let mut parts = transpose_in_parts(items, output, width, height, asked).unwrap();
+            let mut parts = parts_of_transpose(items, output, width, height, asked).unwrap();
             while let Some(part) = parts.split_first() {
                 part.put_from(source);
             }
@@ -62,7 +62,7 @@ fn strips_of_the_parts() {
         Strips::of(Matrix::new(SliceSource::new(&[0; 64 * 64]), 64, 64)),
     ] {
         let by_parts = reads(64 * 64, |items, output, source| {
-            let mut parts = transpose_in_parts(items, output, 64, 64, 1).unwrap();
+            let mut parts = parts_of_transpose(items, output, 64, 64, 1).unwrap();
             parts.phase.strips = strips;
             parts.put_from(source);
         });
@@ -81,7 +81,7 @@ fn strips_of_the_call() {
         let input = std::vec![item; width * height];
         let mut output = input.clone();
         let matrix = Matrix::new(SliceSource::new(&input), width, height);
-        let parts = transpose_in_parts(&input, &mut output, width, height, 4).unwrap();
+        let parts = parts_of_transpose(&input, &mut output, width, height, 4).unwrap();
         assert!(discriminant(&parts.phase.strips) == discriminant(&strips_of(matrix)));
         discriminant(&Strips::of(matrix)) == discriminant(&strips_of(matrix))
     }

@@ -221,7 +221,7 @@ fn is_transposed_in_parts<T: Copy + PartialEq>(width: usize, height: usize, item
     let cuts = 1..=width.max(height).div_ceil(16);
     cuts.into_iter().all(|count| {
         let mut output = std::vec![item(usize::MAX); input.len()];
-        let mut parts = super::transpose_in_parts(&input, &mut output, width, height, count).unwrap();
+        let mut parts = super::parts_of_transpose(&input, &mut output, width, height, count).unwrap();
         while let Some(part) = parts.split_first() {
             part.put();
         }
