@@ -199,8 +199,8 @@ pub const fn assert_sync<T: Sync>() {}
 
 /// Reverses the order of `vals` by index bits.
 ///
-/// With 2^k items, index `i` gets the item from the index that has the k bits of `i` in reversed order. No item is
-/// cloned or dropped. The kernel is that of [`kernels::reverse::reverse_slice_index_bits`], whose contract says this.
+/// With 2^k items, index `i` gets the item from the index that has the k bits of `i` in reversed order. The kernel is
+/// that of [`kernels::reverse::reverse_slice_index_bits`], whose contract says this. No item is cloned or dropped.
 ///
 /// ```
 /// use p3_util_proved::reverse_slice_index_bits;
@@ -235,9 +235,8 @@ fn refuse_items(len: usize) -> ! {
 
 /// Reverses the order of the rows of `vals` by index bits. Each row has `row_width` items.
 ///
-/// With 2^k rows, the row at index `r` comes from the index that has the k bits of `r` in reversed order. No item is
-/// cloned or dropped. The kernel is that of [`kernels::reverse::reverse_slice_row_index_bits`], whose contract says
-/// this.
+/// With 2^k rows, the row at index `r` comes from the index that has the k bits of `r` in reversed order. The kernel is
+/// that of [`kernels::reverse::reverse_slice_row_index_bits`], whose contract says this. No item is cloned or dropped.
 ///
 /// ```
 /// let mut rows = [0, 1, 10, 11, 20, 21, 30, 31];
