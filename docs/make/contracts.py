@@ -14,7 +14,7 @@ KERNELS = "crates/p3_util_kernels/src/"
 MODULES = ["reverse", "transpose", "places", "bits", "laws", "chunks", "views", "linear_map", "zip_eq", "array_serialization"]
 HEAD = """# Contracts
 
-This page lists each public call of `p3_util` with its arguments, its preconditions (`requires`) and its promises
+This page lists each public function of `p3_util` with its arguments, its preconditions (`requires`) and its promises
 (`ensures`), as the sources have them. [CALLING](CALLING.md) explains how to read a clause, and shows each module in use.
 [MODEL](MODEL.md) defines the names that clauses use. The headings are the modules of `p3_util`. What its `lib.rt`
 re-exports is at its root too.
