@@ -12,7 +12,7 @@
 //!
 //! # A contract, word by word
 //!
-//! This call reverses the list of any holder, and counts the swaps:
+//! This call reverses a list by index bits and counts the swaps. It takes any *holder*, which is explained below:
 //!
 //! ```text
 //! pub fn reverse_counted<S: Places>(places: &mut S) -> u128
@@ -31,8 +31,8 @@
 //!   the old list.
 //! - `count` and `bound`: the result is `reversal_swaps` of the length, which is the exact number of swaps. It is at
 //!   most 3n/2 for n items.
-//! - `holder`: the holder made exactly as many exchanges as the call returns. If the holder borrows a slice, it still
-//!   borrows the same slice, so the new list is in that slice.
+//! - `holder`: the holder made exactly as many exchanges as the result says. (A swap is an exchange that is counted.) If
+//!   the holder borrows a slice, it still borrows the same slice, so the new list is in that slice.
 //!
 //! # Marks, and names from Rust and its std
 //!
@@ -82,7 +82,7 @@
 //! | `IsFiniteIterable .. x` | `next` may be called on each iterator that `into_iter` may make of x, and there is a bound on the items of this iterator |
 //! | `YieldsThen .. i xs r j`, `Drains .. i xs` | calls of `next` on i returned the items xs, then a call returned r, and left the iterator as j; the same with `None` as r |
 //! | `WholeRun .. i P` | P holds for a run of calls of `next` on i that ends with a `None`. The items that a run p returned are `p.items` |
-//! | `ShowsInOrder f` | calls of `next` return the items that were left, in order, where f says how an item is read |
+//! | `ShowsInOrder f` | calls of `next` return, in order, the items that were left. f says how to get from a returned value to the item, such as `deref` for a reference |
 //! | `ensures*`, `sem 𝓛 A` | a clause on what lies in memory: A holds for the borrow that the call returns, and for what this borrow leaves when it ends |
 //! | `K.row` | how memory holds a K |
 //!
