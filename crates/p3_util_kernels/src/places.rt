@@ -8,8 +8,8 @@
 //! - A *place* is an index of a list whose items can be exchanged ([`Places`]). A *cell* is an
 //!   index of a list into which items can be put ([`Cells`]). A *source* is a holder of a list that
 //!   can only be read ([`Source`]).
-//! - A *step* is one change of the list: the holder *exchanges* the items at two places, or it
-//!   *puts* one item into a cell.
+//! - A *step* is one exchange or one put: the holder *exchanges* the items at two places, or it
+//!   *puts* one item into a cell. It counts as a step even if the list stays as it is.
 //! - A *counter* is a holder around another holder, and counts the steps of the holder inside.
 //!   [`Swaps`] counts exchanges, and an exchange that it counts is called a *swap*. [`Writes`]
 //!   counts puts, and a put that it counts is called a *write*.

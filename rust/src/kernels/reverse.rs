@@ -8,7 +8,7 @@
 //!
 //! - `rows` reverses the order of rows of any width. It exchanges each pair of rows whose indices
 //!   are each other's reverse. With rows of one item this is the short path. A call for single
-//!   items takes it for at most `SHORT_PATH_ITEMS` items.
+//!   items takes it for at most `SHORT_PATH_ITEMS` items. The long path uses it for its chunks.
 //! - `long` is the long path, which a call for single items takes for more items. It makes more
 //!   swaps, in an order that suits lists that do not fit in a cache.
 //! - `pairs` finds the pairs of rows and exchanges them. Both paths use it.

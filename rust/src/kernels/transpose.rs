@@ -5,9 +5,10 @@
 //! the transpose.
 //!
 //! The transpose of a whole matrix takes one of two paths. A matrix of at most `LARGE_MATRIX` items
-//! is put as one region. A larger one is split into regions first. A call for a region of a matrix
-//! puts that region without a split. This file has the calls on slices, calls that count their
-//! writes, and the choice of the path. The modules below it do the rest:
+//! is put as one region. A larger one is split into regions first, unless it is narrow. The calls
+//! for a region in this file put that region without a split, and those in `split` split it first.
+//! This file has the calls on slices, calls that count their writes, and the choice of the path.
+//! The modules below it do the rest:
 //!
 //! - `regions` defines matrices and regions, and cuts a region in two.
 //! - `split` halves the longer side of a large region, and does the same with each half, until the
