@@ -26,13 +26,13 @@ the kernels that no other crate can call. The page is made by `python3 docs/make
 PARTS = """
 ## What makes parts safe
 
-The unsafe code of the package calls these functions of `p3_util_kernels`, and tests no index. It relies on their preconditions
-and on their promises. The list has each function that `rust/src/unchecked.rs` calls, directly or through `kernels/parts.rs`,
-except for the public functions above.
+The unsafe code of the package calls these functions of `p3_util_kernels`, and tests no index. It relies on their
+preconditions and on their promises. The list has each function that `rust/src/unchecked.rs` calls, directly or through
+`kernels/parts.rs`, except for the public functions above.
 
 The functions of `parts/laws.rt` and of the files below it are theorems: each is there for its contract, and nothing in the
-package calls it. Some of them run parts of a call. They use the same functions for this as the package does, so what they state
-about the indices of the steps holds for the parts of that call."""
+package calls it. Some of them run parts of a call. They use the same functions for this as the package does, so what they
+state about the indices of the steps holds for the parts of that call."""
 CITED = """
 ### Definitions that these clauses use
 

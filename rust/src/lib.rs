@@ -4,9 +4,9 @@
 //! The module [`kernels`] has the proved code. It was proved as Rust with contracts, and its documentation still has
 //! these contracts. The functions next to this module are those of the original. If the original needs a condition,
 //! such as a length that is a power of two, the function here checks that condition and panics if it does not hold.
-//! Otherwise it calls the proved function, to which its documentation links. [`reverse_bits`] and [`reverse_bits_len`]
-//! check their conditions only with debug assertions. A function without a condition is a proved function itself or
-//! calls one. [`kernels::contracts`] says how to read a contract.
+//! Otherwise it calls the proved function to which its documentation links, or runs the kernel of that function on a
+//! slice. [`reverse_bits`] and [`reverse_bits_len`] check their conditions only with debug assertions. A function
+//! without a condition is a proved function itself or calls one. [`kernels::contracts`] says how to read a contract.
 //!
 //! ```
 //! use p3_util_proved::{reverse_slice_index_bits, transpose::transpose};
