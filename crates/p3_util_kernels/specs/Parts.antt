@@ -42,9 +42,10 @@ part_of_matrix width height by_rows len step k =
 abbrev pub pairs_of : ℕ → ℕ
 pairs_of n = n * (n + 1) / 2
 
--- The number of the pair of parts i and j, for i ≤ j. Imagine the n parts in a circle. Count the
--- steps from part to part on the shorter way from one part of the pair to the other, or on the way
--- from i to j if both ways are equally long. The number is n times the number of these steps, plus
--- the number of the part at which the way begins. So different pairs have different numbers.
+-- The number of the pair of parts i and j, for i ≤ j. Imagine the n parts in a circle, in which
+-- each part is followed by the next one, and the last part by part 0. Go only in this direction, and
+-- take the shorter of the ways from i to j and from j to i, or that from i to j if both are equally
+-- long. The number is n times the number of steps on this way, plus the number of the part at which
+-- it begins. So different pairs have different numbers.
 abbrev pub number_of_pair : (n i j : ℕ) → ℕ
 number_of_pair n i j = if nat_le (2 * (j - i)) n then (j - i) * n + i else (n - (j - i)) * n + j

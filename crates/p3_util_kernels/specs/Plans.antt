@@ -67,8 +67,8 @@ abbrev pub call_swaps : (len row_width : ℕ) → ℕ
 call_swaps len row_width = if row_width == 1 then reversal_swaps len else row_swaps len row_width
 
 -- Part `number` of the phase turns `old` into `new`, and `Steps` holds for the number of its
--- exchanges. Depending on the phase, the part reverses all rows, exchanges the pairs of rows of a
--- block, or exchanges a block with its mirror image.
+-- exchanges. Depending on the phase, the part makes the bit reversal of all rows, exchanges the pairs
+-- of rows of a block, or exchanges a block with its mirror image.
 abbrev pub IsPartMade : {A : Type 0} → (phase : Phase) (number : ℕ) (old new : List A) (Steps : ℕ → Type 0) → Type 0
 IsPartMade (Rows rows) number old new Steps =
     IsRowReversal rows.width old new × Steps (call_swaps (length old) rows.width)
@@ -81,8 +81,8 @@ IsPartMade (Blocks squares) number old new Steps =
     (base : ℕ) × (region : Region) × IsBlock squares.cut.len squares.stride squares.cut.step number base region
     × SwapsAcross base squares.stride region old new × Steps (swaps_of_block region)
 
--- All parts of the phase together turn `old` into `new`: all rows are reversed, or each square is
--- transposed
+-- All parts of the phase together turn `old` into `new`: the rows are put into bit-reversed order,
+-- or each square is transposed
 abbrev pub IsPhaseMade : {A : Type 0} → (phase : Phase) (old new : List A) → Type 0
 IsPhaseMade (Rows rows) old new = IsRowReversal rows.width old new
 IsPhaseMade (Pairs pairs) old new = IsRowReversal pairs.rows.width old new
