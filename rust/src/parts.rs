@@ -2,7 +2,8 @@
 //!
 //! A call is cut into parts, each of which may run on any thread. The parts of a transpose may run in any order. A
 //! reversal has phases: the parts of one phase may run in any order, and all parts of that phase have to be done before
-//! the next phase begins. All parts together have the same effect as the call. Nothing is allocated.
+//! the next phase begins. Today a reversal has one phase, or none. All parts together have the same effect as the call.
+//! Nothing is allocated.
 //!
 //! ```
 //! use std::thread::scope;
@@ -38,27 +39,26 @@
 //! With the argument `parts` you ask for a number of parts. The call may be cut into another number. Asking for 0 parts
 //! counts as asking for 1. A transpose has at most as many parts as you ask for.
 //!
-//! A phase of a reversal is cut like a square, by a grid. If you ask for N parts, each side of the square is cut into
-//! at most P = 1 + ⌊2√(N − 1)⌋ pieces, and each block of the grid on or above the diagonal is a part. So a phase has
-//! P(P + 1) / 2 parts: about two for each part that you ask for. It has twice as many if there are two squares, and
+//! A reversal is cut like a square, by a grid. If you ask for N parts, each side of the square is cut into
+//! at most P = 1 + ⌊2√(N − 1)⌋ pieces, and each block of the grid on or above the diagonal is a part. So there are
+//! P(P + 1) / 2 parts: about two for each part that you ask for. There are twice as many if there are two squares, and
 //! fewer if a side is too short for P pieces.
 //!
 //! ```
 //! use p3_util_proved::parts::reversal;
 //!
-//! // The number of items, how many parts are asked for, and how many parts each phase has.
+//! // The number of items, how many parts are asked for, and how many parts there are.
 //! let table = [
-//!     (1 << 20, 16, [36, 36, 36]),
-//!     (1 << 21, 16, [36, 72, 36]),
-//!     (1 << 20, 64, [136, 136, 136]),
-//!     (1 << 20, 256, [136, 528, 136]),
-//!     (1 << 24, 256, [528, 528, 528]),
+//!     (1 << 20, 16, 36),
+//!     (1 << 21, 16, 72),
+//!     (1 << 20, 64, 136),
+//!     (1 << 20, 256, 528),
 //! ];
 //! # if cfg!(not(feature = "checked")) {
 //! for (items, asked, parts) in table {
 //!     let mut list = vec![0u8; items];
 //!     let mut phases = reversal(&mut list, asked);
-//!     assert_eq!(parts.map(|_| phases.next_phase().unwrap().len()), parts);
+//!     assert_eq!(phases.next_phase().unwrap().len(), parts);
 //! }
 //! # }
 //! ```
@@ -69,13 +69,10 @@
 //!
 //! - A transpose is cut along its longer side, at multiples of 16 rows or columns.
 //! - A reversal of up to [`one_part_reversal`] items is one part, since for these lists the call itself is faster. A
-//!   longer reversal, of 2^k items, has three phases. The second phase transposes squares of 2^(k / 2) rows: one square
-//!   if k is even, and two if k is odd. Each square is cut into a grid, at multiples of 16, and a part is one of its
-//!   blocks on or above the diagonal. The first and the third phase reverse the order of 2^(k / 2) runs of items. The
-//!   pairs of runs are cut like a list of 2^(k / 2) items, but at multiples of 2.
-//! - A reversal of longer rows has one phase, whose pairs of rows are cut in the same way. This phase is one part if
-//!   the list has no more items than [`one_part_reversal`] says. It is also one part if there are 4 rows, since these
-//!   have only one pair.
+//!   longer reversal, of 2^k items, is cut like a square of 2^(k / 2) rows and columns, or like two squares if k is odd.
+//!   Each square is cut into a grid, at multiples of 16, and a part is one of its blocks on or above the diagonal.
+//! - A reversal of longer rows is cut in the same way, at any number. It is one part if the list has no more items than
+//!   [`one_part_reversal`] says.
 //! - With the feature `checked` a transpose is cut along its columns, and a reversal is one part.
 //!
 //! # What is not run
@@ -98,7 +95,7 @@
 use core::fmt;
 use core::iter::FusedIterator;
 
-use crate::kernels::parts::Phase;
+use crate::kernels::parts::ReversalPlan;
 use crate::unchecked::{self, Parts, Phases, Regions};
 
 /// A list of more items is cut, whatever the size of its items.
@@ -151,11 +148,11 @@ pub struct ReversalPhases<'a, F>(Phases<'a, F>);
 /// The remaining parts of a phase, as an iterator of known length. As long as one of these parts exists, the next phase
 /// cannot begin.
 #[must_use = "a part that is not run leaves the list neither as it was nor reversed"]
-pub struct ReversalParts<'a, F>(Parts<'a, F, Phase>);
+pub struct ReversalParts<'a, F>(Parts<'a, F, ReversalPlan>);
 
 /// A part of a phase of a reversal. It is `Send` if its items are, and it cannot be cloned.
 #[must_use = "a part that is not run leaves the list neither as it was nor reversed"]
-pub struct ReversalPart<'a, F>(Parts<'a, F, Phase>);
+pub struct ReversalPart<'a, F>(Parts<'a, F, ReversalPlan>);
 
 /// The greatest number of pieces that a side is cut into if the caller asks for `parts` parts. P pieces of a side make
 /// P(P + 1) / 2 blocks. These are about two for each part that the caller asks for, so that threads that take one block

@@ -17,9 +17,9 @@
 
 use core::ops::Range;
 
-use crate::kernels::parts::{Phase, ReversalPlan, TransposePlan};
+use crate::kernels::parts::{ReversalPlan, TransposePlan};
 use crate::kernels::places::Source;
-use crate::kernels::reverse::{self, RowDigits, fits_rows, reverse_index_bits};
+use crate::kernels::reverse::{self, RowDigits, fits_rows, reverse_short};
 use crate::kernels::transpose::{Matrix, Strips, fits_matrix, transpose_matrix};
 use crate::transpose::strips_of;
 
@@ -33,7 +33,7 @@ use slices::{SliceItems as PartItems, SliceItems as SliceCells, SliceItems as Sl
 pub(crate) fn reverse<F>(vals: &mut [F]) -> bool {
     let fits = fits_rows(vals.len(), 1);
     if fits && size_of::<F>() > 0 {
-        let _ = reverse_index_bits(SlicePlaces::new(vals));
+        let _ = reverse_short(SlicePlaces::new(vals));
     }
     fits
 }
@@ -112,44 +112,54 @@ pub(crate) fn parts_of_transpose<'a, T: Copy>(
     })
 }
 
-/// A list whose rows are reversed in phases, and the number of the next phase. `Phases::new` made the plan for this
-/// list, or made a plan without phases.
+/// A list whose rows are reversed in at most one phase, how many phases it has, and how many are done. `Phases::new`
+/// made the plan for this list. A list without phases may have any plan.
 pub(crate) struct Phases<'a, F> {
     vals: &'a mut [F],
     plan: ReversalPlan,
-    next: usize,
+    count: usize,
+    done: usize,
 }
 
 impl<'a, F> Phases<'a, F> {
     /// The phases of [`reverse_rows`], or `None` if that call would return `false`. Each side of a square is cut into
-    /// at most `parts` parts. A list of up to `one_part` items is one part. A list of items without bytes has no phase.
+    /// at most `parts` parts. A list of up to `one_part` items is one part. A list that is empty, or whose items have no
+    /// bytes, has no phase.
     pub(crate) fn new(vals: &'a mut [F], row_width: usize, parts: usize, one_part: usize) -> Option<Self> {
         if !fits_rows(vals.len(), row_width) {
             return None;
         }
         let len = if size_of::<F>() == 0 { 0 } else { vals.len() };
         let plan = ReversalPlan::new(len, row_width, parts, one_part);
-        Some(Phases { vals, plan, next: 0 })
+        let count = usize::from(len > 0);
+        Some(Phases {
+            vals,
+            plan,
+            count,
+            done: 0,
+        })
     }
 
     /// The parts of the next phase, or `None` after the last one.
-    pub(crate) fn next_phase(&mut self) -> Option<Parts<'_, F, Phase>> {
-        let phase = self.plan.phase(self.next)?;
-        self.next += 1;
-        // `plan` was made for the length of `vals`. So by the clause `phases` of `ReversalPlan::new` this phase is one
-        // for a list of that length, which is the clause `list` of `Phase::exchange`. If `plan` was made for 0 items,
-        // it has no phase. The parts borrow `self`, so nobody can ask for the next phase while one of them exists.
+    pub(crate) fn next_phase(&mut self) -> Option<Parts<'_, F, ReversalPlan>> {
+        if self.done == self.count {
+            return None;
+        }
+        self.done += 1;
+        // `plan` was made for the length of `vals`, since the list has a phase. This is the clause `plan` of
+        // `ReversalPlan::exchange`. The parts borrow `self`, so nobody can ask for the next phase while one of them
+        // exists.
         let len = self.vals.len();
         Some(Parts {
             items: PartItems::in_shares(self.vals, len),
-            phase,
-            numbers: 0..phase.count(),
+            phase: self.plan,
+            numbers: 0..self.plan.count(),
         })
     }
 
     /// How many phases are done. No phase is under way when this is called: its parts would still borrow `self`.
     pub(crate) fn done(&self) -> usize {
-        self.next
+        self.done
     }
 }
 
@@ -192,11 +202,11 @@ impl<T: Copy, R> Parts<'_, T, Regions<R>> {
     }
 }
 
-impl<F> Parts<'_, F, Phase> {
+impl<F> Parts<'_, F, ReversalPlan> {
     /// Makes the exchanges of the remaining parts.
     pub(crate) fn exchange(mut self) {
-        // The clause `below` of `Phase::exchange` holds because `numbers` are below the phase's count, and `list`
-        // because `items` is the list that the phase was made for. `len_fits` holds for every slice.
+        // The clause `below` of `ReversalPlan::exchange` holds because `numbers` are below the plan's count, and `plan`
+        // because `items` is the list that the plan was made for. `len_fits` holds for every slice.
         self.numbers
             .for_each(|number| _ = self.phase.exchange(self.items.share(), number));
     }
@@ -205,6 +215,7 @@ impl<F> Parts<'_, F, Phase> {
 /// Holders of slices, which check no index except with debug assertions.
 #[cfg(not(feature = "checked"))]
 mod slices {
+    use core::array::from_fn;
     use core::marker::PhantomData;
     use core::slice::from_raw_parts_mut;
     use core::sync::atomic::{Ordering, compiler_fence};
@@ -266,15 +277,6 @@ mod slices {
         }
 
         #[inline(always)]
-        fn exchange_ordered(&mut self, i: usize, j: usize) {
-            debug_assert!(i < j && j < self.len);
-            // SAFETY: `i < j` by the clause `order` of `Places::exchange_ordered`, and `j` is within the slice by
-            // `second`.
-            let (x, y) = unsafe { (&mut *self.first.add(i), &mut *self.first.add(j)) };
-            core::mem::swap(x, y);
-        }
-
-        #[inline(always)]
         fn exchange_runs(&mut self, i: usize, j: usize, len: usize) {
             let n = self.len;
             debug_assert!(len <= n && i <= n - len && j <= n - len && i.abs_diff(j) >= len);
@@ -284,36 +286,64 @@ mod slices {
             run(i).swap_with_slice(run(j));
         }
 
-        /// Exchanges the blocks by squares, whose side is `vectors::side`. A square of items of 4 or of 8 bytes is
-        /// transposed in registers. For other items, a square is one item.
         #[inline(always)]
-        fn exchange_blocks(&mut self, i: usize, j: usize, stride: usize) {
-            let (n, size) = (self.len, stride.saturating_mul(3).saturating_add(4));
-            debug_assert!(stride >= 4 && size <= n && i <= n - size && j <= n - size && i + size <= j);
+        fn exchange_apart(&mut self, i: usize, j: usize) {
+            debug_assert!(i != j && i < self.len && j < self.len);
+            // SAFETY: the places differ by the clause `apart` of `Places::exchange_apart`, and are within the slice by
+            // `first` and `second`.
+            let (x, y) = unsafe { (&mut *self.first.add(i), &mut *self.first.add(j)) };
+            core::mem::swap(x, y);
+        }
+
+        /// Exchanges the tiles by squares. A square of items of 4 or of 8 bytes has the side `vectors::side`, and is
+        /// transposed in registers. Other items are exchanged one by one, in squares of 4 by 4. The loops over squares
+        /// in registers are apart, because one loop for all items takes longer for items of 8 bytes.
+        #[inline(always)]
+        #[allow(clippy::needless_range_loop, reason = "a tile is reached by row and column")]
+        fn exchange_tiles(&mut self, x: [usize; 8], y: [usize; 8]) {
+            debug_assert!(are_tiles(x, y, self.len));
+            let first = self.first;
             let side = vectors::side::<F>();
-            for row in (0..4).step_by(side) {
-                for col in (0..4).step_by(side) {
-                    let (i, j) = (i + row * stride + col, j + col * stride + row);
-                    // SAFETY: the squares lie in two blocks that are within the slice, by the clause `second` of
-                    // `Places::exchange_blocks`, and do not overlap, by `apart`. The rows of a block do not overlap, by
-                    // `rows`, and a row of a square has 16 bytes: four items of 4 bytes, or two of 8.
-                    match side {
-                        4 => unsafe {
-                            vectors::exchange(self.first.add(i), self.first.add(j), stride, vectors::turned_4)
-                        },
-                        2 => unsafe {
-                            vectors::exchange(self.first.add(i), self.first.add(j), stride, vectors::turned_8)
-                        },
-                        _ => self.exchange_ordered(i, j),
+            if side == 1 {
+                for row in (0..8).step_by(4) {
+                    for col in (0..8).step_by(4) {
+                        for r in row..row + 4 {
+                            for c in col..col + 4 {
+                                self.exchange_apart(x[r] + c, y[c] + r);
+                            }
+                        }
+                    }
+                }
+                return;
+            }
+            for row in (0..8).step_by(side) {
+                for col in (0..8).step_by(side) {
+                    // SAFETY (of both): the rows of the squares lie in rows of the tiles, which are within the slice
+                    // and do not overlap, by the precondition of `Places::exchange_tiles`. A row of a square has 16
+                    // bytes: four items of 4 bytes, or two of 8.
+                    if side == 4 {
+                        unsafe {
+                            let of_x = from_fn(|t| first.add(x[row + t] + col));
+                            let of_y = from_fn(|t| first.add(y[col + t] + row));
+                            vectors::exchange(of_x, of_y, vectors::turned_4);
+                        }
+                    } else {
+                        unsafe {
+                            let of_x = from_fn(|t| first.add(x[row + t] + col));
+                            let of_y = from_fn(|t| first.add(y[col + t] + row));
+                            vectors::exchange(of_x, of_y, vectors::turned_8);
+                        }
                     }
                 }
             }
         }
+    }
 
-        #[inline(always)]
-        fn by_blocks(&self) -> bool {
-            vectors::side::<F>() > 1
-        }
+    /// Whether the rows of two tiles are within `len` places, and no two of them overlap.
+    fn are_tiles(x: [usize; 8], y: [usize; 8], len: usize) -> bool {
+        let starts = || x.into_iter().chain(y);
+        let apart = |(number, start): (usize, usize)| starts().skip(number + 1).all(|other| start.abs_diff(other) >= 8);
+        len >= 8 && starts().all(|start| start <= len - 8) && starts().enumerate().all(apart)
     }
 
     impl<T: Copy> Cells for SliceItems<'_, T> {

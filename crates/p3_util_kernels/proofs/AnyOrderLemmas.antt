@@ -3,7 +3,7 @@
 use Rattle.std.proofs.Common.{◌≡◌, ◌≢◌, ℕ, Bool, true, IsTrue, zero, suc, ◌+◌, ◌*◌, ◌<◌, ◌==◌, if◌then◌else◌, List, [], Some, length, slice_get, inl, inr, refl, sym, ◌∙◌, ap, arith}
 use Rattle.std.proofs.lemmas.Bool.{both_ways, cases_Bool, cases_eq, cases_lt, eq-eqb, ne_eqb}
 use Rattle.std.proofs.lemmas.Option.{get_or_from_slice_get}
-use Rattle.p3_util_kernels.specs.AnyOrder.{IsOrder, order_of, turn_of}
+use Rattle.p3_util_kernels.specs.AnyOrder.{IsOrder, turn_of}
 use Rattle.p3_util_kernels.specs.Digits.{sum_below}
 use Rattle.p3_util_kernels.specs.Mirrored.{Mirrored}
 use Rattle.p3_util_kernels.proofs.DigitsLemmas.{sum_below-same}
@@ -11,11 +11,6 @@ use Rattle.p3_util_kernels.proofs.DigitsLemmas.{sum_below-same}
 -- if no list gives the turns, each part has the turn of its own number
 pub turns-plain : (count : ℕ) → IsOrder count (turn_of [])
 turns-plain count = record { below = λ j less. less; each = λ k less. (k, less, refl); once = λ i j hi hj e. e }
-
-pub orders-plain : (number count : ℕ) → IsOrder count (turn_of (order_of [] [] [] number))
-orders-plain zero count = turns-plain count
-orders-plain (suc zero) count = turns-plain count
-orders-plain (suc (suc _)) count = turns-plain count
 
 -- if a list has at each place j the part `turn j`, and `turn` is its own inverse, the list is an
 -- order of the parts

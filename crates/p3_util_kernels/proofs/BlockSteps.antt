@@ -3,24 +3,21 @@
 use Rattle.std.proofs.Common.{◌≡◌, ℕ, Bool, true, nat_lt, ltb-true, ◌+◌, ◌-◌, ◌*◌, ◌/◌, ◌%◌, ◌^◌, ◌<◌, ◌≤◌, IsTrue, List, length, max, min, inl, inr, refl, arith}
 use Rattle.std.proofs.lemmas.Bool.{cases_eq, eq-eqb, ne_eqb}
 use Rattle.std.proofs.lemmas.Nat.{mul-add-lt, pow-add}
-use Rattle.std.proofs.Math.Nat.{mul-le-mul_right}
-use Rattle.std.specs.Prelude.{⊤}
 use Rattle.p3_util_kernels.specs.declared.transpose.regions.Region.{Region}
 use Rattle.p3_util_kernels.specs.Blocks.{IsBlock, swaps_of_block}
 use Rattle.p3_util_kernels.specs.Crossing.{IsCrossed, row_of}
-use Rattle.p3_util_kernels.specs.Diagonal.{SwapsAcross}
 use Rattle.p3_util_kernels.specs.Digits.{rev}
 use Rattle.p3_util_kernels.specs.Least.{AllDiffer, count_below}
 use Rattle.p3_util_kernels.specs.Mirrored.{Mirrored}
-use Rattle.p3_util_kernels.specs.PartSteps.{IsInBlock, IsPlaceOfBlock, IsPlaceOfPairs, SwapsStay}
+use Rattle.p3_util_kernels.specs.PartSteps.{IsInBlock, IsPlaceOfPairs, SwapsStay}
 use Rattle.p3_util_kernels.specs.Region.{IsInRegion, cols_of, items_of, rows_of}
 use Rattle.p3_util_kernels.specs.SwapCounts.{square_swaps}
-use Rattle.p3_util_kernels.proofs.BlocksLemmas.{block-above, block-cols, block-diagonal, block-rows, block-sides, block-turned, square-same}
+use Rattle.p3_util_kernels.proofs.BlocksLemmas.{block-above, block-cols, block-diagonal, block-rows}
 use Rattle.p3_util_kernels.proofs.Counts.{count-all, count-first, count-times}
 use Rattle.p3_util_kernels.proofs.DigitsLemmas.{rev-lt}
 use Rattle.p3_util_kernels.proofs.Matrix.{row_and_column, same_number}
 use Rattle.p3_util_kernels.proofs.MirrorSteps.{mirrored-stays}
-use Rattle.p3_util_kernels.proofs.OrderedParts.{InPairs, block-exchanged, pairs-exchanged, pairs-item, pairs-same, pairs-turned}
+use Rattle.p3_util_kernels.proofs.OrderedParts.{InPairs, pairs-exchanged, pairs-item, pairs-same, pairs-turned}
 use Rattle.p3_util_kernels.proofs.Pairs.{square_swaps-next}
 use Rattle.p3_util_kernels.proofs.SideBySideLemmas.{in_row}
 
@@ -83,13 +80,7 @@ module _ (side stride step number base : ℕ) (region : Region) (some : 0 < step
             (λ i j hi hj ti tj same_row same_col. same_number i j (cols_of region) (omega arith) (omega arith)))
       ]
 
--- the list has all places of a block
-pub block-inside : (side stride step len number s a b : ℕ) → 0 < step → len ≡ side * stride → IsInBlock side stride step number s a b → s * side + a * stride + b < len
-block-inside side stride step len number s a b some whole h =
-    let sides = block-sides side stride step some number s a b h in
-    let rows : (a + 1) * stride ≤ side * stride = mul-le-mul_right stride (omega arith) in
-    omega (arith, sides, rows, whole)
-
+-- the list has all places of a block of pairs of rows
 pub pairs-inside : (digits width step len number : ℕ) (within : digits / 2 ≤ digits - digits / 2) (some : 0 < step) (m : ℕ × ℕ) (x y : ℕ) → len ≡ width * 2 ^ digits
     → InPairs (digits / 2) (digits - digits / 2) width step within some number m x y → row_of (digits / 2) (digits - digits / 2) m.0 x y * width + m.1 < len
 pairs-inside digits width step len number within some m x y fits h =
@@ -100,20 +91,6 @@ pairs-inside digits width step len number within some m x y fits h =
     let row = mul-add-lt (rev half x) (2 ^ c) (m.0 * 2 ^ half + y) (2 ^ half) (rev-lt half x) (in_row c half within m.0 y own.middle own.low) in
     let below : row_of half c m.0 x y < 2 ^ (half + c) = rw (pow-add 2 half c) (omega (arith, row)) in
     rw fits (mul-add-lt (row_of half c m.0 x y) width m.1 (2 ^ digits) (rw whole at below) h.0)
-
--- a block of squares that lie side by side
-pub block-steps : {A : Type 0} (side stride step number base : ℕ) (region : Region) (old new : List A) → 0 < step
-    → IsBlock side stride step number base region → length old ≡ side * stride → AllDiffer old → SwapsAcross base stride region old new
-    → SwapsStay (IsPlaceOfBlock side stride step number) (swaps_of_block region) old new
-block-steps side stride step number base region old new some block whole differ across =
-    let one : 1 * swaps_of_block region ≡ swaps_of_block region = omega arith in
-    rw one at
-    (part-stays side stride step number base region some block (λ s a b. s * side + a * stride + b) (IsInBlock side stride step number) (λ s t. ⊤)
-    (block-turned side stride step number)
-    (λ s t a b v w h k e. let same = square-same side stride step some number number s t a b v w h k e in (tt, same.1, same.2))
-    1 (λ t. block.square) (λ t a b less h. h) (λ t u ht hu same. omega arith) old new (IsPlaceOfBlock side stride step number)
-    (λ s a b h. (block-inside side stride step (length old) number s a b some whole h, (s, a, b, h, refl)))
-    differ (block-exchanged side stride step some number base region old new block across))
 
 -- a block of pairs of rows
 pub pairs-steps : {A : Type 0} (digits width step number base : ℕ) (region : Region) (old new : List A) → 0 < step

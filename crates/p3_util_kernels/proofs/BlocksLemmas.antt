@@ -1,13 +1,12 @@
 -- Blocks of squares side by side: they meet the preconditions of the kernels for blocks, and no two
 -- of them have a place in common.
-use Rattle.std.proofs.Common.{◌≡◌, ◌≢◌, ℕ, zero, suc, ◌+◌, ◌*◌, ◌/◌, ◌%◌, ◌^◌, ◌<◌, ◌≤◌, List, length, max, min, refl, sym, ◌∙◌, inl, inr, arith}
+use Rattle.std.proofs.Common.{◌≡◌, ◌≢◌, ℕ, zero, suc, ◌+◌, ◌*◌, ◌/◌, ◌%◌, ◌<◌, ◌≤◌, max, min, refl, sym, ◌∙◌, inl, inr, arith}
 use Rattle.std.proofs.lemmas.Bool.{cases_lt}
 use Rattle.std.proofs.lemmas.Nat.{div-add-mod', same_from_place}
 use Rattle.std.proofs.Math.Nat.{div-mul-le_self, mul-le-mul, mul-le-mul_left, mul-le-mul_right}
 use Rattle.p3_util_kernels.specs.declared.transpose.regions.Region.{Region}
 use Rattle.p3_util_kernels.specs.Blocks.{IsBlock, blocks_of}
-use Rattle.p3_util_kernels.specs.Diagonal.{HoldsSquare}
-use Rattle.p3_util_kernels.specs.PartSteps.{IsInBlock, IsPlaceOfBlock, NoPlaceInCommon}
+use Rattle.p3_util_kernels.specs.PartSteps.{IsInBlock}
 use Rattle.p3_util_kernels.specs.Parts.{number_of_pair, pairs_of, parts_in, start_of}
 use Rattle.p3_util_kernels.proofs.CutParts.{pair-alone, pair-below, parts-within, start-below, start-rising}
 use Rattle.p3_util_kernels.proofs.Matrix.{row_and_column}
@@ -91,11 +90,6 @@ module _ (side stride step number base : ℕ) (region : Region) (some : 0 < step
         | inr here ↦ let one : block.row ≡ block.col = omega (arith, block.in_order, here) in absurd (other (rw (block.region_is, one) refl))
       ]
 
-  pub block-ready : {A : Type 0} (items : List A) (last : ℕ) → length items ≡ side * stride → side * stride < 2 ^ 64 → last < side → HoldsSquare base stride last items
-  block-ready items last whole fits below =
-      let rows : suc last * stride ≤ side * stride = mul-le-mul_right stride below in
-      record { room = omega (arith, rows, block.inside, whole); length_fits = omega (arith, whole, fits) }
-
 -- a number is in only one part
 pub part-same : (len step k l v : ℕ) → start_of len step k ≤ v → v < start_of len step (k + 1) → start_of len step l ≤ v → v < start_of len step (l + 1) → k ≡ l
 part-same len step k l v k_from k_to l_from l_to =
@@ -130,25 +124,3 @@ module _ (side stride step : ℕ) where
         let row : block.row ≡ block'.row = part-same side step block.row block'.row (min a b) here.row_from here.row_to there.row_from there.row_to in
         let col : block.col ≡ block'.col = part-same side step block.col block'.col (max a b) here.col_from here.col_to there.col_from there.col_to in
         block.number_is ∙ rw (squares.0, row, col) (sym block'.number_is)
-
-    -- a place determines its square, its row and its column
-    pub square-same : (k l s t a b c d : ℕ) → IsInBlock side stride step k s a b → IsInBlock side stride step l t c d
-        → s * side + a * stride + b ≡ t * side + c * stride + d → (s ≡ t) × (a ≡ c) × (b ≡ d)
-    square-same k l s t a b c d here there e =
-        let in_here = block-sides k s a b here in
-        let in_there = block-sides l t c d there in
-        let rows = same_from_place a (s * side + b) c (t * side + d) stride (omega (arith, in_here)) (omega (arith, in_there)) (omega (arith, e)) in
-        let square = same_from_place s b t d side in_here.2 in_there.2 rows.1 in
-        (square.0, rows.0, square.1)
-
-    pub block-apart : (k l s t a b c d : ℕ) → IsInBlock side stride step k s a b → IsInBlock side stride step l t c d
-        → s * side + a * stride + b ≡ t * side + c * stride + d → k ≡ l
-    block-apart k l s t a b c d here there e =
-        let same = square-same k l s t a b c d here there e in
-        block-same k l s a b here (rw (same.0, same.1, same.2) there)
-
--- two blocks have no place in common
-pub blocks-apart : (side stride step first second : ℕ) → 0 < step → first ≢ second
-    → NoPlaceInCommon (IsPlaceOfBlock side stride step first) (IsPlaceOfBlock side stride step second)
-blocks-apart side stride step first second some other p (s, a, b, here, e) (t, c, d, there, e') =
-    other (block-apart side stride step some first second s t a b c d here there (sym e ∙ e'))

@@ -1,20 +1,17 @@
--- Blocks of a square are exchanged across its diagonal, one after another.
-use Rattle.std.proofs.Common.{◌≡◌, ℕ, ◌+◌, ◌*◌, ◌^◌, ◌<◌, ◌≤◌, ◌-◌, min, max, List, length, inl, inr, arith}
+-- Parts of a square are exchanged across its diagonal, one after another: lemmas for callers.
+use Rattle.std.proofs.Common.{◌≡◌, ℕ, ◌+◌, ◌*◌, ◌^◌, ◌<◌, ◌≤◌, min, max, List, length, arith}
 use Rattle.std.specs.List.{swap}
-use Rattle.std.proofs.lemmas.Bool.{cases_lt}
 use Rattle.std.proofs.lemmas.Nat.{same_from_place}
 use Rattle.std.proofs.lemmas.List.Edits.{length-swap}
 use Rattle.std.proofs.Math.Nat.{mul-le-mul_right}
 use Rattle.std.proofs.Math.Pow.{pow_mono}
 use Rattle.p3_util_kernels.specs.declared.transpose.regions.Region.{Region}
 use Rattle.p3_util_kernels.specs.Diagonal.{SwapsAcross}
-use Rattle.p3_util_kernels.specs.Exchanged.{BlocksExchanged}
 use Rattle.p3_util_kernels.specs.Halves.{IsCut}
 use Rattle.p3_util_kernels.specs.Region.{IsInRegion}
 use Rattle.p3_util_kernels.specs.Square.{IsSquareTransposed}
 use Rattle.p3_util_kernels.proofs.Exchange.{slice_get-swap_first, slice_get-swap_second, slice_get-swap_other}
 use Rattle.p3_util_kernels.proofs.MirroredLemmas.{Mirrored-cut, Mirrored-none}
-use Rattle.p3_util_kernels.proofs.Pairs.{mul-parts_left}
 use Rattle.p3_util_kernels.proofs.RegionLemmas.{IsCut-cols, IsCut-rows}
 
 -- a list that has the last place of a square has every place of it
@@ -27,11 +24,6 @@ module _ (base stride : ℕ) where
   same_pair m n x y v w h k e =
       let same = same_from_place x y v w stride h.1 k.1 (omega arith) in
       (omega (arith, same.0, same.1), omega (arith, same.0, same.1))
-
-  -- the place of row a and column b of the square, as a place of the block that begins at row v and
-  -- column w
-  block_of : (v w a b : ℕ) → v ≤ a → w ≤ b → base + v * stride + w + (a - v) * stride + (b - w) ≡ base + a * stride + b
-  block_of v w a b ha hb = omega (arith, mul-parts_left v (a - v) a stride (omega arith))
 
   module _ {A : Type 0} where
     SwapsAcross-none : (region : Region) (xs : List A) → ((m a b : ℕ) → (a < stride) × (b < stride) → IsInRegion region (max a b) (min a b) → a ≡ b)
@@ -62,30 +54,6 @@ module _ (base stride : ℕ) where
         rw step
         (cut_exchanged (record row { col_end = col + 1 }) _ _ _ _ _ (IsCut-cols (record row { col_end = col + 1 }) col from (omega arith)) before
         (rw (start, end) (SwapsAcross-swap line col ys (omega arith) within (omega arith) room)))
-
-    -- the items of a block of 4 by 4 above the diagonal are exchanged with their mirror images
-    pub SwapsAcross-block : (row col : ℕ) (xs ys : List A) → row + 4 ≤ col → col + 4 ≤ stride
-        → BlocksExchanged 16 (base + row * stride + col) (base + col * stride + row) stride xs ys
-        → SwapsAcross base stride (record { row_start = row; row_end = row + 4; col_start = col; col_end = col + 4 }) xs ys
-    SwapsAcross-block row col xs ys above within s = record {
-      same_length = s.same_length;
-      crossed = λ m a b h.
-          elim (cases_lt a b) [
-            | inl less ↦
-                let upper = block_of row col a b (omega (arith, h.1.row_from)) (omega (arith, h.1.col_from)) in
-                let lower = block_of col row b a (omega (arith, h.1.col_from)) (omega (arith, h.1.row_from)) in
-                rw (← upper, ← lower) (s.first (a - row) (b - col) (omega (arith, h.1.col_to)) (omega (arith, h.1.row_to, h.1.col_to)))
-            | inr more ↦
-                let upper = block_of row col b a (omega (arith, h.1.row_from)) (omega (arith, h.1.col_from)) in
-                let lower = block_of col row a b (omega (arith, h.1.col_from)) (omega (arith, h.1.row_from)) in
-                rw (← upper, ← lower) (s.second (b - row) (a - col) (omega (arith, h.1.col_to)) (omega (arith, h.1.row_to, h.1.col_to)))
-          ];
-      others = λ k out.
-          s.others k (λ r c hc h. (
-            λ e. out 0 (row + r) (col + c) ((omega arith, omega arith), record { row_from = omega arith; row_to = omega arith; col_from = omega arith; col_to = omega arith }) (omega arith),
-            λ e. out 0 (col + c) (row + r) ((omega arith, omega arith), record { row_from = omega arith; row_to = omega arith; col_from = omega arith; col_to = omega arith }) (omega arith),
-          ));
-    }
 
     -- the upper left quadrant, the upper right one with its mirror image, and the lower right one
     -- together make the square

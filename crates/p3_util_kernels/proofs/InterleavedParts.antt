@@ -1,34 +1,29 @@
 -- The parts of a call whose steps are interleaved, for `src/parts/laws/interleaved.rt`.
-use Rattle.std.proofs.Common.{◌≡◌, ◌≢◌, ℕ, zero, suc, ◌+◌, ◌-◌, ◌*◌, ◌/◌, ◌^◌, ◌<◌, if◌then◌else◌, List, [], ◌∷◌, Some, get_or, length, slice_get, refl, sym, ◌∙◌, ap, arith}
+use Rattle.std.proofs.Common.{◌≡◌, ◌≢◌, ℕ, zero, suc, ◌+◌, ◌-◌, ◌*◌, ◌/◌, ◌<◌, if◌then◌else◌, List, [], ◌∷◌, Some, get_or, length, slice_get, refl, sym, ◌∙◌, ap, arith}
 use Rattle.std.specs.Prelude.{All}
 use Rattle.std.proofs.lemmas.List.Elements.{All-head, All-weaker}
 use Rattle.std.proofs.lemmas.Nat.{mul-add-lt}
 use Rattle.std.proofs.lemmas.Option.{none-some, same_Some, slice_get-get_or, slice_get_within}
-use Rattle.p3_util_kernels.specs.declared.parts.reversal.Phase.{Phase}
-use Rattle.p3_util_kernels.specs.declared.parts.reversal.Phase.TheVariants.{Blocks, Pairs, Rows}
 use Rattle.p3_util_kernels.specs.declared.parts.transpose.TransposePlan.{TransposePlan}
 use Rattle.p3_util_kernels.specs.declared.parts.reversal.ReversalPlan.{ReversalPlan}
-use Rattle.p3_util_kernels.specs.declared.parts.reversal.ReversalPlan.TheVariants.{ByPairs, Long, Nothing, OnePart}
+use Rattle.p3_util_kernels.specs.declared.parts.reversal.ReversalPlan.TheVariants.{ByPairs, OnePart}
 use Rattle.p3_util_kernels.specs.declared.transpose.regions.Region.{Region}
 use Rattle.p3_util_kernels.specs.Crossing.{row_of}
-use Rattle.p3_util_kernels.specs.Interleaved.{AreApartBelow, AreMadeInterleaved, IsInterleaved, IsMadeAlone, MakeAlone, PutAlone}
+use Rattle.p3_util_kernels.specs.Interleaved.{AreApartBelow, IsInterleaved, IsMadeAlone, MakeAlone, PutAlone}
 use Rattle.p3_util_kernels.specs.Least.{AllDiffer, after_puts, after_swaps, places_put, places_swapped}
 use Rattle.p3_util_kernels.specs.Mirrored.{Mirrored}
 use Rattle.p3_util_kernels.specs.Parts.{parts_in}
-use Rattle.p3_util_kernels.specs.PartSteps.{IsInBlock, IsPlaceOfPairs, IsPlaceOfRegion, NoItemInCommon, NoPlaceInCommon, SwapsLead}
-use Rattle.p3_util_kernels.specs.Plans.{IsPartMade, IsPhaseMade, IsPhaseOf, IsReversalPlan, parts_of, phases_of, swaps_of_phase}
+use Rattle.p3_util_kernels.specs.PartSteps.{IsPlaceOfPairs, IsPlaceOfRegion, NoItemInCommon, NoPlaceInCommon, SwapsLead}
+use Rattle.p3_util_kernels.specs.Plans.{IsPartMade, IsReversalPlan, parts_of, width_of}
 use Rattle.p3_util_kernels.specs.Region.{LiesInMatrix}
-use Rattle.p3_util_kernels.specs.Reversal.{FitsRows, IsRowReversal}
+use Rattle.p3_util_kernels.specs.Reversal.{IsRowReversal}
 use Rattle.p3_util_kernels.specs.Transpose.{IsTranspose}
 use Rattle.p3_util_kernels.proofs.AnyOrderLemmas.{AnyOf, turns-plain}
-use Rattle.p3_util_kernels.proofs.BlockSteps.{block-inside, block-steps, pairs-inside, pairs-steps}
-use Rattle.p3_util_kernels.proofs.BlocksLemmas.{block-apart}
+use Rattle.p3_util_kernels.proofs.BlockSteps.{pairs-inside, pairs-steps}
 use Rattle.p3_util_kernels.proofs.CutParts.{part-inside, side-cut}
-use Rattle.p3_util_kernels.proofs.InterleavedSteps.{StayIn, after-length, are-apart, of-none, of-part, puts-are, swaps-are, swaps-differ}
-use Rattle.p3_util_kernels.proofs.OrderedParts.{InPairs, block-exchanged, pairs-apart, pairs-exchanged, part-apart}
-use Rattle.p3_util_kernels.proofs.PhasesMade.{half-first, made-all}
-use Rattle.p3_util_kernels.proofs.PlansLemmas.{plan-phases}
-use Rattle.p3_util_kernels.proofs.PlansMade.{AreDone, done-all, done-more}
+use Rattle.p3_util_kernels.proofs.InterleavedSteps.{StayIn, after-length, are-apart, of-none, of-part, puts-are, swaps-are}
+use Rattle.p3_util_kernels.proofs.OrderedParts.{InPairs, pairs-apart, pairs-exchanged, part-apart}
+use Rattle.p3_util_kernels.proofs.PlansMade.{half-first, made-all}
 use Rattle.p3_util_kernels.proofs.PutsMade.{region, regions-all}
 use Rattle.p3_util_kernels.proofs.RegionSteps.{region-stays}
 
@@ -90,23 +85,21 @@ module _ {A M : Type 0} (count : ℕ) (place : M → ℕ → ℕ → ℕ) (part 
   mirrored-interleaved : (old : List A) (lists : List (List (ℕ × ℕ))) (all : List (ℕ × ℕ)) → length lists ≡ count
       → ((k : ℕ) (m : M) (x y : ℕ) → part k m x y → place m x y < length old)
       → ((k : ℕ) (steps : List (ℕ × ℕ)) → slice_get lists k ≡ Some steps → Mirrored place (part k) old (after_swaps old steps) × All (PlaceOf place part k) (places_swapped steps))
-      → AllDiffer old → IsInterleaved lists all → Mirrored place (AnyOf (λ j. j) part count) old (after_swaps old all) × AllDiffer (after_swaps old all)
-  mirrored-interleaved old lists all many inside alone differ is =
+      → IsInterleaved lists all → Mirrored place (AnyOf (λ j. j) part count) old (after_swaps old all)
+  mirrored-interleaved old lists all many inside alone is =
       let below : (k p : ℕ) → PlaceOf place part k p → p < length old = λ k p (m, x, y, at, e). rw e (inside k m x y at) in
       let no_common : (k l : ℕ) → k ≢ l → NoPlaceInCommon (PlaceOf place part k) (PlaceOf place part l) =
       λ k l other p (m, x, y, at, e) (n, v, w, at', e'). other (apart k l m n x y v w at at' (sym e ∙ e')) in
-      let own : StayIn (swaps-are {A = A}) (PlaceOf place part) lists = λ k steps e. (alone k steps e).1 in (
-        record {
-          same_length = after-length swaps-are all old;
-          crossed = λ m x y (k, (j, less, e), at).
-              of-part swaps-are (PlaceOf place part) no_common old below lists own all is k (place m x y) (m, x, y, at, refl)
-              ∙ (alone k (get_or lists k []) (slice_get-get_or lists k [] (omega (arith, less, e, many)))).0.crossed m x y at;
-          others = λ p out.
-              of-none swaps-are (PlaceOf place part) no_common old below lists own all is p
-              (λ k less (m, x, y, at, e). out m x y (k, (k, omega (arith, less, many), refl), at) e);
-        },
-        swaps-differ all lists old (λ k steps e. All-weaker (PlaceOf place part k) (λ p. p < length old) (below k) (places_swapped steps) (own k steps e)) is differ,
-      )
+      let own : StayIn (swaps-are {A = A}) (PlaceOf place part) lists = λ k steps e. (alone k steps e).1 in
+      record {
+        same_length = after-length swaps-are all old;
+        crossed = λ m x y (k, (j, less, e), at).
+            of-part swaps-are (PlaceOf place part) no_common old below lists own all is k (place m x y) (m, x, y, at, refl)
+            ∙ (alone k (get_or lists k []) (slice_get-get_or lists k [] (omega (arith, less, e, many)))).0.crossed m x y at;
+        others = λ p out.
+            of-none swaps-are (PlaceOf place part) no_common old below lists own all is p
+            (λ k less (m, x, y, at, e). out m x y (k, (k, omega (arith, less, many), refl), at) e);
+      }
 
 -- a single list has only one interleaving, the list itself
 only-list : {S : Type 0} (all steps : List S) → IsInterleaved (steps ∷ []) all → all ≡ steps
@@ -120,16 +113,11 @@ one-list [] all one is = absurd (omega (arith, one))
 one-list (steps ∷ []) all one is = ap (λ s. Some s) (sym (only-list all steps is))
 one-list (steps ∷ more ∷ lists) all one is = absurd (omega (arith, one))
 
--- what the next phase of a plan needs from the list, if there is a next phase
-abbrev StillDiffer : {A : Type 0} (phase : Phase) (new : List A) → Type 0
-StillDiffer (Rows rows) new = Unit {0}
-StillDiffer (Pairs pairs) new = AllDiffer new
-StillDiffer (Blocks squares) new = AllDiffer new
-
-pub parts-interleaved : {A : Type 0} (phase : Phase) (old : List A) (lists : List (List (ℕ × ℕ))) (all : List (ℕ × ℕ)) → IsPhaseOf phase (length old)
-    → AllDiffer old → MakeAlone phase old lists → IsInterleaved lists all → IsPhaseMade phase old (after_swaps old all) × StillDiffer phase (after_swaps old all)
-parts-interleaved (Rows rows) old lists all of differ alone is = ((alone.1 0 all (one-list lists all alone.0 is)).0, tt)
-parts-interleaved (Pairs pairs) old lists all of differ alone is =
+-- the interleaved parts of a plan make the reversal
+pub parts-interleaved : {A : Type 0} (plan : ReversalPlan) (old : List A) (lists : List (List (ℕ × ℕ))) (all : List (ℕ × ℕ)) → IsReversalPlan (length old) plan
+    → AllDiffer old → MakeAlone plan old lists → IsInterleaved lists all → IsRowReversal (width_of plan) old (after_swaps old all)
+parts-interleaved (OnePart rows) old lists all of differ alone is = (alone.1 0 all (one-list lists all alone.0 is)).0
+parts-interleaved (ByPairs pairs) old lists all of differ alone is =
     let digits : ℕ = pairs.rows.digits in
     let half : ℕ = digits / 2 in
     let c : ℕ = digits - half in
@@ -138,7 +126,7 @@ parts-interleaved (Pairs pairs) old lists all of differ alone is =
     let some = pairs.squares.cut.some_step in
     let within = half-first digits in
     let place : ℕ × ℕ → ℕ → ℕ → ℕ = λ m x y. row_of half c m.0 x y * width + m.1 in
-    let count : ℕ = parts_of (Pairs pairs) in
+    let count : ℕ = parts_of (ByPairs pairs) in
     let made =
     mirrored-interleaved count place (InPairs half c width step within some) (pairs-apart half c width step within some) old lists all alone.0
     (λ k m x y h. pairs-inside digits width step (length old) k within some m x y of.2 h)
@@ -150,51 +138,11 @@ parts-interleaved (Pairs pairs) old lists all of differ alone is =
       All-weaker (IsPlaceOfPairs digits width step k) (PlaceOf place (InPairs half c width step within some) k) (λ p (m, t, x, y, item, at, g). ((m, t), x, y, (item, at), g))
           (places_swapped steps) (stay steps number refl).inside,
     ))
-    differ is in
-    (made-all (λ j. j) (Pairs pairs) (turns-plain count) old (after_swaps old all) of made.0, made.1)
-parts-interleaved (Blocks squares) old lists all of differ alone is =
-    let cut = squares.cut in
-    let stride : ℕ = squares.stride in
-    let count : ℕ = parts_of (Blocks squares) in
-    let made =
-    mirrored-interleaved {M = ℕ} count (λ s a b. s * cut.len + a * stride + b) (IsInBlock cut.len stride cut.step) (block-apart cut.len stride cut.step cut.some_step) old lists all alone.0
-    (λ k s a b h. block-inside cut.len stride cut.step (length old) k s a b cut.some_step of h)
-    (λ k steps e.
-    let (base, region, block, across, number) = alone.1 k steps e in (
-      block-exchanged cut.len stride cut.step cut.some_step k base region old (after_swaps old steps) block across,
-      (block-steps cut.len stride cut.step k base region old (after_swaps old steps) cut.some_step block of differ across steps number refl).inside,
-    ))
-    differ is in
-    (made-all (λ j. j) (Blocks squares) (turns-plain count) old (after_swaps old all) of made.0, made.1)
+    is in
+    made-all (λ j. j) (ByPairs pairs) (turns-plain count) old (after_swaps old all) of made
 
 -- exchanges that make a part, if it is known that there are some
-pub alone-from : {A : Type 0} (phase : Phase) (k : ℕ) (old new : List A) → IsPartMade phase k old new (λ n. SwapsLead n old new)
-    → (steps : List (ℕ × ℕ)) × (new ≡ after_swaps old steps) × IsMadeAlone phase k old steps
-alone-from (Rows rows) k old new (made, (steps, many, leads)) = (steps, sym leads, rw leads (made, many))
-alone-from (Pairs pairs) k old new (base, part, block, made, (steps, many, leads)) = (steps, sym leads, rw leads (base, part, block, made, many))
-alone-from (Blocks squares) k old new (base, part, block, made, (steps, many, leads)) = (steps, sym leads, rw leads (base, part, block, made, many))
-
--- one more phase of a plan
-next-phase : {A : Type 0} (row_width : ℕ) (plan : ReversalPlan) (n : ℕ) (phase : Phase) (old mid : List A) (lists : List (List (ℕ × ℕ))) (all : List (ℕ × ℕ)) (done : ℕ)
-    → IsReversalPlan (length old) row_width plan → FitsRows (length old) row_width → length old < 2 ^ 64 → slice_get (phases_of plan) n ≡ Some phase
-    → AreDone plan n old mid done → length mid ≡ length old → AllDiffer mid → MakeAlone phase mid lists → IsInterleaved lists all
-    → AreDone plan (n + 1) old (after_swaps mid all) (done + swaps_of_phase phase (length mid)) × (length (after_swaps mid all) ≡ length old) × StillDiffer phase (after_swaps mid all)
-next-phase row_width plan n phase old mid lists all done is fits small at before len differ alone turns =
-    let made = parts-interleaved phase mid lists all (rw len (plan-phases (length old) phase row_width plan is fits small n at)) differ alone turns in
-    (done-more plan n phase old mid (after_swaps mid all) done at before made.0, after-length swaps-are all mid ∙ len, made.1)
-
-pub plan-interleaved : {A : Type 0} (row_width : ℕ) (plan : ReversalPlan) (old new : List A) → FitsRows (length old) row_width
-    → IsReversalPlan (length old) row_width plan → length old < 2 ^ 64 → AllDiffer old → AreMadeInterleaved (phases_of plan) old new → IsRowReversal row_width old new
-plan-interleaved row_width Nothing old new fits is small differ same = (done-all row_width Nothing old new 0 is fits (same, refl)).0
-plan-interleaved row_width (OnePart rows) old new fits is small differ (lists, all, alone, turns, same) =
-    let first = next-phase row_width (OnePart rows) 0 (Rows rows) old old lists all 0 is fits small refl (refl, refl) refl differ alone turns in
-    rw same (done-all row_width (OnePart rows) old (after_swaps old all) _ is fits first.0).0
-plan-interleaved row_width (ByPairs pairs) old new fits is small differ (lists, all, alone, turns, same) =
-    let first = next-phase row_width (ByPairs pairs) 0 (Pairs pairs) old old lists all 0 is fits small refl (refl, refl) refl differ alone turns in
-    rw same (done-all row_width (ByPairs pairs) old (after_swaps old all) _ is fits first.0).0
-plan-interleaved row_width (Long pairs squares) old new fits is small differ (lists, all, alone, turns, (lists', all', alone', turns', (lists'', all'', alone'', turns'', same))) =
-    let plan : ReversalPlan = Long pairs squares in
-    let first = next-phase row_width plan 0 (Pairs pairs) old old lists all 0 is fits small refl (refl, refl) refl differ alone turns in
-    let second = next-phase row_width plan 1 (Blocks squares) old _ lists' all' _ is fits small refl first.0 first.1 first.2 alone' turns' in
-    let third = next-phase row_width plan 2 (Pairs pairs) old _ lists'' all'' _ is fits small refl second.0 second.1 second.2 alone'' turns'' in
-    rw same (done-all row_width plan old _ _ is fits third.0).0
+pub alone-from : {A : Type 0} (plan : ReversalPlan) (k : ℕ) (old new : List A) → IsPartMade plan k old new (λ n. SwapsLead n old new)
+    → (steps : List (ℕ × ℕ)) × (new ≡ after_swaps old steps) × IsMadeAlone plan k old steps
+alone-from (OnePart rows) k old new (made, (steps, many, leads)) = (steps, sym leads, rw leads (made, many))
+alone-from (ByPairs pairs) k old new (base, part, block, made, (steps, many, leads)) = (steps, sym leads, rw leads (base, part, block, made, many))

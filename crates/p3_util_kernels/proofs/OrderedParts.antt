@@ -1,13 +1,12 @@
 -- Regions, blocks of squares and blocks of pairs of rows, made in any order, for
 -- `src/parts/laws/all_parts.rt`.
-use Rattle.std.proofs.Common.{◌≡◌, ℕ, suc, Bool, true, false, if◌then◌else◌, ◌+◌, ◌-◌, ◌*◌, ◌/◌, ◌^◌, ◌<◌, ◌≤◌, max, min, List, length, refl, sym, ap, ◌∙◌, arith}
-use Rattle.std.proofs.lemmas.Nat.{le-div, same_from_place}
+use Rattle.std.proofs.Common.{◌≡◌, ℕ, Bool, true, false, if◌then◌else◌, ◌+◌, ◌-◌, ◌*◌, ◌^◌, ◌<◌, ◌≤◌, max, min, List, length, refl, sym, ap, ◌∙◌, arith}
+use Rattle.std.proofs.lemmas.Nat.{same_from_place}
 use Rattle.std.proofs.Math.Nat.{lt_of_mul-lt-mul_right, mul_comm, mul-le-mul_right}
 use Rattle.p3_util_kernels.specs.declared.transpose.regions.Region.{Region}
 use Rattle.p3_util_kernels.specs.AnyOrder.{IsOrder}
 use Rattle.p3_util_kernels.specs.Blocks.{IsBlock, blocks_of}
 use Rattle.p3_util_kernels.specs.Crossing.{IsCrossed, IsRowItem, row_of}
-use Rattle.p3_util_kernels.specs.Diagonal.{SwapsAcross}
 use Rattle.p3_util_kernels.specs.Digits.{sum_below}
 use Rattle.p3_util_kernels.specs.Mirrored.{Mirrored}
 use Rattle.p3_util_kernels.specs.Parts.{part_of_matrix, parts_in, start_of}
@@ -16,7 +15,7 @@ use Rattle.p3_util_kernels.specs.Region.{IsInRegion, items_of}
 use Rattle.p3_util_kernels.specs.Reversal.{IsRowReversal}
 use Rattle.p3_util_kernels.specs.Transpose.{IsTranspose}
 use Rattle.p3_util_kernels.proofs.AnyOrderLemmas.{AnyOf, IsDone, PutWhere, mirrored-all, put-all, sum_below-steps}
-use Rattle.p3_util_kernels.proofs.BlocksLemmas.{block-alone, block-apart, block-cols, block-same, block-sides, block-turned, part-same}
+use Rattle.p3_util_kernels.proofs.BlocksLemmas.{block-alone, block-cols, block-same, block-sides, block-turned, part-same}
 use Rattle.p3_util_kernels.proofs.CrossingLemmas.{IsRowReversal-crossed, same_item}
 use Rattle.p3_util_kernels.proofs.CutParts.{start-end, start-next}
 use Rattle.p3_util_kernels.proofs.Pairs.{mul-parts_left}
@@ -84,33 +83,6 @@ module _ (width height : ℕ) (len step : ℕ) (some : 0 < step) where
       let all = put-all (parts_in len step) turn is width height input (λ k. IsInRegion (part_of_matrix width height by_rows len step k)) (part-apart by_rows side) (λ x y. (x < width) × (y < height)) old new
       (part-covers by_rows side) (part-within by_rows side) done in
       record { same_length = all.same_length ∙ fits; places = λ x y hx hy. all.places x y (hx, hy) }
-
--- blocks of squares
-module _ (side stride step : ℕ) (some : 0 < step) where
-  -- the exchange of a block, stated with the number of its square
-  pub block-exchanged : {A : Type 0} (k base : ℕ) (region : Region) (old new : List A) → IsBlock side stride step k base region → SwapsAcross base stride region old new
-      → Mirrored {M = ℕ} (λ s a b. s * side + a * stride + b) (IsInBlock side stride step k) old new
-  block-exchanged k base region old new block across = record {
-    same_length = across.same_length;
-    crossed = λ s a b h.
-        let sides = block-sides side stride step some k s a b h in
-        let one = block-alone side stride step k base h.0 region h.1 block h.2 in
-        let at : base ≡ s * side = one.0 ∙ h.3 in
-        rw at at (across.crossed 0 a b ((omega (arith, sides), omega (arith, sides)), rw one.1 h.4));
-    others = λ p out. across.others p (λ m a b h e. out block.square a b (base, region, block, block.base_is, h.1) (rw (← block.base_is) e));
-  }
-
-  pub blocks-exchanged : {A : Type 0} (turn : ℕ → ℕ) → IsOrder (blocks_of side stride step) turn → (old new : List A)
-      → Mirrored {M = ℕ} (λ s a b. s * side + a * stride + b) (AnyOf turn (IsInBlock side stride step) (blocks_of side stride step)) old new
-      → Mirrored {M = ℕ} (λ s a b. s * side + a * stride + b) (λ s a b. (s < stride / side) × (a < side) × (b < side)) old new
-  blocks-exchanged turn is old new done =
-      mirrored-all (blocks_of side stride step) turn is (λ s a b. s * side + a * stride + b) (IsInBlock side stride step) (block-turned side stride step)
-      (block-apart side stride step some) _ old new
-      (λ s a b h. block-covered side stride step s a b some h.0 h.1 h.2)
-      (λ k s a b h.
-      let sides = block-sides side stride step some k s a b h in
-      (le-div (suc s) stride side (omega (arith, sides)) (omega (arith, sides)), sides.1, sides.2))
-      done
 
 -- blocks of pairs of rows
 module _ (half c width step : ℕ) (within : half ≤ c) (some : 0 < step) where

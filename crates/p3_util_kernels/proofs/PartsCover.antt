@@ -7,7 +7,7 @@ use Rattle.p3_util_kernels.specs.declared.transpose.regions.Region.{Region}
 use Rattle.p3_util_kernels.specs.Blocks.{blocks_of}
 use Rattle.p3_util_kernels.specs.Digits.{rev}
 use Rattle.p3_util_kernels.specs.Parts.{number_of_pair, pairs_of, part_of_matrix, parts_in, start_of}
-use Rattle.p3_util_kernels.specs.PartSteps.{IsInBlock, IsPlaceOfBlock, IsPlaceOfPairs, IsPlaceOfRegion, IsPlaceOfSquares, PartsCover}
+use Rattle.p3_util_kernels.specs.PartSteps.{IsInBlock, IsPlaceOfPairs, IsPlaceOfRegion, PartsCover}
 use Rattle.p3_util_kernels.specs.Region.{IsInRegion}
 use Rattle.p3_util_kernels.proofs.CutParts.{pair-below}
 use Rattle.p3_util_kernels.proofs.DigitsLemmas.{rev-lt, rev-rev-below}
@@ -61,11 +61,6 @@ block-covered side stride step s a b some square_below a_below b_below =
         record { row_from = rows.1; row_to = rows.2; col_from = cols.1; col_to = cols.2 },
       ),
     )
-
-pub squares-covered : (side stride step : ℕ) → 0 < step
-    → PartsCover (IsPlaceOfSquares side stride) (blocks_of side stride step) (IsPlaceOfBlock side stride step)
-squares-covered side stride step some p (s, a, b, square_below, a_below, b_below, e) =
-    let (k, below, at) = block-covered side stride step s a b some square_below a_below b_below in (k, below, (s, a, b, at, e))
 
 pub rows-covered : (digits width step : ℕ) → 0 < step
     → PartsCover (λ p. p < width * 2 ^ digits) (blocks_of (2 ^ (digits / 2)) (2 ^ (digits - digits / 2)) step) (IsPlaceOfPairs digits width step)

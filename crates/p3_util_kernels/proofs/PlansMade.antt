@@ -1,115 +1,110 @@
--- The phases of a plan, done one after the other, for `src/parts/laws/all_parts.rt`.
-use Rattle.std.proofs.Common.{◌≡◌, ℕ, zero, suc, ◌+◌, ◌-◌, ◌*◌, ◌/◌, ◌^◌, ◌<◌, ◌≤◌, List, Some, length, slice_get, inl, inr, refl, subst, sym, ap, ◌∙◌, arith}
-use Rattle.std.proofs.lemmas.Option.{slice_get_cases}
-use Rattle.std.proofs.lemmas.Nat.{pow_pos}
-use Rattle.std.proofs.Math.Nat.{mul-pos}
-use Rattle.p3_util_kernels.specs.declared.parts.reversal.Phase.{Phase}
-use Rattle.p3_util_kernels.specs.declared.parts.reversal.Phase.TheVariants.{Blocks, Pairs, Rows}
+-- The parts of a plan for a reversal, made one turn after the other, for `src/parts/laws/all_parts.rt`.
+use Rattle.std.proofs.Common.{◌≡◌, ℕ, ◌+◌, ◌-◌, ◌*◌, ◌/◌, ◌^◌, ◌<◌, ◌≤◌, List, length, inl, inr, refl, sym, ap, ◌∙◌, arith}
+use Rattle.std.proofs.Math.Nat.{mul-div_cancel_left}
+use Rattle.std.proofs.lemmas.Bool.{cases_eq}
 use Rattle.p3_util_kernels.specs.declared.parts.reversal.ReversalPlan.{ReversalPlan}
-use Rattle.p3_util_kernels.specs.declared.parts.reversal.ReversalPlan.TheVariants.{Nothing, OnePart, ByPairs, Long}
-use Rattle.p3_util_kernels.specs.Levels.{clog}
+use Rattle.p3_util_kernels.specs.declared.parts.reversal.ReversalPlan.TheVariants.{ByPairs, OnePart}
+use Rattle.p3_util_kernels.specs.declared.parts.Squares.{Squares}
+use Rattle.p3_util_kernels.specs.AnyOrder.{IsOrder}
+use Rattle.p3_util_kernels.specs.Blocks.{blocks_of}
+use Rattle.p3_util_kernels.specs.Crossing.{row_of}
+use Rattle.p3_util_kernels.specs.Digits.{sum_below}
 use Rattle.p3_util_kernels.specs.Mirrored.{Mirrored}
-use Rattle.p3_util_kernels.specs.Plans.{IsPhaseMade, IsReversalPlan, phases_of, swaps_of_phase, swaps_of_plan}
-use Rattle.p3_util_kernels.specs.Reversal.{FitsRows, IsRowReversal}
-use Rattle.p3_util_kernels.specs.SideBySide.{AreTransposed}
-use Rattle.p3_util_kernels.specs.SwapCounts.{short_swaps}
-use Rattle.p3_util_kernels.proofs.Lengths.{IsDigitsOfRows-from}
-use Rattle.p3_util_kernels.proofs.LongPath.{IsReversal-composed}
-use Rattle.p3_util_kernels.proofs.PlansLemmas.{clog_of_ones}
+use Rattle.p3_util_kernels.specs.Plans.{IsPartMade, IsReversalPlan, parts_of, width_of}
+use Rattle.p3_util_kernels.specs.Reversal.{IsRowReversal}
+use Rattle.p3_util_kernels.specs.SwapCounts.{row_swaps, short_swaps, square_swaps}
+use Rattle.p3_util_kernels.proofs.AnyOrderLemmas.{AnyOf, mirrored-more, mirrored-none, sum_below-next, sum_below-zero, turns-sum}
+use Rattle.p3_util_kernels.proofs.BlockSums.{block-swaps, block_swaps, blocks-sum}
+use Rattle.p3_util_kernels.proofs.LevelsLemmas.{clog_power}
+use Rattle.p3_util_kernels.proofs.SquareCounts.{squares-short}
+use Rattle.p3_util_kernels.proofs.OrderedParts.{InPairs, pairs-apart, pairs-exchanged, pairs-reversed, pairs-turned}
 use Rattle.p3_util_kernels.proofs.SideBySideLemmas.{squares_of}
 
--- the first n phases of a plan are made, with this number of exchanges
-abbrev pub AreDone : {A : Type 0} → (plan : ReversalPlan) (n : ℕ) (old new : List A) (steps : ℕ) → Type 0
-AreDone plan zero old new steps = (new ≡ old) × (steps ≡ 0)
-AreDone {A} plan (suc n) old new steps =
-    (mid : List A) × (done more : ℕ) × AreDone plan n old mid done × (done + more ≡ steps)
-    × ((phase : Phase) → slice_get (phases_of plan) n ≡ Some phase → IsPhaseMade phase mid new × (more ≡ swaps_of_phase phase (length mid)))
+pub half-first : (digits : ℕ) → digits / 2 ≤ digits - digits / 2
+half-first digits = omega arith
 
--- the places of all squares are exchanged
-transposed : {A : Type 0} (half c side stride : ℕ) (old new : List A) → half ≤ c → side ≡ 2 ^ half → stride ≡ 2 ^ c
-    → Mirrored {M = ℕ} (λ s a b. s * side + a * stride + b) (λ s a b. (s < stride / side) × (a < side) × (b < side)) old new
-    → AreTransposed (2 ^ (c - half)) c half old new
-transposed half c side stride old new from side_is stride_is done =
-    let all = rw (side_is, stride_is, squares_of half c from) at done in
-    record {
-      same_length = all.same_length;
-      crossed = λ s a b hs ha hb.
-          let here : a * 2 ^ c + (s * 2 ^ half + b) ≡ s * 2 ^ half + a * 2 ^ c + b = omega arith in
-          let there : b * 2 ^ c + (s * 2 ^ half + a) ≡ s * 2 ^ half + b * 2 ^ c + a = omega arith in
-          rw (here, there) (all.crossed s a b (hs, ha, hb));
-      kept = λ s a b beyond below. absurd (omega (arith, beyond, below));
-    }
+-- the parts of the first n turns are made
+abbrev pub AreMade : {A : Type 0} → (plan : ReversalPlan) (turn : ℕ → ℕ) (n : ℕ) (old new : List A) → Type 0
+AreMade (OnePart rows) turn n old new = (n ≡ 0 → new ≡ old) × (0 < n → IsRowReversal rows.width old new)
+AreMade (ByPairs pairs) turn n old new =
+    let half = pairs.rows.digits / 2 in
+    let c = pairs.rows.digits - half in
+    Mirrored {M = ℕ × ℕ} (λ m x y. row_of half c m.0 x y * pairs.rows.width + m.1)
+    (AnyOf turn (InPairs half c pairs.rows.width pairs.squares.cut.step (half-first pairs.rows.digits) pairs.squares.cut.some_step) n) old new
 
--- a phase that is made keeps the length
-pub made_length : {A : Type 0} (phase : Phase) (old new : List A) → IsPhaseMade phase old new → length new ≡ length old
-made_length (Rows rows) old new made = made.same_length
-made_length (Pairs pairs) old new made = made.same_length
-made_length (Blocks squares) old new made = made.same_length
+-- the number of exchanges for the first n turns
+abbrev swaps_in_turns : (squares : Squares) (turn : ℕ → ℕ) (n : ℕ) → ℕ
+swaps_in_turns squares turn n = sum_below n (λ j. block_swaps squares.cut.len squares.cut.step squares.cut.some_step squares.stride (turn j))
 
--- there are at most three phases
-pub phases-few : (plan : ReversalPlan) → length (phases_of plan) ≤ 3
-phases-few Nothing = omega arith
-phases-few (OnePart rows) = omega arith
-phases-few (ByPairs pairs) = omega arith
-phases-few (Long pairs squares) = omega arith
+abbrev pub swaps_made : (plan : ReversalPlan) (turn : ℕ → ℕ) (n len : ℕ) → ℕ
+swaps_made (OnePart rows) turn n len = n * row_swaps len rows.width
+swaps_made (ByPairs pairs) turn n len = pairs.rows.width * swaps_in_turns pairs.squares turn n
 
--- one more phase
-pub done-more : {A : Type 0} (plan : ReversalPlan) (n : ℕ) (phase : Phase) (old mid new : List A) (done : ℕ) → slice_get (phases_of plan) n ≡ Some phase
-    → AreDone plan n old mid done → IsPhaseMade phase mid new → AreDone plan (n + 1) old new (done + swaps_of_phase phase (length mid))
-done-more plan n phase old mid new done at before made =
-    let next : n + 1 ≡ suc n = omega arith in
-    rw next (
-      mid,
-      done,
-      swaps_of_phase phase (length mid),
-      before,
-      refl,
-      λ other there.
-          let both : Some phase ≡ Some other = sym at ∙ there in
-          let same : phase ≡ other = cc in
-          subst (λ p. IsPhaseMade p mid new × (swaps_of_phase phase (length mid) ≡ swaps_of_phase p (length mid))) same (made, refl),
-    )
+pub made-none : {A : Type 0} (plan : ReversalPlan) (turn : ℕ → ℕ) (xs : List A) → AreMade plan turn 0 xs xs
+made-none (OnePart rows) turn xs = (λ e. refl, λ some. absurd (omega (arith, some)))
+made-none (ByPairs pairs) turn xs = mirrored-none _ turn _ xs
 
--- if there is no phase with number n, all phases are done
-pub done-end : (plan : ReversalPlan) (n : ℕ) → n ≤ length (phases_of plan) → ((phase : Phase) → slice_get (phases_of plan) n ≡ Some phase → ⊥)
-    → n ≡ length (phases_of plan)
-done-end plan n few none =
-    elim (slice_get_cases (phases_of plan) n).1 [ inl (phase, within, at, got) ↦ absurd (none phase at) | inr (past, at) ↦ omega (arith, few, past) ]
+pub swaps-none : (plan : ReversalPlan) (turn : ℕ → ℕ) (len : ℕ) → swaps_made plan turn 0 len ≡ 0
+swaps-none (OnePart rows) turn len = omega arith
+swaps-none (ByPairs pairs) turn len = ap (λ n. pairs.rows.width * n) (sum_below-zero _) ∙ omega arith
 
-pub done-all : {A : Type 0} (row_width : ℕ) (plan : ReversalPlan) (old new : List A) (steps : ℕ) → IsReversalPlan (length old) row_width plan
-    → FitsRows (length old) row_width → AreDone plan (length (phases_of plan)) old new steps
-    → IsRowReversal row_width old new × (steps ≡ swaps_of_plan plan (length old))
-done-all row_width Nothing old new steps is fits (same, none) = (
-  record {
-    same_length = ap length same;
-    places = λ k r j e h inside. absurd (omega (arith, e, is, mul-pos {m = row_width} {n = 2 ^ k} (omega (arith, inside)) (pow_pos k)));
-  },
-  none,
-)
-done-all row_width (OnePart rows) old new steps is fits (mid, done, more, start, sum, phase) =
-    let (made, number) = phase (Rows rows) refl in
-    let total : steps ≡ more = omega (arith, start.1, sum) in
-    (rw (← is.1, ← start.0) made, total ∙ rw start.0 at number)
-done-all row_width (ByPairs pairs) old new steps is fits (mid, done, more, start, sum, phase) =
-    let (made, number) = phase (Pairs pairs) refl in
-    let total : steps ≡ more = omega (arith, start.1, sum) in
-    (rw (← is.1, ← start.0) made, total ∙ number ∙ ap (λ d. pairs.rows.width * short_swaps d) (rw (← is.1) at is.2))
-done-all row_width (Long pairs squares) old new steps is fits
-    (second, done, more, (first, done', more', (mid, done'', more'', start, sum'', phase''), sum', phase'), sum, phase) =
-    let k = clog (length old) in
-    let half = k / 2 in
-    let c = k - half in
-    let (made, number) = phase (Pairs pairs) refl in
-    let (made', number') = phase' (Blocks squares) refl in
-    let (made'', number'') = phase'' (Pairs pairs) refl in
-    let rows = IsDigitsOfRows-from (length old) row_width k (λ e. omega (arith, e, is.0)) fits (clog_of_ones (length old) row_width is.1) in
-    let digits : half + c ≡ k = omega arith in
-    let whole : length old ≡ 2 ^ (half + c) = rw digits (rows.whole ∙ rw is.1 (omega arith)) in
-    let lines = rw (is.2, is.3) at number in
-    let lines'' = rw (is.2, is.3) at number'' in
-    let blocks = rw (is.4, is.5, squares_of half c (omega arith)) at number' in (
-      rw is.1
-          (IsReversal-composed half c (omega arith) (omega arith) old first second new whole (rw (is.2, start.0) at made'')
-          (transposed half c squares.cut.len squares.stride first second (omega arith) is.5 is.4 made') (rw is.2 at made)),
-      omega (arith, start.1, sum, sum', sum'', lines, lines'', blocks),
-    )
+pub made-length : {A : Type 0} (plan : ReversalPlan) (turn : ℕ → ℕ) (n : ℕ) (old new : List A) → AreMade plan turn n old new → length new ≡ length old
+made-length (OnePart rows) turn n old new made =
+    elim (cases_eq n 0) [ inl none ↦ ap length (made.0 none) | inr some ↦ (made.1 (omega (arith, some))).same_length ]
+made-length (ByPairs pairs) turn n old new made = made.same_length
+
+module _ (turn : ℕ → ℕ) where
+  -- one more turn
+  pub made-more : {A : Type 0} (plan : ReversalPlan) → IsOrder (parts_of plan) turn → (n : ℕ) (xs ys zs : List A) (Steps : ℕ → Type 0) → n < parts_of plan
+      → AreMade plan turn n xs ys → IsPartMade plan (turn n) ys zs Steps → AreMade plan turn (n + 1) xs zs
+  made-more (OnePart rows) is n xs ys zs Steps less made next =
+      (λ e. absurd (omega (arith, e)), λ some. rw (made.0 (omega (arith, less))) at next.0)
+  made-more (ByPairs pairs) is n xs ys zs Steps less made (base, region, block, crossed, steps) =
+      let half = pairs.rows.digits / 2 in
+      let c = pairs.rows.digits - half in
+      let width = pairs.rows.width in
+      let step = pairs.squares.cut.step in
+      let some = pairs.squares.cut.some_step in
+      let within = half-first pairs.rows.digits in
+      mirrored-more (blocks_of (2 ^ half) (2 ^ c) step) turn (rw (pairs.side, pairs.stride) at is) _ (InPairs half c width step within some)
+      (pairs-turned half c width step within some) (pairs-apart half c width step within some) n xs ys zs (rw (pairs.side, pairs.stride) at less) made
+      (pairs-exchanged half c width step within some (turn n) base region ys zs (rw (pairs.side, pairs.stride) at block) crossed)
+
+  pub swaps-more : {A : Type 0} (plan : ReversalPlan) (n len : ℕ) (ys zs : List A) (Steps : ℕ → Type 0) → length ys ≡ len
+      → IsPartMade plan (turn n) ys zs Steps → (more : ℕ) × Steps more × (swaps_made plan turn n len + more ≡ swaps_made plan turn (n + 1) len)
+  swaps-more (OnePart rows) n len ys zs Steps same next = (_, rw same at next.1, grind arith)
+  swaps-more (ByPairs pairs) n len ys zs Steps same (base, region, block, crossed, steps) =
+      let cut = pairs.squares.cut in
+      let width = pairs.rows.width in
+      let more : ℕ = block_swaps cut.len cut.step cut.some_step pairs.squares.stride (turn n) in
+      let next = sum_below-next n (λ j. block_swaps cut.len cut.step cut.some_step pairs.squares.stride (turn j)) in
+      (width * more, rw (block-swaps cut.len cut.step cut.some_step pairs.squares.stride (turn n) base region block) at steps, rw next (omega arith))
+
+  -- all turns
+  pub made-all : {A : Type 0} (plan : ReversalPlan) → IsOrder (parts_of plan) turn → (old new : List A) → IsReversalPlan (length old) plan
+      → AreMade plan turn (parts_of plan) old new → IsRowReversal (width_of plan) old new
+  made-all (OnePart rows) is old new of made = made.1 (omega arith)
+  made-all (ByPairs pairs) is old new of made =
+      let half = pairs.rows.digits / 2 in
+      let c = pairs.rows.digits - half in
+      let parts : half + c ≡ pairs.rows.digits = omega arith in
+      pairs-reversed half c pairs.rows.width pairs.squares.cut.step (half-first pairs.rows.digits) pairs.squares.cut.some_step turn
+      (rw (pairs.side, pairs.stride) at is) old new (omega arith) (rw parts of.2) (rw (pairs.side, pairs.stride) at made)
+
+  turns_swaps : (squares : Squares) → IsOrder (blocks_of squares.cut.len squares.stride squares.cut.step) turn
+      → swaps_in_turns squares turn (blocks_of squares.cut.len squares.stride squares.cut.step) ≡ squares.stride / squares.cut.len * square_swaps squares.cut.len
+  turns_swaps squares is =
+      let cut = squares.cut in
+      turns-sum (blocks_of cut.len squares.stride cut.step) turn is (block_swaps cut.len cut.step cut.some_step squares.stride)
+      ∙ blocks-sum cut.len cut.step cut.some_step squares.stride
+
+  -- a plan takes as many exchanges as the reversal that is not cut
+  pub swaps-all : (plan : ReversalPlan) → IsOrder (parts_of plan) turn → (len : ℕ) → IsReversalPlan len plan → swaps_made plan turn (parts_of plan) len ≡ row_swaps len (width_of plan)
+  swaps-all (OnePart rows) is len of = omega arith
+  swaps-all (ByPairs pairs) is len of =
+      let digits = pairs.rows.digits in
+      let width = pairs.rows.width in
+      let all : pairs.squares.stride / pairs.squares.cut.len * square_swaps pairs.squares.cut.len ≡ short_swaps digits =
+      rw (pairs.side, pairs.stride, squares_of (digits / 2) (digits - digits / 2) (half-first digits)) (squares-short digits) in
+      let rows : len / width ≡ 2 ^ digits = ap (λ n. n / width) of.2 ∙ mul-div_cancel_left (2 ^ digits) of.0 in
+      ap (λ n. width * n) (turns_swaps pairs.squares is ∙ all ∙ ap short_swaps (sym (clog_power (len / width) digits rows)))

@@ -3,7 +3,7 @@ use Rattle.std.proofs.Common.{◌≡◌, ℕ, zero, suc, ◌+◌, ◌*◌, ◌/�
 use Rattle.std.proofs.lemmas.Bool.{cases_lt, and_parts}
 use Rattle.std.proofs.Math.Nat.{pow-le-pow_right}
 use Rattle.p3_util_kernels.specs.Digits.{rev, sum_below}
-use Rattle.p3_util_kernels.specs.declared.reverse.pairs.TheConstants.{REVERSED_SIX}
+use Rattle.p3_util_kernels.specs.declared.grid.TheConstants.{REVERSED_SIX}
 use Rattle.p3_util_kernels.specs.declared.bits.TheConstants.{POWERS_OF_THREE, EXPONENTS_OF_THREE}
 use Rattle.p3_util_kernels.proofs.PowersLemmas.{three-apart, three-fits, three-greatest}
 

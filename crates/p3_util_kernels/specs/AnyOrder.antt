@@ -1,7 +1,7 @@
 -- Parts that are run in any order. These definitions serve private contracts: those of the files
 -- below `src/parts/laws`.
 -- Source: new.
-use Rattle.std.specs.Prelude.{ℕ, zero, suc, ◌≡◌, ◌<◌, List, slice_index_or}
+use Rattle.std.specs.Prelude.{ℕ, ◌≡◌, ◌<◌, List, slice_index_or}
 
 -- the number of the part that is run in turn j: item j of the list `order`, or j if the list has no
 -- such item
@@ -14,10 +14,3 @@ pub record IsOrder (count : ℕ) (turn : ℕ → ℕ) : Type 0 where
   pub below : (j : ℕ) → j < count → turn j < count
   pub each : (k : ℕ) → k < count → (j : ℕ) × (j < count) × (turn j ≡ k)
   pub once : (i j : ℕ) → i < count → j < count → turn i ≡ turn j → i ≡ j
-
--- the list with this number: `first` has number 0, `second` has 1, and `third` has every other
--- number
-abbrev pub order_of : (first second third : List ℕ) (number : ℕ) → List ℕ
-order_of first second third zero = first
-order_of first second third (suc zero) = second
-order_of first second third (suc (suc _)) = third

@@ -1,6 +1,6 @@
--- Items of a square exchanged across its diagonal. These definitions serve the private contracts of
--- the square's transpose, and callers that prove such a transpose of their own. Row a and column b
--- of the square are at place `base + a * stride + b`.
+-- Items of a square exchanged across its diagonal. These definitions serve private contracts: those
+-- of callers that prove the transpose of a square of their own. Row a and column b of the square are
+-- at place `base + a * stride + b`.
 -- Source: new.
 use Rattle.std.specs.Prelude.{ℕ, ◌+◌, ◌*◌, ◌^◌, ◌<◌, min, max, List, length}
 use Rattle.p3_util_kernels.specs.declared.transpose.regions.Region.{Region}

@@ -1,7 +1,7 @@
--- Two runs of places exchanged, place by place, and two blocks exchanged with each other's mirror
+-- Two runs of places exchanged, place by place, and two tiles exchanged with each other's mirror
 -- image.
 -- Source: new.
-use Rattle.std.specs.Prelude.{ℕ, ◌≡◌, ◌≢◌, ◌+◌, ◌*◌, ◌<◌, ◌≤◌, ◌⊎◌, List, length, slice_get}
+use Rattle.std.specs.Prelude.{ℕ, ◌≡◌, ◌≢◌, ◌+◌, ◌*◌, ◌<◌, ◌≤◌, ◌⊎◌, List, length, slice_get, slice_index}
 
 -- The `len` items that begin at place i are exchanged, in order, with the `len` items that begin at
 -- place j. All other items stay where they are
@@ -11,12 +11,21 @@ pub record RunsExchanged {A : Type 0} (i j len : ℕ) (old new : List A) : Type 
   pub second : (t : ℕ) → t < len → slice_get new (j + t) ≡ slice_get old (i + t)
   pub others : (p : ℕ) → (p < i) ⊎ (i + len ≤ p) → (p < j) ⊎ (j + len ≤ p) → slice_get new p ≡ slice_get old p
 
--- Two blocks of 4 by 4 items begin at places i and j, and the rows of both begin `stride` places
--- apart. The first n items of the block at i, counted row after row, are exchanged with their
--- mirror images in the block at j: row r and column c of one block with row c and column r of the
--- other. All other items stay where they are.
-pub record BlocksExchanged {A : Type 0} (n i j stride : ℕ) (old new : List A) : Type 0 where
+-- Two tiles have 8 rows each. Row r of the one is the 8 places of a list from entry r of `x` on, and
+-- row r of the other the 8 places from entry r of `y` on. The list has `len` places, which include
+-- all these places, and no two of the 16 rows overlap.
+pub record AreTiles (x y : List ℕ) (len : ℕ) : Type 0 where
+  pub first_inside : (r : ℕ) → r < 8 → slice_index x r + 8 ≤ len
+  pub second_inside : (r : ℕ) → r < 8 → slice_index y r + 8 ≤ len
+  pub first_apart : (a b : ℕ) → a < b → b < 8 → (slice_index x a + 8 ≤ slice_index x b) ⊎ (slice_index x b + 8 ≤ slice_index x a)
+  pub second_apart : (a b : ℕ) → a < b → b < 8 → (slice_index y a + 8 ≤ slice_index y b) ⊎ (slice_index y b + 8 ≤ slice_index y a)
+  pub both_apart : (a b : ℕ) → a < 8 → b < 8 → (slice_index x a + 8 ≤ slice_index y b) ⊎ (slice_index y b + 8 ≤ slice_index x a)
+
+-- The first n items of the tile at `x`, counted row after row, are exchanged with their mirror
+-- images in the tile at `y`: row r and column c of one tile with row c and column r of the other.
+-- All other items stay where they are.
+pub record TilesExchanged {A : Type 0} (n : ℕ) (x y : List ℕ) (old new : List A) : Type 0 where
   pub same_length : length new ≡ length old
-  pub first : (r c : ℕ) → c < 4 → 4 * r + c < n → slice_get new (i + r * stride + c) ≡ slice_get old (j + c * stride + r)
-  pub second : (r c : ℕ) → c < 4 → 4 * r + c < n → slice_get new (j + c * stride + r) ≡ slice_get old (i + r * stride + c)
-  pub others : (p : ℕ) → ((r c : ℕ) → c < 4 → 4 * r + c < n → (p ≢ i + r * stride + c) × (p ≢ j + c * stride + r)) → slice_get new p ≡ slice_get old p
+  pub first : (r c : ℕ) → c < 8 → 8 * r + c < n → slice_get new (slice_index x r + c) ≡ slice_get old (slice_index y c + r)
+  pub second : (r c : ℕ) → c < 8 → 8 * r + c < n → slice_get new (slice_index y c + r) ≡ slice_get old (slice_index x r + c)
+  pub others : (p : ℕ) → ((r c : ℕ) → c < 8 → 8 * r + c < n → (p ≢ slice_index x r + c) × (p ≢ slice_index y c + r)) → slice_get new p ≡ slice_get old p

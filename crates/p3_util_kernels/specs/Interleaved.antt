@@ -2,7 +2,7 @@
 -- serve private contracts: those of `src/parts/laws/interleaved.rt`.
 -- Source: new.
 use Rattle.std.specs.Prelude.{ℕ, Bool, ◌≡◌, ◌≢◌, ◌<◌, List, [], ◌∷◌, All, Contains, Some, flat_map, length, slice_get, slice_set}
-use Rattle.p3_util_kernels.specs.declared.parts.reversal.Phase.{Phase}
+use Rattle.p3_util_kernels.specs.declared.parts.reversal.ReversalPlan.{ReversalPlan}
 use Rattle.p3_util_kernels.specs.Least.{after_puts, after_swaps}
 use Rattle.p3_util_kernels.specs.Parts.{part_of_matrix, parts_in}
 use Rattle.p3_util_kernels.specs.PartSteps.{NoPlaceInCommon}
@@ -47,20 +47,12 @@ PutAlone {A} width height by_rows len step input old lists =
     × ((k : ℕ) (steps : List (ℕ × A)) → slice_get lists k ≡ Some steps → IsPutAlone width height by_rows len step k input old steps)
 
 -- The exchanges `steps`, made on `old` without those of any other part, do what `IsPartMade` says
--- about part k of the phase, and there are as many as it says
-abbrev pub IsMadeAlone : {A : Type 0} (phase : Phase) (k : ℕ) (old : List A) (steps : List (ℕ × ℕ)) → Type 0
-IsMadeAlone phase k old steps = IsPartMade phase k old (after_swaps old steps) (λ n. length steps ≡ n)
+-- about part k of the plan, and there are as many as it says
+abbrev pub IsMadeAlone : {A : Type 0} (plan : ReversalPlan) (k : ℕ) (old : List A) (steps : List (ℕ × ℕ)) → Type 0
+IsMadeAlone plan k old steps = IsPartMade plan k old (after_swaps old steps) (λ n. length steps ≡ n)
 
--- `lists` has one list of exchanges for each part of the phase, and `IsMadeAlone` holds for each of
+-- `lists` has one list of exchanges for each part of the plan, and `IsMadeAlone` holds for each of
 -- them
-abbrev pub MakeAlone : {A : Type 0} (phase : Phase) (old : List A) (lists : List (List (ℕ × ℕ))) → Type 0
-MakeAlone phase old lists =
-    (length lists ≡ parts_of phase) × ((k : ℕ) (steps : List (ℕ × ℕ)) → slice_get lists k ≡ Some steps → IsMadeAlone phase k old steps)
-
--- `AreMadeInterleaved phases old new` says that the phases, run one after the other, turn `old`
--- into `new`. In each phase, the exchanges of its parts are made in some interleaving
-abbrev pub AreMadeInterleaved : {A : Type 0} (phases : List Phase) (old new : List A) → Type 0
-AreMadeInterleaved [] old new = new ≡ old
-AreMadeInterleaved (phase ∷ phases) old new =
-    (lists : List (List (ℕ × ℕ))) × (all : List (ℕ × ℕ)) × MakeAlone phase old lists × IsInterleaved lists all
-    × AreMadeInterleaved phases (after_swaps old all) new
+abbrev pub MakeAlone : {A : Type 0} (plan : ReversalPlan) (old : List A) (lists : List (List (ℕ × ℕ))) → Type 0
+MakeAlone plan old lists =
+    (length lists ≡ parts_of plan) × ((k : ℕ) (steps : List (ℕ × ℕ)) → slice_get lists k ≡ Some steps → IsMadeAlone plan k old steps)

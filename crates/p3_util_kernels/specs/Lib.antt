@@ -5,6 +5,7 @@ pub mod Crossing
 pub mod Diagonal
 pub mod Digits
 pub mod Exchanged
+pub mod Grid
 pub mod Halves
 pub mod Interleaved
 pub mod Least

@@ -60,17 +60,6 @@ abbrev pub IsInBlock : (side stride step number s a b : ℕ) → Type 0
 IsInBlock side stride step number s a b =
     (base : ℕ) × (region : Region) × IsBlock side stride step number base region × (base ≡ s * side) × IsInRegion region (max a b) (min a b)
 
--- p is a place in the block with this number or in its mirror image. The blocks are those that
--- `blocks_of` counts
-abbrev pub IsPlaceOfBlock : (side stride step number p : ℕ) → Type 0
-IsPlaceOfBlock side stride step number p = (s a b : ℕ) × IsInBlock side stride step number s a b × (p ≡ s * side + a * stride + b)
-
--- p is a place in one of the squares of `side` rows that fit side by side into rows of `stride`
--- items
-abbrev pub IsPlaceOfSquares : (side stride p : ℕ) → Type 0
-IsPlaceOfSquares side stride p =
-    (square a b : ℕ) × (square < stride / side) × (a < side) × (b < side) × (p ≡ square * side + a * stride + b)
-
 -- There are `2 ^ digits` rows of `row_width` items. The sides of the squares of pairs are cut into
 -- parts of `step` numbers, and `number` is the number of a block. This block stands for pairs of
 -- rows, in the way that `IsCrossed` describes, and p is a place in one of these rows. A row that

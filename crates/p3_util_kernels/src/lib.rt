@@ -3,6 +3,7 @@
 #![tactic(auto)]
 
 pub mod bits;
+pub(crate) mod grid;
 pub mod laws;
 pub(crate) mod parts;
 pub mod places;

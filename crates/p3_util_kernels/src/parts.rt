@@ -1,21 +1,18 @@
 //! Cuts a call into parts, each of which may run on a thread of its own. No thread is started here.
 //!
 //! - A *plan* says how a call is cut: a [`TransposePlan`] for a transpose, and a [`ReversalPlan`]
-//!   for a reversal.
-//! - A transpose is cut into regions. Each region is a part, and the parts may run in any order.
-//! - A reversal is cut into *phases*: three or one, and none if the list is empty. All parts of a
-//!   phase must be done before the next phase begins, but they may run in any order. A phase is a
-//!   single part, or it has one part for each block of its [`RowPairs`] or of its [`Squares`].
+//!   for a reversal. The parts may run in any order.
+//! - A transpose is cut into regions. Each region is a part.
+//! - A reversal is a single part, or it has one part for each block of its [`RowPairs`].
 //! - A [`Cut`] cuts consecutive numbers, such as the columns of a matrix, into parts.
 //!
 //! The module `laws`, which only the Rattle sources have, states what is proved about the parts:
-//! which places each part changes, that two parts of a phase have no place in common, and that all
+//! which places each part changes, that two parts have no place in common, and that all
 //! parts together have the effect of the call.
 
 ghost use Rattle.std.specs.Prelude.{length, ◌≡◌, ℕ, ◌+◌, ◌-◌, ◌*◌, ◌/◌, ◌%◌, ◌^◌, ◌<◌, ◌≤◌, if◌then◌else◌, max};
 ghost use Rattle.p3_util_kernels.specs.Blocks.{IsBlock, blocks_of, swaps_of_block};
 ghost use Rattle.p3_util_kernels.specs.Crossing.{HoldsRows, IsCrossed};
-ghost use Rattle.p3_util_kernels.specs.Diagonal.{SwapsAcross};
 ghost use Rattle.p3_util_kernels.specs.Parts.{FollowEachOther, IsLeastStep, number_of_pair, pairs_of, part_of_matrix, parts_in, start_of};
 ghost use Rattle.p3_util_kernels.specs.Region.{LiesInMatrix};
 
@@ -24,10 +21,11 @@ mod reversal;
 mod transpose;
 
 use crate::bits::pow2;
+use crate::grid::{exchange_quadrants, exchange_region};
 use crate::places::Places;
-use crate::reverse::{RowDigits, exchange_pairs};
-use crate::transpose::{Matrix, Region, Square, exchange_region, transpose_diagonal};
-pub(crate) use reversal::{Phase, ReversalPlan};
+use crate::reverse::RowDigits;
+use crate::transpose::{Matrix, Region};
+pub(crate) use reversal::ReversalPlan;
 pub(crate) use transpose::TransposePlan;
 
 /// The numbers below `len`, cut into parts of `step` consecutive numbers. The last part may have
@@ -158,75 +156,50 @@ impl Squares {
         self.stride / self.cut.len * self.cut.pairs()
     }
 
-    /// Block `number`: its square, and its rows and columns in that square.
-    pub(crate) fn block(self, number: usize) -> (Square, Region)
+    /// Block `number`: the number of its square, and its rows and columns in that square.
+    pub(crate) fn block(self, number: usize) -> (usize, Region)
         requires { number < blocks_of self.cut.len self.stride self.cut.step }
-        ensures stride { result.0.stride ≡ self.stride }
-        ensures block { IsBlock self.cut.len self.stride self.cut.step number
-            result.0.base result.1 }
+        ensures { IsBlock self.cut.len self.stride self.cut.step number
+            (result.0 * self.cut.len) result.1 }
     {
         let pairs = self.cut.pairs();
         let (first, second) = self.cut.pair(number % pairs);
         let (row_start, row_end) = self.cut.part(first);
         let (col_start, col_end) = self.cut.part(second);
-        let square = Square {
-            base: number / pairs * self.cut.len,
-            stride: self.stride,
-        };
         let region = Region {
             row_start,
             row_end,
             col_start,
             col_end,
         };
-        (square, region)
-    }
-
-    /// Exchanges block `number` with its mirror image across the diagonal of its square. For a
-    /// block on the diagonal, this is a transpose.
-    pub(crate) fn exchange<M: Places>(self, m: M, number: usize) -> M
-        requires below { number < blocks_of self.cut.len self.stride self.cut.step }
-        requires whole { length (M.items m) ≡ self.cut.len * self.stride }
-        ensures block { (base : ℕ) × (region : Region)
-            × IsBlock self.cut.len self.stride self.cut.step number base region
-            × SwapsAcross base self.stride region (M.items m) (M.items result)
-            × M.same_holder (swaps_of_block region) m result }
-    {
-        let (square, region) = self.block(number);
-        if region.row_start == region.col_start {
-            transpose_diagonal(m, square, region.row_start, region.rows())
-        } else {
-            exchange_region(m, square, region)
-        }
+        (number / pairs, region)
     }
 }
 
-/// The pairs of rows that the reversal of `rows` exchanges. The module `reverse::pairs` names a
-/// pair by a middle digit and by two numbers `x < y`. Here `x` is seen as a row and `y` as a column
-/// of a square, and there is one square for each middle digit. So the pairs are cut in the same way
-/// as squares of items.
+/// The pairs of rows that the reversal of `rows` exchanges. Each is a place of a grid, which
+/// [`RowDigits::grid`] gives, and its mirror image. So the pairs are cut in the same way as squares
+/// of items.
 #[derive(Clone, Copy)]
 pub(crate) struct RowPairs {
     rows: RowDigits,
     squares: Squares,
     pub ghost side: { squares.cut.len ≡ 2 ^ (rows.digits / 2) },
     pub ghost stride: { squares.stride ≡ 2 ^ (rows.digits - rows.digits / 2) },
-    pub ghost even: { (k : ℕ) → k < parts_in squares.cut.len squares.cut.step
-        → start_of squares.cut.len squares.cut.step k % 2 ≡ 0 },
 }
 
 impl RowPairs {
-    /// The pairs of `rows`. Each side of a square is cut into at most `parts` parts, at even
-    /// numbers. A `parts` of 0 counts as 1.
-    pub(crate) fn new(rows: RowDigits, parts: usize) -> RowPairs
-        requires { rows.digits < 64 }
+    /// The pairs of `rows`. Each side of a square is cut into at most `parts` parts, at multiples
+    /// of `unit`. A `parts` of 0 counts as 1.
+    pub(crate) fn new(rows: RowDigits, parts: usize, unit: usize) -> RowPairs
+        requires unit { 0 < unit }
+        requires digits { rows.digits < 64 }
         ensures rows { result.rows ≡ rows }
         ensures few { parts_in result.squares.cut.len result.squares.cut.step ≤ max parts 1 }
-        ensures least { IsLeastStep parts 2 result.squares.cut.len result.squares.cut.step }
+        ensures least { IsLeastStep parts unit result.squares.cut.len result.squares.cut.step }
     {
         RowPairs {
             rows,
-            squares: Squares::new(rows.digits, parts, 2),
+            squares: Squares::new(rows.digits, parts, unit),
         }
     }
 
@@ -245,11 +218,11 @@ impl RowPairs {
             × M.same_holder (self.rows.width * swaps_of_block region) m result }
     {
         let (square, region) = self.squares.block(number);
-        // One or two rows have no pair to exchange.
-        if self.rows.digits < 2 {
-            return m;
+        let grid = self.rows.grid(square);
+        if region.row_start == region.col_start {
+            exchange_quadrants(m, grid, region.row_start, region.rows())
+        } else {
+            exchange_region(m, grid, region)
         }
-        let lines = region.with_cols(square.base + region.col_start, square.base + region.col_end);
-        exchange_pairs(m, self.rows, lines)
     }
 }

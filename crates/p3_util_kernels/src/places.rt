@@ -26,7 +26,7 @@
 //! given a counter. It runs its kernel on a counter that continues from the given count.
 
 ghost use Rattle.std.specs.Prelude.{◌≡◌, ℕ, ◌+◌, ◌-◌, ◌*◌, ◌<◌, ◌≤◌, ◌⊎◌, List, Some, length, swap, slice_get, slice_set};
-ghost use Rattle.p3_util_kernels.specs.Exchanged.{BlocksExchanged, RunsExchanged};
+ghost use Rattle.p3_util_kernels.specs.Exchanged.{AreTiles, RunsExchanged, TilesExchanged};
 ghost use Rattle.p3_util_kernels.specs.Stages.{IsBlockTransposed, in_order, rows_in_order};
 
 mod counters;
@@ -67,16 +67,36 @@ pub trait Places {
         ensures exchanged { items self.new ≡ swap (items self.old) i j }
         ensures holder { same_holder 1 self.old self.new };
 
-    /// Does the same as `exchange`, for `i < j`. A holder need not check here whether the two
-    /// places are the same.
+    /// Does the same as `exchange`, for two different places. A holder need not check here whether
+    /// the two places are the same.
     #[inline(always)]
-    fn exchange_ordered(&mut self, i: usize, j: usize)
-        requires order { i < j }
+    fn exchange_apart(&mut self, i: usize, j: usize)
+        requires apart { (i < j) ⊎ (j < i) }
+        requires first { i < length (items self.old) }
         requires second { j < length (items self.old) }
         ensures exchanged { items self.new ≡ swap (items self.old) i j }
         ensures holder { same_holder 1 self.old self.new }
     {
         self.exchange(i, j);
+    }
+
+    /// Exchanges two tiles of 8 by 8 items, each with the mirror image of the other: the item in
+    /// row r and column c of a tile goes to row c and column r of the other tile. Row r of the one
+    /// tile is the 8 places from `x[r]` on, and row r of the other the 8 places from `y[r]` on. No
+    /// two of these 16 rows may overlap. A holder may have a faster way to do this than 64 calls of
+    /// `exchange`.
+    #[inline(always)]
+    fn exchange_tiles(&mut self, x: [usize; 8], y: [usize; 8])
+        requires { AreTiles x y (length (items self.old)) }
+        ensures exchanged { TilesExchanged 64 x y (items self.old) (items self.new) }
+        ensures holder { same_holder 64 self.old self.new }
+    {
+        length_fits(self.len());
+        for r in 0..8 {
+            for c in 0..8 {
+                self.exchange_apart(x[r] + c, y[c] + r);
+            }
+        }
     }
 
     /// Exchanges two runs of `len` consecutive items: those from place `i` on and those from place
@@ -94,33 +114,6 @@ pub trait Places {
         for t in 0..len {
             self.exchange(i + t, j + t);
         }
-    }
-
-    /// Exchanges two blocks of 4 by 4 items, each with the mirror image of the other: the item in
-    /// row r and column c of a block goes to row c and column r of the other block. The blocks
-    /// begin at places `i` and `j`, and the rows of each block begin `stride` places apart. The
-    /// block at `i` must end before the block at `j` begins. A kernel calls this only if `by_blocks`
-    /// returns true.
-    #[inline(always)]
-    fn exchange_blocks(&mut self, i: usize, j: usize, stride: usize)
-        requires rows { 4 ≤ stride }
-        requires apart { i + 3 * stride + 4 ≤ j }
-        requires second { j + 3 * stride + 4 ≤ length (items self.old) }
-        ensures exchanged { BlocksExchanged 16 i j stride (items self.old) (items self.new) }
-        ensures holder { same_holder 16 self.old self.new }
-    {
-        length_fits(self.len());
-        for r in 0..4 {
-            for c in 0..4 {
-                self.exchange_ordered(i + r * stride + c, j + c * stride + r);
-            }
-        }
-    }
-
-    /// Whether `exchange_blocks` is faster than exchanging the same items row after row.
-    #[inline(always)]
-    fn by_blocks(&self) -> bool {
-        false
     }
 
     ghost same_holder_refl: { (a : Self) → same_holder 0 a a };

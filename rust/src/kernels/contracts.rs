@@ -106,7 +106,8 @@
 //! | `IsRowReversal row_width old new` | The two lists have the same length. If `old` has `2 ^ k` rows of `row_width` items, row r of `new` has the items of row `rev k r` of `old`, in the same order |
 //! | `IsReversal old new` | The two lists have the same length. If `old` has `2 ^ k` items, item i of `new` is item `rev k i` of `old`. This is `IsRowReversal` for rows of one item |
 //! | `RunsExchanged i j len old new` | The `len` items that begin at place i are exchanged, in order, with the `len` items that begin at place j. All other items stay where they are |
-//! | `BlocksExchanged n i j stride old new` | Two blocks of 4 by 4 items begin at places i and j, and the rows of both begin `stride` places apart. The first n items of the block at i, counted row after row, are exchanged with their mirror images in the block at j: row r and column c of one block with row c and column r of the other. All other items stay where they are |
+//! | `AreTiles x y len` | Two tiles have 8 rows each. Row r of the one is the 8 places of a list from entry r of `x` on, and row r of the other the 8 places from entry r of `y` on. The list has `len` places, which include all these places, and no two of the 16 rows overlap |
+//! | `TilesExchanged n x y old new` | The first n items of the tile at `x`, counted row after row, are exchanged with their mirror images in the tile at `y`: row r and column c of one tile with row c and column r of the other. All other items stay where they are |
 //! | `IsTranspose width height old new` | `old` has `height` rows of `width` items. `new` is its transpose, which has `width` rows of `height` items: item `x * height + y` of `new` is item `y * width + x` of `old`, for x < width and y < height |
 //! | `LiesInMatrix region width height` | The region lies in a matrix of `height` rows of `width` items. Neither its rows nor its columns end before they begin |
 //! | `rows_of region` | the number of rows of the region |

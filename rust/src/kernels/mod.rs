@@ -1,6 +1,7 @@
 // rust/erase writes this folder from the proved sources in crates/. Make changes there.
 
 pub mod bits;
+pub(crate) mod grid;
 pub(crate) mod parts;
 pub mod places;
 pub mod reverse;

@@ -73,22 +73,48 @@ pub trait Places {
     /// ```
     fn exchange(&mut self, i: usize, j: usize);
 
-    /// Does the same as `exchange`, for `i < j`. A holder need not check here whether the two
-    /// places are the same.
+    /// Does the same as `exchange`, for two different places. A holder need not check here whether
+    /// the two places are the same.
     ///
     /// # Contract
     ///
     /// [`contracts`](crate::kernels::contracts) explains the names in this contract:
     ///
     /// ```text
-    /// requires order { i < j }
+    /// requires apart { (i < j) ⊎ (j < i) }
+    /// requires first { i < length (items self.old) }
     /// requires second { j < length (items self.old) }
     /// ensures exchanged { items self.new ≡ swap (items self.old) i j }
     /// ensures holder { same_holder 1 self.old self.new }
     /// ```
     #[inline(always)]
-    fn exchange_ordered(&mut self, i: usize, j: usize) {
+    fn exchange_apart(&mut self, i: usize, j: usize) {
         self.exchange(i, j);
+    }
+
+    /// Exchanges two tiles of 8 by 8 items, each with the mirror image of the other: the item in
+    /// row r and column c of a tile goes to row c and column r of the other tile. Row r of the one
+    /// tile is the 8 places from `x[r]` on, and row r of the other the 8 places from `y[r]` on. No
+    /// two of these 16 rows may overlap. A holder may have a faster way to do this than 64 calls of
+    /// `exchange`.
+    ///
+    /// # Contract
+    ///
+    /// [`contracts`](crate::kernels::contracts) explains the names in this contract:
+    ///
+    /// ```text
+    /// requires { AreTiles x y (length (items self.old)) }
+    /// ensures exchanged { TilesExchanged 64 x y (items self.old) (items self.new) }
+    /// ensures holder { same_holder 64 self.old self.new }
+    /// ```
+    #[inline(always)]
+    fn exchange_tiles(&mut self, x: [usize; 8], y: [usize; 8]) {
+        length_fits(self.len());
+        for r in 0..8 {
+            for c in 0..8 {
+                self.exchange_apart(x[r] + c, y[c] + r);
+            }
+        }
     }
 
     /// Exchanges two runs of `len` consecutive items: those from place `i` on and those from place
@@ -112,39 +138,6 @@ pub trait Places {
         for t in 0..len {
             self.exchange(i + t, j + t);
         }
-    }
-
-    /// Exchanges two blocks of 4 by 4 items, each with the mirror image of the other: the item in
-    /// row r and column c of a block goes to row c and column r of the other block. The blocks
-    /// begin at places `i` and `j`, and the rows of each block begin `stride` places apart. The
-    /// block at `i` must end before the block at `j` begins. A kernel calls this only if `by_blocks`
-    /// returns true.
-    ///
-    /// # Contract
-    ///
-    /// [`contracts`](crate::kernels::contracts) explains the names in this contract:
-    ///
-    /// ```text
-    /// requires rows { 4 ≤ stride }
-    /// requires apart { i + 3 * stride + 4 ≤ j }
-    /// requires second { j + 3 * stride + 4 ≤ length (items self.old) }
-    /// ensures exchanged { BlocksExchanged 16 i j stride (items self.old) (items self.new) }
-    /// ensures holder { same_holder 16 self.old self.new }
-    /// ```
-    #[inline(always)]
-    fn exchange_blocks(&mut self, i: usize, j: usize, stride: usize) {
-        length_fits(self.len());
-        for r in 0..4 {
-            for c in 0..4 {
-                self.exchange_ordered(i + r * stride + c, j + c * stride + r);
-            }
-        }
-    }
-
-    /// Whether `exchange_blocks` is faster than exchanging the same items row after row.
-    #[inline(always)]
-    fn by_blocks(&self) -> bool {
-        false
     }
 }
 

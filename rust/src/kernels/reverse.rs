@@ -7,11 +7,13 @@
 //! count their swaps, and the choice of the path. The modules below it have the paths:
 //!
 //! - `rows` reverses the order of rows of any width. It exchanges each pair of rows whose indices
-//!   are each other's reverse. With rows of one item this is the short path. A call for single
-//!   items takes it for at most `SHORT_PATH_ITEMS` items. The long path uses it for its chunks.
-//! - `long` is the long path, which a call for single items takes for more items. It makes more
-//!   swaps, in an order that suits lists that do not fit in a cache.
-//! - `pairs` finds the pairs of rows and exchanges them. Both paths use it.
+//!   are each other's reverse. With rows of one item this is the short path. A call on a slice takes
+//!   it at every length, and a call that counts its swaps for at most `SHORT_PATH_ITEMS` items. The
+//!   long path uses it for its chunks.
+//! - `long` is the long path, which a call that counts its swaps takes for more items. It makes more
+//!   swaps, in three passes. Its number of swaps is part of the contracts of these calls.
+//! - `pairs` says which pairs of rows are exchanged. They lie across the diagonal of a square or of
+//!   two squares, and the module [`grid`](crate::kernels::grid) exchanges them. Both paths use it.
 //!
 //! It is proved that each call leaves the list in bit-reversed order (`IsReversal`,
 //! `IsRowReversal`). For the calls that count, the exact number of swaps is proved too. The order
@@ -24,12 +26,12 @@ mod rows;
 use crate::kernels::places::{Places, SlicePlaces, Swaps};
 pub use long::reverse_index_bits_long;
 use long::reverse_long;
-pub(crate) use pairs::{RowDigits, exchange_pairs};
-pub(crate) use rows::reverse_rows;
-use rows::reverse_short;
+pub(crate) use pairs::RowDigits;
+pub(crate) use rows::{reverse_rows, reverse_short};
 pub use rows::{reverse_chunks_on, reverse_index_bits_short, reverse_row_index_bits_on};
 
-/// A list of at most this many items takes the short path, and a longer one takes the long path.
+/// A call that counts its swaps takes the short path for at most this many items, and the long path
+/// for more.
 const SHORT_PATH_ITEMS: usize = 8192;
 
 /// Whether `len` items can be cut into rows of `row_width` items so that the number of rows is zero
@@ -163,7 +165,7 @@ pub fn reverse_index_bits_on<S: Places>(m: &mut Swaps<S>) {
 /// `vals`.
 #[inline(always)]
 fn reverse_items<F>(vals: &mut [F]) -> &mut [F] {
-    let SlicePlaces { items } = reverse_index_bits(SlicePlaces::new(vals));
+    let SlicePlaces { items } = reverse_short(SlicePlaces::new(vals));
     items
 }
 

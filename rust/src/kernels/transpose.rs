@@ -36,8 +36,8 @@ pub(crate) use regions::Matrix;
 pub use regions::Region;
 pub(crate) use split::put_split;
 pub use split::{transpose_source_split_on, transpose_split_on};
+pub(crate) use square::transpose_square;
 pub use square::{fits_square, transpose_square_on};
-pub(crate) use square::{Square, exchange_region, transpose_diagonal, transpose_square};
 use strips::put_strips;
 pub(crate) use strips::{Strips, TILE_SIDE};
 

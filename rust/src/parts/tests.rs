@@ -5,7 +5,7 @@ use std::collections::BTreeSet;
 use std::vec::Vec;
 
 use super::{one_part_reversal, parts_of_side};
-use crate::kernels::parts::{Cut, Phase, ReversalPlan, RowPairs, Squares, TransposePlan};
+use crate::kernels::parts::{Cut, ReversalPlan, RowPairs, TransposePlan};
 use crate::kernels::places::{Cells, Places, SliceSource, Source};
 use crate::kernels::reverse::RowDigits;
 use crate::kernels::transpose::{Matrix, Strips};
@@ -192,10 +192,10 @@ fn is_in_block(cut: Cut, number: usize, square: usize, row: usize, col: usize) -
 
 #[test]
 fn blocks_of_pairs_of_rows() {
-    let cases = (0..=9).flat_map(|digits| (0..=9).map(move |parts| (digits, parts)));
-    for ((digits, parts), width) in cases.flat_map(|case| [(case, 1), (case, 3)]) {
-        let phase = Phase::Pairs(RowPairs::new(RowDigits { width, digits }, parts));
-        let cut = Cut::new(1 << (digits / 2), parts, 2);
+    let cases = (0..=11).flat_map(|digits| (0..=9).map(move |parts| (digits, parts)));
+    for ((digits, parts), (width, unit)) in cases.flat_map(|case| [(1, 16), (1, 2), (3, 1)].map(|rows| (case, rows))) {
+        let plan = ReversalPlan::ByPairs(RowPairs::new(RowDigits { width, digits }, parts, unit));
+        let cut = Cut::new(1 << (digits / 2), parts, unit);
         let wanted = |number, place: usize| {
             let row = place / width;
             let (middle, x, y) = names(digits, row);
@@ -206,8 +206,8 @@ fn blocks_of_pairs_of_rows() {
         let len = width << digits;
         let moved = check(
             len,
-            phase.count(),
-            |noted, number| _ = phase.exchange(noted, number),
+            plan.count(),
+            |noted, number| _ = plan.exchange(noted, number),
             wanted,
         );
         let all = (0..len).filter(|place| reversed(digits, place / width) != place / width);
@@ -215,49 +215,20 @@ fn blocks_of_pairs_of_rows() {
     }
 }
 
-#[test]
-fn blocks_of_squares() {
-    for (digits, parts) in (8..14).flat_map(|digits| (0..=9).map(move |parts| (digits, parts))) {
-        let (side, stride) = (1 << (digits / 2), 1 << (digits - digits / 2));
-        let cut = Cut::new(side, parts, 16);
-        let phase = Phase::Blocks(Squares::new(digits, parts, 16));
-        let wanted = |number, place: usize| {
-            let (square, row, col) = (place % stride / side, place / stride, place % side);
-            if is_in_block(cut, number, square, row, col) {
-                col * stride + square * side + row
-            } else {
-                place
-            }
-        };
-        let moved = check(
-            side * stride,
-            phase.count(),
-            |noted, number| _ = phase.exchange(noted, number),
-            wanted,
-        );
-        assert_eq!(moved, (side - 1) * stride, "side {side} in {parts} parts");
-    }
-}
-
-/// Runs all phases of long lists, which have three phases, and of lists of long rows, which have one phase. No two
-/// parts of a phase change the same place.
+/// Runs all parts of long lists and of lists of long rows. No two parts change the same place.
 #[test]
 fn long_lists() {
-    for (digits, row_width, count) in [(9, 1, 3), (14, 1, 3), (15, 1, 3), (19, 1, 3), (10, 20, 1)] {
+    for (digits, row_width) in [(9, 1), (14, 1), (15, 1), (19, 1), (10, 20)] {
         let len = row_width << digits;
         let mut noted = Noted::numbered(len);
         let plan = ReversalPlan::new(len, row_width, 5, 0);
-        let phases: Vec<Phase> = (0..4).map_while(|number| plan.phase(number)).collect();
-        assert_eq!(phases.len(), count);
-        for phase in phases {
-            let mut owners = std::vec![usize::MAX; len];
-            for number in 0..phase.count() {
-                noted.places.clear();
-                let _ = phase.exchange(&mut noted, number);
-                for place in &noted.places {
-                    assert!([usize::MAX, number].contains(&owners[*place]));
-                    owners[*place] = number;
-                }
+        let mut owners = std::vec![usize::MAX; len];
+        for number in 0..plan.count() {
+            noted.places.clear();
+            let _ = plan.exchange(&mut noted, number);
+            for place in &noted.places {
+                assert!([usize::MAX, number].contains(&owners[*place]));
+                owners[*place] = number;
             }
         }
         let is_reversed = |(place, item): (usize, &usize)| {
@@ -298,50 +269,47 @@ fn count_and_share(sizes: impl IntoIterator<Item = usize>) -> (usize, usize) {
     (sizes.len(), (largest * 1000).div_ceil(sizes.iter().sum()))
 }
 
-/// The number of parts of each phase of a reversal, and the largest part's share of the exchanges. Each part is run
-/// alone. Only this test notices if a list is not cut, or is cut into parts of very different sizes.
+/// The number of parts of a reversal, and the largest part's share of the exchanges. Each part is run alone. Only this
+/// test notices if a list is not cut, or is cut into parts of very different sizes.
 #[test]
 fn shares_of_reversals() {
-    /// The number of binary digits (there are 2^digits rows), the width of a row, how many parts are asked for, and for
-    /// each phase the number of parts and the largest share.
-    type Case = (usize, usize, usize, &'static [(usize, usize)]);
+    /// The number of binary digits (there are 2^digits rows), the width of a row, how many parts are asked for, and the
+    /// number of parts and the largest share.
+    type Case = (usize, usize, usize, (usize, usize));
     let cases: [Case; 16] = [
-        (20, 1, 0, &[(1, 1000), (1, 1000), (1, 1000)]),
-        (20, 1, 2, &[(6, 291), (6, 237), (6, 291)]),
-        (20, 1, 16, &[(36, 33), (36, 32), (36, 33)]),
-        (20, 1, 40, &[(36, 33), (91, 13), (36, 33)]),
-        (20, 1, 64, &[(136, 9), (136, 8), (136, 9)]),
-        (20, 1, 256, &[(136, 9), (528, 2), (136, 9)]),
-        (21, 1, 16, &[(36, 33), (72, 16), (36, 33)]),
-        (21, 1, 64, &[(136, 9), (272, 4), (136, 9)]),
-        (10, 300, 16, &[(36, 33)]),
-        (10, 300, 64, &[(136, 9)]),
-        (11, 200, 64, &[(272, 5)]),
-        (12, 100, 16, &[(36, 32)]),
-        (12, 100, 64, &[(136, 8)]),
-        (12, 100, 1000, &[(528, 2)]),
-        (16, 16, 64, &[(136, 8)]),
-        (2, 1 << 17, 64, &[(1, 1000)]),
+        (20, 1, 0, (1, 1000)),
+        (20, 1, 2, (6, 237)),
+        (20, 1, 16, (36, 32)),
+        (20, 1, 40, (91, 13)),
+        (20, 1, 64, (136, 8)),
+        (20, 1, 256, (528, 2)),
+        (21, 1, 16, (72, 16)),
+        (21, 1, 64, (272, 4)),
+        (10, 300, 16, (36, 33)),
+        (10, 300, 64, (136, 9)),
+        (11, 200, 64, (272, 5)),
+        (12, 100, 16, (36, 32)),
+        (12, 100, 64, (136, 8)),
+        (12, 100, 1000, (2080, 1)),
+        (16, 16, 64, (136, 8)),
+        (2, 1 << 17, 64, (3, 1000)),
     ];
     for (digits, row_width, asked, wanted) in cases {
         let len = row_width << digits;
         let plan = ReversalPlan::new(len, row_width, parts_of_side(asked), 1 << 18);
-        let exchanges_of = |phase: Phase, number| {
+        let exchanges_of = |number| {
             let mut counted = Counted { len, exchanges: 0 };
-            let _ = phase.exchange(&mut counted, number);
+            let _ = plan.exchange(&mut counted, number);
             counted.exchanges
         };
-        let phases = (0..4).map_while(|number| plan.phase(number));
-        let got: Vec<_> = phases
-            .map(|phase| count_and_share((0..phase.count()).map(|number| exchanges_of(phase, number))))
-            .collect();
+        let got = count_and_share((0..plan.count()).map(exchanges_of));
         assert_eq!(got, wanted, "2^{digits} rows of {row_width} if {asked} are asked for");
         let most = match (digits, asked) {
             (10.., 64..) => 20,
             (10.., 16..) => 40,
             _ => 1000,
         };
-        assert!(got.iter().all(|(_, share)| *share <= most));
+        assert!(got.1 <= most);
     }
 }
 
@@ -363,16 +331,13 @@ fn shares_of_transposes() {
     }
 }
 
-/// How many phases a list has. Up to a given length, a list is one part.
+/// Up to a given length, a list is one part.
 #[test]
 fn lists_up_to_one_part() {
-    let phases = |len, row_width, one_part| {
-        let plan = ReversalPlan::new(len, row_width, 5, one_part);
-        (0..4).map_while(|number| plan.phase(number)).count()
-    };
-    assert_eq!([phases(0, 1, 0), phases(0, 1, 9), phases(0, 0, 0)], [0, 0, 0]);
-    assert_eq!([phases(1 << 9, 1, 511), phases(1 << 9, 1, 512)], [3, 1]);
-    assert_eq!([phases(3 << 9, 3, 1535), phases(3 << 9, 3, 1536)], [1, 1]);
+    let count = |len, row_width, one_part| ReversalPlan::new(len, row_width, 5, one_part).count();
+    assert_eq!([count(0, 1, 0), count(0, 1, 9), count(0, 0, 0)], [1, 1, 1]);
+    assert_eq!([count(1 << 12, 1, 4095), count(1 << 12, 1, 4096)], [10, 1]);
+    assert_eq!([count(3 << 9, 3, 1535), count(3 << 9, 3, 1536)], [20, 1]);
 }
 
 /// A list of up to 2^18 items is one part. If an item has more than 8 bytes, a list is one part up to as many items as

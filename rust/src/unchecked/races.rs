@@ -80,7 +80,7 @@ fn parts_on_threads() {
     }
 }
 
-/// Takes two phases of the same list, and runs one part of each, on two threads.
+/// Takes two plans for the same list, and runs one part of each, on two threads.
 fn run_both<'a, T: Send, P: Copy + Send>(
     mut parts: Parts<'a, T, P>,
     phases: [(P, usize); 2],
@@ -97,15 +97,11 @@ fn run_both<'a, T: Send, P: Copy + Send>(
     run_all(shares, run);
 }
 
-/// Cuts one phase of a reversal in two ways, and runs one part of each cut, on two threads.
-fn exchanges_both(len: usize, row_width: usize, number: usize, parts: [(usize, usize); 2]) {
+/// Cuts a reversal in two ways, and runs one part of each cut, on two threads.
+fn exchanges_both(len: usize, row_width: usize, parts: [(usize, usize); 2]) {
     let mut list: Vec<usize> = (0..len).collect();
     let mut phases = Phases::new(&mut list, row_width, 1, 0).unwrap();
-    phases.next = number;
-    let cuts = parts.map(|(parts, part)| {
-        let plan = ReversalPlan::new(len, row_width, parts, 0);
-        (plan.phase(number).unwrap(), part)
-    });
+    let cuts = parts.map(|(parts, part)| (ReversalPlan::new(len, row_width, parts, 0), part));
     run_both(phases.next_phase().unwrap(), cuts, Parts::exchange);
 }
 
@@ -128,12 +124,12 @@ fn overlapping_regions() {
 #[test]
 #[ignore = "a race, which a detector has to report"]
 fn overlapping_pairs() {
-    exchanges_both(3 << 8, 3, 0, [(2, 0), (3, 1)]);
+    exchanges_both(3 << 8, 3, [(2, 0), (3, 1)]);
 }
 
 /// In a square of 64 by 64 items: a block of 32 by 32 on the diagonal, and a block of 16 by 16 inside it.
 #[test]
 #[ignore = "a race, which a detector has to report"]
 fn overlapping_blocks() {
-    exchanges_both(1 << 12, 1, 1, [(2, 0), (4, 1)]);
+    exchanges_both(1 << 12, 1, [(2, 0), (4, 1)]);
 }

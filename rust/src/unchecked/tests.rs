@@ -1,6 +1,7 @@
 //! Tests what each step of a holder of a slice does. With debug assertions, and with the feature `checked`, each step
 //! also checks its precondition.
 
+use std::array::from_fn;
 use std::boxed::Box;
 use std::fmt::Debug;
 use std::vec::Vec;
@@ -21,7 +22,8 @@ fn left(call: impl FnOnce(&mut SlicePlaces<[u8; 5]>)) -> [u8; 6] {
 fn exchanges() {
     assert_eq!(left(|places| places.exchange(5, 1)), [0, 5, 2, 3, 4, 1]);
     assert_eq!(left(|places| places.exchange(3, 3)), [0, 1, 2, 3, 4, 5]);
-    assert_eq!(left(|places| places.exchange_ordered(0, 5)), [5, 1, 2, 3, 4, 0]);
+    assert_eq!(left(|places| places.exchange_apart(0, 5)), [5, 1, 2, 3, 4, 0]);
+    assert_eq!(left(|places| places.exchange_apart(5, 0)), [5, 1, 2, 3, 4, 0]);
 }
 
 #[test]
@@ -47,23 +49,26 @@ fn leaves<T: Debug + PartialEq>(
     }
 }
 
-/// Exchanges blocks and transposes squares of the items that `item` makes.
+/// Exchanges tiles and transposes squares of the items that `item` makes.
 fn turns<T: Debug + PartialEq>(item: impl Fn(usize) -> T) {
-    for (stride, i, gap) in (4..12).flat_map(|stride| (0..3).flat_map(move |i| (0..3).map(move |gap| (stride, i, gap))))
-    {
-        let j = i + 3 * stride + 4 + gap;
-        let within = |first: usize, place: usize| {
-            let (row, col) = (place.checked_sub(first)? / stride, (place - first) % stride);
-            (row < 4 && col < 4).then_some(col * stride + row)
-        };
+    // Row `number` of the 16 rows begins at `gap * number` places and 8 for each earlier row. They lie in a mixed order.
+    for gap in 0..3 {
+        let start = |number: usize| (number * 7 % 16) * (8 + gap) + gap;
+        let (x, y) = (from_fn(start), from_fn(|row| start(8 + row)));
         leaves(
-            j + 3 * stride + 5,
+            16 * (8 + gap) + gap,
             &item,
-            |mut places| places.exchange_blocks(i, j, stride),
-            |place| match (within(i, place), within(j, place)) {
-                (Some(image), _) => j + image,
-                (_, Some(image)) => i + image,
-                _ => place,
+            |mut places| places.exchange_tiles(x, y),
+            |place| {
+                let within = |tile: [usize; 8]| {
+                    let row = tile.iter().position(|start| (*start..start + 8).contains(&place))?;
+                    Some((row, place - tile[row]))
+                };
+                match (within(x), within(y)) {
+                    (Some((row, col)), _) => y[col] + row,
+                    (_, Some((row, col))) => x[col] + row,
+                    _ => place,
+                }
             },
         );
     }
@@ -279,9 +284,12 @@ mod refused {
         for (i, j) in [(6, 0), (0, 6), (6, 6), (usize::MAX, 0), (0, usize::MAX)] {
             assert!(panics(|| _ = left(|places| places.exchange(i, j))), "{i} {j}");
         }
-        for (i, j) in [(0, 6), (3, 3), (4, 3), (6, 6), (6, 7), (0, usize::MAX)] {
-            assert!(panics(|| _ = left(|places| places.exchange_ordered(i, j))), "{i} {j}");
+        for (i, j) in [(0, 6), (6, 0), (6, 6), (6, 7), (0, usize::MAX)] {
+            assert!(panics(|| _ = left(|places| places.exchange_apart(i, j))), "{i} {j}");
         }
+        // Equal places are refused, except with the feature `checked`.
+        #[cfg(not(feature = "checked"))]
+        assert!(panics(|| _ = left(|places| places.exchange_apart(3, 3))));
     }
 
     #[test]
@@ -304,24 +312,20 @@ mod refused {
     }
 
     #[test]
-    fn exchanges_of_blocks() {
-        let blocks = |i, j, stride| panics(|| SlicePlaces::new(&mut [0u32; 40]).exchange_blocks(i, j, stride));
-        assert!(!blocks(0, 16, 4) && !blocks(8, 24, 4) && !blocks(0, 21, 5));
-        for (i, j, stride) in [
-            (9, 25, 4),
-            (0, 25, 4),
-            (0, 22, 5),
-            (0, usize::MAX, 4),
-            (usize::MAX, 0, 4),
-            (0, 20, usize::MAX),
-        ] {
-            assert!(blocks(i, j, stride), "{i} {j} {stride}");
+    fn exchanges_of_tiles() {
+        let rows = |first: usize| from_fn(|row| first.wrapping_add(8 * row));
+        let tiles = |x, y| panics(|| SlicePlaces::new(&mut [0u32; 130]).exchange_tiles(x, y));
+        assert!(!tiles(rows(0), rows(64)) && !tiles(rows(66), rows(2)));
+        for (x, y) in [(0, 67), (67, 0), (0, usize::MAX - 60), (usize::MAX - 60, 0)] {
+            assert!(tiles(rows(x), rows(y)), "{x} {y}");
         }
-        // Blocks that overlap are refused, except with the feature `checked`, which exchanges them item by item.
+        // Tiles that overlap are refused, except with the feature `checked`, which exchanges them item by item.
         #[cfg(not(feature = "checked"))]
-        for (i, j, stride) in [(0, 15, 4), (16, 0, 4), (0, 0, 4), (0, 16, 3), (0, 0, 0)] {
-            assert!(blocks(i, j, stride), "{i} {j} {stride}");
+        for (x, y) in [(0, 63), (1, 64), (0, 0), (64, 57)] {
+            assert!(tiles(rows(x), rows(y)), "{x} {y}");
         }
+        #[cfg(not(feature = "checked"))]
+        assert!(tiles([0, 8, 16, 24, 32, 40, 48, 54], rows(64)));
     }
 
     #[test]

@@ -7,7 +7,6 @@
 //! has the same effect as Rust code that moves such bytes one by one, and touches no memory. All items are read and
 //! written by Rust code, so a race detector sees these accesses.
 
-use core::array::from_fn;
 use core::mem::{MaybeUninit, transmute_copy};
 
 #[cfg(target_feature = "neon")]
@@ -103,19 +102,21 @@ pub(super) fn turned<T: Copy>(rows: &Four<Four<T>>) -> Four<Four<T>> {
     }
 }
 
-/// Exchanges the squares at `x` and at `y`, each with the mirror image of the other. Rows begin `stride` items apart,
-/// and have 16 bytes. Both squares must be valid for reads and writes, and have no item in common.
+/// Exchanges two squares, each with the mirror image of the other. `x` and `y` are their rows, which have 16 bytes each.
+/// All rows must be valid for reads and writes, and no two may have an item in common.
 #[inline(always)]
-pub(super) unsafe fn exchange<T, const SIDE: usize>(x: *mut T, y: *mut T, stride: usize, turned: Turned<SIDE>) {
-    // SAFETY: the rows are those of the squares. They may be at any multiple of an item's alignment.
+pub(super) unsafe fn exchange<T, const SIDE: usize>(x: [*mut T; SIDE], y: [*mut T; SIDE], turned: Turned<SIDE>) {
+    // SAFETY: these are rows of the squares. They may be at any multiple of an item's alignment. Each square is written
+    // as a whole: writing a row of one and a row of the other in turn takes longer.
     unsafe {
-        let rows = |first: *mut T| from_fn(|row| first.add(row * stride).cast::<Register>());
-        let (of_x, of_y): ([_; SIDE], [_; SIDE]) = (rows(x), rows(y));
+        let (of_x, of_y) = (x.map(<*mut T>::cast::<Register>), y.map(<*mut T>::cast::<Register>));
         let to_y = turned(of_x.map(|row| row.read_unaligned()));
         let to_x = turned(of_y.map(|row| row.read_unaligned()));
         for row in 0..SIDE {
-            of_x[row].write_unaligned(to_x[row]);
             of_y[row].write_unaligned(to_y[row]);
+        }
+        for row in 0..SIDE {
+            of_x[row].write_unaligned(to_x[row]);
         }
     }
 }

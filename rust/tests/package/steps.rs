@@ -4,7 +4,7 @@ use p3_util_proved::kernels::places::{Places, Swaps};
 use p3_util_proved::kernels::reverse::*;
 use p3_util_proved::kernels::transpose::*;
 
-use crate::noted::{Noted, Side, halves};
+use crate::noted::Noted;
 use crate::{reversed, transposed};
 
 /// The numbers below `len` after a call on a counter over them. The counter counts each exchange.
@@ -86,60 +86,85 @@ fn a_count_goes_on_from_the_one_before() {
     assert_eq!(swaps.swaps(), 28 + 4 * 6);
 }
 
-/// The exchanges of 2^`bits` rows of `width` items, in order. Two rows are exchanged item by item. The first of the two
-/// is the one whose low digits are the greater number. The line of a pair is the number of its first row without the
-/// high digits. Lines are taken two at a time. Within two lines, the pairs are in the order of the low digits of the
-/// second row and then of those of the first.
-fn short_order(bits: u32, width: usize) -> Vec<(usize, usize)> {
-    let side = 1 << (bits / 2);
-    let mut pairs: Vec<_> = (0..1 << bits)
-        .map(|row| (row, reversed(bits, row)))
-        .filter(|(first, second)| second % side < first % side)
-        .collect();
-    pairs.sort_by_key(|(first, second)| {
-        let line = first % (1 << bits.div_ceil(2));
-        (line / 2, second % side, first % side)
-    });
-    let of_rows = |(first, second)| (0..width).map(move |place| (first * width + place, second * width + place));
-    pairs.into_iter().flat_map(of_rows).collect()
+/// The pairs of the square of 2^`half` rows and columns, in order, each as its row and its column. The square is made of
+/// quadrants: the upper left one, the upper right one, and then the lower right one, down to squares of 8 rows. These,
+/// and the upper right quadrants of up to 64 rows, go row after row. If `by_tiles` is true, such quadrants go tile by
+/// tile, and the tiles column after column. Larger quadrants are made of quadrants, column after column.
+fn pairs_in_order(half: u32, by_tiles: bool) -> Vec<(usize, usize)> {
+    fn square(start: usize, size: usize, by_tiles: bool, pairs: &mut Vec<(usize, usize)>) {
+        let end = start + size;
+        if size <= 8 {
+            return pairs.extend((start..end).flat_map(|row| (row + 1..end).map(move |col| (row, col))));
+        }
+        square(start, size / 2, by_tiles, pairs);
+        quadrant(start, start + size / 2, size / 2, by_tiles, pairs);
+        square(start + size / 2, size / 2, by_tiles, pairs);
+    }
+    fn quadrant(row: usize, col: usize, size: usize, by_tiles: bool, pairs: &mut Vec<(usize, usize)>) {
+        if size <= 64 {
+            let side = if by_tiles { 8 } else { size };
+            let tiles = (0..size)
+                .step_by(side)
+                .flat_map(|c| (0..size).step_by(side).map(move |r| (row + r, col + c)));
+            pairs.extend(tiles.flat_map(|(row, col)| {
+                (row..row + side).flat_map(move |row| (col..col + side).map(move |col| (row, col)))
+            }));
+        } else {
+            for (c, r) in [(0, 0), (0, size / 2), (size / 2, 0), (size / 2, size / 2)] {
+                quadrant(row + r, col + c, size / 2, by_tiles, pairs);
+            }
+        }
+    }
+    let mut pairs = vec![];
+    square(0, 1 << half, by_tiles, &mut pairs);
+    pairs
 }
 
-/// A body that exchanges rows line by line, whatever their width, meets its contract, but fails this test.
+/// The exchanges of 2^`bits` rows of `width` items, in order. Two rows are exchanged item by item. The rows whose indices
+/// have the same middle digit form a square: the row of `x` and `y` has the reverse of `x` in its high digits, and `y` in
+/// its low digits.
+fn short_order(bits: u32, width: usize) -> Vec<(usize, usize)> {
+    let (half, low) = (bits / 2, bits - bits / 2);
+    let row = |middle: usize, x: usize, y: usize| (reversed(half, x) << low) + (middle << half) + y;
+    let pairs = pairs_in_order(half, width == 1);
+    (0..1 << (low - half))
+        .flat_map(|middle| {
+            pairs
+                .iter()
+                .map(move |(x, y)| (row(middle, *x, *y), row(middle, *y, *x)))
+        })
+        .flat_map(|(first, second)| (0..width).map(move |place| (first * width + place, second * width + place)))
+        .collect()
+}
+
+/// A body that exchanges the pairs in another order meets its contract, but fails this test.
 #[test]
 fn short_path_in_order() {
-    for bits in 0..=13 {
-        let noted = swapped(1 << bits, reverse_index_bits_on);
-        assert_eq!(noted.exchanges, short_order(bits, 1), "2^{bits}");
+    for bits in 0..=16 {
+        let noted = swapped(1 << bits, reverse_index_bits_short);
+        assert!(noted.exchanges == short_order(bits, 1), "2^{bits}");
         assert_eq!(swapped(1 << bits, |m| reverse_row_index_bits_on(m, 1)), noted);
-        assert_eq!(swapped(1 << bits, reverse_index_bits_short), noted);
-        for width in [2, 3] {
-            let rows = swapped(width << bits, |m| reverse_row_index_bits_on(m, width));
-            assert_eq!(rows.exchanges, short_order(bits, width), "2^{bits} rows of {width}");
+        if bits <= 13 {
+            assert_eq!(swapped(1 << bits, reverse_index_bits_on), noted);
+            for width in [2, 3] {
+                let rows = swapped(width << bits, |m| reverse_row_index_bits_on(m, width));
+                assert!(rows.exchanges == short_order(bits, width), "2^{bits} rows of {width}");
+            }
         }
     }
 }
 
-/// The exchanges of a square of 2^`log_side` rows that begins at `base`. The square regions above the diagonal are in
-/// the order of their first columns. Each is halved until its parts have at most 16 rows and 8 columns. The rows are
-/// halved if there are more than twice as many rows as columns, otherwise the columns. The items of a part go row after
-/// row.
+/// The exchanges of a square of 2^`log_side` rows that begins at `base`.
 fn square_order(base: usize, log_stride: usize, log_side: u32) -> Vec<(usize, usize)> {
-    let halved = |rows, cols| match (rows <= 16 && cols <= 8, rows > 2 * cols) {
-        (true, _) => None,
-        (_, true) => Some(Side::Rows),
-        (_, false) => Some(Side::Cols),
-    };
-    let regions = (1usize..1 << log_side).flat_map(|col| {
-        let side = 1 << col.trailing_zeros();
-        halves(col - side..col, col..col + side, halved)
-    });
-    let places = regions.flat_map(|(rows, cols)| rows.flat_map(move |row| cols.clone().map(move |col| (row, col))));
-    let place = |row, col| base + (row << log_stride) + col;
-    places.map(|(row, col)| (place(row, col), place(col, row))).collect()
+    let place = |row: usize, col: usize| base + (row << log_stride) + col;
+    let pairs = pairs_in_order(log_side, true);
+    pairs
+        .into_iter()
+        .map(|(row, col)| (place(row, col), place(col, row)))
+        .collect()
 }
 
-/// A body that transposes a square line by line, or its leaves in another order, meets its contract, but fails this
-/// test.
+/// A body that transposes a square in another order meets its contract, but fails this test.
 #[test]
 fn squares_in_order() {
     for log_side in 0..=10 {
@@ -230,14 +255,14 @@ fn a_holder_of_ones_own() {
     }
 }
 
-/// A holder that exchanges blocks itself and counts them. Of each block it exchanges `rows` rows.
-struct ByBlocks {
+/// A holder that exchanges tiles itself and counts them. Of each tile it exchanges `rows` rows.
+struct ByTiles {
     noted: Noted,
     rows: usize,
-    blocks: usize,
+    tiles: usize,
 }
 
-impl Places for ByBlocks {
+impl Places for ByTiles {
     type Item = u64;
 
     fn len(&self) -> usize {
@@ -248,61 +273,51 @@ impl Places for ByBlocks {
         self.noted.exchange(i, j);
     }
 
-    fn exchange_blocks(&mut self, i: usize, j: usize, stride: usize) {
-        for (row, col) in (0..self.rows).flat_map(|row| (0..4).map(move |col| (row, col))) {
-            self.noted.exchange(i + row * stride + col, j + col * stride + row);
+    fn exchange_tiles(&mut self, x: [usize; 8], y: [usize; 8]) {
+        for (row, col) in (0..self.rows).flat_map(|row| (0..8).map(move |col| (row, col))) {
+            self.noted.exchange(x[row] + col, y[col] + row);
         }
-        self.blocks += 1;
-    }
-
-    fn by_blocks(&self) -> bool {
-        true
+        self.tiles += 1;
     }
 }
 
-/// What a call leaves of the numbers below `len` if `rows` rows of each block are exchanged, and how many exchanges its
+/// What a call leaves of the numbers below `len` if `rows` rows of each tile are exchanged, and how many exchanges its
 /// counter counts.
-fn by_blocks(rows: usize, len: usize, call: impl FnOnce(&mut Swaps<&mut ByBlocks>)) -> (ByBlocks, u128) {
+fn by_tiles(rows: usize, len: usize, call: impl FnOnce(&mut Swaps<&mut ByTiles>)) -> (ByTiles, u128) {
     let noted = Noted::numbered(len);
-    let mut places = ByBlocks { noted, rows, blocks: 0 };
+    let mut places = ByTiles { noted, rows, tiles: 0 };
     let mut counter = Swaps::new(&mut places);
     call(&mut counter);
     let swaps = counter.swaps();
     (places, swaps)
 }
 
-/// A holder says whether it is faster by blocks. If it is, only the order of the exchanges changes.
+/// A holder may exchange tiles in a way of its own. The exchanges are the same.
 #[test]
-fn blocks_by_a_holder_of_ones_own() {
-    let same = |len: usize, call: &dyn Fn(&mut Swaps<&mut ByBlocks>), mut single: Noted| {
-        let (mut places, swaps) = by_blocks(4, len, call);
+fn tiles_by_a_holder_of_ones_own() {
+    let same = |len: usize, call: &dyn Fn(&mut Swaps<&mut ByTiles>), single: Noted| {
+        let (places, swaps) = by_tiles(8, len, call);
         assert_eq!(swaps, single.exchanges.len() as u128);
-        assert_eq!(places.noted.items, single.items);
-        places.noted.exchanges.sort_unstable();
-        single.exchanges.sort_unstable();
-        assert_eq!(places.noted.exchanges, single.exchanges);
-        // The test notices if a row of a block is left out: the list differs, and there are fewer exchanges than the
+        assert_eq!(places.noted, single);
+        // The test notices if a row of a tile is left out: the list differs, and there are fewer exchanges than the
         // count says.
-        let (wrong, counted) = by_blocks(3, len, call);
-        assert_eq!(wrong.noted.items != single.items, places.blocks > 0);
+        let (wrong, counted) = by_tiles(7, len, call);
+        assert_eq!(wrong.noted.items != single.items, places.tiles > 0);
         assert_eq!(counted, swaps);
-        assert_eq!(wrong.noted.exchanges.len() + 4 * wrong.blocks, single.exchanges.len());
-        places.blocks
+        assert_eq!(wrong.noted.exchanges.len() + 8 * wrong.tiles, single.exchanges.len());
+        places.tiles
     };
     for bits in 2..=17 {
-        let blocks = same(
-            1 << bits,
-            &|m| reverse_index_bits_long(m),
-            swapped(1 << bits, reverse_index_bits_long),
-        );
-        // A square of up to four rows has no block above the diagonal.
-        assert_eq!(blocks > 0, bits >= 6, "2^{bits}");
+        let single = swapped(1 << bits, reverse_index_bits_short);
+        let tiles = same(1 << bits, &|m| reverse_index_bits_short(m), single);
+        let side = (1usize << (bits / 2)) / 8;
+        assert_eq!(tiles, (side * (side.max(1) - 1) / 2) << (bits % 2), "2^{bits}");
     }
     for (size, stride) in (0..=6).flat_map(|size| (size..=7).map(move |stride| (size, stride))) {
         let len = 1 << (size + stride);
         let single = swapped(len, |m| transpose_square_on(m, 0, stride, size));
-        let blocks = same(len, &|m| transpose_square_on(m, 0, stride, size), single);
-        let side = (1 << size) / 4;
-        assert_eq!(blocks, side * (side.max(1) - 1) / 2, "2^{size} rows");
+        let tiles = same(len, &|m| transpose_square_on(m, 0, stride, size), single);
+        let side = (1usize << size) / 8;
+        assert_eq!(tiles, side * (side.max(1) - 1) / 2, "2^{size} rows");
     }
 }

@@ -131,11 +131,6 @@ impl<S: Rows> Places for Flattened<S> {
         self.rows.exchange(i, j);
     }
 
-    #[inline(always)]
-    fn exchange_ordered(&mut self, i: usize, j: usize) {
-        self.rows.exchange_ordered(i, j);
-    }
-
     ghost same_holder_refl = { Prim.search rules };
 
     ghost same_holder_trans = { Prim.search rules };

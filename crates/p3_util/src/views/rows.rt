@@ -42,13 +42,6 @@ pub trait Rows {
         ensures exchanged { items self.new ≡ swap (items self.old) i j }
         ensures rows { same_rows self.old self.new };
 
-    /// Does the same as `exchange`, for `i < j`.
-    fn exchange_ordered(&mut self, i: usize, j: usize)
-        requires order { i < j }
-        requires second { j < length (items self.old) }
-        ensures exchanged { items self.new ≡ swap (items self.old) i j }
-        ensures rows { same_rows self.old self.new };
-
     /// Writes `v` to item `i` of all rows.
     fn put(&mut self, i: usize, v: Self::Item)
     where
@@ -84,11 +77,6 @@ impl<'a, T, const N: usize> Rows for &'a mut [[T; N]] {
     }
 
     #[inline(always)]
-    fn exchange_ordered(&mut self, i: usize, j: usize) {
-        exchange_ordered_items(self, i, j);
-    }
-
-    #[inline(always)]
     fn put(&mut self, i: usize, v: T)
     where
         T: Drop,
@@ -114,24 +102,6 @@ fn exchange_items<T, const N: usize>(rows: &mut [[T; N]], i: usize, j: usize)
         exchange_in_two_rows(rows, r, c, s, d);
     } else if s < r {
         exchange_in_two_rows(rows, s, d, r, c);
-    } else {
-        prove!(width_of(&rows[r]) == N);
-        rows[r].swap(c, d);
-    }
-}
-
-/// Does the same as [`exchange_items`], for `i < j`. So the row of `i` is not later than the row of
-/// `j`.
-#[inline(always)]
-fn exchange_ordered_items<T, const N: usize>(rows: &mut [[T; N]], i: usize, j: usize)
-    requires order { i < j }
-    requires second { j < length (countable_items rows.old) }
-    ensures { flat rows.new ≡ swap (flat rows.old) i j }
-{
-    let (r, c) = place_of(rows, i);
-    let (s, d) = place_of(rows, j);
-    if r < s {
-        exchange_in_two_rows(rows, r, c, s, d);
     } else {
         prove!(width_of(&rows[r]) == N);
         rows[r].swap(c, d);

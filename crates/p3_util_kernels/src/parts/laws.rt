@@ -4,16 +4,15 @@
 //! there for its contract. Some run one part of a plan, on a holder whose contract says that the
 //! steps of the part exist. Their contracts say at which places these steps are. Other functions
 //! state that two parts have no place in common, and that each place belongs to some part.
-//! `all_parts` runs all parts, in any order within a phase, and states that this has the effect of
+//! `all_parts` runs all parts, in any order, and states that this has the effect of
 //! the call. `interleaved` states the same for every interleaving of the steps of several parts, as
 //! threads may make them. `witnesses` shows that the preconditions can be met.
 
 ghost use Rattle.std.specs.Prelude.{◌≡◌, ◌≢◌, ℕ, ◌⊎◌, ◌+◌, ◌-◌, ◌*◌, ◌/◌, ◌^◌, ◌<◌, ◌≤◌, ◌↔◌, false, if◌then◌else◌, length};
 ghost use Rattle.p3_util_kernels.specs.Blocks.{IsBlock, blocks_of, swaps_of_block};
 ghost use Rattle.p3_util_kernels.specs.Crossing.{HoldsRows, IsCrossed};
-ghost use Rattle.p3_util_kernels.specs.Diagonal.{SwapsAcross};
 ghost use Rattle.p3_util_kernels.specs.Least.{AllDiffer, PutsAtChanged, SwapsAtChanged};
-ghost use Rattle.p3_util_kernels.specs.PartSteps.{IsPlaceOfBlock, IsPlaceOfPairs, IsPlaceOfRegion, IsPlaceOfSquares, NoItemInCommon, NoPlaceInCommon};
+ghost use Rattle.p3_util_kernels.specs.PartSteps.{IsPlaceOfPairs, IsPlaceOfRegion, NoItemInCommon, NoPlaceInCommon};
 ghost use Rattle.p3_util_kernels.specs.PartSteps.{PartsCover};
 ghost use Rattle.p3_util_kernels.specs.PartSteps.{PutsLead, PutsStay, more_puts, no_puts, one_put};
 ghost use Rattle.p3_util_kernels.specs.PartSteps.{SwapsLead, SwapsStay, more_swaps, no_swaps, one_swap};
@@ -24,7 +23,7 @@ mod all_parts;
 mod interleaved;
 mod witnesses;
 
-use crate::parts::{Cut, Phase, RowPairs, Squares, TransposePlan};
+use crate::parts::{Cut, ReversalPlan, RowPairs, Squares, TransposePlan};
 use crate::places::{Cells, Places, Source};
 use crate::transpose::{Matrix, Region, Strips};
 
@@ -76,10 +75,6 @@ impl<S: Places> Places for ExchangeSteps<S> {
 
     fn exchange(&mut self, i: usize, j: usize) {
         self.places.exchange(i, j);
-    }
-
-    fn by_blocks(&self) -> bool {
-        self.places.by_blocks()
     }
 
     ghost same_holder_refl = { λ a. no_swaps (S.items a.places) };
@@ -171,27 +166,6 @@ pub(crate) fn cells_follow(plan: TransposePlan, number: usize)
         × (p < start_of plan.cut.len plan.cut.step (number + 1) * plan.height)) }
 {}
 
-/// Exchanges a block of `squares` with its mirror image, by an exact number of exchanges. If all
-/// items of the list differ, the exchanges are at places of the block and of its mirror image, and
-/// no two exchanges have a place in common.
-pub(crate) fn exchange_block<S: Places>(places: S, squares: Squares, number: usize) -> S
-    requires below { number < blocks_of squares.cut.len squares.stride squares.cut.step }
-    requires whole { length (S.items places) ≡ squares.cut.len * squares.stride }
-    ensures block { (base : ℕ) × (region : Region)
-        × IsBlock squares.cut.len squares.stride squares.cut.step number base region
-        × SwapsLead (swaps_of_block region) (S.items places) (S.items result)
-        × (AllDiffer (S.items places) → SwapsStay
-        (IsPlaceOfBlock squares.cut.len squares.stride squares.cut.step number)
-        (swaps_of_block region) (S.items places) (S.items result)) }
-    ensures across { (base : ℕ) → (region : Region)
-        → IsBlock squares.cut.len squares.stride squares.cut.step number base region
-        → SwapsAcross base squares.stride region (S.items places) (S.items result) }
-{
-    Phase::Blocks(squares)
-        .exchange(ExchangeSteps { places }, number)
-        .places
-}
-
 /// Each pair of parts of a cut has a number below the number of pairs, and no two pairs have the
 /// same number.
 pub(crate) fn pairs_have_numbers()
@@ -206,13 +180,6 @@ pub(crate) fn block_of_number(squares: Squares, number: usize)
         → IsBlock squares.cut.len squares.stride squares.cut.step number base region
         → IsBlock squares.cut.len squares.stride squares.cut.step number other_base other_region
         → (base ≡ other_base) × (region ≡ other_region) }
-{}
-
-/// Two different blocks of `squares`, each with its mirror image, have no place in common.
-pub(crate) fn blocks_apart(squares: Squares, first: usize, second: usize)
-    requires { first ≢ second }
-    ensures { NoPlaceInCommon (IsPlaceOfBlock squares.cut.len squares.stride squares.cut.step first)
-        (IsPlaceOfBlock squares.cut.len squares.stride squares.cut.step second) }
 {}
 
 /// Exchanges the two rows of each pair in a block, by an exact number of exchanges. If all items of
@@ -237,7 +204,7 @@ pub(crate) fn exchange_row_pairs<S: Places>(places: S, pairs: RowPairs, number: 
         (record region { col_start = base + region.col_start; col_end = base + region.col_end })
         (S.items places) (S.items result) }
 {
-    Phase::Pairs(pairs)
+    ReversalPlan::ByPairs(pairs)
         .exchange(ExchangeSteps { places }, number)
         .places
 }
@@ -256,13 +223,6 @@ pub(crate) fn parts_cover_matrix(width: usize, height: usize, by_rows: bool, cut
     requires side { cut.len ≡ if by_rows then height else width }
     ensures { PartsCover (λ p. p < width * height) (parts_in cut.len cut.step)
         (λ k. IsPlaceOfRegion (part_of_matrix width height by_rows cut.len cut.step k) height) }
-{}
-
-/// Each place of the squares belongs to one of their blocks or to its mirror image.
-pub(crate) fn blocks_cover_squares(squares: Squares)
-    ensures { PartsCover (IsPlaceOfSquares squares.cut.len squares.stride)
-        (blocks_of squares.cut.len squares.stride squares.cut.step)
-        (IsPlaceOfBlock squares.cut.len squares.stride squares.cut.step) }
 {}
 
 /// Each place of a list of rows belongs to the pairs of rows in one of the blocks. Here a row that

@@ -1,124 +1,63 @@
-//! The phases that a reversal is cut into, and the parts of each phase.
+//! The parts that a reversal is cut into.
 
-ghost use Rattle.std.specs.Prelude.{◌≡◌, ℕ, ◌-◌, ◌/◌, ◌^◌, ◌<◌, ◌≤◌, Some, length, max, slice_get};
-ghost use Rattle.p3_util_kernels.specs.Parts.{IsLeastStep, parts_in};
-ghost use Rattle.p3_util_kernels.specs.Plans.{IsCutAsAsked, IsPartMade, IsPhaseOf, IsReversalPlan, parts_of, phases_of};
+ghost use Rattle.std.specs.Prelude.{◌≡◌, ◌^◌, ◌<◌, length};
+ghost use Rattle.p3_util_kernels.specs.Plans.{IsCutAsAsked, IsPartMade, IsReversalPlan, parts_of, width_of};
 ghost use Rattle.p3_util_kernels.specs.Reversal.{FitsRows};
 
-use crate::parts::{RowPairs, Squares};
+use crate::parts::RowPairs;
 use crate::places::Places;
-use crate::reverse::{RowDigits, reverse_index_bits, reverse_rows};
+use crate::reverse::{RowDigits, reverse_rows};
 use crate::transpose::TILE_SIDE;
 
-/// A phase: one pass over the list, which runs in parts.
-#[derive(Clone, Copy)]
-pub(crate) enum Phase {
-    /// The whole reversal of these rows, as one part.
-    Rows(RowDigits),
-    /// Each pair of rows is exchanged. A part is a block of these pairs.
-    Pairs(RowPairs),
-    /// Each square is transposed. A part is a block of a square, with the mirror image of the
-    /// block.
-    Blocks(Squares),
-}
-
-/// How a reversal of rows is cut.
+/// How a reversal of rows is cut into parts.
 #[derive(Clone, Copy)]
 pub(crate) enum ReversalPlan {
-    /// The list is empty, so there is nothing to do.
-    Nothing,
-    /// A short list: one phase, which has one part.
+    /// The whole reversal of these rows, as one part.
     OnePart(RowDigits),
-    /// A long list of rows of several items: one phase, in which the pairs of rows are exchanged.
+    /// Each pair of rows is exchanged. A part is a block of these pairs.
     ByPairs(RowPairs),
-    /// A long list of rows of one item: three phases, which are the three passes of the module
-    /// `reverse::long`. The pairs of chunks are exchanged, then the squares are transposed, and
-    /// then the same pairs are exchanged again.
-    Long(RowPairs, Squares),
 }
 
 impl ReversalPlan {
     /// Cuts the reversal of a list of `len` items, in rows of `row_width` items. A list of at most
     /// `one_part` items is one part. For a longer list, each side of a square of the [`RowPairs`]
-    /// or of the [`Squares`] is cut into at most `parts` parts. A `parts` of 0 counts as 1.
+    /// is cut into at most `parts` parts. A `parts` of 0 counts as 1. Rows of one item are cut at
+    /// multiples of `TILE_SIDE`.
     pub(crate) fn new(len: usize, row_width: usize, parts: usize, one_part: usize) -> ReversalPlan
         requires { FitsRows len row_width }
-        ensures plan { IsReversalPlan len row_width result }
+        ensures width { width_of result ≡ row_width }
+        ensures plan { IsReversalPlan len result }
         ensures cut { IsCutAsAsked len row_width parts one_part TILE_SIDE result }
-        ensures phases { (k : ℕ) (phase : Phase) → slice_get (phases_of result) k ≡ Some phase
-            → IsPhaseOf phase len }
     {
-        if len == 0 {
-            return ReversalPlan::Nothing;
-        }
         let rows = RowDigits::of(len, row_width);
         if len <= one_part {
-            ReversalPlan::OnePart(rows)
-        } else if row_width > 1 {
-            ReversalPlan::ByPairs(RowPairs::new(rows, parts))
-        } else {
-            let (chunks, squares) = chunks_and_squares(rows.digits, parts);
-            ReversalPlan::Long(chunks, squares)
+            return ReversalPlan::OnePart(rows);
         }
+        let unit = if row_width == 1 { TILE_SIDE } else { 1 };
+        ReversalPlan::ByPairs(RowPairs::new(rows, parts, unit))
     }
 
-    /// Phase `number`, or `None` after the last one. Phases must be done in the order of their
-    /// numbers.
-    pub(crate) fn phase(self, number: usize) -> Option<Phase>
-        ensures { result ≡ slice_get (phases_of self) number }
-    {
-        match (self, number) {
-            (ReversalPlan::OnePart(rows), 0) => Some(Phase::Rows(rows)),
-            (ReversalPlan::ByPairs(pairs), 0) => Some(Phase::Pairs(pairs)),
-            (ReversalPlan::Long(pairs, _), 0 | 2) => Some(Phase::Pairs(pairs)),
-            (ReversalPlan::Long(_, squares), 1) => Some(Phase::Blocks(squares)),
-            _ => None,
-        }
-    }
-}
-
-/// The pairs of chunks of a list of 2^`digits` items, and the squares of that list.
-fn chunks_and_squares(digits: usize, parts: usize) -> (RowPairs, Squares)
-    requires { digits < 64 }
-    ensures width { result.0.rows.width ≡ 2 ^ (digits - digits / 2) }
-    ensures chunks { result.0.rows.digits ≡ digits / 2 }
-    ensures pairs { parts_in result.0.squares.cut.len result.0.squares.cut.step ≤ max parts 1 }
-    ensures least_pairs { IsLeastStep parts 2 result.0.squares.cut.len result.0.squares.cut.step }
-    ensures stride { result.1.stride ≡ 2 ^ (digits - digits / 2) }
-    ensures side { result.1.cut.len ≡ 2 ^ (digits / 2) }
-    ensures blocks { parts_in result.1.cut.len result.1.cut.step ≤ max parts 1 }
-    ensures least_blocks { IsLeastStep parts TILE_SIDE result.1.cut.len result.1.cut.step }
-{
-    let chunks = RowDigits::chunks(digits / 2, digits - digits / 2);
-    let squares = Squares::new(digits, parts, TILE_SIDE);
-    (RowPairs::new(chunks, parts), squares)
-}
-
-impl Phase {
     /// The number of parts.
     pub(crate) fn count(self) -> usize
         ensures { result ≡ parts_of self }
     {
         match self {
-            Phase::Rows(_) => 1,
-            Phase::Pairs(pairs) => pairs.squares.count(),
-            Phase::Blocks(squares) => squares.count(),
+            ReversalPlan::OnePart(_) => 1,
+            ReversalPlan::ByPairs(pairs) => pairs.squares.count(),
         }
     }
 
     /// Runs part `number`: makes all of its exchanges.
     pub(crate) fn exchange<M: Places>(self, m: M, number: usize) -> M
         requires below { number < parts_of self }
-        requires list { IsPhaseOf self (length (M.items m)) }
+        requires plan { IsReversalPlan (length (M.items m)) self }
         requires len_fits { length (M.items m) < 2 ^ 64 }
         ensures { IsPartMade self number (M.items m) (M.items result)
             (λ n. M.same_holder n m result) }
     {
         match self {
-            Phase::Rows(rows) if rows.width == 1 => reverse_index_bits(m),
-            Phase::Rows(rows) => reverse_rows(m, rows),
-            Phase::Pairs(pairs) => pairs.exchange(m, number),
-            Phase::Blocks(squares) => squares.exchange(m, number),
+            ReversalPlan::OnePart(rows) => reverse_rows(m, rows),
+            ReversalPlan::ByPairs(pairs) => pairs.exchange(m, number),
         }
     }
 }

@@ -24,23 +24,18 @@ impl<S: Places> Places for &mut S {
     }
 
     #[inline(always)]
-    fn exchange_ordered(&mut self, i: usize, j: usize) {
-        S::exchange_ordered(self, i, j);
+    fn exchange_apart(&mut self, i: usize, j: usize) {
+        S::exchange_apart(self, i, j);
+    }
+
+    #[inline(always)]
+    fn exchange_tiles(&mut self, x: [usize; 8], y: [usize; 8]) {
+        S::exchange_tiles(self, x, y);
     }
 
     #[inline(always)]
     fn exchange_runs(&mut self, i: usize, j: usize, len: usize) {
         S::exchange_runs(self, i, j, len);
-    }
-
-    #[inline(always)]
-    fn exchange_blocks(&mut self, i: usize, j: usize, stride: usize) {
-        S::exchange_blocks(self, i, j, stride);
-    }
-
-    #[inline(always)]
-    fn by_blocks(&self) -> bool {
-        S::by_blocks(self)
     }
 
     ghost same_holder_refl = { Prim.search rules };

@@ -40,11 +40,6 @@ impl<'a, F> Places for SlicePlaces<'a, F> {
     }
 
     #[inline(always)]
-    fn exchange_ordered(&mut self, i: usize, j: usize) {
-        exchange_ordered_items(self.items, i, j);
-    }
-
-    #[inline(always)]
     fn exchange_runs(&mut self, i: usize, j: usize, len: usize) {
         exchange_runs_of_items(self.items, i, j, len);
     }
@@ -52,18 +47,6 @@ impl<'a, F> Places for SlicePlaces<'a, F> {
     ghost same_holder_refl = { Prim.search rules };
 
     ghost same_holder_trans = { Prim.search rules };
-}
-
-/// Exchanges the items at places `i` and `j`. Since `i < j`, it does not check whether the two
-/// places are the same.
-#[inline(always)]
-fn exchange_ordered_items<F>(items: &mut [F], i: usize, j: usize)
-    requires order { i < j }
-    requires fits { j < length items.old }
-    ensures { items.new ≡ swap items.old i j }
-{
-    let (front, back) = items.split_at_mut(j);
-    std::mem::swap(&mut front[i], &mut back[0]);
 }
 
 /// Exchanges two runs of `len` items: those from place `i` on and those from place `j` on.

@@ -14,30 +14,16 @@
 //! `y` and `x`. This reaches each pair of rows exactly once, so no loop has to test an index. All
 //! other rows stay where they are.
 //!
-//! A *line* is all pairs that have the same middle digit and the same `y`. One loop over `x`
-//! exchanges the pairs of two neighbouring lines, `y` and `y + 1`. For each `x`, it exchanges the
-//! pair of `x` and `y`, and then the pair of `x` and `y + 1`. The row of `x` and `y` and the row of
-//! `x` and `y + 1` are neighbours in the list. If rows are short, both rows are in the cache at the
-//! same time.
+//! The rows with the same middle digit form a [`Grid`]: the row of `x` and `y` is the place of row
+//! `x` and column `y`, and is exchanged with the place of row `y` and column `x`.
 
-ghost use Rattle.std.specs.Prelude.{◌≡◌, ℕ, ◌+◌, ◌-◌, ◌*◌, ◌/◌, ◌%◌, ◌^◌, ◌<◌, ◌≤◌, ◌⊎◌, length, min};
-ghost use Rattle.p3_util_kernels.specs.Crossing.{AreLinePairs, HoldsRows, IsCrossed, lines_of, pairs_in};
-ghost use Rattle.p3_util_kernels.specs.Digits.{rev};
-ghost use Rattle.p3_util_kernels.specs.Exchanged.{RunsExchanged};
+ghost use Rattle.std.specs.Prelude.{◌≡◌, ◌-◌, ◌*◌, ◌/◌, ◌^◌, ◌<◌};
+ghost use Rattle.p3_util_kernels.specs.Grid.{grid_of_rows};
 ghost use Rattle.p3_util_kernels.specs.Levels.{clog};
 ghost use Rattle.p3_util_kernels.specs.Reversal.{FitsRows};
 
-use crate::bits::{log2_strict_usize, pow2, reverse_bits_len};
-use crate::places::Places;
-use crate::transpose::Region;
-
-/// Entry `i` has the six binary digits of `i` in reversed order. Reading this table once is faster
-/// than reversing so few digits by halves.
-static REVERSED_SIX: [u8; 64] = [
-    0, 32, 16, 48, 8, 40, 24, 56, 4, 36, 20, 52, 12, 44, 28, 60, 2, 34, 18, 50, 10, 42, 26, 58, 6,
-    38, 22, 54, 14, 46, 30, 62, 1, 33, 17, 49, 9, 41, 25, 57, 5, 37, 21, 53, 13, 45, 29, 61, 3, 35,
-    19, 51, 11, 43, 27, 59, 7, 39, 23, 55, 15, 47, 31, 63,
-];
+use crate::bits::{log2_strict_usize, pow2};
+use crate::grid::Grid;
 
 /// Rows of `width` items each, whose indices have `digits` binary digits: there are `2^digits`
 /// rows, or none.
@@ -77,148 +63,21 @@ impl RowDigits {
         }
     }
 
-    /// All pairs of rows. `row_end` is `usize::MAX`, which is greater than any `x`, so the compiler
-    /// can leave out the comparison with it.
+    /// The grid of the rows whose indices have the middle part `middle`.
     #[inline(always)]
-    pub(crate) fn all_pairs(self) -> Region
-        requires { self.digits < 64 }
-        ensures { result ≡ record {
-          row_start = 0;
-          row_end = 2 ^ 64 - 1;
-          col_start = 0;
-          col_end = lines_of self.digits;
-        } }
+    pub(crate) fn grid(self, middle: usize) -> Grid
+        requires few { self.digits < 64 }
+        requires middle { middle < 2 ^ (self.digits - self.digits / 2 - self.digits / 2) }
+        ensures { let half = self.digits / 2 in
+            result ≡ grid_of_rows half (self.digits - half) self.width middle }
     {
-        // With one or two rows there is only one line for each middle digit, so there is no pair of
-        // lines.
-        let line_pairs = pow2(self.digits % 2) * (pow2(self.digits / 2) / 2);
-        Region {
-            row_start: 0,
-            row_end: usize::MAX,
-            col_start: 0,
-            col_end: line_pairs * 2,
+        let half = self.digits / 2;
+        Grid {
+            width: self.width,
+            base: middle * pow2(half),
+            stride: pow2(self.digits - half),
+            digits: half,
+            reversed: true,
         }
-    }
-}
-
-/// Exchanges the pairs of rows that the region `pairs` stands for. A column of the region is a
-/// line. Row `x` of a column is the pair of `x` and the `y` of that line, if `x < y`. Two lines are
-/// exchanged at a time.
-#[inline(always)]
-pub(crate) fn exchange_pairs<M: Places>(m: M, rows: RowDigits, pairs: Region) -> M
-    requires lines { AreLinePairs rows.digits pairs }
-    requires ready { pairs.col_start < pairs.col_end
-        → HoldsRows rows.width rows.digits (M.items m) }
-    ensures crossed { let half = rows.digits / 2
-        in IsCrossed half (rows.digits - half) rows.width pairs (M.items m) (M.items result) }
-    ensures holder { M.same_holder (rows.width * pairs_in (2 ^ (rows.digits / 2)) pairs) m result }
-{
-    let mut m = m;
-    for line_pair in pairs.col_start / 2..pairs.col_end / 2 {
-        m = exchange_lines(m, rows, line_pair * 2, pairs.row_start, pairs.row_end);
-    }
-    m
-}
-
-/// Exchanges those pairs of rows of `line`, and of the line after it, whose `x` is in `from..to`.
-#[tactic(auto, using(crate::proofs::CrossingLemmas::line_parts))]
-#[inline(always)]
-fn exchange_lines<M: Places>(m: M, rows: RowDigits, line: usize, from: usize, to: usize) -> M
-    requires in_order { from ≤ to }
-    requires above { from ≤ line % 2 ^ (rows.digits / 2) }
-    requires even { line % 2 ≡ 0 }
-    requires some { 2 ≤ rows.digits }
-    requires line { line < 2 ^ (rows.digits - rows.digits / 2) }
-    requires ready { HoldsRows rows.width rows.digits (M.items m) }
-    ensures crossed { let half = rows.digits / 2 in IsCrossed half (rows.digits - half) rows.width
-        (record { row_start = from; row_end = to; col_start = line; col_end = line + 2 })
-        (M.items m) (M.items result) }
-    ensures holder { let y = line % 2 ^ (rows.digits / 2) in
-        M.same_holder (rows.width * ((min to y - from) + (min to (y + 1) - from))) m result }
-{
-    let half = rows.digits / 2;
-    let side = pow2(half);
-    // The shift is a division by `side`. Rattle's compiler would turn `line / side * side` into
-    // `line - y`, which would make the loop slower.
-    let first = (line >> half) * side;
-    let y = line % side;
-    let mut m = m;
-    for x in from..to.min(y) {
-        m = exchange_pair(m, rows, first, x, y);
-        m = exchange_pair(m, rows, first, x, y + 1);
-    }
-    if y < to {
-        exchange_pair(m, rows, first, y, y + 1)
-    } else {
-        m
-    }
-}
-
-/// Exchanges the row of `x` and `y` with the row of `y` and `x`. Both rows have the same middle
-/// digit, and `first` is the first line with that digit.
-#[inline(always)]
-fn exchange_pair<M: Places>(m: M, rows: RowDigits, first: usize, x: usize, y: usize) -> M
-    requires first { first % 2 ^ (rows.digits / 2) ≡ 0 }
-    requires inside { first + 2 ^ (rows.digits / 2) ≤ 2 ^ (rows.digits - rows.digits / 2) }
-    requires less { x < y }
-    requires below { y < 2 ^ (rows.digits / 2) }
-    requires ready { HoldsRows rows.width rows.digits (M.items m) }
-    ensures crossed { let half = rows.digits / 2 in let line = first + y
-        in IsCrossed half (rows.digits - half) rows.width
-        (record { row_start = x; row_end = x + 1; col_start = line; col_end = line + 1 })
-        (M.items m) (M.items result) }
-    ensures holder { M.same_holder rows.width m result }
-{
-    let i = row_at(rows.digits, x, first + y);
-    let j = row_at(rows.digits, y, first + x);
-    exchange_rows(m, rows.width, i, j)
-}
-
-/// Exchanges rows `i` and `j`.
-#[inline(always)]
-fn exchange_rows<M: Places>(m: M, row_width: usize, i: usize, j: usize) -> M
-    requires apart { (i * row_width + row_width ≤ j * row_width)
-        ⊎ (j * row_width + row_width ≤ i * row_width) }
-    requires first { i * row_width + row_width ≤ length (M.items m) }
-    requires second { j * row_width + row_width ≤ length (M.items m) }
-    requires length_fits { length (M.items m) < 2 ^ 64 }
-    ensures exchanged { RunsExchanged (i * row_width) (j * row_width) row_width (M.items m)
-        (M.items result) }
-    ensures holder { M.same_holder row_width m result }
-{
-    let mut m = m;
-    if row_width == 1 {
-        m.exchange(i, j);
-    } else {
-        m.exchange_runs(i * row_width, j * row_width, row_width);
-    }
-    m
-}
-
-/// The index of the row whose high part is `x` in reversed order, and whose other digits are `low`.
-#[inline(always)]
-fn row_at(digits: usize, x: usize, low: usize) -> usize
-    requires few { digits < 64 }
-    requires x { x < 2 ^ (digits / 2) }
-    requires low { low < 2 ^ (digits - digits / 2) }
-    ensures row { result ≡ rev (digits / 2) x * 2 ^ (digits - digits / 2) + low }
-    ensures below { result < 2 ^ digits }
-{
-    let half = digits / 2;
-    reverse_digits(x, half) * pow2(digits - half) + low
-}
-
-/// Reverses `x`, which has at most `digits` binary digits. Up to six digits are looked up in the
-/// table, and more are reversed by halves.
-#[inline(always)]
-fn reverse_digits(x: usize, digits: usize) -> usize
-    requires few { digits < 64 }
-    requires below { x < 2 ^ digits }
-    ensures { result ≡ rev digits x }
-{
-    if digits <= 6 {
-        usize::from(REVERSED_SIX[x * (64 >> digits) % 64])
-    } else {
-        reverse_bits_len(x, digits)
     }
 }

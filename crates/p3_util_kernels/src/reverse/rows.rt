@@ -7,8 +7,10 @@ ghost use Rattle.p3_util_kernels.specs.Reversal.{FitsRows, IsReversal, IsReversi
 ghost use Rattle.p3_util_kernels.specs.Steps.{counted};
 ghost use Rattle.p3_util_kernels.specs.SwapCounts.{row_swaps, short_swaps};
 
+use crate::bits::pow2;
+use crate::grid::exchange_square;
 use crate::places::{Places, Swaps};
-use crate::reverse::pairs::{RowDigits, exchange_pairs};
+use crate::reverse::pairs::RowDigits;
 
 /// Reverses the order of the rows of `m` by index bits. Each row has `row_width` items. With 2^k
 /// rows, the row at index `r` comes from the index that has the k bits of `r` in reversed order.
@@ -108,6 +110,7 @@ pub(crate) fn reverse_rows<M: Places>(m: M, rows: RowDigits) -> M
         2 => exchange_all(m, RowDigits { digits: 2, ..rows }),
         3 => exchange_all(m, RowDigits { digits: 3, ..rows }),
         4 => exchange_all(m, RowDigits { digits: 4, ..rows }),
+        5 => exchange_all(m, RowDigits { digits: 5, ..rows }),
         _ => exchange_all(m, rows),
     }
 }
@@ -121,5 +124,13 @@ fn exchange_all<M: Places>(m: M, rows: RowDigits) -> M
     ensures order { IsRowReversal rows.width (M.items m) (M.items result) }
     ensures holder { M.same_holder (rows.width * short_swaps rows.digits) m result }
 {
-    exchange_pairs(m, rows, rows.all_pairs())
+    if rows.digits < 2 {
+        return m;
+    }
+    let half = rows.digits / 2;
+    let mut m = m;
+    for middle in 0..pow2(rows.digits - half - half) {
+        m = exchange_square(m, rows.grid(middle), 0, pow2(half));
+    }
+    m
 }

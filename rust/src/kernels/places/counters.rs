@@ -201,26 +201,21 @@ impl<S: Places> Places for Swaps<S> {
     }
 
     #[inline(always)]
-    fn exchange_ordered(&mut self, i: usize, j: usize) {
-        self.holder.exchange_ordered(i, j);
+    fn exchange_apart(&mut self, i: usize, j: usize) {
+        self.holder.exchange_apart(i, j);
         self.count = self.count.saturating_add(1);
+    }
+
+    #[inline(always)]
+    fn exchange_tiles(&mut self, x: [usize; 8], y: [usize; 8]) {
+        self.holder.exchange_tiles(x, y);
+        self.count = self.count.saturating_add(64);
     }
 
     #[inline(always)]
     fn exchange_runs(&mut self, i: usize, j: usize, len: usize) {
         self.holder.exchange_runs(i, j, len);
         self.count = self.count.saturating_add(len as u128);
-    }
-
-    #[inline(always)]
-    fn exchange_blocks(&mut self, i: usize, j: usize, stride: usize) {
-        self.holder.exchange_blocks(i, j, stride);
-        self.count = self.count.saturating_add(16);
-    }
-
-    #[inline(always)]
-    fn by_blocks(&self) -> bool {
-        self.holder.by_blocks()
     }
 }
 

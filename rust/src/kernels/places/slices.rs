@@ -38,22 +38,9 @@ impl<'a, F> Places for SlicePlaces<'a, F> {
     }
 
     #[inline(always)]
-    fn exchange_ordered(&mut self, i: usize, j: usize) {
-        exchange_ordered_items(self.items, i, j);
-    }
-
-    #[inline(always)]
     fn exchange_runs(&mut self, i: usize, j: usize, len: usize) {
         exchange_runs_of_items(self.items, i, j, len);
     }
-}
-
-/// Exchanges the items at places `i` and `j`. Since `i < j`, it does not check whether the two
-/// places are the same.
-#[inline(always)]
-fn exchange_ordered_items<F>(items: &mut [F], i: usize, j: usize) {
-    let (front, back) = items.split_at_mut(j);
-    core::mem::swap(&mut front[i], &mut back[0]);
 }
 
 /// Exchanges two runs of `len` items: those from place `i` on and those from place `j` on.

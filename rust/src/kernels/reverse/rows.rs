@@ -1,8 +1,10 @@
 //! Bit reversal of the order of rows of any width. Each pair of rows whose indices are each other's
 //! reverse is exchanged once. Single items are reversed as rows of one item.
 
+use crate::kernels::bits::pow2;
+use crate::kernels::grid::exchange_square;
 use crate::kernels::places::{Places, Swaps};
-use crate::kernels::reverse::pairs::{RowDigits, exchange_pairs};
+use crate::kernels::reverse::pairs::RowDigits;
 
 /// Reverses the order of the rows of `m` by index bits. Each row has `row_width` items. With 2^k
 /// rows, the row at index `r` comes from the index that has the k bits of `r` in reversed order.
@@ -101,6 +103,7 @@ pub(crate) fn reverse_rows<M: Places>(m: M, rows: RowDigits) -> M {
         2 => exchange_all(m, RowDigits { digits: 2, ..rows }),
         3 => exchange_all(m, RowDigits { digits: 3, ..rows }),
         4 => exchange_all(m, RowDigits { digits: 4, ..rows }),
+        5 => exchange_all(m, RowDigits { digits: 5, ..rows }),
         _ => exchange_all(m, rows),
     }
 }
@@ -108,5 +111,13 @@ pub(crate) fn reverse_rows<M: Places>(m: M, rows: RowDigits) -> M {
 /// Exchanges all pairs of rows whose indices are each other's reverse.
 #[inline(always)]
 fn exchange_all<M: Places>(m: M, rows: RowDigits) -> M {
-    exchange_pairs(m, rows, rows.all_pairs())
+    if rows.digits < 2 {
+        return m;
+    }
+    let half = rows.digits / 2;
+    let mut m = m;
+    for middle in 0..pow2(rows.digits - half - half) {
+        m = exchange_square(m, rows.grid(middle), 0, pow2(half));
+    }
+    m
 }

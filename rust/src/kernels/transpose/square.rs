@@ -1,25 +1,12 @@
-//! Transposes a square of items in place, by quadrants.
+//! Transposes a square of items in place.
 //!
 //! The item in row `a` and column `b` of the square is at place `base + a * stride + b` of the
-//! list. Its mirror image across the diagonal is the item in row `b` and column `a`. Each item
-//! above the diagonal is exchanged once with its mirror image. There are no other exchanges.
+//! list. So the square is a [`Grid`] whose rows are in order, and each item above the diagonal is
+//! exchanged once with its mirror image.
 
 use crate::kernels::bits::pow2;
+use crate::kernels::grid::{Grid, exchange_square};
 use crate::kernels::places::{Places, Swaps};
-use crate::kernels::transpose::regions::Region;
-
-/// The greatest number of rows of a leaf: a region that is exchanged without being cut further.
-const LEAF_ROWS: usize = 16;
-
-/// The greatest number of columns of a leaf.
-const LEAF_COLS: usize = 8;
-
-/// Where a square lies in a list: its first place, and how far apart its rows begin.
-#[derive(Clone, Copy)]
-pub(crate) struct Square {
-    pub base: usize,
-    pub stride: usize,
-}
 
 /// Whether a list of `len` items holds a square of `s = 2^log_size` rows and columns. The square
 /// begins at place `base`, and its rows begin `2^log_stride` places apart. No row may reach into
@@ -90,91 +77,12 @@ pub(crate) fn transpose_square<M: Places>(
     log_stride: usize,
     log_size: usize,
 ) -> M {
-    let square = Square {
+    let grid = Grid {
+        width: 1,
         base,
         stride: pow2(log_stride),
+        digits: log_size,
+        reversed: false,
     };
-    transpose_diagonal(m, square, 0, pow2(log_size))
-}
-
-/// Transposes a smaller square inside `square`, by quadrants: the one with the `size` rows and the
-/// `size` columns from `start` on.
-pub(crate) fn transpose_diagonal<M: Places>(m: M, square: Square, start: usize, size: usize) -> M {
-    if size <= 1 {
-        return m;
-    }
-    let half = size / 2;
-    let upper_right = Region {
-        row_start: start,
-        row_end: start + half,
-        col_start: start + half,
-        col_end: start + size,
-    };
-    let m = transpose_diagonal(m, square, start, half);
-    let m = exchange_region(m, square, upper_right);
-    transpose_diagonal(m, square, start + half, size - half)
-}
-
-/// Exchanges a region above the diagonal with its mirror image below the diagonal. A region that is
-/// not a leaf is cut in half: between two rows if it has more than about twice as many rows as
-/// columns, and otherwise between two columns.
-pub(crate) fn exchange_region<M: Places>(m: M, square: Square, region: Region) -> M {
-    let (rows, cols) = (region.rows(), region.cols());
-    if rows <= LEAF_ROWS && cols == LEAF_COLS {
-        // Most leaves have `LEAF_COLS` columns. Here the compiler knows that number.
-        exchange_leaf(m, square, region.with_known_sides(rows, LEAF_COLS))
-    } else if rows <= LEAF_ROWS && cols < LEAF_COLS {
-        exchange_leaf(m, square, region)
-    } else if rows / 2 > cols {
-        let (upper, lower) = region.cut_rows(region.row_start + rows / 2);
-        let m = exchange_region(m, square, upper);
-        exchange_region(m, square, lower)
-    } else {
-        let (left, right) = region.cut_cols(region.col_start + cols / 2);
-        let m = exchange_region(m, square, left);
-        exchange_region(m, square, right)
-    }
-}
-
-/// Does the same as [`exchange_region`], but without cutting the region: row after row, or by
-/// blocks if they are faster for the holder.
-#[inline(always)]
-fn exchange_leaf<M: Places>(m: M, square: Square, region: Region) -> M {
-    let mut m = m;
-    let mut row = region.row_start;
-    while row < region.row_end {
-        if m.by_blocks() && region.cols() % 4 == 0 && region.row_end - row >= 4 {
-            m = exchange_block_row(m, square, row, region);
-            row += 4;
-        } else {
-            m = exchange_row(m, square, row, region);
-            row += 1;
-        }
-    }
-    m
-}
-
-/// Exchanges items of the four rows from `row` on with their mirror images, by blocks of 4 by 4
-/// items. These are the items in the columns of `region`, which are to the right of the diagonal.
-#[inline(always)]
-fn exchange_block_row<M: Places>(m: M, square: Square, row: usize, region: Region) -> M {
-    let Square { base, stride } = square;
-    let mut m = m;
-    for k in 0..region.cols() / 4 {
-        let col = region.col_start + 4 * k;
-        m.exchange_blocks(base + row * stride + col, base + col * stride + row, stride);
-    }
-    m
-}
-
-/// Exchanges items of row `row` with their mirror images. These are the items in the columns of
-/// `region`, which are to the right of the diagonal.
-#[inline(always)]
-fn exchange_row<M: Places>(m: M, square: Square, row: usize, region: Region) -> M {
-    let Square { base, stride } = square;
-    let mut m = m;
-    for col in region.col_start..region.col_end {
-        m.exchange_ordered(base + row * stride + col, base + col * stride + row);
-    }
-    m
+    exchange_square(m, grid, 0, pow2(log_size))
 }

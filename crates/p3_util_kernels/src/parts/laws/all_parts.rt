@@ -1,18 +1,19 @@
-//! Runs all parts of a call, with the parts of each phase in any order. This has the same effect as
-//! the call, and takes as many steps.
+//! Runs all parts of a call, in any order. This has the same effect as the call, and takes as many
+//! steps.
 //!
 //! An order is a slice. Its item at index `j` is the number of the part that runs in turn `j`. In a
 //! turn for which the slice has no item, the part with the same number as the turn runs. So the
 //! empty slice stands for the order 0, 1, 2 and so on.
 
-ghost use Rattle.std.specs.Prelude.{◌≡◌, ℕ, ◌*◌, ◌^◌, ◌<◌, Some, length, slice_get};
-ghost use Rattle.p3_util_kernels.specs.AnyOrder.{IsOrder, order_of, turn_of};
+ghost use Rattle.std.specs.Prelude.{◌≡◌, ◌*◌, ◌^◌, ◌<◌, length};
+ghost use Rattle.p3_util_kernels.specs.AnyOrder.{IsOrder, turn_of};
 ghost use Rattle.p3_util_kernels.specs.Parts.{parts_in};
-ghost use Rattle.p3_util_kernels.specs.Plans.{IsPhaseMade, IsPhaseOf, IsReversalPlan, parts_of, phases_of, swaps_in_parts, swaps_of_phase, swaps_of_plan};
+ghost use Rattle.p3_util_kernels.specs.Plans.{IsReversalPlan, parts_of, width_of};
 ghost use Rattle.p3_util_kernels.specs.Reversal.{FitsRows, IsRowReversal};
+ghost use Rattle.p3_util_kernels.specs.SwapCounts.{row_swaps};
 ghost use Rattle.p3_util_kernels.specs.Transpose.{IsTranspose};
 
-use crate::parts::{Phase, ReversalPlan, TransposePlan};
+use crate::parts::{ReversalPlan, TransposePlan};
 use crate::places::{Cells, Places, Source};
 use crate::transpose::{Matrix, Strips};
 
@@ -47,65 +48,17 @@ pub(crate) fn put_regions<C: Cells, R: Source<Item = C::Item> + Copy>(
     out
 }
 
-/// Runs all parts of a phase in the given order.
-pub(crate) fn make_parts<M: Places>(m: M, phase: Phase, order: &[usize]) -> M
-    requires order { IsOrder (parts_of phase) (turn_of order.now) }
-    requires list { IsPhaseOf phase (length (M.items m)) }
+/// Runs all parts of a plan for a reversal in the given order.
+pub(crate) fn make_parts<M: Places>(m: M, plan: ReversalPlan, order: &[usize]) -> M
+    requires order { IsOrder (parts_of plan) (turn_of order.now) }
+    requires plan { IsReversalPlan (length (M.items m)) plan }
     requires len_fits { length (M.items m) < 2 ^ 64 }
-    ensures made { IsPhaseMade phase (M.items m) (M.items result) }
-    ensures holder { M.same_holder (swaps_of_phase phase (length (M.items m))) m result }
+    ensures made { IsRowReversal (width_of plan) (M.items m) (M.items result) }
+    ensures holder { M.same_holder (row_swaps (length (M.items m)) (width_of plan)) m result }
 {
     let mut m = m;
-    for i in 0..phase.count() {
-        m = phase.exchange(m, turn(order, i));
-    }
-    m
-}
-
-/// For each phase of a reversal, an order of its parts.
-#[derive(Clone, Copy)]
-pub(crate) struct Orders<'a> {
-    pub first: &'a [usize],
-    pub second: &'a [usize],
-    pub third: &'a [usize],
-}
-
-impl<'a> Orders<'a> {
-    /// The order of the parts of phase `number`.
-    fn of_phase(self, number: usize) -> &'a [usize]
-        ensures { result.now ≡ order_of self.entry.first.now self.entry.second.now
-            self.entry.third.now number }
-    {
-        match number {
-            0 => self.first,
-            1 => self.second,
-            _ => self.third,
-        }
-    }
-}
-
-/// Runs all phases of a plan for a reversal. The parts of each phase run in the order for that
-/// phase.
-pub(crate) fn make_phases<M: Places>(
-    m: M,
-    row_width: usize,
-    plan: ReversalPlan,
-    orders: Orders,
-) -> M
-    requires fits { FitsRows (length (M.items m)) row_width }
-    requires plan { IsReversalPlan (length (M.items m)) row_width plan }
-    requires len_fits { length (M.items m) < 2 ^ 64 }
-    requires orders { (number : ℕ) (phase : Phase) → slice_get (phases_of plan) number ≡ Some phase
-        → IsOrder (parts_of phase) (turn_of (order_of orders.first.now orders.second.now
-        orders.third.now number)) }
-    ensures order { IsRowReversal row_width (M.items m) (M.items result) }
-    ensures holder { M.same_holder (swaps_of_plan plan (length (M.items m))) m result }
-{
-    let mut m = m;
-    let mut number = 0;
-    while let Some(phase) = plan.phase(number) {
-        m = make_parts(m, phase, orders.of_phase(number));
-        number += 1;
+    for i in 0..plan.count() {
+        m = plan.exchange(m, turn(order, i));
     }
     m
 }
@@ -130,8 +83,8 @@ pub(crate) fn transpose_in_parts<C: Cells, R: Source<Item = C::Item> + Copy>(
     put_regions(out, matrix.source, plan, strips, &[])
 }
 
-/// Makes a plan for a reversal of rows, and runs all phases of the plan. The precondition is that
-/// of a reversal that is not cut.
+/// Makes a plan for a reversal of rows, and runs all parts of the plan. The precondition is that of
+/// a reversal that is not cut.
 pub(crate) fn reverse_in_parts<M: Places>(
     m: M,
     row_width: usize,
@@ -140,14 +93,8 @@ pub(crate) fn reverse_in_parts<M: Places>(
 ) -> M
     requires { FitsRows (length (M.items m)) row_width }
     ensures order { IsRowReversal row_width (M.items m) (M.items result) }
-    ensures holder { M.same_holder (swaps_in_parts (length (M.items m))
-        row_width one_part) m result }
+    ensures holder { M.same_holder (row_swaps (length (M.items m)) row_width) m result }
 {
     let plan = ReversalPlan::new(m.len(), row_width, parts, one_part);
-    let plain = Orders {
-        first: &[],
-        second: &[],
-        third: &[],
-    };
-    make_phases(m, row_width, plan, plain)
+    make_parts(m, plan, &[])
 }

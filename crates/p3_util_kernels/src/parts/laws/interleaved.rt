@@ -1,16 +1,16 @@
 //! The steps of several parts, interleaved as threads may interleave them.
 
 ghost use Rattle.std.specs.Prelude.{◌≡◌, ℕ, ◌*◌, ◌^◌, ◌<◌, List, length};
-ghost use Rattle.p3_util_kernels.specs.Interleaved.{AreApartBelow, AreMadeInterleaved, IsInterleaved, IsMadeAlone, IsPutAlone, MakeAlone, PutAlone, SameInTurn, in_turn};
+ghost use Rattle.p3_util_kernels.specs.Interleaved.{AreApartBelow, IsInterleaved, IsMadeAlone, IsPutAlone, MakeAlone, PutAlone, SameInTurn, in_turn};
 ghost use Rattle.p3_util_kernels.specs.Least.{AllDiffer, after_puts, after_swaps, places_put, places_swapped};
 ghost use Rattle.p3_util_kernels.specs.PartSteps.{NoItemInCommon};
 ghost use Rattle.p3_util_kernels.specs.Parts.{parts_in};
-ghost use Rattle.p3_util_kernels.specs.Plans.{IsPhaseMade, IsPhaseOf, IsReversalPlan, parts_of, phases_of};
-ghost use Rattle.p3_util_kernels.specs.Reversal.{FitsRows, IsRowReversal};
+ghost use Rattle.p3_util_kernels.specs.Plans.{IsReversalPlan, parts_of, width_of};
+ghost use Rattle.p3_util_kernels.specs.Reversal.{IsRowReversal};
 ghost use Rattle.p3_util_kernels.specs.Transpose.{IsTranspose};
 
 use crate::parts::laws::{ExchangeSteps, put_region};
-use crate::parts::{Phase, ReversalPlan, TransposePlan};
+use crate::parts::{ReversalPlan, TransposePlan};
 use crate::places::{Cells, Places, Source};
 use crate::transpose::Strips;
 
@@ -54,33 +54,24 @@ pub(crate) fn region_alone<C: Cells, R: Source<Item = C::Item> + Copy>(
     put_region(out, source, plan, number, strips)
 }
 
-/// Take, for each part of a phase, a list of exchanges that by itself has the effect of the part,
-/// in as many exchanges as the part takes. If all items differ, every interleaving of the lists has
-/// the effect of the phase.
-pub(crate) fn parts_interleaved<T>(phase: Phase)
+/// Take, for each part of a plan for a reversal, a list of exchanges that by itself has the effect
+/// of the part, in as many exchanges as the part takes. If all items differ, every interleaving of
+/// the lists makes the reversal.
+pub(crate) fn parts_interleaved<T>(plan: ReversalPlan)
     ensures { (old : List T) (lists : List (List (ℕ × ℕ))) (all : List (ℕ × ℕ))
-        → IsPhaseOf phase (length old) → AllDiffer old
-        → MakeAlone phase old lists → IsInterleaved lists all
-        → IsPhaseMade phase old (after_swaps old all) }
+        → IsReversalPlan (length old) plan → AllDiffer old
+        → MakeAlone plan old lists → IsInterleaved lists all
+        → IsRowReversal (width_of plan) old (after_swaps old all) }
 {}
 
-/// Each part of a phase has a list of exchanges that has the effect of the part by itself, as
+/// Each part of a plan has a list of exchanges that has the effect of the part by itself, as
 /// [`parts_interleaved`] assumes.
-pub(crate) fn part_alone<M: Places>(m: M, phase: Phase, number: usize) -> M
-    requires below { number < parts_of phase }
-    requires list { IsPhaseOf phase (length (M.items m)) }
+pub(crate) fn part_alone<M: Places>(m: M, plan: ReversalPlan, number: usize) -> M
+    requires below { number < parts_of plan }
+    requires plan { IsReversalPlan (length (M.items m)) plan }
     requires len_fits { length (M.items m) < 2 ^ 64 }
     ensures { (steps : List (ℕ × ℕ)) × (M.items result ≡ after_swaps (M.items m) steps)
-        × IsMadeAlone phase number (M.items m) steps }
+        × IsMadeAlone plan number (M.items m) steps }
 {
-    phase.exchange(ExchangeSteps { places: m }, number).places
+    plan.exchange(ExchangeSteps { places: m }, number).places
 }
-
-/// If the phases of a plan run one after the other, and the exchanges of the parts of each phase
-/// are interleaved in any way, the result is the reversal. This holds if all items differ.
-pub(crate) fn phases_interleaved<T>(row_width: usize, plan: ReversalPlan)
-    ensures { (old new : List T) → FitsRows (length old) row_width
-        → IsReversalPlan (length old) row_width plan → length old < 2 ^ 64
-        → AllDiffer old → AreMadeInterleaved (phases_of plan) old new
-        → IsRowReversal row_width old new }
-{}

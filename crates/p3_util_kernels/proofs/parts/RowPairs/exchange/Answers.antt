@@ -1,43 +1,106 @@
--- The lines of a block are pairs of lines and have as many pairs as the block; fewer than two
--- digits have no pairs.
-use Rattle.std.proofs.Common.{◌≡◌, ◌*◌, arith}
-use Rattle.p3_util_kernels.proofs.CrossingLemmas.{IsCrossed-few}
-use Rattle.p3_util_kernels.proofs.Lines.{AreLinePairs-block, pairs_in-block, pairs_in-few}
+-- A block is a region of the grid of its square.
+use Rattle.std.proofs.Common.{◌≡◌, ℕ, ◌+◌, ◌-◌, ◌*◌, ◌/◌, ◌^◌, ◌<◌, ◌≤◌, ap, refl, subst, ◌∙◌, eq-eqb, ne_eqb, arith}
+use Rattle.std.proofs.Math.Nat.{lt_of_mul-lt-mul_right}
+use Rattle.std.proofs.lemmas.Nat.{pow_pos}
+use Rattle.p3_util_kernels.specs.declared.transpose.regions.Region.{Region}
+use Rattle.p3_util_kernels.specs.Blocks.{IsBlock, swaps_of_block}
+use Rattle.p3_util_kernels.specs.Grid.{SwapsInGrid, grid_of_rows}
+use Rattle.p3_util_kernels.specs.Region.{items_of, rows_of}
+use Rattle.p3_util_kernels.specs.SwapCounts.{square_swaps}
+use Rattle.p3_util_kernels.proofs.BlocksLemmas.{block-above, block-cols, block-diagonal, block-rows}
+use Rattle.p3_util_kernels.proofs.GridRows.{HoldsGrid-rows, IsCrossed-grid}
+use Rattle.p3_util_kernels.proofs.SideBySideLemmas.{row_length}
 use Rattle.p3_util_kernels.proofs.parts.RowPairs.exchange.Goals as goal
 
-pub exchange_pairs-requires-clause-lines : goal.exchange_pairs-requires-clause-lines
-exchange_pairs-requires-clause-lines g c =
-    let pairs = c.args.self in
-    rw c.with_cols-lines.ensures
-    (AreLinePairs-block pairs.rows.digits _ _ _ _ _ _ pairs.squares.cut.some_step c.block.ensures.block pairs.side pairs.stride pairs.even (omega arith))
+-- the square of a block is one of those that lie side by side
+below : (digits middle side stride step number : ℕ) (region : Region) → side ≡ 2 ^ (digits / 2) → stride ≡ 2 ^ (digits - digits / 2)
+    → IsBlock side stride step number (middle * side) region → middle < 2 ^ (digits - digits / 2 - digits / 2)
+below digits middle side stride step number region side_is stride_is block =
+    let half : ℕ = digits / 2 in
+    let inside : middle * 2 ^ half + 2 ^ half ≤ 2 ^ (digits - half) = rw (side_is, stride_is) at block.inside in
+    let row : middle * 2 ^ half < 2 ^ (digits - half - half) * 2 ^ half = omega (arith, inside, row_length (digits - half) half (omega arith), pow_pos half) in
+    lt_of_mul-lt-mul_right (2 ^ half) row
 
-pub returns-then-self-lt2 : goal.returns-then-self-lt2
-returns-then-self-lt2 g c =
+-- a region on the diagonal is a square
+square : (region : Region) → region.row_start ≤ region.row_end → region.row_start ≡ region.col_start → region.row_end ≡ region.col_end
+    → record { row_start = region.row_start; row_end = region.row_start + rows_of region; col_start = region.row_start; col_end = region.row_start + rows_of region } ≡ region
+square region order start end =
+    let size : region.row_start + rows_of region ≡ region.row_end = omega arith in
+    let to : region.row_start + rows_of region ≡ region.col_end = omega arith in
+    ap (λ (n : ℕ). record { row_start = region.row_start; row_end = n; col_start = region.row_start; col_end = region.row_start + rows_of region }) size
+    ∙ ap (λ (n : ℕ). record { row_start = region.row_start; row_end = region.row_end; col_start = n; col_end = region.row_start + rows_of region }) start
+    ∙ ap (λ (n : ℕ). record { row_start = region.row_start; row_end = region.row_end; col_start = region.col_start; col_end = n }) to
+
+pub grid-grid-requires-clause-middle : goal.grid-grid-requires-clause-middle
+grid-grid-requires-clause-middle g c =
     let pairs = c.args.self in
-    let block = c.block.ensures.block in
-    let swaps = pairs_in-block _ _ _ _ _ _ pairs.squares.cut.some_step block in
-    let none : pairs.rows.width * 0 ≡ 0 = omega arith in
+    below pairs.rows.digits c.block-square.result.0 _ _ _ _ _ pairs.side pairs.stride c.block-square.ensures
+
+pub exchange_quadrants-requires-clause-ready : goal.exchange_quadrants-requires-clause-ready
+exchange_quadrants-requires-clause-ready g c =
+    let pairs = c.args.self in
+    let digits = pairs.rows.digits in
+    rw c.grid-grid.ensures
+    (HoldsGrid-rows (digits / 2) (digits - digits / 2) pairs.rows.width c.block-square.result.0 (omega arith)
+    (below digits c.block-square.result.0 _ _ _ _ _ pairs.side pairs.stride c.block-square.ensures) digits _ (omega arith) c.requires.ready)
+
+pub exchange_region-requires-clause-ready : goal.exchange_region-requires-clause-ready
+exchange_region-requires-clause-ready g c =
+    let pairs = c.args.self in
+    let digits = pairs.rows.digits in
+    rw c.grid-grid.ensures
+    (HoldsGrid-rows (digits / 2) (digits - digits / 2) pairs.rows.width c.block-square.result.0 (omega arith)
+    (below digits c.block-square.result.0 _ _ _ _ _ pairs.side pairs.stride c.block-square.ensures) digits _ (omega arith) c.requires.ready)
+
+pub exchange_region-requires-clause-above : goal.exchange_region-requires-clause-above
+exchange_region-requires-clause-above g c = block-above _ _ _ _ _ _ c.args.self.squares.cut.some_step c.block-square.ensures c.if-region.false
+
+pub returns-then-region : goal.returns-then-region
+returns-then-region g c =
+    let pairs = c.args.self in
+    let digits = pairs.rows.digits in
+    let half = digits / 2 in
+    let width = pairs.rows.width in
+    let middle = c.block-square.result.0 in
+    let region = c.block-square.result.1 in
+    let block = c.block-square.ensures in
+    let some = pairs.squares.cut.some_step in
+    let rows = block-rows _ _ _ _ _ region some block in
+    let cols = block-cols _ _ _ _ _ region some block in
+    let end = block-diagonal _ _ _ _ _ region some block c.if-region.true in
+    let swaps : swaps_of_block region ≡ square_swaps (rows_of region) = rw (eq-eqb region.row_start region.col_start c.if-region.true) refl in
     record {
       block = (
-        _,
-        _,
+        middle * pairs.squares.cut.len,
+        region,
         block,
-        IsCrossed-few pairs.rows.digits pairs.rows.width _ _ (omega arith),
-        rw (← swaps, pairs.side, pairs_in-few pairs.rows.digits _ (omega arith), none) (g.met.M.Places.same_holder_refl _),
+        rw pairs.side
+            (IsCrossed-grid half (digits - half) width middle (omega arith) (below digits middle _ _ _ _ _ pairs.side pairs.stride block) region _ _ (omega (arith, cols, pairs.side))
+            (subst (λ (r : Region). SwapsInGrid (grid_of_rows half (digits - half) width middle) r (g.M.Places.items c.args.m) (g.M.Places.items c.exchange_quadrants.result))
+            (square region (omega (arith, rows)) c.if-region.true end) (rw (c.grid-grid.ensures, c.rows.ensures) at c.exchange_quadrants.ensures.exchanged))),
+        rw swaps (rw (c.grid-grid.ensures, c.rows.ensures) at c.exchange_quadrants.ensures.holder),
       );
     }
 
-pub returns : goal.returns
-returns g c =
+pub returns-else-region : goal.returns-else-region
+returns-else-region g c =
     let pairs = c.args.self in
-    let block = c.block.ensures.block in
-    let swaps = pairs_in-block _ _ _ _ _ _ pairs.squares.cut.some_step block in
+    let digits = pairs.rows.digits in
+    let half = digits / 2 in
+    let width = pairs.rows.width in
+    let middle = c.block-square.result.0 in
+    let region = c.block-square.result.1 in
+    let block = c.block-square.ensures in
+    let cols = block-cols _ _ _ _ _ region pairs.squares.cut.some_step block in
+    let swaps : swaps_of_block region ≡ items_of region = rw (ne_eqb region.row_start region.col_start c.if-region.false) refl in
     record {
       block = (
-        _,
-        _,
+        middle * pairs.squares.cut.len,
+        region,
         block,
-        rw c.with_cols-lines.ensures at c.exchange_pairs.ensures.crossed,
-        rw (c.with_cols-lines.ensures, ← pairs.side, swaps) at c.exchange_pairs.ensures.holder,
+        rw pairs.side
+            (IsCrossed-grid half (digits - half) width middle (omega arith) (below digits middle _ _ _ _ _ pairs.side pairs.stride block) region _ _ (omega (arith, cols, pairs.side))
+            (rw c.grid-grid.ensures at c.exchange_region.ensures.exchanged)),
+        rw swaps (rw c.grid-grid.ensures at c.exchange_region.ensures.holder),
       );
     }

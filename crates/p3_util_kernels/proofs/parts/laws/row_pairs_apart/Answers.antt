@@ -1,7 +1,7 @@
 -- Two blocks of pairs of rows have no place in common.
 use Rattle.std.proofs.Common.{◌-◌, ◌/◌, sym, ◌∙◌}
 use Rattle.p3_util_kernels.proofs.OrderedParts.{pairs-apart}
-use Rattle.p3_util_kernels.proofs.PhasesMade.{half-first}
+use Rattle.p3_util_kernels.proofs.PlansMade.{half-first}
 use Rattle.p3_util_kernels.proofs.parts.laws.row_pairs_apart.Goals as goal
 
 pub returns : goal.returns

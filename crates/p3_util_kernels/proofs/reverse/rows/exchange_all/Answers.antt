@@ -1,18 +1,22 @@
-use Rattle.std.proofs.Common.{◌≡◌, ℕ, ◌+◌, ◌-◌, ◌/◌, ◌^◌, ◌<◌, ◌≤◌, List, length, inl, inr, refl, arith}
+-- Each turn of the loop exchanges the pairs of one more grid. All grids have all pairs.
+use Rattle.std.proofs.Common.{◌≡◌, ℕ, ◌+◌, ◌-◌, ◌*◌, ◌/◌, ◌^◌, ◌<◌, ◌≤◌, List, length, inl, inr, ap, ◌∙◌, zero-add, arith}
 use Rattle.std.proofs.Math.Nat.{mul-pos}
-use Rattle.std.proofs.Math.Pow.{pow_mono}
 use Rattle.std.proofs.lemmas.Bool.{cases_eq}
 use Rattle.std.proofs.lemmas.Nat.{pow_pos}
-use Rattle.p3_util_kernels.specs.Crossing.{HoldsRows}
+use Rattle.p3_util_kernels.specs.declared.transpose.regions.Region.{Region}
+use Rattle.p3_util_kernels.specs.Crossing.{HoldsRows, IsCrossed}
 use Rattle.p3_util_kernels.specs.Levels.{clog}
-use Rattle.p3_util_kernels.specs.Reversal.{FitsRows}
-use Rattle.p3_util_kernels.proofs.CrossingLemmas.{IsCrossed-lines, IsRowReversal-crossed}
+use Rattle.p3_util_kernels.specs.Reversal.{FitsRows, IsRowReversal}
+use Rattle.p3_util_kernels.specs.SwapCounts.{short_swaps, square_swaps}
+use Rattle.p3_util_kernels.proofs.CrossingLemmas.{IsCrossed-cut, IsCrossed-few, IsRowReversal-crossed}
+use Rattle.p3_util_kernels.proofs.GridRows.{HoldsGrid-rows, IsCrossed-grid}
 use Rattle.p3_util_kernels.proofs.Lengths.{IsDigitsOfRows-from, no_digits}
-use Rattle.p3_util_kernels.proofs.Lines.{lines_of-several, pairs_in-all}
+use Rattle.p3_util_kernels.proofs.SquareCounts.{squares-short}
+use Rattle.p3_util_kernels.proofs.RegionLemmas.{IsCut-cols}
+use Rattle.p3_util_kernels.proofs.SideBySideLemmas.{row_length}
 use Rattle.p3_util_kernels.proofs.reverse.rows.exchange_all.Goals as goal
 
--- a list whose row indices have two digits or more meets the precondition of the kernels for pairs
--- of rows
+-- a list whose row indices have two digits or more has rows
 ready : {A : Type 0} (row_width digits : ℕ) (xs : List A) → FitsRows (length xs) row_width → digits ≡ clog (length xs / row_width)
     → length xs < 2 ^ 64 → 2 ≤ digits → HoldsRows row_width digits xs
 ready row_width digits xs fits counted small several =
@@ -20,47 +24,78 @@ ready row_width digits xs fits counted small several =
     let rows = IsDigitsOfRows-from (length xs) row_width digits some fits counted in
     record { wide = rows.wide; few = rows.few small; rows = rows.whole; length_fits = small }
 
--- the number of digits of the row indices is below 64, also for a list without rows
-few : (len row_width digits : ℕ) → FitsRows len row_width → digits ≡ clog (len / row_width) → len < 2 ^ 64 → digits < 64
-few len row_width digits fits counted small =
-    elim (cases_eq len 0) [
-      | inl none ↦ omega (arith, no_digits len row_width none)
-      | inr some ↦ (IsDigitsOfRows-from len row_width digits some fits counted).few small
-    ]
+-- the same for a list of the same length
+kept : {A : Type 0} (row_width digits : ℕ) (xs ys : List A) → length ys ≡ length xs → HoldsRows row_width digits xs → HoldsRows row_width digits ys
+kept row_width digits xs ys same rows = record { wide = rows.wide; few = rows.few; rows = same ∙ rows.rows; length_fits = rw same rows.length_fits }
 
-pub all_pairs-requires : goal.all_pairs-requires
-all_pairs-requires g c = few _ _ _ c.requires.fits c.requires.digits c.requires.len_fits
-
-pub exchange_pairs-requires-clause-ready : goal.exchange_pairs-requires-clause-ready
-exchange_pairs-requires-clause-ready g c some =
-    ready _ _ _ c.requires.fits c.requires.digits c.requires.len_fits (lines_of-several c.args.rows.digits (rw c.all_pairs.ensures at some))
-
-pub exchange_pairs-requires-clause-lines : goal.exchange_pairs-requires-clause-lines
-exchange_pairs-requires-clause-lines g c =
-    rw c.all_pairs.ensures
-    (record { rows_in_order = omega arith; cols_in_order = omega arith; first_even = refl; last_even = omega arith; inside = omega arith; above = λ line from to. omega arith })
-
-pub returns-clause-order : goal.returns-clause-order
-returns-clause-order g c =
-    let x = c.args.rows.digits in
-    let half = x / 2 in
-    let xs = g.M.Places.items c.args.m in
-    let crossed = rw c.all_pairs.ensures at c.exchange_pairs.ensures.crossed in
+-- if all pairs are exchanged, the rows are reversed, also if there are no rows
+reversed : {A : Type 0} (row_width digits : ℕ) (xs ys : List A) → FitsRows (length xs) row_width → digits ≡ clog (length xs / row_width)
+    → IsCrossed (digits / 2) (digits - digits / 2) row_width (record { row_start = 0; row_end = 2 ^ (digits / 2); col_start = 0; col_end = 2 ^ (digits - digits / 2) }) xs ys
+    → IsRowReversal row_width xs ys
+reversed row_width digits xs ys fits counted crossed =
+    let half = digits / 2 in
     elim (cases_eq (length xs) 0) [
       | inl none ↦ record {
         same_length = crossed.same_length;
-        places = λ k r j e h inside. absurd (omega (arith, mul-pos {m = c.args.rows.width} {n = 2 ^ k} (omega arith) (pow_pos k)));
+        places = λ k r j e h inside. absurd (omega (arith, mul-pos {m = row_width} {n = 2 ^ k} (omega arith) (pow_pos k)));
       }
       | inr some ↦
-          let rows = IsDigitsOfRows-from (length xs) c.args.rows.width x some c.requires.fits c.requires.digits in
-          let parts : half + (x - half) ≡ x = omega arith in
-          let small : 2 ^ half ≤ 2 ^ 63 = pow_mono {j = 63} (omega (arith, rows.few c.requires.len_fits)) in
-          IsRowReversal-crossed half (x - half) (omega arith) c.args.rows.width _ _ _ (omega arith) (rw parts rows.whole)
-          (λ v y hv hy. record { row_from = omega arith; row_to = omega (arith, small); col_from = omega arith; col_to = hv })
-          (IsCrossed-lines x c.args.rows.width _ _ _ crossed)
+          let rows = IsDigitsOfRows-from (length xs) row_width digits some fits counted in
+          let parts : half + (digits - half) ≡ digits = omega arith in
+          IsRowReversal-crossed half (digits - half) (omega arith) row_width _ _ _ (omega arith) (rw parts rows.whole)
+          (λ v y hv hy. record { row_from = omega arith; row_to = hy; col_from = omega arith; col_to = hv }) crossed
     ]
+
+pub loop-middle-preserved : goal.loop-middle-preserved
+loop-middle-preserved g c =
+    let digits = c.args.rows.digits in
+    let half = digits / 2 in
+    let w = c.args.rows.width in
+    let middle = c.loop-middle.middle in
+    let next : (middle + 1) * 2 ^ half ≡ middle * 2 ^ half + 2 ^ half = omega arith in
+    let first : middle * 2 ^ half + 0 ≡ middle * 2 ^ half = omega arith in
+    let within : half ≤ digits - half = omega arith in
+    let below : middle < 2 ^ (digits - half - half) = omega (arith, c.pow2-middle-end.ensures, c.loop-middle-test.true) in
+    let whole : Region = record { row_start = 0; row_end = 2 ^ half; col_start = 0; col_end = middle * 2 ^ half + 2 ^ half } in
+    let square : Region = record { row_start = 0; row_end = 2 ^ half; col_start = 0; col_end = 2 ^ half } in
+    record {
+      crossed = rw next
+          (IsCrossed-cut half (digits - half) within w whole _ _ _ _ _ (IsCut-cols whole (middle * 2 ^ half) (omega arith) (omega arith)) c.loop-middle.invariant.crossed
+          (rw first at (IsCrossed-grid half (digits - half) w middle within below square _ _ (omega arith) (rw (c.grid.ensures, c.pow2.ensures, zero-add) at c.exchange_square-m.ensures.exchanged))));
+      holder = g.met.M.Places.same_holder_trans _ _ _ _ _ _ c.loop-middle.invariant.holder (rw (c.grid.ensures, c.pow2.ensures) at c.exchange_square-m.ensures.holder) (omega arith);
+    }
+
+pub grid-requires-clause-few : goal.grid-requires-clause-few
+grid-requires-clause-few g c = (ready _ _ _ c.requires.fits c.requires.digits c.requires.len_fits c.if-rows-lt2.false).few
+
+pub pow2-requires : goal.pow2-requires
+pow2-requires g c = omega (arith, (ready _ _ _ c.requires.fits c.requires.digits c.requires.len_fits c.if-rows-lt2.false).few)
+
+pub exchange_square-m-requires-clause-ready : goal.exchange_square-m-requires-clause-ready
+exchange_square-m-requires-clause-ready g c =
+    let digits = c.args.rows.digits in
+    let half = digits / 2 in
+    let below : c.loop-middle.middle < 2 ^ (digits - half - half) = omega (arith, c.pow2-middle-end.ensures, c.loop-middle-test.true) in
+    rw c.grid.ensures
+    (HoldsGrid-rows half (digits - half) c.args.rows.width c.loop-middle.middle (omega arith) below digits _ (omega arith)
+    (kept _ _ _ _ c.loop-middle.invariant.crossed.same_length (ready _ _ _ c.requires.fits c.requires.digits c.requires.len_fits c.if-rows-lt2.false)))
+
+pub returns-then-rows-lt2-clause-order : goal.returns-then-rows-lt2-clause-order
+returns-then-rows-lt2-clause-order g c =
+    reversed c.args.rows.width c.args.rows.digits _ _ c.requires.fits c.requires.digits (IsCrossed-few c.args.rows.digits c.args.rows.width _ _ c.if-rows-lt2.true)
+
+pub returns-clause-order : goal.returns-clause-order
+returns-clause-order g c =
+    let digits = c.args.rows.digits in
+    let half = digits / 2 in
+    let all : c.loop-middle.middle ≡ 2 ^ (digits - half - half) = omega (arith, c.pow2-middle-end.ensures, c.loop-middle-test.false, c.loop-middle.auto.middle-end) in
+    reversed c.args.rows.width digits _ _ c.requires.fits c.requires.digits (rw (all, row_length (digits - half) half (omega arith)) at c.loop-middle.invariant.crossed)
 
 pub returns-clause-holder : goal.returns-clause-holder
 returns-clause-holder g c =
-    let fits = few _ _ _ c.requires.fits c.requires.digits c.requires.len_fits in
-    rw (c.all_pairs.ensures, pairs_in-all c.args.rows.digits fits) at c.exchange_pairs.ensures.holder
+    let digits = c.args.rows.digits in
+    let half = digits / 2 in
+    let w = c.args.rows.width in
+    let all : c.loop-middle.middle ≡ 2 ^ (digits - half - half) = omega (arith, c.pow2-middle-end.ensures, c.loop-middle-test.false, c.loop-middle.auto.middle-end) in
+    let count : 2 ^ (digits - half - half) * (w * square_swaps (2 ^ half)) ≡ w * short_swaps digits = omega (arith, ap (λ (n : ℕ). w * n) (squares-short digits)) in
+    rw (all, count) at c.loop-middle.invariant.holder

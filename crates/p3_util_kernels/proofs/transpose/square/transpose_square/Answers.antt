@@ -1,15 +1,20 @@
--- The whole square, exchanged across its diagonal, is its transpose.
-use Rattle.std.proofs.Common.{◌^◌, ◌≤◌, zero-add, arith}
-use Rattle.std.proofs.Math.Pow.{pow_mono}
-use Rattle.p3_util_kernels.proofs.DiagonalLemmas.{IsSquareTransposed-from_across}
+-- The square is a grid. The whole grid, exchanged across its diagonal, is its transpose.
+use Rattle.std.proofs.Common.{◌≡◌, ◌*◌, ◌^◌, zero-add, arith}
+use Rattle.p3_util_kernels.specs.SwapCounts.{square_swaps}
+use Rattle.p3_util_kernels.proofs.GridSquares.{HoldsGrid-square, IsSquareTransposed-grid}
 use Rattle.p3_util_kernels.proofs.transpose.square.transpose_square.Goals as goal
 
-pub transpose_diagonal-requires-clause-within : goal.transpose_diagonal-requires-clause-within
-transpose_diagonal-requires-clause-within g c =
-    let smaller : 2 ^ c.args.log_size ≤ 2 ^ c.args.log_stride = pow_mono c.requires.rows_apart in
-    omega arith
+pub exchange_square-requires-clause-ready : goal.exchange_square-requires-clause-ready
+exchange_square-requires-clause-ready g c =
+    rw c.pow2.ensures (HoldsGrid-square c.args.base c.args.log_stride c.args.log_size c.requires.rows_apart _ c.requires.stride_fits c.requires.room c.requires.len_fits)
 
 pub returns-clause-transposed : goal.returns-clause-transposed
 returns-clause-transposed g c =
-    IsSquareTransposed-from_across c.args.base c.args.log_stride c.args.log_size _ _ c.requires.rows_apart
-    (rw (c.pow2.ensures, c.pow2-2.ensures, zero-add) at c.transpose_diagonal.ensures.exchanged)
+    IsSquareTransposed-grid c.args.base c.args.log_stride c.args.log_size c.requires.rows_apart _ _
+    (rw (c.pow2.ensures, c.pow2-2.ensures, zero-add) at c.exchange_square.ensures.exchanged)
+
+pub returns-clause-holder : goal.returns-clause-holder
+returns-clause-holder g c =
+    let s = 2 ^ c.args.log_size in
+    let one : 1 * square_swaps s ≡ square_swaps s = omega arith in
+    rw (c.pow2-2.ensures, one) at c.exchange_square.ensures.holder

@@ -3,4 +3,4 @@ use Rattle.p3_util_kernels.proofs.InterleavedParts.{alone-from}
 use Rattle.p3_util_kernels.proofs.parts.laws.interleaved.part_alone.Goals as goal
 
 pub returns : goal.returns
-returns g c = alone-from c.args.phase c.args.number _ _ c.exchange.ensures
+returns g c = alone-from c.args.plan c.args.number _ _ c.exchange.ensures

@@ -1,0 +1,22 @@
+-- The quadrants make the square, and their pairs are those of the square.
+use Rattle.std.proofs.Common.{◌≡◌, ◌+◌, ◌-◌, refl, arith}
+use Rattle.p3_util_kernels.proofs.GridLemmas.{SwapsInGrid-quadrants}
+use Rattle.p3_util_kernels.proofs.Pairs.{pairs-add}
+use Rattle.p3_util_kernels.proofs.grid.+exchange_quadrants.Goals as goal
+
+pub returns-clause-exchanged : goal.returns-clause-exchanged
+returns-clause-exchanged g t c =
+    let half = c.upper_half-half.result in
+    let end : c.args.start + half + (c.args.size - half) ≡ c.args.start + c.args.size = omega arith in
+    SwapsInGrid-quadrants c.args.grid _ c.requires.ready _ (c.args.start + half) _ _ _ _ _ (omega arith) (omega arith) c.exchange_quadrants-m.ensures.exchanged
+    c.exchange_region-m.ensures.exchanged (rw end at c.exchange_quadrants.ensures.exchanged)
+
+pub returns-clause-holder : goal.returns-clause-holder
+returns-clause-holder g t c =
+    let half = c.upper_half-half.result in
+    let w = c.args.grid.width in
+    let whole : half + (c.args.size - half) ≡ c.args.size = omega arith in
+    let parts = rw whole at (pairs-add half (c.args.size - half)) in
+    let rows : c.args.start + half - c.args.start ≡ half = omega arith in
+    let cols : c.args.start + c.args.size - (c.args.start + half) ≡ c.args.size - half = omega arith in
+    g.met.M.Places.same_holder_trans _ _ _ _ _ _ (g.met.M.Places.same_holder_trans _ _ _ _ _ _ c.exchange_quadrants-m.ensures.holder (rw (rows, cols) at c.exchange_region-m.ensures.holder) refl) c.exchange_quadrants.ensures.holder (rw parts (omega arith))

@@ -1,0 +1,40 @@
+-- Each turn of the loop exchanges one more row to the right of the diagonal.
+use Rattle.std.proofs.Common.{◌≡◌, ◌+◌, ◌-◌, ◌*◌, suc, arith}
+use Rattle.p3_util_kernels.specs.SwapCounts.{square_swaps}
+use Rattle.p3_util_kernels.proofs.GridLemmas.{SwapsInGrid-corner, SwapsInGrid-none}
+use Rattle.p3_util_kernels.proofs.Pairs.{square_swaps-next}
+use Rattle.p3_util_kernels.proofs.grid.exchange_corner.Goals as goal
+
+pub loop-row-init : goal.loop-row-init
+loop-row-init g c =
+    let all : c.args.start + c.args.size - c.args.start ≡ c.args.size = omega arith in
+    let none : c.args.grid.width * 0 ≡ 0 = omega arith in
+    record {
+      exchanged = SwapsInGrid-none c.args.grid _ c.requires.ready _ _ (λ t a b h k. absurd (omega (arith, k.row_from, k.row_to)));
+      count = 0;
+      left = rw all (omega arith);
+      holder = rw none (g.met.M.Places.same_holder_refl _);
+    }
+
+pub loop-row-preserved : goal.loop-row-preserved
+loop-row-preserved g c =
+    let row = c.loop-row.row in
+    let end = c.args.start + c.args.size in
+    let less : end - row ≡ suc (end - (row + 1)) = omega arith in
+    record {
+      exchanged = SwapsInGrid-corner c.args.grid _ c.requires.ready c.args.start row end _ _ _ (omega arith) (omega arith) c.loop-row.invariant.exchanged c.exchange_row-m.ensures.exchanged;
+      count = c.loop-row.invariant.count + (end - (row + 1));
+      left = omega (arith, rw less at c.loop-row.invariant.left, square_swaps-next (end - (row + 1)));
+      holder = g.met.M.Places.same_holder_trans _ _ _ _ _ _ c.loop-row.invariant.holder c.exchange_row-m.ensures.holder (omega arith);
+    }
+
+pub returns-clause-exchanged : goal.returns-clause-exchanged
+returns-clause-exchanged g c =
+    let all : c.loop-row.row ≡ c.args.start + c.args.size = omega arith in
+    rw all at c.loop-row.invariant.exchanged
+
+pub returns-clause-holder : goal.returns-clause-holder
+returns-clause-holder g c =
+    let none : c.args.start + c.args.size - c.loop-row.row ≡ 0 = omega arith in
+    let all : c.loop-row.invariant.count ≡ square_swaps c.args.size = omega (arith, rw none at c.loop-row.invariant.left) in
+    rw all at c.loop-row.invariant.holder

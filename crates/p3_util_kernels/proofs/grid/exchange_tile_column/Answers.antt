@@ -1,0 +1,19 @@
+-- Each turn of the loop exchanges one more tile.
+use Rattle.std.proofs.Common.{◌≡◌, ◌+◌, ◌*◌, arith}
+use Rattle.p3_util_kernels.specs.declared.transpose.regions.Region.{Region}
+use Rattle.p3_util_kernels.proofs.GridLemmas.{cut_exchanged}
+use Rattle.p3_util_kernels.proofs.RegionLemmas.{IsCut-rows}
+use Rattle.p3_util_kernels.proofs.grid.exchange_tile_column.Goals as goal
+
+pub loop-tile-preserved : goal.loop-tile-preserved
+loop-tile-preserved g c =
+    let row = c.loop-tile.tile * 8 in
+    let next : (c.loop-tile.tile + 1) * 8 ≡ row + 8 = omega arith in
+    let done : Region = record c.args.region { row_end = row + 8; col_start = c.args.col; col_end = c.args.col + 8 } in
+    record {
+      exchanged = rw next (cut_exchanged c.args.grid _ c.requires.ready done _ _ _ _ _ (IsCut-rows done row (omega arith) (omega arith)) c.loop-tile.invariant.exchanged c.exchange_tile-m.ensures.exchanged);
+      holder = g.met.M.Places.same_holder_trans _ _ _ _ _ _ c.loop-tile.invariant.holder c.exchange_tile-m.ensures.holder (omega arith);
+    }
+
+pub returns-clause-exchanged : goal.returns-clause-exchanged
+returns-clause-exchanged g c = let end : c.loop-tile.tile * 8 ≡ c.args.region.row_end = omega (arith, c.requires.whole_start, c.requires.whole_end) in rw end at c.loop-tile.invariant.exchanged

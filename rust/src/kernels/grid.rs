@@ -1,0 +1,257 @@
+//! Squares of a list, and the exchange of their items across the diagonal.
+//!
+//! A *grid* is a square with 2^k rows and columns. Its row `x` begins at a place of the list, and
+//! the row's other places follow this one. The rows lie in the list one after another at equal
+//! distances, either in order or in bit-reversed order. So the place of row `x` and column `y` is
+//! `base + order(x) * stride + y`, where `order(x)` is `x`, or `x` with its k binary digits in
+//! reversed order.
+//!
+//! The place of row `x` and column `y` is exchanged with the place of row `y` and column `x`, for
+//! all `x < y`. If the rows are in order, this transposes the square. If they are in bit-reversed
+//! order, it reverses the list by index bits, as the module [`reverse`](crate::kernels::reverse) explains. A
+//! place can also stand for a run of `width` items.
+//!
+//! The exchanges are made in the order of nested squares, down to *tiles* of 8 rows and columns. So
+//! the items of a tile, which lie in a few cache lines, are exchanged together.
+
+use crate::kernels::bits::{pow2, reverse_bits_len};
+use crate::kernels::places::Places;
+use crate::kernels::transpose::Region;
+
+/// The number of rows and of columns of a tile.
+const TILE: usize = 8;
+
+/// The greatest number of rows and of columns of a region that is not cut further.
+const LEAF: usize = 64;
+
+/// Entry `i` has the six binary digits of `i` in reversed order. Reading this table once is faster
+/// than reversing so few digits by halves.
+static REVERSED_SIX: [u8; 64] = [
+    0, 32, 16, 48, 8, 40, 24, 56, 4, 36, 20, 52, 12, 44, 28, 60, 2, 34, 18, 50, 10, 42, 26, 58, 6,
+    38, 22, 54, 14, 46, 30, 62, 1, 33, 17, 49, 9, 41, 25, 57, 5, 37, 21, 53, 13, 45, 29, 61, 3, 35,
+    19, 51, 11, 43, 27, 59, 7, 39, 23, 55, 15, 47, 31, 63,
+];
+
+/// A square of `2^digits` rows and columns in a list. Each of its places is a run of `width` items.
+#[derive(Clone, Copy)]
+pub(crate) struct Grid {
+    pub width: usize,
+    /// The first place.
+    pub base: usize,
+    /// How far apart neighbouring rows of the list begin.
+    pub stride: usize,
+    pub digits: usize,
+    /// Whether the rows are in bit-reversed order.
+    pub reversed: bool,
+}
+
+impl Grid {
+    /// The place at which row `x` begins.
+    #[inline(always)]
+    fn start(self, x: usize) -> usize {
+        let row = if self.reversed {
+            reverse_digits(x, self.digits)
+        } else {
+            x
+        };
+        self.base + row * self.stride
+    }
+
+    /// How far from row `x` the rows `x + 1`, `x + 2` and `x + 4` begin, if 8 divides `x`.
+    #[inline(always)]
+    fn steps(self) -> (usize, usize, usize) {
+        if self.reversed {
+            let four = self.stride * pow2(self.digits - 3);
+            (4 * four, 2 * four, four)
+        } else {
+            (self.stride, 2 * self.stride, 4 * self.stride)
+        }
+    }
+
+    /// The places of one column in the 8 rows of a tile. `first` is the place in the first of these
+    /// rows.
+    #[inline(always)]
+    fn tile_column(self, first: usize) -> [usize; 8] {
+        // If 8 divides `x`, row `x + t` begins as far from row `x` as these distances say, one for each
+        // binary digit of `t` that is set.
+        let (one, two, four) = self.steps();
+        let middle = first + four;
+        [
+            first,
+            first + one,
+            first + two,
+            first + one + two,
+            middle,
+            middle + one,
+            middle + two,
+            middle + one + two,
+        ]
+    }
+}
+
+/// Exchanges place `i` with place `j`. Each of them is a run of `width` items.
+#[inline(always)]
+fn exchange_places<M: Places>(m: M, width: usize, i: usize, j: usize) -> M {
+    let mut m = m;
+    if width == 1 {
+        m.exchange_apart(i, j);
+    } else {
+        m.exchange_runs(i * width, j * width, width);
+    }
+    m
+}
+
+/// Exchanges places of row `row` with their mirror images. These are the places in the columns of
+/// `region`, which are to the right of the diagonal.
+#[inline(always)]
+fn exchange_row<M: Places>(m: M, grid: Grid, row: usize, region: Region) -> M {
+    let first = grid.start(row);
+    let mut m = m;
+    for col in region.col_start..region.col_end {
+        m = exchange_places(m, grid.width, first + col, grid.start(col) + row);
+    }
+    m
+}
+
+/// Exchanges the tile at row `row` and column `col`, which is above the diagonal, with its mirror
+/// image. `start` is the place at which row `col` begins.
+#[inline(always)]
+fn exchange_tile<M: Places>(m: M, grid: Grid, row: usize, col: usize, start: usize) -> M {
+    let mut m = m;
+    let rows = grid.tile_column(grid.start(row) + col);
+    m.exchange_tiles(rows, grid.tile_column(start + row));
+    m
+}
+
+/// Exchanges the tiles of a region that lie in the 8 columns from `col` on with their mirror images.
+#[inline(always)]
+fn exchange_tile_column<M: Places>(m: M, grid: Grid, col: usize, region: Region) -> M {
+    let start = grid.start(col);
+    let mut m = m;
+    for tile in region.row_start / TILE..region.row_end / TILE {
+        m = exchange_tile(m, grid, tile * TILE, col, start);
+    }
+    m
+}
+
+/// Exchanges a region above the diagonal with its mirror image, tile by tile.
+#[inline(always)]
+fn exchange_tiles<M: Places>(m: M, grid: Grid, region: Region) -> M {
+    let mut m = m;
+    for tile in region.col_start / TILE..region.col_end / TILE {
+        m = exchange_tile_column(m, grid, tile * TILE, region);
+    }
+    m
+}
+
+/// Exchanges a region above the diagonal with its mirror image, without cutting the region: tile by
+/// tile if the region consists of tiles, and otherwise row after row.
+#[inline(always)]
+fn exchange_leaf<M: Places>(m: M, grid: Grid, region: Region) -> M {
+    let whole_rows = region.row_start % TILE == 0 && region.row_end % TILE == 0;
+    let whole_cols = region.col_start % TILE == 0 && region.col_end % TILE == 0;
+    if grid.width == 1 && whole_rows && whole_cols {
+        return exchange_tiles(m, grid, region);
+    }
+    let mut m = m;
+    for row in region.row_start..region.row_end {
+        m = exchange_row(m, grid, row, region);
+    }
+    m
+}
+
+/// Exchanges a region above the diagonal with its mirror image. A region that is not a leaf is cut
+/// in half at its longer side.
+pub(crate) fn exchange_region<M: Places>(m: M, grid: Grid, region: Region) -> M {
+    let (rows, cols) = (region.rows(), region.cols());
+    if rows <= LEAF && cols <= LEAF {
+        exchange_leaf(m, grid, region)
+    } else if rows > cols {
+        let (upper, lower) = region.cut_rows(region.row_start + upper_half(rows));
+        let m = exchange_region(m, grid, upper);
+        exchange_region(m, grid, lower)
+    } else {
+        let (left, right) = region.cut_cols(region.col_start + upper_half(cols));
+        let m = exchange_region(m, grid, left);
+        exchange_region(m, grid, right)
+    }
+}
+
+/// Half of `size`, rounded up to whole tiles.
+#[inline(always)]
+fn upper_half(size: usize) -> usize {
+    (size - 1) / (2 * TILE) * TILE + TILE
+}
+
+/// Exchanges the items above the diagonal with their mirror images in a smaller square inside
+/// `grid`: the one with the `size` rows and the `size` columns from `start` on. This is done row
+/// after row.
+#[inline(always)]
+fn exchange_corner<M: Places>(m: M, grid: Grid, start: usize, size: usize) -> M {
+    let end = start + size;
+    let mut m = m;
+    for row in start..end {
+        let right = Region {
+            row_start: row,
+            row_end: row + 1,
+            col_start: row + 1,
+            col_end: end,
+        };
+        m = exchange_row(m, grid, row, right);
+    }
+    m
+}
+
+/// Does the same as [`exchange_corner`], for a tile.
+#[inline(always)]
+fn exchange_corner_tile<M: Places>(m: M, grid: Grid, start: usize) -> M {
+    let places = grid.tile_column(grid.start(start) + start);
+    let mut m = m;
+    for row in 0..TILE {
+        for col in row + 1..TILE {
+            m = exchange_places(m, grid.width, places[row] + col, places[col] + row);
+        }
+    }
+    m
+}
+
+/// Does the same as [`exchange_corner`], by quadrants.
+pub(crate) fn exchange_quadrants<M: Places>(m: M, grid: Grid, start: usize, size: usize) -> M {
+    if size == TILE && start % TILE == 0 {
+        return exchange_corner_tile(m, grid, start);
+    }
+    if size <= TILE {
+        return exchange_corner(m, grid, start, size);
+    }
+    let half = upper_half(size);
+    let upper_right = Region {
+        row_start: start,
+        row_end: start + half,
+        col_start: start + half,
+        col_end: start + size,
+    };
+    let m = exchange_quadrants(m, grid, start, half);
+    let m = exchange_region(m, grid, upper_right);
+    exchange_quadrants(m, grid, start + half, size - half)
+}
+
+/// Does the same as [`exchange_quadrants`]. The compiler knows here which small squares it makes.
+#[inline(always)]
+pub(crate) fn exchange_square<M: Places>(m: M, grid: Grid, start: usize, size: usize) -> M {
+    if size < TILE {
+        exchange_corner(m, grid, start, size)
+    } else {
+        exchange_quadrants(m, grid, start, size)
+    }
+}
+
+/// Reverses `x`, which has at most `digits` binary digits. Up to six digits are looked up in the
+/// table, and more are reversed by halves.
+#[inline(always)]
+pub(crate) fn reverse_digits(x: usize, digits: usize) -> usize {
+    if digits <= 6 {
+        usize::from(REVERSED_SIX[x * (64 >> digits) % 64])
+    } else {
+        reverse_bits_len(x, digits)
+    }
+}
