@@ -2,11 +2,12 @@
 //! proved sources.
 //!
 //! The module [`kernels`] has the proved code. It was proved as Rust with contracts, and its documentation still has
-//! these contracts. The functions next to this module are those of the original. If the original needs a condition,
-//! such as a length that is a power of two, the function here checks that condition and panics if it does not hold.
-//! Otherwise it calls the proved function to which its documentation links, or runs the kernel of that function on a
-//! slice. [`reverse_bits`] and [`reverse_bits_len`] check their conditions only with debug assertions. A function
-//! without a condition is a proved function itself or calls one. [`kernels::contracts`] says how to read a contract.
+//! these contracts: [`kernels::contracts`] says how to read one. The functions next to this module are those of the
+//! original, and [`reverse_slice_row_index_bits`]. If a function needs a condition, such as a length that is a power of
+//! two, it checks that condition and panics if it does not hold. [`reverse_bits`] and [`reverse_bits_len`] check theirs
+//! only with debug assertions. Then the function calls the proved function to which its documentation links, or runs the
+//! kernel of that function on a slice. Functions without a condition are proved functions, or call one, except for
+//! [`assert_send`] and [`assert_sync`], whose bounds the compiler checks.
 //!
 //! ```
 //! use p3_util_proved::{reverse_slice_index_bits, transpose::transpose};

@@ -1,4 +1,5 @@
-//! A map that keeps its pairs in the order of insertion. It finds a key by comparing it with each stored key.
+//! A map that keeps its pairs in the order of insertion. It finds a key by comparing it with one stored key after the
+//! other.
 
 use core::alloc::Layout;
 use core::fmt::{self, Debug, Formatter};
@@ -9,9 +10,9 @@ use crate::kernels::linear_map as proved;
 pub use crate::kernels::linear_map::{Iter, Keys, Values};
 use crate::memory::{Global, granted};
 
-/// A map in insertion order, for few keys. A lookup compares each stored key with the given one, as in
-/// `stored == given`. So a lookup takes time proportional to the number of pairs, and inserting n new keys takes time
-/// proportional to n^2.
+/// A map in insertion order, for few keys. A lookup compares one stored key after the other with the given one, as in
+/// `stored == given`, until one is equal. So a lookup takes time proportional to the number of pairs, and inserting n new
+/// keys takes time proportional to n^2.
 ///
 /// Each method calls the method of the same name of the proved [`kernels::linear_map::LinearMap`](proved::LinearMap),
 /// whose contract says what it does. If memory runs out, the proved method returns an error, and the method here
