@@ -25,8 +25,8 @@ use std::mem::replace;
 use std::ops::Index;
 use std::{slice, vec};
 
-/// A map in insertion order, for few keys. A lookup compares each stored key with the given one, as
-/// in `stored == given`.
+/// A map in insertion order, for few keys. A lookup compares one stored key after the other with the
+/// given one, as in `stored == given`.
 #[derive(Debug, Drop)]
 pub struct LinearMap<K: Eq, V> {
     pairs: Vec<(K, V)>,

@@ -11,8 +11,8 @@ use core::slice;
 use core::mem::replace;
 use core::ops::Index;
 
-/// A map in insertion order, for few keys. A lookup compares each stored key with the given one, as
-/// in `stored == given`.
+/// A map in insertion order, for few keys. A lookup compares one stored key after the other with the
+/// given one, as in `stored == given`.
 #[derive(Debug)]
 pub struct LinearMap<K: Eq, V> {
     pairs: Vec<(K, V)>,
