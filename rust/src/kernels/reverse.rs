@@ -13,7 +13,7 @@
 //! - `long` is the long path, which a call that counts its swaps takes for more items. It makes more
 //!   swaps, in three passes. Its number of swaps is part of the contracts of these calls.
 //! - `pairs` says which pairs of rows are exchanged. They lie across the diagonal of a square or of
-//!   two squares, and the module [`grid`](crate::kernels::grid) exchanges them. Both paths use it.
+//!   two squares, and the module `grid` exchanges them. Both paths use it.
 //!
 //! It is proved that each call leaves the list in bit-reversed order (`IsReversal`,
 //! `IsRowReversal`). For the calls that count, the exact number of swaps is proved too. The order
