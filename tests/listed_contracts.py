@@ -1,5 +1,6 @@
 """For tests/agree: compares two lists with the sources. tests/exports.txt lists the exports of crates/p3_util_c and is
-written by hand. tests/contracts.txt lists the public contracts of the crates that docs/CONTRACTS.md does not cover.
+written by hand. tests/contracts.txt lists the public contracts of the crates that docs/CONTRACTS.md does not cover, and
+the laws on parts of a call, which neither that page nor the package has.
 
     python3 tests/listed_contracts.py >tests/contracts.txt
 
@@ -20,9 +21,11 @@ from rattle_source import declarations, read
 LIST = "tests/exports.txt"
 OTHERS = "tests/contracts.txt"
 CRATES = ["p3_util_run", "p3_util_transform", "p3_util_callers"]
+LAWS = "crates/p3_util_kernels/src/parts/laws"
 HEAD = """\
-# The public contracts of the program, of the example and of the callers. docs/CONTRACTS.md has those of p3_util and its kernels.
-# So a clause that is removed, that promises less or that requires more shows up here."""
+# The contracts of the laws on parts of a call, and the public contracts of the program, of the example and of the callers.
+# docs/CONTRACTS.md has the public ones of p3_util and its kernels. So a clause that is removed, that promises less or that
+# requires more shows up here."""
 
 
 def entry(export):
@@ -64,8 +67,10 @@ def lines_of(entries):
 def others():
     """The text of the other list."""
     sections = [HEAD]
-    for path in (path for crate in CRATES for path in sorted(glob.glob(f"crates/{crate}/src/**/*.rt", recursive=True))):
-        if lines := list(items(read(path), lambda owner, declared: declared.kind == "impl" or declared.seen_by == "pub")):
+    laws = [f"{LAWS}.rt", *sorted(glob.glob(f"{LAWS}/*.rt"))]
+    for path in laws + [path for crate in CRATES for path in sorted(glob.glob(f"crates/{crate}/src/**/*.rt", recursive=True))]:
+        seen_by = ("pub", "pub(crate)") if path in laws else ("pub",)
+        if lines := list(items(read(path), lambda owner, declared: declared.kind == "impl" or declared.seen_by in seen_by)):
             sections.append("\n".join([path, *(f"  {said}" for line in lines for said in line.split("\n"))]))
     return "\n\n".join(sections)
 

@@ -1,16 +1,14 @@
 """Prints docs/CONTRACTS.md: the public calls of p3_util and p3_util_kernels with their clauses, the public types with
 their fields, and the public traits with what their implementations say of them. All of it is as in the sources, so a
-removed clause or an added condition shows up. A separate section has the functions that no other crate can call but the
-package's unsafe code does, with the definitions that their clauses use."""
+removed clause or an added condition shows up."""
 import glob
 import re
 import sys
 import textwrap
 
 sys.dont_write_bytecode = True
-from rattle_source import declarations, definition_texts, functions, read, stood_on
+from rattle_source import declarations, read
 
-KERNELS = "crates/p3_util_kernels/src/"
 MODULES = ["reverse", "transpose", "places", "bits", "laws", "chunks", "views", "linear_map", "zip_eq", "array_serialization"]
 HEAD = """# Contracts
 
@@ -21,31 +19,15 @@ re-exports is at its root too.
 
 A struct is listed with its private fields too, since a clause may name them. If a type implements a trait, the lines below
 the implementation say what a clause sees of that type. In a crate that calls these functions, `rt check` proves their
-preconditions, or names those that are open. The section [What makes parts safe](#what-makes-parts-safe) lists functions of
-the kernels that no other crate can call. The page is made by `python3 docs/make/contracts.py >docs/CONTRACTS.md`."""
-PARTS = """
-## What makes parts safe
-
-The unsafe code of the package calls these functions of `p3_util_kernels`, and tests no index. It relies on their
-preconditions and on their promises. The list has each function that `rust/src/unchecked.rs` calls, directly or through
-`kernels/parts.rs`, except for the public functions above.
-
-The functions of `parts/laws.rt` and of the files below it are theorems: each is there for its contract, and nothing in the
-package calls it. Some of them run parts of a call. They use the same functions for this as the package does, so what they
-state about the indices of the steps holds for the parts of that call."""
-CITED = """
-### Definitions that these clauses use
-
-The definitions are given without their comments. [MODEL](MODEL.md) explains them.
-
-```text"""
+preconditions, or names those that are open. Private functions of the kernels have their contracts in the documentation of
+the package, in `rust/src/kernels/`, and the laws on parts of a call in `tests/contracts.txt`. The page is made by `python3
+docs/make/contracts.py >docs/CONTRACTS.md`."""
 WORDS = """
 ## Where the names in clauses come from
 
 A crate that uses one of these names in a clause imports it by `ghost use MODULE.{NAME};`.
 
 ```text"""
-CALL = re.compile(r"(?:(\w+)::|(\.))?\b([a-z]\w*)(?:::<[^()]*>)?\(")
 
 
 def line(indent, code):
@@ -146,68 +128,9 @@ def sections():
     yield from ["\n## The root\n\n```text", *lines, "```"]
 
 
-def calls(text):
-    """The calls in a text of Rust: for each call its name, and before that the type it is called on, a dot, or
-    nothing."""
-    return {(dot or (owner if owner[:1].isupper() else ""), name) for owner, dot, name in CALL.findall(text)}
-
-
-def callers():
-    """The files of the package whose calls of kernels are listed: `unchecked.rs`, the files below it, and those it
-    uses."""
-    files = ["rust/src/unchecked.rs", *sorted(glob.glob("rust/src/unchecked/*.rs"))]
-    used = re.findall(r"^use crate::(\w+)", read(files[0]), re.M)
-    files += [file for name in sorted(set(used) - {"kernels"}) for file in glob.glob(f"rust/src/{name}.rs")]
-    return [file for file in files if not file.endswith(("/tests.rs", "/races.rs"))]
-
-
-def called_kernels():
-    """The functions of the kernels that the package calls, directly or through parts, each with its file and its
-    owner's name. A method is found by its name if the file that calls it names its type."""
-    paths = [path for path in sorted(glob.glob(f"{KERNELS}**/*.rt", recursive=True)) if "laws" not in path]
-    known = [(path, owner, declared) for path in paths for owner, declared in functions(read(path)) if declared.seen_by or not owner]
-    found, texts = [], [(read(path), read(path)) for path in callers()]
-    for body, file in texts:
-        called, words = calls(body), set(re.findall(r"\w+", file))
-        for path, owner, declared in known:
-            ways = {(way, declared.name()) for way in ((owner, ".", "Self") if owner else ("",))}
-            if called & ways and (owner or declared.name()) in words and (path, owner, declared) not in found:
-                found.append((path, owner, declared))
-                if path.startswith(f"{KERNELS}parts"):
-                    texts.append((declared.body, read(path)))
-    return found
-
-
-def cited(clauses):
-    """The text of each definition of the kernels that the clauses cite, or that another such definition cites."""
-    texts = {name: text for path in sorted(glob.glob(f"{KERNELS}../specs/*.antt")) for name, text in definition_texts(path)}
-    names = stood_on(clauses, texts)
-    return [textwrap.fill(row.strip(), 118, initial_indent=row[:len(row) - len(row.lstrip())], subsequent_indent="        ",
-                          break_long_words=False, break_on_hyphens=False)
-            for name in texts if name in names for row in texts[name].split("\n")]
-
-
-def parts(public):
-    """The section on the functions that the package relies on, without those whose lines are in `public`."""
-    found = [(path, owner, declared) for path, owner, declared in called_kernels()
-             if function(0, owner and f"{owner}::", declared)[0] not in public]
-    types = {word for _, owner, declared in found for word in (owner, *re.findall(r"\w+", declared.head))}
-    laws = sorted(glob.glob(f"{KERNELS}parts/laws*.rt") + glob.glob(f"{KERNELS}parts/laws/**/*.rt", recursive=True))
-    listed = []
-    for path in [*sorted({path for path, _, _ in found}, key=lambda path: (f"{KERNELS}parts" in path, path)), *laws]:
-        def is_listed(owner, declared):
-            if path not in laws and declared.kind == "fn":
-                return (path, owner, declared) in found
-            return declared.seen_by != "" and (path in laws or declared.kind in ("struct", "enum") and declared.name() in types)
-
-        lines = [said for said in items(read(path), is_listed) if said[0] == " " or said not in public]
-        listed += [f"\nIn `{path.removeprefix(KERNELS)}`:\n\n```text", *lines, "```"]
-    yield from [PARTS, *listed, CITED, *cited("\n".join(listed)), "```"]
-
-
 def page():
     said = list(sections())
-    return "\n".join([HEAD, *said, *parts(set(said)), WORDS, *words_by_module("\n".join(said)), "```"])
+    return "\n".join([HEAD, *said, WORDS, *words_by_module("\n".join(said)), "```"])
 
 
 if __name__ == "__main__":

@@ -25,7 +25,7 @@ ORDER = {
     "p3_util_run": ["Words", "Program", "Arrays", "Texts", "Watch"],
     "p3_util_c": ["Tried"],
 }
-# The sources whose public clauses docs/CONTRACTS.md does not list.
+# The sources whose clauses docs/CONTRACTS.md does not list.
 OTHERS = ["p3_util_kernels/src/parts.rt", "p3_util_kernels/src/parts/*.rt", "p3_util_kernels/src/parts/laws/*.rt",
           "p3_util_run/src/program.rt", "p3_util_run/src/fault.rt", "p3_util_c/src/*.rt"]
 # The files whose definitions no call has in a clause, but that callers need.
@@ -82,9 +82,9 @@ class Definition:
         return f"| `{' '.join([self.name, *self.words])}` | {self.meaning} | {where} |"
 
 
-def definitions(crate):
-    """The definitions in a crate's files, in the order of reading."""
-    paths = {re.search(r"(\w+)\.antt", path)[1]: path for path in sorted(glob.glob(f"crates/{crate}/specs/*.antt"))}
+def definitions(crate, top="."):
+    """The definitions in a crate's files, in the order of reading. `top` is the folder of the repository."""
+    paths = {re.search(r"(\w+)\.antt", path)[1]: path for path in sorted(glob.glob(f"{top}/crates/{crate}/specs/*.antt"))}
     for file in [*ORDER[crate], *(file for file in paths if file not in {*ORDER[crate], "Lib"})]:
         with open(paths[file], encoding="utf-8") as found:
             text = found.read()

@@ -1,8 +1,9 @@
 """Makes the text of rust/src/kernels/contracts.rs for rust/erase. It explains what the names in the contracts of the
 package's documentation mean.
 
-Its tables have the rows of docs/CALLING.md and docs/MODEL.md for each name that a contract uses. It also explains one
-contract clause by clause, the same one as docs/CALLING.md."""
+Its tables have the rows of docs/CALLING.md and docs/MODEL.md for each name that a contract uses. Names that only private
+functions use are explained by the comments above their definitions. The page also explains one contract clause by clause,
+the same one as docs/CALLING.md."""
 import re
 from dataclasses import dataclass
 
@@ -18,6 +19,19 @@ TABLES = [
     ("Names for this package's kernels", "Name", "docs/MODEL.md", "Definitions of `p3_util_kernels`, in `specs/`"),
     ("Names for the chunks, the map and `zip_eq`", "Name", "docs/MODEL.md", "Definitions of `p3_util`, in `specs/`"),
 ]
+# The last table, for what only the contracts of private functions have: its title, and the marks and names of std in it.
+PRIVATE = "What only the contracts of private functions have"
+PRIVATE_MARKS = """
+| `A ≢ B` | A and B are not equal |
+| `if A`, `then B`, `else C` | B if the `bool` A is true, otherwise C |
+| `record x { f = A; g = B }` | the value x, with A as its field f and B as its field g; without x, a value of these fields |
+| `max m n` | the greater of two numbers |
+| `position p xs` | `Some` of the index of the first item of the list xs for which p is true, or `None` if there is none |
+| `MatchBool b P Q` | P holds if b is true, and Q if it is false |
+| `x.ghost_name` | which reference x is. Two references of one name give access to the same list |
+"""
+# What a source declares needs no row: fields, constants and types.
+DECLARED = re.compile(r"^ *(?:pub(?:\(crate\))? )?(?:(\w+): |(?:const|struct|enum) (\w+))", re.M)
 CONTRACT = re.compile(r"^ */// ```text\n(?P<clauses>(?: *///.*\n)*?) */// ```\n(?: *#\[.*\n)*(?P<head>(?:; \w+\]|[^;{])*)", re.M)
 OWNER = re.compile(r"^(?:impl|pub trait)\b[^{]*", re.M)
 TOKEN = re.compile(r"\.\w+|\w+|[^\s\w]")
@@ -78,18 +92,19 @@ def used(clauses, head):
     clauses bind."""
     clauses = re.sub(r"//.*|^(requires|ensures)\*? ?\w* \{|\}(?=\s*^(requires|ensures|//)|\s*\Z)", "", clauses, flags=re.M)
     bound = set(re.findall(r"\w+", head)) | set(re.findall(r"(?<=[({])\w+(?= [:=])|(?<=let )\w+", clauses))
-    bound |= {name for names in re.findall(r"λ ([\w ]+)\.", clauses) for name in names.split()}
+    bound |= {name for names in re.findall(r"λ ([\w ]+)\.|[({]([\w ]+) :", clauses) for name in " ".join(names).split()}
     return {bare(token) for token in TOKEN.findall(clauses) if not token.isdigit() and token not in bound}
 
 
 def undefined(written, tables):
-    """A line for each name in a contract that has no row."""
-    known = {word for table in tables for row in table for word in row.words}
+    """A line for each name in a contract that no source declares and that has no row."""
+    known = {word for text in written.values() for names in DECLARED.findall(text) for word in names}
+    known |= {word for table in tables for row in table for word in row.words}
     for path, text in written.items():
         for clauses, head in contracts(text):
             for word in sorted(used(clauses, head) - known):
                 function = re.search(r"fn (\w+)", head)[1]
-                yield f"{path}: no row of docs/CALLING.md or docs/MODEL.md defines `{word}`, which the contract of {function} has"
+                yield f"{path}: no row of docs/CALLING.md or docs/MODEL.md, and no file in specs/, defines `{word}`, which the contract of {function} has"
 
 
 def shown(written, tables):
@@ -110,16 +125,26 @@ def read_aloud(text):
     return unlinked(parts).split("\n")
 
 
-def page(written, read):
-    """The text of the page for the files that `erase` wrote. `read` gives the text of a page of the repository. A name
-    without a row is an error."""
+def private_rows(definitions, tables):
+    """The rows of the last table: the marks, and the definitions that have no row in another table."""
+    known = {word for table in tables for row in table for word in row.words}
+    yield from rows("| Name | Meaning |\n|---|---|" + PRIVATE_MARKS)
+    for found in (found for found in definitions if found.name not in known):
+        yield Row(f"`{' '.join([found.name, *found.words])}`", found.meaning, {found.name})
+
+
+def page(written, read, definitions=()):
+    """The text of the page for the files that `erase` wrote. `read` gives the text of a page of the repository, and
+    `definitions` are those of the crates. A name without a row is an error."""
     sections = [section(read(source), heading) for *_, source, heading in TABLES]
     tables = [list(rows(text)) for text in sections]
+    tables.append(list(private_rows(definitions, tables)))
     for line in undefined(written, tables):
         raise Undefined(line)
     lines = [HEAD, "", *sections[0].strip().split("\n\n")[0].split("\n"), "", *END.split("\n")]
     aloud, heading = READ_ALOUD
     lines += ["", f"# {heading}", "", *read_aloud(section(read(aloud), heading))]
-    for (title, column, *_), table in zip(TABLES, shown(written, tables)):
-        lines += ["", f"# {title}", "", f"| {column} | Meaning |", "|---|---|", *(f"| {row.name} | {row.meaning} |" for row in table)]
+    for (title, column, *_), table in zip([*TABLES, (PRIVATE, "Name")], shown(written, tables)):
+        if table:
+            lines += ["", f"# {title}", "", f"| {column} | Meaning |", "|---|---|", *(f"| {row.name} | {row.meaning} |" for row in table)]
     return "".join(f"//! {line}".rstrip() + "\n" for line in lines)

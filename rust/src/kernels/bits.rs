@@ -114,6 +114,13 @@ pub const fn log2_ceil_u64(n: u64) -> u64 {
 }
 
 /// 2 to the power of `exponent`.
+///
+/// # Contract
+///
+/// ```text
+/// requires { exponent < 64 }
+/// ensures { result ≡ 2 ^ exponent }
+/// ```
 #[inline(always)]
 pub(crate) const fn pow2(exponent: usize) -> usize {
     1 << exponent
@@ -211,12 +218,29 @@ pub const fn is_power_of_three(n: usize) -> bool {
 
 /// The table of all powers of three that fit in a `usize`. The highest set bits of any two of them
 /// are at different positions.
+///
+/// # Contract
+///
+/// ```text
+/// ensures powers { (e : ℕ) → e < 41 → slice_index result.now e ≡ 3 ^ e }
+/// ensures all { (e : ℕ) → 3 ^ e < 2 ^ 64 ↔ e < 41 }
+/// ensures apart { (d e top : ℕ) → 2 ^ top ≤ 3 ^ d → 3 ^ d < 2 ^ (top + 1)
+///     → 2 ^ top ≤ 3 ^ e → 3 ^ e < 2 ^ (top + 1) → d ≡ e }
+/// ```
 #[inline]
 const fn powers_of_three() -> &'static [usize; 41] {
     &POWERS_OF_THREE
 }
 
 /// The exponent of the power of three whose highest set bit is bit `top`, if there is such a power.
+///
+/// # Contract
+///
+/// ```text
+/// requires { top < 64 }
+/// ensures found { (e : ℕ) → 2 ^ top ≤ 3 ^ e → 3 ^ e < 2 ^ (top + 1) → result ≡ e }
+/// ensures bound { result < 41 }
+/// ```
 #[inline]
 const fn exponent_of_three(top: usize) -> usize {
     EXPONENTS_OF_THREE[top] as usize

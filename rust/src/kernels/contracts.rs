@@ -126,6 +126,23 @@
 //! | `long_swaps k` | the number of swaps for reversing `2 ^ k` items on the long path. It reverses the order of chunks, transposes squares, and reverses the order of chunks again. With `h = k / 2` and `c = k - h` this takes `2 * short_swaps h * 2 ^ c + 2 ^ (c - h) * square_swaps (2 ^ h)` swaps |
 //! | `reversal_swaps items` | the number of swaps for reversing `items` items, where `items` is zero or a power of two: `short_swaps (clog items)` up to 8192 items, and `long_swaps (clog items)` beyond |
 //! | `counted c s` | the count c after s more steps. A count stops at the largest u128, so this is `min (2 ^ 128 - 1) (c + s)` |
+//! | `FollowEachOther count len start` | The numbers below `len` are cut into `count` parts. Part k has the numbers from `start k` up to, but not including, `start (k + 1)`. The first part begins at 0, the last one ends at `len`, and none is empty |
+//! | `parts_in len step` | the number of parts when the numbers below `len` are cut into parts of `step` numbers. The last part may have fewer |
+//! | `IsLeastStep parts unit len step` | Parts of `step` numbers are no longer than necessary. Take any positive multiple L of `unit`. If parts of L numbers cut the numbers below `len` into at most `parts` parts, then L is at least `step`. If `parts` is 0, it counts as 1 |
+//! | `start_of len step k` | where part k begins when the numbers below `len` are cut into parts of `step` numbers: at `k * step`, or at `len` if that is less |
+//! | `part_of_matrix width height by_rows len step k` | the region of part k when a matrix of `height` rows of `width` items is cut. If `by_rows` is true, its `len` rows are cut into parts of `step` rows, and the region has all columns. Otherwise its `len` columns are cut in the same way, and the region has all rows |
+//! | `pairs_of n` | the number of pairs of n parts, if each part makes a pair with itself and with each later part: `n * (n + 1) / 2` |
+//! | `number_of_pair n i j` | The number of the pair of parts i and j, for i ≤ j. Imagine the n parts in a circle, in which each part is followed by the next one, and the last part by part 0. Go only in this direction, and take the shorter of the ways from i to j and from j to i, or that from i to j if both are equally long. The number is n times the number of steps on this way, plus the number of the part at which it begins. So different pairs have different numbers |
+//! | `blocks_of side stride step` | Squares of `side` rows lie side by side in rows of `stride` items. The rows and the columns of each square are cut into parts of `step`, which cuts the square into blocks. This is the number of blocks on and above the diagonals of all squares |
+//! | `IsBlock side stride step number base region` | Of the blocks that `blocks_of` counts, the one with this number is `region` in the square that begins at place `base`. Its rows are one part of the square's rows, and its columns are the same part of the columns or a later one. Blocks are numbered square by square: those of one square have consecutive numbers |
+//! | `swaps_of_block region` | the number of exchanges for a block. A block on the diagonal takes `square_swaps` of its rows, and a block above it takes one exchange for each item |
+//! | `width_of plan` | the number of items of each of the rows that the plan reverses |
+//! | `IsReversalPlan len plan` | the plan is one for a list of `len` items |
+//! | `IsCutAsAsked len row_width parts one_part unit plan` | Up to `one_part` items the plan has one part. Beyond that, each side of a square is cut into at most `parts` parts, where 0 for `parts` counts as 1. The parts are no longer than necessary, as `IsLeastStep` says with the unit `unit` for rows of one item, and with the unit 1 for other rows |
+//! | `parts_of plan` | the number of parts of a plan |
+//! | `IsPartMade plan number old new Steps` | Part `number` of the plan turns `old` into `new`, and `Steps` holds for the number of its exchanges. Depending on the plan, the part makes the bit reversal of all rows, or exchanges the pairs of rows of a block |
+//! | `IsCrossed half c row_width pairs old new` | The index of a row has `half + c` bits: `half` high bits, then `c - half` middle bits, and then `half` low bits. x is the reverse of the high bits, m is the middle bits, and y is the low bits. The row is exchanged, item by item, with the row for which x and y are swapped, if the region `pairs` has row `min x y` and column `m * 2 ^ half + max x y`. All other rows stay where they are |
+//! | `HoldsRows row_width digits items` | the list has `2 ^ digits` rows of `row_width` items, its length fits in a usize, and `row_width` is at least 1 |
 //! | `same_holder n a b` | For `Places`: b is the holder a after n exchanges. What that means depends on the holder. If the holder counts, the count of b is n more than the count of a. If it does not count, it ignores n. If it borrows its items, b borrows the same slice as a, so a change to the holder is a change to that slice. For `Cells`: b is the holder a after n puts. The rest is the same as for `Places` |
 //!
 //! # Names for the chunks, the map and `zip_eq`
@@ -155,3 +172,29 @@
 //! | `put_all eq pairs xs` | the pairs after each pair of xs was inserted, in order, as by `put` |
 //! | `lends_value K V eq m k r` | r is a `&mut` to the value of the key k in the map m, or `None`. When the loan ends, the key has the value that was last written through r, and every other pair is unchanged. If r is `None`, the map is unchanged |
 //! | `lends_put K V eq m k r` | r is a `&mut` to the value of the key k in the map m, or an `Err`. When the loan ends, the map is as after `put` of the value that was last written through r. If r is an `Err`, the map is unchanged |
+//!
+//! # What only the contracts of private functions have
+//!
+//! | Name | Meaning |
+//! |---|---|
+//! | `A ≢ B` | A and B are not equal |
+//! | `if A`, `then B`, `else C` | B if the `bool` A is true, otherwise C |
+//! | `record x { f = A; g = B }` | the value x, with A as its field f and B as its field g; without x, a value of these fields |
+//! | `max m n` | the greater of two numbers |
+//! | `position p xs` | `Some` of the index of the first item of the list xs for which p is true, or `None` if there is none |
+//! | `MatchBool b P Q` | P holds if b is true, and Q if it is false |
+//! | `x.ghost_name` | which reference x is. Two references of one name give access to the same list |
+//! | `is_mark b` | a mark after which a name is cut: `<`, `>` or `,` |
+//! | `IsReady region width height input out` | Both lists have `width * height` items, which is less than `2 ^ 64`, and the region lies in a matrix of that width and height. Only private functions have this precondition |
+//! | `HoldsColumn rows from width to input out` | The column is the `rows` items of `input` that begin at place `from` and are `width` places apart. `input` has all of them, and `out` has as many cells from `to` on. Both lengths fit a usize |
+//! | `IsColumnPut rows from width to input old new` | Cell `to + t` holds item t of the column, and every other cell holds what it held before |
+//! | `row_place grid x` | the place at which row x of the grid begins |
+//! | `PlacesFit grid` | all places of the grid fit in a usize |
+//! | `IsInFirstRow grid p` | the place p is in row x of the grid, and 8 divides x |
+//! | `AreSteps grid one two four` | for the 8 rows from row x on, where 8 divides x: how far from row x they begin. Each binary digit of the number of a row adds its own distance |
+//! | `SwapsInGrid grid region old new` | The place of row a and column b of the grid stands for `width` items. For all a and b that are different and whose lesser one is a row and whose greater one is a column of the region, the items of row a and column b are exchanged with those of row b and column a. All other items stay where they are |
+//! | `HoldsGrid grid items` | The list has all places of the grid, no two rows of which overlap. Its length fits in a usize, and `width` is at least 1 |
+//! | `grid_of_rows half c row_width middle` | There are `2 ^ (half + c)` rows of `row_width` items. This is the grid of those rows whose index has `middle` between its `half` high and its `half` low bits: row x and column y of the grid are the row whose index has x reversed, `middle` and y |
+//! | `IsCut whole first second` | A region is cut into two parts. Each place of the region lies in exactly one of them, and together they have as many items as the region |
+//! | `AreHalves whole first second` | A region is cut into two parts. In each part the splits nest at least one level less deep than in the region, and in one of the parts exactly one level less |
+//! | `AreTransposed count log_stride log_size old new` | The list has `2 ^ log_size` rows of `2 ^ log_stride` items, so squares of `2 ^ log_size` rows lie side by side in it. The first `count` squares are transposed, and the others are unchanged |

@@ -47,6 +47,14 @@ pub(crate) struct Grid {
 
 impl Grid {
     /// The place at which row `x` begins.
+    ///
+    /// # Contract
+    ///
+    /// ```text
+    /// requires fits { PlacesFit self }
+    /// requires below { x < 2 ^ self.digits }
+    /// ensures { result ≡ row_place self x }
+    /// ```
     #[inline(always)]
     fn start(self, x: usize) -> usize {
         let row = if self.reversed {
@@ -58,6 +66,14 @@ impl Grid {
     }
 
     /// How far from row `x` the rows `x + 1`, `x + 2` and `x + 4` begin, if 8 divides `x`.
+    ///
+    /// # Contract
+    ///
+    /// ```text
+    /// requires fits { PlacesFit self }
+    /// requires some { 8 ≤ 2 ^ self.digits }
+    /// ensures { AreSteps self result.0 result.1 result.2 }
+    /// ```
     #[inline(always)]
     fn steps(self) -> (usize, usize, usize) {
         if self.reversed {
@@ -70,6 +86,15 @@ impl Grid {
 
     /// The places of one column in the 8 rows of a tile. `first` is the place in the first of these
     /// rows.
+    ///
+    /// # Contract
+    ///
+    /// ```text
+    /// requires fits { PlacesFit self }
+    /// requires tile { IsInFirstRow self first }
+    /// ensures { (x y : ℕ) → x % 8 ≡ 0 → x + 8 ≤ 2 ^ self.digits → first ≡ row_place self x + y
+    ///     → (t : ℕ) → t < 8 → slice_index result t ≡ row_place self (x + t) + y }
+    /// ```
     #[inline(always)]
     fn tile_column(self, first: usize) -> [usize; 8] {
         // If 8 divides `x`, row `x + t` begins as far from row `x` as these distances say, one for each
@@ -90,6 +115,17 @@ impl Grid {
 }
 
 /// Exchanges place `i` with place `j`. Each of them is a run of `width` items.
+///
+/// # Contract
+///
+/// ```text
+/// requires apart { i ≢ j }
+/// requires first { i * width + width ≤ length (M.items m) }
+/// requires second { j * width + width ≤ length (M.items m) }
+/// requires length_fits { length (M.items m) < 2 ^ 64 }
+/// ensures exchanged { RunsExchanged (i * width) (j * width) width (M.items m) (M.items result) }
+/// ensures holder { M.same_holder width m result }
+/// ```
 #[inline(always)]
 fn exchange_places<M: Places>(m: M, width: usize, i: usize, j: usize) -> M {
     let mut m = m;
@@ -103,6 +139,18 @@ fn exchange_places<M: Places>(m: M, width: usize, i: usize, j: usize) -> M {
 
 /// Exchanges places of row `row` with their mirror images. These are the places in the columns of
 /// `region`, which are to the right of the diagonal.
+///
+/// # Contract
+///
+/// ```text
+/// requires cols_in_order { region.col_start ≤ region.col_end }
+/// requires above { row < region.col_start }
+/// requires within { region.col_end ≤ 2 ^ grid.digits }
+/// requires ready { HoldsGrid grid (M.items m) }
+/// ensures exchanged { SwapsInGrid grid
+///     (record region { row_start = row; row_end = row + 1 }) (M.items m) (M.items result) }
+/// ensures holder { M.same_holder (grid.width * cols_of region) m result }
+/// ```
 #[inline(always)]
 fn exchange_row<M: Places>(m: M, grid: Grid, row: usize, region: Region) -> M {
     let first = grid.start(row);
@@ -115,6 +163,22 @@ fn exchange_row<M: Places>(m: M, grid: Grid, row: usize, region: Region) -> M {
 
 /// Exchanges the tile at row `row` and column `col`, which is above the diagonal, with its mirror
 /// image. `start` is the place at which row `col` begins.
+///
+/// # Contract
+///
+/// ```text
+/// requires one { grid.width ≡ 1 }
+/// requires whole_row { row % 8 ≡ 0 }
+/// requires whole_col { col % 8 ≡ 0 }
+/// requires above { row + 8 ≤ col }
+/// requires within { col + 8 ≤ 2 ^ grid.digits }
+/// requires start { start ≡ row_place grid col }
+/// requires ready { HoldsGrid grid (M.items m) }
+/// ensures exchanged { SwapsInGrid grid
+///     (record { row_start = row; row_end = row + 8; col_start = col; col_end = col + 8 })
+///     (M.items m) (M.items result) }
+/// ensures holder { M.same_holder 64 m result }
+/// ```
 #[inline(always)]
 fn exchange_tile<M: Places>(m: M, grid: Grid, row: usize, col: usize, start: usize) -> M {
     let mut m = m;
@@ -124,6 +188,22 @@ fn exchange_tile<M: Places>(m: M, grid: Grid, row: usize, col: usize, start: usi
 }
 
 /// Exchanges the tiles of a region that lie in the 8 columns from `col` on with their mirror images.
+///
+/// # Contract
+///
+/// ```text
+/// requires one { grid.width ≡ 1 }
+/// requires rows_in_order { region.row_start ≤ region.row_end }
+/// requires whole_start { region.row_start % 8 ≡ 0 }
+/// requires whole_end { region.row_end % 8 ≡ 0 }
+/// requires whole_col { col % 8 ≡ 0 }
+/// requires above { region.row_end ≤ col }
+/// requires within { col + 8 ≤ 2 ^ grid.digits }
+/// requires ready { HoldsGrid grid (M.items m) }
+/// ensures exchanged { SwapsInGrid grid (record region { col_start = col; col_end = col + 8 })
+///     (M.items m) (M.items result) }
+/// ensures holder { M.same_holder ((region.row_end - region.row_start) * 8) m result }
+/// ```
 #[inline(always)]
 fn exchange_tile_column<M: Places>(m: M, grid: Grid, col: usize, region: Region) -> M {
     let start = grid.start(col);
@@ -135,6 +215,23 @@ fn exchange_tile_column<M: Places>(m: M, grid: Grid, col: usize, region: Region)
 }
 
 /// Exchanges a region above the diagonal with its mirror image, tile by tile.
+///
+/// # Contract
+///
+/// ```text
+/// requires one { grid.width ≡ 1 }
+/// requires rows_in_order { region.row_start ≤ region.row_end }
+/// requires cols_in_order { region.col_start ≤ region.col_end }
+/// requires whole_row_start { region.row_start % 8 ≡ 0 }
+/// requires whole_row_end { region.row_end % 8 ≡ 0 }
+/// requires whole_col_start { region.col_start % 8 ≡ 0 }
+/// requires whole_col_end { region.col_end % 8 ≡ 0 }
+/// requires above { region.row_end ≤ region.col_start }
+/// requires within { region.col_end ≤ 2 ^ grid.digits }
+/// requires ready { HoldsGrid grid (M.items m) }
+/// ensures exchanged { SwapsInGrid grid region (M.items m) (M.items result) }
+/// ensures holder { M.same_holder (items_of region) m result }
+/// ```
 #[inline(always)]
 fn exchange_tiles<M: Places>(m: M, grid: Grid, region: Region) -> M {
     let mut m = m;
@@ -146,6 +243,18 @@ fn exchange_tiles<M: Places>(m: M, grid: Grid, region: Region) -> M {
 
 /// Exchanges a region above the diagonal with its mirror image, without cutting the region: tile by
 /// tile if the region consists of tiles, and otherwise row after row.
+///
+/// # Contract
+///
+/// ```text
+/// requires rows_in_order { region.row_start ≤ region.row_end }
+/// requires cols_in_order { region.col_start ≤ region.col_end }
+/// requires above { region.row_end ≤ region.col_start }
+/// requires within { region.col_end ≤ 2 ^ grid.digits }
+/// requires ready { HoldsGrid grid (M.items m) }
+/// ensures exchanged { SwapsInGrid grid region (M.items m) (M.items result) }
+/// ensures holder { M.same_holder (grid.width * items_of region) m result }
+/// ```
 #[inline(always)]
 fn exchange_leaf<M: Places>(m: M, grid: Grid, region: Region) -> M {
     let whole_rows = region.row_start % TILE == 0 && region.row_end % TILE == 0;
@@ -162,6 +271,18 @@ fn exchange_leaf<M: Places>(m: M, grid: Grid, region: Region) -> M {
 
 /// Exchanges a region above the diagonal with its mirror image. A region that is not a leaf is cut
 /// in half at its longer side.
+///
+/// # Contract
+///
+/// ```text
+/// requires rows_in_order { region.row_start ≤ region.row_end }
+/// requires cols_in_order { region.col_start ≤ region.col_end }
+/// requires above { region.row_end ≤ region.col_start }
+/// requires within { region.col_end ≤ 2 ^ grid.digits }
+/// requires ready { HoldsGrid grid (M.items m) }
+/// ensures exchanged { SwapsInGrid grid region (M.items m) (M.items result) }
+/// ensures holder { M.same_holder (grid.width * items_of region) m result }
+/// ```
 pub(crate) fn exchange_region<M: Places>(m: M, grid: Grid, region: Region) -> M {
     let (rows, cols) = (region.rows(), region.cols());
     if rows <= LEAF && cols <= LEAF {
@@ -178,6 +299,14 @@ pub(crate) fn exchange_region<M: Places>(m: M, grid: Grid, region: Region) -> M 
 }
 
 /// Half of `size`, rounded up to whole tiles.
+///
+/// # Contract
+///
+/// ```text
+/// requires { 8 < size }
+/// ensures some { 0 < result }
+/// ensures below { result < size }
+/// ```
 #[inline(always)]
 fn upper_half(size: usize) -> usize {
     (size - 1) / (2 * TILE) * TILE + TILE
@@ -186,6 +315,20 @@ fn upper_half(size: usize) -> usize {
 /// Exchanges the items above the diagonal with their mirror images in a smaller square inside
 /// `grid`: the one with the `size` rows and the `size` columns from `start` on. This is done row
 /// after row.
+///
+/// # Contract
+///
+/// ```text
+/// requires within { start + size ≤ 2 ^ grid.digits }
+/// requires ready { HoldsGrid grid (M.items m) }
+/// ensures exchanged { SwapsInGrid grid (record {
+///   row_start = start;
+///   row_end = start + size;
+///   col_start = start;
+///   col_end = start + size;
+/// }) (M.items m) (M.items result) }
+/// ensures holder { M.same_holder (grid.width * square_swaps size) m result }
+/// ```
 #[inline(always)]
 fn exchange_corner<M: Places>(m: M, grid: Grid, start: usize, size: usize) -> M {
     let end = start + size;
@@ -203,6 +346,21 @@ fn exchange_corner<M: Places>(m: M, grid: Grid, start: usize, size: usize) -> M 
 }
 
 /// Does the same as [`exchange_corner`], for a tile.
+///
+/// # Contract
+///
+/// ```text
+/// requires whole { start % 8 ≡ 0 }
+/// requires within { start + 8 ≤ 2 ^ grid.digits }
+/// requires ready { HoldsGrid grid (M.items m) }
+/// ensures exchanged { SwapsInGrid grid (record {
+///   row_start = start;
+///   row_end = start + 8;
+///   col_start = start;
+///   col_end = start + 8;
+/// }) (M.items m) (M.items result) }
+/// ensures holder { M.same_holder (grid.width * square_swaps 8) m result }
+/// ```
 #[inline(always)]
 fn exchange_corner_tile<M: Places>(m: M, grid: Grid, start: usize) -> M {
     let places = grid.tile_column(grid.start(start) + start);
@@ -216,6 +374,20 @@ fn exchange_corner_tile<M: Places>(m: M, grid: Grid, start: usize) -> M {
 }
 
 /// Does the same as [`exchange_corner`], by quadrants.
+///
+/// # Contract
+///
+/// ```text
+/// requires within { start + size ≤ 2 ^ grid.digits }
+/// requires ready { HoldsGrid grid (M.items m) }
+/// ensures exchanged { SwapsInGrid grid (record {
+///   row_start = start;
+///   row_end = start + size;
+///   col_start = start;
+///   col_end = start + size;
+/// }) (M.items m) (M.items result) }
+/// ensures holder { M.same_holder (grid.width * square_swaps size) m result }
+/// ```
 pub(crate) fn exchange_quadrants<M: Places>(m: M, grid: Grid, start: usize, size: usize) -> M {
     if size == TILE && start % TILE == 0 {
         return exchange_corner_tile(m, grid, start);
@@ -236,6 +408,20 @@ pub(crate) fn exchange_quadrants<M: Places>(m: M, grid: Grid, start: usize, size
 }
 
 /// Does the same as [`exchange_quadrants`]. The compiler knows here which small squares it makes.
+///
+/// # Contract
+///
+/// ```text
+/// requires within { start + size ≤ 2 ^ grid.digits }
+/// requires ready { HoldsGrid grid (M.items m) }
+/// ensures exchanged { SwapsInGrid grid (record {
+///   row_start = start;
+///   row_end = start + size;
+///   col_start = start;
+///   col_end = start + size;
+/// }) (M.items m) (M.items result) }
+/// ensures holder { M.same_holder (grid.width * square_swaps size) m result }
+/// ```
 #[inline(always)]
 pub(crate) fn exchange_square<M: Places>(m: M, grid: Grid, start: usize, size: usize) -> M {
     if size < TILE {
@@ -247,6 +433,14 @@ pub(crate) fn exchange_square<M: Places>(m: M, grid: Grid, start: usize, size: u
 
 /// Reverses `x`, which has at most `digits` binary digits. Up to six digits are looked up in the
 /// table, and more are reversed by halves.
+///
+/// # Contract
+///
+/// ```text
+/// requires few { digits < 64 }
+/// requires below { x < 2 ^ digits }
+/// ensures { result ≡ rev digits x }
+/// ```
 #[inline(always)]
 pub(crate) fn reverse_digits(x: usize, digits: usize) -> usize {
     if digits <= 6 {

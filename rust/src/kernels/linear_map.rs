@@ -120,6 +120,12 @@ impl<K: Eq, V> LinearMap<K, V> {
     }
 
     /// The index of the pair whose key equals `k`, or `None` if there is no such pair.
+    ///
+    /// # Contract
+    ///
+    /// ```text
+    /// ensures { result ≡ position (λ e. K.eq k.now e.0) self.now }
+    /// ```
     fn place_of(&self, k: &K) -> Option<usize> {
         self.pairs.iter().position(|pair| pair.0 == *k)
     }

@@ -32,6 +32,17 @@ pub(crate) struct Cut {
 impl Cut {
     /// Cuts the numbers below `len` into at most `parts` parts. Each part begins at a multiple of
     /// `unit`, and the parts are no longer than necessary. A `parts` of 0 counts as 1.
+    ///
+    /// # Contract
+    ///
+    /// ```text
+    /// requires { 0 < unit }
+    /// ensures len { result.len ≡ len }
+    /// ensures few { parts_in result.len result.step ≤ max parts 1 }
+    /// ensures units { (k : ℕ) → k < parts_in result.len result.step
+    ///     → start_of result.len result.step k % unit ≡ 0 }
+    /// ensures least { IsLeastStep parts unit result.len result.step }
+    /// ```
     pub(crate) fn new(len: usize, parts: usize, unit: usize) -> Cut {
         let units = len.div_ceil(unit).div_ceil(parts.max(1));
         Cut {
@@ -41,11 +52,26 @@ impl Cut {
     }
 
     /// The number of parts, which is 0 if `len` is 0.
+    ///
+    /// # Contract
+    ///
+    /// ```text
+    /// ensures count { result ≡ parts_in self.len self.step }
+    /// ensures parts { FollowEachOther result self.len (start_of self.len self.step) }
+    /// ```
     pub(crate) fn count(self) -> usize {
         self.len.div_ceil(self.step)
     }
 
     /// The first number of part `k`, and the number after its last one.
+    ///
+    /// # Contract
+    ///
+    /// ```text
+    /// requires { k < parts_in self.len self.step }
+    /// ensures from { result.0 ≡ start_of self.len self.step k }
+    /// ensures to { result.1 ≡ start_of self.len self.step (k + 1) }
+    /// ```
     pub(crate) fn part(self, k: usize) -> (usize, usize) {
         let from = k * self.step;
         (from, from + self.step.min(self.len - from))
@@ -53,6 +79,16 @@ impl Cut {
 
     /// Part `k` of a matrix. This cut divides the rows of the matrix if `by_rows` is true, and its
     /// columns otherwise.
+    ///
+    /// # Contract
+    ///
+    /// ```text
+    /// requires side { self.len ≡ if by_rows then matrix.now.height else matrix.now.width }
+    /// requires below { k < parts_in self.len self.step }
+    /// ensures region { result ≡ part_of_matrix matrix.now.width matrix.now.height by_rows
+    ///     self.len self.step k }
+    /// ensures inside { LiesInMatrix result matrix.now.width matrix.now.height }
+    /// ```
     pub(crate) fn region<R>(self, matrix: &Matrix<R>, by_rows: bool, k: usize) -> Region {
         let whole = matrix.whole();
         let (from, to) = self.part(k);
@@ -64,6 +100,13 @@ impl Cut {
     }
 
     /// The number of pairs of parts: each part with itself and with each later one.
+    ///
+    /// # Contract
+    ///
+    /// ```text
+    /// requires { parts_in self.len self.step < 2 ^ 32 }
+    /// ensures { result ≡ pairs_of (parts_in self.len self.step) }
+    /// ```
     pub(crate) fn pairs(self) -> usize {
         let count = self.count();
         count * (count + 1) / 2
@@ -72,6 +115,16 @@ impl Cut {
     /// The two parts of pair `number`, the earlier part first. The pairs are numbered as if the
     /// parts lay in a circle. First come the pairs of a part with itself, then those of a part with
     /// the next part in the circle, then those of a part with the one after that, and so on.
+    ///
+    /// # Contract
+    ///
+    /// ```text
+    /// requires few { parts_in self.len self.step < 2 ^ 32 }
+    /// requires below { number < pairs_of (parts_in self.len self.step) }
+    /// ensures in_order { result.0 ≤ result.1 }
+    /// ensures below { result.1 < parts_in self.len self.step }
+    /// ensures number { number_of_pair (parts_in self.len self.step) result.0 result.1 ≡ number }
+    /// ```
     pub(crate) fn pair(self, number: usize) -> (usize, usize) {
         let count = self.count();
         let (distance, start) = (number / count, number % count);
@@ -92,6 +145,19 @@ impl Squares {
     /// The squares of a list of 2^`digits` items. Each has 2^(`digits` / 2) rows and columns, and
     /// the rows of the list have 2^(`digits` - `digits` / 2) items. The sides of a square are cut
     /// into at most `parts` parts, at multiples of `unit`. A `parts` of 0 counts as 1.
+    ///
+    /// # Contract
+    ///
+    /// ```text
+    /// requires unit { 0 < unit }
+    /// requires digits { digits < 64 }
+    /// ensures stride { result.stride ≡ 2 ^ (digits - digits / 2) }
+    /// ensures side { result.cut.len ≡ 2 ^ (digits / 2) }
+    /// ensures few { parts_in result.cut.len result.cut.step ≤ max parts 1 }
+    /// ensures least { IsLeastStep parts unit result.cut.len result.cut.step }
+    /// ensures units { (k : ℕ) → k < parts_in result.cut.len result.cut.step
+    ///     → start_of result.cut.len result.cut.step k % unit ≡ 0 }
+    /// ```
     pub(crate) fn new(digits: usize, parts: usize, unit: usize) -> Squares {
         let half = digits / 2;
         Squares {
@@ -101,11 +167,25 @@ impl Squares {
     }
 
     /// The number of blocks that are on the diagonal of their square or above it.
+    ///
+    /// # Contract
+    ///
+    /// ```text
+    /// ensures { result ≡ blocks_of self.cut.len self.stride self.cut.step }
+    /// ```
     pub(crate) fn count(self) -> usize {
         self.stride / self.cut.len * self.cut.pairs()
     }
 
     /// Block `number`: the number of its square, and its rows and columns in that square.
+    ///
+    /// # Contract
+    ///
+    /// ```text
+    /// requires { number < blocks_of self.cut.len self.stride self.cut.step }
+    /// ensures { IsBlock self.cut.len self.stride self.cut.step number
+    ///     (result.0 * self.cut.len) result.1 }
+    /// ```
     pub(crate) fn block(self, number: usize) -> (usize, Region) {
         let pairs = self.cut.pairs();
         let (first, second) = self.cut.pair(number % pairs);
@@ -133,6 +213,16 @@ pub(crate) struct RowPairs {
 impl RowPairs {
     /// The pairs of `rows`. Each side of a square is cut into at most `parts` parts, at multiples
     /// of `unit`. A `parts` of 0 counts as 1.
+    ///
+    /// # Contract
+    ///
+    /// ```text
+    /// requires unit { 0 < unit }
+    /// requires digits { rows.digits < 64 }
+    /// ensures rows { result.rows ≡ rows }
+    /// ensures few { parts_in result.squares.cut.len result.squares.cut.step ≤ max parts 1 }
+    /// ensures least { IsLeastStep parts unit result.squares.cut.len result.squares.cut.step }
+    /// ```
     pub(crate) fn new(rows: RowDigits, parts: usize, unit: usize) -> RowPairs {
         RowPairs {
             rows,
@@ -141,6 +231,22 @@ impl RowPairs {
     }
 
     /// Exchanges the two rows of each pair in block `number`.
+    ///
+    /// # Contract
+    ///
+    /// ```text
+    /// requires below { number < blocks_of self.squares.cut.len self.squares.stride
+    ///     self.squares.cut.step }
+    /// requires ready { HoldsRows self.rows.width self.rows.digits (M.items m) }
+    /// ensures block { (base : ℕ) × (region : Region)
+    ///     × IsBlock self.squares.cut.len self.squares.stride self.squares.cut.step
+    ///     number base region
+    ///     × IsCrossed (self.rows.digits / 2)
+    ///     (self.rows.digits - self.rows.digits / 2) self.rows.width
+    ///     (record region { col_start = base + region.col_start; col_end = base + region.col_end })
+    ///     (M.items m) (M.items result)
+    ///     × M.same_holder (self.rows.width * swaps_of_block region) m result }
+    /// ```
     pub(crate) fn exchange<M: Places>(self, m: M, number: usize) -> M {
         let (square, region) = self.squares.block(number);
         let grid = self.rows.grid(square);

@@ -269,6 +269,12 @@ pub trait Source {
 fn length_fits(_len: usize) {}
 
 /// Transposes a block of 4 by 4 items: takes the rows of the block and returns its columns.
+///
+/// # Contract
+///
+/// ```text
+/// ensures { IsBlockTransposed (rows_in_order rows.now) (rows_in_order result) }
+/// ```
 #[inline(always)]
 pub(crate) fn turned_block<T: Copy>(rows: &Four<Four<T>>) -> Four<Four<T>> {
     let Four(a, b, c, d) = *rows;

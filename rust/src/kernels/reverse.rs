@@ -163,6 +163,14 @@ pub fn reverse_index_bits_on<S: Places>(m: &mut Swaps<S>) {
 /// value. After that, a proof knows nothing about the slice that the holder borrowed. So the
 /// contract is about the slice that is returned, and says by `ghost_name` that this is the slice
 /// `vals`.
+///
+/// # Contract
+///
+/// ```text
+/// requires { IsReversible (length vals.old) }
+/// ensures order { IsReversal vals.old result.now }
+/// ensures slice { result.ghost_name ≡ vals.entry.ghost_name }
+/// ```
 #[inline(always)]
 fn reverse_items<F>(vals: &mut [F]) -> &mut [F] {
     let SlicePlaces { items } = reverse_short(SlicePlaces::new(vals));
@@ -170,6 +178,14 @@ fn reverse_items<F>(vals: &mut [F]) -> &mut [F] {
 }
 
 /// Does the same as [`reverse_items`], for rows.
+///
+/// # Contract
+///
+/// ```text
+/// requires { FitsRows (length vals.old) row_width }
+/// ensures order { IsRowReversal row_width vals.old result.now }
+/// ensures slice { result.ghost_name ≡ vals.entry.ghost_name }
+/// ```
 #[inline(always)]
 fn reverse_rows_of_items<F>(vals: &mut [F], row_width: usize) -> &mut [F] {
     let rows = RowDigits::of(vals.len(), row_width);
@@ -178,6 +194,14 @@ fn reverse_rows_of_items<F>(vals: &mut [F], row_width: usize) -> &mut [F] {
 }
 
 /// The kernel of [`reverse_index_bits_on`].
+///
+/// # Contract
+///
+/// ```text
+/// requires { IsReversible (length (M.items m)) }
+/// ensures order { IsReversal (M.items m) (M.items result) }
+/// ensures holder { M.same_holder (reversal_swaps (length (M.items m))) m result }
+/// ```
 #[inline(always)]
 pub(crate) fn reverse_index_bits<M: Places>(m: M) -> M {
     if m.len() <= SHORT_PATH_ITEMS {

@@ -303,6 +303,15 @@ where
 /// value. After that, a proof knows nothing about the slice that the holder borrowed. So the
 /// contract is about the slice that is returned, and says by `ghost_name` that this is the slice
 /// `output`.
+///
+/// # Contract
+///
+/// ```text
+/// requires input_fits { length (R.items matrix.source) ≡ matrix.width * matrix.height }
+/// requires output_fits { length output.old ≡ matrix.width * matrix.height }
+/// ensures order { IsTranspose matrix.width matrix.height (R.items matrix.source) result.now }
+/// ensures slice { result.ghost_name ≡ output.entry.ghost_name }
+/// ```
 #[inline(always)]
 fn transpose_items<T: Copy, R: Source<Item = T> + Copy>(
     matrix: Matrix<R>,
@@ -316,6 +325,16 @@ fn transpose_items<T: Copy, R: Source<Item = T> + Copy>(
 /// The kernel of [`transpose_source_on`], with the given strips. The source is passed by value,
 /// here and in the functions that this one calls. Behind a reference, the address of the items
 /// would be read from memory again for each item.
+///
+/// # Contract
+///
+/// ```text
+/// requires input_fits { length (R.items matrix.source) ≡ matrix.width * matrix.height }
+/// requires output_fits { length (M.items out) ≡ matrix.width * matrix.height }
+/// ensures order { IsTranspose matrix.width matrix.height (R.items matrix.source)
+///     (M.items result) }
+/// ensures holder { M.same_holder (matrix.width * matrix.height) out result }
+/// ```
 pub(crate) fn transpose_matrix<M: Cells, R: Source<Item = M::Item> + Copy>(
     out: M,
     matrix: Matrix<R>,

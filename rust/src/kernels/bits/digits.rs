@@ -45,16 +45,31 @@ pub const fn reverse_bits_len(x: usize, bit_len: usize) -> usize {
     reversed >> ((64 - bit_len) % 64)
 }
 
+/// # Contract
+///
+/// ```text
+/// ensures { result ≡ rev 64 x }
+/// ```
 #[inline]
 const fn reverse_u64(x: u64) -> u64 {
     ((reverse_u32((x & 0xffff_ffff) as u32) as u64) << 32) | (reverse_u32((x >> 32) as u32) as u64)
 }
 
+/// # Contract
+///
+/// ```text
+/// ensures { result ≡ rev 32 x }
+/// ```
 #[inline]
 const fn reverse_u32(x: u32) -> u32 {
     ((reverse_u16((x & 0xffff) as u16) as u32) << 16) | reverse_u16((x >> 16) as u16) as u32
 }
 
+/// # Contract
+///
+/// ```text
+/// ensures { result ≡ rev 16 x }
+/// ```
 #[inline]
 const fn reverse_u16(x: u16) -> u16 {
     ((reverse_u8((x & 0xff) as u8) as u16) << 8) | reverse_u8((x >> 8) as u8) as u16
@@ -63,6 +78,12 @@ const fn reverse_u16(x: u16) -> u16 {
 /// Reverses a byte digit by digit. If halves went down to single digits instead, the compiler would
 /// make the same instructions, but it would take seven times as long to evaluate a constant table
 /// of reversed numbers.
+///
+/// # Contract
+///
+/// ```text
+/// ensures { result ≡ rev 8 x }
+/// ```
 #[inline]
 const fn reverse_u8(x: u8) -> u8 {
     ((x & 0x01) << 7)

@@ -35,12 +35,25 @@ pub fn pretty_name(alloc: Global, name: &str) -> Result<String, AllocError> {
 }
 
 /// The index of the first `<`, `>` or `,`.
+///
+/// # Contract
+///
+/// ```text
+/// ensures place { result ≡ position is_mark name.now }
+/// ensures fits { IfSome result (λ i. i + 1 < 2 ^ 64) }
+/// ```
 fn first_mark(name: &str) -> Option<usize> {
     name.bytes()
         .position(|b| b == b'<' || b == b'>' || b == b',')
 }
 
 /// The part after the last `::`, or the whole text if there is none.
+///
+/// # Contract
+///
+/// ```text
+/// ensures { result.now ≡ last_part text.now }
+/// ```
 fn last_part(text: &str) -> &str {
     let mut part = text;
     while let Some((_, after)) = part.split_once("::") {

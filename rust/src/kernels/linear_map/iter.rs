@@ -21,6 +21,11 @@ impl<'a, K, V> Clone for Iter<'a, K, V> {
 }
 
 impl<'a, K, V> Iter<'a, K, V> {
+    /// # Contract
+    ///
+    /// ```text
+    /// ensures { result ≡ pairs.now }
+    /// ```
     pub(super) fn new(pairs: &'a [(K, V)]) -> Self {
         Iter {
             pairs: pairs.iter(),
@@ -84,6 +89,11 @@ impl<'a, K, V> Clone for Keys<'a, K, V> {
 }
 
 impl<'a, K, V> Keys<'a, K, V> {
+    /// # Contract
+    ///
+    /// ```text
+    /// ensures { result ≡ keys_of pairs.now }
+    /// ```
     pub(super) fn new(pairs: &'a [(K, V)]) -> Self {
         Keys {
             pairs: pairs.iter(),
@@ -149,6 +159,11 @@ impl<'a, K, V> Clone for Values<'a, K, V> {
 }
 
 impl<'a, K, V> Values<'a, K, V> {
+    /// # Contract
+    ///
+    /// ```text
+    /// ensures { result ≡ values_of pairs.now }
+    /// ```
     pub(super) fn new(pairs: &'a [(K, V)]) -> Self {
         Values {
             pairs: pairs.iter(),

@@ -19,6 +19,15 @@ impl ReversalPlan {
     /// `one_part` items is one part. For a longer list, each side of a square of the [`RowPairs`]
     /// is cut into at most `parts` parts. A `parts` of 0 counts as 1. Rows of one item are cut at
     /// multiples of `TILE_SIDE`.
+    ///
+    /// # Contract
+    ///
+    /// ```text
+    /// requires { FitsRows len row_width }
+    /// ensures width { width_of result ≡ row_width }
+    /// ensures plan { IsReversalPlan len result }
+    /// ensures cut { IsCutAsAsked len row_width parts one_part TILE_SIDE result }
+    /// ```
     pub(crate) fn new(len: usize, row_width: usize, parts: usize, one_part: usize) -> ReversalPlan {
         let rows = RowDigits::of(len, row_width);
         if len <= one_part {
@@ -29,6 +38,12 @@ impl ReversalPlan {
     }
 
     /// The number of parts.
+    ///
+    /// # Contract
+    ///
+    /// ```text
+    /// ensures { result ≡ parts_of self }
+    /// ```
     pub(crate) fn count(self) -> usize {
         match self {
             ReversalPlan::OnePart(_) => 1,
@@ -37,6 +52,16 @@ impl ReversalPlan {
     }
 
     /// Runs part `number`: makes all of its exchanges.
+    ///
+    /// # Contract
+    ///
+    /// ```text
+    /// requires below { number < parts_of self }
+    /// requires plan { IsReversalPlan (length (M.items m)) self }
+    /// requires len_fits { length (M.items m) < 2 ^ 64 }
+    /// ensures { IsPartMade self number (M.items m) (M.items result)
+    ///     (λ n. M.same_holder n m result) }
+    /// ```
     pub(crate) fn exchange<M: Places>(self, m: M, number: usize) -> M {
         match self {
             ReversalPlan::OnePart(rows) => reverse_rows(m, rows),

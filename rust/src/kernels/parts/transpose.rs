@@ -18,6 +18,20 @@ impl TransposePlan {
     /// Cuts the longer side into at most `parts` parts, at multiples of the side of a tile. If
     /// `may_cut_rows` is false, the columns are cut, whichever side is longer. A `parts` of 0
     /// counts as 1. A matrix without items has no region.
+    ///
+    /// # Contract
+    ///
+    /// ```text
+    /// requires { width * height < 2 ^ 64 }
+    /// ensures width { result.width ≡ width }
+    /// ensures height { result.height ≡ height }
+    /// ensures by_rows { IsTrue result.by_rows ↔ (IsTrue may_cut_rows × (width < height)) }
+    /// ensures empty { width * height ≡ 0 → parts_in result.cut.len result.cut.step ≡ 0 }
+    /// ensures few { parts_in result.cut.len result.cut.step ≤ max parts 1 }
+    /// ensures least { IsLeastStep parts TILE_SIDE result.cut.len result.cut.step }
+    /// ensures units { (k : ℕ) → k < parts_in result.cut.len result.cut.step
+    ///     → start_of result.cut.len result.cut.step k % TILE_SIDE ≡ 0 }
+    /// ```
     pub(crate) fn new(
         width: usize,
         height: usize,
@@ -41,12 +55,26 @@ impl TransposePlan {
     }
 
     /// The number of regions.
+    ///
+    /// # Contract
+    ///
+    /// ```text
+    /// ensures { result ≡ parts_in self.cut.len self.cut.step }
+    /// ```
     pub(crate) fn count(self) -> usize {
         self.cut.count()
     }
 
     /// The number of items of region `number`. If the columns are cut, the items of a region fill
     /// consecutive cells, right after the cells of the region before it.
+    ///
+    /// # Contract
+    ///
+    /// ```text
+    /// requires { number < parts_in self.cut.len self.cut.step }
+    /// ensures { result ≡ items_of (part_of_matrix self.width self.height self.by_rows self.cut.len
+    ///     self.cut.step number) }
+    /// ```
     pub(crate) fn items(self, number: usize) -> usize {
         let region = self.cut.region(
             &Matrix::new((), self.width, self.height),
@@ -58,6 +86,20 @@ impl TransposePlan {
 
     /// Puts region `number` of the matrix in `source`, by the given strips. The list `out` has the
     /// cells of the whole transpose.
+    ///
+    /// # Contract
+    ///
+    /// ```text
+    /// requires below { number < parts_in self.cut.len self.cut.step }
+    /// requires input_fits { length (R.items source) ≡ self.width * self.height }
+    /// requires output_fits { length (C.items out) ≡ self.width * self.height }
+    /// ensures transposed { IsRegionTransposed
+    ///     (part_of_matrix self.width self.height self.by_rows self.cut.len self.cut.step number)
+    ///     self.width self.height (R.items source) (C.items out) (C.items result) }
+    /// ensures holder { C.same_holder (items_of
+    ///     (part_of_matrix self.width self.height self.by_rows self.cut.len self.cut.step number))
+    ///     out result }
+    /// ```
     pub(crate) fn put<C: Cells, R: Source<Item = C::Item> + Copy>(
         self,
         out: C,

@@ -31,6 +31,14 @@ impl<S: Places> Swaps<S> {
     }
 
     /// A counter around `holder` that starts at `count`.
+    ///
+    /// # Contract
+    ///
+    /// ```text
+    /// ensures holder { result.holder ≡ holder }
+    /// ensures count { result.count ≡ count }
+    /// ensures len_fits { length (S.items holder) < 2 ^ 64 }
+    /// ```
     #[inline(always)]
     pub(crate) fn resumed(holder: S, count: u128) -> Self {
         length_fits(holder.len());
@@ -122,6 +130,14 @@ impl<C: Cells> Writes<C> {
     }
 
     /// A counter around `holder` that starts at `count`.
+    ///
+    /// # Contract
+    ///
+    /// ```text
+    /// ensures holder { result.holder ≡ holder }
+    /// ensures count { result.count ≡ count }
+    /// ensures len_fits { length (C.items holder) < 2 ^ 64 }
+    /// ```
     #[inline(always)]
     pub(crate) fn resumed(holder: C, count: u128) -> Self {
         length_fits(holder.len());

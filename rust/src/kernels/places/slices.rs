@@ -44,6 +44,15 @@ impl<'a, F> Places for SlicePlaces<'a, F> {
 }
 
 /// Exchanges two runs of `len` items: those from place `i` on and those from place `j` on.
+///
+/// # Contract
+///
+/// ```text
+/// requires apart { (i + len ≤ j) ⊎ (j + len ≤ i) }
+/// requires first { i + len ≤ length items.old }
+/// requires second { j + len ≤ length items.old }
+/// ensures { RunsExchanged i j len items.old items.new }
+/// ```
 #[inline(always)]
 fn exchange_runs_of_items<F>(items: &mut [F], i: usize, j: usize, len: usize) {
     let (low, high) = (i.min(j), i.max(j));

@@ -30,6 +30,15 @@ pub(crate) struct RowDigits {
 
 impl RowDigits {
     /// The rows of `width` items of a list of `len` items.
+    ///
+    /// # Contract
+    ///
+    /// ```text
+    /// requires { FitsRows len width }
+    /// ensures width { result.width ≡ width }
+    /// ensures digits { result.digits ≡ clog (len / width) }
+    /// ensures few { result.digits < 64 }
+    /// ```
     #[inline(always)]
     pub(crate) fn of(len: usize, width: usize) -> Self {
         if len == 0 {
@@ -41,6 +50,14 @@ impl RowDigits {
 
     /// The rows of a list of `2^lb_num_chunks` chunks of `2^lb_chunk_size` items. Each chunk is a
     /// row.
+    ///
+    /// # Contract
+    ///
+    /// ```text
+    /// requires { lb_chunk_size < 64 }
+    /// ensures width { result.width ≡ 2 ^ lb_chunk_size }
+    /// ensures digits { result.digits ≡ lb_num_chunks }
+    /// ```
     #[inline(always)]
     pub(crate) fn chunks(lb_num_chunks: usize, lb_chunk_size: usize) -> Self {
         RowDigits {
@@ -50,6 +67,15 @@ impl RowDigits {
     }
 
     /// The grid of the rows whose indices have the middle part `middle`.
+    ///
+    /// # Contract
+    ///
+    /// ```text
+    /// requires few { self.digits < 64 }
+    /// requires middle { middle < 2 ^ (self.digits - self.digits / 2 - self.digits / 2) }
+    /// ensures { let half = self.digits / 2 in
+    ///     result ≡ grid_of_rows half (self.digits - half) self.width middle }
+    /// ```
     #[inline(always)]
     pub(crate) fn grid(self, middle: usize) -> Grid {
         let half = self.digits / 2;

@@ -81,6 +81,14 @@ pub fn reverse_chunks_on<S: Places>(m: &mut Swaps<S>, lb_num_chunks: usize, lb_c
 }
 
 /// The kernel of [`reverse_index_bits_short`].
+///
+/// # Contract
+///
+/// ```text
+/// requires { IsReversible (length (M.items m)) }
+/// ensures order { IsReversal (M.items m) (M.items result) }
+/// ensures holder { M.same_holder (short_swaps (clog (length (M.items m)))) m result }
+/// ```
 #[inline(always)]
 pub(crate) fn reverse_short<M: Places>(m: M) -> M {
     let rows = RowDigits::of(m.len(), 1);
@@ -88,12 +96,31 @@ pub(crate) fn reverse_short<M: Places>(m: M) -> M {
 }
 
 /// The kernel of [`reverse_chunks_on`].
+///
+/// # Contract
+///
+/// ```text
+/// requires whole { length (M.items m) ≡ 2 ^ (lb_num_chunks + lb_chunk_size) }
+/// requires len_fits { length (M.items m) < 2 ^ 64 }
+/// ensures order { IsRowReversal (2 ^ lb_chunk_size) (M.items m) (M.items result) }
+/// ensures holder { M.same_holder (short_swaps lb_num_chunks * 2 ^ lb_chunk_size) m result }
+/// ```
 #[inline(always)]
 pub(crate) fn reverse_chunks<M: Places>(m: M, lb_num_chunks: usize, lb_chunk_size: usize) -> M {
     reverse_rows(m, RowDigits::chunks(lb_num_chunks, lb_chunk_size))
 }
 
 /// The kernel of [`reverse_row_index_bits_on`].
+///
+/// # Contract
+///
+/// ```text
+/// requires fits { FitsRows (length (M.items m)) rows.width }
+/// requires digits { rows.digits ≡ clog (length (M.items m) / rows.width) }
+/// requires len_fits { length (M.items m) < 2 ^ 64 }
+/// ensures order { IsRowReversal rows.width (M.items m) (M.items result) }
+/// ensures holder { M.same_holder (row_swaps (length (M.items m)) rows.width) m result }
+/// ```
 #[inline(always)]
 pub(crate) fn reverse_rows<M: Places>(m: M, rows: RowDigits) -> M {
     // In the cases with a fixed number of digits, the compiler unrolls the exchanges of all pairs.
@@ -109,6 +136,16 @@ pub(crate) fn reverse_rows<M: Places>(m: M, rows: RowDigits) -> M {
 }
 
 /// Exchanges all pairs of rows whose indices are each other's reverse.
+///
+/// # Contract
+///
+/// ```text
+/// requires fits { FitsRows (length (M.items m)) rows.width }
+/// requires digits { rows.digits ≡ clog (length (M.items m) / rows.width) }
+/// requires len_fits { length (M.items m) < 2 ^ 64 }
+/// ensures order { IsRowReversal rows.width (M.items m) (M.items result) }
+/// ensures holder { M.same_holder (rows.width * short_swaps rows.digits) m result }
+/// ```
 #[inline(always)]
 fn exchange_all<M: Places>(m: M, rows: RowDigits) -> M {
     if rows.digits < 2 {

@@ -51,6 +51,12 @@ pub fn butterfly_stage2<T: Copy>(block: [[T; 4]; 4]) -> [[T; 4]; 4] {
 
 /// Exchanges the items in the odd columns of rows 0 and 2 with those in the even columns of rows 1
 /// and 3.
+///
+/// # Contract
+///
+/// ```text
+/// ensures { IsStageOne (a ∷ b ∷ c ∷ d ∷ []) result }
+/// ```
 fn stage1_of_rows<T: Copy>(a: [T; 4], b: [T; 4], c: [T; 4], d: [T; 4]) -> [[T; 4]; 4] {
     [
         [a[0], b[0], a[2], b[2]],
@@ -62,6 +68,12 @@ fn stage1_of_rows<T: Copy>(a: [T; 4], b: [T; 4], c: [T; 4], d: [T; 4]) -> [[T; 4
 
 /// Makes two rows from rows 0 and 2: one of their first halves, and one of their second halves.
 /// Does the same with rows 1 and 3.
+///
+/// # Contract
+///
+/// ```text
+/// ensures { IsStageTwo (a ∷ b ∷ c ∷ d ∷ []) result }
+/// ```
 fn stage2_of_rows<T: Copy>(a: [T; 4], b: [T; 4], c: [T; 4], d: [T; 4]) -> [[T; 4]; 4] {
     [
         [a[0], a[1], c[0], c[1]],

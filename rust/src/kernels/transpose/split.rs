@@ -88,6 +88,22 @@ where
 
 /// Splits and puts `region`, with a counter that starts at `count`. Returns the holder inside the
 /// counter, the new count, and how deep the splits nest.
+///
+/// # Contract
+///
+/// ```text
+/// requires input_fits { length (R.items matrix.source) ≡ matrix.width * matrix.height }
+/// requires output_fits { length (C.items cells) ≡ matrix.width * matrix.height }
+/// requires inside { LiesInMatrix region matrix.width matrix.height }
+/// requires enough { lev (rows_of region) (cols_of region) ≤ levels }
+/// ensures transposed { IsRegionTransposed region matrix.width matrix.height
+///     (R.items matrix.source)
+///     (C.items cells) (C.items result.0) }
+/// ensures count { result.1 ≡ counted count (items_of region) }
+/// ensures holder { C.same_holder (items_of region) cells result.0 }
+/// ensures nested { result.2 ≡ nest (rows_of region) (cols_of region) }
+/// ensures bound { result.2 ≤ 57 }
+/// ```
 fn put_split_resumed<C: Cells, R: Source<Item = C::Item> + Copy>(
     cells: C,
     count: u128,
@@ -104,6 +120,20 @@ fn put_split_resumed<C: Cells, R: Source<Item = C::Item> + Copy>(
 /// The kernel of [`transpose_source_split_on`]. Splits `region` into leaves, with splits that nest
 /// at most `levels` deep, and puts each leaf in strips of the kind `strips`. Also returns how deep
 /// the splits nest.
+///
+/// # Contract
+///
+/// ```text
+/// requires ready { IsReady region matrix.width matrix.height
+///     (R.items matrix.source) (M.items out) }
+/// requires enough { lev (rows_of region) (cols_of region) ≤ levels }
+/// ensures transposed { IsRegionTransposed region matrix.width matrix.height
+///     (R.items matrix.source)
+///     (M.items out) (M.items result.0) }
+/// ensures holder { M.same_holder (items_of region) out result.0 }
+/// ensures nested { result.1 ≡ nest (rows_of region) (cols_of region) }
+/// ensures bound { result.1 ≤ 57 }
+/// ```
 pub(crate) fn put_split<M: Cells, R: Source<Item = M::Item> + Copy>(
     out: M,
     matrix: Matrix<R>,
@@ -121,12 +151,32 @@ pub(crate) fn put_split<M: Cells, R: Source<Item = M::Item> + Copy>(
 }
 
 /// Whether `region` is put without a split.
+///
+/// # Contract
+///
+/// ```text
+/// requires rows_in_order { region.row_start ≤ region.row_end }
+/// requires cols_in_order { region.col_start ≤ region.col_end }
+/// ensures { let rows = rows_of region in let cols = cols_of region in
+///     MatchBool result (nest rows cols ≡ 0) ((NARROW_SIDE < rows) × (NARROW_SIDE < cols)
+///     × (LEAF_SIDE < max rows cols)) }
+/// ```
 fn is_leaf(region: Region) -> bool {
     let (rows, cols) = (region.rows(), region.cols());
     rows.min(cols) <= NARROW_SIDE || rows.max(cols) <= LEAF_SIDE
 }
 
 /// Halves the longer side of `region`. If both sides are equal, the rows are halved.
+///
+/// # Contract
+///
+/// ```text
+/// requires rows_in_order { region.row_start ≤ region.row_end }
+/// requires cols_in_order { region.col_start ≤ region.col_end }
+/// requires large { let rows = rows_of region in let cols = cols_of region in
+///     (NARROW_SIDE < rows) × (NARROW_SIDE < cols) × (LEAF_SIDE < max rows cols) }
+/// ensures { AreHalves region result.0 result.1 }
+/// ```
 fn halves(region: Region) -> (Region, Region) {
     let (rows, cols) = (region.rows(), region.cols());
     if rows >= cols {

@@ -79,6 +79,12 @@ impl Strips {
     }
 
     /// The greatest number of rows of a strip.
+    ///
+    /// # Contract
+    ///
+    /// ```text
+    /// ensures { 0 < result }
+    /// ```
     #[inline(always)]
     fn rows(self) -> usize {
         match self {
@@ -90,6 +96,14 @@ impl Strips {
     /// The row after the last one of the strip that begins at row `row`. The region ends before row
     /// `end`. The number of rows of a `Blocks` strip is a multiple of 4, unless fewer than 4 rows
     /// are left.
+    ///
+    /// # Contract
+    ///
+    /// ```text
+    /// requires some_rows { row < end }
+    /// ensures from { row < result }
+    /// ensures to { result ≤ end }
+    /// ```
     #[inline(always)]
     fn end(self, row: usize, end: usize) -> usize {
         match self {
@@ -110,6 +124,12 @@ impl Strips {
     }
 
     /// The number of rows of a block.
+    ///
+    /// # Contract
+    ///
+    /// ```text
+    /// ensures { 0 < result }
+    /// ```
     #[inline(always)]
     fn block_rows(self) -> usize {
         match self {
@@ -119,6 +139,12 @@ impl Strips {
     }
 
     /// The number of columns of a block.
+    ///
+    /// # Contract
+    ///
+    /// ```text
+    /// ensures { 0 < result }
+    /// ```
     #[inline(always)]
     fn block_cols(self) -> usize {
         match self {
@@ -129,6 +155,16 @@ impl Strips {
 }
 
 /// Puts `region` strip by strip.
+///
+/// # Contract
+///
+/// ```text
+/// requires ready { IsReady region matrix.width matrix.height
+///     (R.items matrix.source) (M.items out) }
+/// ensures transposed { IsRegionTransposed region matrix.width matrix.height
+///     (R.items matrix.source) (M.items out) (M.items result) }
+/// ensures holder { M.same_holder (items_of region) out result }
+/// ```
 #[inline(always)]
 pub(crate) fn put_strips<M: Cells, R: Source<Item = M::Item> + Copy>(
     out: M,
@@ -151,6 +187,17 @@ pub(crate) fn put_strips<M: Cells, R: Source<Item = M::Item> + Copy>(
 }
 
 /// Puts a region that is one strip.
+///
+/// # Contract
+///
+/// ```text
+/// requires some_rows { region.row_start < region.row_end }
+/// requires ready { IsReady region matrix.width matrix.height
+///     (R.items matrix.source) (M.items out) }
+/// ensures transposed { IsRegionTransposed region matrix.width matrix.height
+///     (R.items matrix.source) (M.items out) (M.items result) }
+/// ensures holder { M.same_holder (items_of region) out result }
+/// ```
 #[inline(always)]
 fn put_strip<M: Cells, R: Source<Item = M::Item> + Copy>(
     out: M,
@@ -176,6 +223,17 @@ fn put_strip<M: Cells, R: Source<Item = M::Item> + Copy>(
 
 /// Puts a strip, with as many columns at a time as a block of `strips` has. There is no function
 /// for a tile: a tile takes four rounds of this loop, or one round for `Strips::Wide`.
+///
+/// # Contract
+///
+/// ```text
+/// requires some_rows { region.row_start < region.row_end }
+/// requires ready { IsReady region matrix.width matrix.height
+///     (R.items matrix.source) (M.items out) }
+/// ensures transposed { IsRegionTransposed region matrix.width matrix.height
+///     (R.items matrix.source) (M.items out) (M.items result) }
+/// ensures holder { M.same_holder (items_of region) out result }
+/// ```
 #[inline(always)]
 fn put_tiles<M: Cells, R: Source<Item = M::Item> + Copy>(
     out: M,
@@ -195,6 +253,17 @@ fn put_tiles<M: Cells, R: Source<Item = M::Item> + Copy>(
 
 /// Puts a piece of a strip that is as wide as a block: its blocks, from top to bottom. If the piece
 /// does not consist of whole blocks, as at the edge of a matrix, it is put column after column.
+///
+/// # Contract
+///
+/// ```text
+/// requires some_rows { region.row_start < region.row_end }
+/// requires ready { IsReady region matrix.width matrix.height
+///     (R.items matrix.source) (M.items out) }
+/// ensures transposed { IsRegionTransposed region matrix.width matrix.height
+///     (R.items matrix.source) (M.items out) (M.items result) }
+/// ensures holder { M.same_holder (items_of region) out result }
+/// ```
 #[inline(always)]
 fn put_blocks<M: Cells, R: Source<Item = M::Item> + Copy>(
     out: M,
@@ -218,6 +287,17 @@ fn put_blocks<M: Cells, R: Source<Item = M::Item> + Copy>(
 
 /// Puts a block: by whole rows, so that a holder may transpose it in registers, or column after
 /// column.
+///
+/// # Contract
+///
+/// ```text
+/// requires some_rows { region.row_start < region.row_end }
+/// requires ready { IsReady region matrix.width matrix.height
+///     (R.items matrix.source) (M.items out) }
+/// ensures transposed { IsRegionTransposed region matrix.width matrix.height
+///     (R.items matrix.source) (M.items out) (M.items result) }
+/// ensures holder { M.same_holder (items_of region) out result }
+/// ```
 #[inline(always)]
 fn put_block<M: Cells, R: Source<Item = M::Item> + Copy>(
     out: M,
@@ -235,6 +315,18 @@ fn put_block<M: Cells, R: Source<Item = M::Item> + Copy>(
 
 /// Puts a block of 4 by 4 items. It reads the rows of the block, transposes them, and puts the
 /// columns. A holder may do each of these in registers.
+///
+/// # Contract
+///
+/// ```text
+/// requires rows { rows_of region ≡ 4 }
+/// requires cols { cols_of region ≡ 4 }
+/// requires ready { IsReady region matrix.width matrix.height
+///     (R.items matrix.source) (M.items out) }
+/// ensures transposed { IsRegionTransposed region matrix.width matrix.height
+///     (R.items matrix.source) (M.items out) (M.items result) }
+/// ensures holder { M.same_holder 16 out result }
+/// ```
 #[inline(always)]
 fn put_turned<M: Cells, R: Source<Item = M::Item> + Copy>(
     out: M,
@@ -264,6 +356,17 @@ fn put_turned<M: Cells, R: Source<Item = M::Item> + Copy>(
 }
 
 /// Puts a region column after column.
+///
+/// # Contract
+///
+/// ```text
+/// requires some_rows { region.row_start < region.row_end }
+/// requires ready { IsReady region matrix.width matrix.height
+///     (R.items matrix.source) (M.items out) }
+/// ensures transposed { IsRegionTransposed region matrix.width matrix.height
+///     (R.items matrix.source) (M.items out) (M.items result) }
+/// ensures holder { M.same_holder (items_of region) out result }
+/// ```
 #[inline(always)]
 fn put_columns<M: Cells, R: Source<Item = M::Item> + Copy>(
     out: M,
@@ -282,6 +385,15 @@ fn put_columns<M: Cells, R: Source<Item = M::Item> + Copy>(
 /// Puts a column of `rows` items into consecutive cells from `to` on. The column begins at index
 /// `from` of the source. Most items are put by loops of `COLUMN_ITEMS` items, and the rest by one
 /// more loop.
+///
+/// # Contract
+///
+/// ```text
+/// requires column { HoldsColumn rows from matrix.width to (R.items matrix.source) (M.items out) }
+/// ensures put { IsColumnPut rows from matrix.width to (R.items matrix.source) (M.items out)
+///     (M.items result) }
+/// ensures holder { M.same_holder rows out result }
+/// ```
 #[inline(always)]
 fn put_column<M: Cells, R: Source<Item = M::Item> + Copy>(
     out: M,
@@ -315,6 +427,15 @@ fn put_column<M: Cells, R: Source<Item = M::Item> + Copy>(
 }
 
 /// Does the same as [`put_column`], in one loop.
+///
+/// # Contract
+///
+/// ```text
+/// requires column { HoldsColumn rows from matrix.width to (R.items matrix.source) (M.items out) }
+/// ensures put { IsColumnPut rows from matrix.width to (R.items matrix.source) (M.items out)
+///     (M.items result) }
+/// ensures holder { M.same_holder rows out result }
+/// ```
 #[inline(always)]
 fn put_items<M: Cells, R: Source<Item = M::Item> + Copy>(
     out: M,
