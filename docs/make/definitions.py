@@ -2,10 +2,10 @@
 
     python3 docs/make/definitions.py
 
-A table has each definition of its crate that is named by a clause of a public call or of a law on parts. It also has
-each definition that the comment of another one in the table names in backquotes. The comment is the row's text. Its
-last sentence `Source: ..` says what the definition was made from. If it has no such sentence, the one in the file's
-head counts."""
+A table has each definition of its crate that is named by a clause of a public call. The kernels have a second table, for
+the laws on parts of a call. A table also has each definition that the comment of another one in it names in backquotes.
+The comment is the row's text. Its last sentence `Source: ..` says what the definition was made from. If it has no such
+sentence, the one in the file's head counts."""
 import glob
 import re
 import sys
@@ -25,14 +25,15 @@ ORDER = {
     "p3_util_run": ["Words", "Program", "Arrays", "Texts", "Watch"],
     "p3_util_c": ["Tried"],
 }
-# The sources whose clauses docs/CONTRACTS.md does not list.
-OTHERS = ["p3_util_kernels/src/parts.rt", "p3_util_kernels/src/parts/*.rt", "p3_util_kernels/src/parts/laws/*.rt",
-          "p3_util_run/src/program.rt", "p3_util_run/src/fault.rt", "p3_util_c/src/*.rt"]
+# The sources whose public clauses docs/CONTRACTS.md does not list, and those of the laws on parts.
+OTHERS = ["p3_util_run/src/program.rt", "p3_util_run/src/fault.rt", "p3_util_c/src/*.rt"]
+LAWS = ["p3_util_kernels/src/parts/laws.rt", "p3_util_kernels/src/parts/laws/*.rt"]
 # The files whose definitions no call has in a clause, but that callers need.
 FOR_CALLERS = {"ItemsAt"}
 # The definition that each holder gives for itself, and the file in which the comments on its traits explain it.
 OF_HOLDERS, TRAITS = "same_holder n a b", "crates/p3_util_kernels/src/places.rt"
 BEGIN = "<!-- Made of the comments in crates/{}/specs/ by docs/make/definitions.py. -->"
+OF_LAWS = "p3_util_kernels/specs/, for the laws on parts, by"
 END = "<!-- The end of what is made. -->"
 OF_ORIGINAL = " of p3-util 0.8.0"
 
@@ -93,20 +94,18 @@ def definitions(crate, top="."):
             yield Definition(file, head, text, found)
 
 
-def clauses():
-    """The text of the clauses that a reader of the tables may meet."""
-    yield from sections()
-    for path in sorted(path for pattern in OTHERS for path in glob.glob(f"crates/{pattern}")):
+def clauses(patterns):
+    """The text of the clauses in some sources, except for those of private functions."""
+    for path in sorted(path for pattern in patterns for path in glob.glob(f"crates/{pattern}")):
         text = read(path)
         yield from (said for _, function in functions(text) if function.seen_by for _, said in function.clauses)
         for ghost in re.finditer(r"^ *ghost \w+ = \{", text, re.M):
             yield closed(text, ghost.end() - 1)[0]
 
 
-def listed(known):
-    """The names of `known` that have a row."""
-    rows, said = set(), " ".join(clauses())
-    words = {word for word in re.findall(r"(?<![.\w])\w+", said)} | {d.name for d in known if d.file in FOR_CALLERS}
+def listed(known, said):
+    """The names of `known` that are in the texts `said`, or in the meaning of such a name."""
+    rows, words = set(), set(re.findall(r"(?<![.\w])\w+", " ".join(said)))
     while more := {d.name for d in known if d.name in words} - rows:
         rows |= more
         meanings = " ".join(d.meaning for d in known if d.name in more)
@@ -123,30 +122,37 @@ def of_holders():
     return f"| `{OF_HOLDERS}` | For `Places`: {places}. For `Cells`: {cells} | `src/places.rt`: new |"
 
 
+def table(found):
+    """The rows of a table of definitions."""
+    rows, before = [], None
+    for definition in found:
+        if not definition.meaning or not definition.source:
+            raise SystemExit(f"specs/{definition.file}.antt: {definition.name} needs a comment above it, which ends with a sentence "
+                             "`Source: ..` where the comment at the head of the file does not")
+        rows.append(definition.row(before))
+        before = definition
+    return rows
+
+
 def tables():
-    """The rows of each crate's table, by the crate."""
+    """The rows of each table, by the comment above it."""
     known = {crate: list(definitions(crate)) for crate in ORDER}
-    names = listed([d for crate in known.values() for d in crate])
+    every = [d for crate in known.values() for d in crate]
+    public = listed(every, [*sections(), *clauses(OTHERS), *(d.name for d in every if d.file in FOR_CALLERS)])
     for crate, all_of_it in known.items():
-        rows, before = [], None
-        for definition in (d for d in all_of_it if d.name in names):
-            if not definition.meaning or not definition.source:
-                raise SystemExit(f"crates/{crate}/specs/{definition.file}.antt: {definition.name} needs a comment above it, which ends "
-                                 "with a sentence `Source: ..` where the comment at the head of the file does not")
-            rows.append(definition.row(before))
-            before = definition
-        yield crate, rows + [of_holders()] * (crate == "p3_util_kernels")
+        yield BEGIN.format(crate), table(d for d in all_of_it if d.name in public) + [of_holders()] * (crate == "p3_util_kernels")
+    laws = listed(every, clauses(LAWS)) - public
+    yield BEGIN.replace("{}/specs/ by", OF_LAWS), table(d for d in every if d.name in laws)
 
 
 def page():
     """The page with the tables that are made from the comments."""
     with open(PAGE, encoding="utf-8") as found:
         text = found.read()
-    for crate, rows in tables():
-        begin = BEGIN.format(crate)
+    for begin, rows in tables():
         before, marked, rest = text.partition(begin)
         if not marked or END not in rest:
-            raise SystemExit(f"{PAGE}: no lines '{begin}' and '{END}', between which the table of {crate} stands")
+            raise SystemExit(f"{PAGE}: no lines '{begin}' and '{END}', between which a table stands")
         made = ["", "", "| Name | Meaning | File in `specs/`, and source |", "|---|---|---|", *rows, "", ""]
         text = before + begin + "\n".join(made) + END + rest.partition(END)[2]
     return text
