@@ -1,6 +1,6 @@
 """For tests/agree: compares the pages with the code. It checks the functions that blocks of Rust quote, the clauses
-that MODEL names, the numbers in ARCHITECTURE's table and in sentences, and each link, file and name. It also compares
-the modules with the files, and the heads of specs with the contracts that use them."""
+that MODEL names, the numbers in ARCHITECTURE's table and in sentences, each link, file and name, and the cells of tables. It
+also compares the modules with the files, and the heads of specs with the contracts that use them."""
 import functools
 import itertools
 import os
@@ -227,6 +227,21 @@ def check_links_and_names():
                         yield place(page, token.start(), f"no name {name}. If it is not of this repository, add it to tests/pages.py")
 
 
+def check_tables():
+    """The rows of a table have one number of cells, and no table stands inside a paragraph."""
+    for page, text in pages.items():
+        inside, cells = False, None
+        for number, line in enumerate(text.splitlines(), 1):
+            inside ^= line.lstrip().startswith("```")
+            is_row = not inside and line.lstrip().startswith("|")
+            found = len(re.sub(r"`[^`]*`", "", line).split("|")) if is_row else None
+            if found and cells and found != cells:
+                yield f"{page}:{number}: a row of {found - 2} cells in a table of {cells - 2}"
+            if not inside and "|---" in line and not re.fullmatch(r"[ |:-]+", line):
+                yield f"{page}:{number}: a table inside a paragraph"
+            cells = found
+
+
 def check_modules():
     """Each source is a module of the file above it. Otherwise it would not be compiled, and its tests would not run. A
     file that `rust/test` compiles alone is not a module."""
@@ -256,5 +271,6 @@ def check_specs():
 
 def wrong():
     """A line for each thing that is wrong."""
-    for check in (check_quotations, check_edits, check_clauses, check_constants, check_links_and_names, check_modules, check_specs):
+    for check in (check_quotations, check_edits, check_clauses, check_constants, check_links_and_names, check_tables, check_modules,
+                  check_specs):
         yield from check()
