@@ -5,9 +5,11 @@
 //! length in pairs: a row is joined with the row half a block behind it, in all columns. The threads take runs of such
 //! rows from a queue.
 
+use std::collections::HashSet;
+use std::iter::{from_fn, once};
 use std::num::NonZero;
 use std::sync::Mutex;
-use std::thread::{available_parallelism, scope};
+use std::thread::{available_parallelism, current, scope};
 
 use p3_util_proved::log2_strict_usize;
 use p3_util_proved::parts::{self, ReversalPart};
@@ -35,14 +37,17 @@ fn root(log_order: usize) -> u64 {
     power(GENERATOR, (P - 1) >> log_order)
 }
 
-/// Runs all jobs on `threads` threads, and returns when they are done.
-fn run_all<J>(threads: usize, jobs: impl Iterator<Item = J> + Send, run: impl Fn(J) + Sync) {
+/// Runs all jobs on at most `threads` threads, and returns when they are done.
+fn run_all<J: Send>(threads: usize, jobs: impl Iterator<Item = J> + Send, run: impl Fn(J) + Sync) {
     let queue = Mutex::new(jobs);
     // The lock is held only while a job is taken, not while it runs.
     let next = || queue.lock().ok()?.next();
+    // Each thread has a job before the first thread starts, so that one fast thread cannot take all jobs.
+    let first_jobs: Vec<J> = from_fn(next).take(threads).collect();
     scope(|scope| {
-        for _ in 0..threads {
-            scope.spawn(|| std::iter::from_fn(next).for_each(&run));
+        for job in first_jobs {
+            let jobs = once(job).chain(from_fn(next));
+            scope.spawn(|| jobs.for_each(&run));
         }
     });
 }
@@ -81,10 +86,17 @@ fn runs(block: &mut [u32]) -> impl Iterator<Item = Run<'_>> {
 
 /// Replaces each column by its transform.
 fn transform(matrix: &mut [u32], threads: usize) {
-    parts::row_reversal(matrix, WIDTH, 4 * threads).for_each_phase(|parts| {
-        println!("the rows are reversed in {} parts", parts.len());
-        run_all(threads, parts, ReversalPart::run);
+    let parts = parts::row_reversal(matrix, WIDTH, 4 * threads);
+    let count = parts.len();
+    let workers = Mutex::new(HashSet::new());
+    run_all(threads, parts, |part: ReversalPart<'_, _>| {
+        workers.lock().unwrap().insert(current().id());
+        part.run();
     });
+    let workers = workers.into_inner().unwrap().len();
+    println!("number of parts: {count}, of threads that ran them: {workers}");
+    // With the feature `checked` there is only one part.
+    assert!(workers > 1 || count == 1);
     for log_half in 0..log2_strict_usize(HEIGHT) {
         let w = root(log_half + 1);
         let blocks = matrix.chunks_exact_mut((2 * WIDTH) << log_half);
@@ -108,17 +120,25 @@ fn column(matrix: &[u32], number: usize) -> Vec<u64> {
         .collect()
 }
 
+/// Compares a column of `transformed` with the transform of that column of `matrix`, as the sum defines it. Returns how
+/// many numbers it compared.
+fn compare(matrix: &[u32], transformed: &[u32], number: usize) -> usize {
+    let values = column(matrix, number);
+    let found = column(transformed, number);
+    for (k, found) in (0..).zip(&found) {
+        assert_eq!(*found, by_definition(&values, k), "number {k} of column {number}");
+    }
+    found.len()
+}
+
 fn main() {
-    let threads = available_parallelism().map_or(1, NonZero::get);
+    // At least two, so that threads share the work on every machine.
+    let threads = available_parallelism().map_or(1, NonZero::get).max(2);
     let items = (0..(HEIGHT * WIDTH) as u64).map(|i| (i * i + 7 * i) % P);
     let matrix: Vec<u32> = items.map(|item| item as u32).collect();
     let mut transformed = matrix.clone();
     transform(&mut transformed, threads);
-    for number in [0, 57, WIDTH - 1] {
-        let values = column(&matrix, number);
-        for (k, found) in (0..).zip(column(&transformed, number)) {
-            assert_eq!(found, by_definition(&values, k), "number {k} of column {number}");
-        }
-    }
+    let compared = [0, 57, WIDTH - 1].map(|number| compare(&matrix, &transformed, number));
+    assert_eq!(compared, [HEIGHT; 3]);
     println!("the transforms of three columns are as the sum defines them");
 }

@@ -38,11 +38,9 @@ fn main() {
     assert!(columns == expected);
 
     let mut list = matrix.clone();
-    // All parts of a phase are done before the next phase begins. The compiler makes sure of that.
-    parts::reversal(&mut list, asked).for_each_phase(|parts| {
-        println!("a phase of a reversal in {} parts", parts.len());
-        run_all(threads, parts, ReversalPart::run);
-    });
+    let parts = parts::reversal(&mut list, asked);
+    println!("a reversal in {} parts", parts.len());
+    run_all(threads, parts, ReversalPart::run);
     let mut expected = matrix;
     reverse_slice_index_bits(&mut expected);
     assert!(list == expected);

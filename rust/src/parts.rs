@@ -1,9 +1,7 @@
 //! Transposes and reversals in parts, for threads of your own. This package starts none.
 //!
-//! A call is cut into parts, each of which may run on any thread. The parts of a transpose may run in any order. A
-//! reversal has phases: the parts of one phase may run in any order, and all parts of that phase have to be done before
-//! the next phase begins. Today a reversal has one phase, or none. All parts together have the same effect as the call.
-//! Nothing is allocated.
+//! A call is cut into parts. They may run in any order, at the same time, each on any thread. All parts together have
+//! the same effect as the call. Nothing is allocated.
 //!
 //! ```
 //! use std::thread::scope;
@@ -20,18 +18,16 @@
 //! assert_eq!(columns[..3], [0, 60, 120]);
 //!
 //! let mut list: Vec<u32> = (0..1 << 20).collect();
-//! parts::reversal(&mut list, 16).for_each_phase(|phase| {
-//!     scope(|threads| phase.for_each(|part| _ = threads.spawn(|| part.run())));
+//! scope(|threads| {
+//!     for part in parts::reversal(&mut list, 16) {
+//!         threads.spawn(|| part.run());
+//!     }
 //! });
 //! assert_eq!(list[..3], [0, 1 << 19, 1 << 18]);
 //! ```
 //!
-//! Each phase has a scope of its own, inside the closure. A scope waits for its threads, so when the closure returns,
-//! the phase is done. One scope around all phases does not compile: its threads could still run parts of one phase when
-//! the next one begins.
-//!
-//! With rayon, run a phase by `phase.par_bridge().for_each(ReversalPart::run)`, or by
-//! `phase.collect::<Vec<_>>().into_par_iter().for_each(ReversalPart::run)`. The first way needs no list of the parts:
+//! With rayon, run the parts by `parts.par_bridge().for_each(ReversalPart::run)`, or by
+//! `parts.collect::<Vec<_>>().into_par_iter().for_each(ReversalPart::run)`. The first way needs no list of the parts:
 //! each thread takes the next part behind a lock. Both ways return when all parts are done.
 //!
 //! # How many parts
@@ -57,20 +53,22 @@
 //! # if cfg!(not(feature = "checked")) {
 //! for (items, asked, parts) in table {
 //!     let mut list = vec![0u8; items];
-//!     let mut phases = reversal(&mut list, asked);
-//!     assert_eq!(phases.next_phase().unwrap().len(), parts);
+//!     assert_eq!(reversal(&mut list, asked).len(), parts);
 //! }
 //! # }
 //! ```
 //!
-//! Four parts for each thread are a good number to ask for. Parts differ in size: a block on a diagonal has about half
-//! as many exchanges as a block above it. A list that is empty, or whose items have no bytes, has no parts, and its
-//! reversal has no phases.
+//! Four parts for each thread are a good number to ask for. On four threads, the 36 or 72 parts of a wish of 16 were the
+//! fastest. Parts differ in size: a block on a diagonal has about half as many exchanges as a block above it. A list
+//! that is empty, or whose items have no bytes, has no parts.
+//!
+//! Threads make a reversal faster from about 2^17 items of 4 bytes on, if they are the waiting threads of a pool such as
+//! rayon's. If the threads are started for the call, it has to move more: from 2 to 4 MiB on they are worth it.
 //!
 //! - A transpose is cut along its longer side, at multiples of 16 rows or columns.
-//! - A reversal of up to [`one_part_reversal`] items is one part, since for these lists the call itself is faster. A
-//!   longer reversal, of 2^k items, is cut like a square of 2^(k / 2) rows and columns, or like two squares if k is odd.
-//!   Each square is cut into a grid, at multiples of 16, and a part is one of its blocks on or above the diagonal.
+//! - A reversal of up to [`one_part_reversal`] items is one part. A longer reversal, of 2^k items, is cut like a square of
+//!   2^(k / 2) rows and columns, or like two squares if k is odd. Each square is cut into a grid, at multiples of 8, and a
+//!   part is one of its blocks on or above the diagonal.
 //! - A reversal of longer rows is cut in the same way, at any number. It is one part if the list has no more items than
 //!   [`one_part_reversal`] says.
 //! - With the feature `checked` a transpose is cut along its columns, and a reversal is one part.
@@ -84,19 +82,19 @@
 //!
 //! # Why this is safe
 //!
-//! Two parts that may run at the same time never touch the same index. No index belongs to two parts of a phase. Each
-//! part makes an exact number of steps, and all of its steps are at indices of that part. A step is one exchange of two
-//! items or one put of an item. This is proved for reversals of lists whose items all differ, and for transposes of an
-//! input that has no item in common with the output. For other lists it makes no difference: a kernel cannot look at an
-//! item, so a part touches the same indices whatever its items are. A part runs at most once, because `run` consumes
-//! it. The next phase cannot begin before all parts of a phase are gone, because these parts borrow the
-//! [`ReversalPhases`]. The section "Threads" of the package's README says what of this is proved, and what is checked
-//! by review.
+//! Each part makes an exact number of steps, all at indices that belong to no other part, where a step is one exchange of
+//! two items or one put of an item. The steps of all parts, in any order that keeps each part's own steps in their order,
+//! have the effect of the call on every list, and they are exactly as many as the call makes. Both are proved, from the
+//! steps that each part makes when it runs alone. It is checked by review that a part's steps do not depend on the items:
+//! a kernel cannot look at an item. A part runs at most once, because `run` consumes it, and the list stays borrowed
+//! until all parts are gone.
+//!
+//! The section "Threads" of the package's README says more about what is proved and what is checked by review.
 use core::fmt;
 use core::iter::FusedIterator;
 
 use crate::kernels::parts::ReversalPlan;
-use crate::unchecked::{self, Parts, Phases, Regions};
+use crate::unchecked::{self, Parts, Regions};
 
 /// A list of more items is cut, whatever the size of its items.
 const CUT_ITEMS: usize = 1 << 18;
@@ -141,16 +139,11 @@ pub struct TransposeParts<'a, T>(Parts<'a, T, Regions<&'a [T]>>);
 #[must_use = "a part that is not run leaves its cells as they are"]
 pub struct TransposePart<'a, T>(Parts<'a, T, Regions<&'a [T]>>);
 
-/// The remaining phases of a reversal. A phase must be done before the next one begins.
-#[must_use = "a reversal is done by the parts of its phases, and none has run yet"]
-pub struct ReversalPhases<'a, F>(Phases<'a, F>);
-
-/// The remaining parts of a phase, as an iterator of known length. As long as one of these parts exists, the next phase
-/// cannot begin.
+/// The remaining parts of a reversal, as an iterator of known length.
 #[must_use = "a part that is not run leaves the list neither as it was nor reversed"]
 pub struct ReversalParts<'a, F>(Parts<'a, F, ReversalPlan>);
 
-/// A part of a phase of a reversal. It is `Send` if its items are, and it cannot be cloned.
+/// A part of a reversal. It is `Send` if its items are, and it cannot be cloned.
 #[must_use = "a part that is not run leaves the list neither as it was nor reversed"]
 pub struct ReversalPart<'a, F>(Parts<'a, F, ReversalPlan>);
 
@@ -183,38 +176,38 @@ pub fn transpose<'a, T: Copy + Send + Sync>(
     }
 }
 
-/// Cuts [`reverse_slice_index_bits`](crate::reverse_slice_index_bits) into phases. `parts` determines [how many
-/// parts](self#how-many-parts) a phase has.
+/// Cuts [`reverse_slice_index_bits`](crate::reverse_slice_index_bits) into parts. `parts` determines [how
+/// many](self#how-many-parts).
 ///
 /// Items go to other threads, but no two threads share one, so they need not be `Sync`.
 ///
 /// # Panics
 ///
-/// In the same cases as the call itself, before any phase is returned.
+/// In the same cases as the call itself, before any part is returned.
 #[track_caller]
-#[must_use = "the list is reversed by the parts of its phases, and none has run yet"]
-pub fn reversal<F: Send>(vals: &mut [F], parts: usize) -> ReversalPhases<'_, F> {
+#[must_use = "the list is reversed by the parts, and none has run yet"]
+pub fn reversal<F: Send>(vals: &mut [F], parts: usize) -> ReversalParts<'_, F> {
     let len = vals.len();
-    match Phases::new(vals, 1, parts_of_side(parts), one_part_reversal::<F>()) {
-        Some(phases) => ReversalPhases(phases),
+    match unchecked::parts_of_reversal(vals, 1, parts_of_side(parts), one_part_reversal::<F>()) {
+        Some(parts) => ReversalParts(parts),
         None => crate::refuse_items(len),
     }
 }
 
-/// Cuts [`reverse_slice_row_index_bits`](crate::reverse_slice_row_index_bits) into phases. `parts` determines [how many
-/// parts](self#how-many-parts) a phase has.
+/// Cuts [`reverse_slice_row_index_bits`](crate::reverse_slice_row_index_bits) into parts. `parts` determines [how
+/// many](self#how-many-parts).
 ///
 /// Items go to other threads, but no two threads share one, so they need not be `Sync`.
 ///
 /// # Panics
 ///
-/// In the same cases as the call itself, before any phase is returned.
+/// In the same cases as the call itself, before any part is returned.
 #[track_caller]
-#[must_use = "the list is reversed by the parts of its phases, and none has run yet"]
-pub fn row_reversal<F: Send>(vals: &mut [F], row_width: usize, parts: usize) -> ReversalPhases<'_, F> {
+#[must_use = "the list is reversed by the parts, and none has run yet"]
+pub fn row_reversal<F: Send>(vals: &mut [F], row_width: usize, parts: usize) -> ReversalParts<'_, F> {
     let len = vals.len();
-    match Phases::new(vals, row_width, parts_of_side(parts), one_part_reversal::<F>()) {
-        Some(phases) => ReversalPhases(phases),
+    match unchecked::parts_of_reversal(vals, row_width, parts_of_side(parts), one_part_reversal::<F>()) {
+        Some(parts) => ReversalParts(parts),
         None => crate::refuse_rows(len, row_width),
     }
 }
@@ -224,34 +217,6 @@ impl<T: Copy> TransposePart<'_, T> {
     #[inline]
     pub fn run(self) {
         self.0.put();
-    }
-}
-
-impl<F> ReversalPhases<'_, F> {
-    /// The parts of the next phase, or `None` after the last one. The parts of the phase before it must be done.
-    #[must_use = "the list is reversed by the parts of each phase, and none of this one has run yet"]
-    pub fn next_phase(&mut self) -> Option<ReversalParts<'_, F>> {
-        self.0.next_phase().map(ReversalParts)
-    }
-
-    /// Passes the parts of each phase to `run`, one phase after the other. A part that `run` drops is not done.
-    ///
-    /// Open a scope of threads inside `run`, as in this example. The scope waits for its threads, so the phase is done
-    /// when `run` returns.
-    ///
-    /// ```
-    /// use std::thread::scope;
-    ///
-    /// let mut list: Vec<u32> = (0..1 << 19).collect();
-    /// p3_util_proved::parts::reversal(&mut list, 16).for_each_phase(|phase| {
-    ///     scope(|threads| phase.for_each(|part| _ = threads.spawn(|| part.run())));
-    /// });
-    /// assert_eq!(list[..3], [0, 1 << 18, 1 << 17]);
-    /// ```
-    pub fn for_each_phase(mut self, mut run: impl FnMut(ReversalParts<'_, F>)) {
-        while let Some(phase) = self.next_phase() {
-            run(phase);
-        }
     }
 }
 
@@ -306,12 +271,6 @@ impl<T> fmt::Debug for TransposePart<'_, T> {
         f.debug_struct("TransposePart")
             .field("number", &self.0.numbers().start)
             .finish()
-    }
-}
-
-impl<F> fmt::Debug for ReversalPhases<'_, F> {
-    fn fmt(&self, f: &mut fmt::Formatter<'_>) -> fmt::Result {
-        f.debug_struct("ReversalPhases").field("done", &self.0.done()).finish()
     }
 }
 

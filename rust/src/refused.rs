@@ -1,5 +1,5 @@
-//! What does not compile: types that do not meet the bounds of proved calls, and parts that would run twice, in the
-//! wrong phase, or while their list is in use. Each block marked `compile_fail` would compile if one bound or one
+//! What does not compile: types that do not meet the bounds of proved calls, and parts that would run twice or while
+//! their list is in use. Each block marked `compile_fail` would compile if one bound or one
 //! lifetime were missing.
 //!
 //! ```
@@ -43,8 +43,7 @@
 //!
 //! # Parts
 //!
-//! Parts, the iterators over parts, and the phases of a reversal can be sent to other threads together with their
-//! items:
+//! Parts and the iterators over parts can be sent to other threads together with their items:
 //!
 //! ```
 //! use p3_util_proved::assert_send;
@@ -52,7 +51,7 @@
 //! use std::cell::Cell;
 //!
 //! assert_send::<(TransposeParts<'_, u8>, TransposePart<'_, u8>)>();
-//! assert_send::<(ReversalPhases<'_, Cell<u8>>, ReversalParts<'_, Cell<u8>>, ReversalPart<'_, Cell<u8>>)>();
+//! assert_send::<(ReversalParts<'_, Cell<u8>>, ReversalPart<'_, Cell<u8>>)>();
 //! ```
 //!
 //! ```compile_fail,E0277
@@ -61,10 +60,6 @@
 //!
 //! ```compile_fail,E0277
 //! p3_util_proved::assert_send::<p3_util_proved::parts::TransposePart<'_, std::cell::Cell<u8>>>();
-//! ```
-//!
-//! ```compile_fail,E0277
-//! p3_util_proved::assert_send::<p3_util_proved::parts::ReversalPhases<'_, std::rc::Rc<u8>>>();
 //! ```
 //!
 //! ```compile_fail,E0277
@@ -86,10 +81,6 @@
 //! ```
 //!
 //! ```compile_fail,E0277
-//! p3_util_proved::assert_clone::<p3_util_proved::parts::ReversalPhases<'_, u8>>();
-//! ```
-//!
-//! ```compile_fail,E0277
 //! p3_util_proved::assert_clone::<p3_util_proved::parts::ReversalParts<'_, u8>>();
 //! ```
 //!
@@ -106,6 +97,13 @@
 //! part.run();
 //! ```
 //!
+//! ```compile_fail,E0382
+//! let mut list = [0, 1, 2, 3];
+//! let part = p3_util_proved::parts::reversal(&mut list, 2).next().unwrap();
+//! part.run();
+//! part.run();
+//! ```
+//!
 //! As long as a value of one of these types exists, its list is borrowed. For a transpose, the input is borrowed too:
 //!
 //! ```
@@ -113,9 +111,7 @@
 //!
 //! let (mut input, mut output) = ([0, 1, 2, 3], [0; 4]);
 //! transpose(&input, &mut output, 2, 2, 2).for_each(|part| part.run());
-//! let mut phases = reversal(&mut input, 2);
-//! phases.next_phase().unwrap().for_each(|part| part.run());
-//! assert!(phases.next_phase().is_none());
+//! reversal(&mut input, 2).for_each(|part| part.run());
 //! input[0] = output[1];
 //! output[0] = input[1];
 //! ```
@@ -157,42 +153,48 @@
 //! ```
 //!
 //! ```compile_fail,E0506
-//! use p3_util_proved::parts::reversal;
-//!
 //! let mut list = [0, 1, 2, 3];
-//! let phases = reversal(&mut list, 2);
+//! let parts = p3_util_proved::parts::reversal(&mut list, 2);
 //! list[0] = 7;
-//! phases.for_each_phase(|parts| parts.for_each(|part| part.run()));
-//! ```
-//!
-//! No phase can begin as long as a part of the phase before it exists:
-//!
-//! ```compile_fail,E0499
-//! let mut list = [0, 1, 2, 3];
-//! let mut phases = p3_util_proved::parts::reversal(&mut list, 2);
-//! let parts = phases.next_phase().unwrap();
-//! let next_phase = phases.next_phase();
 //! parts.for_each(|part| part.run());
 //! ```
 //!
-//! ```compile_fail,E0499
+//! ```compile_fail,E0506
 //! let mut list = [0, 1, 2, 3];
-//! let mut phases = p3_util_proved::parts::reversal(&mut list, 2);
-//! let part = phases.next_phase().unwrap().next().unwrap();
-//! let next_phase = phases.next_phase();
+//! let part = p3_util_proved::parts::reversal(&mut list, 2).next().unwrap();
+//! list[0] = 7;
 //! part.run();
 //! ```
 //!
-//! ```compile_fail,E0499
+//! ```compile_fail,E0506
 //! let mut list = [0, 1, 2, 3];
-//! let mut phases = p3_util_proved::parts::row_reversal(&mut list, 2, 2);
-//! let parts = phases.next_phase().unwrap();
-//! let next_phase = phases.next_phase();
+//! let part = p3_util_proved::parts::row_reversal(&mut list, 2, 2).next().unwrap();
+//! list[0] = 7;
+//! part.run();
+//! ```
+//!
+//! The list cannot be read either, and it cannot be cut again:
+//!
+//! ```compile_fail,E0502
+//! let mut list = [0, 1, 2, 3];
+//! let parts = p3_util_proved::parts::reversal(&mut list, 2);
+//! let sum: i32 = list.iter().sum();
 //! parts.for_each(|part| part.run());
 //! ```
 //!
-//! ```compile_fail,E0521
+//! ```compile_fail,E0499
 //! let mut list = [0, 1, 2, 3];
-//! let mut kept = None;
-//! p3_util_proved::parts::reversal(&mut list, 2).for_each_phase(|parts| kept = Some(parts));
+//! let part = p3_util_proved::parts::reversal(&mut list, 2).next().unwrap();
+//! let more_parts = p3_util_proved::parts::reversal(&mut list, 2);
+//! part.run();
+//! ```
+//!
+//! No part outlives its list:
+//!
+//! ```compile_fail,E0597
+//! let part = {
+//!     let mut list = [0, 1, 2, 3];
+//!     p3_util_proved::parts::reversal(&mut list, 2).next().unwrap()
+//! };
+//! part.run();
 //! ```

@@ -3,17 +3,17 @@
 //!
 //! It is proved that a kernel whose own precondition holds meets the preconditions of `exchange`, `put` and `at`, for
 //! every holder. So the holders here check no index. `reverse`, `reverse_rows`, `transpose`, `parts_of_transpose` and
-//! `Phases::new` check the kernel's precondition first. `next_phase`, `split_first`, `put` and `exchange` check
-//! nothing. Their preconditions follow from private fields, which are always set together. Comments in these functions
-//! say which field gives which clause. The holders are private to this file, so nothing else can make one. With the
-//! feature `checked`, other holders replace them, which check each index.
+//! `parts_of_reversal` check the kernel's precondition first. `split_first`, `put` and `exchange` check nothing. Their
+//! preconditions follow from private fields, which are always set together. Comments in these functions say which field
+//! gives which clause. The holders are private to this file, so nothing else can make one. With the feature `checked`,
+//! other holders replace them, which check each index.
 //!
 //! The parts of a call share one list. The holder of a part is a pointer and a length. It makes references to one place
 //! or one run at a time, never to the whole list: see `SliceItems`. Which parts a call has, and what each part does, is
 //! decided by proved code (`kernels/parts.rs`), as the steps of a kernel are. It is proved
-//! (`crates/p3_util_kernels/src/parts/laws.rt`) that two parts of a phase have no place in common, and that the steps
-//! of the parts of a phase, interleaved in any way, have the effect of the phase. The section "Threads" of the package's
-//! README says for which lists this is proved, and what is checked by review.
+//! (`crates/p3_util_kernels/src/parts/laws.rt`) that two parts have no place in common, and that the steps of all parts,
+//! interleaved in any way, have the effect of the call. The section "Threads" of the package's README says exactly what
+//! is proved, and what is checked by review.
 
 use core::ops::Range;
 
@@ -68,14 +68,14 @@ pub(crate) use vectors::HERE as TURNS_IN_REGISTERS;
 #[cfg(feature = "checked")]
 pub(crate) const TURNS_IN_REGISTERS: bool = false;
 
-/// Some parts of a phase: those that have these numbers. No other `Parts` of the phase has one of these numbers.
+/// Some parts of a call: those that have these numbers. No other `Parts` of the call has one of these numbers.
 ///
-/// `parts_of_transpose` and `Phases::next_phase` set the fields together: `items` is the list that `phase` was made
-/// for, and `numbers` are below the number of parts of `phase`. The fields are private, and `Parts` is not `Clone`, so
-/// this stays true.
+/// `parts_of_transpose` and `parts_of_reversal` set the fields together: `items` is the list that `plan` was made for,
+/// and `numbers` are below the number of parts of `plan`. The fields are private, and `Parts` is not `Clone`, so this
+/// stays true.
 pub(crate) struct Parts<'a, T, P> {
     items: PartItems<'a, T>,
-    phase: P,
+    plan: P,
     numbers: Range<usize>,
 }
 
@@ -107,60 +107,33 @@ pub(crate) fn parts_of_transpose<'a, T: Copy>(
     let share = if count == 0 { 0 } else { plan.items(0) };
     Some(Parts {
         items: PartItems::in_shares(output, share),
-        phase: Regions { source, plan, strips },
+        plan: Regions { source, plan, strips },
         numbers: 0..count,
     })
 }
 
-/// A list whose rows are reversed in at most one phase, how many phases it has, and how many are done. `Phases::new`
-/// made the plan for this list. A list without phases may have any plan.
-pub(crate) struct Phases<'a, F> {
-    vals: &'a mut [F],
-    plan: ReversalPlan,
-    count: usize,
-    done: usize,
-}
-
-impl<'a, F> Phases<'a, F> {
-    /// The phases of [`reverse_rows`], or `None` if that call would return `false`. Each side of a square is cut into
-    /// at most `parts` parts. A list of up to `one_part` items is one part. A list that is empty, or whose items have no
-    /// bytes, has no phase.
-    pub(crate) fn new(vals: &'a mut [F], row_width: usize, parts: usize, one_part: usize) -> Option<Self> {
-        if !fits_rows(vals.len(), row_width) {
-            return None;
-        }
-        let len = if size_of::<F>() == 0 { 0 } else { vals.len() };
-        let plan = ReversalPlan::new(len, row_width, parts, one_part);
-        let count = usize::from(len > 0);
-        Some(Phases {
-            vals,
-            plan,
-            count,
-            done: 0,
-        })
+/// The parts of [`reverse_rows`], or `None` if that call would return `false`. Each side of a square is cut into at most
+/// `parts` parts. A list of up to `one_part` items is one part. A list that is empty, or whose items have no bytes, has
+/// no part.
+pub(crate) fn parts_of_reversal<F>(
+    vals: &mut [F],
+    row_width: usize,
+    parts: usize,
+    one_part: usize,
+) -> Option<Parts<'_, F, ReversalPlan>> {
+    let len = vals.len();
+    if !fits_rows(len, row_width) {
+        return None;
     }
-
-    /// The parts of the next phase, or `None` after the last one.
-    pub(crate) fn next_phase(&mut self) -> Option<Parts<'_, F, ReversalPlan>> {
-        if self.done == self.count {
-            return None;
-        }
-        self.done += 1;
-        // `plan` was made for the length of `vals`, since the list has a phase. This is the clause `plan` of
-        // `ReversalPlan::exchange`. The parts borrow `self`, so nobody can ask for the next phase while one of them
-        // exists.
-        let len = self.vals.len();
-        Some(Parts {
-            items: PartItems::in_shares(self.vals, len),
-            phase: self.plan,
-            numbers: 0..self.plan.count(),
-        })
-    }
-
-    /// How many phases are done. No phase is under way when this is called: its parts would still borrow `self`.
-    pub(crate) fn done(&self) -> usize {
-        self.done
-    }
+    // The plan is made for the length of `vals`, in rows that fit. This is the clause `plan` of
+    // `ReversalPlan::exchange`.
+    let plan = ReversalPlan::new(len, row_width, parts, one_part);
+    let count = if size_of_val(vals) == 0 { 0 } else { plan.count() };
+    Some(Parts {
+        items: PartItems::in_shares(vals, len),
+        plan,
+        numbers: 0..count,
+    })
 }
 
 impl<T, P: Copy> Parts<'_, T, P> {
@@ -171,7 +144,7 @@ impl<T, P: Copy> Parts<'_, T, P> {
         let number = self.numbers.next()?;
         Some(Parts {
             items: self.items.share(),
-            phase: self.phase,
+            plan: self.plan,
             numbers: number..number + 1,
         })
     }
@@ -185,7 +158,7 @@ impl<T, P: Copy> Parts<'_, T, P> {
 impl<T: Copy> Parts<'_, T, Regions<&[T]>> {
     /// Puts the remaining regions.
     pub(crate) fn put(self) {
-        let source = SliceSource::new(self.phase.source);
+        let source = SliceSource::new(self.plan.source);
         self.put_from(source);
     }
 }
@@ -196,7 +169,7 @@ impl<T: Copy, R> Parts<'_, T, Regions<R>> {
         // The clause `below` of `TransposePlan::put` holds because `numbers` are below the plan's count. `input_fits`
         // and `output_fits` hold because `source` and `items` are the lists that `parts_of_transpose` checked for this
         // plan.
-        let Regions { plan, strips, .. } = self.phase;
+        let Regions { plan, strips, .. } = self.plan;
         self.numbers
             .for_each(|number| _ = plan.put(self.items.share(), source, number, strips));
     }
@@ -205,10 +178,11 @@ impl<T: Copy, R> Parts<'_, T, Regions<R>> {
 impl<F> Parts<'_, F, ReversalPlan> {
     /// Makes the exchanges of the remaining parts.
     pub(crate) fn exchange(mut self) {
-        // The clause `below` of `ReversalPlan::exchange` holds because `numbers` are below the plan's count, and `plan`
-        // because `items` is the list that the plan was made for. `len_fits` holds for every slice.
+        // The clause `below` of `ReversalPlan::exchange` holds because `numbers` are below the plan's count, and the
+        // clause `plan` because `items` is the list that `parts_of_reversal` made the plan for. `len_fits` holds for
+        // every slice.
         self.numbers
-            .for_each(|number| _ = self.phase.exchange(self.items.share(), number));
+            .for_each(|number| _ = self.plan.exchange(self.items.share(), number));
     }
 }
 
@@ -225,7 +199,7 @@ mod slices {
 
     /// The items of a slice, as places or as cells, for one kernel or for one part.
     ///
-    /// Other parts of a phase may have such a holder of the same list at the same time. So no function of this type
+    /// Other parts of a call may have such a holder of the same list at the same time. So no function of this type
     /// makes a reference to the whole list, or to a place or a run that it does not change. A reference to something
     /// that another part changes is undefined behaviour, even if nothing is read through the reference. No test and no
     /// race detector would notice that.
@@ -253,7 +227,7 @@ mod slices {
             SliceItems::new(slice)
         }
 
-        /// The same items, for one part. No two parts of a phase change the same place.
+        /// The same items, for one part. No two parts of a call change the same place.
         pub(super) fn share(&mut self) -> Self {
             SliceItems { ..*self }
         }

@@ -3,7 +3,7 @@
 use alloc::vec::Vec;
 
 use p3_maybe_rayon::prelude::*;
-use p3_util_proved::parts::ReversalPhases;
+use p3_util_proved::parts::ReversalParts;
 pub use p3_util_proved::*;
 
 /// The approximate number of parts for each thread. Parts differ in size.
@@ -29,7 +29,7 @@ pub fn reverse_slice_index_bits<F: Send + Sync>(vals: &mut [F]) {
     let Some(parts) = parts_to_ask_for(vals.len() > p3_util_proved::parts::one_part_reversal::<F>()) else {
         return p3_util_proved::reverse_slice_index_bits(vals);
     };
-    run_phases(p3_util_proved::parts::reversal(vals, parts));
+    run_all(p3_util_proved::parts::reversal(vals, parts));
 }
 
 /// Does the same as [`p3_util_proved::reverse_slice_row_index_bits`], on all threads.
@@ -43,15 +43,13 @@ pub fn reverse_slice_row_index_bits<F: Send>(vals: &mut [F], row_width: usize) {
     let Some(parts) = parts_to_ask_for(vals.len() > p3_util_proved::parts::one_part_reversal::<F>()) else {
         return p3_util_proved::reverse_slice_row_index_bits(vals, row_width);
     };
-    run_phases(p3_util_proved::parts::row_reversal(vals, row_width, parts));
+    run_all(p3_util_proved::parts::row_reversal(vals, row_width, parts));
 }
 
-/// Runs the parts of each phase on all threads.
-fn run_phases<F: Send>(phases: ReversalPhases<'_, F>) {
-    phases.for_each_phase(|parts| {
-        let parts: Vec<_> = parts.collect();
-        parts.into_par_iter().for_each(|part| part.run());
-    });
+/// Runs the parts of a reversal on all threads.
+fn run_all<F: Send>(parts: ReversalParts<'_, F>) {
+    let parts: Vec<_> = parts.collect();
+    parts.into_par_iter().for_each(|part| part.run());
 }
 
 #[allow(dead_code, reason = "the original's transposes may be kept in their place")]

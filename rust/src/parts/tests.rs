@@ -1,5 +1,5 @@
 //! Runs each part on a holder that notes every place that a step changes. A part moves the items of its region, and no
-//! other part of its phase changes one of its places.
+//! other part of the call changes one of its places.
 
 use std::collections::BTreeSet;
 use std::vec::Vec;

@@ -56,13 +56,11 @@ fn transposes<T: Number>(width: usize, height: usize, parts: usize, threads: usi
     assert!(output.into_iter().eq((0..input.len()).map(transposed)));
 }
 
-/// Reverses 2^`digits` rows of numbers, in phases whose squares are cut into at most `parts` pieces on each side.
+/// Reverses 2^`digits` rows of numbers, in parts. The sides of the squares are cut into at most `parts` pieces.
 fn reverses<T: Number>(digits: u32, row_width: usize, parts: usize, threads: usize) {
     let mut list: Vec<T> = (0..row_width << digits).map(T::of).collect();
-    let mut phases = Phases::new(&mut list, row_width, parts, 0).unwrap();
-    while let Some(parts) = phases.next_phase() {
-        run_on(threads, parts, Parts::exchange);
-    }
+    let parts = parts_of_reversal(&mut list, row_width, parts, 0).unwrap();
+    run_on(threads, parts, Parts::exchange);
     let reversed = |row: usize| (0..digits).fold(0, |rev, place| rev << 1 | row >> place & 1);
     let item = |place| T::of(reversed(place / row_width) * row_width + place % row_width);
     assert!(list.into_iter().eq((0..row_width << digits).map(item)));
@@ -80,29 +78,27 @@ fn parts_on_threads() {
     }
 }
 
-/// Takes two plans for the same list, and runs one part of each, on two threads.
-fn run_both<'a, T: Send, P: Copy + Send>(
-    mut parts: Parts<'a, T, P>,
-    phases: [(P, usize); 2],
-    run: fn(Parts<'a, T, P>),
-) {
-    let shares = phases.map(|(phase, number)| {
+/// Takes two plans for the list of `parts`, and runs one part of each, on two threads.
+fn run_both<'a, T: Send, P: Copy + Send>(mut parts: Parts<'a, T, P>, plans: [(P, usize); 2], run: fn(Parts<'a, T, P>)) {
+    let shares = plans.map(|(plan, number)| {
         let items = parts.items.share();
         std::vec![Parts {
             items,
-            phase,
+            plan,
             numbers: number..number + 1,
         }]
     });
     run_all(shares, run);
 }
 
-/// Cuts a reversal in two ways, and runs one part of each cut, on two threads.
-fn exchanges_both(len: usize, row_width: usize, parts: [(usize, usize); 2]) {
+/// Runs two parts of a reversal that overlap, on two threads: a block of a square whose sides are cut into two pieces,
+/// and the whole square.
+fn exchanges_both(len: usize, row_width: usize) {
     let mut list: Vec<usize> = (0..len).collect();
-    let mut phases = Phases::new(&mut list, row_width, 1, 0).unwrap();
-    let cuts = parts.map(|(parts, part)| (ReversalPlan::new(len, row_width, parts, 0), part));
-    run_both(phases.next_phase().unwrap(), cuts, Parts::exchange);
+    let plans = [1, 2].map(|pieces| (ReversalPlan::new(len, row_width, pieces, 0), 0));
+    assert_eq!(plans.map(|(plan, _)| plan.count()), [1, 3]);
+    let parts = parts_of_reversal(&mut list, row_width, 1, 0).unwrap();
+    run_both(parts, plans, Parts::exchange);
 }
 
 /// The first 32 of 64 columns, and the last 16 of those 32.
@@ -114,22 +110,21 @@ fn overlapping_regions() {
     let parts = parts_of_transpose(&input, &mut output, 64, 64, 1).unwrap();
     let cuts = [(2, 0), (4, 1)].map(|(count, part)| {
         let plan = TransposePlan::new(64, 64, count, true);
-        (Regions { plan, ..parts.phase }, part)
+        (Regions { plan, ..parts.plan }, part)
     });
     run_both(parts, cuts, Parts::put);
 }
 
-/// Two blocks of pairs of rows, for 2^8 rows of three items. One block has the numbers below 8, the other the numbers
-/// from 6 to 11.
+/// 2^8 rows of three items, which are a square of 16 by 16 rows.
 #[test]
 #[ignore = "a race, which a detector has to report"]
 fn overlapping_pairs() {
-    exchanges_both(3 << 8, 3, [(2, 0), (3, 1)]);
+    exchanges_both(3 << 8, 3);
 }
 
-/// In a square of 64 by 64 items: a block of 32 by 32 on the diagonal, and a block of 16 by 16 inside it.
+/// A square of 64 by 64 items.
 #[test]
 #[ignore = "a race, which a detector has to report"]
 fn overlapping_blocks() {
-    exchanges_both(1 << 12, 1, [(2, 0), (4, 1)]);
+    exchanges_both(1 << 12, 1);
 }

@@ -63,7 +63,7 @@ fn strips_of_the_parts() {
     ] {
         let by_parts = reads(64 * 64, |items, output, source| {
             let mut parts = parts_of_transpose(items, output, 64, 64, 1).unwrap();
-            parts.phase.strips = strips;
+            parts.plan.strips = strips;
             parts.put_from(source);
         });
         let by_call = reads(64 * 64, |_, output, source| {
@@ -82,7 +82,7 @@ fn strips_of_the_call() {
         let mut output = input.clone();
         let matrix = Matrix::new(SliceSource::new(&input), width, height);
         let parts = parts_of_transpose(&input, &mut output, width, height, 4).unwrap();
-        assert!(discriminant(&parts.phase.strips) == discriminant(&strips_of(matrix)));
+        assert!(discriminant(&parts.plan.strips) == discriminant(&strips_of(matrix)));
         discriminant(&Strips::of(matrix)) == discriminant(&strips_of(matrix))
     }
     assert!(is_of_call(0u8, 64, 64));

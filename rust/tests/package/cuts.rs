@@ -33,19 +33,17 @@ fn parts_of_transposes() {
     }
 }
 
-/// The parts of each phase of a reversal say how many of them are left, both before the first part is taken and after
-/// each part.
+/// The parts of a reversal say how many of them are left, both before the first part is taken and after each part.
 #[test]
 fn parts_that_are_left() {
     for (bits, asked) in [(4, 3), (18, 4), (19, 1), (19, 9), (20, 16)] {
         let mut list = vec![0u8; 1 << bits];
-        reversal(&mut list, asked).for_each_phase(|mut parts| {
-            for left in (0..parts.len()).rev() {
-                assert!(parts.next().is_some());
-                assert_eq!((parts.len(), parts.size_hint()), (left, (left, Some(left))));
-            }
-            assert!(parts.next().is_none() && parts.next().is_none());
-        });
+        let mut parts = reversal(&mut list, asked);
+        for left in (0..parts.len()).rev() {
+            assert!(parts.next().is_some());
+            assert_eq!((parts.len(), parts.size_hint()), (left, (left, Some(left))));
+        }
+        assert!(parts.next().is_none() && parts.next().is_none());
     }
 }
 
@@ -56,9 +54,7 @@ fn rows_that_fit() {
     for (len, row_width) in (0..=40).flat_map(|len| (0..=40).map(move |row_width| (len, row_width))) {
         let mut list: Vec<usize> = (0..len).collect();
         let mut wanted = list.clone();
-        let panic = refusal(|| {
-            row_reversal(&mut list, row_width, 3).for_each_phase(|parts| parts.for_each(ReversalPart::run));
-        });
+        let panic = refusal(|| row_reversal(&mut list, row_width, 3).for_each(ReversalPart::run));
         let is_refused = refusal(|| reverse_slice_row_index_bits(&mut wanted, row_width)).is_some();
         assert_eq!(panic.is_some(), is_refused, "{len} items in rows of {row_width}");
         assert_eq!(list, wanted, "{len} items in rows of {row_width}");

@@ -73,15 +73,13 @@ fn check_reversal<F: Debug + PartialEq + Send + Sync>(
     threads: usize,
 ) {
     let mut list: Vec<F> = (0..width << bits).map(&item).collect();
-    let mut phases = match width {
+    let cut = match width {
         1 => reversal(&mut list, parts),
         _ => row_reversal(&mut list, width, parts),
     };
-    while let Some(list) = phases.next_phase() {
-        match threads {
-            0 => run_in_order(list, bits as usize + parts, ReversalPart::run),
-            _ => run_on(threads, list, ReversalPart::run),
-        }
+    match threads {
+        0 => run_in_order(cut, bits as usize + parts, ReversalPart::run),
+        _ => run_on(threads, cut, ReversalPart::run),
     }
     for (i, got) in list.iter().enumerate() {
         let wanted = item(reversed(bits, i / width) * width + i % width);
@@ -143,40 +141,24 @@ fn none_and_one() {
             let parts = transpose(&input[..len], &mut output[..len], width, height, parts);
             assert_eq!(parts.len(), 0, "{width} by {height}");
         }
-        assert!(reversal(&mut output, parts).next_phase().is_none());
+        assert_eq!(reversal(&mut output, parts).len(), 0);
     }
-    assert!(reversal::<u8>(&mut [], 3).next_phase().is_none());
-    assert!(reversal(&mut [(); 8], 3).next_phase().is_none());
-    assert!(row_reversal::<u8>(&mut [], 0, 3).next_phase().is_none());
-    assert!(row_reversal(&mut [(); 6], 3, 3).next_phase().is_none());
+    assert_eq!(reversal::<u8>(&mut [], 3).len(), 0);
+    assert_eq!(reversal(&mut [(); 8], 3).len(), 0);
+    assert_eq!(row_reversal::<u8>(&mut [], 0, 3).len(), 0);
+    assert_eq!(row_reversal(&mut [(); 6], 3, 3).len(), 0);
     for parts in [0, 1] {
         assert_eq!(transpose(&[7; 800], &mut [0; 800], 20, 40, parts).len(), 1);
-        let mut list = vec![0u8; 1 << 19];
-        let mut phases = reversal(&mut list, parts);
-        let lens: Vec<usize> = std::iter::from_fn(|| phases.next_phase().map(|parts| parts.len())).collect();
-        let wanted: &[usize] = if cfg!(feature = "checked") { &[1] } else { &[2] };
-        assert_eq!(lens, wanted, "a square and the one beside it are two parts");
-    }
-}
-
-/// How many parts the phases of a long list have if a caller asks for `asked` parts. These are the numbers in the
-/// documentation.
-#[test]
-#[cfg(not(feature = "checked"))]
-fn parts_of_phases() {
-    let cases = [(20, 16, [36]), (21, 16, [72]), (20, 64, [136]), (20, 256, [528])];
-    for (bits, asked, wanted) in cases {
-        let mut list = vec![0u8; 1 << bits];
-        let mut counts = vec![];
-        reversal(&mut list, asked).for_each_phase(|parts| counts.push(parts.len()));
-        assert_eq!(counts, wanted, "2^{bits} items if {asked} are asked for");
+        let wanted = if cfg!(feature = "checked") { 1 } else { 2 };
+        let count = reversal(&mut vec![0u8; 1 << 19], parts).len();
+        assert_eq!(count, wanted, "a square and the one beside it are two parts");
     }
 }
 
 /// The number of parts of a list of `len` items.
 fn count<F: Clone + Send + Sync>(item: F, len: usize) -> usize {
     let mut list = vec![item; len];
-    reversal(&mut list, 9).next_phase().unwrap().len()
+    reversal(&mut list, 9).len()
 }
 
 /// A list is cut if it has more items than one part may have.
@@ -228,10 +210,7 @@ fn a_long_part() {
 fn owners_are_neither_lost_nor_doubled() {
     let drops = AtomicUsize::new(0);
     let mut list = Owner::list(1 << 19, &drops);
-    let mut phases = reversal(&mut list, 5);
-    while let Some(parts) = phases.next_phase() {
-        parts.step_by(2).for_each(ReversalPart::run);
-    }
+    reversal(&mut list, 5).step_by(2).for_each(ReversalPart::run);
     assert_eq!(drops.load(Relaxed), 0);
     let mut numbers: Vec<usize> = list.iter().map(|owner| owner.number).collect();
     assert!(!numbers.is_sorted());
@@ -241,13 +220,13 @@ fn owners_are_neither_lost_nor_doubled() {
     assert_eq!(drops.load(Relaxed), 1 << 19);
 }
 
-/// If a part of a phase panics, or is not run, the list goes back to its owner.
+/// If a panic comes between two parts, the list goes back to its owner.
 #[test]
 fn a_panic_between_parts() {
     let mut list: Vec<u32> = (0..1 << 19).collect();
     let panic = refusal(|| {
-        let mut phases = reversal(&mut list, 4);
-        phases.next_phase().unwrap().take(1).for_each(ReversalPart::run);
+        let mut parts = reversal(&mut list, 4);
+        parts.next().unwrap().run();
         panic!("between parts");
     });
     assert_eq!(panic.unwrap().text, "between parts");
@@ -280,9 +259,7 @@ fn debug_shows_numbers() {
     assert_eq!(format!("{parts:?}"), "TransposeParts { left: 2 }");
     assert_eq!(format!("{:?}", parts.nth(1).unwrap()), "TransposePart { number: 1 }");
     let mut list = input;
-    let mut phases = reversal(&mut list, 2);
-    assert_eq!(format!("{phases:?}"), "ReversalPhases { done: 0 }");
-    let mut parts = phases.next_phase().unwrap();
+    let mut parts = reversal(&mut list, 2);
     assert_eq!(format!("{parts:?}"), "ReversalParts { left: 1 }");
     assert_eq!(format!("{:?}", parts.next().unwrap()), "ReversalPart { number: 0 }");
 }
@@ -295,7 +272,7 @@ fn a_warning_where_parts_are_thrown_away() {
     fn transpose_parts<'a>(input: &'a [u8], output: &'a mut [u8]) -> TransposeParts<'a, u8> {
         transpose(input, output, 2, 2, 2)
     }
-    fn reversal_phases(list: &mut [u8]) -> ReversalPhases<'_, u8> {
+    fn reversal_parts(list: &mut [u8]) -> ReversalParts<'_, u8> {
         reversal(list, 2)
     }
     let (mut list, mut output) = ([0u8, 1, 2, 3], [0; 4]);
@@ -308,15 +285,11 @@ fn a_warning_where_parts_are_thrown_away() {
     #[expect(unused_must_use)]
     reversal(&mut list, 2);
     #[expect(unused_must_use)]
-    reversal_phases(&mut list);
+    reversal_parts(&mut list);
     #[expect(unused_must_use)]
     row_reversal(&mut list, 2, 2);
     #[expect(unused_must_use)]
-    reversal(&mut list, 2).next_phase();
-    #[expect(unused_must_use)]
-    reversal(&mut list, 2).next_phase().unwrap();
-    #[expect(unused_must_use)]
-    reversal(&mut list, 2).next_phase().unwrap().next().unwrap();
+    reversal(&mut list, 2).next().unwrap();
     assert_eq!((list, output), ([0, 1, 2, 3], [0; 4]));
 }
 

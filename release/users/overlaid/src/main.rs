@@ -51,7 +51,7 @@ fn calls_of_the_package() {
     let mut rows = [0, 1, 10, 11, 20, 21, 30, 31];
     reverse_slice_row_index_bits(&mut rows, 2);
     assert_eq!(rows, [0, 1, 20, 21, 10, 11, 30, 31]);
-    parts::row_reversal(&mut rows, 2, 3).for_each_phase(|parts| parts.for_each(|part| part.run()));
+    parts::row_reversal(&mut rows, 2, 3).for_each(|part| part.run());
     assert_eq!(rows, [0, 1, 10, 11, 20, 21, 30, 31]);
     assert_eq!(reverse_counted(&mut SlicePlaces::new(&mut rows)), 2);
     let mut list: Vec<u32> = (0..100 << 13).collect();
