@@ -97,24 +97,21 @@ use crate::kernels::parts::ReversalPlan;
 use crate::unchecked::{self, Parts, Regions};
 
 /// A list of more items is cut, whatever the size of its items.
-const CUT_ITEMS: usize = 1 << 18;
+const ONE_PART_ITEMS: usize = 1 << 16;
 
-/// A list of more bytes is cut if it has more than [`CUT_WIDE_ITEMS`] items.
-const CUT_BYTES: usize = 1 << 21;
+/// A list of more bytes is cut, however few items it has.
+const ONE_PART_BYTES: usize = 1 << 21;
 
-/// A list of at most this many items is one part, however many bytes they have.
-const CUT_WIDE_ITEMS: usize = 1 << 16;
-
-/// The greatest number of items of this type that [`reversal`] and [`row_reversal`] leave as one part. It is 2^18, or
-/// the number of items that 2^21 bytes hold if that is less, but at least 2^16. Up to that number the call itself is
-/// faster than its parts.
+/// The greatest number of items of this type that [`reversal`] and [`row_reversal`] leave as one part. It is 2^16, or
+/// the number of items that 2^21 bytes hold if that is less. Up to about that number, the call takes less time than its
+/// parts on the threads of a pool.
 ///
 /// ```
 /// use p3_util_proved::parts::one_part_reversal;
 ///
 /// # if cfg!(not(feature = "checked")) {
-/// assert_eq!(one_part_reversal::<u32>(), 1 << 18);
-/// assert_eq!(one_part_reversal::<[u64; 4]>(), 1 << 16);
+/// assert_eq!(one_part_reversal::<u32>(), 1 << 16);
+/// assert_eq!(one_part_reversal::<[u64; 8]>(), 1 << 15);
 /// # }
 /// ```
 ///
@@ -124,10 +121,9 @@ pub const fn one_part_reversal<F>() -> usize {
     if cfg!(feature = "checked") {
         return usize::MAX;
     }
-    match CUT_BYTES.checked_div(size_of::<F>()) {
-        Some(items) if items < CUT_WIDE_ITEMS => CUT_WIDE_ITEMS,
-        Some(items) if items < CUT_ITEMS => items,
-        _ => CUT_ITEMS,
+    match ONE_PART_BYTES.checked_div(size_of::<F>()) {
+        Some(items) if items < ONE_PART_ITEMS => items,
+        _ => ONE_PART_ITEMS,
     }
 }
 

@@ -340,25 +340,20 @@ fn lists_up_to_one_part() {
     assert_eq!([count(3 << 9, 3, 1535), count(3 << 9, 3, 1536)], [20, 1]);
 }
 
-/// A list of up to 2^18 items is one part. If an item has more than 8 bytes, a list is one part up to as many items as
-/// 2^21 bytes hold, but always up to 2^16 items. With the feature `checked` every list is one part.
+/// A list of up to 2^16 items is one part. If an item has more than 32 bytes, a list is one part up to as many items as
+/// 2^21 bytes hold. With the feature `checked` every list is one part.
 #[test]
 fn items_of_one_part() {
     let wanted = |items| if cfg!(feature = "checked") { usize::MAX } else { items };
     let of_few_bytes = [
         one_part_reversal::<()>(),
         one_part_reversal::<u8>(),
-        one_part_reversal::<u32>(),
         one_part_reversal::<u64>(),
-    ];
-    assert_eq!(of_few_bytes, [wanted(1 << 18); 4]);
-    assert_eq!(one_part_reversal::<[u8; 9]>(), wanted(233_016));
-    assert_eq!(one_part_reversal::<u128>(), wanted(1 << 17));
-    assert_eq!(one_part_reversal::<[u8; 31]>(), wanted(67_650));
-    let of_many_bytes = [
+        one_part_reversal::<[u8; 31]>(),
         one_part_reversal::<[u8; 32]>(),
-        one_part_reversal::<[u8; 33]>(),
-        one_part_reversal::<[u64; 1000]>(),
     ];
-    assert_eq!(of_many_bytes, [wanted(1 << 16); 3]);
+    assert_eq!(of_few_bytes, [wanted(65_536); 5]);
+    assert_eq!(one_part_reversal::<[u8; 33]>(), wanted(63_550));
+    assert_eq!(one_part_reversal::<[u64; 8]>(), wanted(32_768));
+    assert_eq!(one_part_reversal::<[u64; 1 << 19]>(), wanted(0));
 }

@@ -166,11 +166,11 @@ fn count<F: Clone + Send + Sync>(item: F, len: usize) -> usize {
 fn lists_of_one_part() {
     let is_cut = cfg!(not(feature = "checked"));
     let check = |counts: [usize; 2]| assert_eq!(counts.map(|count| count > 1), [false, is_cut]);
-    check([count(0u8, 1 << 18), count(0u8, 1 << 19)]);
-    check([count(0u64, 1 << 18), count(0u64, 1 << 19)]);
-    check([count(0u128, 1 << 17), count(0u128, 1 << 18)]);
+    check([count(0u8, 1 << 16), count(0u8, 1 << 17)]);
+    check([count(0u64, 1 << 16), count(0u64, 1 << 17)]);
     check([count([0u64; 4], 1 << 16), count([0u64; 4], 1 << 17)]);
-    check([count([0u64; 8], 1 << 16), count([0u64; 8], 1 << 17)]);
+    check([count([0u64; 8], 1 << 15), count([0u64; 8], 1 << 16)]);
+    check([count([0u64; 64], 1 << 12), count([0u64; 64], 1 << 13)]);
 }
 
 /// The longer side is cut, except that with the feature `checked` always the columns are. A part that is not run leaves

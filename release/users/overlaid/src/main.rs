@@ -60,8 +60,49 @@ fn calls_of_the_package() {
     assert!((0..).zip(list.chunks(100)).all(is_reversed));
 }
 
+/// Calls on lists that are just long enough for several threads, or not quite. Each call is named on the error stream, by
+/// what it does, the bytes of an item and the number of items. The stand-in for p3-maybe-rayon then prints there how many
+/// parts the call has, if it is cut.
+#[cfg(target_pointer_width = "64")]
+fn calls_around_the_thresholds() {
+    fn list<T: Clone + Default>(call: &str, len: usize) -> Vec<T> {
+        eprintln!("call {call}/{}/{len}", size_of::<T>());
+        vec![T::default(); len]
+    }
+
+    fn items<T: Clone + Default + Send + Sync>(len: usize) {
+        reverse_slice_index_bits(&mut list::<T>("items", len));
+    }
+
+    fn rows<T: Clone + Default + Send>(len: usize, row_width: usize) {
+        p3_util::proved::reverse_slice_row_index_bits(&mut list::<T>("rows", len), row_width);
+    }
+
+    fn matrix<T: Copy + Default + Send + Sync>(width: usize, height: usize) {
+        let matrix = list::<T>("transpose", width * height);
+        transpose::transpose(&matrix, &mut matrix.clone(), width, height);
+    }
+
+    items::<u8>(1 << 16);
+    items::<u8>(1 << 17);
+    items::<u64>(1 << 16);
+    items::<u64>(1 << 18);
+    items::<[u64; 8]>(1 << 15);
+    items::<[u64; 8]>(1 << 16);
+    rows::<u32>(1 << 16, 4);
+    rows::<u32>(1 << 18, 4);
+    rows::<[u64; 8]>(1 << 15, 2);
+    rows::<[u64; 8]>(1 << 16, 2);
+    matrix::<u8>(511, 512);
+    matrix::<u8>(512, 512);
+    matrix::<[u64; 4]>(513, 512);
+}
+
 #[cfg(not(target_pointer_width = "64"))]
 fn calls_of_the_package() {}
+
+#[cfg(not(target_pointer_width = "64"))]
+fn calls_around_the_thresholds() {}
 
 /// Results that the stand-in for the original never returns.
 fn right_answers() -> [bool; 15] {
@@ -102,6 +143,7 @@ fn main() {
     reverses(|i| vec![i; 5]);
     moves_long_lists();
     calls_of_the_package();
+    calls_around_the_thresholds();
     calls();
     // Only the call of branch_hint, or all of them.
     let originals = if IS_PROVED { 1 } else { 2 * 4 + 1 + 2 + 5 };
