@@ -26,8 +26,10 @@ const GROUPS: &[Group] = &[
 
 /// The groups for calls on several threads.
 const GROUPS_ON_THREADS: &[Group] = &[
-    ("reversals of up to 2^18 items", |it| it.is("reverse", ..=1 << 18)),
-    ("reversals of 2^19 items", |it| it.is("reverse", 1 << 19..1 << 20)),
+    ("reversals of up to 2^16 items", |it| it.is("reverse", ..=1 << 16)),
+    ("reversals of 2^17 to 2^19 items", |it| {
+        it.is("reverse", 1 << 17..1 << 20)
+    }),
     ("reversals of 2^20 to 2^24 items", |it| it.is("reverse", 1 << 20..)),
     ("rows", |it| it.is("rows", ..)),
     ("transposes of fewer than 2^18 items", |it| {

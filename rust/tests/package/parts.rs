@@ -1,6 +1,7 @@
 //! Calls in parts, in various orders and on several threads, compared with the calls and with their definitions.
 
 use std::fmt::Debug;
+use std::iter::FusedIterator;
 use std::sync::Mutex;
 use std::sync::atomic::{AtomicUsize, Ordering::Relaxed};
 use std::thread::scope;
@@ -234,15 +235,24 @@ fn a_panic_between_parts() {
     assert!(list.into_iter().eq(0..1 << 19));
 }
 
+/// The number of parts that are left. After the last part the iterator ends for good, so it is `FusedIterator`.
+fn left(parts: &(impl ExactSizeIterator + FusedIterator)) -> usize {
+    parts.len()
+}
+
 #[test]
 fn iterators_of_known_length() {
     let input = [1u8; 48 * 2];
     let mut output = [0; 48 * 2];
     let mut parts = transpose(&input, &mut output, 48, 2, 3);
-    for left in [3, 2, 1] {
-        assert_eq!((parts.len(), parts.size_hint()), (left, (left, Some(left))));
+    for count in [3, 2, 1] {
+        assert_eq!((left(&parts), parts.size_hint()), (count, (count, Some(count))));
         assert!(parts.next().is_some());
     }
+    assert!(parts.next().is_none() && parts.next().is_none());
+    let mut parts = reversal(&mut output[..8], 3);
+    assert_eq!((left(&parts), parts.size_hint()), (1, (1, Some(1))));
+    assert!(parts.next().is_some());
     assert!(parts.next().is_none() && parts.next().is_none());
 }
 
@@ -276,6 +286,8 @@ fn a_warning_where_parts_are_thrown_away() {
         reversal(list, 2)
     }
     let (mut list, mut output) = ([0u8, 1, 2, 3], [0; 4]);
+    #[expect(unused_must_use)]
+    one_part_reversal::<u8>();
     #[expect(unused_must_use)]
     transpose(&list, &mut output, 2, 2, 2);
     #[expect(unused_must_use)]
