@@ -182,36 +182,41 @@ fn names(digits: usize, row: usize) -> (usize, usize, usize) {
     (rest >> half, reversed(half, high), rest % (1 << half))
 }
 
-/// Whether this row and column of a square, or their mirror image, are in block `number`. The sides of the squares are
-/// cut by `cut`.
-fn is_in_block(cut: Cut, number: usize, square: usize, row: usize, col: usize) -> bool {
-    let (first, second) = cut.pair(number % cut.pairs());
-    let is_in = |part, i| (cut.part(part).0..cut.part(part).1).contains(&i);
-    is_in(first, row.min(col)) && is_in(second, row.max(col)) && number / cut.pairs() == square
+/// The block that has a row: its square, and the pieces of the sides of that square, the lower piece first. A row and the
+/// row that it is exchanged with have the same block. The sides are cut by `cut`.
+fn block_of(cut: Cut, digits: usize, row: usize) -> (usize, usize, usize) {
+    let (middle, x, y) = names(digits, row);
+    let piece = |i| (0..cut.count()).position(|part| (cut.part(part).0..cut.part(part).1).contains(&i));
+    (middle, piece(x.min(y)).unwrap(), piece(x.max(y)).unwrap())
 }
 
+/// Each part exchanges all pairs of rows of one block. The test takes the block from the first row that the part moves.
 #[test]
 fn blocks_of_pairs_of_rows() {
     let cases = (0..=11).flat_map(|digits| (0..=9).map(move |parts| (digits, parts)));
-    for ((digits, parts), (width, unit)) in cases.flat_map(|case| [(1, 16), (1, 2), (3, 1)].map(|rows| (case, rows))) {
+    for ((digits, parts), (width, unit)) in cases.flat_map(|case| [(1, 8), (1, 2), (3, 1)].map(|rows| (case, rows))) {
         let plan = ReversalPlan::ByPairs(RowPairs::new(RowDigits { width, digits }, parts, unit));
+        let exchange = |noted: &mut Noted, number| _ = plan.exchange(noted, number);
         let cut = Cut::new(1 << (digits / 2), parts, unit);
-        let wanted = |number, place: usize| {
+        let len = width << digits;
+        let blocks: Vec<_> = (0..plan.count())
+            .map(|number| {
+                let mut noted = Noted::numbered(len);
+                exchange(&mut noted, number);
+                noted.places.first().map(|place| block_of(cut, digits, place / width))
+            })
+            .collect();
+        let wanted = |number: usize, place: usize| {
             let row = place / width;
-            let (middle, x, y) = names(digits, row);
-            let is_inside = is_in_block(cut, number, middle, x, y);
+            let is_inside = blocks[number] == Some(block_of(cut, digits, row));
             let row = if is_inside { reversed(digits, row) } else { row };
             row * width + place % width
         };
-        let len = width << digits;
-        let moved = check(
-            len,
-            plan.count(),
-            |noted, number| _ = plan.exchange(noted, number),
-            wanted,
-        );
+        let moved = check(len, plan.count(), exchange, wanted);
         let all = (0..len).filter(|place| reversed(digits, place / width) != place / width);
         assert_eq!(moved, all.count(), "2^{digits} rows of {width} in {parts} parts");
+        let squares = 1 + digits % 2;
+        assert_eq!(plan.count(), squares * cut.count() * (cut.count() + 1) / 2);
     }
 }
 
