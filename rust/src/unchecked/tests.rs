@@ -256,6 +256,8 @@ fn blocks_of_parts() {
 fn shuffles() {
     use super::{TURNS_IN_REGISTERS, shuffled, vectors};
 
+    let has_registers = cfg!(target_arch = "x86_64") || cfg!(all(target_arch = "aarch64", target_endian = "little"));
+    assert_eq!(TURNS_IN_REGISTERS, has_registers && cfg!(not(miri)));
     if !TURNS_IN_REGISTERS {
         return;
     }
