@@ -18,10 +18,9 @@ PAGE = "docs/MODEL.md"
 # For each crate that has a table, its files in specs/ in the order of reading. Files that are not named come last.
 ORDER = {
     "p3_util_kernels": ["Digits", "Powers", "Levels", "Names", "Reversal", "Exchanged", "Transpose", "Region", "Stages", "Square",
-                        "SwapCounts", "Steps", "Least", "Parts", "Blocks", "Plans", "AnyOrder", "PartSteps", "Crossing",
-                        "Diagonal"],
+                        "SwapCounts", "Steps", "Least", "Parts", "Blocks", "Plans", "AnyOrder", "PartSteps", "Crossing"],
     "p3_util": ["Flat", "ItemsAt", "ViewLends", "Pieces", "PaddedPieces", "ZipEq", "LinearMap", "MapIter", "MapLends", "JsonArray",
-                "JsonElements"],
+                "JsonElements", "Diagonal"],
     "p3_util_run": ["Words", "Program", "Arrays", "Texts", "Watch"],
     "p3_util_c": ["Tried"],
 }

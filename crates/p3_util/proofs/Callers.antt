@@ -46,7 +46,7 @@ pub use Rattle.std.proofs.lemmas.Nat.{pow-add as power_in_parts}
 pub use Rattle.p3_util_kernels.proofs.LevelsLemmas.{clog_power as log_of_power, clog-zero as log_of_zero}
 -- items of a square exchanged across its diagonal, with one more item of a row; a list that has the
 -- last place of a square has every place of it
-pub use Rattle.p3_util_kernels.proofs.DiagonalLemmas.{SwapsAcross-item as item_across, square_place}
+pub use Rattle.p3_util.proofs.DiagonalLemmas.{SwapsAcross-item as item_across, square_place}
 -- a list that is counted from its end
 pub use Rattle.p3_util.proofs.ItemsAtLemmas.{slice_get-reverse as from_end_place, from_end-swap as from_end_swapped, from_end-set as from_end_written}
 -- two lists joined to one: an exchange in the first, in the second or across both, and an item put

@@ -2,7 +2,6 @@ pub mod AnyOrder
 pub mod Blocks
 pub mod Columns
 pub mod Crossing
-pub mod Diagonal
 pub mod Digits
 pub mod Exchanged
 pub mod Grid

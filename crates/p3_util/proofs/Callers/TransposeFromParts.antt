@@ -3,11 +3,11 @@ use Rattle.std.proofs.Common.{◌≡◌, ◌≢◌, ℕ, ◌+◌, ◌-◌, ◌*�
 use Rattle.std.proofs.lemmas.Nat.{pow-add, pow_pos}
 use Rattle.std.proofs.Math.Pow.{pow_mono}
 use Rattle.p3_util_kernels.specs.declared.transpose.regions.Region.{Region}
-use Rattle.p3_util_kernels.specs.Diagonal.{SwapsAcross}
+use Rattle.p3_util.specs.Diagonal.{SwapsAcross}
 use Rattle.p3_util_kernels.specs.Region.{IsRegionTransposed, rows_of}
 use Rattle.p3_util_kernels.specs.Square.{IsSquareTransposed}
 use Rattle.p3_util_kernels.specs.SwapCounts.{square_swaps}
-use Rattle.p3_util_kernels.proofs.DiagonalLemmas.{IsSquareTransposed-from_across, SwapsAcross-quadrants, cut_exchanged}
+use Rattle.p3_util.proofs.DiagonalLemmas.{IsSquareTransposed-from_across, SwapsAcross-quadrants, cut_exchanged}
 use Rattle.p3_util_kernels.proofs.Pairs.{mul-parts_left, pairs-add}
 use Rattle.p3_util_kernels.proofs.RegionLemmas.{IsCut-rows}
 

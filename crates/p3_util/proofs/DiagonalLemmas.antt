@@ -6,7 +6,7 @@ use Rattle.std.proofs.lemmas.List.Edits.{length-swap}
 use Rattle.std.proofs.Math.Nat.{mul-le-mul_right}
 use Rattle.std.proofs.Math.Pow.{pow_mono}
 use Rattle.p3_util_kernels.specs.declared.transpose.regions.Region.{Region}
-use Rattle.p3_util_kernels.specs.Diagonal.{SwapsAcross}
+use Rattle.p3_util.specs.Diagonal.{SwapsAcross}
 use Rattle.p3_util_kernels.specs.Halves.{IsCut}
 use Rattle.p3_util_kernels.specs.Region.{IsInRegion}
 use Rattle.p3_util_kernels.specs.Square.{IsSquareTransposed}
