@@ -11,7 +11,7 @@ fn main() {
     checked_pow2(3);
     checked_log_size_sum(3, 4);
     indices_arr::<3>();
-    parts::reversal(&mut [0; 4], 2).next();
+    parts::one_part_reversal::<u8>();
     parts::reversal(&mut [0; 4], 2);
     parts::row_reversal(&mut [0; 4], 2, 2);
     parts::transpose(&[0; 4], &mut [0; 4], 2, 2, 2);

@@ -58,17 +58,18 @@
 //! # }
 //! ```
 //!
-//! Four parts for each thread are a good number to ask for. On four threads, the 36 or 72 parts of a wish of 16 were the
-//! fastest. Parts differ in size: a block on a diagonal has about half as many exchanges as a block above it. A list
-//! that is empty, or whose items have no bytes, has no parts.
+//! Four parts for each thread are a good number to ask for. On four threads, nothing was faster than the 36 or 72 parts
+//! of a call that asks for 16. Parts differ in size: a block on a diagonal has about half as many exchanges as a block
+//! above it. A list that is empty, or whose items have no bytes, has no parts.
 //!
-//! Threads make a reversal faster from about 2^17 items of 4 bytes on, if they are the waiting threads of a pool such as
-//! rayon's. If the threads are started for the call, it has to move more: from 2 to 4 MiB on they are worth it.
+//! Threads that already wait for work, such as those of rayon's pool, make a reversal faster from about 2^17 items of 4
+//! bytes on. Starting threads takes longer than waking them. If you start them for the call, they make it faster if the
+//! list has at least 2 to 4 MiB.
 //!
 //! - A transpose is cut along its longer side, at multiples of 16 rows or columns.
-//! - A reversal of up to [`one_part_reversal`] items is one part. A longer reversal, of 2^k items, is cut like a square of
-//!   2^(k / 2) rows and columns, or like two squares if k is odd. Each square is cut into a grid, at multiples of 8, and a
-//!   part is one of its blocks on or above the diagonal.
+//! - A reversal of up to [`one_part_reversal`] items is one part. A longer reversal, of 2^k items, is cut like a square
+//!   of 2^(k / 2) rows and columns, or like two squares if k is odd. Each square is cut into a grid, at multiples of 8,
+//!   and a part is one of its blocks on or above the diagonal.
 //! - A reversal of longer rows is cut in the same way, at any number. It is one part if the list has no more items than
 //!   [`one_part_reversal`] says.
 //! - With the feature `checked` a transpose is cut along its columns, and a reversal is one part.
@@ -82,14 +83,13 @@
 //!
 //! # Why this is safe
 //!
-//! Each part makes an exact number of steps, all at indices that belong to no other part, where a step is one exchange of
-//! two items or one put of an item. The steps of all parts, in any order that keeps each part's own steps in their order,
-//! have the effect of the call on every list, and they are exactly as many as the call makes. Both are proved, from the
-//! steps that each part makes when it runs alone. It is checked by review that a part's steps do not depend on the items:
-//! a kernel cannot look at an item. A part runs at most once, because `run` consumes it, and the list stays borrowed
-//! until all parts are gone.
+//! A *step* is one exchange of two items, or one put of an item. No two parts make a step at the same index. Take the
+//! steps that each part makes when it runs alone: every sequence that has all these steps, and keeps those of each part
+//! in their order, has the effect of the call on every list, in exactly as many steps. Both are proved. That the
+//! steps of a part do not depend on the items is checked by review: a kernel cannot look at an item.
 //!
-//! The section "Threads" of the package's README says more about what is proved and what is checked by review.
+//! A part runs at most once, because `run` consumes it. Nobody else can use the list as long as a part exists, because
+//! each part borrows the list. The section "Threads" of the package's README lists what else is checked by review.
 use core::fmt;
 use core::iter::FusedIterator;
 
