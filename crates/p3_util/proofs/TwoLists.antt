@@ -1,8 +1,7 @@
--- An exchange in two joined lists, as an exchange in one of the two, and an item put into one of
--- them.
+-- An exchange in two joined lists, as an exchange in one of the two.
 use Rattle.std.proofs.Common.{ℕ, ◌≡◌, ◌+◌, ◌-◌, ◌<◌, ◌≤◌, inl, inr, List, [], ◌∷◌, ◌++◌, length, get_or, set, refl, sym, ap, ◌∙◌, arith, length-append}
 use Rattle.std.proofs.lemmas.Bool.{cases_eq}
-use Rattle.std.proofs.lemmas.List.{get_or_append_left, get_or-append-add, length-set, set-append_left, set-append_right, set_comm}
+use Rattle.std.proofs.lemmas.List.{get_or_append_left, get_or-append-add, length-set, set-append_left, set_comm}
 use Rattle.std.proofs.lemmas.List.Edits.{swap_is}
 use Rattle.std.specs.List.{swap}
 use Rattle.p3_util_kernels.proofs.JoinedLists.{set-behind}
@@ -58,10 +57,3 @@ module _ {A : Type 0} where
     | inl same ↦ rw same refl
     | inr apart ↦ set_comm (x ∷ xs) i j _ _ apart
   ]
-
-  -- an item put into the first list, or into the second
-  pub put-front : (xs ys : List A) (i : ℕ) (v : A) → i < length xs → set xs i v ++ ys ≡ set (xs ++ ys) i v
-  put-front xs ys i v h = sym (set-append_left xs ys i v h)
-
-  pub put-back : (xs ys : List A) (n i : ℕ) (v : A) → n ≡ length xs → n ≤ i → xs ++ set ys (i - n) v ≡ set (xs ++ ys) i v
-  put-back xs ys n i v is past = sym (set-append_right xs ys n i v (sym is) past)

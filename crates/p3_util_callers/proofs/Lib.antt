@@ -1,3 +1,2 @@
 -- The modules of lemmas of this crate.
 pub mod EachRowLemmas
-pub mod NoPlace

@@ -1,14 +1,14 @@
 //! Callers of the logarithms and powers. A test before the call of a strict logarithm is enough to
 //! meet its precondition.
 
-ghost use Rattle.std.specs.Prelude.{◌≡◌, ℕ, ◌+◌, ◌*◌, ◌/◌, ◌%◌, ◌^◌, ◌<◌, ◌≤◌, IsTrue, IsFalse, IfSome, MatchOption, None, Some, length, slice_get};
+ghost use Rattle.std.specs.Prelude.{◌≡◌, ℕ, ◌+◌, ◌*◌, ◌/◌, ◌%◌, ◌^◌, ◌<◌, ◌≤◌, IsFalse, IfSome, MatchOption, None, Some, length};
 ghost use Rattle.std.specs.Int.{IsPowerOfTwo, is_power_of_two};
 ghost use Rattle.p3_util.specs.Digits.{rev};
 ghost use Rattle.p3_util.specs.Powers.{IsPowerOfThree};
 
 use p3_util::bits::{
-    checked_log_size_sum, checked_pow2, is_power_of_three, log2_ceil_usize, log2_strict_usize,
-    log3_strict_usize, reverse_bits, reverse_bits_len,
+    checked_log_size_sum, checked_pow2, is_power_of_three, log2_ceil_usize, log2_floor_usize,
+    log2_strict_usize, log3_strict_usize, reverse_bits, reverse_bits_len,
 };
 
 /// The least power of two that is at least `len`, or `None` if that power is 2^64. A transform pads
@@ -23,17 +23,55 @@ pub fn padded_len(len: usize) -> Option<usize>
     checked_pow2(log2_ceil_usize(len))
 }
 
-/// The logarithm of a power of two, and 0 for every other number. std's test before the call is
-/// enough.
-pub fn log2_or_zero(n: usize) -> usize
-    ensures power { IsTrue (is_power_of_two n) → n ≡ 2 ^ result }
-    ensures other { IsFalse (is_power_of_two n) → result ≡ 0 }
+/// The greatest power of two that is at most `n`.
+#[tactic(auto, using(p3_util::proofs::Callers::power_in_parts))]
+pub fn power_down(n: usize) -> usize
+    requires { 0 < n }
+    ensures power { IsPowerOfTwo result }
+    ensures most { result ≤ n }
+    ensures next { n < 2 * result }
 {
-    if n.is_power_of_two() {
-        log2_strict_usize(n)
-    } else {
-        0
-    }
+    1 << log2_floor_usize(n)
+}
+
+/// The highest bit of an index into `2^k` items that is not 0.
+#[tactic(auto, using(p3_util::proofs::Callers::exponent_below))]
+pub fn highest_bit(i: usize, k: usize) -> usize
+    requires some { 0 < i }
+    requires inside { i < 2 ^ k }
+    ensures { result < k }
+{
+    log2_floor_usize(i)
+}
+
+/// How often a list of `len` items is cut in half until it has `last` items.
+#[tactic(auto, using(p3_util::proofs::Callers::exponent_most, p3_util::proofs::Callers::power_over))]
+pub fn halvings(len: usize, last: usize) -> usize
+    requires len { IsPowerOfTwo len }
+    requires last { IsPowerOfTwo last }
+    requires order { last ≤ len }
+    ensures { len ≡ last * 2 ^ result }
+{
+    log2_strict_usize(len) - log2_strict_usize(last)
+}
+
+/// The power of `b` that comes after the power `x`, modulo `p`.
+#[tactic(auto, using(p3_util::proofs::Callers::power_step))]
+pub fn next_power(x: u32, b: u32, p: u32) -> u64
+    requires { 0 < p }
+    ensures { (i : ℕ) → x ≡ b ^ i % p → result ≡ b ^ (i + 1) % p }
+{
+    u64::from(x) * u64::from(b) % u64::from(p)
+}
+
+/// The row and the column of item `i` of a matrix.
+#[tactic(auto, using(p3_util::proofs::Callers::row_of_place, p3_util::proofs::Callers::column_of_place))]
+pub fn row_and_column(i: usize, rows: usize, cols: usize) -> (usize, usize)
+    requires { i < rows * cols }
+    ensures row { result.0 < rows }
+    ensures column { result.1 < cols }
+{
+    (i / cols, i % cols)
 }
 
 /// The logarithm of the length of `items`, if the length is a power of two.
@@ -53,17 +91,6 @@ pub fn log3_of(n: usize) -> Option<usize>
     ensures { MatchOption result (¬ IsPowerOfThree n) (λ e. n ≡ 3 ^ e) }
 {
     is_power_of_three(n).then(|| log3_strict_usize(n))
-}
-
-/// The item that a reversal by index bits moves to place `i`, read from the place where it is
-/// before the reversal.
-pub fn item_to_come<T: Copy>(items: &[T], k: usize, i: usize) -> T
-    requires some { 1 ≤ k }
-    requires few { k < 64 }
-    requires len { length items.now ≡ 2 ^ k }
-    ensures { slice_get items.now (rev k i) ≡ Some result }
-{
-    items[reverse_bits_len(i, k)]
 }
 
 /// The place in a list of `2^(k + 1)` items from which a reversal by index bits moves an item to
@@ -136,30 +163,6 @@ pub fn first_of_pair(i: usize) -> usize
     ensures { result ≡ 2 * (i / 2) }
 {
     i & !1
-}
-
-/// The least `e` with `n <= 2^e`, as a `u32`.
-pub fn ceil_as_u32(n: usize) -> u32
-    ensures { n ≤ 2 ^ result }
-{
-    log2_ceil_usize(n) as u32
-}
-
-/// A third of a power of three, which is the power before it.
-#[tactic(auto, using(p3_util::proofs::Callers::third_of_power))]
-pub fn third_of(n: usize) -> usize
-    requires { IsPowerOfThree n }
-    ensures { (e : ℕ) → n ≡ 3 ^ (e + 1) → result ≡ 3 ^ e }
-{
-    n / 3
-}
-
-/// The exponent of a power of three.
-pub fn exponent_of(n: usize) -> usize
-    requires { IsPowerOfThree n }
-    ensures { (e : ℕ) → n ≡ 3 ^ e → result ≡ e }
-{
-    log3_strict_usize(n)
 }
 
 /// The reverse of an index into `2^k` items in a list that is padded to `2^(k + s)` items.

@@ -1,11 +1,14 @@
 //! Callers of the chunks of iterators.
 
-ghost use Rattle.std.specs.Prelude.{◌≡◌, ℕ, ◌+◌, ◌*◌, ◌/◌, ◌%◌, ◌^◌, ◌<◌, ◌≤◌, ◌++◌, List, IfOk, Some, drop, fold, length, map, replicate, slice_get, slice_index, slice_index_or, sum, take};
+ghost use Rattle.std.specs.Prelude.{◌≡◌, ℕ, ◌+◌, ◌*◌, ◌/◌, ◌%◌, ◌^◌, ◌<◌, ◌≤◌, List, IfOk, Some, drop, fold, length, map, slice_get, slice_index, sum, take};
 ghost use Rattle.std.specs.Fn.{CalledAt};
 ghost use Rattle.std.specs.List.{FoldsTo};
+ghost use Rattle.p3_util.specs.Digits.{rev};
 ghost use Rattle.p3_util.specs.Flat.{flat};
 ghost use Rattle.p3_util.specs.Pieces.{padded, padded_pieces, pieces};
+ghost use Rattle.p3_util.specs.Reversal.{FitsRows};
 
+use p3_util::reverse::reverse_slice_row_index_bits;
 use p3_util::{apply_to_chunks, iter_array_chunks_padded};
 use std::alloc::{AllocError, Global};
 
@@ -44,10 +47,6 @@ pub fn lanes(alloc: Global, xs: &[u32], fill: u32) -> Result<Vec<[u32; 4]>, Allo
 }
 
 /// The state after it took in each lane of 2 items of `xs`. The lanes are collected first.
-///
-/// # Errors
-///
-/// `AllocError` if there is no memory for the lanes.
 pub fn mixed_lanes(alloc: Global, xs: &[u32]) -> Result<u64, AllocError>
     ensures { IfOk result (λ state. state ≡ fold
         (λ s lane. (s + slice_index lane 0 * slice_index lane 1) % 2 ^ 64) 0
@@ -61,14 +60,6 @@ pub fn mixed_lanes(alloc: Global, xs: &[u32]) -> Result<u64, AllocError>
             state.wrapping_add(lane[0] as u64 * lane[1] as u64)
         }),
     )
-}
-
-/// The number of whole rows of `width` items in `xs`.
-pub fn whole_rows<T>(xs: &[T], width: usize) -> usize
-    requires { 0 < width }
-    ensures { result ≡ length xs.now / width }
-{
-    xs.chunks_exact(width).count()
 }
 
 /// The sum of a lane.
@@ -87,10 +78,6 @@ pub fn sum_of_lanes(lanes: &[[u32; 4]]) -> u64
 }
 
 /// The sum of `xs`, which must fit, computed in lanes of 4. The last lane is filled with 0.
-///
-/// # Errors
-///
-/// `AllocError` if there is no memory for the lanes.
 #[tactic(auto, using(p3_util::proofs::Callers::padded_sum))]
 pub fn sum_by_lanes(alloc: Global, xs: &[u32]) -> Result<u64, AllocError>
     requires { sum xs.now < 2 ^ 64 }
@@ -101,10 +88,6 @@ pub fn sum_by_lanes(alloc: Global, xs: &[u32]) -> Result<u64, AllocError>
 }
 
 /// `items` and then zeros, `len` items in total.
-///
-/// # Errors
-///
-/// `AllocError` if there is no memory for them.
 pub fn padded_to(alloc: Global, items: &[u64], len: usize) -> Result<Vec<u64>, AllocError>
     requires { length items.now ≤ len }
     ensures { IfOk result (λ v. v.items ≡ padded len 0 items.now) }
@@ -116,10 +99,6 @@ pub fn padded_to(alloc: Global, items: &[u64], len: usize) -> Result<Vec<u64>, A
 }
 
 /// The same, with a contract that states each place.
-///
-/// # Errors
-///
-/// `AllocError` if there is no memory for them.
 #[tactic(auto, using(p3_util::proofs::Callers::padded_read))]
 pub fn padded_by_place(alloc: Global, items: &[u64], len: usize) -> Result<Vec<u64>, AllocError>
     requires { length items.now ≤ len }
@@ -129,16 +108,6 @@ pub fn padded_by_place(alloc: Global, items: &[u64], len: usize) -> Result<Vec<u
         → slice_get v.items i ≡ Some 0) }
 {
     padded_to(alloc, items, len)
-}
-
-/// Item `i` of a list that is padded with `fill`: an item of the original list, or `fill`.
-#[tactic(auto, using(p3_util::proofs::Callers::padded_read))]
-pub fn item_of_padded<T: Copy>(list: &[T], i: usize, fill: T) -> T
-    requires { i < length list.now }
-    ensures { (xs : List T) (n : ℕ) → list.now ≡ xs ++ replicate n fill
-        → result ≡ slice_index_or xs i fill }
-{
-    list[i]
 }
 
 /// A digest of `row`.
@@ -151,10 +120,6 @@ pub fn digest(row: &[u8]) -> u32
 }
 
 /// The digest of each whole row of `width` bytes.
-///
-/// # Errors
-///
-/// `AllocError` if there is no memory for the digests.
 pub fn digests_of_rows(alloc: Global, bytes: &[u8], width: usize) -> Result<Vec<u32>, AllocError>
     requires { 0 < width }
     ensures { IfOk result (λ v. (r : ℕ) → r < length bytes.now / width
@@ -165,6 +130,36 @@ pub fn digests_of_rows(alloc: Global, bytes: &[u8], width: usize) -> Result<Vec<
         .chunks_exact(width)
         .map(|row| digest(row))
         .collect(alloc)
+}
+
+/// Reverses the order of the rows of `bytes`, of `width` bytes each. Row `r` is then the row that
+/// was at the reversed place.
+#[tactic(auto, using(p3_util::proofs::Callers::row_moved))]
+pub fn reorder_rows(bytes: &mut [u8], width: usize)
+    requires { FitsRows (length bytes.old) width }
+    ensures { (k r : ℕ) → length bytes.old ≡ width * 2 ^ k → r < 2 ^ k
+        → take width (drop (r * width) bytes.new)
+        ≡ take width (drop (rev k r * width) bytes.old) }
+{
+    reverse_slice_row_index_bits(bytes, width);
+}
+
+/// The digest of each row of `bytes` in reversed order. The call that reorders the rows is a
+/// function of its own, which ensures the fact that this proof needs.
+pub fn digests_of_reordered(
+    alloc: Global,
+    bytes: &mut [u8],
+    width: usize,
+) -> Result<Vec<u32>, AllocError>
+    requires some { 0 < width }
+    requires fits { FitsRows (length bytes.old) width }
+    ensures { IfOk result (λ v. (k r : ℕ) → length bytes.old ≡ width * 2 ^ k → r < 2 ^ k
+        → r < length bytes.old / width
+        → slice_get v.items r ≡ Some (fold (λ s b. (s * 31 + b) % 2 ^ 32) 7
+        (take width (drop (rev k r * width) bytes.old)))) }
+{
+    reorder_rows(bytes, width);
+    digests_of_rows(alloc, bytes, width)
 }
 
 /// A hash function for rows. A clause cannot say what a closure over `&[T]` returns for a list,
@@ -181,10 +176,6 @@ pub trait HashRow {
 }
 
 /// The hash of each whole row of `width` items.
-///
-/// # Errors
-///
-/// `AllocError` if there is no memory for the hashes.
 pub fn hashes_of_rows<H: HashRow>(
     alloc: Global,
     hasher: &H,

@@ -1,46 +1,15 @@
-//! A slice from its last item to its first, as a list to read and as a holder, and callers. A
+//! A slice from its last item to its first, as a holder to reorder and to write, and callers. A
 //! holder is a value that gives access to a list only by index. The file needs only `p3_util`, so
 //! it can be copied as it is.
 
 ghost use Rattle.std.specs.Prelude.{◌≡◌, ◌*◌, ◌<◌, length, reverse, slice_set, swap};
 ghost use Rattle.std.proofs.Common.{rules};
 ghost use Rattle.p3_util.specs.Reversal.{IsReversal, IsReversible};
-ghost use Rattle.p3_util.specs.Steps.{counted};
 ghost use Rattle.p3_util.specs.Transpose.{IsTranspose};
 
-use p3_util::places::{Cells, Places, Source, Writes};
+use p3_util::places::{Cells, Places};
 use p3_util::reverse_counted;
-use p3_util::transpose::{transpose_counted, transpose_source_on};
-
-/// The items of a slice from the last to the first, for reading.
-#[derive(Drop)]
-pub struct FromEnd<'a, T> {
-    items: &'a [T],
-}
-
-impl<'a, T: Copy> FromEnd<'a, T> {
-    /// The items of `items`, the last one first.
-    pub fn new(items: &'a [T]) -> Self
-        ensures { result.items ≡ items.entry }
-    {
-        FromEnd { items }
-    }
-}
-
-#[tactic(auto, using(p3_util::proofs::Callers::from_end_place))]
-impl<'a, T: Copy> Source for FromEnd<'a, T> {
-    type Item = T;
-
-    ghost items = { λ s. reverse s.items.now };
-
-    fn len(&self) -> usize {
-        self.items.len()
-    }
-
-    fn at(&self, i: usize) -> T {
-        self.items[self.items.len() - 1 - i]
-    }
-}
+use p3_util::transpose::transpose_counted;
 
 /// The items of a slice from the last to the first, to be reordered or written. When the borrow
 /// ends, its items are in the slice.
@@ -126,22 +95,6 @@ pub fn reverse_from_end<T>(values: &mut [T])
 {
     let mut places = FromEndMut::new(values);
     reverse_counted(&mut places);
-}
-
-/// Writes the transpose of `values`, read from its end, to `out`.
-pub fn transpose_from_end<C: Cells>(
-    values: &[C::Item],
-    out: &mut Writes<C>,
-    width: usize,
-    height: usize,
-)
-    requires input_fits { length values.now ≡ width * height }
-    requires output_fits { length (C.items out.old.holder) ≡ width * height }
-    ensures order { IsTranspose width height (reverse values.now) (C.items out.new.holder) }
-    ensures count { out.new.count ≡ counted out.old.count (width * height) }
-    ensures holder { C.same_holder (width * height) out.old.holder out.new.holder }
-{
-    transpose_source_on(&FromEnd::new(values), out, width, height);
 }
 
 /// Writes the transpose of `input` to `values`, beginning at its end, and returns the number of

@@ -1,17 +1,15 @@
-//! Two slices seen as one list, which a kernel reorders like any other holder, and callers. A
-//! holder is a value that gives access to a list only by index. Each caller takes the holder as an
-//! argument, and another function makes it. In the function that makes a struct of two `&mut`, a
-//! proof does not know what is behind both when they end. The file needs only `p3_util`, so it can
-//! be copied as it is.
+//! Two slices seen as one list, which a kernel reorders like any other holder, and callers. In the
+//! function that makes a struct of two `&mut`, a proof does not know what is behind both when they
+//! end, so `reverse_joined` takes the holder. The file needs only `p3_util`, so it can be copied as
+//! it is.
 
-ghost use Rattle.std.specs.Prelude.{◌≡◌, ◌+◌, ◌*◌, ◌++◌, ◌^◌, ◌<◌, length, slice_set, swap};
+ghost use Rattle.std.specs.Prelude.{◌≡◌, ◌+◌, ◌++◌, ◌^◌, ◌<◌, length, swap};
 ghost use Rattle.std.proofs.Common.{rules};
 ghost use Rattle.p3_util.specs.Reversal.{IsReversal, IsReversible};
-ghost use Rattle.p3_util.specs.Transpose.{IsTranspose};
+ghost use Rattle.p3_util.specs.SwapCounts.{reversal_swaps};
 
-use p3_util::places::{Cells, Places};
+use p3_util::places::Places;
 use p3_util::reverse_counted;
-use p3_util::transpose::transpose_counted;
 use std::mem;
 
 /// The items of one slice and then those of another one. When the borrows end, its items are in the
@@ -54,44 +52,6 @@ impl<'a, F> Places for Joined<'a, F> {
     ghost same_holder_refl = { Prim.search rules };
 
     ghost same_holder_trans = { Prim.search rules };
-}
-
-impl<'a, T: Copy> Cells for Joined<'a, T> {
-    type Item = T;
-
-    ghost items = { λ s. s.front.now ++ s.back.now };
-
-    ghost same_holder = { λ n a b. (a.front.ghost_name ≡ b.front.ghost_name)
-        × (a.back.ghost_name ≡ b.back.ghost_name)
-        × (length b.front.now ≡ length a.front.now) × (length b.back.now ≡ length a.back.now) };
-
-    fn len(&self) -> usize {
-        self.front.len() + self.back.len()
-    }
-
-    fn put(&mut self, i: usize, v: T) {
-        put_in(self.front, self.back, i, v);
-    }
-
-    ghost same_holder_refl = { Prim.search rules };
-
-    ghost same_holder_trans = { Prim.search rules };
-}
-
-/// Writes `v` to place `i` of the list that is `front` and then `back`.
-#[tactic(auto, using(p3_util::proofs::Callers::joined_put_front, p3_util::proofs::Callers::joined_put_back))]
-fn put_in<T: Copy>(front: &mut [T], back: &mut [T], i: usize, v: T)
-    requires { i < length (front.old ++ back.old) }
-    ensures front { length front.new ≡ length front.old }
-    ensures back { length back.new ≡ length back.old }
-    ensures written { front.new ++ back.new ≡ slice_set (front.old ++ back.old) i v }
-{
-    let n = front.len();
-    if i < n {
-        front[i] = v;
-    } else {
-        back[i - n] = v;
-    }
 }
 
 /// Exchanges the items at places `i` and `j` of the list that is `front` and then `back`.
@@ -142,21 +102,13 @@ pub fn reverse_joined<F>(joined: &mut Joined<F>)
     reverse_counted(joined);
 }
 
-/// Writes the transpose of `input` to the front and then the back, and returns the number of
-/// writes. Each slice keeps its length.
-pub fn transpose_into_joined<T: Copy>(
-    input: &[T],
-    joined: &mut Joined<T>,
-    width: usize,
-    height: usize,
-) -> u128
-    requires input_fits { length input.now ≡ width * height }
-    requires output_fits { length (joined.old.front.now ++ joined.old.back.now) ≡ width * height }
-    ensures order { IsTranspose width height input.now
-        (joined.new.front.now ++ joined.new.back.now) }
-    ensures count { result ≡ width * height }
-    ensures front { length joined.new.front.now ≡ length joined.old.front.now }
-    ensures back { length joined.new.back.now ≡ length joined.old.back.now }
+/// Joins two slices, reverses the list and returns the number of swaps. A proof knows this number,
+/// but not what the slices hold after the holder has ended.
+pub fn reverse_across<F>(front: &mut [F], back: &mut [F]) -> u128
+    requires fits { length front.old + length back.old < 2 ^ 64 }
+    requires power { IsReversible (length (front.old ++ back.old)) }
+    ensures { result ≡ reversal_swaps (length (front.old ++ back.old)) }
 {
-    transpose_counted(input, joined, width, height)
+    let mut joined = Joined::new(front, back);
+    reverse_counted(&mut joined)
 }

@@ -1,8 +1,7 @@
 //! Callers of `LinearMap`, proved only from the public contracts of the map: any list of calls, and
 //! the map's pairs as a list.
-ghost use Rattle.std.specs.Prelude.{◌≡◌, ◌≢◌, ℕ, ◌+◌, ◌^◌, ◌<◌, ◌++◌, false, [], ◌∷◌, None, Some, IfOk, OnOk, OnErr, length, nat_eq, slice_set, sum};
-ghost use Rattle.std.specs.List.{position_or_len};
-ghost use Rattle.std.specs.Map.{keys_of, values_of};
+ghost use Rattle.std.specs.Prelude.{◌≡◌, ◌≢◌, ℕ, ◌+◌, ◌^◌, ◌<◌, false, [], None, Some, IfOk, OnOk, OnErr, length, nat_eq, sum};
+ghost use Rattle.std.specs.Map.{values_of};
 ghost use Rattle.p3_util.specs.LinearMap.{put_all, value_at};
 ghost use Rattle.p3_util_callers.specs.MapCalls.{answer_of, answers_of, after, pairs_after};
 
@@ -94,23 +93,6 @@ pub fn define_key<K: Eq + Copy + Drop, V: Copy>(
     table.insert(key, value)
 }
 
-/// Gives `key` a value. The contract states all values afterwards: the value of a new key is the
-/// last one, and that of a known key replaces the old value.
-#[tactic(auto, using(p3_util::proofs::Callers::values_after_new, p3_util::proofs::Callers::values_after_known))]
-pub fn insert_value<K: Eq + Copy + Drop, V: Copy>(
-    map: &mut LinearMap<K, V>,
-    key: K,
-    value: V,
-) -> Result<Option<V>, NoRoom<(K, V)>>
-    ensures new { OnOk result (value_at K.eq map.old key ≡ None
-        → values_of map.new ≡ values_of map.old ++ value ∷ []) }
-    ensures known { OnOk result ((before : V) → value_at K.eq map.old key ≡ Some before
-        → values_of map.new ≡ slice_set (values_of map.old)
-        (position_or_len (K.eq key) (keys_of map.old)) value) }
-{
-    map.insert(key, value)
-}
-
 /// Counts `word` once more, with a look-up and `insert`. The sum of all counts grows by one.
 #[tactic(auto, using(p3_util::proofs::Callers::values_summed))]
 pub fn count_word<K: Eq + Copy + Drop>(
@@ -122,24 +104,6 @@ pub fn count_word<K: Eq + Copy + Drop>(
 {
     let count = counts.get(&word).copied().unwrap_or(0);
     counts.insert(word, count + 1)
-}
-
-/// The same with `get_or_insert_with`, which compares the word only once.
-#[tactic(auto, using(p3_util::proofs::Callers::values_summed))]
-pub fn count_word_in_place<K: Eq + Copy + Drop>(
-    counts: &mut LinearMap<K, u64>,
-    word: K,
-) -> Result<(), AllocError>
-    requires { sum (values_of counts.old) + 1 < 2 ^ 64 }
-    ensures { OnOk result (sum (values_of counts.new) ≡ sum (values_of counts.old) + 1) }
-{
-    match counts.get_or_insert_with(word, || 0) {
-        Ok(count) => {
-            *count += 1;
-            Ok(())
-        }
-        Err(_) => Err(AllocError),
-    }
 }
 
 /// Counts how often each word occurs.

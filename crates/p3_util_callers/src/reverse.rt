@@ -1,17 +1,15 @@
 //! Callers of bit reversal. None of them has a proof by hand: a test before the call is enough, or
 //! a lemma that the function names.
 
-ghost use Rattle.std.specs.Prelude.{◌≡◌, ℕ, ◌+◌, ◌-◌, ◌*◌, ◌^◌, ◌<◌, ◌≤◌, ◌↔◌, [], ◌∷◌, IsTrue, IsFalse, IfOk, drop, length, map, slice_get, slice_index, take};
+ghost use Rattle.std.specs.Prelude.{◌≡◌, ℕ, ◌+◌, ◌-◌, ◌*◌, ◌^◌, ◌<◌, ◌≤◌, ◌↔◌, [], ◌∷◌, IsTrue, IsFalse, IfOk, drop, length, slice_get, slice_index, take};
 ghost use Rattle.std.specs.Int.{is_power_of_two};
 ghost use Rattle.p3_util.specs.Digits.{rev};
-ghost use Rattle.p3_util.specs.Reversal.{FitsRows, IsReversal, IsReversible, IsRowReversal, IsZeroOrPowerOfTwo};
+ghost use Rattle.p3_util.specs.Reversal.{FitsRows, IsReversal, IsReversible, IsZeroOrPowerOfTwo};
 
-use p3_util::bits::{checked_log_size_sum, reverse_bits_len};
 use p3_util::places::{Places, Swaps};
 use p3_util::reverse::{
-    fits_rows, reverse_chunks_on, reverse_counted, reverse_index_bits_long, reverse_index_bits_on,
-    reverse_index_bits_short, reverse_row_index_bits_on, reverse_rows_counted,
-    reverse_slice_index_bits, reverse_slice_row_index_bits,
+    fits_rows, reverse_index_bits_long, reverse_index_bits_short, reverse_slice_index_bits,
+    reverse_slice_row_index_bits,
 };
 use std::alloc::{AllocError, Global};
 
@@ -49,29 +47,6 @@ pub fn reversed_literal() -> [u32; 4]
     items
 }
 
-/// Reverses the order of `2^lb_num_chunks` chunks of `2^lb_chunk_size` items and returns `true`, if
-/// `m` has as many items as these chunks. Otherwise returns `false` and changes nothing.
-pub fn reverse_chunks_where_they_fit<S: Places>(
-    m: &mut Swaps<S>,
-    lb_num_chunks: usize,
-    lb_chunk_size: usize,
-) -> bool
-    ensures done { IsTrue result
-        → IsRowReversal (2 ^ lb_chunk_size) (S.items m.old.holder) (S.items m.new.holder) }
-    ensures left { IsFalse result → m.new ≡ m.old }
-    ensures fits { let lb_len = lb_num_chunks + lb_chunk_size in
-        IsTrue result ↔ ((lb_len < 64) × (length (S.items m.old.holder) ≡ 2 ^ lb_len)) }
-{
-    let len = m.len();
-    match checked_log_size_sum(lb_num_chunks, lb_chunk_size) {
-        Some((_, size)) if size == len => {
-            reverse_chunks_on(m, lb_num_chunks, lb_chunk_size);
-            true
-        }
-        _ => false,
-    }
-}
-
 /// Reverses `vals` by index bits twice, as a transform and its inverse do. This leaves `vals` as it
 /// was.
 #[tactic(auto, using(p3_util::proofs::Callers::reversed_twice))]
@@ -83,16 +58,6 @@ pub fn reverse_twice<F>(vals: &mut [F])
     reverse_slice_index_bits(vals);
 }
 
-/// The same for any holder, which is a value that gives access to a list only by index.
-#[tactic(auto, using(p3_util::proofs::Callers::reversed_twice))]
-pub fn reverse_holder_twice<S: Places>(places: &mut S)
-    requires { IsReversible (length (S.items places.old)) }
-    ensures { S.items places.new ≡ S.items places.old }
-{
-    reverse_counted(places);
-    reverse_counted(places);
-}
-
 /// Reverses `vals` by index bits, and returns the item that is then at place `i`.
 #[tactic(auto, using(p3_util::proofs::Callers::reversed_read))]
 pub fn item_after(vals: &mut [u64], k: usize, i: usize) -> u64
@@ -102,40 +67,6 @@ pub fn item_after(vals: &mut [u64], k: usize, i: usize) -> u64
 {
     reverse_slice_index_bits(vals);
     vals[i]
-}
-
-/// Reverses `vals` by index bits, and returns one item twice: read at the reversed index before the
-/// reversal, and at the index after it.
-#[tactic(auto, using(p3_util::proofs::Callers::reversed_read))]
-pub fn item_before_and_after<T: Copy>(vals: &mut [T], k: usize, i: usize) -> (T, T)
-    requires some { 1 ≤ k }
-    requires few { k < 64 }
-    requires len { length vals.old ≡ 2 ^ k }
-    requires inside { i < 2 ^ k }
-    ensures { result.0 ≡ result.1 }
-{
-    let before = vals[reverse_bits_len(i, k)];
-    reverse_slice_index_bits(vals);
-    (before, vals[i])
-}
-
-/// The double of each item of `vals`.
-pub fn doubled(alloc: Global, vals: &[u32]) -> Result<Vec<u64>, AllocError>
-    ensures { IfOk result (λ twice. twice.items ≡ map (λ x. 2 * x) vals.now) }
-{
-    vals.iter().map(|x| 2 * u64::from(*x)).collect(alloc)
-}
-
-/// The same by way of a reversal: reverses `vals`, doubles each item, and reverses the doubled
-/// items back. `vals` stays reversed.
-#[tactic(auto, using(p3_util::proofs::Callers::reversed_worked))]
-pub fn doubled_in_reversed_order(alloc: Global, vals: &mut [u32]) -> Result<Vec<u64>, AllocError>
-    requires { IsReversible (length vals.old) }
-    ensures { IfOk result (λ twice. twice.items ≡ map (λ x. 2 * x) vals.old) }
-{
-    reverse_slice_index_bits(vals);
-    let worked = doubled(alloc, vals)?;
-    Ok(reversed(worked))
 }
 
 /// The items of `vals` in the order of reversed index bits.
@@ -171,25 +102,6 @@ pub fn halves_side_by_side<F>(vals: &mut [F])
     reverse_slice_index_bits(vals);
 }
 
-/// Reverses `m` by index bits. The contract states that the old list is the reversal of the new
-/// one.
-#[tactic(auto, using(p3_util::proofs::Callers::reversed_back))]
-pub fn reverse_from<S: Places>(m: &mut Swaps<S>)
-    requires { IsReversible (length (S.items m.old.holder)) }
-    ensures { IsReversal (S.items m.new.holder) (S.items m.old.holder) }
-{
-    reverse_index_bits_on(m);
-}
-
-/// The same for rows.
-#[tactic(auto, using(p3_util::proofs::Callers::reversed_back))]
-pub fn reverse_rows_from<S: Places>(m: &mut Swaps<S>, row_width: usize)
-    requires { FitsRows (length (S.items m.old.holder)) row_width }
-    ensures { IsRowReversal row_width (S.items m.new.holder) (S.items m.old.holder) }
-{
-    reverse_row_index_bits_on(m, row_width);
-}
-
 /// Reverses two holders of the same items, one with the short path and one with the long path.
 /// Afterwards they have the same items.
 #[tactic(auto, using(p3_util::proofs::Callers::reversed_once))]
@@ -201,18 +113,6 @@ pub fn reverse_by_both_paths<S: Places>(one: &mut Swaps<S>, other: &mut Swaps<S>
 {
     reverse_index_bits_short(one);
     reverse_index_bits_long(other);
-}
-
-/// Reverses the rows of a slice and of a holder with the same items. Afterwards they have the same
-/// items.
-#[tactic(auto, using(p3_util::proofs::Callers::rows_reversed_once))]
-pub fn reverse_rows_of_both<S: Places>(one: &mut [S::Item], other: &mut S, row_width: usize)
-    requires fits { FitsRows (length one.old) row_width }
-    requires same { S.items other.old ≡ one.old }
-    ensures { S.items other.new ≡ one.new }
-{
-    reverse_slice_row_index_bits(one, row_width);
-    reverse_rows_counted(other, row_width);
 }
 
 /// Reverses the items from place `from` on by index bits. The items before it stay as they are.
@@ -236,10 +136,6 @@ pub fn reverse_window<T>(xs: &mut [T], from: usize, len: usize)
 
 /// A copy of `xs` in the order of reversed index bits. It is not made with `to_vec`, which calls
 /// `clone`: nothing is known of the `clone` of a type `T: Copy`.
-///
-/// # Errors
-///
-/// `AllocError` where there is no memory for the copy.
 pub fn reversed_copy<T: Copy>(alloc: Global, xs: &[T]) -> Result<Vec<T>, AllocError>
     requires { IsReversible (length xs.now) }
     ensures { IfOk result (λ v. IsReversal xs.now v.items) }

@@ -1,7 +1,7 @@
 //! Callers that read a table in the order of reversed index bits, or reorder a table: reads, folds
-//! and sums. A loop and a wrapping sum have proof files.
+//! and sums.
 
-ghost use Rattle.std.specs.Prelude.{◌≡◌, ℕ, ◌+◌, ◌*◌, ◌/◌, ◌%◌, ◌^◌, ◌<◌, ◌≤◌, IfOk, List, Some, fold, length, map, slice_get, slice_index, sum};
+ghost use Rattle.std.specs.Prelude.{◌≡◌, ℕ, ◌+◌, ◌*◌, ◌/◌, ◌^◌, ◌<◌, ◌≤◌, IfOk, List, Some, length, map, slice_get, slice_index, sum};
 ghost use Rattle.std.specs.Int.{IsPowerOfTwo};
 ghost use Rattle.std.specs.List.{range_with_len};
 ghost use Rattle.p3_util.specs.Digits.{rev};
@@ -50,17 +50,6 @@ pub fn evaluation_kept<T: Copy>(evals: &mut [T], k: usize, i: usize) -> T
     evals[reverse_bits_len(i, k)]
 }
 
-/// The same for a table of numbers.
-#[tactic(auto, using(p3_util::proofs::Callers::reversed_read))]
-pub fn number_after(evals: &mut [u64], k: usize, i: usize) -> u64
-    requires len { length evals.old ≡ 2 ^ k }
-    requires inside { i < 2 ^ k }
-    ensures { slice_get evals.old (rev k i) ≡ Some result }
-{
-    reverse_slice_index_bits(evals);
-    evals[i]
-}
-
 /// Item `i` of a table that was reordered before the call: the item was at the reversed index.
 #[tactic(auto, using(p3_util::proofs::Callers::reversed_read))]
 pub fn item_of_reordered<T: Copy>(table: &[T], k: usize, i: usize) -> T
@@ -81,27 +70,6 @@ pub fn item_before_reorder<T: Copy>(table: &[T], i: usize) -> T
     ensures { (k : ℕ) (evals : List T) → 1 ≤ k → length table.now ≡ 2 ^ k
         → IsReversal evals table.now
         → slice_get evals i ≡ Some result }
-{
-    table[reverse_bits(i, table.len())]
-}
-
-/// Item `i` of a table that was reordered before the call, or `None` if there is no such item.
-#[tactic(auto, using(p3_util::proofs::Callers::reversed_read))]
-pub fn got_of_reordered<T: Copy>(table: &[T], k: usize, i: usize) -> Option<T>
-    requires len { length table.now ≡ 2 ^ k }
-    requires inside { i < 2 ^ k }
-    ensures { (evals : List T) → IsReversal evals table.now → result ≡ slice_get evals (rev k i) }
-{
-    table.get(i).copied()
-}
-
-/// The item that a reversal by index bits moves to place `i`, read from the place where it is
-/// before the reversal. The number of digits follows from the length.
-pub fn item_by_length<T: Copy>(table: &[T], k: usize, i: usize) -> T
-    requires some { 1 ≤ k }
-    requires len { length table.now ≡ 2 ^ k }
-    requires inside { i < 2 ^ k }
-    ensures { slice_get table.now (rev k i) ≡ Some result }
 {
     table[reverse_bits(i, table.len())]
 }
@@ -134,10 +102,6 @@ pub fn reordered_into<T: Copy>(table: &[T], out: &mut [T], k: usize)
 }
 
 /// The double of each item.
-///
-/// # Errors
-///
-/// `AllocError` if there is no memory for them.
 pub fn doubled_by_place(alloc: Global, items: &[u32]) -> Result<Vec<u64>, AllocError>
     ensures len { IfOk result (λ twice. length twice.items ≡ length items.now) }
     ensures places { IfOk result (λ twice. (i : ℕ) → i < length items.now
@@ -174,10 +138,6 @@ pub fn reorder_numbers(values: &mut [u64], k: usize)
 
 /// Doubles each item and reorders the doubled items. The contract of two calls in a row can state
 /// each place if the reversal is in a function of its own.
-///
-/// # Errors
-///
-/// `AllocError` if there is no memory for them.
 #[tactic(auto, using(p3_util::proofs::Callers::rev_below))]
 pub fn doubled_then_reordered(
     alloc: Global,
@@ -210,25 +170,20 @@ pub fn reverse_columns<T: Copy>(matrix: &mut [T], scratch: &mut [T], width: usiz
     transpose(scratch, matrix, height, width);
 }
 
-// Folds: the items at 2i and 2i + 1 come from one half of the table and from the other.
-
-/// Reverses `values` by index bits, and then adds the items at `2i` and `2i + 1`, as the first pass
-/// of a transform does.
-#[tactic(auto, using(p3_util::proofs::Callers::even_read, p3_util::proofs::Callers::odd_read))]
-pub fn sum_of_pair(values: &mut [u32], k: usize, i: usize) -> u64
-    requires len { length values.old ≡ 2 ^ (k + 1) }
-    requires inside { i < 2 ^ k }
-    ensures { result ≡ slice_index values.old (rev k i) + slice_index values.old (rev k i + 2 ^ k) }
+/// Puts a table of `2^(k + s)` evaluations into the order of reversed index bits. Its first `2^k`
+/// items are then every `2^s`-th one.
+#[tactic(auto, using(p3_util::proofs::Callers::reversed_longer))]
+pub fn coarser_first<T>(evals: &mut [T])
+    requires { IsReversible (length evals.old) }
+    ensures { (k s i : ℕ) → length evals.old ≡ 2 ^ (k + s) → i < 2 ^ k
+        → slice_get evals.new i ≡ slice_get evals.old (rev k i * 2 ^ s) }
 {
-    reverse_slice_index_bits(values);
-    u64::from(values[2 * i]) + u64::from(values[2 * i + 1])
+    reverse_slice_index_bits(evals);
 }
 
+// Folds: the items at 2i and 2i + 1 come from one half of the table and from the other.
+
 /// The sums of the items at `2i` and `2i + 1`.
-///
-/// # Errors
-///
-/// `AllocError` if there is no memory for the sums.
 pub fn sums_of_neighbours(alloc: Global, evals: &[u32]) -> Result<Vec<u64>, AllocError>
     ensures len { IfOk result (λ sums. length sums.items ≡ length evals.now / 2) }
     ensures sums { IfOk result (λ sums. (i : ℕ) → i < length evals.now / 2
@@ -293,28 +248,4 @@ pub fn weighted_sum(evals: &[u32], weights: &[u16], k: usize) -> u64
     (0..evals.len())
         .map(|i| u64::from(evals[i]) * u64::from(weights[reverse_bits_len(i, k)]))
         .sum()
-}
-
-/// The sum of all items modulo 2^32, with a contract that states a fold.
-pub fn folded_sum(items: &[u32]) -> u32
-    ensures { result ≡ fold (λ s x. (s + x) % 2 ^ 32) 0 items.now }
-{
-    items.iter().fold(0u32, |s, x| s.wrapping_add(*x))
-}
-
-/// The sum of all items modulo 2^32. A proof file derives it from the fold.
-pub fn wrapping_sum(items: &[u32]) -> u32
-    ensures { result ≡ sum items.now % 2 ^ 32 }
-{
-    folded_sum(items)
-}
-
-/// Reorders the table and returns its checksum, which is the same as before.
-#[tactic(auto, using(p3_util::proofs::Callers::kept_sum))]
-pub fn checksum_after(items: &mut [u32]) -> u32
-    requires { IsReversible (length items.old) }
-    ensures { result ≡ sum items.old % 2 ^ 32 }
-{
-    reverse_slice_index_bits(items);
-    wrapping_sum(items)
 }

@@ -2,8 +2,8 @@
 
 ghost use Rattle.std.specs.Prelude.{◌≡◌, ◌+◌, ◌-◌, ◌*◌, ◌^◌, ◌<◌, ◌≤◌, ◌↔◌, ℕ, IfOk, IsTrue, IsFalse, List, OnOk, length, slice_get};
 ghost use Rattle.std.specs.Int.{IsPowerOfTwo};
-ghost use Rattle.p3_util.specs.Levels.{lev, nest};
-ghost use Rattle.p3_util.specs.Region.{IsRegionTransposed, LiesInMatrix, cols_of, items_of, rows_of};
+ghost use Rattle.p3_util.specs.Levels.{lev};
+ghost use Rattle.p3_util.specs.Region.{IsRegionTransposed, LiesInMatrix, items_of};
 ghost use Rattle.p3_util.specs.Reversal.{IsReversal};
 ghost use Rattle.p3_util.specs.Square.{IsSquareTransposed};
 ghost use Rattle.p3_util.specs.Steps.{counted};
@@ -14,8 +14,8 @@ use p3_util::bits::log2_ceil_usize;
 use p3_util::places::{Cells, Places, SliceCells, Swaps, Writes};
 use p3_util::reverse::reverse_slice_row_index_bits;
 use p3_util::transpose::{
-    Region, fits_matrix, fits_square, transpose, transpose_counted, transpose_region_counted,
-    transpose_region_on, transpose_split_on, transpose_square_on,
+    Region, fits_matrix, fits_square, transpose, transpose_region_counted, transpose_region_on,
+    transpose_square_on,
 };
 use std::alloc::{AllocError, Global};
 
@@ -107,24 +107,6 @@ pub fn transpose_into_two<T: Copy>(
     transpose(input, other, width, height);
 }
 
-/// The same for any holders: values that give access to a list only by index.
-#[tactic(auto, using(p3_util::proofs::Callers::transposed_once))]
-pub fn transpose_into_holders<C: Cells>(
-    input: &[C::Item],
-    one: &mut C,
-    other: &mut C,
-    width: usize,
-    height: usize,
-)
-    requires input_fits { length input.now ≡ width * height }
-    requires one_fits { length (C.items one.old) ≡ width * height }
-    requires other_fits { length (C.items other.old) ≡ width * height }
-    ensures { C.items one.new ≡ C.items other.new }
-{
-    transpose_counted(input, one, width, height);
-    transpose_counted(input, other, width, height);
-}
-
 /// Transposes a whole matrix of `2^log_size` rows of as many items in place.
 pub fn transpose_whole_square<S: Places>(m: &mut Swaps<S>, log_size: usize)
     requires fits { length (S.items m.old.holder) ≡ 2 ^ log_size * 2 ^ log_size }
@@ -185,26 +167,6 @@ pub fn levels_of(rows: usize, cols: usize) -> u32
     let tall = log2_ceil_usize(rows).saturating_sub(7);
     let wide = log2_ceil_usize(cols).saturating_sub(7);
     (tall + wide) as u32
-}
-
-/// Writes the transpose of a part of a matrix to `out`, with no more levels than it needs. Returns
-/// how many splits are nested.
-pub fn transpose_part<C: Cells>(
-    input: &[C::Item],
-    out: &mut Writes<C>,
-    part: Region,
-    width: usize,
-    height: usize,
-) -> u32
-    requires input_fits { length input.now ≡ width * height }
-    requires output_fits { length (C.items out.old.holder) ≡ width * height }
-    requires inside { LiesInMatrix part width height }
-    ensures transposed { IsRegionTransposed part width height input.now
-        (C.items out.old.holder) (C.items out.new.holder) }
-    ensures nested { result ≡ nest (rows_of part) (cols_of part) }
-{
-    let levels = levels_of(part.row_end - part.row_start, part.col_end - part.col_start);
-    transpose_split_on(input, out, part, width, height, levels)
 }
 
 /// Writes the transpose of `region`, a block of the matrix `input`, to a slice, and returns the
@@ -286,23 +248,7 @@ pub fn reverse_by_sides<T: Copy>(values: &mut [T], scratch: &mut [T], width: usi
     reverse_slice_row_index_bits(scratch, height);
 }
 
-/// Transposes `height` pairs. The first items of the rows of the transpose are the first pair. The
-/// width may be a literal.
-#[tactic(auto, using(p3_util::proofs::Callers::transposed_first))]
-pub fn transpose_pairs_with_first<T: Copy>(input: &[T], output: &mut [T], height: usize)
-    requires input_fits { length input.now ≡ 2 * height }
-    requires output_fits { length output.old ≡ 2 * height }
-    ensures { (x : ℕ) → x < 2 → 0 < height → slice_get output.new (x * height)
-        ≡ slice_get input.now x }
-{
-    transpose(input, output, 2, height);
-}
-
 /// The transpose of `matrix` as a vector.
-///
-/// # Errors
-///
-/// `AllocError` if there is no memory for it.
 pub fn transposed_copy<T: Copy + Default>(
     alloc: Global,
     matrix: &[T],
@@ -315,90 +261,4 @@ pub fn transposed_copy<T: Copy + Default>(
     let mut scratch = vec![in alloc; T::default(); matrix.len()]?;
     transpose(matrix, &mut scratch, width, height);
     Ok(scratch)
-}
-
-/// The transpose of the transpose, which is the matrix itself, with two calls that return a vector.
-///
-/// # Errors
-///
-/// `AllocError` if there is no memory for a transpose.
-#[tactic(auto, using(p3_util::proofs::Callers::transposed_back))]
-pub fn transposed_copy_twice(
-    alloc: Global,
-    matrix: &[u64],
-    width: usize,
-    height: usize,
-) -> Result<Vec<u64>, AllocError>
-    requires { length matrix.now ≡ width * height }
-    ensures { IfOk result (λ v. v.items ≡ matrix.now) }
-{
-    let there = transposed_copy(alloc, matrix, width, height)?;
-    let back = transposed_copy(alloc, &there, height, width)?;
-    Ok(back)
-}
-
-/// Transposes a matrix with as many rows as columns into `scratch` and back. This leaves the matrix
-/// as it was.
-#[tactic(auto, using(p3_util::proofs::Callers::transposed_back))]
-pub fn transpose_sides_alike_and_back<T: Copy>(matrix: &mut [T], scratch: &mut [T], side: usize)
-    requires matrix_fits { length matrix.old ≡ side * side }
-    requires scratch_fits { length scratch.old ≡ side * side }
-    ensures back { matrix.new ≡ matrix.old }
-{
-    transpose(matrix, scratch, side, side);
-    transpose(scratch, matrix, side, side);
-}
-
-/// Transposes a whole matrix of `2^log_size` rows of as many items in place. The contract states
-/// each item.
-pub fn transpose_whole_square_by_place<S: Places>(m: &mut Swaps<S>, log_size: usize)
-    requires fits { length (S.items m.old.holder) ≡ 2 ^ log_size * 2 ^ log_size }
-    requires small { log_size < 64 }
-    ensures { (a b : ℕ) → a < 2 ^ log_size → b < 2 ^ log_size
-        → slice_get (S.items m.new.holder) (a * 2 ^ log_size + b)
-        ≡ slice_get (S.items m.old.holder) (b * 2 ^ log_size + a) }
-{
-    transpose_whole_square(m, log_size);
-}
-
-/// Transposes a square in place twice, wherever it lies. This leaves the list as it was. A proof
-/// file names the lemma.
-pub fn transpose_square_twice<S: Places>(
-    m: &mut Swaps<S>,
-    base: usize,
-    log_stride: usize,
-    log_size: usize,
-)
-    requires rows_apart { log_size ≤ log_stride }
-    requires stride_fits { log_stride < 64 }
-    requires room { let s = 2 ^ log_size in
-        base + (s - 1) * 2 ^ log_stride + (s - 1) < length (S.items m.old.holder) }
-    ensures { S.items m.new.holder ≡ S.items m.old.holder }
-{
-    transpose_square_on(m, base, log_stride, log_size);
-    transpose_square_on(m, base, log_stride, log_size);
-}
-
-/// Writes the transposes of two regions in one order and in the other, with the same result. A
-/// proof file names the lemma.
-pub fn transpose_in_either_order<T: Copy>(
-    input: &[T],
-    one: &mut [T],
-    other: &mut [T],
-    first: Region,
-    second: Region,
-    width: usize,
-    height: usize,
-)
-    requires input_fits { length input.now ≡ width * height }
-    requires one_fits { length one.old ≡ width * height }
-    requires same { other.old ≡ one.old }
-    requires inside { LiesInMatrix first width height }
-    requires inside_too { LiesInMatrix second width height }
-    ensures { one.new ≡ other.new }
-{
-    transpose_block(input, one, first, width, height);
-    transpose_block(input, one, second, width, height);
-    transpose_block(input, other, second, width, height);
-    transpose_block(input, other, first, width, height);
 }

@@ -9,7 +9,7 @@
 //! tiles and of the remaining items at its edges, and a matrix made of regions. The last caller
 //! transposes a square in place, made of its quadrants. All of them work on every source and every
 //! holder, and state their number of steps with `same_holder`. A counter is a holder too, so its
-//! count needs no other proof: `transpose_tile_on` is the tile in 256 writes.
+//! count needs no other proof: `transpose_by_regions` takes one.
 
 ghost use Rattle.std.specs.Prelude.{◌≡◌, ℕ, ◌+◌, ◌-◌, ◌*◌, ◌/◌, ◌^◌, ◌<◌, ◌≤◌, ◌⊎◌, length, slice_get};
 ghost use Rattle.p3_util.specs.Diagonal.{HoldsSquare, SwapsAcross};
@@ -23,7 +23,8 @@ ghost use denote.Param.{layout};
 
 use p3_util::places::{Cells, Places, SliceSource, Source, Swaps, Writes};
 use p3_util::transpose::{
-    Region, butterfly_4x4, transpose_on, transpose_source_region_counted, transpose_square_on,
+    Region, butterfly_4x4, transpose_on, transpose_region_counted, transpose_source_region_counted,
+    transpose_square_on,
 };
 
 /// The number of rows and of columns of a tile, which is put as blocks of 4 by 4.
@@ -179,31 +180,6 @@ where
     }
 }
 
-/// Writes the transpose of a tile through a counter, in 256 writes.
-pub fn transpose_tile_on<R, C>(
-    input: &R,
-    out: &mut Writes<C>,
-    tile: Region,
-    width: usize,
-    height: usize,
-)
-where
-    C: Cells,
-    R: Source<Item = C::Item>,
-    requires input_fits { length (R.items input.now) ≡ width * height }
-    requires output_fits { length (C.items out.old.holder) ≡ width * height }
-    requires inside { LiesInMatrix tile width height }
-    requires rows { rows_of tile ≡ 16 }
-    requires cols { cols_of tile ≡ 16 }
-    requires small { 16 * size (layout C.Item.row) < 2 ^ 63 }
-    ensures transposed { IsRegionTransposed tile width height (R.items input.now)
-        (C.items out.old.holder) (C.items out.new.holder) }
-    ensures count { out.new.count ≡ counted out.old.count 256 }
-    ensures holder { C.same_holder 256 out.old.holder out.new.holder }
-{
-    transpose_tile(input, out, tile, width, height);
-}
-
 /// Writes the transpose of a part of a region: a tile of 16 by 16 items, or the remaining items at
 /// the right, at the bottom or in the corner.
 fn transpose_tile_or_rest<R, C>(input: &R, cells: &mut C, part: Region, width: usize, height: usize)
@@ -286,6 +262,29 @@ where
     }
 }
 
+/// The same for a slice, without the precondition on the size of an item: if a slice has 16 items,
+/// they are small enough for an array.
+pub fn transpose_slice_by_tiles<C: Cells>(
+    input: &[C::Item],
+    cells: &mut C,
+    region: Region,
+    width: usize,
+    height: usize,
+)
+    requires input_fits { length input.now ≡ width * height }
+    requires output_fits { length (C.items cells.old) ≡ width * height }
+    requires inside { LiesInMatrix region width height }
+    ensures transposed { IsRegionTransposed region width height input.now
+        (C.items cells.old) (C.items cells.new) }
+    ensures holder { C.same_holder (items_of region) cells.old cells.new }
+{
+    if input.len() < 16 {
+        transpose_region_counted(input, cells, region, width, height);
+    } else {
+        transpose_by_tiles(&SliceSource::new(input), cells, region, width, height);
+    }
+}
+
 /// Writes the transpose of a matrix, made of regions of at most 128 rows, each made of tiles. It
 /// has the contract of `transpose_on`: `width * height` writes through one counter.
 pub fn transpose_by_regions<R, C>(input: &R, out: &mut Writes<C>, width: usize, height: usize)
@@ -313,8 +312,7 @@ where
     }
 }
 
-/// The same for a slice, without the precondition on the size of an item: if a slice has 16 items,
-/// they are small enough for an array.
+/// The same for a slice, without the precondition on the size of an item.
 pub fn transpose_slice_by_regions<C: Cells>(
     input: &[C::Item],
     out: &mut Writes<C>,

@@ -1,12 +1,15 @@
 -- Reversed digits of even and odd numbers, of half a number and of a number of more digits; std's
--- test for a power of two; and a third of a power of three.
-use Rattle.std.proofs.Common.{◌≡◌, ℕ, zero, suc, ◌+◌, ◌*◌, ◌/◌, ◌%◌, ◌^◌, ◌<◌, inl, true, refl, sym, ap, ◌∙◌, arith}
-use Rattle.std.proofs.lemmas.Nat.{pow-add, mod-mul-add}
+-- test for a power of two; exponents and powers; and the row and the column of a place.
+use Rattle.std.proofs.Common.{◌≡◌, ℕ, zero, suc, ◌+◌, ◌-◌, ◌*◌, ◌/◌, ◌%◌, ◌^◌, ◌<◌, ◌≤◌, inl, true, refl, sym, ap, ◌∙◌, add-one, arith}
+use Rattle.std.proofs.lemmas.Nat.{pow-add, mod-mul-add, mul-mod_first}
+use Rattle.std.proofs.Math.Nat.{pow-suc}
+use Rattle.std.proofs.Math.Pow.{pow_mono}
 use Rattle.std.specs.Int.{is_power_of_two}
 use Rattle.p3_util_kernels.specs.Digits.{rev}
 use Rattle.p3_util_kernels.specs.Powers.{HasLog2}
 use Rattle.p3_util_kernels.proofs.DigitsLemmas.{rev-parts, rev-of-zero, rev-shl, rev-suc, rev-zero, rev-lt}
-use Rattle.p3_util_kernels.proofs.PowersLemmas.{power_of_two_test as power_test}
+use Rattle.p3_util_kernels.proofs.Matrix.{row_and_column}
+use Rattle.p3_util_kernels.proofs.PowersLemmas.{exponent-le, power_of_two_test as power_test}
 
 -- the reverse of an even number, and of an odd one
 pub rev_even : (k b : ℕ) → rev (k + 1) (2 * b) ≡ rev k b
@@ -60,8 +63,26 @@ rev_longer k s i h =
     let whole : 0 * 2 ^ k + i ≡ i = omega arith in
     rw order (rw whole at (rev-parts s k 0 i h) ∙ omega (arith, rev-of-zero s))
 
--- a third of a power of three
-pub third_of_power : (n e : ℕ) → n ≡ 3 ^ (e + 1) → n / 3 ≡ 3 ^ e
-third_of_power n e is =
-    let next : 3 ^ (e + 1) ≡ 3 ^ e * 3 ^ 1 = pow-add 3 e 1 in
-    omega arith
+-- the exponent of a power of two that is at most a number below 2 ^ k
+pub exponent_below : (r k n : ℕ) → 2 ^ r ≤ n → n < 2 ^ k → r < k
+exponent_below r k n low high = grind (arith, pow_mono {i = k} {j = r})
+
+-- a power of two, as a product of a lower one
+pub power_over : (n m a b : ℕ) → n ≡ 2 ^ a → m ≡ 2 ^ b → m ≤ n → n ≡ m * 2 ^ (a - b)
+power_over n m a b is-n is-m order =
+    let lower : b ≤ a = exponent-le b a (omega arith) in
+    let whole : b + (a - b) ≡ a = omega arith in
+    rw (is-m, is-n) (ap (λ e. 2 ^ e) (sym whole) ∙ pow-add 2 b (a - b))
+
+-- a power modulo p, one step on
+pub power_step : (p b i x : ℕ) → x ≡ b ^ i % p → x * b % p ≡ b ^ (i + 1) % p
+power_step p b i x e =
+    let next : b ^ (i + 1) ≡ b ^ i * b = rw add-one (pow-suc b i) in
+    rw (e, next) (mul-mod_first (b ^ i) b p)
+
+-- the row and the column of a place of a matrix
+pub row_of_place : (i rows cols : ℕ) → i < rows * cols → i / cols < rows
+row_of_place i rows cols h = (row_and_column i rows cols h).0
+
+pub column_of_place : (i rows cols : ℕ) → i < rows * cols → i % cols < cols
+column_of_place i rows cols h = (row_and_column i rows cols h).1

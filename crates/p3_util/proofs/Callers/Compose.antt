@@ -62,22 +62,9 @@ module _ (k : ℕ) where
 pub swaps_around : (c0 c1 c2 c3 a b : ℕ) → c1 ≡ counted c0 a → c2 ≡ counted c1 b → c3 ≡ counted c2 a → c3 ≡ counted c0 (2 * a + b)
 swaps_around c0 c1 c2 c3 a b e f g = omega arith
 
--- the numbers of items of a region's two parts add up to that of the region, and so does a counter
--- that counts both parts
+-- the numbers of items of a region's two parts add up to that of the region
 pub rows_in_two : (start middle end cols : ℕ) → start ≤ middle → middle ≤ end → (middle - start) * cols + (end - middle) * cols ≡ (end - start) * cols
 rows_in_two start middle end cols from to = mul-parts_left (middle - start) (end - middle) (end - start) cols (omega arith)
 
 pub cols_in_two : (start middle end rows : ℕ) → start ≤ middle → middle ≤ end → rows * (middle - start) + rows * (end - middle) ≡ rows * (end - start)
 cols_in_two start middle end rows from to = mul-parts_right (middle - start) (end - middle) (end - start) rows (omega arith)
-
-pub rows_counted : (start middle end cols c0 c1 c2 : ℕ) → c1 ≡ counted c0 ((middle - start) * cols) → c2 ≡ counted c1 ((end - middle) * cols)
-    → start ≤ middle → middle ≤ end → c2 ≡ counted c0 ((end - start) * cols)
-rows_counted start middle end cols c0 c1 c2 e f from to = let all = rows_in_two start middle end cols from to in omega arith
-
-pub cols_counted : (start middle end rows c0 c1 c2 : ℕ) → c1 ≡ counted c0 (rows * (middle - start)) → c2 ≡ counted c1 (rows * (end - middle))
-    → start ≤ middle → middle ≤ end → c2 ≡ counted c0 (rows * (end - start))
-cols_counted start middle end rows c0 c1 c2 e f from to = let all = cols_in_two start middle end rows from to in omega arith
-
-pub ruleset items_of_rows = (rows_in_two, rows_counted)
-
-pub ruleset items_of_cols = (cols_in_two, cols_counted)

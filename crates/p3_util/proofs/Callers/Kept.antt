@@ -1,23 +1,25 @@
 -- What a reordering keeps: the new list is a permutation of the old one. So a property of all old
--- items is one of all new items, and sums and counts stay the same.
+-- items is one of all new items, sums and counts stay the same, and so does that all items differ.
 use Rattle.std.proofs.Common.{◌≡◌, ◌≢◌, ℕ, suc, ◌+◌, ◌-◌, ◌*◌, ◌/◌, ◌%◌, ◌^◌, ◌<◌, min, inl, inr, Some, List, [], ◌∷◌, length, get_or, slice_get, take, drop, refl, sym, ap, ◌∙◌, arith, length-append, length-drop, map, sum}
-use Rattle.std.specs.List.{remove, zip}
+use Rattle.std.specs.List.{remove, swap, zip}
 use Rattle.std.specs.Prelude.{IsPermutation}
 use Rattle.std.proofs.lemmas.List.Elements.{Contains-get_or}
 use Rattle.std.proofs.lemmas.List.Sums.{sum-map}
-use Rattle.std.proofs.lemmas.Bool.{cases_lt}
+use Rattle.std.proofs.lemmas.Bool.{cases_eq, cases_lt}
 use Rattle.std.proofs.lemmas.List.{length-take-le, get_or_default}
-use Rattle.std.proofs.lemmas.List.Sorted.{IsPermutation-refl, IsPermutation-sym, IsPermutation-trans, IsPermutation-cons, IsPermutation-remove, Contains-permutation, sum_by-IsPermutation}
+use Rattle.std.proofs.lemmas.List.Sorted.{IsPermutation-refl, IsPermutation-sym, IsPermutation-trans, IsPermutation-cons, IsPermutation-remove, IsPermutation-keeps, Contains-permutation, sum_by-IsPermutation}
 use Rattle.std.proofs.lemmas.Option.{slice_get-get_or}
+use Rattle.std.proofs.lemmas.List.Edits.{length-swap}
 use Rattle.p3_util_kernels.specs.Digits.{rev}
+use Rattle.p3_util_kernels.specs.Least.{AllDiffer}
 use Rattle.p3_util_kernels.specs.Reversal.{IsRowReversal, IsReversal, IsReversible, IsZeroOrPowerOfTwo}
 use Rattle.p3_util_kernels.specs.Transpose.{IsTranspose}
+use Rattle.p3_util_kernels.proofs.Exchange.{slice_get-swap_first, slice_get-swap_other, slice_get-swap_second}
 use Rattle.p3_util_kernels.proofs.ListParts.{slice_get-append_left, slice_get-append_right, slice_get-drop, slice_get-take}
 use Rattle.p3_util_kernels.proofs.DigitsLemmas.{rev-lt, rev-rev-below}
 use Rattle.p3_util_kernels.proofs.Lengths.{zero_or_power}
 use Rattle.p3_util_kernels.proofs.ReversalLemmas.{IsReversal-places}
-use Rattle.p3_util.proofs.Callers.Pairs.{zip_length}
-use Rattle.p3_util.proofs.Callers.ZipEq.{zip_place}
+use Rattle.p3_util.proofs.Callers.ZipEq.{zip_length, zip_place}
 use Rattle.p3_util_kernels.proofs.Matrix.{row_and_column, same_number}
 use Rattle.std.proofs.Math.Nat.{mod-add-div'}
 use Rattle.std.proofs.lemmas.Nat.{mul-add-lt, same_from_place}
@@ -122,6 +124,40 @@ module _ {A : Type 0} where
   pub transposed_from : (w rows k : ℕ) (d : A) (old new : List A) → IsTranspose w rows old new → length old ≡ w * rows → k < length new
       → (get_or new k d ≡ get_or new k d) × ((j : ℕ) × (j < length old) × (get_or new k d ≡ get_or old j d))
   transposed_from w rows k d old new turned len h = from_place k d old new (transposed_permuted w rows old new turned len) h
+
+-- if no two items are equal, none are after an exchange, and so after any reordering
+module _ {A : Type 0} where
+  from_swap : (xs : List A) (i j p : ℕ) → i < length xs → j < length xs → p < length xs → (s : ℕ) × (s < length xs)
+      × (slice_get (swap xs i j) p ≡ slice_get xs s) × (p ≡ i → s ≡ j) × (p ≡ j → s ≡ i) × (p ≢ i → p ≢ j → s ≡ p)
+  from_swap xs i j p hi hj hp = elim (cases_eq p i) [
+    | inl e ↦ (j, hj, rw e (slice_get-swap_first xs i j hi hj), λ _. refl, λ e'. sym e' ∙ e, λ no. absurd (no e))
+    | inr other ↦ elim (cases_eq p j) [
+      | inl e ↦ (i, hi, rw e (slice_get-swap_second xs i j hi hj), λ e'. absurd (other e'), λ _. refl, λ _ no. absurd (no e))
+      | inr none ↦ (p, hp, slice_get-swap_other xs i j p other none, λ e. absurd (other e), λ e. absurd (none e), λ _ _. refl)
+    ]
+  ]
+
+  swap_differs : (xs : List A) (i j : ℕ) → i < length xs → j < length xs → AllDiffer xs → AllDiffer (swap xs i j)
+  swap_differs xs i j hi hj differ p q hp hq e =
+      let len = length-swap xs i j in
+      let (s, hs, at-s, s-i, s-j, s-other) = from_swap xs i j p hi hj (omega (arith, len)) in
+      let (t, ht, at-t, t-i, t-j, t-other) = from_swap xs i j q hi hj (omega (arith, len)) in
+      let same : s ≡ t = differ s t hs ht (sym at-s ∙ e ∙ at-t) in
+      grind (arith, same, s-i, s-j, s-other, t-i, t-j, t-other)
+
+  differ_permuted : (old new : List A) → IsPermutation old new → AllDiffer old → AllDiffer new
+  differ_permuted old new moved differ = IsPermutation-keeps old AllDiffer differ (λ xs i j hi hj here. swap_differs xs i j hi hj here) new moved
+
+  pub reversed_differ : (old new : List A) → IsReversal old new → IsReversible (length old) → AllDiffer old → AllDiffer new
+  reversed_differ old new reversal fits = differ_permuted old new (reversed_permuted old new reversal fits)
+
+  pub rows_differ : (w rows : ℕ) (old new : List A) → IsRowReversal w old new → length old ≡ w * rows → IsZeroOrPowerOfTwo rows → AllDiffer old → AllDiffer new
+  rows_differ w rows old new reversal len fits = differ_permuted old new (rows_permuted w rows old new reversal len fits)
+
+  pub transposed_differ : (w h : ℕ) (old new : List A) → IsTranspose w h old new → length old ≡ w * h → AllDiffer old → AllDiffer new
+  transposed_differ w h old new turned len = differ_permuted old new (transposed_permuted w h old new turned len)
+
+pub ruleset kept_different = (reversed_differ, rows_differ, transposed_differ)
 
 -- the sum of all items stays the same
 pub reversed_sum : (old new : List ℕ) → IsReversal old new → IsReversible (length old) → sum new ≡ sum old

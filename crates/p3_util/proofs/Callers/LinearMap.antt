@@ -1,5 +1,5 @@
--- A map after an insert: what a look-up finds, all values, and their sum.
-use Rattle.std.proofs.Common.{◌≡◌, ◌≢◌, ℕ, suc, ◌+◌, ◌≤◌, Bool, true, false, not, cond, nat_eq, Some, None, List, [], ◌∷◌, ◌++◌, Bor, set, sum, refl, sym, ap, ◌∙◌, arith}
+-- A map after an insert: what a look-up finds, and the sum of all values.
+use Rattle.std.proofs.Common.{◌≡◌, ◌≢◌, ℕ, ◌+◌, ◌≤◌, Bool, false, nat_eq, Some, None, List, [], ◌∷◌, ◌++◌, Bor, sum, refl, sym, ap, ◌∙◌, arith}
 use Rattle.std.proofs.lemmas.Bool.{ne_eqb}
 use Rattle.std.proofs.lemmas.List.{map-append}
 use Rattle.std.proofs.lemmas.Map.Entries.{sum_by-set_value}
@@ -7,8 +7,7 @@ use Rattle.std.proofs.lemmas.Map.Steps.{lookup-le-sum}
 use Rattle.std.proofs.lemmas.List.Sums.{sum_by-append}
 use Rattle.std.specs.Cmp.{IsEquivalence, nat_eq_equiv}
 use Rattle.std.specs.Cmp.Lexicographic.{on_texts_equal, pointwise}
-use Rattle.std.specs.List.{position_or_len}
-use Rattle.std.specs.Map.{keys_of, lookup, set_value, values_of}
+use Rattle.std.specs.Map.{values_of}
 use Rattle.std.specs.Option.{UnwrapsOrElse, unwrap_or}
 use Rattle.p3_util.specs.LinearMap.{put, value_at}
 use Rattle.p3_util.proofs.MapLemmas.{lookup_put}
@@ -33,29 +32,10 @@ pub ruleset put_found = (key_found, number_found)
 
 pub ruleset put_others = (key_others, number_others)
 
--- all values, after the first value whose key passes the test was replaced
-value_replaced : {K V : Type 0} (test : K → Bool) (es : List (K × V)) (old new : V) → lookup test es ≡ Some old
-    → values_of (set_value test es new) ≡ set (values_of es) (position_or_len test (keys_of es)) new
-value_replaced test [] old new found = absurd (cc)
-value_replaced test (e ∷ es) old new found =
-    elim (test e.0) as (λ b. cond b (Some e.1) (lookup test es) ≡ Some old
-    → values_of (cond b ((e.0, new) ∷ es) (e ∷ set_value test es new)) ≡ set (values_of (e ∷ es)) (cond (not b) (1 + position_or_len test (keys_of es)) 0) new) [
-      | true ↦ λ first. refl
-      | false ↦ λ later.
-          let next : 1 + position_or_len test (keys_of es) ≡ suc (position_or_len test (keys_of es)) = omega arith in
-          rw next (ap (λ l. e.1 ∷ l) (value_replaced test es old new later))
-    ] found
-
--- all values after `insert`, and their sum if they are numbers
-module _ {K V : Type 0} (eq : K → K → Bool) (pairs : List (K × V)) (k : K) (v : V) where
-  -- the value of a new key comes last
-  pub new_value_last : value_at eq pairs k ≡ None → values_of (put eq pairs k v) ≡ values_of pairs ++ v ∷ []
-  new_value_last absent = rw absent (map-append (λ (x : K × V). x.1) pairs ((k, v) ∷ []))
-
-  -- the value of a known key replaces the old one
-  pub known_value_replaced : (old : V) → value_at eq pairs k ≡ Some old
-      → values_of (put eq pairs k v) ≡ set (values_of pairs) (position_or_len (eq k) (keys_of pairs)) v
-  known_value_replaced old found = rw found (value_replaced (eq k) pairs old v found)
+-- the value of a new key comes last
+new_value_last : {K V : Type 0} (eq : K → K → Bool) (pairs : List (K × V)) (k : K) (v : V)
+    → value_at eq pairs k ≡ None → values_of (put eq pairs k v) ≡ values_of pairs ++ v ∷ []
+new_value_last {K} {V} eq pairs k v absent = rw absent (map-append (λ (x : K × V). x.1) pairs ((k, v) ∷ []))
 
 -- A map whose values are numbers, where 0 stands for the value of a key that is not in the map:
 -- `insert` adds to the sum of the values what it adds to the value of the key, and no value is

@@ -1,8 +1,13 @@
--- A list after a write to a part of it.
-use Rattle.std.proofs.Common.{◌≡◌, ℕ, ◌+◌, ◌-◌, ◌<◌, ◌≤◌, List, ◌++◌, length, slice_get, take, drop, ◌∙◌, arith, length-append, length-drop}
+-- A list after a write to a part of it, and the rows of a list after a reversal of rows.
+use Rattle.std.proofs.Common.{◌≡◌, ℕ, ◌+◌, ◌-◌, ◌*◌, ◌^◌, ◌<◌, ◌≤◌, List, ◌++◌, length, slice_get, take, drop, sym, ◌∙◌, arith, length-append, length-drop}
 use borrow.Rule.Slice.PartMut.{mid_of, put_mid}
 use Rattle.std.proofs.lemmas.List.{length-take-le}
+use Rattle.std.proofs.Math.Nat.{mul-le-mul_right}
+use Rattle.p3_util_kernels.specs.Digits.{rev}
+use Rattle.p3_util_kernels.specs.Reversal.{IsRowReversal}
+use Rattle.p3_util_kernels.proofs.DigitsLemmas.{rev-lt}
 use Rattle.p3_util_kernels.proofs.ListParts.{slice_get-append_left, slice_get-append_right, slice_get-drop, slice_get-take}
+use Rattle.p3_util_kernels.proofs.SameList.{same_places}
 
 -- A list after a write to the k items from place a on, for example through `&mut xs[a..a + k]`.
 -- These places then hold `part`, and every other place holds what it held.
@@ -33,3 +38,19 @@ module _ {A : Type 0} (a k : ℕ) (xs part : List A) (fits : a + k ≤ length xs
 -- an item of the part itself
 pub part_read : {A : Type 0} (a k j : ℕ) (xs : List A) → j < k → slice_get (mid_of a k xs) j ≡ slice_get xs (a + j)
 part_read a k j xs h = slice_get-take k (drop a xs) j h ∙ slice_get-drop a xs j (a + j) (omega arith)
+
+-- the length of row r of a list of whole rows
+row_length : {A : Type 0} (w n r : ℕ) (xs : List A) → length xs ≡ w * n → r < n → length (take w (drop (r * w) xs)) ≡ w
+row_length w n r xs len h =
+    let rows : (r + 1) * w ≤ n * w = mul-le-mul_right w (omega arith) in
+    length-take-le w (drop (r * w) xs) (omega (arith, length-drop (r * w) xs, len))
+
+-- row r of a list whose rows were reversed is row `rev k r` of the list before
+pub row_moved : {A : Type 0} (w k r : ℕ) (old new : List A) → IsRowReversal w old new → length old ≡ w * 2 ^ k → r < 2 ^ k
+    → take w (drop (r * w) new) ≡ take w (drop (rev k r * w) old)
+row_moved w k r old new reversal len h =
+    let here = row_length w (2 ^ k) r new (reversal.same_length ∙ len) h in
+    let there = row_length w (2 ^ k) (rev k r) old len (rev-lt k r) in
+    same_places (take w (drop (r * w) new)) (take w (drop (rev k r * w) old)) (here ∙ sym there) (λ j less.
+    let hj : j < w = omega (arith, here) in
+    part_read (r * w) w j new hj ∙ reversal.places k r j len h hj ∙ sym (part_read (rev k r * w) w j old hj))

@@ -1,5 +1,4 @@
--- The pair at a place, the first and the second parts of all pairs, and a sum that is reduced at
--- each step.
+-- The pair at a place, how many pairs there are, and a sum that is reduced at each step.
 use Rattle.std.proofs.Common.{◌≡◌, ℕ, zero, suc, ◌+◌, ◌*◌, ◌/◌, ◌%◌, ◌<◌, Some, List, [], ◌∷◌, length, map, slice_get, sum, refl, sym, ap, ◌∙◌, arith}
 use Rattle.std.proofs.lemmas.List.Sums.{sum-map}
 use Rattle.std.proofs.Math.Nat.{add-mul-mod_self_right, mod-add-div'}
@@ -13,19 +12,14 @@ zip_place (x' ∷ xs) [] i x y hx hy = search hy
 zip_place (x' ∷ xs) (y' ∷ ys) zero x y hx hy = cc
 zip_place (x' ∷ xs) (y' ∷ ys) (suc i) x y hx hy = zip_place xs ys i x y hx hy
 
--- the first parts of the pairs of two lists, and the second ones
-pub zip_firsts : {A B : Type 0} (xs : List A) (ys : List B) → length xs ≡ length ys → map (λ (p : A × B). p.0) (zip xs ys) ≡ xs
-zip_firsts [] ys same = refl
-zip_firsts (x ∷ xs) [] same = absurd (omega arith)
-zip_firsts (x ∷ xs) (y ∷ ys) same = ap (λ l. x ∷ l) (zip_firsts xs ys (omega arith))
+-- there are as many pairs as items
+pub zip_length : {A B : Type 0} (xs : List A) (ys : List B) → length ys ≡ length xs → length (zip xs ys) ≡ length xs
+zip_length [] ys same = refl
+zip_length (x ∷ xs) [] same = absurd (omega arith)
+zip_length (x ∷ xs) (y ∷ ys) same = ap (λ n. suc n) (zip_length xs ys (omega arith))
 
-pub zip_seconds : {A B : Type 0} (xs : List A) (ys : List B) → length xs ≡ length ys → map (λ (p : A × B). p.1) (zip xs ys) ≡ ys
-zip_seconds [] [] same = refl
-zip_seconds [] (y ∷ ys) same = absurd (omega arith)
-zip_seconds (x ∷ xs) [] same = absurd (omega arith)
-zip_seconds (x ∷ xs) (y ∷ ys) same = ap (λ l. y ∷ l) (zip_seconds xs ys (omega arith))
-
--- A fold that takes the remainder at each step gives the remainder of the sum.
+-- A fold that takes the remainder at each step, of a state that is reduced before, gives the remainder
+-- of the sum.
 module _ {A : Type 0} (f : A → ℕ) (m : ℕ) where
   one_remainder : (a b y : ℕ) → b % m ≡ a % m → (b % m + y) % m ≡ (a + y) % m
   one_remainder a b y e =
@@ -34,11 +28,6 @@ module _ {A : Type 0} (f : A → ℕ) (m : ℕ) where
       let rest : ((a % m + y) + a / m * m) % m ≡ (a % m + y) % m = add-mul-mod_self_right (a % m + y) (a / m) m in
       rw e (sym rest ∙ ap (λ k. k % m) same)
 
-  remainders : (xs : List A) (a b : ℕ) → b % m ≡ a % m → fold (λ s x. (s + f x) % m) (b % m) xs ≡ fold (λ s x. s + f x) a xs % m
-  remainders [] a b e = e
-  remainders (x ∷ xs) a b e = remainders xs (a + f x) (b % m + f x) (one_remainder a b (f x) e)
-
-  -- the same if the state is reduced before each step
   reduced : (xs : List A) (a b : ℕ) → b % m ≡ a % m → fold (λ s x. (s % m + f x) % m) (b % m) xs ≡ fold (λ s x. s + f x) a xs % m
   reduced [] a b e = e
   reduced (x ∷ xs) a b e =
@@ -46,11 +35,6 @@ module _ {A : Type 0} (f : A → ℕ) (m : ℕ) where
       let right : a + 0 ≡ a = omega arith in
       let again : b % m % m ≡ a % m = rw (left, right) at (one_remainder a b 0 e) in
       reduced xs (a + f x) (b % m % m + f x) (one_remainder a (b % m) (f x) again)
-
-  pub remainders_summed : (xs : List A) → 0 < m → fold (λ s x. (s + f x) % m) 0 xs ≡ sum (map f xs) % m
-  remainders_summed xs some =
-      let none : 0 % m ≡ 0 = omega arith in
-      rw sum-map (rw none at (remainders xs 0 0 refl))
 
   pub reduced_summed : (xs : List A) → 0 < m → fold (λ s x. (s % m + f x) % m) 0 xs ≡ sum (map f xs) % m
   reduced_summed xs some =
