@@ -1,10 +1,17 @@
 #!/usr/bin/env bash
-# Proves the examples of docs/CALLING.md as a reader pastes them. A block of Rust that has `use` lines becomes a module
-# of a crate that depends only on p3_util. The first line of a block of antt says which file of proofs/ it is, in a
-# crate app: the block of Rust before it is the lib.rt of that crate. The crates are copied with what their checks left
-# in out/, so that they are not proved again.
+# Runs the first of README's two commands, and compares its output with the comment after it. Then proves the examples of
+# docs/CALLING.md as a reader pastes them. A block of Rust that has `use` lines becomes a module of a crate that depends
+# only on p3_util. The first line of a block of antt says which file of proofs/ it is, in a crate app: the block of Rust
+# before it is the lib.rt of that crate. The crates are copied with what their checks left in out/, so that they are not
+# proved again.
 set -euo pipefail
 cd "$(dirname "$0")/.."
+
+line=$(grep -m 1 '^(cd crates/' README.md)
+printed=$(bash -c "${line%%   #*}")
+[ "$printed" = "${line##*# }" ] || { printf 'FAILED  %s\nprints %s\n' "$line" "$printed" >&2 && exit 1; }
+echo "README's first command prints $printed"
+
 copy=$(mktemp -d)
 trap 'rm -rf "$copy"' EXIT
 
