@@ -1,5 +1,5 @@
 //! Runs the kernels on slices. All unsafe code of the package is in this file and in `vectors_unchecked.rs`. That file
-//! transposes squares of items of 4 and of 8 bytes in vector registers. Only this file uses it.
+//! transposes squares of items of 1 to 8 bytes in vector registers, and writes items by parts. Only this file uses it.
 //!
 //! It is proved that a kernel whose own precondition holds meets the preconditions of `exchange`, `put` and `at`, for
 //! every holder. So the holders here check no index. `reverse`, `reverse_rows`, `transpose`, `parts_of_transpose` and
@@ -189,7 +189,6 @@ impl<F> Parts<'_, F, ReversalPlan> {
 /// Holders of slices, which check no index except with debug assertions.
 #[cfg(not(feature = "checked"))]
 mod slices {
-    use core::array::from_fn;
     use core::marker::PhantomData;
     use core::slice::from_raw_parts_mut;
     use core::sync::atomic::{Ordering, compiler_fence};
@@ -215,9 +214,13 @@ mod slices {
     impl<'a, T> SliceItems<'a, T> {
         #[inline(always)]
         pub(super) fn new(slice: &'a mut [T]) -> Self {
+            // The length is read first: reading it through the reference after `first` was taken from it would end what
+            // `first` may do.
+            let len = slice.len();
+            let first = slice.as_mut_ptr();
             SliceItems {
-                len: slice.len(),
-                first: slice.as_mut_ptr(),
+                first,
+                len,
                 slice: PhantomData,
             }
         }
@@ -260,52 +263,47 @@ mod slices {
             run(i).swap_with_slice(run(j));
         }
 
+        /// Stands for `exchange`. Items of 20 to 44 bytes are written by parts, in the order of their addresses.
         #[inline(always)]
         fn exchange_apart(&mut self, i: usize, j: usize) {
             debug_assert!(i != j && i < self.len && j < self.len);
             // SAFETY: the places differ by the clause `apart` of `Places::exchange_apart`, and are within the slice by
             // `first` and `second`.
             let (x, y) = unsafe { (&mut *self.first.add(i), &mut *self.first.add(j)) };
-            core::mem::swap(x, y);
+            match size_of::<F>() {
+                20 | 24 | 28 | 36 | 40 | 44 => vectors::swap_parts(x, y),
+                _ => core::mem::swap(x, y),
+            }
+            // The fence has no effect on the processor. Without it, the compiler would make one permutation in vector
+            // registers of the exchanges of a small list, which takes twice as long with AVX-512.
+            if size_of::<F>() <= 8 {
+                compiler_fence(Ordering::SeqCst);
+            }
         }
 
-        /// Exchanges the tiles by squares. A square of items of 4 or of 8 bytes has the side `vectors::side`, and is
-        /// transposed in registers. Other items are exchanged one by one, in squares of 4 by 4. The loops over squares
-        /// in registers are apart, because one loop for all items takes longer for items of 8 bytes.
+        /// Stands for 64 calls of `exchange_apart`, one for each row `r` and column `c`, which exchange `x[r] + c` and
+        /// `y[c] + r`. Items of 1, 2, 4 and 8 bytes are exchanged in registers, and others one by one, in squares of 4
+        /// by 4.
         #[inline(always)]
         #[allow(clippy::needless_range_loop, reason = "a tile is reached by row and column")]
         fn exchange_tiles(&mut self, x: [usize; 8], y: [usize; 8]) {
             debug_assert!(are_tiles(x, y, self.len));
             let first = self.first;
-            let side = vectors::side::<F>();
-            if side == 1 {
-                for row in (0..8).step_by(4) {
-                    for col in (0..8).step_by(4) {
-                        for r in row..row + 4 {
-                            for c in col..col + 4 {
-                                self.exchange_apart(x[r] + c, y[c] + r);
+            // SAFETY (of all four): the 8 items from each of these places on are within the slice, and no two of these
+            // runs overlap, by the precondition of `Places::exchange_tiles`.
+            match size_of::<F>() {
+                1 if vectors::HERE => unsafe { vectors::exchange::<F, _, 8>(first, x, y, vectors::turned_1) },
+                2 if vectors::HERE => unsafe { vectors::exchange::<F, _, 8>(first, x, y, vectors::turned_2) },
+                4 if vectors::HERE => unsafe { vectors::exchange::<F, _, 4>(first, x, y, vectors::two_turned_4) },
+                8 if vectors::HERE => unsafe { vectors::exchange::<F, _, 2>(first, x, y, vectors::four_turned_8) },
+                _ => {
+                    for row in (0..8).step_by(4) {
+                        for col in (0..8).step_by(4) {
+                            for r in row..row + 4 {
+                                for c in col..col + 4 {
+                                    self.exchange_apart(x[r] + c, y[c] + r);
+                                }
                             }
-                        }
-                    }
-                }
-                return;
-            }
-            for row in (0..8).step_by(side) {
-                for col in (0..8).step_by(side) {
-                    // SAFETY (of both): the rows of the squares lie in rows of the tiles, which are within the slice
-                    // and do not overlap, by the precondition of `Places::exchange_tiles`. A row of a square has 16
-                    // bytes: four items of 4 bytes, or two of 8.
-                    if side == 4 {
-                        unsafe {
-                            let of_x = from_fn(|t| first.add(x[row + t] + col));
-                            let of_y = from_fn(|t| first.add(y[col + t] + row));
-                            vectors::exchange(of_x, of_y, vectors::turned_4);
-                        }
-                    } else {
-                        unsafe {
-                            let of_x = from_fn(|t| first.add(x[row + t] + col));
-                            let of_y = from_fn(|t| first.add(y[col + t] + row));
-                            vectors::exchange(of_x, of_y, vectors::turned_8);
                         }
                     }
                 }
@@ -332,13 +330,21 @@ mod slices {
         fn put(&mut self, i: usize, v: T) {
             debug_assert!(i < self.len);
             // SAFETY: the cell is within the slice, by the `requires` of `Cells::put`.
-            unsafe { *self.first.add(i) = v }
+            unsafe {
+                let cell = self.first.add(i);
+                match size_of::<T>() {
+                    12 | 20 | 24 | 28 | 32 | 36 | 40 | 44 | 48 | 52 | 56 | 60 | 64 => vectors::write_parts(cell, v),
+                    _ => *cell = v,
+                }
+            }
             // Without the fence, the compiler would read eight items before it writes them, because it knows that the
             // input and the output do not overlap. For processors with AVX-512 it would turn these reads, which are in
             // eight rows, into one gather. For items of 4 and 8 bytes, that takes two to four times as long as moving
             // one item after the other. The fence keeps each read after the write that comes before it in the program.
-            // It has no effect on the processor.
-            compiler_fence(Ordering::SeqCst);
+            // It has no effect on the processor. Without AVX-512, items of 16 bytes take less time without it.
+            if size_of::<T>() != 16 || cfg!(target_feature = "avx512f") {
+                compiler_fence(Ordering::SeqCst);
+            }
         }
 
         #[inline(always)]

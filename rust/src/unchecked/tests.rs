@@ -118,8 +118,15 @@ impl PartialEq for Double {
     }
 }
 
+/// A number of one byte that differs for most numbers near `number`, and for most that are 256 apart.
+fn byte(number: usize) -> u8 {
+    (number.wrapping_mul(0x9e37_79b9_7f4a_7c15) >> 56) as u8
+}
+
 #[test]
 fn exchanges_of_blocks() {
+    turns(byte);
+    turns(|number| (byte(number), byte(number + 1)));
     turns(|number| number as u16);
     turns(|number| number as u32);
     turns(|number| (number as u16, number as u8));
@@ -129,6 +136,37 @@ fn exchanges_of_blocks() {
     turns(|number| number as u128);
     turns(|number| [number as u8; 5]);
     turns(Box::new);
+    turns(parts::<3>);
+    turns(parts::<5>);
+    turns(parts::<6>);
+    turns(parts::<7>);
+    turns(parts::<9>);
+    turns(parts::<10>);
+    turns(parts::<11>);
+    turns(parts::<16>);
+}
+
+/// An item of `4 * N` bytes, whose parts of 4 bytes differ.
+fn parts<const N: usize>(number: usize) -> [u32; N] {
+    from_fn(|part| (number * N + part) as u32)
+}
+
+/// Puts items of `4 * N` bytes side by side. The cells next to them keep theirs.
+fn puts<const N: usize>() {
+    let mut list = [[u32::MAX; N]; 5];
+    for i in [3, 1, 2] {
+        SliceCells::new(&mut list).put(i, parts(i));
+    }
+    assert_eq!(list, [[u32::MAX; N], parts(1), parts(2), parts(3), [u32::MAX; N]]);
+}
+
+#[test]
+fn puts_by_parts() {
+    let of_all_sizes: [fn(); 18] = [
+        puts::<1>, puts::<2>, puts::<3>, puts::<4>, puts::<5>, puts::<6>, puts::<7>, puts::<8>, puts::<9>, puts::<10>,
+        puts::<11>, puts::<12>, puts::<13>, puts::<14>, puts::<15>, puts::<16>, puts::<17>, puts::<18>,
+    ];
+    of_all_sizes.into_iter().for_each(|puts| puts());
 }
 
 #[test]
@@ -261,6 +299,19 @@ fn shuffles() {
     if !TURNS_IN_REGISTERS {
         return;
     }
+    let of_2 = |number: u8| [number, number + 32];
+    let operands: [[u8; 16]; 2] = [0, 16].map(|first| from_fn(|i| first + i as u8));
+    let in_turn: [u8; 16] = from_fn(|i| (i / 2 + i % 2 * 16) as u8);
+    assert_eq!(shuffled(vectors::low_1, operands), in_turn);
+    let operands = [
+        [0, 1, 2, 3, 4, 5, 6, 7].map(of_2),
+        [8, 9, 10, 11, 12, 13, 14, 15].map(of_2),
+    ];
+    assert_eq!(shuffled(vectors::low_2, operands), [0, 8, 1, 9, 2, 10, 3, 11].map(of_2));
+    assert_eq!(
+        shuffled(vectors::high_2, operands),
+        [4, 12, 5, 13, 6, 14, 7, 15].map(of_2)
+    );
     let of_4 = |number: u8| [0, 64, 128, 192].map(|part| part + number);
     let of_8 = |number: u8| [0, 32, 64, 96, 128, 160, 192, 224].map(|part| part + number);
     let operands = [[0, 1, 2, 3].map(of_4), [4, 5, 6, 7].map(of_4)];

@@ -1,4 +1,4 @@
-//! Squares of items of 4 and of 8 bytes, transposed in the vector registers of x86-64 and of aarch64. Only
+//! Tiles and blocks of items of 1, 2, 4 and 8 bytes, transposed in the vector registers of x86-64 and of aarch64. Only
 //! `unchecked.rs` uses this file.
 //!
 //! A register holds whole items. Items may be pointers, or have bytes that were never written, so a register must never
@@ -7,54 +7,61 @@
 //! has the same effect as Rust code that moves such bytes one by one, and touches no memory. All items are read and
 //! written by Rust code, so a race detector sees these accesses.
 
+use core::array::from_fn;
 use core::mem::{MaybeUninit, transmute_copy};
-
-#[cfg(target_feature = "neon")]
-use core::arch::aarch64::uint8x16_t as Vector;
-#[cfg(target_feature = "sse2")]
-use core::arch::x86_64::__m128i as Vector;
-#[cfg(not(any(target_feature = "neon", target_feature = "sse2")))]
-type Vector = u128;
+use core::ptr;
+use core::sync::atomic::{Ordering, compiler_fence};
 
 use crate::kernels::places::{Four, turned_block};
 
-/// Whether squares of items are transposed in registers here. Miri does not support assembly.
-pub(crate) const HERE: bool =
-    cfg!(not(miri)) && (cfg!(target_feature = "sse2") || cfg!(all(target_feature = "neon", target_endian = "little")));
+#[cfg(all(target_arch = "aarch64", target_feature = "neon", target_endian = "little"))]
+use core::arch::aarch64::uint8x16_t as Vector;
+#[cfg(all(target_arch = "x86_64", target_feature = "sse2"))]
+use core::arch::x86_64::__m128i as Vector;
+/// On other targets a register is only a name for 16 bytes.
+#[cfg(not(any(
+    all(target_arch = "aarch64", target_feature = "neon", target_endian = "little"),
+    all(target_arch = "x86_64", target_feature = "sse2")
+)))]
+type Vector = u128;
 
-/// Two items of 8 bytes, or four of 4 bytes.
+/// Whether items are transposed in registers here. Miri does not support assembly.
+pub(crate) const HERE: bool = cfg!(all(
+    not(miri),
+    any(
+        all(
+            target_arch = "aarch64",
+            target_feature = "neon",
+            target_endian = "little"
+        ),
+        all(target_arch = "x86_64", target_feature = "sse2")
+    )
+));
+
+/// 16 bytes: 8 items of 2 bytes, 4 of 4 bytes, or 2 of 8 bytes.
 pub(super) type Register = MaybeUninit<Vector>;
 
-/// A function that takes the rows of a square and returns its columns. Each row and each column is a register.
-type Turned<const SIDE: usize> = fn([Register; SIDE]) -> [Register; SIDE];
-
-/// The side of a square of items of type `T` that is transposed in registers, or 1 if none is.
-pub(super) const fn side<T>() -> usize {
-    match size_of::<T>() {
-        4 if HERE => 4,
-        8 if HERE => 2,
-        _ => 1,
-    }
-}
+/// 8 bytes: 8 items of 1 byte.
+pub(super) type Half = MaybeUninit<u64>;
 
 /// Defines functions that are one instruction each. A line has the name of the function, the name of the instruction on
 /// x86-64, and its name on aarch64 with the form of the register's parts.
 macro_rules! shuffles {
     ($($name:ident: $x86:literal, $arm:literal $parts:literal)*) => {$(
         #[inline(always)]
-        #[allow(unused)] // If `side` is 1, nothing is shuffled.
+        #[allow(unused)] // Without `HERE`, nothing is shuffled.
         pub(super) fn $name(a: Register, b: Register) -> Register {
             let mut to = a;
             // SAFETY (of all three): the instruction reads two registers, writes one, and does nothing else. Any 16
             // bytes are a `Register`. With AVX it has three operands, because an older instruction is slow if it comes
             // between those of AVX.
-            #[cfg(all(target_feature = "sse2", not(target_feature = "avx")))]
+            #[cfg(all(target_arch = "x86_64", target_feature = "sse2", not(target_feature = "avx")))]
             unsafe { core::arch::asm!(concat!($x86, " {}, {}"), inlateout(xmm_reg) to, in(xmm_reg) b,
                 options(pure, nomem, nostack, preserves_flags)) }
-            #[cfg(target_feature = "avx")]
+            #[cfg(all(target_arch = "x86_64", target_feature = "avx"))]
             unsafe { core::arch::asm!(concat!("v", $x86, " {}, {}, {}"), lateout(xmm_reg) to, in(xmm_reg) a, in(xmm_reg) b,
                 options(pure, nomem, nostack, preserves_flags)) }
-            #[cfg(target_feature = "neon")]
+            #[cfg(all(target_arch = "aarch64", target_feature = "neon", target_endian = "little"))]
             unsafe { core::arch::asm!(concat!($arm, " {0:v}.", $parts, ", {1:v}.", $parts, ", {2:v}.", $parts),
                 lateout(vreg) to, in(vreg) a, in(vreg) b, options(pure, nomem, nostack, preserves_flags)) }
             to
@@ -65,19 +72,41 @@ macro_rules! shuffles {
 // Each of these interleaves parts of two registers: from a0 a1 .. and b0 b1 .. it makes a0 b0 a1 b1 .., for the parts
 // in the low halves or in the high halves.
 shuffles! {
+    low_1: "punpcklbw", "zip1" "16b"
+    low_2: "punpcklwd", "zip1" "8h"
+    high_2: "punpckhwd", "zip2" "8h"
     low_4: "punpckldq", "zip1" "4s"
     high_4: "punpckhdq", "zip2" "4s"
     low_8: "punpcklqdq", "zip1" "2d"
     high_8: "punpckhqdq", "zip2" "2d"
 }
 
-/// Transposes a square of items of 8 bytes.
+/// Transposes a square of 8 by 8 items of 1 byte. Each row is the low half of a register at first.
 #[inline(always)]
-pub(super) fn turned_8([a, b]: [Register; 2]) -> [Register; 2] {
-    [low_8(a, b), high_8(a, b)]
+pub(super) fn turned_1(rows: [Half; 8]) -> [Half; 8] {
+    // SAFETY (of both): a register is two halves, whose bytes may be unwritten.
+    let wide = |half: Half| -> Register { unsafe { transmute_copy(&[half, MaybeUninit::uninit()]) } };
+    let halves = |register: Register| -> [Half; 2] { unsafe { transmute_copy(&register) } };
+    let [a, b, c, d, e, f, g, h] = rows.map(wide);
+    let [a, b, c, d] = [low_1(a, b), low_1(c, d), low_1(e, f), low_1(g, h)];
+    let [a, b, c, d] = [low_2(a, b), high_2(a, b), low_2(c, d), high_2(c, d)];
+    let [a, b, c, d] = [low_4(a, c), high_4(a, c), low_4(b, d), high_4(b, d)];
+    let [[a, b], [c, d], [e, f], [g, h]] = [a, b, c, d].map(halves);
+    [a, b, c, d, e, f, g, h]
 }
 
-/// Transposes a square of items of 4 bytes.
+/// Transposes a square of 8 by 8 items of 2 bytes.
+#[inline(always)]
+pub(super) fn turned_2([a, b, c, d, e, f, g, h]: [Register; 8]) -> [Register; 8] {
+    let [a, b, c, d] = [low_2(a, b), high_2(a, b), low_2(c, d), high_2(c, d)];
+    let [e, f, g, h] = [low_2(e, f), high_2(e, f), low_2(g, h), high_2(g, h)];
+    let [a, b, c, d] = [low_4(a, c), high_4(a, c), low_4(b, d), high_4(b, d)];
+    let [e, f, g, h] = [low_4(e, g), high_4(e, g), low_4(f, h), high_4(f, h)];
+    let [[a, b], [c, d], [e, f], [g, h]] = [turned_8([a, e]), turned_8([b, f]), turned_8([c, g]), turned_8([d, h])];
+    [a, b, c, d, e, f, g, h]
+}
+
+/// Transposes a square of 4 by 4 items of 4 bytes.
 #[inline(always)]
 pub(super) fn turned_4([a, b, c, d]: [Register; 4]) -> [Register; 4] {
     let [p, q] = turned_8([low_4(a, b), low_4(c, d)]);
@@ -85,38 +114,118 @@ pub(super) fn turned_4([a, b, c, d]: [Register; 4]) -> [Register; 4] {
     [p, q, r, s]
 }
 
-/// Does the same as [`turned_block`], in registers if [`side`] is above 1 for these items.
+/// Transposes a square of 2 by 2 items of 8 bytes.
+#[inline(always)]
+pub(super) fn turned_8([a, b]: [Register; 2]) -> [Register; 2] {
+    [low_8(a, b), high_8(a, b)]
+}
+
+/// Transposes two squares of items of 4 bytes.
+#[inline(always)]
+pub(super) fn two_turned_4([a, b, c, d, e, f, g, h]: [Register; 8]) -> [Register; 8] {
+    let [[a, b, c, d], [e, f, g, h]] = [turned_4([a, b, c, d]), turned_4([e, f, g, h])];
+    [a, b, c, d, e, f, g, h]
+}
+
+/// Transposes four squares of items of 8 bytes.
+#[inline(always)]
+pub(super) fn four_turned_8([a, b, c, d, e, f, g, h]: [Register; 8]) -> [Register; 8] {
+    let [[a, b], [c, d], [e, f], [g, h]] = [turned_8([a, b]), turned_8([c, d]), turned_8([e, f]), turned_8([g, h])];
+    [a, b, c, d, e, f, g, h]
+}
+
+/// Does the same as [`turned_block`], in registers for items of 4 and of 8 bytes.
 #[inline(always)]
 pub(super) fn turned<T: Copy>(rows: &Four<Four<T>>) -> Four<Four<T>> {
-    match side::<T>() {
+    match size_of::<T>() {
         // SAFETY: a row is a register, and each of the resulting registers has four whole items.
-        4 => unsafe { transmute_copy(&turned_4(transmute_copy(rows))) },
+        4 if HERE => unsafe { transmute_copy(&turned_4(transmute_copy(rows))) },
         // SAFETY: a row is two registers, and each of the resulting registers has two whole items.
-        2 => unsafe {
+        8 if HERE => unsafe {
             let [a, b, c, d]: [[Register; 2]; 4] = transmute_copy(rows);
-            let [[p, q], [r, s]] = [turned_8([a[0], b[0]]), turned_8([c[0], d[0]])];
-            let [[t, u], [v, w]] = [turned_8([a[1], b[1]]), turned_8([c[1], d[1]])];
+            let [p, q, r, s, t, u, v, w] = four_turned_8([a[0], b[0], c[0], d[0], a[1], b[1], c[1], d[1]]);
             transmute_copy(&[[p, r], [q, s], [t, v], [u, w]])
         },
         _ => turned_block(rows),
     }
 }
 
-/// Exchanges two squares, each with the mirror image of the other. `x` and `y` are their rows, which have 16 bytes each.
-/// All rows must be valid for reads and writes, and no two may have an item in common.
+/// Exchanges two tiles, each with the mirror image of the other: `SIDE` rows of one tile at a time, which are as wide as
+/// a square that `turned` transposes, with `SIDE` columns of the other. `x` and `y` are the places at which the rows of
+/// the tiles begin. A row of a square is one `R`, so it has the size of `SIDE` items.
+///
+/// # Safety
+///
+/// `first` is the first of a list of items. The 8 items from each of these places on are within the list, no two of
+/// these runs overlap, and the caller may read and write all of them.
 #[inline(always)]
-pub(super) unsafe fn exchange<T, const SIDE: usize>(x: [*mut T; SIDE], y: [*mut T; SIDE], turned: Turned<SIDE>) {
-    // SAFETY: these are rows of the squares. They may be at any multiple of an item's alignment. Each square is written
-    // as a whole: writing a row of one and a row of the other in turn takes longer.
-    unsafe {
-        let (of_x, of_y) = (x.map(<*mut T>::cast::<Register>), y.map(<*mut T>::cast::<Register>));
-        let to_y = turned(of_x.map(|row| row.read_unaligned()));
-        let to_x = turned(of_y.map(|row| row.read_unaligned()));
-        for row in 0..SIDE {
-            of_y[row].write_unaligned(to_y[row]);
-        }
-        for row in 0..SIDE {
-            of_x[row].write_unaligned(to_x[row]);
+pub(super) unsafe fn exchange<T, R: Copy, const SIDE: usize>(
+    first: *mut T,
+    x: [usize; 8],
+    y: [usize; 8],
+    turned: fn([R; 8]) -> [R; 8],
+) {
+    debug_assert!(size_of::<R>() == SIDE * size_of::<T>());
+    for row in (0..8).step_by(SIDE) {
+        // SAFETY: in `x` these are the rows from `row` on, each of 8 / SIDE squares, and in `y` the same columns of all
+        // 8 rows. An item may be at any multiple of its alignment. Everything is read before anything is written, and
+        // each side is written as a whole: a row of the one and a row of the other in turn would take longer.
+        unsafe {
+            let of_x: [*mut R; 8] = from_fn(|k| first.add(x[row + k % SIDE]).cast::<R>().add(k / SIDE));
+            let of_y = y.map(|start| first.add(start + row).cast::<R>());
+            let to_y = turned(of_x.map(|part| part.read_unaligned()));
+            let to_x = turned(of_y.map(|part| part.read_unaligned()));
+            (0..8).for_each(|k| of_y[k].write_unaligned(to_y[k]));
+            (0..8).for_each(|k| of_x[k].write_unaligned(to_x[k]));
         }
     }
+}
+
+/// Writes an item of at most 64 bytes, a multiple of 4, in parts of 16, of 8 and of 4 bytes, from the lowest address on.
+/// The compiler would write the upper part first, or parts that overlap. That takes longer, most of all if an item lies
+/// in two cache lines.
+///
+/// # Safety
+///
+/// `to` is valid for writes of an item.
+#[inline(always)]
+pub(super) unsafe fn write_parts<T>(to: *mut T, item: T) {
+    let (item, size) = (MaybeUninit::new(item), size_of::<T>());
+    let (from, to) = (item.as_ptr().cast::<u8>(), to.cast::<u8>());
+    let registers = size / 16;
+    // SAFETY: these parts are the item: some registers, then half of one if 8 bytes or more are left, then 4 bytes if
+    // they are left.
+    unsafe {
+        for k in 0..registers {
+            copy::<Register>(from.add(16 * k), to.add(16 * k));
+            // Without the fence, the compiler would join two parts. With AVX, two registers are one.
+            if registers > 1 && (k % 2 == 1 || cfg!(not(target_feature = "avx"))) {
+                compiler_fence(Ordering::SeqCst);
+            }
+        }
+        if size % 16 >= 8 {
+            copy::<Half>(from.add(16 * registers), to.add(16 * registers));
+        }
+        if size % 8 == 4 {
+            copy::<MaybeUninit<u32>>(from.add(size - 4), to.add(size - 4));
+        }
+    }
+}
+
+/// Exchanges two items of a size that [`write_parts`] takes.
+#[inline(always)]
+pub(super) fn swap_parts<T>(x: &mut T, y: &mut T) {
+    // SAFETY: both items are read, and then each is written over the other.
+    unsafe {
+        let (of_x, of_y) = (ptr::read(x), ptr::read(y));
+        write_parts(y, of_x);
+        write_parts(x, of_y);
+    }
+}
+
+/// Copies a part of an item. Both addresses are valid for it, and it may have bytes that were never written.
+#[inline(always)]
+unsafe fn copy<P>(from: *const u8, to: *mut u8) {
+    // SAFETY: this is what the caller promises.
+    unsafe { to.cast::<P>().write_unaligned(from.cast::<P>().read_unaligned()) }
 }
