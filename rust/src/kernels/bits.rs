@@ -89,6 +89,8 @@ pub const fn log2_ceil_usize(n: usize) -> usize {
 /// ensures zero { n ≡ 0 → result ≡ 0 }
 /// ensures within { 0 < n → 2 ^ result ≤ n }
 /// ensures greatest { (e : ℕ) → 2 ^ e ≤ n → e ≤ result }
+/// ensures below { 0 < n → n < 2 ^ (result + 1) }
+/// ensures bound { result < 64 }
 /// ```
 #[inline]
 #[must_use]

@@ -42,49 +42,50 @@
 //! | `x.now` | what is behind the `&` x |
 //! | `x.old`, `x.new` | what is behind the `&mut` x before the call, and after it |
 //! | `x.entry` | x itself, as it was passed to the call |
-//! | `x.0`, `x.1`, `x.2`, `x.3`, `(x, y)` | the parts of a tuple, from the first on, and a pair |
-//! | `x.items`, `x.slice`, `x.values`, `x.holder`, `x.count`, `x.given` | the field of that name, which may be private |
+//! | `x.0`, `x.1`, `x.2`, `x.3`, `(x, y)` | the parts of a tuple, and a pair |
+//! | `x.items`, `x.slice`, `x.values`, `x.holder`, `x.count`, `x.given` | the field of that name, even a private one |
 //! | `S.items x` | the list of a holder or a source x of the type S; in a trait this is written `items x` |
 //! | `A ≡ B` | A and B are equal |
 //! | `A → B`, `A ↔ B` | B holds if A holds; B holds exactly if A holds |
 //! | `A × B`, `A ⊎ B`, `¬ A` | both hold; one of them holds; A does not hold |
-//! | `(x : T) → A`, `(x : T) × A` | A holds for every x of the type T; A holds for some x of the type T |
+//! | `(x : T) → A`, `(x : T) × A` | A holds for every x of the type T; for some x |
 //! | `λ x. A` | the function that takes x to A |
 //! | `let x = A`, `in B` | B, in which x stands for A |
-//! | `f {x = A}` | f with A as its argument x, an argument that is usually left out |
+//! | `if b then x else y` | x if b is `true`, and otherwise y; to be imported as `if◌then◌else◌` |
+//! | `f {x = A}` | f with A as its argument x, which is usually left out |
 //! | `ℕ`, `List T`, `K × V` | the whole numbers from 0 on; the lists of items of T; the pairs of a K and a V |
-//! | `+`, `-`, `*`, `/`, `%`, `^` | sum, difference, product, quotient rounded down, remainder and power of whole numbers without an upper limit; the difference is 0 if it would be negative |
+//! | `+`, `-`, `*`, `/`, `%`, `^` | of whole numbers without an upper limit: sum, difference (0 if it would be negative), product, quotient rounded down, remainder, power |
 //! | `<`, `≤`, `A == B` | A is less than B; at most B; the `bool` that says whether two numbers are equal |
 //! | `IsTrue b`, `IsFalse b` | b is `true`; b is `false` |
 //! | `Some`, `None`, `true`, `false` | as in Rust |
-//! | `[]`, `x ∷ xs` | the list of no items; the list of x and then the items of xs |
+//! | `[]`, `x ∷ xs` | the empty list; the list of x and then the items of xs |
 //! | `length xs` | how many items a list has |
-//! | `slice_get xs i` | `Some` of item i of a list, or `None` if there is none |
-//! | `slice_index xs i` | item i of a list of numbers, or 0 if there is none |
+//! | `slice_get xs i` | `Some` of item i of a list, or `None` |
+//! | `slice_index xs i` | item i of a list of numbers, or 0 |
 //! | `slice_set xs i v` | the list xs with v at place i |
 //! | `swap xs i j` | the list xs with the items at places i and j exchanged |
 //! | `string_bytes s` | the bytes of the text s |
 //! | `keys_of xs`, `values_of xs` | the first, or the second, of each pair of a list |
-//! | `IsOk r`, `IsSome r` | r is an `Ok`; r is a `Some` |
+//! | `IsOk r`, `IsSome r` | r is an `Ok`; a `Some` |
 //! | `IfOk r P`, `IfErr r P`, `IfSome r P` | P holds for the value in r, if r is an `Ok`; an `Err`; a `Some` |
 //! | `OnOk r A`, `OnErr r A` | A holds, if r is an `Ok`; if it is an `Err` |
 //! | `MatchResult r P Q` | P holds for the value in `Ok`, or Q for the error in `Err` |
-//! | `SomeIff r A v` | r is `Some` of v if A holds, and `None` if A does not hold |
+//! | `SomeIff r A v` | r is `Some` of v if A holds, and otherwise `None` |
 //! | `UnwrapsOrElse r P v` | v is the value in r, or, if r is `None`, a value for which P holds |
 //! | `option_copied r`, `option_copied_mut r`, `deref x` | `Some` of what is behind the reference in r, or `None`; what is behind the reference x |
 //! | `K.eq` | the `==` of the type K |
 //! | `F.pre f x`, `F.post f x y` | `f(x)` may be called; `f(x)` may return y |
 //! | `H.IsAlwaysCallable h`, `H.FnMut` | h may be called with every argument, again and again; what calls of a closure of type H do |
-//! | `I.IntoIter`, `I.into_iter_gives x i` | the type of the iterators that the `into_iter` of I returns; `into_iter` of x may return i |
-//! | `I.can_next i`, `I.next_gives i r j` | `next` may be called on the iterator i; `next` on i may return r, and then leaves the iterator as j |
-//! | `I.remaining i`, `at_most n`, `size c` | a bound on how many items the iterator i has left, or none; the bound n; the number that the bound c states |
-//! | `UpTo c n`, `IsWithinCount n c` | c is a bound, and its number is at most n; if c is a bound, n is at most its number |
-//! | `IsFiniteIterable .. x` | `next` may be called on each iterator that `into_iter` may make of x, and there is a bound on the items of this iterator |
-//! | `YieldsThen .. i xs r j`, `Drains .. i xs` | calls of `next` on i returned the items xs, then a call returned r, and left the iterator as j; the same with `None` as r |
-//! | `WholeRun .. i P` | P holds for a run of calls of `next` on i that ends with a `None`. The items that a run p returned are `p.items` |
-//! | `ShowsInOrder f` | calls of `next` return, in order, the items that were left. f says how to get from a returned value to the item, such as `deref` for a reference |
-//! | `ensures*`, `sem 𝓛 A` | a clause on what lies in memory: A holds for the borrow that the call returns, and for what this borrow leaves when it ends |
+//! | `ensures*`, `sem 𝓛 A` | a clause on memory: A holds for the borrow that the call returns, and for what this borrow leaves when it ends |
 //! | `K.row` | how memory holds a K |
+//! | `I.IntoIter`, `I.into_iter_gives x i` | the type of the iterators that the `into_iter` of I returns; `into_iter` of x may return i |
+//! | `I.can_next i`, `I.next_gives i r j` | `next` may be called on the iterator i; it may return r and leave the iterator as j |
+//! | `I.remaining i`, `at_most n`, `size c` | a bound on how many items i has left, or none; the bound n; the number that the bound c states |
+//! | `UpTo c n`, `IsWithinCount n c` | c is a bound, and its number is at most n; if c is a bound, n is at most its number |
+//! | `IsFiniteIterable .. x` | `next` may be called on each iterator that `into_iter` may make of x, whose items have a bound |
+//! | `YieldsThen .. i xs r j`, `Drains .. i xs` | calls of `next` on i returned the items xs, then r, and left the iterator as j; the same with `None` as r |
+//! | `WholeRun .. i P` | P holds for a run of calls of `next` on i that ends with a `None`. A run p returned `p.items` |
+//! | `ShowsInOrder f` | calls of `next` return, in order, the items that were left. f takes a returned value to the item, as `deref` does |
 //!
 //! # Names for this package's kernels
 //!
