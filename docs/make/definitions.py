@@ -18,7 +18,7 @@ PAGE = "docs/MODEL.md"
 # For each crate that has a table, its files in specs/ in the order of reading. Files that are not named come last.
 ORDER = {
     "p3_util_kernels": ["Digits", "Powers", "Levels", "Names", "Reversal", "Exchanged", "Transpose", "Region", "Stages", "Square",
-                        "SwapCounts", "Steps", "Least", "Parts", "Blocks", "Plans", "AnyOrder", "PartSteps", "Crossing"],
+                        "SwapCounts", "Steps", "Least", "Parts", "Blocks", "Plans", "PartSteps", "Interleaved", "Crossing"],
     "p3_util": ["Flat", "ItemsAt", "ViewLends", "Pieces", "PaddedPieces", "ZipEq", "LinearMap", "MapIter", "MapLends", "JsonArray",
                 "JsonElements", "Diagonal"],
     "p3_util_run": ["Words", "Program", "Arrays", "Texts", "Watch"],
@@ -26,7 +26,7 @@ ORDER = {
 }
 # The sources whose public clauses docs/CONTRACTS.md does not list, and those of the laws on parts.
 OTHERS = ["p3_util_run/src/program.rt", "p3_util_run/src/fault.rt", "p3_util_c/src/*.rt"]
-LAWS = ["p3_util_kernels/src/parts/laws.rt", "p3_util_kernels/src/parts/laws/*.rt"]
+LAWS = ["p3_util_kernels/src/parts/laws.rt"]
 # The files whose definitions no call has in a clause, but that callers need.
 FOR_CALLERS = {"ItemsAt"}
 # The definition that each holder gives for itself, and the file in which the comments on its traits explain it.

@@ -1,32 +1,27 @@
 -- The places of a block that are exchanged with their mirror images, and the exchanges at these
 -- places.
-use Rattle.std.proofs.Common.{◌≡◌, ℕ, Bool, true, nat_lt, ltb-true, ◌+◌, ◌-◌, ◌*◌, ◌/◌, ◌%◌, ◌^◌, ◌<◌, ◌≤◌, IsTrue, List, length, max, min, inl, inr, refl, arith}
+use Rattle.std.proofs.Common.{◌≡◌, ℕ, Bool, true, nat_lt, ltb-true, ◌+◌, ◌*◌, ◌/◌, ◌%◌, ◌^◌, ◌<◌, ◌≢◌, IsTrue, List, length, slice_get, max, min, inl, inr, refl, arith}
 use Rattle.std.proofs.lemmas.Bool.{cases_eq, eq-eqb, ne_eqb}
-use Rattle.std.proofs.lemmas.Nat.{mul-add-lt, pow-add}
 use Rattle.p3_util_kernels.specs.declared.transpose.regions.Region.{Region}
-use Rattle.p3_util_kernels.specs.Blocks.{IsBlock, swaps_of_block}
-use Rattle.p3_util_kernels.specs.Crossing.{IsCrossed, row_of}
-use Rattle.p3_util_kernels.specs.Digits.{rev}
-use Rattle.p3_util_kernels.specs.Least.{AllDiffer, count_below}
+use Rattle.p3_util_kernels.specs.Blocks.{IsBlock, IsBlockExchanged, swaps_of_block}
+use Rattle.p3_util_kernels.specs.Least.{AllDiffer, AreOnceAmong, after_swaps, count_below, places_swapped}
 use Rattle.p3_util_kernels.specs.Mirrored.{Mirrored}
-use Rattle.p3_util_kernels.specs.PartSteps.{IsInBlock, IsPlaceOfPairs, SwapsStay}
+use Rattle.p3_util_kernels.specs.PartSteps.{IsInBlock}
 use Rattle.p3_util_kernels.specs.Region.{IsInRegion, cols_of, items_of, rows_of}
 use Rattle.p3_util_kernels.specs.SwapCounts.{square_swaps}
 use Rattle.p3_util_kernels.proofs.BlocksLemmas.{block-above, block-cols, block-diagonal, block-rows}
 use Rattle.p3_util_kernels.proofs.Counts.{count-all, count-first, count-times}
-use Rattle.p3_util_kernels.proofs.DigitsLemmas.{rev-lt}
 use Rattle.p3_util_kernels.proofs.Matrix.{row_and_column, same_number}
-use Rattle.p3_util_kernels.proofs.MirrorSteps.{mirrored-stays}
-use Rattle.p3_util_kernels.proofs.OrderedParts.{InPairs, pairs-exchanged, pairs-item, pairs-same, pairs-turned}
+use Rattle.p3_util_kernels.proofs.MirrorSteps.{SwapsStay, mirrored-stays}
+use Rattle.p3_util_kernels.proofs.PartPlaces.{InPairs, pairs-exchanged, pairs-inside, pairs-same, pairs-turned, place}
 use Rattle.p3_util_kernels.proofs.Pairs.{square_swaps-next}
-use Rattle.p3_util_kernels.proofs.SideBySideLemmas.{in_row}
 
 -- each row and column of the block has `width` items
-module _ (side stride step number base : ℕ) (region : Region) (some : 0 < step) (block : IsBlock side stride step number base region)
+module _ (digits step number middle : ℕ) (region : Region) (some : 0 < step) (block : IsBlock digits step number middle region)
     {A M : Type 0} (place : M → ℕ → ℕ → ℕ) (S : M → ℕ → ℕ → Type 0) (Same : M → M → Type 0)
     (turned : (m : M) (a b : ℕ) → S m a b → S m b a)
     (parts : (k l : M) (a b v w : ℕ) → S k a b → S l v w → place k a b ≡ place l v w → Same k l × (a ≡ v) × (b ≡ w))
-    (width : ℕ) (item : ℕ → M) (into : (t a b : ℕ) → t < width → IsInBlock side stride step number block.square a b → S (item t) a b)
+    (width : ℕ) (item : ℕ → M) (into : (t a b : ℕ) → t < width → IsInBlock digits step number middle a b → S (item t) a b)
     (differ_items : (t u : ℕ) → t < width → u < width → Same (item t) (item u) → t ≡ u)
     (old new : List A) (among : ℕ → Type 0) (at : (k : M) (v w : ℕ) → S k v w → (place k v w < length old) × among (place k v w))
     (differ : AllDiffer old) (mirrored : Mirrored place S old new) where
@@ -44,7 +39,7 @@ module _ (side stride step number base : ℕ) (region : Region) (some : 0 < step
       let (above, inside) = known (i / width) of_pair ti in
       let greater : max (row (i / width)) (col (i / width)) ≡ col (i / width) = omega arith in
       let smaller : min (row (i / width)) (col (i / width)) ≡ row (i / width) = omega arith in
-      (into (i % width) (row (i / width)) (col (i / width)) of_item (base, region, block, block.base_is, rw (greater, smaller) inside), above))
+      (into (i % width) (row (i / width)) (col (i / width)) of_item (region, block, rw (greater, smaller) inside), above))
       (λ i j hi hj ti tj same same_row same_col.
       let (pair_i, item_i) = row_and_column i n width hi in
       let (pair_j, item_j) = row_and_column j n width hj in
@@ -53,11 +48,11 @@ module _ (side stride step number base : ℕ) (region : Region) (some : 0 < step
 
   pub part-stays : SwapsStay among (width * swaps_of_block region) old new
   part-stays =
-      let rows = block-rows side stride step number base region some block in
-      let cols = block-cols side stride step number base region some block in
+      let rows = block-rows digits step number middle region some block in
+      let cols = block-cols digits step number middle region some block in
       elim (cases_eq region.row_start region.col_start) [
         | inl same ↦
-            let end = block-diagonal side stride step number base region some block same in
+            let end = block-diagonal digits step number middle region some block same in
             let size : ℕ = rows_of region in
             let count = count-first size size (λ n. n) square_swaps (λ n less. (omega arith, square_swaps-next n)) in
             let pairs : count_below (size * size) (λ i. nat_lt (i % size) (i / size)) ≡ square_swaps size = omega (arith, count) in
@@ -70,7 +65,7 @@ module _ (side stride step number base : ℕ) (region : Region) (some : 0 < step
             (omega arith, record { row_from = omega arith; row_to = omega arith; col_from = omega arith; col_to = omega arith }))
             (λ i j hi hj ti tj same_row same_col. same_number i j size (omega arith) (omega arith)))
         | inr other ↦
-            let above = block-above side stride step number base region some block other in
+            let above = block-above digits step number middle region some block other in
             let swaps : swaps_of_block region ≡ items_of region = rw (ne_eqb region.row_start region.col_start other) refl in
             rw (swaps, ← count-all (items_of region))
             (named-stay (items_of region) (λ i. true) (λ i. region.row_start + i / cols_of region) (λ i. region.col_start + i % cols_of region)
@@ -80,29 +75,14 @@ module _ (side stride step number base : ℕ) (region : Region) (some : 0 < step
             (λ i j hi hj ti tj same_row same_col. same_number i j (cols_of region) (omega arith) (omega arith)))
       ]
 
--- the list has all places of a block of pairs of rows
-pub pairs-inside : (digits width step len number : ℕ) (within : digits / 2 ≤ digits - digits / 2) (some : 0 < step) (m : ℕ × ℕ) (x y : ℕ) → len ≡ width * 2 ^ digits
-    → InPairs (digits / 2) (digits - digits / 2) width step within some number m x y → row_of (digits / 2) (digits - digits / 2) m.0 x y * width + m.1 < len
-pairs-inside digits width step len number within some m x y fits h =
-    let half : ℕ = digits / 2 in
-    let c : ℕ = digits - half in
-    let whole : half + c ≡ digits = omega arith in
-    let own = pairs-item half c width step within some number m x y h in
-    let row = mul-add-lt (rev half x) (2 ^ c) (m.0 * 2 ^ half + y) (2 ^ half) (rev-lt half x) (in_row c half within m.0 y own.middle own.low) in
-    let below : row_of half c m.0 x y < 2 ^ (half + c) = rw (pow-add 2 half c) (omega (arith, row)) in
-    rw fits (mul-add-lt (row_of half c m.0 x y) width m.1 (2 ^ digits) (rw whole at below) h.0)
-
 -- a block of pairs of rows
-pub pairs-steps : {A : Type 0} (digits width step number base : ℕ) (region : Region) (old new : List A) → 0 < step
-    → IsBlock (2 ^ (digits / 2)) (2 ^ (digits - digits / 2)) step number base region → length old ≡ width * 2 ^ digits → AllDiffer old
-    → IsCrossed (digits / 2) (digits - digits / 2) width (record region { col_start = base + region.col_start; col_end = base + region.col_end }) old new
-    → SwapsStay (IsPlaceOfPairs digits width step number) (width * swaps_of_block region) old new
-pairs-steps digits width step number base region old new some block fits differ crossed =
-    let half : ℕ = digits / 2 in
-    let c : ℕ = digits - half in
-    let within : half ≤ c = omega arith in
-    part-stays (2 ^ half) (2 ^ c) step number base region some block (λ m x y. row_of half c m.0 x y * width + m.1) (InPairs half c width step within some number)
-    (λ m n. (m.0 ≡ n.0) × (m.1 ≡ n.1)) (pairs-turned half c width step within some number) (pairs-same half c width step within some number number)
-    width (λ t. (block.square, t)) (λ t x y less h. (less, h)) (λ t u ht hu same. same.1) old new (IsPlaceOfPairs digits width step number)
-    (λ m x y h. (pairs-inside digits width step (length old) number within some m x y fits h, (m.0, m.1, x, y, h.0, h.1, refl)))
-    differ (pairs-exchanged half c width step within some number base region old new block crossed)
+pub pairs-steps : {A : Type 0} (digits width step number : ℕ) (some : 0 < step) (old new : List A) (steps : List (ℕ × ℕ)) → length old ≡ width * 2 ^ digits → AllDiffer old
+    → after_swaps old steps ≡ new → IsBlockExchanged digits width step number old new (λ n. length steps ≡ n)
+    → AreOnceAmong (λ p. ((m t x y : ℕ) × (t < width) × IsInBlock digits step number m x y × (p ≡ place digits width step some (m, t) x y)) × (slice_get old p ≢ slice_get new p)) (places_swapped steps)
+pairs-steps digits width step number some old new steps fits differ leads (middle, region, block, crossed, many) =
+    part-stays digits step number middle region some block (place digits width step some) (InPairs digits width step some number)
+    (λ m n. (m.0 ≡ n.0) × (m.1 ≡ n.1)) (pairs-turned digits width step some number) (pairs-same digits width step some number number)
+    width (λ t. (middle, t)) (λ t x y less h. (less, h)) (λ t u ht hu same. same.1) old new
+    (λ p. (m t x y : ℕ) × (t < width) × IsInBlock digits step number m x y × (p ≡ place digits width step some (m, t) x y))
+    (λ m x y h. (pairs-inside digits width step some (length old) number m x y fits h, (m.0, m.1, x, y, h.0, h.1, refl)))
+    differ (pairs-exchanged digits width step some number middle region old new block crossed) steps many leads

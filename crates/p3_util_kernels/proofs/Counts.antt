@@ -1,6 +1,6 @@
 -- How many numbers below a bound pass a test.
 use Rattle.std.proofs.Common.{◌≡◌, ℕ, zero, suc, Bool, true, false, cond, nat_lt, not, min, ◌==◌, ◌&&◌, ◌+◌, ◌-◌, ◌*◌, ◌/◌, ◌%◌, ◌<◌, ◌≤◌, IsTrue, refl, ◌∙◌, ap, arith, inl, inr}
-use Rattle.std.proofs.lemmas.Bool.{both_ways, cases_Bool, false_from_ne_true}
+use Rattle.std.proofs.lemmas.Bool.{both_ways, cases_Bool, cases_eq, false_from_ne_true}
 use Rattle.std.proofs.lemmas.Bool.Decides.{nat_tests}
 use Rattle.std.proofs.lemmas.Nat.{div-mul-add, mod-mul-add}
 use Rattle.p3_util_kernels.specs.Digits.{sum_below}
@@ -60,6 +60,15 @@ count-some (suc n) t some =
     elim (cases_Bool (t n)) [
       | inl here ↦ (n, omega arith, here)
       | inr none ↦ let (i, less, passes) = count-some n t (omega (arith, count-suc n t, ap one none)) in (i, omega arith, passes)
+    ]
+
+-- if some number passes, the count is not 0
+pub count-some_passes : (n : ℕ) (t : ℕ → Bool) (i : ℕ) → i < n → IsTrue (t i) → 0 < count_below n t
+count-some_passes zero t i less passes = absurd (omega (arith, less))
+count-some_passes (suc n) t i less passes =
+    elim (cases_eq i n) [
+      | inl last ↦ omega (arith, count-suc n t, ap one (rw last at passes))
+      | inr other ↦ omega (arith, count-suc n t, count-some_passes n t i (omega (arith, less, other)) passes)
     ]
 
 -- if no two different numbers pass, the count is at most 1

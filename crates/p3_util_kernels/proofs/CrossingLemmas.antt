@@ -60,22 +60,21 @@ module _ (half c : ℕ) (within : half ≤ c) where
       IsCrossed-cut = Mirrored-cut _ _ (λ m n. m.0 * 2 ^ half + n) turned same_pair
 
       -- if all pairs are exchanged, each row is the one whose index was its reverse
-      pub IsRowReversal-crossed : (old new : List A) (pairs : Region) → c ≤ half + 1 → length old ≡ row_width * 2 ^ (half + c)
-          → ((x y : ℕ) → x < 2 ^ c → y < 2 ^ half → IsInRegion pairs x y)
-          → IsCrossed half c row_width pairs old new → IsRowReversal row_width old new
-      IsRowReversal-crossed old new pairs few fits all every = record {
-        same_length = every.same_length;
+      pub IsRowReversal-crossed : (old new : List A) → c ≤ half + 1 → length old ≡ row_width * 2 ^ (half + c) → length new ≡ length old
+          → ((m : ℕ × ℕ) (x y : ℕ) → IsRowItem half c row_width m.0 m.1 x y
+          → slice_get new (row_of half c m.0 x y * row_width + m.1) ≡ slice_get old (row_of half c m.0 y x * row_width + m.1))
+          → IsRowReversal row_width old new
+      IsRowReversal-crossed old new few fits same_length crossed = record {
+        same_length = same_length;
         places = λ k r j e h hj.
             let same : k ≡ half + c = rows-same row_width k (half + c) (omega arith) (sym e ∙ fits) in
             let at = each_part c half within (λ r. slice_get new (r * row_width + j) ≡ slice_get old (rev (half + c) r * row_width + j))
             (λ a middle y ha hm hy.
             let x = rev half a in
-            let hx : x < 2 ^ half = rev-lt half a in
             let back : rev half x ≡ a = rev-rev-below half a ha in
             let parts : c - half + half ≡ c = omega arith in
             let turned = rw parts at (rev-around half (c - half) a middle y (omega arith) hm hy) in
-            let line : middle * 2 ^ half + max x y < 2 ^ c = in_row c half within middle (max x y) hm (omega arith) in
-            rw back at (every.crossed (middle, j) x y (record { middle = hm; item = hj; high = hx; low = hy }, all _ _ line (omega arith)))
+            rw back at (crossed (middle, j) x y (record { middle = hm; item = hj; high = rev-lt half a; low = hy }))
             ∙ ap (λ n. slice_get old (n * row_width + j)) (sym turned)) in
             at r (rw same at h) ∙ ap (λ n. slice_get old (rev n r * row_width + j)) (sym same);
       }

@@ -1,6 +1,6 @@
 -- A length that is cut into parts: where each part begins, the regions of a matrix that the cut
 -- makes, and the numbers of pairs of parts.
-use Rattle.std.proofs.Common.{◌≡◌, ℕ, suc, ◌+◌, ◌-◌, ◌*◌, ◌/◌, ◌%◌, ◌^◌, ◌<◌, ◌≤◌, ◌⊎◌, Bool, true, false, if◌then◌else◌, min, max, nat_le, refl, ap, ◌∙◌, inl, inr, arith}
+use Rattle.std.proofs.Common.{◌≡◌, ℕ, suc, ◌+◌, ◌-◌, ◌*◌, ◌/◌, ◌%◌, ◌^◌, ◌<◌, ◌≤◌, Bool, true, false, if◌then◌else◌, min, max, nat_le, refl, ap, ◌∙◌, inl, inr, arith}
 use Rattle.std.specs.Int.{div_ceil}
 use Rattle.std.proofs.lemmas.Bool.{cases_lt, false_from_ne_true, le-leb, leb-true}
 use Rattle.std.proofs.lemmas.Grind.{div_ceil_times}
@@ -84,12 +84,25 @@ module _ (len unit units step : ℕ) (some : 0 < unit) (most : 0 < units) (fits 
 pub start-rising : (len step k l : ℕ) → k < l → start_of len step (k + 1) ≤ start_of len step l
 start-rising len step k l less = let rows : suc k * step ≤ l * step = mul-le-mul_right step less in omega (arith, rows)
 
--- a later part begins no earlier, and the last one ends at the length
-pub start-next : (len step k : ℕ) → start_of len step k ≤ start_of len step (k + 1)
-start-next len step k = omega arith
+-- a number is in only one part
+pub part-same : (len step k l v : ℕ) → start_of len step k ≤ v → v < start_of len step (k + 1) → start_of len step l ≤ v → v < start_of len step (l + 1) → k ≡ l
+part-same len step k l v k_from k_to l_from l_to =
+    elim (cases_lt k l) [
+      | inl before ↦ absurd (omega (arith, start-rising len step k l before, k_to, l_from))
+      | inr from ↦ elim (cases_lt l k) [
+        | inl after ↦ absurd (omega (arith, start-rising len step l k after, l_to, k_from))
+        | inr to ↦ omega (arith, from, to)
+      ]
+    ]
 
-pub start-end : (len step : ℕ) → 0 < step → start_of len step (parts_in len step) ≡ len
-start-end len step some = omega (arith, (div_ceil_times len step some).0)
+-- each number below the length is in a part
+pub number-covered : (len step v : ℕ) → 0 < step → v < len
+    → (v / step < parts_in len step) × (start_of len step (v / step) ≤ v) × (v < start_of len step (v / step + 1))
+number-covered len step v some below =
+    let whole : v / step * step + v % step ≡ v = div-add-mod' v step in
+    let low : v % step < step = mod_below v step some in
+    let inside : v / step * step < parts_in len step * step = omega (arith, (div_ceil_times len step some).0, whole) in
+    (lt_of_mul-lt-mul_right step inside, omega arith, omega arith)
 
 -- a part of a matrix lies in it
 pub part-inside : (width height : ℕ) (by_rows : Bool) (len step k : ℕ) → len ≡ (if by_rows then height else width)
@@ -99,27 +112,24 @@ part-inside width height true len step k side =
 part-inside width height false len step k side =
     record { rows_in_order = omega arith; rows_inside = omega arith; cols_in_order = omega arith; cols_inside = omega arith }
 
--- two parts of a matrix have no row or no column in common
-pub parts-apart : (width height : ℕ) (by_rows : Bool) (len step k l : ℕ) → k < l
-    → let first = part_of_matrix width height by_rows len step k in
-    let second = part_of_matrix width height by_rows len step l in (first.row_end ≤ second.row_start) ⊎ (first.col_end ≤ second.col_start)
-parts-apart width height true len step k l less = inl (start-rising len step k l less)
-parts-apart width height false len step k l less = inr (start-rising len step k l less)
+-- the number of a pair, counted from the last pair
+abbrev rank : (n i j : ℕ) → ℕ
+rank n i j = if nat_le (2 * (j - i)) n then (j - i) * n + i else (n - (j - i)) * n + j
 
 -- which of the two ways around the circle of parts is the shorter one
-pair-near : (n i j : ℕ) → 2 * (j - i) ≤ n → number_of_pair n i j ≡ (j - i) * n + i
+pair-near : (n i j : ℕ) → 2 * (j - i) ≤ n → rank n i j ≡ (j - i) * n + i
 pair-near n i j near = rw (le-leb (2 * (j - i)) n near) refl
 
-pair-far : (n i j : ℕ) → n < 2 * (j - i) → number_of_pair n i j ≡ (n - (j - i)) * n + j
+pair-far : (n i j : ℕ) → n < 2 * (j - i) → rank n i j ≡ (n - (j - i)) * n + j
 pair-far n i j far =
     let not_near : nat_le (2 * (j - i)) n ≡ false = false_from_ne_true (nat_le (2 * (j - i)) n) (λ near. omega (arith, far, leb-true (2 * (j - i)) n near)) in
     rw not_near refl
 
--- The number of a pair is below the number of pairs. It is made of the length of the shorter way
--- and of the part where that way begins.
+-- The rank of a pair is below the number of pairs. It is made of the length of the shorter way and of
+-- the part where that way begins.
 module _ (n i j : ℕ) (in_order : i ≤ j) (below : j < n) where
-  pub pair-below : number_of_pair n i j < pairs_of n
-  pair-below =
+  rank-below : rank n i j < pairs_of n
+  rank-below =
       let way : ℕ = j - i in
       elim (cases_lt n (2 * way)) [
         | inl far ↦
@@ -131,9 +141,11 @@ module _ (n i j : ℕ) (in_order : i ≤ j) (below : j < n) where
         ])
       ]
 
--- no two pairs have the same number
-pub pair-alone : (n i j k l : ℕ) → i ≤ j → j < n → k ≤ l → l < n → number_of_pair n i j ≡ number_of_pair n k l → (i ≡ k) × (j ≡ l)
-pair-alone n i j k l ij jn kl ln same =
+  pub pair-below : number_of_pair n i j < pairs_of n
+  pair-below = omega (arith, rank-below)
+
+rank-alone : (n i j k l : ℕ) → i ≤ j → j < n → k ≤ l → l < n → rank n i j ≡ rank n k l → (i ≡ k) × (j ≡ l)
+rank-alone n i j k l ij jn kl ln same =
     elim (cases_lt n (2 * (j - i))) [
       | inl far ↦ elim (cases_lt n (2 * (l - k))) [
         | inl far' ↦
@@ -153,10 +165,15 @@ pair-alone n i j k l ij jn kl ln same =
       ]
     ]
 
--- a pair that is computed from a number has that number
-pub pair-number : (n number first last : ℕ) → number < pairs_of n → first ≡ min (number % n) ((number % n + number / n) % n)
-    → last ≡ max (number % n) ((number % n + number / n) % n) → number_of_pair n first last ≡ number
-pair-number n number first last below first_is last_is =
+-- no two pairs have the same number
+pub pair-alone : (n i j k l : ℕ) → i ≤ j → j < n → k ≤ l → l < n → number_of_pair n i j ≡ number_of_pair n k l → (i ≡ k) × (j ≡ l)
+pair-alone n i j k l ij jn kl ln same =
+    rank-alone n i j k l ij jn kl ln (omega (arith, same, rank-below n i j ij jn, rank-below n k l kl ln))
+
+-- a pair that is computed from a rank has that rank
+rank-of : (n number first last : ℕ) → number < pairs_of n → first ≡ min (number % n) ((number % n + number / n) % n)
+    → last ≡ max (number % n) ((number % n + number / n) % n) → rank n first last ≡ number
+rank-of n number first last below first_is last_is =
     let some : 0 < n = pos_of_ne-zero (λ none. omega (arith, below, ap pairs_of none)) in
     let distance : ℕ = number / n in
     let start : ℕ = number % n in
@@ -179,3 +196,9 @@ pair-number n number first last below first_is last_is =
           let half : 2 * distance ≡ n → ⊥ = λ e. omega (arith, below, whole, around, ap (λ m. m * n) e, e) in
           rw (i, j) (pair-far n (start + distance - n) start (omega (arith, half)) ∙ rw way whole)
     ]
+
+-- a pair that is computed from a number has that number
+pub pair-number : (n number back first last : ℕ) → number < pairs_of n → back ≡ pairs_of n - 1 - number → first ≡ min (back % n) ((back % n + back / n) % n)
+    → last ≡ max (back % n) ((back % n + back / n) % n) → number_of_pair n first last ≡ number
+pair-number n number back first last below back_is first_is last_is =
+    omega (arith, below, back_is, rank-of n back first last (omega arith) first_is last_is)

@@ -1,26 +1,31 @@
 -- Steps of several lists that are interleaved, where no two lists have a place in common.
-use Rattle.std.proofs.Common.{◌≡◌, ◌≢◌, ℕ, zero, suc, ◌⊎◌, ◌<◌, List, [], ◌∷◌, ◌++◌, Some, get_or, length, slice_get, slice_set, inl, inr, refl, sym, ◌∙◌, ap, arith}
-use Rattle.std.specs.Prelude.{All, Contains, swap}
+use Rattle.std.proofs.Common.{◌≡◌, ◌≢◌, ℕ, ◌⊎◌, ◌<◌, List, [], ◌∷◌, Some, get_or, length, slice_get, slice_set, inl, inr, refl, sym, ◌∙◌, ap, arith}
+use Rattle.std.specs.Prelude.{swap}
 use Rattle.std.proofs.lemmas.Bool.{cases_eq, cases_lt}
 use Rattle.std.proofs.lemmas.List.{get_or-set_other, get_or-set_same, get_or_past, length-set}
 use Rattle.std.proofs.lemmas.List.Edits.{length-swap}
-use Rattle.std.proofs.lemmas.List.Elements.{All-cons, All-contains, All-contains_itself, All-head, All-nil, All-tail, All-weaker}
-use Rattle.std.proofs.lemmas.Option.{get_or_from_slice_get, same_Some, slice_get-get_or, slice_get_within}
-use Rattle.p3_util_kernels.specs.Interleaved.{AreApartBelow, IsInterleaved, SameInTurn, in_turn}
-use Rattle.p3_util_kernels.specs.Least.{AllDiffer, after_puts, after_swaps, places_put, places_swapped}
+use Rattle.std.proofs.lemmas.Option.{get_or_from_slice_get, same_Some, slice_get_within}
+use Rattle.p3_util_kernels.specs.Interleaved.{IsInterleaved}
+use Rattle.p3_util_kernels.specs.Least.{AreOnceAmong, after_puts, after_swaps, places_put, places_swapped}
 use Rattle.p3_util_kernels.specs.PartSteps.{NoPlaceInCommon}
 use Rattle.p3_util_kernels.proofs.Exchange.{slice_get-set_other, slice_get-set_same, slice_get-swap_first, slice_get-swap_other, slice_get-swap_second}
-use Rattle.p3_util_kernels.proofs.SameList.{same_places}
+use Rattle.p3_util_kernels.proofs.WrittenPlaces.{AreOnceAmong-cons, AreOnceAmong-nil, AreOnceAmong-split, AreOnceAmong-weaker}
 
 -- What writes and exchanges have in common: a step has some places, changes no other place, and
--- what it leaves at its places depends only on what was at them.
+-- what it leaves at its places depends only on what was at them. `once` says that it names no place
+-- twice.
 pub record AreSteps {A S : Type 0} (after : List A → List S → List A) (places : List S → List ℕ) : Type 1 where
   pub one : List A → S → List A
   pub at : S → ℕ → Type 0
+  pub once : S → Type 0
   pub hit : (s : S) (p : ℕ) → at s p ⊎ (at s p → ⊥)
   pub none : (xs : List A) → after xs [] ≡ xs
   pub more : (xs : List A) (s : S) (steps : List S) → after xs (s ∷ steps) ≡ after (one xs s) steps
-  pub split : (P : ℕ → Type 0) (s : S) (steps : List S) → All P (places (s ∷ steps)) → ((p : ℕ) → at s p → P p) × All P (places steps)
+  pub no_places : (P : ℕ → Type 0) → AreOnceAmong P (places [])
+  pub split : (P : ℕ → Type 0) (s : S) (steps : List S) → AreOnceAmong P (places (s ∷ steps))
+      → once s × ((p : ℕ) → at s p → P p) × AreOnceAmong (λ q. P q × ((p : ℕ) → at s p → p ≢ q)) (places steps)
+  pub join : (P : ℕ → Type 0) (s : S) (steps : List S) → once s → ((p : ℕ) → at s p → P p)
+      → AreOnceAmong (λ q. P q × ((p : ℕ) → at s p → p ≢ q)) (places steps) → AreOnceAmong P (places (s ∷ steps))
   pub same_length : (xs : List A) (s : S) → length (one xs s) ≡ length xs
   pub others : (xs : List A) (s : S) (p : ℕ) → (at s p → ⊥) → slice_get (one xs s) p ≡ slice_get xs p
   pub own : (xs ys : List A) (s : S) → length ys ≡ length xs → ((p : ℕ) → at s p → (p < length xs) × (slice_get xs p ≡ slice_get ys p))
@@ -31,10 +36,16 @@ unfolding after_puts places_put
 puts-are = record {
   one = λ xs put. slice_set xs put.0 put.1;
   at = λ put p. p ≡ put.0;
+  once = λ put. Unit {0};
   hit = λ put p. cases_eq p put.0;
   none = λ xs. refl;
   more = λ xs put steps. refl;
-  split = λ P put steps h. (λ p e. rw e (All-head P put.0 (places_put steps) h), All-tail P put.0 (places_put steps) h);
+  no_places = AreOnceAmong-nil;
+  split = λ P put steps h.
+      let (here, rest) = AreOnceAmong-split P put.0 (places_put steps) h in
+      (tt, λ p e. rw e here, AreOnceAmong-weaker _ _ (places_put steps) (λ q (is, away). (is, λ p e same. away (sym e ∙ same))) rest);
+  join = λ P put steps once here rest.
+      AreOnceAmong-cons P put.0 (places_put steps) (here put.0 refl) (AreOnceAmong-weaker _ _ (places_put steps) (λ q (is, away). (is, away put.0 refl)) rest);
   same_length = λ xs put. length-set xs put.0 put.1;
   others = λ xs put p away. slice_get-set_other xs put.0 p put.1 away;
   own = λ xs ys put len same p e.
@@ -47,6 +58,7 @@ unfolding after_swaps places_swapped
 swaps-are = record {
   one = λ xs pair. swap xs pair.0 pair.1;
   at = λ pair p. (p ≡ pair.0) ⊎ (p ≡ pair.1);
+  once = λ pair. pair.0 ≢ pair.1;
   hit = λ pair p.
       elim (cases_eq p pair.0) [
         | inl first ↦ inl (inl first)
@@ -54,11 +66,19 @@ swaps-are = record {
       ];
   none = λ xs. refl;
   more = λ xs pair steps. refl;
+  no_places = AreOnceAmong-nil;
   split = λ P pair steps h.
-      let rest = All-tail P pair.0 (pair.1 ∷ places_swapped steps) h in (
-        λ p. elim [ inl e ↦ rw e (All-head P pair.0 (pair.1 ∷ places_swapped steps) h) | inr e ↦ rw e (All-head P pair.1 (places_swapped steps) rest) ],
-        All-tail P pair.1 (places_swapped steps) rest,
+      let (first, then) = AreOnceAmong-split P pair.0 (pair.1 ∷ places_swapped steps) h in
+      let ((second, differ), rest) = AreOnceAmong-split (λ q. P q × (pair.0 ≢ q)) pair.1 (places_swapped steps) then in (
+        differ,
+        λ p. elim [ inl e ↦ rw e first | inr e ↦ rw e second ],
+        AreOnceAmong-weaker _ _ (places_swapped steps)
+            (λ q ((is, away), away'). (is, λ p. elim [ inl e ↦ λ same. away (sym e ∙ same) | inr e ↦ λ same. away' (sym e ∙ same) ])) rest,
       );
+  join = λ P pair steps differ here rest.
+      AreOnceAmong-cons P pair.0 (pair.1 ∷ places_swapped steps) (here pair.0 (inl refl))
+      (AreOnceAmong-cons (λ q. P q × (pair.0 ≢ q)) pair.1 (places_swapped steps) (here pair.1 (inr refl), differ)
+      (AreOnceAmong-weaker _ _ (places_swapped steps) (λ q (is, away). ((is, away pair.0 (inl refl)), away pair.1 (inr refl))) rest));
   same_length = λ xs pair. length-swap xs pair.0 pair.1;
   others = λ xs pair p away. slice_get-swap_other xs pair.0 pair.1 p (λ e. away (inl e)) (λ e. away (inr e));
   own = λ xs ys pair len same.
@@ -73,87 +93,70 @@ swaps-are = record {
       ];
 }
 
--- one interleaving of lists is to make one list after the other
-empty-first : {S : Type 0} (all : List S) (lists : List (List S)) → IsInterleaved lists all → IsInterleaved ([] ∷ lists) all
-unfolding IsInterleaved
-empty-first [] lists done = All-cons (λ steps. steps ≡ []) [] lists refl done
-empty-first (s ∷ all) lists (k, rest, e, next) = (suc k, rest, e, empty-first all (slice_set lists k rest) next)
-
-list-first : {S : Type 0} (first all : List S) (lists : List (List S)) → IsInterleaved ([] ∷ lists) all → IsInterleaved (first ∷ lists) (first ++ all)
-unfolding IsInterleaved
-list-first [] all lists next = next
-list-first (s ∷ first) all lists next = (0, first, refl, list-first first all lists next)
-
-pub in_turn-interleaved : {S : Type 0} (lists : List (List S)) → IsInterleaved lists (in_turn lists)
-unfolding IsInterleaved
-in_turn-interleaved [] = All-nil (λ steps. steps ≡ [])
-in_turn-interleaved (first ∷ lists) = list-first first (in_turn lists) lists (empty-first (in_turn lists) lists (in_turn-interleaved lists))
-
--- either some number below n has this property, or none has it
-search-below : (n : ℕ) (P : ℕ → Type 0) → ((k : ℕ) → P k ⊎ (P k → ⊥)) → ((k : ℕ) × (k < n) × P k) ⊎ ((k : ℕ) → k < n → P k → ⊥)
-search-below zero P each = inr (λ k less h. omega (arith, less))
-search-below (suc n) P each =
-    elim (each n) [
-      | inl here ↦ inl (n, omega arith, here)
-      | inr away ↦ elim (search-below n P each) [
-        | inl (k, less, h) ↦ inl (k, omega (arith, less), h)
-        | inr none ↦ inr (λ k less h. elim (cases_eq k n) [ inl last ↦ away (rw last at h) | inr other ↦ none k (omega (arith, less, other)) h ])
-      ]
-    ]
-
-is-there : (places : List ℕ) (p : ℕ) → Contains places p ⊎ (Contains places p → ⊥)
-is-there places p =
-    elim (search-below (length places) (λ k. get_or places k p ≡ p) (λ k. cases_eq (get_or places k p) p)) [
-      | inl here ↦ inl here
-      | inr none ↦ inr (λ (k, less, e). none k less e)
-    ]
-
 module _ {A S : Type 0} {after : List A → List S → List A} {places : List S → List ℕ} (are : AreSteps after places) where
   pub after-length : (steps : List S) (xs : List A) → length (after xs steps) ≡ length xs
   after-length [] xs = ap length (are.none xs)
   after-length (s ∷ steps) xs = ap length (are.more xs s steps) ∙ after-length steps (are.one xs s) ∙ are.same_length xs s
 
-  -- all places of list k have a property
+  -- all places of list k belong to part k, and each is named once
   abbrev pub StayIn : (part : ℕ → ℕ → Type 0) → List (List S) → Type 0
-  StayIn part lists = (k : ℕ) (steps : List S) → slice_get lists k ≡ Some steps → All (part k) (places steps)
+  StayIn part lists = (k : ℕ) (steps : List S) → slice_get lists k ≡ Some steps → AreOnceAmong (part k) (places steps)
 
-  -- then the places of its first step have it too, and so do those of the lists without that step
-  pub first-taken : (part : ℕ → ℕ → Type 0) (lists : List (List S)) (k : ℕ) (s : S) (rest : List S) → StayIn part lists → slice_get lists k ≡ Some (s ∷ rest)
-      → ((p : ℕ) → are.at s p → part k p) × StayIn part (slice_set lists k rest)
-  first-taken part lists k s rest own e =
-      let here = are.split (part k) s rest (own k (s ∷ rest) e) in (
-        here.0,
+  -- no place belongs to two parts
+  abbrev pub AreApart : (part : ℕ → ℕ → Type 0) → Type 0
+  AreApart part = (k l : ℕ) → k ≢ l → NoPlaceInCommon (part k) (part l)
+
+  -- the first step of list k is taken; the lists without it have none of its places
+  first-taken : (part : ℕ → ℕ → Type 0) → AreApart part → (lists : List (List S)) (k : ℕ) (s : S) (rest : List S) → StayIn part lists → slice_get lists k ≡ Some (s ∷ rest)
+      → are.once s × ((p : ℕ) → are.at s p → part k p) × StayIn (λ l q. part l q × ((p : ℕ) → are.at s p → p ≢ q)) (slice_set lists k rest)
+  first-taken part apart lists k s rest own e =
+      let (once, here, then) = are.split (part k) s rest (own k (s ∷ rest) e) in (
+        once,
+        here,
         λ l steps f.
             elim (cases_eq l k) [
               | inl same ↦
                   let is : rest ≡ steps = same_Some rest steps (sym (slice_get-set_same lists k rest (slice_get_within lists k (s ∷ rest) e)) ∙ rw same at f) in
-                  rw (same, ← is) here.1
-              | inr other ↦ own l steps (sym (slice_get-set_other lists k l rest other) ∙ f)
+                  rw (same, ← is) then
+              | inr other ↦
+                  AreOnceAmong-weaker (part l) _ (places steps) (λ q at. (at, λ p own_place same. apart k l (λ e. other (sym e)) p (here p own_place) (rw same at)))
+                  (own l steps (sym (slice_get-set_other lists k l rest other) ∙ f))
             ],
       )
 
-  -- At places that belong only to list k, or to no list, an interleaving leaves what list k would
-  -- leave there alone. No list except k has these places, and list k has no other places.
-  module _ (n k : ℕ) (P : ℕ → Type 0) where
-    abbrev AreOf : ℕ → ℕ → Type 0
-    AreOf j p = (j ≡ k → P p × (p < n)) × (j ≢ k → P p → ⊥)
+  weaker : (part stronger : ℕ → ℕ → Type 0) (lists : List (List S)) → ((k p : ℕ) → stronger k p → part k p) → StayIn stronger lists → StayIn part lists
+  weaker part stronger lists into own k steps e = AreOnceAmong-weaker (stronger k) (part k) (places steps) (into k) (own k steps e)
 
-    same-at : (all : List S) (lists : List (List S)) (xs ys : List A) → length xs ≡ n → length ys ≡ n → StayIn AreOf lists → IsInterleaved lists all
-        → ((p : ℕ) → P p → slice_get xs p ≡ slice_get ys p) → (p : ℕ) → P p → slice_get (after xs all) p ≡ slice_get (after ys (get_or lists k [])) p
+  -- an interleaving names each place once, too
+  pub once-interleaved : (all : List S) (lists : List (List S)) (part : ℕ → ℕ → Type 0) → AreApart part → StayIn part lists → IsInterleaved lists all
+      → AreOnceAmong (λ p. (k : ℕ) × part k p) (places all)
+  unfolding IsInterleaved
+  once-interleaved [] lists part apart own done = are.no_places (λ p. (k : ℕ) × part k p)
+  once-interleaved (s ∷ all) lists part apart own (k, rest, e, next) =
+      let (once, here, then) = first-taken part apart lists k s rest own e in
+      are.join (λ p. (k : ℕ) × part k p) s all once (λ p at. (k, here p at))
+      (AreOnceAmong-weaker _ _ (places all) (λ q (l, (at, away)). ((l, at), away))
+      (once-interleaved all (slice_set lists k rest) (λ l q. part l q × ((p : ℕ) → are.at s p → p ≢ q)) (λ i j other p at at'. apart i j other p at.0 at'.0) then next))
+
+  -- At the places of part k an interleaving leaves what list k alone would leave there.
+  module _ (part : ℕ → ℕ → Type 0) (apart : AreApart part) (k n : ℕ) (below : (p : ℕ) → part k p → p < n) where
+    same-at : (all : List S) (lists : List (List S)) (xs ys : List A) → length xs ≡ n → length ys ≡ n → StayIn part lists → IsInterleaved lists all
+        → ((p : ℕ) → part k p → slice_get xs p ≡ slice_get ys p) → (p : ℕ) → part k p → slice_get (after xs all) p ≡ slice_get (after ys (get_or lists k [])) p
     unfolding IsInterleaved
     same-at [] lists xs ys len_xs len_ys own done same p h =
         let none : get_or lists k [] ≡ [] = elim (cases_lt k (length lists)) [ inl less ↦ done k [] less | inr past ↦ get_or_past lists k [] past ] in
         rw (none, are.none xs, are.none ys) (same p h)
     same-at (s ∷ all) lists xs ys len_xs len_ys own (j, rest, f, next) same p h =
-        let (at_s, then_own) = first-taken AreOf lists j s rest own f in
+        let (once, at_s, then) = first-taken part apart lists j s rest own f in
+        let then_own = weaker part _ (slice_set lists j rest) (λ l q at. at.0) then in
         let then_len = are.same_length xs s ∙ len_xs in
         ap (λ zs. slice_get zs p) (are.more xs s all)
         ∙ elim (cases_eq j k) [
           | inl here ↦
-              let of_k : (q : ℕ) → are.at s q → P q × (q < n) = λ q a. (at_s q a).0 here in
-              let agree : (q : ℕ) → P q → slice_get (are.one xs s) q ≡ slice_get (are.one ys s) q = λ q g.
+              let of_k : (q : ℕ) → are.at s q → part k q = λ q a. rw here at (at_s q a) in
+              let agree : (q : ℕ) → part k q → slice_get (are.one xs s) q ≡ slice_get (are.one ys s) q = λ q g.
               elim (are.hit s q) [
-                | inl own_place ↦ are.own xs ys s (len_ys ∙ sym len_xs) (λ r a. (rw len_xs (of_k r a).1, same r (of_k r a).0)) q own_place
+                | inl own_place ↦ are.own xs ys s (len_ys ∙ sym len_xs) (λ r a. (rw len_xs (below r (of_k r a)), same r (of_k r a))) q own_place
                 | inr away ↦ are.others xs s q away ∙ same q g ∙ sym (are.others ys s q away)
               ] in
               let before : get_or lists k [] ≡ s ∷ rest = get_or_from_slice_get lists k (s ∷ rest) [] (rw here at f) in
@@ -163,82 +166,17 @@ module _ {A S : Type 0} {after : List A → List S → List A} {places : List S 
           | inr other ↦
               let then : get_or (slice_set lists j rest) k [] ≡ get_or lists k [] = get_or-set_other lists j k rest [] (λ e. other (sym e)) in
               rw then at
-              (same-at all (slice_set lists j rest) (are.one xs s) ys then_len len_ys then_own next (λ q g. are.others xs s q (λ a. (at_s q a).1 other g) ∙ same q g) p h)
+              (same-at all (slice_set lists j rest) (are.one xs s) ys then_len len_ys then_own next (λ q g. are.others xs s q (λ a. apart j k other q (at_s q a) g) ∙ same q g) p h)
         ]
 
-  -- List k has only places of part k, and no place belongs to two parts.
-  module _ (part : ℕ → ℕ → Type 0) (apart : (k l : ℕ) → k ≢ l → NoPlaceInCommon (part k) (part l)) (xs : List A) (below : (k p : ℕ) → part k p → p < length xs)
-      (lists : List (List S)) (own : StayIn part lists) where
-    pub are-apart : AreApartBelow places (length xs) lists
-    are-apart = record {
-      below = λ k steps e. All-weaker (part k) (λ p. p < length xs) (below k) (places steps) (own k steps e);
-      apart = λ i j first second other e f p at at'. apart i j other p (All-contains (part i) (places first) p (own i first e) at) (All-contains (part j) (places second) p (own j second f) at');
-    }
+  -- The places of list k belong to part k, and its steps alone change them.
+  module _ (part : ℕ → ℕ → Type 0) (apart : AreApart part) (xs : List A) (below : (k p : ℕ) → part k p → p < length xs) (lists : List (List S))
+      (own : StayIn (λ k p. part k p × (slice_get xs p ≢ slice_get (after xs (get_or lists k [])) p)) lists) (all : List S) (is : IsInterleaved lists all) where
+    pub of-part : (k p : ℕ) → part k p → slice_get (after xs all) p ≡ slice_get (after xs (get_or lists k [])) p
+    of-part k = same-at part apart k (length xs) (below k) all lists xs xs refl refl (weaker part _ lists (λ k p at. at.0) own) is (λ q g. refl)
 
-    -- a place of a part holds what the steps of that part alone would leave there
-    pub of-part : (all : List S) → IsInterleaved lists all → (k p : ℕ) → part k p → slice_get (after xs all) p ≡ slice_get (after xs (get_or lists k [])) p
-    of-part all is k p h =
-        same-at (length xs) k (part k) all lists xs xs refl refl
-        (λ j steps e. All-weaker (part j) (AreOf (length xs) k (part k) j) (λ q g. (λ same. (rw same at g, below j q g), λ other here. apart j k other q g here)) (places steps) (own j steps e))
-        is (λ q g. refl) p h
-
-    -- and all other places keep their items
-    pub of-none : (all : List S) → IsInterleaved lists all → (p : ℕ) → ((k : ℕ) → k < length lists → part k p → ⊥) → slice_get (after xs all) p ≡ slice_get xs p
-    of-none all is p out =
-        let none : get_or lists (length lists) [] ≡ [] = get_or_past lists (length lists) [] (omega arith) in
-        rw (none, are.none xs) at
-        (same-at (length xs) (length lists) (λ q. q ≡ p) all lists xs xs refl refl
-        (λ j steps e.
-        let within = slice_get_within lists j steps e in
-        All-weaker (part j) (AreOf (length xs) (length lists) (λ q. q ≡ p) j) (λ q g. (λ past. absurd (omega (arith, within, past)), λ other same. out j within (rw same at g))) (places steps) (own j steps e))
-        is (λ q g. refl) p refl)
-
-  pub same-in_turn : SameInTurn after places
-  same-in_turn xs lists all is turns =
-      let list : ℕ → List S = λ k. get_or lists k [] in
-      let at : (k : ℕ) → k < length lists → slice_get lists k ≡ Some (list k) = λ k less. slice_get-get_or lists k [] less in
-      let part : ℕ → ℕ → Type 0 = λ k p. (k < length lists) × Contains (places (list k)) p in
-      let apart : (k l : ℕ) → k ≢ l → NoPlaceInCommon (part k) (part l) =
-      λ k l other p (hk, h) (hl, g). is.apart k l (list k) (list l) other (at k hk) (at l hl) p h g in
-      let below : (k p : ℕ) → part k p → p < length xs = λ k p (less, h). All-contains (λ q. q < length xs) (places (list k)) p (is.below k (list k) (at k less)) h in
-      let own : StayIn part lists =
-      λ k steps e.
-      let same = get_or_from_slice_get lists k steps [] e in
-      All-weaker (Contains (places steps)) (part k) (λ p h. (slice_get_within lists k steps e, rw same h)) (places steps) (All-contains_itself (places steps)) in
-      let turn = in_turn-interleaved lists in
-      same_places (after xs all) (after xs (in_turn lists)) (after-length all xs ∙ sym (after-length (in_turn lists) xs))
-      (λ p less.
-      elim (search-below (length lists) (λ k. Contains (places (list k)) p) (λ k. is-there (places (list k)) p)) [
-        | inl (k, within, h) ↦
-            of-part part apart xs below lists own all turns k p (within, h) ∙ sym (of-part part apart xs below lists own (in_turn lists) turn k p (within, h))
-        | inr none ↦
-            let out : (k : ℕ) → k < length lists → part k p → ⊥ = λ k within h. none k within h.1 in
-            of-none part apart xs below lists own all turns p out ∙ sym (of-none part apart xs below lists own (in_turn lists) turn p out)
-      ])
-
--- exchanges in a list of different items give a list of different items
-swap-differ : {A : Type 0} (xs : List A) (i j : ℕ) → i < length xs → j < length xs → AllDiffer xs → AllDiffer (swap xs i j)
-swap-differ xs i j hi hj differ p q hp hq e =
-    let len = length-swap xs i j in
-    let (s, hs, at_s, is_s) = from p (omega (arith, len, hp)) in
-    let (t, ht, at_t, is_t) = from q (omega (arith, len, hq)) in
-    omega (arith, is_s, is_t, differ s t hs ht (sym at_s ∙ e ∙ at_t))
-  where
-    from : (p : ℕ) → p < length xs → (s : ℕ) × (s < length xs) × (slice_get (swap xs i j) p ≡ slice_get xs s)
-        × (((p ≡ i) × (s ≡ j)) ⊎ (((p ≡ j) × (s ≡ i)) ⊎ ((p ≢ i) × (p ≢ j) × (s ≡ p))))
-    from p hp =
-        elim (cases_eq p i) [
-          | inl e ↦ (j, hj, rw e (slice_get-swap_first xs i j hi hj), inl (e, refl))
-          | inr other ↦ elim (cases_eq p j) [
-            | inl e ↦ (i, hi, rw e (slice_get-swap_second xs i j hi hj), inr (inl (e, refl)))
-            | inr none ↦ (p, hp, slice_get-swap_other xs i j p other none, inr (inr (other, none, refl)))
-          ]
-        ]
-
-pub swaps-differ : {A : Type 0} (all : List (ℕ × ℕ)) (lists : List (List (ℕ × ℕ))) (xs : List A) → StayIn (swaps-are {A = A}) (λ k p. p < length xs) lists
-    → IsInterleaved lists all → AllDiffer xs → AllDiffer (after_swaps xs all)
-unfolding IsInterleaved after_swaps swaps-are
-swaps-differ [] lists xs inside done differ = differ
-swaps-differ {A} ((i, j) ∷ all) lists xs inside (k, rest, e, next) differ =
-    let (here, then) = first-taken (swaps-are {A = A}) (λ k p. p < length xs) lists k (i, j) rest inside e in
-    swaps-differ all (slice_set lists k rest) (swap xs i j) (rw (length-swap xs i j) then) next (swap-differ xs i j (here i (inl refl)) (here j (inr refl)) differ)
+    -- so the interleaving changes each place that it names
+    pub all-changed : AreOnceAmong (λ p. slice_get xs p ≢ slice_get (after xs all) p) (places all)
+    all-changed =
+        AreOnceAmong-weaker _ _ (places all) (λ p (k, (at, changed)) same. changed (same ∙ of-part k p at))
+        (once-interleaved all lists (λ k p. part k p × (slice_get xs p ≢ slice_get (after xs (get_or lists k [])) p)) (λ i j other p at at'. apart i j other p at.0 at'.0) own is)

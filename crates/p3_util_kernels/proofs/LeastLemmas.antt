@@ -1,17 +1,16 @@
 -- How many places a list of exchanges or of writes changes, how many numbers are their own reverse,
 -- and what follows from this for the least number of steps.
 use Rattle.std.proofs.Common.{◌≡◌, ◌≢◌, ◌↔◌, ℕ, zero, suc, Bool, true, not, ◌==◌, ◌+◌, ◌*◌, ◌/◌, ◌%◌, ◌^◌, ◌<◌, ◌≤◌, IsTrue, List, length, slice_get, ◌∙◌, ap, arith}
-use Rattle.std.proofs.Math.Nat.{pow-suc}
+use Rattle.std.proofs.Math.Nat.{mul_comm, pow-suc}
 use Rattle.std.proofs.lemmas.Bool.Decides.{nat_tests}
 use Rattle.std.proofs.lemmas.Nat.{same_from_place, div_below, div-add-mod', div-mul-add, mod_below, mod-mul-add, mul-add-lt, pow-add, pow_pos}
 use Rattle.p3_util_kernels.specs.Digits.{rev}
-use Rattle.p3_util_kernels.specs.Reversal.{IsReversal}
+use Rattle.p3_util_kernels.specs.Reversal.{IsRowReversal}
 use Rattle.p3_util_kernels.specs.SwapCounts.{short_swaps}
 use Rattle.p3_util_kernels.specs.Transpose.{IsTranspose}
-use Rattle.p3_util_kernels.proofs.ReversalLemmas.{IsReversal-places}
-use Rattle.p3_util_kernels.specs.Least.{after_swaps, count_below, places_put, places_swapped, AllDiffer, AreOnceAmong, DifferWhere, SwapsChange, PutsChange, Palindromes, LeastReversal, LeastSquare, LeastPuts, PutsAtChanged, ReversalDiffers, SquareDiffers, SwapsAtChanged}
-use Rattle.p3_util_kernels.proofs.Counts.{count-all, count-not, count-off_diagonal, count-rows}
-use Rattle.p3_util_kernels.proofs.WrittenPlaces.{AreOnceAmong-weaker, Written, puts-places, puts-written, swaps-places, swaps-written, written-at, written-change}
+use Rattle.p3_util_kernels.specs.Least.{after_swaps, count_below, places_put, places_swapped, AllDiffer, DifferWhere, SwapsChange, PutsChange, Palindromes, LeastReversal, LeastSquare, LeastPuts, ReversalDiffers, SquareDiffers}
+use Rattle.p3_util_kernels.proofs.Counts.{count-all, count-not, count-off_diagonal, count-rows, count-times}
+use Rattle.p3_util_kernels.proofs.WrittenPlaces.{puts-places, puts-written, swaps-places, swaps-written, written-change}
 use Rattle.p3_util_kernels.proofs.DigitsLemmas.{middle-below, rev-around, rev-lt, rev-rev-below}
 use Rattle.p3_util_kernels.proofs.Matrix.{each_place}
 use Rattle.p3_util_kernels.proofs.Pairs.{mul-pred, twice-pairs}
@@ -25,22 +24,6 @@ swaps-change xs steps n test differ =
 pub puts-change : {A : Type 0} → PutsChange A
 puts-change xs steps n test differ =
     omega (arith, written-change n (λ i. i) test (λ i j hi hj ti tj e. e) (places_put steps) xs _ (puts-written steps xs) differ, puts-places steps)
-
--- if as many places differ as the steps name, the steps are at exactly these places
-at-changed : {A : Type 0} (n : ℕ) (test : ℕ → Bool) (places : List ℕ) (old new : List A) → Written places old new → DifferWhere n test old new
-    → count_below n test ≡ length places → AreOnceAmong (λ p. (p < n) × IsTrue (test p)) places
-at-changed n test places old new written differ all =
-    let at = written-at n (λ i. i) test (λ i j hi hj ti tj e. e) places old new written differ all in
-    AreOnceAmong-weaker (λ p. (i : ℕ) × (i < n) × IsTrue (test i) × (p ≡ i)) (λ p. (p < n) × IsTrue (test p)) places
-    (λ p (i, less, t, e). rw e (less, t)) at
-
-pub swaps-at_changed : {A : Type 0} → SwapsAtChanged A
-swaps-at_changed xs steps n test differ all =
-    at-changed n test (places_swapped steps) xs _ (swaps-written steps xs) differ (omega (arith, all, swaps-places steps))
-
-pub puts-at_changed : {A : Type 0} → PutsAtChanged A
-puts-at_changed xs steps n test differ all =
-    at-changed n test (places_put steps) xs _ (puts-written steps xs) differ (omega (arith, all, puts-places steps))
 
 pub least-puts : {A : Type 0} → LeastPuts A
 least-puts {A} n place xs steps apart differ =
@@ -72,33 +55,48 @@ palindromes k =
     let each = rw parts at (palindrome-of_row q d (omega arith)) in
     rw (all, ← rows) (count-rows (2 ^ (q + d)) (2 ^ q) (λ r. rev q (r / 2 ^ d)) (λ i. rev k i == i) (λ r h. rev-lt q (r / 2 ^ d)) each)
 
--- the lists differ at a place exactly if the place is not its own reverse
-reversal-differs-where : {A : Type 0} (k : ℕ) (old new : List A) → length old ≡ 2 ^ k → AllDiffer old → IsReversal old new
-    → (i : ℕ) → i < 2 ^ k → IsTrue (not (rev k i == i)) ↔ (slice_get old i ≢ slice_get new i)
-reversal-differs-where k old new len apart reversed i h =
-    let moved : slice_get new i ≡ slice_get old (rev k i) = IsReversal-places old new reversed k i len h in
-    let below : rev k i < length old = omega (arith, rev-lt k i) in (
-      λ t e. grind (arith, nat_tests, t, apart i (rev k i) (omega arith) below (e ∙ moved)),
-      λ ne. grind (arith, nat_tests, ne, moved),
-    )
+-- the row of place p is not its own reverse
+abbrev pub row_moves : (width k p : ℕ) → Bool
+row_moves width k p = not (rev k (p / width) == p / width)
+
+-- the lists differ at a place exactly if its row is not its own reverse
+pub rows-differ-where : {A : Type 0} (width k : ℕ) (old new : List A) → length old ≡ width * 2 ^ k → AllDiffer old → IsRowReversal width old new
+    → (p : ℕ) → p < width * 2 ^ k → IsTrue (row_moves width k p) ↔ (slice_get old p ≢ slice_get new p)
+rows-differ-where width k old new len apart reversed p h =
+    each_place (λ q. IsTrue (row_moves width k q) ↔ (slice_get old q ≢ slice_get new q)) (2 ^ k) width p (omega (arith, h))
+    (λ r j hr hj.
+    let q : ℕ = r * width + j in
+    let row : q / width ≡ r = div-mul-add r width j hj in
+    let moved : slice_get new q ≡ slice_get old (rev k r * width + j) = reversed.places k r j len hr hj in
+    let here : q < length old = omega (arith, len, mul-add-lt r width j (2 ^ k) hr hj) in
+    let there : rev k r * width + j < length old = omega (arith, len, mul-add-lt (rev k r) width j (2 ^ k) (rev-lt k r) hj) in (
+      λ t e. grind (arith, nat_tests, t, row, same_from_place r j (rev k r) j width hj hj (apart q (rev k r * width + j) here there (e ∙ moved))),
+      λ ne. grind (arith, nat_tests, ne, row, moved),
+    ))
 
 -- the numbers of k bits that are not their own reverse form pairs
-count-moved : (k : ℕ) → count_below (2 ^ k) (λ i. not (rev k i == i)) ≡ 2 * short_swaps k
-count-moved zero = omega (arith, count-not (2 ^ 0) (λ i. rev 0 i == i), palindromes 0)
-count-moved (suc k) =
+pairs-moved : (k : ℕ) → count_below (2 ^ k) (λ i. not (rev k i == i)) ≡ 2 * short_swaps k
+pairs-moved zero = omega (arith, count-not (2 ^ 0) (λ i. rev 0 i == i), palindromes 0)
+pairs-moved (suc k) =
     let half : (suc k + 1) / 2 ≡ suc (k / 2) = omega arith in
     omega (arith, count-not (2 ^ suc k) (λ i. rev (suc k) i == i), palindromes (suc k), pow-suc 2 k, pow-suc 2 (k / 2), ap (λ c. 2 ^ c) half)
 
+pub count-moved : (width k : ℕ) → count_below (width * 2 ^ k) (row_moves width k) ≡ 2 * (width * short_swaps k)
+count-moved width k =
+    ap (λ n. count_below n (row_moves width k)) (mul_comm width (2 ^ k))
+    ∙ count-times (2 ^ k) width (λ r. not (rev k r == r)) ∙ omega (arith, ap (λ n. width * n) (pairs-moved k))
+
 pub reversal-differs : {A : Type 0} → ReversalDiffers A
 reversal-differs {A} k old new len apart reversed =
-    (λ i. not (rev k i == i), count-moved k, reversal-differs-where k old new len apart reversed)
+    let one : 1 * 2 ^ k ≡ 2 ^ k = omega arith in
+    let count = rw one at (count-moved 1 k) in
+    (row_moves 1 k, omega (arith, count), λ i h. rows-differ-where 1 k old new (omega (arith, len)) apart reversed i (omega (arith, h)))
 
 -- at least as many exchanges as there are pairs of numbers that are each other's reverse
 pub least-reversal : {A : Type 0} → LeastReversal A
 least-reversal {A} k xs steps len apart reversed =
-    let differ : DifferWhere (2 ^ k) (λ i. not (rev k i == i)) xs (after_swaps xs steps) =
-    λ i h. (reversal-differs-where k xs (after_swaps xs steps) len apart reversed i h).0 in
-    omega (arith, swaps-change xs steps (2 ^ k) (λ i. not (rev k i == i)) differ, count-moved k)
+    let (test, count, differ) = reversal-differs k xs (after_swaps xs steps) len apart reversed in
+    omega (arith, swaps-change xs steps (2 ^ k) test (λ i h. (differ i h).0), count)
 
 -- the lists differ at a place exactly if the place is off the diagonal
 square-differs-where : {A : Type 0} (side : ℕ) (old new : List A) → length old ≡ side * side → AllDiffer old → IsTranspose side side old new

@@ -2,11 +2,17 @@
 -- pairs, the exchanges are at these places.
 use Rattle.std.proofs.Common.{◌≡◌, ◌≢◌, ℕ, Bool, cond, ◌==◌, ◌+◌, ◌*◌, ◌/◌, ◌%◌, ◌<◌, IsTrue, List, length, slice_get, inl, inr, sym, subst, ◌∙◌, ap, arith}
 use Rattle.std.proofs.lemmas.Bool.{cases_eq}
-use Rattle.p3_util_kernels.specs.Least.{AllDiffer, count_below, places_swapped}
+use Rattle.p3_util_kernels.specs.Least.{AllDiffer, AreOnceAmong, after_swaps, count_below, places_swapped}
 use Rattle.p3_util_kernels.specs.Mirrored.{Mirrored}
-use Rattle.p3_util_kernels.specs.PartSteps.{SwapsStay}
 use Rattle.p3_util_kernels.proofs.Counts.{count-twice}
 use Rattle.p3_util_kernels.proofs.WrittenPlaces.{AreOnceAmong-weaker, Changed, swaps-places, swaps-written, written-at}
+
+-- whenever n exchanges turn `old` into `new`, their places all differ, change, and have the property
+-- `among`
+abbrev pub SwapsStay : {A : Type 0} → (ℕ → Type 0) → ℕ → List A → List A → Type 0
+SwapsStay among n old new =
+    (steps : List (ℕ × ℕ)) → length steps ≡ n → after_swaps old steps ≡ new
+    → AreOnceAmong (λ p. among p × (slice_get old p ≢ slice_get new p)) (places_swapped steps)
 
 -- Each number below n that passes the test names a pair of places, an upper one and a lower one. No
 -- place is in two pairs.
@@ -56,8 +62,8 @@ module _ (n : ℕ) (test : ℕ → Bool) (upper lower : ℕ → ℕ)
       (λ i hi ti e. let at = known i hi ti in apart i i hi hi ti ti (sym (differ (lower i) (upper i) at.1 at.0 (e ∙ at.5)))) in
       let at = written-at (2 * n) place (λ k. test (k / 2)) place-apart (places_swapped steps) old new (rw leads at (swaps-written steps old)) changed
       (omega (arith, count-twice n test, many, swaps-places steps)) in
-      AreOnceAmong-weaker (λ p. (k : ℕ) × (k < 2 * n) × IsTrue (test (k / 2)) × (p ≡ place k)) among (places_swapped steps)
-      (λ p (k, less, t, e). rw e (each (λ k p. among p) (λ i hi ti. (known i hi ti).2) (λ i hi ti. (known i hi ti).3) k less t)) at
+      AreOnceAmong-weaker _ _ (places_swapped steps)
+      (λ p (k, less, t, e). rw e (each (λ k p. among p) (λ i hi ti. (known i hi ti).2) (λ i hi ti. (known i hi ti).3) k less t, changed k less t)) at
 
 -- The same for items that are exchanged as `Mirrored` says. Number i stands for the place of `m i`,
 -- `x i` and `y i`, and `y i` is greater than `x i`.

@@ -1,6 +1,8 @@
 -- Reversal of rows and of items: place by place, that it is its own inverse, and that a list has
 -- only one reversal.
 use Rattle.std.proofs.Common.{◌≡◌, ℕ, ◌+◌, ◌*◌, ◌^◌, ◌<◌, List, length, slice_get, inl, inr, refl, sym, ap, ◌∙◌, arith}
+use Rattle.std.proofs.Math.Nat.{mul-pos}
+use Rattle.std.proofs.lemmas.Nat.{pow_pos}
 use Rattle.p3_util_kernels.specs.Digits.{rev}
 use Rattle.p3_util_kernels.specs.Reversal.{FitsRows, IsReversal, IsRowReversal, IsZeroOrPowerOfTwo}
 use Rattle.p3_util_kernels.proofs.DigitsLemmas.{rev-lt, rev-rev-below}
@@ -26,6 +28,13 @@ IsReversal-from_power k old new e same at = record {
       let from : r * 1 + j ≡ r = omega arith in
       let to : rev k r * 1 + j ≡ rev k r = omega arith in
       rw (power, from, to) (at r (omega arith));
+}
+
+-- a list without items is its own reversal
+pub IsRowReversal-none : {A : Type 0} (row_width : ℕ) (old new : List A) → length old ≡ 0 → length new ≡ length old → IsRowReversal row_width old new
+IsRowReversal-none row_width old new none same = record {
+  same_length = same;
+  places = λ k r j e h inside. absurd (omega (arith, none, e, mul-pos {m = row_width} {n = 2 ^ k} (omega (arith, inside)) (pow_pos k)));
 }
 
 -- reversing a list twice gives it back

@@ -1,12 +1,12 @@
 -- Places of a list are written one after another: how many of them changed, and which places were
 -- written if all of them changed.
-use Rattle.std.proofs.Common.{◌≡◌, ◌≢◌, ℕ, Bool, not, ◌==◌, ◌&&◌, ◌*◌, ◌<◌, ◌≤◌, IsTrue, List, [], ◌∷◌, length, get_or, set, slice_get, slice_set, refl, sym, ◌∙◌, ap, arith}
+use Rattle.std.proofs.Common.{◌≡◌, ◌≢◌, ℕ, suc, Bool, not, ◌==◌, ◌&&◌, ◌*◌, ◌<◌, ◌≤◌, IsTrue, List, [], ◌∷◌, length, get_or, set, slice_get, slice_set, refl, sym, ◌∙◌, ap, arith}
 use Rattle.std.proofs.lemmas.Bool.{and_parts, eqb-false, eqb-true, not-true}
 use Rattle.std.proofs.lemmas.Bool.Decides.{nat_tests}
-use Rattle.std.proofs.lemmas.List.Elements.{All-cons, All-nil, All-weaker}
+use Rattle.std.proofs.lemmas.List.Elements.{All-cons, All-head, All-nil, All-weaker}
 use Rattle.std.proofs.lemmas.List.Kept.{AllPairs-cons}
 use Rattle.p3_util_kernels.specs.Least.{AreOnceAmong, after_puts, after_swaps, count_below, places_put, places_swapped}
-use Rattle.p3_util_kernels.proofs.Counts.{count-none, count-once, count-some, count-split}
+use Rattle.p3_util_kernels.proofs.Counts.{count-none, count-once, count-some, count-some_passes, count-split}
 use Rattle.p3_util_kernels.proofs.Exchange.{slice_get-set_other}
 
 -- `new` is `old` after these places were written one after another, each with any item
@@ -47,6 +47,34 @@ swaps-places (pair ∷ steps) = omega (arith, swaps-places steps)
 
 pub AreOnceAmong-weaker : (P Q : ℕ → Type 0) (places : List ℕ) → ((p : ℕ) → P p → Q p) → AreOnceAmong P places → AreOnceAmong Q places
 AreOnceAmong-weaker P Q places weaker at = record { inside = All-weaker P Q weaker places at.inside; once = at.once }
+
+pub AreOnceAmong-nil : (P : ℕ → Type 0) → AreOnceAmong P []
+AreOnceAmong-nil P = record { inside = All-nil P; once = λ i j d less below. absurd (omega arith) }
+
+-- a place before others that differ from it
+pub AreOnceAmong-cons : (P : ℕ → Type 0) (p : ℕ) (places : List ℕ) → P p → AreOnceAmong (λ q. P q × (p ≢ q)) places → AreOnceAmong P (p ∷ places)
+AreOnceAmong-cons P p places here rest = record {
+  inside = All-cons P p places here (All-weaker (λ q. P q × (p ≢ q)) P (λ q at. at.0) places rest.inside);
+  once = AllPairs-cons (λ a b. a ≢ b) p places (All-weaker (λ q. P q × (p ≢ q)) (λ q. p ≢ q) (λ q at. at.1) places rest.inside) rest.once;
+}
+
+pub AreOnceAmong-split : (P : ℕ → Type 0) (p : ℕ) (places : List ℕ) → AreOnceAmong P (p ∷ places) → P p × AreOnceAmong (λ q. P q × (p ≢ q)) places
+AreOnceAmong-split P p places at = (
+  All-head P p places at.inside,
+  record {
+    inside = λ k d less. (at.inside (suc k) d (omega arith), at.once 0 (suc k) d (omega arith) (omega arith));
+    once = λ i j d less below. at.once (suc i) (suc j) d (omega arith) (omega arith);
+  },
+)
+
+-- different numbers that pass a test are no more than all numbers that pass it
+once-few : (n : ℕ) (test : ℕ → Bool) (places : List ℕ) → AreOnceAmong (λ p. (p < n) × IsTrue (test p)) places → length places ≤ count_below n test
+once-few n test [] at = omega arith
+once-few n test (p ∷ places) at =
+    let (here, rest) = AreOnceAmong-split (λ p. (p < n) × IsTrue (test p)) p places at in
+    let fewer = once-few n (λ i. test i && not (i == p)) places
+    (AreOnceAmong-weaker _ _ places (λ q ((less, t), away). (less, grind (arith, nat_tests, t, away))) rest) in
+    omega (arith, fewer, count-split n test (λ i. i == p), count-some_passes n (λ i. test i && i == p) p here.0 (grind (arith, nat_tests, here.1)))
 
 -- The numbers below n that pass the test name different places.
 module _ (n : ℕ) (place : ℕ → ℕ) where
@@ -120,3 +148,9 @@ module _ (n : ℕ) (place : ℕ → ℕ) where
             (λ q (j, below, t, at) e. but-away test p j t (sym at ∙ sym e)) places others.inside)
             others.once;
       }
+
+-- if each written place is written once and changes, as many places were written as changed
+pub written-count : {A : Type 0} (n : ℕ) (test : ℕ → Bool) (places : List ℕ) (old new : List A) → Written places old new
+    → AreOnceAmong (λ p. (p < n) × IsTrue (test p)) places → Changed n (λ i. i) test old new → length places ≡ count_below n test
+written-count n test places old new written once changed =
+    omega (arith, once-few n test places once, written-change n (λ i. i) test (λ i j hi hj ti tj e. e) places old new written changed)

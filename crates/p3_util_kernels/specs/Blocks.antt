@@ -1,34 +1,44 @@
--- Squares side by side, cut into blocks. These definitions serve private contracts: those of
--- `src/parts.rt` and of the files below it.
+-- The grids of the rows of a reversal, cut into blocks. These definitions serve private contracts:
+-- those of `src/parts.rt` and of the files below it.
+--
+-- There are `2 ^ digits` rows. As `src/reverse/pairs.rt` explains, they form one grid, or two if
+-- `digits` is odd. A grid has `2 ^ (digits / 2)` rows and as many columns. Both are cut into parts of
+-- `step`, which cuts the grid into blocks.
 -- Source: new.
-use Rattle.std.specs.Prelude.{ℕ, ◌≡◌, ◌+◌, ◌*◌, ◌/◌, ◌<◌, ◌≤◌, ◌==◌, if◌then◌else◌}
+use Rattle.std.specs.Prelude.{ℕ, ◌≡◌, ◌+◌, ◌-◌, ◌*◌, ◌/◌, ◌%◌, ◌^◌, ◌<◌, ◌≤◌, ◌==◌, if◌then◌else◌, List}
 use Rattle.p3_util_kernels.specs.declared.transpose.regions.Region.{Region}
+use Rattle.p3_util_kernels.specs.Crossing.{IsCrossed}
 use Rattle.p3_util_kernels.specs.Parts.{number_of_pair, pairs_of, parts_in, start_of}
 use Rattle.p3_util_kernels.specs.Region.{items_of, rows_of}
 use Rattle.p3_util_kernels.specs.SwapCounts.{square_swaps}
 
--- Squares of `side` rows lie side by side in rows of `stride` items. The rows and the columns of
--- each square are cut into parts of `step`, which cuts the square into blocks. This is the number
--- of blocks on and above the diagonals of all squares
-abbrev pub blocks_of : (side stride step : ℕ) → ℕ
-blocks_of side stride step = stride / side * pairs_of (parts_in side step)
+-- the number of blocks on and above the diagonals of all grids
+abbrev pub blocks_of : (digits step : ℕ) → ℕ
+blocks_of digits step = pairs_of (parts_in (2 ^ (digits / 2)) step) * 2 ^ (digits % 2)
 
--- Of the blocks that `blocks_of` counts, the one with this number is `region` in the square that
--- begins at place `base`. Its rows are one part of the square's rows, and its columns are the same
--- part of the columns or a later one. Blocks are numbered square by square: those of one square
--- have consecutive numbers.
-pub record IsBlock (side stride step number base : ℕ) (region : Region) : Type 0 where
-  pub square : ℕ
+-- Of the blocks that `blocks_of` counts, the one with this number is `region` in the grid of the
+-- rows whose indices have the middle part `middle`. The rows of the block are one part of the grid's
+-- rows, and its columns are the same part of the columns or a later one. Blocks of the same rows and
+-- columns have consecutive numbers.
+pub record IsBlock (digits step number middle : ℕ) (region : Region) : Type 0 where
   pub row : ℕ
   pub col : ℕ
   pub in_order : row ≤ col
-  pub below : col < parts_in side step
-  pub number_is : number ≡ square * pairs_of (parts_in side step) + number_of_pair (parts_in side step) row col
-  pub base_is : base ≡ square * side
-  pub inside : base + side ≤ stride
-  pub region_is : region ≡ record { row_start = start_of side step row; row_end = start_of side step (row + 1); col_start = start_of side step col; col_end = start_of side step (col + 1) }
+  pub below : col < parts_in (2 ^ (digits / 2)) step
+  pub middle_below : middle < 2 ^ (digits % 2)
+  pub number_is : number ≡ number_of_pair (parts_in (2 ^ (digits / 2)) step) row col * 2 ^ (digits % 2) + middle
+  pub region_is : region ≡ record { row_start = start_of (2 ^ (digits / 2)) step row; row_end = start_of (2 ^ (digits / 2)) step (row + 1); col_start = start_of (2 ^ (digits / 2)) step col; col_end = start_of (2 ^ (digits / 2)) step (col + 1) }
 
--- the number of exchanges for a block. A block on the diagonal takes `square_swaps` of its rows,
--- and a block above it takes one exchange for each item
+-- the number of exchanges for a block of rows of one item. A block on the diagonal takes
+-- `square_swaps` of its rows, and a block above it takes one exchange for each place
 abbrev pub swaps_of_block : Region → ℕ
 swaps_of_block region = if region.row_start == region.col_start then square_swaps (rows_of region) else items_of region
+
+-- The pairs of rows in the block with this number are exchanged, and no other rows. `Steps` holds
+-- for the number of exchanges.
+abbrev pub IsBlockExchanged : {A : Type 0} → (digits row_width step number : ℕ) (old new : List A) (Steps : ℕ → Type 0) → Type 0
+IsBlockExchanged digits row_width step number old new Steps =
+    let half = digits / 2 in
+    (middle : ℕ) × (region : Region) × IsBlock digits step number middle region
+    × IsCrossed half (digits - half) row_width (record region { col_start = middle * 2 ^ half + region.col_start; col_end = middle * 2 ^ half + region.col_end }) old new
+    × Steps (row_width * swaps_of_block region)

@@ -65,18 +65,6 @@ pub record AreOnceAmong (among : ℕ → Type 0) (places : List ℕ) : Type 0 wh
   pub inside : All among places
   pub once : AllPairs (λ a b. a ≢ b) places
 
--- for items of the type A: if m exchanges change `2 * m` places, the exchanges are at exactly these
--- places, and each place belongs to one exchange
-abbrev pub SwapsAtChanged : Type 0 → Type 0
-SwapsAtChanged A = (xs : List A) (steps : List (ℕ × ℕ)) (n : ℕ) (test : ℕ → Bool) → DifferWhere n test xs (after_swaps xs steps)
-    → count_below n test ≡ 2 * length steps → AreOnceAmong (λ p. (p < n) × IsTrue (test p)) (places_swapped steps)
-
--- for items of the type A: if m writes change m places, there is exactly one write at each of these
--- places
-abbrev pub PutsAtChanged : Type 0 → Type 0
-PutsAtChanged A = (xs : List A) (steps : List (ℕ × A)) (n : ℕ) (test : ℕ → Bool) → DifferWhere n test xs (after_puts xs steps)
-    → count_below n test ≡ length steps → AreOnceAmong (λ p. (p < n) × IsTrue (test p)) (places_put steps)
-
 -- of the `2 ^ k` numbers of k bits, `2 ^ ceil(k / 2)` are their own reverse
 abbrev pub Palindromes : Type 0
 Palindromes = (k : ℕ) → count_below (2 ^ k) (λ i. rev k i == i) ≡ 2 ^ ((k + 1) / 2)

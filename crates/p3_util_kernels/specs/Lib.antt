@@ -1,4 +1,3 @@
-pub mod AnyOrder
 pub mod Blocks
 pub mod Columns
 pub mod Crossing

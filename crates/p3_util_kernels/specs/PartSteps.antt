@@ -1,13 +1,15 @@
--- Steps from one list to another, and the places that they change. These definitions serve private
--- contracts: those of `src/parts/laws.rt` and of the files below it. With the lemmas a holder can
--- state that such steps exist.
+-- Steps from one list to another, and the places of the parts of a call. These definitions serve
+-- private contracts: those of `src/parts/laws.rt`. With the lemmas a holder can state that steps
+-- exist.
 -- Source: new.
-use Rattle.std.proofs.Common.{◌≡◌, ◌≢◌, ℕ, ◌+◌, ◌-◌, ◌*◌, ◌/◌, ◌^◌, ◌<◌, min, max, List, [], ◌∷◌, ◌++◌, length, slice_get, slice_set, length-append, refl, sym, ◌∙◌, ap, arith}
+use Rattle.std.proofs.Common.{◌≡◌, ◌≢◌, ℕ, ◌+◌, ◌-◌, ◌*◌, ◌/◌, ◌<◌, min, max, List, [], ◌∷◌, ◌++◌, length, slice_get, slice_set, length-append, refl, sym, ◌∙◌, ap, arith}
 use Rattle.std.specs.Prelude.{swap}
+use Rattle.p3_util_kernels.specs.declared.parts.reversal.ReversalPlan.{ReversalPlan}
+use Rattle.p3_util_kernels.specs.declared.parts.reversal.ReversalPlan.TheVariants.{OnePart, ByPairs}
 use Rattle.p3_util_kernels.specs.declared.transpose.regions.Region.{Region}
 use Rattle.p3_util_kernels.specs.Blocks.{IsBlock}
 use Rattle.p3_util_kernels.specs.Crossing.{row_of}
-use Rattle.p3_util_kernels.specs.Least.{AreOnceAmong, after_puts, after_swaps, places_put, places_swapped}
+use Rattle.p3_util_kernels.specs.Least.{after_puts, after_swaps}
 use Rattle.p3_util_kernels.specs.Region.{IsInRegion}
 
 -- some n steps turn the list `old` into `new`, where `after xs steps` is the list xs after the
@@ -15,36 +17,17 @@ use Rattle.p3_util_kernels.specs.Region.{IsInRegion}
 abbrev pub StepsLead : {A S : Type 0} → (List A → List S → List A) → ℕ → List A → List A → Type 0
 StepsLead {A} {S} after n old new = (steps : List S) × (length steps ≡ n) × (after old steps ≡ new)
 
--- whenever n steps turn the list `old` into `new`, their places are all different, and each has the
--- property `among`
-abbrev pub StepsStay : {A S : Type 0} → (List A → List S → List A) → (List S → List ℕ) → (ℕ → Type 0) → ℕ → List A → List A → Type 0
-StepsStay {A} {S} after places among n old new = (steps : List S) → length steps ≡ n → after old steps ≡ new → AreOnceAmong among (places steps)
-
 -- `PutsLead n old new` says that some n writes turn the list `old` into `new`, by `after_puts`
 abbrev pub PutsLead : {A : Type 0} → ℕ → List A → List A → Type 0
 PutsLead = StepsLead after_puts
-
--- `PutsStay among n old new` says: whenever n writes turn the list `old` into `new`, their places
--- are all different, and each has the property `among`
-abbrev pub PutsStay : {A : Type 0} → (ℕ → Type 0) → ℕ → List A → List A → Type 0
-PutsStay = StepsStay after_puts places_put
 
 -- `SwapsLead n old new` says that some n exchanges turn the list `old` into `new`, by `after_swaps`
 abbrev pub SwapsLead : {A : Type 0} → ℕ → List A → List A → Type 0
 SwapsLead = StepsLead after_swaps
 
--- `SwapsStay among n old new` says: whenever n exchanges turn the list `old` into `new`, their
--- places are all different, and each has the property `among`
-abbrev pub SwapsStay : {A : Type 0} → (ℕ → Type 0) → ℕ → List A → List A → Type 0
-SwapsStay = StepsStay after_swaps places_swapped
-
 -- no place has both properties
 abbrev pub NoPlaceInCommon : (ℕ → Type 0) → (ℕ → Type 0) → Type 0
 NoPlaceInCommon first second = (p : ℕ) → first p → second p → ⊥
-
--- each place of the whole belongs to one of `count` parts, which are numbered from 0
-abbrev pub PartsCover : (whole : ℕ → Type 0) (count : ℕ) (part : ℕ → ℕ → Type 0) → Type 0
-PartsCover whole count part = (p : ℕ) → whole p → (k : ℕ) × (k < count) × part k p
 
 -- no item of one list is equal to an item of the other
 abbrev pub NoItemInCommon : {A : Type 0} → List A → List A → Type 0
@@ -54,21 +37,21 @@ NoItemInCommon xs ys = (i j : ℕ) → i < length xs → j < length ys → slice
 abbrev pub IsPlaceOfRegion : (region : Region) (height p : ℕ) → Type 0
 IsPlaceOfRegion region height p = (x y : ℕ) × IsInRegion region x y × (p ≡ x * height + y)
 
--- row a and column b of square s lie in the block with this number or in its mirror image. The
--- squares lie side by side
-abbrev pub IsInBlock : (side stride step number s a b : ℕ) → Type 0
-IsInBlock side stride step number s a b =
-    (base : ℕ) × (region : Region) × IsBlock side stride step number base region × (base ≡ s * side) × IsInRegion region (max a b) (min a b)
+-- row a and column b of the grid of `middle` lie in the block with this number or in its mirror
+-- image
+abbrev pub IsInBlock : (digits step number middle a b : ℕ) → Type 0
+IsInBlock digits step number middle a b =
+    (region : Region) × IsBlock digits step number middle region × IsInRegion region (max a b) (min a b)
 
--- There are `2 ^ digits` rows of `row_width` items. The sides of the squares of pairs are cut into
--- parts of `step` numbers, and `number` is the number of a block. This block stands for pairs of
--- rows, in the way that `IsCrossed` describes, and p is a place in one of these rows. A row that
--- stays where it is counts as a pair with itself
-abbrev pub IsPlaceOfPairs : (digits row_width step number p : ℕ) → Type 0
-IsPlaceOfPairs digits row_width step number p =
-    let half = digits / 2 in
-    let c = digits - half in
-    (m t x y : ℕ) × (t < row_width) × IsInBlock (2 ^ half) (2 ^ c) step number m x y × (p ≡ row_of half c m x y * row_width + t)
+-- p is a place of part `number` of the plan. A plan of one part has all places. Otherwise p is a
+-- place in one of the rows that the block with this number exchanges, in the way that `IsCrossed`
+-- describes. A row that stays where it is counts as a pair with itself
+abbrev pub IsPlaceOfPart : (plan : ReversalPlan) (number p : ℕ) → Type 0
+IsPlaceOfPart (OnePart rows) number p = number ≡ 0
+IsPlaceOfPart (ByPairs pairs) number p =
+    let half = pairs.rows.digits / 2 in
+    (m t x y : ℕ) × (t < pairs.rows.width) × IsInBlock pairs.rows.digits pairs.cut.step number m x y
+    × (p ≡ row_of half (pairs.rows.digits - half) m x y * pairs.rows.width + t)
 
 more_steps : {A S : Type 0} (after : List A → List S → List A) → ((xs : List A) (s t : List S) → after xs (s ++ t) ≡ after (after xs s) t)
     → (m n all : ℕ) (a b c : List A) → StepsLead after m a b → StepsLead after n b c → m + n ≡ all → StepsLead after all a c

@@ -45,7 +45,8 @@ pairs_of n = n * (n + 1) / 2
 -- The number of the pair of parts i and j, for i ≤ j. Imagine the n parts in a circle, in which
 -- each part is followed by the next one, and the last part by part 0. Go only in this direction, and
 -- take the shorter of the ways from i to j and from j to i, or that from i to j if both are equally
--- long. The number is n times the number of steps on this way, plus the number of the part at which
--- it begins. So different pairs have different numbers.
+-- long. The pairs are sorted by n times the number of steps on this way, plus the number of the part
+-- at which it begins. They are numbered from the last one to the first one. So different pairs have
+-- different numbers, and the pairs of a part with itself have the greatest numbers.
 abbrev pub number_of_pair : (n i j : ℕ) → ℕ
-number_of_pair n i j = if nat_le (2 * (j - i)) n then (j - i) * n + i else (n - (j - i)) * n + j
+number_of_pair n i j = pairs_of n - 1 - (if nat_le (2 * (j - i)) n then (j - i) * n + i else (n - (j - i)) * n + j)

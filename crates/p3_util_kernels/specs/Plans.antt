@@ -1,12 +1,10 @@
 -- Plans of reversals and their parts. These definitions serve private contracts: those of
--- `src/parts/reversal.rt` and of the files below `src/parts/laws`.
+-- `src/parts/reversal.rt` and of `src/parts/laws.rt`.
 -- Source: new.
-use Rattle.std.specs.Prelude.{ℕ, ◌≡◌, ◌+◌, ◌-◌, ◌*◌, ◌/◌, ◌^◌, ◌<◌, ◌≤◌, ◌==◌, if◌then◌else◌, max, List, length}
+use Rattle.std.specs.Prelude.{ℕ, ◌≡◌, ◌*◌, ◌/◌, ◌^◌, ◌<◌, ◌≤◌, ◌==◌, if◌then◌else◌, max, List, length}
 use Rattle.p3_util_kernels.specs.declared.parts.reversal.ReversalPlan.{ReversalPlan}
 use Rattle.p3_util_kernels.specs.declared.parts.reversal.ReversalPlan.TheVariants.{OnePart, ByPairs}
-use Rattle.p3_util_kernels.specs.declared.transpose.regions.Region.{Region}
-use Rattle.p3_util_kernels.specs.Blocks.{IsBlock, blocks_of, swaps_of_block}
-use Rattle.p3_util_kernels.specs.Crossing.{IsCrossed}
+use Rattle.p3_util_kernels.specs.Blocks.{IsBlockExchanged, blocks_of}
 use Rattle.p3_util_kernels.specs.Levels.{clog}
 use Rattle.p3_util_kernels.specs.Parts.{IsLeastStep, parts_in}
 use Rattle.p3_util_kernels.specs.Reversal.{FitsRows, IsRowReversal}
@@ -20,21 +18,20 @@ width_of (ByPairs pairs) = pairs.rows.width
 -- the plan is one for a list of `len` items
 abbrev pub IsReversalPlan : (len : ℕ) (plan : ReversalPlan) → Type 0
 IsReversalPlan len (OnePart rows) = FitsRows len rows.width × (rows.digits ≡ clog (len / rows.width))
-IsReversalPlan len (ByPairs pairs) = (0 < pairs.rows.width) × (pairs.rows.digits < 64) × (len ≡ pairs.rows.width * 2 ^ pairs.rows.digits)
+IsReversalPlan len (ByPairs pairs) = (0 < pairs.rows.width) × (len ≡ pairs.rows.width * 2 ^ pairs.rows.digits)
 
--- Up to `one_part` items the plan has one part. Beyond that, each side of a square is cut into at
--- most `parts` parts, where 0 for `parts` counts as 1. The parts are no longer than necessary, as
+-- Up to `one_part` items the plan has one part. Beyond that, each side of a grid is cut into at most
+-- `parts` parts, where 0 for `parts` counts as 1. The parts are no longer than necessary, as
 -- `IsLeastStep` says with the unit `unit` for rows of one item, and with the unit 1 for other rows.
 abbrev pub IsCutAsAsked : (len row_width parts one_part unit : ℕ) (plan : ReversalPlan) → Type 0
 IsCutAsAsked len row_width parts one_part unit (OnePart rows) = len ≤ one_part
 IsCutAsAsked len row_width parts one_part unit (ByPairs pairs) =
-    let cut = pairs.squares.cut in
-    (one_part < len) × (parts_in cut.len cut.step ≤ max parts 1) × IsLeastStep parts (if row_width == 1 then unit else 1) cut.len cut.step
+    (one_part < len) × (parts_in pairs.cut.len pairs.cut.step ≤ max parts 1) × IsLeastStep parts (if row_width == 1 then unit else 1) pairs.cut.len pairs.cut.step
 
 -- the number of parts of a plan
 abbrev pub parts_of : (plan : ReversalPlan) → ℕ
 parts_of (OnePart rows) = 1
-parts_of (ByPairs pairs) = blocks_of pairs.squares.cut.len pairs.squares.stride pairs.squares.cut.step
+parts_of (ByPairs pairs) = blocks_of pairs.rows.digits pairs.cut.step
 
 -- Part `number` of the plan turns `old` into `new`, and `Steps` holds for the number of its
 -- exchanges. Depending on the plan, the part makes the bit reversal of all rows, or exchanges the
@@ -43,7 +40,4 @@ abbrev pub IsPartMade : {A : Type 0} → (plan : ReversalPlan) (number : ℕ) (o
 IsPartMade (OnePart rows) number old new Steps =
     IsRowReversal rows.width old new × Steps (row_swaps (length old) rows.width)
 IsPartMade (ByPairs pairs) number old new Steps =
-    let half = pairs.rows.digits / 2 in
-    (base : ℕ) × (region : Region) × IsBlock pairs.squares.cut.len pairs.squares.stride pairs.squares.cut.step number base region
-    × IsCrossed half (pairs.rows.digits - half) pairs.rows.width (record region { col_start = base + region.col_start; col_end = base + region.col_end }) old new
-    × Steps (pairs.rows.width * swaps_of_block region)
+    IsBlockExchanged pairs.rows.digits pairs.rows.width pairs.cut.step number old new Steps

@@ -26,7 +26,7 @@ use crate::places::Places;
 use crate::transpose::Region;
 
 /// The number of rows and of columns of a tile.
-const TILE: usize = 8;
+pub(crate) const TILE: usize = 8;
 
 /// The greatest number of rows and of columns of a region that is not cut further.
 const LEAF: usize = 64;

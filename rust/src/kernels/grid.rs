@@ -19,7 +19,7 @@ use crate::kernels::places::Places;
 use crate::kernels::transpose::Region;
 
 /// The number of rows and of columns of a tile.
-const TILE: usize = 8;
+pub(crate) const TILE: usize = 8;
 
 /// The greatest number of rows and of columns of a region that is not cut further.
 const LEAF: usize = 64;

@@ -7,8 +7,8 @@
 //! - A [`Cut`] cuts consecutive numbers, such as the columns of a matrix, into parts.
 //!
 //! The module `laws`, which only the Rattle sources have, states what is proved about the parts:
-//! which places each part changes, that two parts have no place in common, and that all
-//! parts together have the effect of the call.
+//! at which places the steps of each part are, that two parts have no place in common, and that all
+//! parts together have the effect of the call, however their steps are interleaved.
 
 mod reversal;
 mod transpose;
@@ -113,8 +113,8 @@ impl Cut {
     }
 
     /// The two parts of pair `number`, the earlier part first. The pairs are numbered as if the
-    /// parts lay in a circle. First come the pairs of a part with itself, then those of a part with
-    /// the next part in the circle, then those of a part with the one after that, and so on.
+    /// parts lay in a circle, those of the parts that are farthest from each other first. The pairs
+    /// of a part with itself come last.
     ///
     /// # Contract
     ///
@@ -127,68 +127,64 @@ impl Cut {
     /// ```
     pub(crate) fn pair(self, number: usize) -> (usize, usize) {
         let count = self.count();
+        let number = self.pairs() - 1 - number;
         let (distance, start) = (number / count, number % count);
         let end = (start + distance) % count;
         (start.min(end), start.max(end))
     }
 }
 
-/// Squares that lie side by side in a list of rows of `stride` items. The rows of each square are
-/// cut by `cut`, and so are its columns. This divides the squares into blocks.
-#[derive(Clone, Copy, Debug)]
-pub(crate) struct Squares {
-    stride: usize,
+/// The pairs of rows that the reversal of `rows` exchanges. Each is a place of a grid, which
+/// [`RowDigits::grid`] gives, and its mirror image. The sides of the grids are cut by `cut`, which
+/// divides the grids into blocks.
+#[derive(Clone, Copy)]
+pub(crate) struct RowPairs {
+    rows: RowDigits,
     cut: Cut,
 }
 
-impl Squares {
-    /// The squares of a list of 2^`digits` items. Each has 2^(`digits` / 2) rows and columns, and
-    /// the rows of the list have 2^(`digits` - `digits` / 2) items. The sides of a square are cut
-    /// into at most `parts` parts, at multiples of `unit`. A `parts` of 0 counts as 1.
+impl RowPairs {
+    /// The pairs of `rows`. Each side of a grid is cut into at most `parts` parts, at multiples of
+    /// `unit`. A `parts` of 0 counts as 1.
     ///
     /// # Contract
     ///
     /// ```text
     /// requires unit { 0 < unit }
-    /// requires digits { digits < 64 }
-    /// ensures stride { result.stride ≡ 2 ^ (digits - digits / 2) }
-    /// ensures side { result.cut.len ≡ 2 ^ (digits / 2) }
+    /// requires digits { rows.digits < 64 }
+    /// ensures rows { result.rows ≡ rows }
     /// ensures few { parts_in result.cut.len result.cut.step ≤ max parts 1 }
     /// ensures least { IsLeastStep parts unit result.cut.len result.cut.step }
-    /// ensures units { (k : ℕ) → k < parts_in result.cut.len result.cut.step
-    ///     → start_of result.cut.len result.cut.step k % unit ≡ 0 }
     /// ```
-    pub(crate) fn new(digits: usize, parts: usize, unit: usize) -> Squares {
-        let half = digits / 2;
-        Squares {
-            stride: pow2(digits - half),
-            cut: Cut::new(pow2(half), parts, unit),
-        }
+    pub(crate) fn new(rows: RowDigits, parts: usize, unit: usize) -> RowPairs {
+        let cut = Cut::new(pow2(rows.digits / 2), parts, unit);
+        RowPairs { rows, cut }
     }
 
-    /// The number of blocks that are on the diagonal of their square or above it.
+    /// The number of blocks that are on the diagonal of their grid or above it.
     ///
     /// # Contract
     ///
     /// ```text
-    /// ensures { result ≡ blocks_of self.cut.len self.stride self.cut.step }
+    /// ensures { result ≡ blocks_of self.rows.digits self.cut.step }
     /// ```
     pub(crate) fn count(self) -> usize {
-        self.stride / self.cut.len * self.cut.pairs()
+        self.cut.pairs() * pow2(self.rows.digits % 2)
     }
 
-    /// Block `number`: the number of its square, and its rows and columns in that square.
+    /// Block `number`: the middle part of the indices of the rows of its grid, and its rows and
+    /// columns in that grid. The blocks on the diagonals come last. They have half as many pairs as
+    /// the others.
     ///
     /// # Contract
     ///
     /// ```text
-    /// requires { number < blocks_of self.cut.len self.stride self.cut.step }
-    /// ensures { IsBlock self.cut.len self.stride self.cut.step number
-    ///     (result.0 * self.cut.len) result.1 }
+    /// requires { number < blocks_of self.rows.digits self.cut.step }
+    /// ensures { IsBlock self.rows.digits self.cut.step number result.0 result.1 }
     /// ```
-    pub(crate) fn block(self, number: usize) -> (usize, Region) {
-        let pairs = self.cut.pairs();
-        let (first, second) = self.cut.pair(number % pairs);
+    fn block(self, number: usize) -> (usize, Region) {
+        let grids = pow2(self.rows.digits % 2);
+        let (first, second) = self.cut.pair(number / grids);
         let (row_start, row_end) = self.cut.part(first);
         let (col_start, col_end) = self.cut.part(second);
         let region = Region {
@@ -197,37 +193,7 @@ impl Squares {
             col_start,
             col_end,
         };
-        (number / pairs, region)
-    }
-}
-
-/// The pairs of rows that the reversal of `rows` exchanges. Each is a place of a grid, which
-/// [`RowDigits::grid`] gives, and its mirror image. So the pairs are cut in the same way as squares
-/// of items.
-#[derive(Clone, Copy)]
-pub(crate) struct RowPairs {
-    rows: RowDigits,
-    squares: Squares,
-}
-
-impl RowPairs {
-    /// The pairs of `rows`. Each side of a square is cut into at most `parts` parts, at multiples
-    /// of `unit`. A `parts` of 0 counts as 1.
-    ///
-    /// # Contract
-    ///
-    /// ```text
-    /// requires unit { 0 < unit }
-    /// requires digits { rows.digits < 64 }
-    /// ensures rows { result.rows ≡ rows }
-    /// ensures few { parts_in result.squares.cut.len result.squares.cut.step ≤ max parts 1 }
-    /// ensures least { IsLeastStep parts unit result.squares.cut.len result.squares.cut.step }
-    /// ```
-    pub(crate) fn new(rows: RowDigits, parts: usize, unit: usize) -> RowPairs {
-        RowPairs {
-            rows,
-            squares: Squares::new(rows.digits, parts, unit),
-        }
+        (number % grids, region)
     }
 
     /// Exchanges the two rows of each pair in block `number`.
@@ -235,21 +201,14 @@ impl RowPairs {
     /// # Contract
     ///
     /// ```text
-    /// requires below { number < blocks_of self.squares.cut.len self.squares.stride
-    ///     self.squares.cut.step }
+    /// requires below { number < blocks_of self.rows.digits self.cut.step }
     /// requires ready { HoldsRows self.rows.width self.rows.digits (M.items m) }
-    /// ensures block { (base : ℕ) × (region : Region)
-    ///     × IsBlock self.squares.cut.len self.squares.stride self.squares.cut.step
-    ///     number base region
-    ///     × IsCrossed (self.rows.digits / 2)
-    ///     (self.rows.digits - self.rows.digits / 2) self.rows.width
-    ///     (record region { col_start = base + region.col_start; col_end = base + region.col_end })
-    ///     (M.items m) (M.items result)
-    ///     × M.same_holder (self.rows.width * swaps_of_block region) m result }
+    /// ensures { IsBlockExchanged self.rows.digits self.rows.width self.cut.step number
+    ///     (M.items m) (M.items result) (λ n. M.same_holder n m result) }
     /// ```
     pub(crate) fn exchange<M: Places>(self, m: M, number: usize) -> M {
-        let (square, region) = self.squares.block(number);
-        let grid = self.rows.grid(square);
+        let (middle, region) = self.block(number);
+        let grid = self.rows.grid(middle);
         if region.row_start == region.col_start {
             exchange_quadrants(m, grid, region.row_start, region.rows())
         } else {

@@ -220,6 +220,18 @@ fn blocks_of_pairs_of_rows() {
     }
 }
 
+/// Parts on the diagonal make half as many exchanges as the others, so they are run last.
+#[test]
+fn pairs_of_a_part_with_itself_come_last() {
+    for parts in 1..=20 {
+        let cut = Cut::new(parts, parts, 1);
+        for number in 0..cut.pairs() {
+            let (first, second) = cut.pair(number);
+            assert_eq!(first == second, number >= cut.pairs() - parts);
+        }
+    }
+}
+
 /// Runs all parts of long lists and of lists of long rows. No two parts change the same place.
 #[test]
 fn long_lists() {
@@ -283,7 +295,7 @@ fn shares_of_reversals() {
     type Case = (usize, usize, usize, (usize, usize));
     let cases: [Case; 16] = [
         (20, 1, 0, (1, 1000)),
-        (20, 1, 2, (6, 237)),
+        (20, 1, 2, (6, 226)),
         (20, 1, 16, (36, 32)),
         (20, 1, 40, (91, 13)),
         (20, 1, 64, (136, 8)),
@@ -315,6 +327,23 @@ fn shares_of_reversals() {
             _ => 1000,
         };
         assert!(got.1 <= most);
+    }
+}
+
+/// If 64 parts are asked for, no part makes more than 2 % of the exchanges, from 2^13 items or 2^7 rows on.
+#[test]
+fn small_shares_of_short_lists() {
+    let items = (13..=18).map(|digits| (digits, 1));
+    for (digits, row_width) in items.chain((7..=12).map(|digits| (digits, 5))) {
+        let len = row_width << digits;
+        let plan = ReversalPlan::new(len, row_width, parts_of_side(64), 0);
+        let exchanges_of = |number| {
+            let mut counted = Counted { len, exchanges: 0 };
+            let _ = plan.exchange(&mut counted, number);
+            counted.exchanges
+        };
+        let (_, largest) = count_and_share((0..plan.count()).map(exchanges_of));
+        assert!(largest <= 20, "2^{digits} rows of {row_width}: {largest}");
     }
 }
 

@@ -1,31 +1,41 @@
 //! What makes it safe to run the parts of a call on several threads.
 //!
 //! No other code calls the functions of this module, and the package is made without them: each is
-//! there for its contract. Some run one part of a plan, on a holder whose contract says that the
-//! steps of the part exist. Their contracts say at which places these steps are. Other functions
-//! state that two parts have no place in common, and that each place belongs to some part.
-//! `all_parts` runs all parts, in any order, and states that this has the effect of
-//! the call. `interleaved` states the same for every interleaving of the steps of several parts, as
-//! threads may make them. `witnesses` shows that the preconditions can be met.
+//! there for its contract.
+//!
+//! **The law.** Let each part of a call make its steps alone on the list 0, 1, 2 and so on, whose
+//! items all differ. Take any sequence that contains these steps, those of each part in their
+//! order. On every list it has the effect of the call, and it is as long as the call. Any order of
+//! whole parts is one such sequence, and so is whatever several threads make of the parts, because
+//! no two parts have a place in common. [`reversal_in_parts`] and [`transpose_in_parts`] state this.
+//! What is left to review is that the steps of a part do not depend on the items of the list, so
+//! that a part makes the same steps on every list.
+//!
+//! **From "n steps exist" to "these steps were made".** `SwapsLead n old new` says that some n swaps
+//! lead from `old` to `new`. Why are these the swaps that a part makes, and why are there no others?
+//! The contract of a kernel holds for every holder and every `same_holder` that meets the laws of
+//! [`Places`]. So it holds for a holder that writes down each swap, for which `same_holder n a b`
+//! says that b has n more swaps written down than a, and that these lead from the items of a to
+//! those of b. A swap beyond the n swaps of the contract would be written down and counted as well.
+//! [`ExchangeSteps`] states what such a holder states, and writes nothing down. The exact number then
+//! says where the swaps are: on a list whose items all differ, m swaps that change 2m places are at
+//! these places, and none of them is at any other place or twice at one.
 
-ghost use Rattle.std.specs.Prelude.{◌≡◌, ◌≢◌, ℕ, ◌⊎◌, ◌+◌, ◌-◌, ◌*◌, ◌/◌, ◌^◌, ◌<◌, ◌≤◌, ◌↔◌, false, if◌then◌else◌, length};
-ghost use Rattle.p3_util_kernels.specs.Blocks.{IsBlock, blocks_of, swaps_of_block};
-ghost use Rattle.p3_util_kernels.specs.Crossing.{HoldsRows, IsCrossed};
-ghost use Rattle.p3_util_kernels.specs.Least.{AllDiffer, PutsAtChanged, SwapsAtChanged};
-ghost use Rattle.p3_util_kernels.specs.PartSteps.{IsPlaceOfPairs, IsPlaceOfRegion, NoItemInCommon, NoPlaceInCommon};
-ghost use Rattle.p3_util_kernels.specs.PartSteps.{PartsCover};
-ghost use Rattle.p3_util_kernels.specs.PartSteps.{PutsLead, PutsStay, more_puts, no_puts, one_put};
-ghost use Rattle.p3_util_kernels.specs.PartSteps.{SwapsLead, SwapsStay, more_swaps, no_swaps, one_swap};
-ghost use Rattle.p3_util_kernels.specs.Parts.{number_of_pair, pairs_of, part_of_matrix, parts_in, start_of};
-ghost use Rattle.p3_util_kernels.specs.Region.{IsRegionTransposed, LiesInMatrix, items_of};
+ghost use Rattle.std.specs.Prelude.{◌≡◌, ◌≢◌, ℕ, ◌+◌, ◌*◌, ◌^◌, ◌<◌, ◌≤◌, ◌↔◌, List, Some, false, length, slice_get};
+ghost use Rattle.p3_util_kernels.specs.Interleaved.{AreOfParts, IsInterleaved, IsMadeAlone, IsPutAlone, numbers_below, puts_of, region_of};
+ghost use Rattle.p3_util_kernels.specs.Least.{AreOnceAmong, after_puts, after_swaps, places_put, places_swapped};
+ghost use Rattle.p3_util_kernels.specs.PartSteps.{IsPlaceOfPart, IsPlaceOfRegion, NoItemInCommon, NoPlaceInCommon};
+ghost use Rattle.p3_util_kernels.specs.PartSteps.{PutsLead, more_puts, no_puts, one_put};
+ghost use Rattle.p3_util_kernels.specs.PartSteps.{SwapsLead, more_swaps, no_swaps, one_swap};
+ghost use Rattle.p3_util_kernels.specs.Parts.{parts_in, start_of};
+ghost use Rattle.p3_util_kernels.specs.Plans.{IsReversalPlan, parts_of, width_of};
+ghost use Rattle.p3_util_kernels.specs.Reversal.{IsRowReversal};
+ghost use Rattle.p3_util_kernels.specs.SwapCounts.{row_swaps};
+ghost use Rattle.p3_util_kernels.specs.Transpose.{IsTranspose};
 
-mod all_parts;
-mod interleaved;
-mod witnesses;
-
-use crate::parts::{Cut, ReversalPlan, RowPairs, Squares, TransposePlan};
+use crate::parts::{ReversalPlan, TransposePlan};
 use crate::places::{Cells, Places, Source};
-use crate::transpose::{Matrix, Region, Strips};
+use crate::transpose::Strips;
 
 /// A holder whose `same_holder n a b` says that some n puts turn the items of `a` into those of
 /// `b`.
@@ -83,17 +93,9 @@ impl<S: Places> Places for ExchangeSteps<S> {
         (S.items b.places) (S.items c.places) };
 }
 
-/// If m puts changed m places, or m exchanges changed 2m places, then these steps are at exactly
-/// the places that changed, and no two steps have a place in common.
-pub(crate) fn changed_places<T>()
-    ensures swaps { SwapsAtChanged T }
-    ensures puts { PutsAtChanged T }
-{}
-
-/// Puts a region of a plan, by any strips, in as many puts as the region has items. If the output
-/// has no item of the input before the call, the puts are at the places of the region's transpose,
-/// one at each.
-pub(crate) fn put_region<C: Cells, R: Source<Item = C::Item> + Copy>(
+/// Each part of a plan for a transpose has steps, by any strips: some puts that put its region, one
+/// for each item of the region.
+pub(crate) fn puts_of_part<C: Cells, R: Source<Item = C::Item> + Copy>(
     out: C,
     source: R,
     plan: TransposePlan,
@@ -103,132 +105,76 @@ pub(crate) fn put_region<C: Cells, R: Source<Item = C::Item> + Copy>(
     requires below { number < parts_in plan.cut.len plan.cut.step }
     requires input_fits { length (R.items source) ≡ plan.width * plan.height }
     requires output_fits { length (C.items out) ≡ plan.width * plan.height }
-    ensures transposed { let region = part_of_matrix plan.width plan.height plan.by_rows
-        plan.cut.len plan.cut.step number in
-        IsRegionTransposed region plan.width plan.height (R.items source) (C.items out)
-        (C.items result) }
-    ensures steps { let region = part_of_matrix plan.width plan.height plan.by_rows plan.cut.len
-        plan.cut.step number in
-        PutsLead (items_of region) (C.items out) (C.items result) }
-    ensures stay { let region = part_of_matrix plan.width plan.height plan.by_rows plan.cut.len
-        plan.cut.step number in
-        NoItemInCommon (R.items source) (C.items out)
-        → PutsStay (IsPlaceOfRegion region plan.height) (items_of region) (C.items out)
-        (C.items result) }
+    ensures { (steps : List (ℕ × C.Item)) × (C.items result ≡ after_puts (C.items out) steps)
+        × IsPutAlone plan number (R.items source) (C.items out) steps }
 {
     plan.put(PutSteps { cells: out }, source, number, strips)
         .cells
 }
 
-/// Two regions of one matrix have no place of the transpose in common if one ends before the other
-/// begins, by rows or by columns.
-pub(crate) fn regions_apart(first: Region, second: Region, width: usize, height: usize)
-    requires first { LiesInMatrix first width height }
-    requires second { LiesInMatrix second width height }
-    requires apart { (first.row_end ≤ second.row_start) ⊎ (first.col_end ≤ second.col_start) }
-    ensures { NoPlaceInCommon (IsPlaceOfRegion first height) (IsPlaceOfRegion second height) }
+/// The law for a transpose. Each part puts numbers from the list 0, 1, 2 and so on into a list that
+/// has none of these numbers. Its puts are then at the places of its region, one at each, and two
+/// parts have no place in common. Take any interleaving of the puts of all parts, and let each put
+/// write the item that the input has at the number. On every output this puts the transpose of
+/// every input, by as many puts as there are items.
+pub(crate) fn transpose_in_parts<T>(plan: TransposePlan)
+    ensures stay { (number : ℕ) (blank : List ℕ) (steps : List (ℕ × ℕ))
+        → number < parts_in plan.cut.len plan.cut.step → length blank ≡ plan.width * plan.height
+        → NoItemInCommon (numbers_below (plan.width * plan.height)) blank
+        → IsPutAlone plan number (numbers_below (plan.width * plan.height)) blank steps
+        → AreOnceAmong (IsPlaceOfRegion (region_of plan number) plan.height) (places_put steps) }
+    ensures apart { (i j : ℕ) → i ≢ j → i < parts_in plan.cut.len plan.cut.step
+        → NoPlaceInCommon (IsPlaceOfRegion (region_of plan i) plan.height)
+        (IsPlaceOfRegion (region_of plan j) plan.height) }
+    ensures whole { (input old : List T) (item : ℕ → T) (blank : List ℕ)
+        (lists : List (List (ℕ × ℕ))) (all : List (ℕ × ℕ))
+        → length input ≡ plan.width * plan.height → length old ≡ plan.width * plan.height
+        → ((i : ℕ) → i < length input → slice_get input i ≡ Some (item i))
+        → length blank ≡ plan.width * plan.height
+        → NoItemInCommon (numbers_below (plan.width * plan.height)) blank
+        → AreOfParts (parts_in plan.cut.len plan.cut.step)
+        (λ k. IsPutAlone plan k (numbers_below (plan.width * plan.height)) blank) lists
+        → IsInterleaved lists all
+        → IsTranspose plan.width plan.height input (after_puts old (puts_of item all))
+        × (length all ≡ plan.width * plan.height) }
 {}
 
-/// If the rows or the columns of a matrix are cut, two different parts have no place of the
-/// transpose in common.
-pub(crate) fn parts_of_matrix(
-    width: usize,
-    height: usize,
-    by_rows: bool,
-    cut: Cut,
-    parts: (usize, usize),
-) -> (Region, Region)
-    requires side { cut.len ≡ if by_rows then height else width }
-    requires in_order { parts.0 < parts.1 }
-    requires below { parts.1 < parts_in cut.len cut.step }
-    ensures first_is { result.0 ≡ part_of_matrix width height by_rows cut.len cut.step parts.0 }
-    ensures second_is { result.1 ≡ part_of_matrix width height by_rows cut.len cut.step parts.1 }
-    ensures first { LiesInMatrix result.0 width height }
-    ensures second { LiesInMatrix result.1 width height }
-    ensures apart { NoPlaceInCommon (IsPlaceOfRegion result.0 height)
-        (IsPlaceOfRegion result.1 height) }
+/// Each part of a plan for a reversal has steps: some exchanges that have the effect of the part,
+/// as many as the part takes.
+pub(crate) fn exchanges_of_part<M: Places>(m: M, plan: ReversalPlan, number: usize) -> M
+    requires below { number < parts_of plan }
+    requires plan { IsReversalPlan (length (M.items m)) plan }
+    requires len_fits { length (M.items m) < 2 ^ 64 }
+    ensures { (steps : List (ℕ × ℕ)) × (M.items result ≡ after_swaps (M.items m) steps)
+        × IsMadeAlone plan number (M.items m) steps }
 {
-    let matrix = Matrix::new((), width, height);
-    let first = cut.region(&matrix, by_rows, parts.0);
-    let second = cut.region(&matrix, by_rows, parts.1);
-    regions_apart(first, second, width, height);
-    (first, second)
+    plan.exchange(ExchangeSteps { places: m }, number).places
 }
+
+/// The law for a reversal. Each part makes exchanges on the list 0, 1, 2 and so on. They are at
+/// places of the part, no two of these places are the same, and two parts have no place in common.
+/// Any interleaving of the exchanges of all parts reverses every list, by as many exchanges as the
+/// reversal that is not cut.
+pub(crate) fn reversal_in_parts<T>(plan: ReversalPlan)
+    ensures stay { (len number : ℕ) (steps : List (ℕ × ℕ)) → number < parts_of plan
+        → IsReversalPlan len plan → IsMadeAlone plan number (numbers_below len) steps
+        → AreOnceAmong (IsPlaceOfPart plan number) (places_swapped steps) }
+    ensures apart { (i j : ℕ) → i ≢ j
+        → NoPlaceInCommon (IsPlaceOfPart plan i) (IsPlaceOfPart plan j) }
+    ensures whole { (old : List T) (lists : List (List (ℕ × ℕ))) (all : List (ℕ × ℕ))
+        → IsReversalPlan (length old) plan
+        → AreOfParts (parts_of plan) (λ k. IsMadeAlone plan k (numbers_below (length old))) lists
+        → IsInterleaved lists all
+        → IsRowReversal (width_of plan) old (after_swaps old all)
+        × (length all ≡ row_swaps (length old) (width_of plan)) }
+{}
 
 /// If the columns are cut, the cells of a region are consecutive, and those of the next region come
 /// right after them.
 pub(crate) fn cells_follow(plan: TransposePlan, number: usize)
     requires columns { plan.by_rows ≡ false }
     requires below { number < parts_in plan.cut.len plan.cut.step }
-    ensures { (p : ℕ) → IsPlaceOfRegion (part_of_matrix plan.width plan.height plan.by_rows
-        plan.cut.len plan.cut.step number) plan.height p
+    ensures { (p : ℕ) → IsPlaceOfRegion (region_of plan number) plan.height p
         ↔ ((start_of plan.cut.len plan.cut.step number * plan.height ≤ p)
         × (p < start_of plan.cut.len plan.cut.step (number + 1) * plan.height)) }
-{}
-
-/// Each pair of parts of a cut has a number below the number of pairs, and no two pairs have the
-/// same number.
-pub(crate) fn pairs_have_numbers()
-    ensures below { (n i j : ℕ) → i ≤ j → j < n → number_of_pair n i j < pairs_of n }
-    ensures apart { (n i j k l : ℕ) → i ≤ j → j < n → k ≤ l → l < n
-        → number_of_pair n i j ≡ number_of_pair n k l → (i ≡ k) × (j ≡ l) }
-{}
-
-/// The number of a block determines the block.
-pub(crate) fn block_of_number(squares: Squares, number: usize)
-    ensures { (base other_base : ℕ) → (region other_region : Region)
-        → IsBlock squares.cut.len squares.stride squares.cut.step number base region
-        → IsBlock squares.cut.len squares.stride squares.cut.step number other_base other_region
-        → (base ≡ other_base) × (region ≡ other_region) }
-{}
-
-/// Exchanges the two rows of each pair in a block, by an exact number of exchanges. If all items of
-/// the list differ, the exchanges are at places of these rows, and no two exchanges have a place in
-/// common.
-pub(crate) fn exchange_row_pairs<S: Places>(places: S, pairs: RowPairs, number: usize) -> S
-    requires below { number < blocks_of pairs.squares.cut.len pairs.squares.stride
-        pairs.squares.cut.step }
-    requires ready { HoldsRows pairs.rows.width pairs.rows.digits (S.items places) }
-    ensures block { (base : ℕ) × (region : Region)
-        × IsBlock pairs.squares.cut.len pairs.squares.stride pairs.squares.cut.step
-        number base region
-        × SwapsLead (pairs.rows.width * swaps_of_block region) (S.items places) (S.items result)
-        × (AllDiffer (S.items places) → SwapsStay
-        (IsPlaceOfPairs pairs.rows.digits pairs.rows.width pairs.squares.cut.step number)
-        (pairs.rows.width * swaps_of_block region) (S.items places) (S.items result)) }
-    ensures crossed { (base : ℕ) → (region : Region)
-        → IsBlock pairs.squares.cut.len pairs.squares.stride pairs.squares.cut.step
-        number base region
-        → let half = pairs.rows.digits / 2 in IsCrossed half
-        (pairs.rows.digits - half) pairs.rows.width
-        (record region { col_start = base + region.col_start; col_end = base + region.col_end })
-        (S.items places) (S.items result) }
-{
-    ReversalPlan::ByPairs(pairs)
-        .exchange(ExchangeSteps { places }, number)
-        .places
-}
-
-/// The pairs of rows in two different blocks have no place in common.
-pub(crate) fn row_pairs_apart(pairs: RowPairs, first: usize, second: usize)
-    requires { first ≢ second }
-    ensures { NoPlaceInCommon (IsPlaceOfPairs pairs.rows.digits pairs.rows.width
-        pairs.squares.cut.step first)
-        (IsPlaceOfPairs pairs.rows.digits pairs.rows.width pairs.squares.cut.step second) }
-{}
-
-/// Each place of the transpose of a matrix belongs to one of the parts that the matrix's rows or
-/// columns are cut into.
-pub(crate) fn parts_cover_matrix(width: usize, height: usize, by_rows: bool, cut: Cut)
-    requires side { cut.len ≡ if by_rows then height else width }
-    ensures { PartsCover (λ p. p < width * height) (parts_in cut.len cut.step)
-        (λ k. IsPlaceOfRegion (part_of_matrix width height by_rows cut.len cut.step k) height) }
-{}
-
-/// Each place of a list of rows belongs to the pairs of rows in one of the blocks. Here a row that
-/// stays where it is counts as a pair with itself.
-pub(crate) fn blocks_cover_rows(pairs: RowPairs)
-    ensures { PartsCover (λ p. p < pairs.rows.width * 2 ^ pairs.rows.digits)
-        (blocks_of pairs.squares.cut.len pairs.squares.stride pairs.squares.cut.step)
-        (IsPlaceOfPairs pairs.rows.digits pairs.rows.width pairs.squares.cut.step) }
 {}

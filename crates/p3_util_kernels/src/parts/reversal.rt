@@ -4,10 +4,10 @@ ghost use Rattle.std.specs.Prelude.{◌≡◌, ◌^◌, ◌<◌, length};
 ghost use Rattle.p3_util_kernels.specs.Plans.{IsCutAsAsked, IsPartMade, IsReversalPlan, parts_of, width_of};
 ghost use Rattle.p3_util_kernels.specs.Reversal.{FitsRows};
 
+use crate::grid::TILE;
 use crate::parts::RowPairs;
 use crate::places::Places;
 use crate::reverse::{RowDigits, reverse_rows};
-use crate::transpose::TILE_SIDE;
 
 /// How a reversal of rows is cut into parts.
 #[derive(Clone, Copy)]
@@ -20,20 +20,20 @@ pub(crate) enum ReversalPlan {
 
 impl ReversalPlan {
     /// Cuts the reversal of a list of `len` items, in rows of `row_width` items. A list of at most
-    /// `one_part` items is one part. For a longer list, each side of a square of the [`RowPairs`]
+    /// `one_part` items is one part. For a longer list, each side of a grid of the [`RowPairs`]
     /// is cut into at most `parts` parts. A `parts` of 0 counts as 1. Rows of one item are cut at
-    /// multiples of `TILE_SIDE`.
+    /// multiples of `TILE`.
     pub(crate) fn new(len: usize, row_width: usize, parts: usize, one_part: usize) -> ReversalPlan
         requires { FitsRows len row_width }
         ensures width { width_of result ≡ row_width }
         ensures plan { IsReversalPlan len result }
-        ensures cut { IsCutAsAsked len row_width parts one_part TILE_SIDE result }
+        ensures cut { IsCutAsAsked len row_width parts one_part TILE result }
     {
         let rows = RowDigits::of(len, row_width);
         if len <= one_part {
             return ReversalPlan::OnePart(rows);
         }
-        let unit = if row_width == 1 { TILE_SIDE } else { 1 };
+        let unit = if row_width == 1 { TILE } else { 1 };
         ReversalPlan::ByPairs(RowPairs::new(rows, parts, unit))
     }
 
@@ -43,7 +43,7 @@ impl ReversalPlan {
     {
         match self {
             ReversalPlan::OnePart(_) => 1,
-            ReversalPlan::ByPairs(pairs) => pairs.squares.count(),
+            ReversalPlan::ByPairs(pairs) => pairs.count(),
         }
     }
 

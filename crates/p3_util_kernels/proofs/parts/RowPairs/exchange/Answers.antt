@@ -1,7 +1,5 @@
--- A block is a region of the grid of its square.
-use Rattle.std.proofs.Common.{◌≡◌, ℕ, ◌+◌, ◌-◌, ◌*◌, ◌/◌, ◌^◌, ◌<◌, ◌≤◌, ap, refl, subst, ◌∙◌, eq-eqb, ne_eqb, arith}
-use Rattle.std.proofs.Math.Nat.{lt_of_mul-lt-mul_right}
-use Rattle.std.proofs.lemmas.Nat.{pow_pos}
+-- A block is a region of the grid of its rows.
+use Rattle.std.proofs.Common.{◌≡◌, ℕ, ◌+◌, ◌-◌, ◌/◌, ◌%◌, ◌^◌, ◌<◌, ◌≤◌, ap, refl, subst, ◌∙◌, eq-eqb, ne_eqb, arith}
 use Rattle.p3_util_kernels.specs.declared.transpose.regions.Region.{Region}
 use Rattle.p3_util_kernels.specs.Blocks.{IsBlock, swaps_of_block}
 use Rattle.p3_util_kernels.specs.Grid.{SwapsInGrid, grid_of_rows}
@@ -9,17 +7,11 @@ use Rattle.p3_util_kernels.specs.Region.{items_of, rows_of}
 use Rattle.p3_util_kernels.specs.SwapCounts.{square_swaps}
 use Rattle.p3_util_kernels.proofs.BlocksLemmas.{block-above, block-cols, block-diagonal, block-rows}
 use Rattle.p3_util_kernels.proofs.GridRows.{HoldsGrid-rows, IsCrossed-grid}
-use Rattle.p3_util_kernels.proofs.SideBySideLemmas.{row_length}
 use Rattle.p3_util_kernels.proofs.parts.RowPairs.exchange.Goals as goal
 
--- the square of a block is one of those that lie side by side
-below : (digits middle side stride step number : ℕ) (region : Region) → side ≡ 2 ^ (digits / 2) → stride ≡ 2 ^ (digits - digits / 2)
-    → IsBlock side stride step number (middle * side) region → middle < 2 ^ (digits - digits / 2 - digits / 2)
-below digits middle side stride step number region side_is stride_is block =
-    let half : ℕ = digits / 2 in
-    let inside : middle * 2 ^ half + 2 ^ half ≤ 2 ^ (digits - half) = rw (side_is, stride_is) at block.inside in
-    let row : middle * 2 ^ half < 2 ^ (digits - half - half) * 2 ^ half = omega (arith, inside, row_length (digits - half) half (omega arith), pow_pos half) in
-    lt_of_mul-lt-mul_right (2 ^ half) row
+-- the grid of a block is one of those of the rows
+below : (digits step number middle : ℕ) (region : Region) → IsBlock digits step number middle region → middle < 2 ^ (digits - digits / 2 - digits / 2)
+below digits step number middle region block = let rest : digits - digits / 2 - digits / 2 ≡ digits % 2 = omega arith in rw rest block.middle_below
 
 -- a region on the diagonal is a square
 square : (region : Region) → region.row_start ≤ region.row_end → region.row_start ≡ region.col_start → region.row_end ≡ region.col_end
@@ -32,28 +24,24 @@ square region order start end =
     ∙ ap (λ (n : ℕ). record { row_start = region.row_start; row_end = region.row_end; col_start = region.col_start; col_end = n }) to
 
 pub grid-grid-requires-clause-middle : goal.grid-grid-requires-clause-middle
-grid-grid-requires-clause-middle g c =
-    let pairs = c.args.self in
-    below pairs.rows.digits c.block-square.result.0 _ _ _ _ _ pairs.side pairs.stride c.block-square.ensures
+grid-grid-requires-clause-middle g c = below _ _ _ _ _ c.block-middle.ensures
 
 pub exchange_quadrants-requires-clause-ready : goal.exchange_quadrants-requires-clause-ready
 exchange_quadrants-requires-clause-ready g c =
-    let pairs = c.args.self in
-    let digits = pairs.rows.digits in
+    let digits = c.args.self.rows.digits in
     rw c.grid-grid.ensures
-    (HoldsGrid-rows (digits / 2) (digits - digits / 2) pairs.rows.width c.block-square.result.0 (omega arith)
-    (below digits c.block-square.result.0 _ _ _ _ _ pairs.side pairs.stride c.block-square.ensures) digits _ (omega arith) c.requires.ready)
+    (HoldsGrid-rows (digits / 2) (digits - digits / 2) c.args.self.rows.width c.block-middle.result.0 (omega arith) (below _ _ _ _ _ c.block-middle.ensures)
+    digits _ (omega arith) c.requires.ready)
 
 pub exchange_region-requires-clause-ready : goal.exchange_region-requires-clause-ready
 exchange_region-requires-clause-ready g c =
-    let pairs = c.args.self in
-    let digits = pairs.rows.digits in
+    let digits = c.args.self.rows.digits in
     rw c.grid-grid.ensures
-    (HoldsGrid-rows (digits / 2) (digits - digits / 2) pairs.rows.width c.block-square.result.0 (omega arith)
-    (below digits c.block-square.result.0 _ _ _ _ _ pairs.side pairs.stride c.block-square.ensures) digits _ (omega arith) c.requires.ready)
+    (HoldsGrid-rows (digits / 2) (digits - digits / 2) c.args.self.rows.width c.block-middle.result.0 (omega arith) (below _ _ _ _ _ c.block-middle.ensures)
+    digits _ (omega arith) c.requires.ready)
 
 pub exchange_region-requires-clause-above : goal.exchange_region-requires-clause-above
-exchange_region-requires-clause-above g c = block-above _ _ _ _ _ _ c.args.self.squares.cut.some_step c.block-square.ensures c.if-region.false
+exchange_region-requires-clause-above g c = block-above _ _ _ _ _ c.args.self.cut.some_step c.block-middle.ensures c.if-region.false
 
 pub returns-then-region : goal.returns-then-region
 returns-then-region g c =
@@ -61,46 +49,36 @@ returns-then-region g c =
     let digits = pairs.rows.digits in
     let half = digits / 2 in
     let width = pairs.rows.width in
-    let middle = c.block-square.result.0 in
-    let region = c.block-square.result.1 in
-    let block = c.block-square.ensures in
-    let some = pairs.squares.cut.some_step in
-    let rows = block-rows _ _ _ _ _ region some block in
-    let cols = block-cols _ _ _ _ _ region some block in
-    let end = block-diagonal _ _ _ _ _ region some block c.if-region.true in
-    let swaps : swaps_of_block region ≡ square_swaps (rows_of region) = rw (eq-eqb region.row_start region.col_start c.if-region.true) refl in
-    record {
-      block = (
-        middle * pairs.squares.cut.len,
-        region,
-        block,
-        rw pairs.side
-            (IsCrossed-grid half (digits - half) width middle (omega arith) (below digits middle _ _ _ _ _ pairs.side pairs.stride block) region _ _ (omega (arith, cols, pairs.side))
-            (subst (λ (r : Region). SwapsInGrid (grid_of_rows half (digits - half) width middle) r (g.M.Places.items c.args.m) (g.M.Places.items c.exchange_quadrants.result))
-            (square region (omega (arith, rows)) c.if-region.true end) (rw (c.grid-grid.ensures, c.rows.ensures) at c.exchange_quadrants.ensures.exchanged))),
-        rw swaps (rw (c.grid-grid.ensures, c.rows.ensures) at c.exchange_quadrants.ensures.holder),
-      );
-    }
+    let middle = c.block-middle.result.0 in
+    let region = c.block-middle.result.1 in
+    let block = c.block-middle.ensures in
+    let rows = block-rows _ _ _ _ region pairs.cut.some_step block in
+    let cols = block-cols _ _ _ _ region pairs.cut.some_step block in
+    let end = block-diagonal _ _ _ _ region pairs.cut.some_step block c.if-region.true in
+    let swaps : swaps_of_block region ≡ square_swaps (rows_of region) = rw (eq-eqb region.row_start region.col_start c.if-region.true) refl in (
+      middle,
+      region,
+      block,
+      IsCrossed-grid half (digits - half) width middle (omega arith) (below _ _ _ _ _ block) region _ _ cols.1
+          (subst (λ (r : Region). SwapsInGrid (grid_of_rows half (digits - half) width middle) r (g.M.Places.items c.args.m) (g.M.Places.items c.exchange_quadrants.result))
+          (square region (omega (arith, rows)) c.if-region.true end) (rw (c.grid-grid.ensures, c.rows.ensures) at c.exchange_quadrants.ensures.exchanged)),
+      rw swaps (rw (c.grid-grid.ensures, c.rows.ensures) at c.exchange_quadrants.ensures.holder),
+    )
 
 pub returns-else-region : goal.returns-else-region
 returns-else-region g c =
     let pairs = c.args.self in
     let digits = pairs.rows.digits in
     let half = digits / 2 in
-    let width = pairs.rows.width in
-    let middle = c.block-square.result.0 in
-    let region = c.block-square.result.1 in
-    let block = c.block-square.ensures in
-    let cols = block-cols _ _ _ _ _ region pairs.squares.cut.some_step block in
-    let swaps : swaps_of_block region ≡ items_of region = rw (ne_eqb region.row_start region.col_start c.if-region.false) refl in
-    record {
-      block = (
-        middle * pairs.squares.cut.len,
-        region,
-        block,
-        rw pairs.side
-            (IsCrossed-grid half (digits - half) width middle (omega arith) (below digits middle _ _ _ _ _ pairs.side pairs.stride block) region _ _ (omega (arith, cols, pairs.side))
-            (rw c.grid-grid.ensures at c.exchange_region.ensures.exchanged)),
-        rw swaps (rw c.grid-grid.ensures at c.exchange_region.ensures.holder),
-      );
-    }
+    let middle = c.block-middle.result.0 in
+    let region = c.block-middle.result.1 in
+    let block = c.block-middle.ensures in
+    let cols = block-cols _ _ _ _ region pairs.cut.some_step block in
+    let swaps : swaps_of_block region ≡ items_of region = rw (ne_eqb region.row_start region.col_start c.if-region.false) refl in (
+      middle,
+      region,
+      block,
+      IsCrossed-grid half (digits - half) pairs.rows.width middle (omega arith) (below _ _ _ _ _ block) region _ _ cols.1
+          (rw c.grid-grid.ensures at c.exchange_region.ensures.exchanged),
+      rw swaps (rw c.grid-grid.ensures at c.exchange_region.ensures.holder),
+    )

@@ -1,8 +1,6 @@
 -- Each turn of the loop exchanges the pairs of one more grid. All grids have all pairs.
-use Rattle.std.proofs.Common.{◌≡◌, ℕ, ◌+◌, ◌-◌, ◌*◌, ◌/◌, ◌^◌, ◌<◌, ◌≤◌, List, length, inl, inr, ap, ◌∙◌, zero-add, arith}
-use Rattle.std.proofs.Math.Nat.{mul-pos}
+use Rattle.std.proofs.Common.{◌≡◌, ℕ, ◌+◌, ◌-◌, ◌*◌, ◌/◌, ◌^◌, ◌<◌, ◌≤◌, max, List, length, inl, inr, ap, ◌∙◌, zero-add, arith}
 use Rattle.std.proofs.lemmas.Bool.{cases_eq}
-use Rattle.std.proofs.lemmas.Nat.{pow_pos}
 use Rattle.p3_util_kernels.specs.declared.transpose.regions.Region.{Region}
 use Rattle.p3_util_kernels.specs.Crossing.{HoldsRows, IsCrossed}
 use Rattle.p3_util_kernels.specs.Levels.{clog}
@@ -11,9 +9,10 @@ use Rattle.p3_util_kernels.specs.SwapCounts.{short_swaps, square_swaps}
 use Rattle.p3_util_kernels.proofs.CrossingLemmas.{IsCrossed-cut, IsCrossed-few, IsRowReversal-crossed}
 use Rattle.p3_util_kernels.proofs.GridRows.{HoldsGrid-rows, IsCrossed-grid}
 use Rattle.p3_util_kernels.proofs.Lengths.{IsDigitsOfRows-from, no_digits}
+use Rattle.p3_util_kernels.proofs.ReversalLemmas.{IsRowReversal-none}
 use Rattle.p3_util_kernels.proofs.SquareCounts.{squares-short}
 use Rattle.p3_util_kernels.proofs.RegionLemmas.{IsCut-cols}
-use Rattle.p3_util_kernels.proofs.SideBySideLemmas.{row_length}
+use Rattle.p3_util_kernels.proofs.SideBySideLemmas.{in_row, row_length}
 use Rattle.p3_util_kernels.proofs.reverse.rows.exchange_all.Goals as goal
 
 -- a list whose row indices have two digits or more has rows
@@ -35,15 +34,14 @@ reversed : {A : Type 0} (row_width digits : ℕ) (xs ys : List A) → FitsRows (
 reversed row_width digits xs ys fits counted crossed =
     let half = digits / 2 in
     elim (cases_eq (length xs) 0) [
-      | inl none ↦ record {
-        same_length = crossed.same_length;
-        places = λ k r j e h inside. absurd (omega (arith, mul-pos {m = row_width} {n = 2 ^ k} (omega arith) (pow_pos k)));
-      }
+      | inl none ↦ IsRowReversal-none row_width xs ys none crossed.same_length
       | inr some ↦
           let rows = IsDigitsOfRows-from (length xs) row_width digits some fits counted in
           let parts : half + (digits - half) ≡ digits = omega arith in
-          IsRowReversal-crossed half (digits - half) (omega arith) row_width _ _ _ (omega arith) (rw parts rows.whole)
-          (λ v y hv hy. record { row_from = omega arith; row_to = hy; col_from = omega arith; col_to = hv }) crossed
+          IsRowReversal-crossed half (digits - half) (omega arith) row_width _ _ (omega arith) (rw parts rows.whole) crossed.same_length
+          (λ m x y own.
+          let line = in_row (digits - half) half (omega arith) m.0 (max x y) own.middle (omega (arith, own.high, own.low)) in
+          crossed.crossed m x y (own, record { row_from = omega arith; row_to = omega (arith, own.high); col_from = omega arith; col_to = line }))
     ]
 
 pub loop-middle-preserved : goal.loop-middle-preserved
