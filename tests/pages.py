@@ -195,8 +195,12 @@ def check_constants():
 
 
 def anchors(page):
-    """The anchors of a page's headings, made from the words of the headings."""
-    return {re.sub(r"[^\w -]", "", heading).lower().replace(" ", "-") for heading in re.findall(r"^#+ (.*)$", read(page), re.M)}
+    """The anchors of a page's headings, made from the words of the headings. A heading that was there before gets a
+    number."""
+    found = []
+    for heading in re.findall(r"^#+ (.*)$", read(page), re.M):
+        found.append(re.sub(r"[^\w -]", "", heading).lower().replace(" ", "-"))
+    return {f"{anchor}-{found[:at].count(anchor)}" if anchor in found[:at] else anchor for at, anchor in enumerate(found)}
 
 
 def check_links_and_names():
