@@ -5,12 +5,7 @@ ghost use Rattle.std.specs.Prelude.{◌≡◌, IfOk};
 use p3_util::array_serialization::{ArrayElement, deserialize, serialize};
 use std::alloc::{AllocError, Global};
 
-/// The same for elements of any type.
-///
-/// # Errors
-///
-/// `AllocError` if they could not be written, or if an element needs memory to be read and there is
-/// none.
+/// Writes elements as a JSON list and reads them back, which returns the same elements.
 pub fn elements_again<T: ArrayElement + Drop, const N: usize>(
     alloc: Global,
     elements: &[T; N],

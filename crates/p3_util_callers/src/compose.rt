@@ -13,8 +13,8 @@ use p3_util::places::{Places, Swaps};
 use p3_util::transpose::transpose_square_on;
 use p3_util::{log2_strict_usize, reverse_chunks_on, reverse_counted, reverse_rows_counted};
 
-/// Does the same on any holder and returns the sum. By `same_holder_trans`, this is the holder's
-/// number of steps.
+/// Reverses the items of a holder and then the order of its rows, and returns the number of steps.
+/// The holder makes as many steps, by `same_holder_trans`.
 pub fn reverse_items_and_rows<S: Places>(places: &mut S, row_width: usize) -> u128
     requires items { IsReversible (length (S.items places.old)) }
     requires rows { FitsRows (length (S.items places.old)) row_width }

@@ -1,9 +1,8 @@
 //! A demonstration that is not meant to be copied: it shows that the public contracts are enough to
-//! build a transpose from small parts. To transpose, call `transpose_source_on` or
-//! `transpose_source_region_on`, which are faster. Three techniques here are useful for other
-//! callers: an invariant that grows a region row by row (`transpose_tile`), numbers of steps that
-//! are added with `same_holder_trans`, and small functions, each with one clause that the next one
-//! needs.
+//! build a transpose from small parts. The library's own calls are faster. Three techniques here
+//! are useful for other callers: an invariant that grows a region row by row (`transpose_tile`),
+//! numbers of steps that are added with `same_holder_trans`, and small functions, each with one
+//! clause that the next one needs.
 //!
 //! The parts are a block of 4 by 4 items, a tile of 16 by 16 items made of blocks, a region made of
 //! tiles and of the remaining items at its edges, and a matrix made of regions. The last caller

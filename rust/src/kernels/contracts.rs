@@ -1,11 +1,10 @@
 // rust/erase writes this folder from the proved sources in crates/. Make changes there.
 //! What the names and marks in the contracts mean.
 //!
-//! A `requires` is what the caller has to prove, and an `ensures` is what the call promises. The word after `requires`
-//! or `ensures` is the clause's name. A function stands before its arguments, without brackets or commas: `rev k i` is
-//! the function `rev` of k and i. A clause sees a number as a whole number. It sees a slice or an array as the list of
-//! its items, a text as the list of its bytes, a map as the list of its pairs, and an iterator of a map as the list of
-//! what it has not yet returned.
+//! A `requires` is what the caller has to prove, and an `ensures` is what the call promises. The word after `requires` or
+//! `ensures` is the clause's name. A function stands before its arguments, without brackets or commas: `rev k i` is the function
+//! `rev` of k and i. A clause sees a number as a whole number. It sees a slice or an array as the list of its items, a text as
+//! the list of its bytes, a map as the list of its pairs, and an iterator of a map as the list of what it has not yet returned.
 //!
 //! No function of `kernels` tests its `requires`. The repository has each definition as the checker reads it, in
 //! the `specs` folders of its crates.
@@ -24,15 +23,15 @@
 //!     ensures holder { S.same_holder result places.old places.new }
 //! ```
 //!
-//! - `S` is the type of a *holder*, a value that gives access to a list by index. `S.items`
-//!   is that list. For a slice, the holder is `SlicePlaces::new(values)`.
+//! - `S` is the type of a *holder*, a value that gives access to a list by index. `S.items` is that
+//!   list. For a slice, the holder is `SlicePlaces::new(values)`.
 //! - `requires`: the length is zero or a power of two. The call does not test that.
-//! - `order`: the new list is the old one in the order of reversed index bits. `inverse`: the same call again restores
-//!   the old list.
-//! - `count` and `bound`: the result is `reversal_swaps` of the length, which is the exact number of swaps. It is at
-//!   most 3n/2 for n items.
-//! - `holder`: the holder made exactly as many exchanges as the result says. (A swap is an exchange that is counted.) If
-//!   the holder borrows a slice, it still borrows the same slice, so the new list is in that slice.
+//! - `order`: the new list is the old one in the order of reversed index bits. `inverse`: the same call again restores the old
+//!   list.
+//! - `count` and `bound`: the result is `reversal_swaps` of the length, which is the exact number of swaps. It is at most 3n/2
+//!   for n items.
+//! - `holder`: the holder made exactly as many exchanges as the result says. (A swap is an exchange that is counted.) If the
+//!   holder borrows a slice, it still borrows the same slice, so the new list is in that slice.
 //!
 //! # Marks, and names from Rust and its std
 //!
