@@ -1,7 +1,7 @@
 //! Transposes of matrices that are stored as flat slices, row after row.
 
 use crate::kernels::places::Source;
-use crate::kernels::transpose::{Matrix, Strips};
+use crate::kernels::transpose::{Matrix, Side, Strips};
 use crate::unchecked;
 
 /// Items of 32 and of 64 bytes are *wide*. A matrix of more wide items than this may be put 16 columns at a time, row
@@ -86,7 +86,7 @@ const BLOCKS_GAP: core::ops::RangeInclusive<usize> = (1 << 18) + 1..=1 << 20;
 ///   divide the width.
 /// - More than 1048576 items of 32 or of 64 bytes are put 16 columns at a time, row after row, if there are at least 16
 ///   columns and each has a multiple of 4096 bytes.
-pub(crate) fn strips_of<R: Source + Copy>(matrix: Matrix<R>) -> Strips {
+pub(crate) fn strips_by_size<R: Source + Copy>(matrix: Matrix<R>) -> Strips {
     let (width, height, items) = (matrix.width, matrix.height, matrix.source.len());
     let item_size = size_of::<R::Item>();
     // The sides are compared first, so that nothing else is computed for small matrices.
@@ -99,11 +99,11 @@ pub(crate) fn strips_of<R: Source + Copy>(matrix: Matrix<R>) -> Strips {
         && (items >= BLOCKS_ITEMS || (width | height) % 4 == 0);
     let is_wide = matches!(item_size, 32 | 64) && height % (WIDE_COLUMN_BYTES / item_size) == 0;
     if unchecked::TURNS_IN_REGISTERS && has_blocks {
-        Strips::Blocks
+        Strips::Blocks(Side::Four)
     } else if is_wide && items > WIDE_ITEMS && width >= WIDE_COLUMNS {
         Strips::Wide
     } else {
-        Strips::of(matrix)
+        Strips::by_shape(matrix)
     }
 }
 

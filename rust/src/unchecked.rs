@@ -21,7 +21,7 @@ use crate::kernels::parts::{ReversalPlan, TransposePlan};
 use crate::kernels::places::Source;
 use crate::kernels::reverse::{self, RowDigits, fits_rows, reverse_short};
 use crate::kernels::transpose::{Matrix, Strips, fits_matrix, transpose_matrix};
-use crate::transpose::strips_of;
+use crate::transpose::strips_by_size;
 
 #[cfg(feature = "checked")]
 use crate::checked::{PartItems, SliceCells, SlicePlaces, SliceSource};
@@ -57,7 +57,7 @@ pub(crate) fn transpose<T: Copy>(input: &[T], output: &mut [T], width: usize, he
     let fits = fits_matrix(input.len(), output.len(), width, height);
     if fits && size_of::<T>() > 0 {
         let matrix = Matrix::new(SliceSource::new(input), width, height);
-        let _ = transpose_matrix(SliceCells::new(output), matrix, strips_of(matrix));
+        let _ = transpose_matrix(SliceCells::new(output), matrix, strips_by_size(matrix));
     }
     fits
 }
@@ -101,7 +101,7 @@ pub(crate) fn parts_of_transpose<'a, T: Copy>(
     // Both lengths are `width * height`, which is below 2^64 because it is a length. These are the clauses `input_fits`
     // and `output_fits` of `TransposePlan::put`, for the plan of this width and height.
     let plan = TransposePlan::new(width, height, parts, cfg!(not(feature = "checked")));
-    let strips = strips_of(Matrix::new(SliceSource::new(source), width, height));
+    let strips = strips_by_size(Matrix::new(SliceSource::new(source), width, height));
     let count = if size_of::<T>() == 0 { 0 } else { plan.count() };
     // If the columns are cut, each region fills a run of this many cells. The last region may fill fewer.
     let share = if count == 0 { 0 } else { plan.items(0) };
@@ -194,7 +194,7 @@ mod slices {
     use core::sync::atomic::{Ordering, compiler_fence};
 
     use super::vectors;
-    use crate::kernels::places::{Cells, Four, Places, Source};
+    use crate::kernels::places::{Block, Cells, Places, Source};
 
     /// The items of a slice, as places or as cells, for one kernel or for one part.
     ///
@@ -347,17 +347,62 @@ mod slices {
             }
         }
 
+        /// Stands for one `put` for each item. Items of 1, 2, 4 and 8 bytes that are read from a slice are transposed in
+        /// registers, by squares.
         #[inline(always)]
-        fn put_four(&mut self, i: usize, four: &Four<T>) {
-            debug_assert!(self.len >= 4 && i <= self.len - 4);
-            // SAFETY: the four cells are within the slice, by the `requires` of `Cells::put_four`. A `Four` has the
-            // same layout as four items of a slice, since it is `repr(C)`.
-            unsafe { self.first.add(i).cast::<Four<T>>().write(*four) }
+        fn put_block<R: Source<Item = T>>(&mut self, source: &R, block: Block) {
+            let squares = match size_of::<T>() {
+                1 | 2 => 8,
+                4 => 4,
+                8 => 2,
+                _ => 0,
+            };
+            let in_squares = vectors::HERE && squares > 0 && block.side % squares == 0;
+            let Some(items) = source.as_slice().filter(|_| in_squares) else {
+                return Singly(self).put_block(source, block);
+            };
+            debug_assert!(block_fits(block, items.len(), self.len));
+            let (from, to) = (items.as_ptr(), self.first);
+            // SAFETY: the items of the block are within the source and its cells within this slice, by the precondition
+            // of `Cells::put_block`, whose clause `apart` also says that no two columns overlap.
+            unsafe {
+                match size_of::<T>() {
+                    1 => vectors::put::<T, _, 8>(from, to, block, vectors::turned_1),
+                    2 => vectors::put::<T, _, 8>(from, to, block, vectors::turned_2),
+                    4 => vectors::put::<T, _, 4>(from, to, block, vectors::turned_4),
+                    _ => vectors::put::<T, _, 2>(from, to, block, vectors::turned_8),
+                }
+            }
+        }
+    }
+
+    /// Whether a block is within `input_len` items and `output_len` cells, and none of its columns overlap.
+    fn block_fits(block: Block, input_len: usize, output_len: usize) -> bool {
+        let Block {
+            side,
+            from,
+            width,
+            to,
+            height,
+        } = block;
+        let end = |start: usize, stride: usize| (side - 1).checked_mul(stride)?.checked_add(start)?.checked_add(side);
+        let within = |end: Option<usize>, len: usize| end.is_some_and(|end| end <= len);
+        side == 0 || within(end(from, width), input_len) && within(end(to, height), output_len) && side <= height
+    }
+
+    /// The same cells, which put a block item by item.
+    struct Singly<'a, C>(&'a mut C);
+
+    impl<C: Cells> Cells for Singly<'_, C> {
+        type Item = C::Item;
+
+        fn len(&self) -> usize {
+            C::len(self.0)
         }
 
         #[inline(always)]
-        fn turned(rows: &Four<Four<T>>) -> Four<Four<T>> {
-            vectors::turned(rows)
+        fn put(&mut self, i: usize, v: C::Item) {
+            self.0.put(i, v);
         }
     }
 
@@ -389,11 +434,8 @@ mod slices {
         }
 
         #[inline(always)]
-        fn four(&self, i: usize) -> Four<T> {
-            debug_assert!(self.items.len() >= 4 && i <= self.items.len() - 4);
-            // SAFETY: the four indices are within the slice, by the `requires` of `Source::four`. A `Four` has the same
-            // layout as four items of a slice, since it is `repr(C)`.
-            unsafe { self.items.as_ptr().add(i).cast::<Four<T>>().read() }
+        fn as_slice(&self) -> Option<&[T]> {
+            Some(self.items)
         }
     }
 }

@@ -1,3 +1,4 @@
+pub mod BlockPut
 pub mod Blocks
 pub mod Columns
 pub mod Crossing

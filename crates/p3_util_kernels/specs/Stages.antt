@@ -1,8 +1,7 @@
 -- The two stages of the transpose of a block of 4 by 4 items.
 -- Source: the block transposes of p3-util 0.8.0.
-use Rattle.std.specs.Prelude.{ℕ, ◌≡◌, ◌+◌, ◌*◌, ◌<◌, List, [], ◌∷◌, Option, slice_get}
+use Rattle.std.specs.Prelude.{ℕ, ◌≡◌, ◌+◌, ◌*◌, ◌<◌, List, Option, slice_get}
 use Rattle.std.specs.Option.{option_and_then}
-use Rattle.p3_util_kernels.specs.declared.places.Four.{Four}
 
 -- the item in row r and column c
 abbrev pub item_at : {A : Type 0} → List (List A) → ℕ → ℕ → Option A
@@ -23,13 +22,3 @@ IsStageTwo old new =
 -- Both lists are the rows of a block of 4 by 4 items, and `new` is the transpose of `old`
 abbrev pub IsBlockTransposed : {A : Type 0} → List (List A) → List (List A) → Type 0
 IsBlockTransposed old new = (r c : ℕ) → r < 4 → c < 4 → item_at new r c ≡ item_at old c r
-
--- the items of a `Four` as a list
--- Source: new.
-abbrev pub in_order : {A : Type 0} → Four A → List A
-in_order four = four.0 ∷ four.1 ∷ four.2 ∷ four.3 ∷ []
-
--- the rows of a block of 4 by 4 items, as a list of lists
--- Source: new.
-abbrev pub rows_in_order : {A : Type 0} → Four (Four A) → List (List A)
-rows_in_order rows = in_order rows.0 ∷ in_order rows.1 ∷ in_order rows.2 ∷ in_order rows.3 ∷ []

@@ -14,7 +14,7 @@
 //! - `split` halves the longer side of a large region, and does the same with each half, until the
 //!   parts are small or narrow.
 //! - `strips` puts a region strip by strip. A strip is some neighbouring rows of the region.
-//!   `Strips::of` chooses the kind of strips. Begin there if you want to change strips.
+//!   `Strips::by_shape` chooses the kind of strips. Begin there if you want to change strips.
 //! - `square` transposes a square inside a list in place, by exchanges. The long path of a bit
 //!   reversal uses it.
 //! - `butterfly` transposes a block of 4 by 4 items in two stages. No kernel uses it.
@@ -44,7 +44,7 @@ pub use split::{transpose_source_split_on, transpose_split_on};
 pub(crate) use square::transpose_square;
 pub use square::{fits_square, transpose_square_on};
 use strips::put_strips;
-pub(crate) use strips::{Strips, TILE_SIDE};
+pub(crate) use strips::{Side, Strips, TILE_SIDE};
 
 /// The greatest number of items of a matrix that is not split.
 const LARGE_MATRIX: usize = 1_048_576;
@@ -113,7 +113,7 @@ where
     ensures holder { C.same_holder result cells.old cells.new }
 {
     let matrix = Matrix::new(input, width, height);
-    transpose_matrix(Writes::new(cells), matrix, Strips::of(matrix)).writes()
+    transpose_matrix(Writes::new(cells), matrix, Strips::by_shape(matrix)).writes()
 }
 
 /// Writes the transpose of `input` to `out`, as [`transpose`] does, in exactly `width * height`
@@ -145,7 +145,7 @@ where
 {
     let matrix = Matrix::new(input, width, height);
     let counter = Writes::resumed(&mut out.holder, out.count);
-    out.count = transpose_matrix(counter, matrix, Strips::of(matrix)).writes();
+    out.count = transpose_matrix(counter, matrix, Strips::by_shape(matrix)).writes();
 }
 
 /// Writes the transpose of `region` to `out`, with one write for each item. The region is a part of
@@ -193,7 +193,7 @@ where
 {
     let matrix = Matrix::new(input, width, height);
     let counter = Writes::resumed(&mut out.holder, out.count);
-    out.count = put_strips(counter, matrix, region, Strips::of(matrix)).writes();
+    out.count = put_strips(counter, matrix, region, Strips::by_shape(matrix)).writes();
 }
 
 /// Writes the transpose of `region` to `cells`, as [`transpose_region_on`] does, and returns the
@@ -238,7 +238,7 @@ where
     ensures holder { C.same_holder result cells.old cells.new }
 {
     let matrix = Matrix::new(input, width, height);
-    put_strips(Writes::new(cells), matrix, region, Strips::of(matrix)).writes()
+    put_strips(Writes::new(cells), matrix, region, Strips::by_shape(matrix)).writes()
 }
 
 /// Runs the kernel on a holder of the slice and returns the slice. The kernel takes the holder by
@@ -256,7 +256,7 @@ fn transpose_items<T: Copy, R: Source<Item = T> + Copy>(
     ensures slice { result.ghost_name ≡ output.entry.ghost_name }
 {
     let out = SliceCells::new(output);
-    let SliceCells { values } = transpose_matrix(out, matrix, Strips::of(matrix));
+    let SliceCells { values } = transpose_matrix(out, matrix, Strips::by_shape(matrix));
     values
 }
 

@@ -117,8 +117,6 @@
 //! | `IsStageOne old new` | Both lists are the rows of a block of 4 by 4 items. From `old` to `new`, the low bit of the row number of each item is exchanged with the low bit of its column number |
 //! | `IsStageTwo old new` | Both lists are the rows of a block of 4 by 4 items. From `old` to `new`, the high bit of the row number of each item is exchanged with the high bit of its column number |
 //! | `IsBlockTransposed old new` | Both lists are the rows of a block of 4 by 4 items, and `new` is the transpose of `old` |
-//! | `in_order four` | the items of a `Four` as a list |
-//! | `rows_in_order rows` | the rows of a block of 4 by 4 items, as a list of lists |
 //! | `IsSquareTransposed base log_stride log_size old new` | A square in a list has `2 ^ log_size` rows and as many columns. It begins at place `base`, and each row begins `2 ^ log_stride` places after the row before it. In row a and column b, the square in `new` has the item that the square in `old` has in row b and column a. All other items stay where they are |
 //! | `short_swaps k` | the number of pairs of different k-bit numbers that are each other's reverse. Of the `2 ^ k` numbers, `2 ^ ceil(k / 2)` are their own reverse, so there are `(2 ^ k - 2 ^ ceil(k / 2)) / 2` pairs |
 //! | `row_swaps items row_width` | the number of swaps for reversing `items` items in rows of `row_width` items. Each pair of rows takes `row_width` swaps, so this is `row_width * short_swaps (clog (items / row_width))` |
@@ -126,6 +124,9 @@
 //! | `long_swaps k` | the number of swaps for reversing `2 ^ k` items on the long path. It reverses the order of chunks, transposes squares, and reverses the order of chunks again. With `h = k / 2` and `c = k - h` this takes `2 * short_swaps h * 2 ^ c + 2 ^ (c - h) * square_swaps (2 ^ h)` swaps |
 //! | `reversal_swaps items` | the number of swaps for reversing `items` items, where `items` is zero or a power of two: `short_swaps (clog items)` up to 8192 items, and `long_swaps (clog items)` beyond |
 //! | `counted c s` | the count c after s more steps. A count stops at the largest u128, so this is `min (2 ^ 128 - 1) (c + s)` |
+//! | `block_items block` | the number of items of the block |
+//! | `BlockFits block input_len output_len` | A source of `input_len` items has all items of the block, and a list of `output_len` cells has all cells of the block's transpose. The columns of the block do not overlap in the cells |
+//! | `IsBlockPut n block input old new` | The first n items of the block, counted column after column, are put: the item in row r and column c of the block is at cell `to + c * height + r` of `new`. Every other cell holds what it held before |
 //! | `same_holder n a b` | For `Places`: b is the holder a after n exchanges. What that means depends on the holder. If the holder counts, the count of b is n more than the count of a. If it does not count, it ignores n. If it borrows its items, b borrows the same slice as a, so a change to the holder is a change to that slice. For `Cells`: b is the holder a after n puts. The rest is the same as for `Places` |
 //!
 //! # Names for the chunks, the map and `zip_eq`

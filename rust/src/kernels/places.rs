@@ -32,10 +32,23 @@ mod slices;
 pub use counters::{Swaps, Writes};
 pub use slices::{SliceCells, SlicePlaces, SliceSource};
 
-/// Four items that are next to each other in memory.
-#[derive(Clone, Copy, Debug)]
-#[repr(C)]
-pub struct Four<T>(pub T, pub T, pub T, pub T);
+/// A square block of a matrix, and where its transpose goes.
+///
+/// The item in row r and column c of the block is at index `from + r * width + c` of a source. In
+/// the transpose, it belongs into cell `to + c * height + r`.
+#[derive(Clone, Copy, Debug, PartialEq, Eq)]
+pub struct Block {
+    /// The number of rows of the block, which is also the number of its columns.
+    pub side: usize,
+    /// The index of the block's first item.
+    pub from: usize,
+    /// The distance of two rows of the block in the source.
+    pub width: usize,
+    /// The cell of the block's first item.
+    pub to: usize,
+    /// The distance of two columns of the block in the cells.
+    pub height: usize,
+}
 
 /// A list whose items can only be exchanged: they can neither be read nor be moved in any other
 /// way.
@@ -173,44 +186,40 @@ pub trait Cells {
     /// ```
     fn put(&mut self, i: usize, v: Self::Item);
 
-    /// Puts four items into the cells from `i` on. All other cells keep their items. A holder may
-    /// have a faster way to do this than four calls of `put`.
+    /// Puts the transpose of a block: for each row r and column c of the block, the item at index
+    /// `from + r * width + c` of `source` is put into cell `to + c * height + r`. All other cells
+    /// keep their items. The columns of the block must not overlap in the cells. A holder may have
+    /// a faster way to do this than one call of `put` for each item.
     ///
     /// # Contract
     ///
     /// [`contracts`](crate::kernels::contracts) explains the names in this contract:
     ///
     /// ```text
-    /// requires { i + 4 ≤ length (items self.old) }
-    /// ensures same_length { length (items self.new) ≡ length (items self.old) }
-    /// ensures places { (t : ℕ) → t < 4 → slice_get (items self.new) (i + t)
-    ///     ≡ slice_get (in_order four.now) t }
-    /// ensures others { (p : ℕ) → (p < i) ⊎ (i + 4 ≤ p)
-    ///     → slice_get (items self.new) p ≡ slice_get (items self.old) p }
-    /// ensures holder { same_holder 4 self.old self.new }
+    /// requires { BlockFits block (length (R.items source.now)) (length (items self.old)) }
+    /// ensures put { IsBlockPut (block_items block) block (R.items source.now)
+    ///     (items self.old) (items self.new) }
+    /// ensures holder { same_holder (block_items block) self.old self.new }
     /// ```
     #[inline(always)]
-    fn put_four(&mut self, i: usize, four: &Four<Self::Item>) {
-        length_fits(self.len());
-        self.put(i, four.0);
-        self.put(i + 1, four.1);
-        self.put(i + 2, four.2);
-        self.put(i + 3, four.3);
-    }
-
-    /// Transposes a block of 4 by 4 items: takes the rows of the block and returns its columns. A
-    /// holder may have a faster way to do this.
-    ///
-    /// # Contract
-    ///
-    /// [`contracts`](crate::kernels::contracts) explains the names in this contract:
-    ///
-    /// ```text
-    /// ensures { IsBlockTransposed (rows_in_order rows.now) (rows_in_order result) }
-    /// ```
-    #[inline(always)]
-    fn turned(rows: &Four<Four<Self::Item>>) -> Four<Four<Self::Item>> {
-        turned_block(rows)
+    fn put_block<R: Source<Item = Self::Item>>(&mut self, source: &R, block: Block)
+    where
+        Self: Sized,
+    {
+        let Block {
+            side,
+            from,
+            width,
+            to,
+            height,
+        } = block;
+        length_fits(source.len());
+        length_fits(Self::len(self));
+        for c in 0..side {
+            for r in 0..side {
+                self.put(to + c * height + r, source.at(from + r * width + c));
+            }
+        }
     }
 }
 
@@ -244,22 +253,19 @@ pub trait Source {
     /// ```
     fn at(&self, i: usize) -> Self::Item;
 
-    /// The four items from index `i` on. A source may have a faster way to read them than four
-    /// calls of `at`.
+    /// The items as a slice, if they are next to each other in memory in this order. A holder of
+    /// cells can then read more than one of them at once.
     ///
     /// # Contract
     ///
     /// [`contracts`](crate::kernels::contracts) explains the names in this contract:
     ///
     /// ```text
-    /// requires { i + 4 ≤ length (items self.now) }
-    /// ensures { (t : ℕ) → t < 4 → slice_get (in_order result) t
-    ///     ≡ slice_get (items self.now) (i + t) }
+    /// ensures { IfSome result (λ slice. slice.now ≡ items self.now) }
     /// ```
     #[inline(always)]
-    fn four(&self, i: usize) -> Four<Self::Item> {
-        length_fits(self.len());
-        Four(self.at(i), self.at(i + 1), self.at(i + 2), self.at(i + 3))
+    fn as_slice(&self) -> Option<&[Self::Item]> {
+        None
     }
 }
 
@@ -267,21 +273,3 @@ pub trait Source {
 /// that this length fits in a `usize`.
 #[inline(always)]
 fn length_fits(_len: usize) {}
-
-/// Transposes a block of 4 by 4 items: takes the rows of the block and returns its columns.
-///
-/// # Contract
-///
-/// ```text
-/// ensures { IsBlockTransposed (rows_in_order rows.now) (rows_in_order result) }
-/// ```
-#[inline(always)]
-pub(crate) fn turned_block<T: Copy>(rows: &Four<Four<T>>) -> Four<Four<T>> {
-    let Four(a, b, c, d) = *rows;
-    Four(
-        Four(a.0, b.0, c.0, d.0),
-        Four(a.1, b.1, c.1, d.1),
-        Four(a.2, b.2, c.2, d.2),
-        Four(a.3, b.3, c.3, d.3),
-    )
-}

@@ -79,7 +79,7 @@ fn check_matrix(width: usize, height: usize, parts: usize, may_cut_rows: bool) {
     let len = width * height;
     let input: Vec<usize> = (len..2 * len).collect();
     let source = SliceSource::new(&input);
-    let strips = Strips::of(Matrix::new(source, width, height));
+    let strips = Strips::by_shape(Matrix::new(source, width, height));
     let plan = TransposePlan::new(width, height, parts, may_cut_rows);
     let by_rows = height > width && may_cut_rows;
     let cut = Cut::new(if by_rows { height } else { width }, parts, 16);
@@ -159,7 +159,12 @@ fn regions_of_long_matrices() {
             if plan.items(last) <= 16 {
                 let mut far = Far { len, puts: Vec::new() };
                 let source = Numbers(len);
-                let _ = plan.put(&mut far, source, last, Strips::of(Matrix::new(source, width, height)));
+                let _ = plan.put(
+                    &mut far,
+                    source,
+                    last,
+                    Strips::by_shape(Matrix::new(source, width, height)),
+                );
                 assert!(far.puts.into_iter().eq((last * plan.items(0)..len).map(|i| (i, i))));
             }
         }

@@ -4,7 +4,7 @@ use core::marker::PhantomData;
 use std::vec::Vec;
 
 use super::*;
-use crate::kernels::places::{Cells, Four, SliceSource, turned_block};
+use crate::kernels::places::{Block, Cells, SliceSource};
 use crate::kernels::transpose::transpose_matrix;
 
 /// A source of this many items, which are never read.
@@ -32,7 +32,7 @@ impl<T: Copy> Source for Unread<T> {
 
 /// The strips of a matrix of items of type `T`.
 fn strips<T: Copy>(width: usize, height: usize) -> Strips {
-    strips_of(Matrix::new(Unread(width * height, PhantomData::<T>), width, height))
+    strips_by_size(Matrix::new(Unread(width * height, PhantomData::<T>), width, height))
 }
 
 /// Whether a matrix of items of type `T` is put 16 columns at a time, row after row, and not by blocks.
@@ -44,13 +44,13 @@ fn is_wide<T: Copy>(width: usize, height: usize) -> bool {
 
 /// Whether a matrix of items of type `T` is put by blocks.
 fn has_blocks<T: Copy>(width: usize, height: usize) -> bool {
-    matches!(strips::<T>(width, height), Strips::Blocks)
+    matches!(strips::<T>(width, height), Strips::Blocks(_))
 }
 
 /// Whether a matrix of items of type `T` is put in the same way as by the calls in Rattle.
 fn is_by_shape<T: Copy>(width: usize, height: usize) -> bool {
     let matrix = Matrix::new(Unread(width * height, PhantomData::<T>), width, height);
-    core::mem::discriminant(&strips_of(matrix)) == core::mem::discriminant(&Strips::of(matrix))
+    core::mem::discriminant(&strips_by_size(matrix)) == core::mem::discriminant(&Strips::by_shape(matrix))
 }
 
 #[test]
@@ -140,21 +140,22 @@ fn by_wide_strips(width: usize, height: usize) -> Vec<(usize, usize)> {
     places
 }
 
-/// The column and the row of each item, in the order of strips by blocks: at most 128 rows at a time, and a multiple of
-/// four rows as long as four are left. Of such a strip, four columns are put at a time, by blocks of 4 by 4 items, and
-/// each block column after column. A piece that blocks do not fill is put column after column.
-fn by_strips_of_blocks(width: usize, height: usize) -> Vec<(usize, usize)> {
+/// The column and the row of each item, in the order of strips by blocks of `side` rows and columns. At most 128 rows
+/// are put at a time, and a multiple of `side` rows as long as so many are left. Of such a strip, `side` columns are put
+/// at a time, block after block, and each block column after column. A piece that blocks do not fill is put column after
+/// column.
+fn by_strips_of_blocks(width: usize, height: usize, side: usize) -> Vec<(usize, usize)> {
     let mut places = Vec::new();
     let mut top = 0;
     while top < height {
         let rows = match height - top {
-            left @ 0..4 => left,
-            left @ 4..128 => left / 4 * 4,
+            left if left < side => left,
+            left if left < 128 => left / side * side,
             _ => 128,
         };
-        for left in (0..width).step_by(4) {
-            let cols = left..width.min(left + 4);
-            let block_rows = if rows >= 4 && cols.len() == 4 { 4 } else { rows };
+        for left in (0..width).step_by(side) {
+            let cols = left..width.min(left + side);
+            let block_rows = if rows >= side && cols.len() == side { side } else { rows };
             for top in (top..top + rows).step_by(block_rows) {
                 places.extend(cols.clone().flat_map(|x| (top..top + block_rows).map(move |y| (x, y))));
             }
@@ -204,22 +205,30 @@ fn strips_of_blocks_in_order() {
         (8, 15),
         (3, 9),
         (33, 31),
+        (1, 300),
+        (300, 1),
         (6, 128),
         (10, 130),
         (7, 263),
     ] {
-        check_order(Strips::Blocks, (width, height), by_strips_of_blocks(width, height));
+        let order = |side| by_strips_of_blocks(width, height, side);
+        check_order(Strips::Blocks(Side::Four), (width, height), order(4));
+        check_order(Strips::Blocks(Side::Eight), (width, height), order(8));
     }
 }
 
-/// Cells that put four items at once in their own way, and count how often they do so. If `CHANGED` is true, they
-/// exchange two columns of each block that they transpose.
-struct ByFours<const CHANGED: bool> {
+/// The cells of a transpose, which put blocks in their own way and count them. No item of a whole block may be put alone.
+/// If `changed` is true, the first two items of each block are exchanged.
+struct ByBlocks {
     items: Vec<usize>,
-    fours: usize,
+    width: usize,
+    height: usize,
+    side: usize,
+    changed: bool,
+    blocks: usize,
 }
 
-impl<const CHANGED: bool> Cells for ByFours<CHANGED> {
+impl Cells for ByBlocks {
     type Item = usize;
 
     fn len(&self) -> usize {
@@ -227,64 +236,55 @@ impl<const CHANGED: bool> Cells for ByFours<CHANGED> {
     }
 
     fn put(&mut self, i: usize, v: usize) {
+        let whole = |place: usize, len: usize| place < len / self.side * self.side;
+        assert!(!whole(i / self.height, self.width) || !whole(i % self.height, self.height));
         self.items[i] = v;
     }
 
-    fn put_four(&mut self, i: usize, &Four(a, b, c, d): &Four<usize>) {
-        self.items[i..i + 4].copy_from_slice(&[a, b, c, d]);
-        self.fours += 1;
-    }
-
-    fn turned(rows: &Four<Four<usize>>) -> Four<Four<usize>> {
-        let Four(a, b, c, d) = turned_block(rows);
-        if CHANGED { Four(a, c, b, d) } else { Four(a, b, c, d) }
-    }
-}
-
-/// Numbers that have to be read four at a time wherever a block is whole.
-#[derive(Clone, Copy)]
-struct Numbers {
-    width: usize,
-    height: usize,
-}
-
-impl Source for Numbers {
-    type Item = usize;
-
-    fn len(&self) -> usize {
-        self.width * self.height
-    }
-
-    fn at(&self, i: usize) -> usize {
-        let is_whole = |place: usize, side: usize| place < side / 4 * 4;
-        assert!(!is_whole(i % self.width, self.width) || !is_whole(i / self.width, self.height));
-        i
-    }
-
-    fn four(&self, i: usize) -> Four<usize> {
-        Four(i, i + 1, i + 2, i + 3)
+    fn put_block<R: Source<Item = usize>>(&mut self, source: &R, block: Block) {
+        assert_eq!(block.side, self.side);
+        for (r, c) in (0..block.side).flat_map(|r| (0..block.side).map(move |c| (r, c))) {
+            self.items[block.to + c * block.height + r] = source.at(block.from + r * block.width + c);
+        }
+        if self.changed {
+            self.items.swap(block.to, block.to + 1);
+        }
+        self.blocks += 1;
     }
 }
 
-/// The contents of the cells after a transpose by blocks.
-fn put_by_fours<const CHANGED: bool>(width: usize, height: usize) -> ByFours<CHANGED> {
-    let source = Numbers { width, height };
-    let blank = ByFours {
+/// The cells after a transpose by blocks.
+fn put_by_blocks(width: usize, height: usize, side: Side, changed: bool) -> ByBlocks {
+    let input: Vec<usize> = (0..width * height).collect();
+    let blank = ByBlocks {
         items: std::vec![usize::MAX; width * height],
-        fours: 0,
+        width,
+        height,
+        side: if matches!(side, Side::Four) { 4 } else { 8 },
+        changed,
+        blocks: 0,
     };
-    transpose_matrix(blank, Matrix::new(source, width, height), Strips::Blocks)
+    let matrix = Matrix::new(SliceSource::new(&input), width, height);
+    transpose_matrix(blank, matrix, Strips::Blocks(side))
 }
 
 #[test]
-fn blocks_by_holders_of_ones_own() {
-    for (width, height) in (4..40).flat_map(|width| (4..40).map(move |height| (width, height))) {
+fn blocks_by_a_holder_of_ones_own() {
+    let small = (1..40).flat_map(|width| (1..40).map(move |height| (width, height)));
+    for (width, height) in small.chain([(20, 133), (133, 20)]) {
         let transposed = |place: usize| place % height * width + place / height;
-        let right = put_by_fours::<false>(width, height);
-        assert!(right.items.into_iter().eq((0..width * height).map(transposed)));
-        assert_eq!(right.fours, width / 4 * (height / 4) * 4, "{width} by {height}");
-        // So this test notices if a block has two columns exchanged.
-        let wrong = put_by_fours::<true>(width, height);
-        assert!(!wrong.items.into_iter().eq((0..width * height).map(transposed)));
+        for side in [Side::Four, Side::Eight] {
+            let right = put_by_blocks(width, height, side, false);
+            assert!(right.items.into_iter().eq((0..width * height).map(transposed)));
+            assert_eq!(
+                right.blocks,
+                width / right.side * (height / right.side),
+                "{width} by {height}"
+            );
+            // So this test notices if the items of a block are put into wrong cells.
+            let wrong = put_by_blocks(width, height, side, true);
+            let is_transposed = wrong.items.into_iter().eq((0..width * height).map(transposed));
+            assert_eq!(is_transposed, right.blocks == 0);
+        }
     }
 }

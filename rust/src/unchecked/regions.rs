@@ -59,7 +59,7 @@ fn each_item_is_read_once() {
 fn strips_of_the_parts() {
     for strips in [
         Strips::Wide,
-        Strips::of(Matrix::new(SliceSource::new(&[0; 64 * 64]), 64, 64)),
+        Strips::by_shape(Matrix::new(SliceSource::new(&[0; 64 * 64]), 64, 64)),
     ] {
         let by_parts = reads(64 * 64, |items, output, source| {
             let mut parts = parts_of_transpose(items, output, 64, 64, 1).unwrap();
@@ -82,8 +82,8 @@ fn strips_of_the_call() {
         let mut output = input.clone();
         let matrix = Matrix::new(SliceSource::new(&input), width, height);
         let parts = parts_of_transpose(&input, &mut output, width, height, 4).unwrap();
-        assert!(discriminant(&parts.plan.strips) == discriminant(&strips_of(matrix)));
-        discriminant(&Strips::of(matrix)) == discriminant(&strips_of(matrix))
+        assert!(discriminant(&parts.plan.strips) == discriminant(&strips_by_size(matrix)));
+        discriminant(&Strips::by_shape(matrix)) == discriminant(&strips_by_size(matrix))
     }
     assert!(is_of_call(0u8, 64, 64));
     assert!(!is_of_call([0u64; 4], 16, 65_664));

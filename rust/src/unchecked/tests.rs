@@ -7,8 +7,8 @@ use std::fmt::Debug;
 use std::vec::Vec;
 
 use super::{SliceCells, SlicePlaces, SliceSource};
-use crate::kernels::places::{Cells, Four, Places, Source};
-use crate::kernels::transpose::{Matrix, Strips, transpose_matrix, transpose_square};
+use crate::kernels::places::{Block, Cells, Places, Source};
+use crate::kernels::transpose::{Matrix, Side, Strips, transpose_matrix, transpose_square};
 
 /// The result of a call on the numbers below 6, each as an item of five bytes. For items of this size, std tests that
 /// no place is borrowed twice if it is compiled with `-Zub-checks`.
@@ -177,46 +177,40 @@ fn puts_and_reads() {
     assert_eq!(list, [0, 1, 7]);
 }
 
-#[test]
-fn four_at_once() {
-    let mut list = [0, 1, 2, 3, 4, 5];
-    let Four(a, b, c, d) = SliceSource::new(&list).four(2);
-    assert_eq!([a, b, c, d], [2, 3, 4, 5]);
-    SliceCells::new(&mut list).put_four(1, &Four(6, 7, 8, 9));
-    assert_eq!(list, [0, 6, 7, 8, 9, 5]);
-}
-
-/// Whether a block of the items that `item` makes is transposed.
-fn is_turned<T: Copy + PartialEq>(item: impl Fn(u8) -> T) -> bool {
-    let four = |items: [u8; 4]| {
-        let [a, b, c, d] = items.map(&item);
-        Four(a, b, c, d)
+/// Puts a block with this number of rows, of items that `item` makes, and checks every cell. The rows of the block are
+/// three items apart in the source, and its columns two cells apart in the list.
+fn puts_block<T: Copy + PartialEq>(side: usize, item: impl Fn(u8) -> T) {
+    let block = Block {
+        side,
+        from: 5,
+        width: side + 3,
+        to: 7,
+        height: side + 2,
     };
-    let rows = Four(
-        four([0, 1, 2, 3]),
-        four([4, 5, 6, 7]),
-        four([8, 9, 10, 11]),
-        four([12, 13, 14, 15]),
-    );
-    let columns = SliceCells::<T>::turned(&rows);
-    let same = |a: Four<T>, b: Four<T>| a.0 == b.0 && a.1 == b.1 && a.2 == b.2 && a.3 == b.3;
-    same(columns.0, four([0, 4, 8, 12]))
-        && same(columns.1, four([1, 5, 9, 13]))
-        && same(columns.2, four([2, 6, 10, 14]))
-        && same(columns.3, four([3, 7, 11, 15]))
+    let source: Vec<T> = (1..=100).map(&item).collect();
+    let mut cells = std::vec![item(0); 100];
+    SliceCells::new(&mut cells).put_block(&SliceSource::new(&source), block);
+    let mut wanted = std::vec![item(0); 100];
+    for (r, c) in (0..side).flat_map(|r| (0..side).map(move |c| (r, c))) {
+        wanted[7 + c * (side + 2) + r] = source[5 + r * (side + 3) + c];
+    }
+    assert!(cells == wanted, "a side of {side}");
 }
 
 #[test]
-fn turned_blocks() {
-    let names: Vec<_> = (0..16).map(|number| std::format!("{number}")).collect();
-    assert!(is_turned(|i| i) && is_turned(u128::from));
-    // No two of the arrays have a byte in common. Some items have bytes that are never written, and some are
-    // references.
-    assert!(is_turned(|i| [i, i + 16, i + 32, i + 48]) && is_turned(|i| (i, u16::from(i) << 4)));
-    assert!(
-        is_turned(|i| [0, 16, 32, 48, 64, 80, 96, 112].map(|part| i + part)) && is_turned(|i| (i, u32::from(i) << 9))
-    );
-    assert!(is_turned(|i| &names[usize::from(i)]));
+fn blocks() {
+    let names: Vec<_> = (0..=100).map(|number| std::format!("{number}")).collect();
+    for side in 0..=8 {
+        puts_block(side, |i| i);
+        puts_block(side, |i| [i, 255 - i]);
+        puts_block(side, |i| [i, i ^ 129, i ^ 170, i ^ 219]);
+        puts_block(side, |i| [0, 7, 30, 71, 129, 170, 193, 219].map(|part| i ^ part));
+        puts_block(side, u128::from);
+        // Some of these items have bytes that are never written, and some are references.
+        puts_block(side, |i| (i, u16::from(i) << 4));
+        puts_block(side, |i| (i, u32::from(i) << 9));
+        puts_block(side, |i| &names[usize::from(i)]);
+    }
 }
 
 /// Whether a matrix of the items that `item` makes is transposed as defined, both by blocks and by the strips that a
@@ -226,11 +220,18 @@ fn is_transposed<T: Copy + PartialEq>(width: usize, height: usize, item: impl Fn
     let expected: Vec<T> = (0..width * height)
         .map(|place| item(place % height * width + place / height))
         .collect();
-    let mut output = std::vec![item(usize::MAX); width * height];
-    let mut by_call = output.clone();
-    let matrix = Matrix::new(SliceSource::new(&input), width, height);
-    let _ = transpose_matrix(SliceCells::new(&mut output), matrix, Strips::Blocks);
-    super::transpose(&input, &mut by_call, width, height) && output == expected && by_call == expected
+    let blank = std::vec![item(usize::MAX); width * height];
+    let by_blocks = |side| {
+        let mut output = blank.clone();
+        let matrix = Matrix::new(SliceSource::new(&input), width, height);
+        let _ = transpose_matrix(SliceCells::new(&mut output), matrix, Strips::Blocks(side));
+        output == expected
+    };
+    let mut by_call = blank.clone();
+    super::transpose(&input, &mut by_call, width, height)
+        && by_call == expected
+        && by_blocks(Side::Four)
+        && by_blocks(Side::Eight)
 }
 
 #[test]
@@ -382,17 +383,27 @@ mod refused {
     }
 
     #[test]
-    fn four_at_once() {
-        let four = Four(5, 6, 7, 8);
-        assert!(!panics(|| SliceCells::new(&mut [0; 6]).put_four(2, &four)));
-        assert!(!panics(|| _ = SliceSource::new(&[0; 6]).four(2)));
-        for (len, i) in [(6, 3), (6, 6), (3, 0), (0, 0), (6, usize::MAX), (6, usize::MAX - 3)] {
-            assert!(
-                panics(|| SliceCells::new(&mut [0; 6][..len]).put_four(i, &four)),
-                "{len} {i}"
-            );
-            assert!(panics(|| _ = SliceSource::new(&[0; 6][..len]).four(i)), "{len} {i}");
-        }
+    fn blocks() {
+        let refused = |change: fn(&mut Block)| {
+            let mut block = Block {
+                side: 4,
+                from: 1,
+                width: 6,
+                to: 2,
+                height: 5,
+            };
+            change(&mut block);
+            panics(|| SliceCells::new(&mut [0u32; 21]).put_block(&SliceSource::new(&[0; 23]), block))
+        };
+        assert!(!refused(|_| ()));
+        assert!(refused(|block| block.from += 1) && refused(|block| block.from = usize::MAX));
+        assert!(refused(|block| block.to += 1) && refused(|block| block.to = usize::MAX));
+        assert!(refused(|block| block.width += 1) && refused(|block| block.width = usize::MAX));
+        assert!(refused(|block| block.height += 1) && refused(|block| block.height = usize::MAX));
+        assert!(refused(|block| block.side += 1));
+        // Columns that overlap are refused, except with the feature `checked`, which puts them item by item.
+        #[cfg(not(feature = "checked"))]
+        assert!(refused(|block| block.height = 3) || !super::super::TURNS_IN_REGISTERS);
     }
 
     #[test]

@@ -12,7 +12,7 @@ use core::mem::{MaybeUninit, transmute_copy};
 use core::ptr;
 use core::sync::atomic::{Ordering, compiler_fence};
 
-use crate::kernels::places::{Four, turned_block};
+use crate::kernels::places::Block;
 
 #[cfg(all(target_arch = "aarch64", target_feature = "neon", target_endian = "little"))]
 use core::arch::aarch64::uint8x16_t as Vector;
@@ -134,19 +134,42 @@ pub(super) fn four_turned_8([a, b, c, d, e, f, g, h]: [Register; 8]) -> [Registe
     [a, b, c, d, e, f, g, h]
 }
 
-/// Does the same as [`turned_block`], in registers for items of 4 and of 8 bytes.
+/// Puts a block of the items from `source` on into the cells from `cells` on, by squares of `SIDE` rows and columns,
+/// which `turned` transposes. A row of a square is one `R`, so it has the size of `SIDE` items.
+///
+/// # Safety
+///
+/// The block consists of whole squares. Its items are valid for reads, and its cells for writes.
 #[inline(always)]
-pub(super) fn turned<T: Copy>(rows: &Four<Four<T>>) -> Four<Four<T>> {
-    match size_of::<T>() {
-        // SAFETY: a row is a register, and each of the resulting registers has four whole items.
-        4 if HERE => unsafe { transmute_copy(&turned_4(transmute_copy(rows))) },
-        // SAFETY: a row is two registers, and each of the resulting registers has two whole items.
-        8 if HERE => unsafe {
-            let [a, b, c, d]: [[Register; 2]; 4] = transmute_copy(rows);
-            let [p, q, r, s, t, u, v, w] = four_turned_8([a[0], b[0], c[0], d[0], a[1], b[1], c[1], d[1]]);
-            transmute_copy(&[[p, r], [q, s], [t, v], [u, w]])
-        },
-        _ => turned_block(rows),
+pub(super) unsafe fn put<T, R: Copy, const SIDE: usize>(
+    source: *const T,
+    cells: *mut T,
+    block: Block,
+    turned: fn([R; SIDE]) -> [R; SIDE],
+) {
+    debug_assert!(size_of::<R>() == SIDE * size_of::<T>());
+    let Block {
+        side,
+        from,
+        width,
+        to,
+        height,
+    } = block;
+    for col in (0..side).step_by(SIDE) {
+        for row in (0..side).step_by(SIDE) {
+            // SAFETY: these are rows of squares of the block, and columns of such squares in the cells. An item may be
+            // at any multiple of its alignment.
+            unsafe {
+                let rows = from_fn(|t| source.add(from + (row + t) * width + col).cast::<R>());
+                let cols = turned(rows.map(|row| row.read_unaligned()));
+                for (t, items) in cols.into_iter().enumerate() {
+                    cells
+                        .add(to + (col + t) * height + row)
+                        .cast::<R>()
+                        .write_unaligned(items);
+                }
+            }
+        }
     }
 }
 

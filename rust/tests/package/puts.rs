@@ -2,7 +2,7 @@
 
 use std::ops::Range;
 
-use p3_util_proved::kernels::places::{SliceSource, Writes};
+use p3_util_proved::kernels::places::{Block, Cells, Places, SliceCells, SlicePlaces, SliceSource, Source, Writes};
 use p3_util_proved::kernels::transpose::*;
 
 use crate::noted::{Noted, Side, halves};
@@ -159,6 +159,78 @@ fn puts_in_order() {
         };
         assert!(is_in_order, "{width} by {height}");
     }
+}
+
+/// A holder that puts blocks itself, from a slice, and counts them. Of each block it puts `rows` rows.
+struct ByBlocks {
+    noted: Noted,
+    rows: usize,
+    blocks: usize,
+}
+
+impl Cells for ByBlocks {
+    type Item = u64;
+
+    fn len(&self) -> usize {
+        Cells::len(&self.noted)
+    }
+
+    fn put(&mut self, i: usize, v: u64) {
+        self.noted.put(i, v);
+    }
+
+    fn put_block<R: Source<Item = u64>>(&mut self, source: &R, block: Block) {
+        let items = source.as_slice().expect("the items are in a slice");
+        let rows = self.rows;
+        for (c, r) in (0..block.side).flat_map(|c| (0..rows).map(move |r| (c, r))) {
+            self.put(block.to + c * block.height + r, items[block.from + r * block.width + c]);
+        }
+        self.blocks += 1;
+    }
+}
+
+/// A counter and a reference hand a block on to the holder inside, and a reference to a source its slice. The counter
+/// counts each item of the block.
+#[test]
+fn blocks_by_a_holder_of_ones_own() {
+    for (width, height) in [(16, 16), (16, 15), (32, 32), (48, 20), (16, 64)] {
+        let input: Vec<u64> = (0..(width * height) as u64).collect();
+        let by_rows = |rows| {
+            let noted = Noted::numbered(input.len());
+            let mut cells = ByBlocks { noted, rows, blocks: 0 };
+            let writes = transpose_source_counted(&&SliceSource::new(&input), &mut &mut cells, width, height);
+            assert_eq!(writes, input.len() as u128);
+            cells
+        };
+        let single = puts(width, height);
+        let right = by_rows(4);
+        let order = right.noted.puts.iter().map(|place| (place / height, place % height));
+        assert!(order.eq(single.iter().copied()));
+        assert_eq!(right.blocks, height / 16 * width);
+        // The test notices if a row of a block is left out.
+        let wrong = by_rows(3);
+        assert_eq!(wrong.noted.puts.len() + 4 * wrong.blocks, single.len());
+        assert_eq!(wrong.noted.items != right.noted.items, right.blocks > 0);
+    }
+}
+
+#[test]
+fn holders_as_trait_objects() {
+    fn first_and_last(
+        places: &mut dyn Places<Item = u8>,
+        cells: &mut dyn Cells<Item = u8>,
+        source: &dyn Source<Item = u8>,
+    ) {
+        places.exchange(0, places.len() - 1);
+        cells.put(cells.len() - 1, source.at(source.len() - 1));
+    }
+    let (mut list, mut copy) = ([1, 2, 3], [0; 3]);
+    first_and_last(
+        &mut SlicePlaces::new(&mut list),
+        &mut SliceCells::new(&mut copy),
+        &SliceSource::new(&[4, 5, 6]),
+    );
+    assert_eq!((list, copy), ([3, 2, 1], [0, 0, 6]));
 }
 
 #[test]

@@ -10,7 +10,7 @@ ghost use Rattle.std.proofs.Common.{rules};
 ghost use Rattle.p3_util_kernels.specs.Exchanged.{AreTiles, RunsExchanged, TilesExchanged};
 ghost use Rattle.p3_util_kernels.specs.Steps.{counted};
 
-use crate::places::{Cells, Places, length_fits};
+use crate::places::{Block, Cells, Places, Source, length_fits};
 
 /// A counter around a holder of places. It counts exchanges. The count stops at `u128::MAX`.
 #[derive(Debug, Drop)]
@@ -199,6 +199,13 @@ impl<C: Cells> Cells for Writes<C> {
     #[inline(always)]
     fn put(&mut self, i: usize, v: Self::Item) {
         Writes::put(self, i, v);
+    }
+
+    #[inline(always)]
+    fn put_block<R: Source<Item = Self::Item>>(&mut self, source: &R, block: Block) {
+        self.holder.put_block(source, block);
+        let side = block.side as u128;
+        self.count = self.count.saturating_add(side * side);
     }
 
     ghost same_holder_refl = { Prim.search rules };

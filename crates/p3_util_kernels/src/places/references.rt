@@ -4,7 +4,7 @@
 ghost use Rattle.std.specs.Prelude.{◌≡◌};
 ghost use Rattle.std.proofs.Common.{rules};
 
-use crate::places::{Cells, Places, Source};
+use crate::places::{Block, Cells, Places, Source};
 
 /// The holder behind the reference makes the exchanges.
 impl<S: Places> Places for &mut S {
@@ -60,6 +60,11 @@ impl<C: Cells> Cells for &mut C {
         C::put(self, i, v);
     }
 
+    #[inline(always)]
+    fn put_block<R: Source<Item = Self::Item>>(&mut self, source: &R, block: Block) {
+        C::put_block(self, source, block);
+    }
+
     ghost same_holder_refl = { Prim.search rules };
 
     ghost same_holder_trans = { Prim.search rules };
@@ -78,5 +83,10 @@ impl<R: Source> Source for &R {
     #[inline(always)]
     fn at(&self, i: usize) -> Self::Item {
         R::at(self, i)
+    }
+
+    #[inline(always)]
+    fn as_slice(&self) -> Option<&[Self::Item]> {
+        R::as_slice(self)
     }
 }

@@ -128,4 +128,9 @@ impl<'a, T: Copy> Source for SliceSource<'a, T> {
     fn at(&self, i: usize) -> T {
         self.slice[i]
     }
+
+    #[inline(always)]
+    fn as_slice(&self) -> Option<&[T]> {
+        Some(self.slice)
+    }
 }

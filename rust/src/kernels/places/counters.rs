@@ -5,7 +5,7 @@
 //! the `_on` calls lend the holder inside to a kernel. The kernel itself cannot reach the fields of
 //! a counter, since it is generic over its holder.
 
-use crate::kernels::places::{Cells, Places, length_fits};
+use crate::kernels::places::{Block, Cells, Places, Source, length_fits};
 
 /// A counter around a holder of places. It counts exchanges. The count stops at `u128::MAX`.
 #[derive(Debug)]
@@ -246,5 +246,12 @@ impl<C: Cells> Cells for Writes<C> {
     #[inline(always)]
     fn put(&mut self, i: usize, v: Self::Item) {
         Writes::put(self, i, v);
+    }
+
+    #[inline(always)]
+    fn put_block<R: Source<Item = Self::Item>>(&mut self, source: &R, block: Block) {
+        self.holder.put_block(source, block);
+        let side = block.side as u128;
+        self.count = self.count.saturating_add(side * side);
     }
 }

@@ -1,7 +1,7 @@
 //! References to holders. Such a reference is a holder too: each step and each read is made by the
 //! holder behind the reference.
 
-use crate::kernels::places::{Cells, Places, Source};
+use crate::kernels::places::{Block, Cells, Places, Source};
 
 /// The holder behind the reference makes the exchanges.
 impl<S: Places> Places for &mut S {
@@ -44,6 +44,11 @@ impl<C: Cells> Cells for &mut C {
     fn put(&mut self, i: usize, v: Self::Item) {
         C::put(self, i, v);
     }
+
+    #[inline(always)]
+    fn put_block<R: Source<Item = Self::Item>>(&mut self, source: &R, block: Block) {
+        C::put_block(self, source, block);
+    }
 }
 
 /// The items are read from the source behind the reference.
@@ -57,5 +62,10 @@ impl<R: Source> Source for &R {
     #[inline(always)]
     fn at(&self, i: usize) -> Self::Item {
         R::at(self, i)
+    }
+
+    #[inline(always)]
+    fn as_slice(&self) -> Option<&[Self::Item]> {
+        R::as_slice(self)
     }
 }

@@ -112,7 +112,7 @@ fn put_split_resumed<C: Cells, R: Source<Item = C::Item> + Copy>(
     levels: u32,
 ) -> (C, u128, u32) {
     let counter = Writes::resumed(cells, count);
-    let (done, nested) = put_split(counter, matrix, region, levels, Strips::of(matrix));
+    let (done, nested) = put_split(counter, matrix, region, levels, Strips::by_shape(matrix));
     let count = done.writes();
     (done.into_inner(), count, nested)
 }

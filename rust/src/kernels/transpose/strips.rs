@@ -7,19 +7,19 @@
 //!   into its cell.
 //! - A *strip* is some neighbouring rows of a region. A region is cut into strips, which are put
 //!   from top to bottom. Most strips are put column after column.
-//! - A *tile* is 16 columns of a strip of 16 rows. A *block* is 4 by 4 items of a strip. In a strip
-//!   of kind [`Strips::Wide`], a block is one row of a tile instead.
+//! - A *tile* is 16 columns of a strip of 16 rows. A *block* is a square of 4 by 4 or of 8 by 8
+//!   items of a strip. In a strip of kind [`Strips::Wide`], a block is one row of a tile instead.
 //!
-//! [`Strips`] lists the kinds of strips, and [`Strips::of`] chooses one by the shape of the matrix.
-//! That choice only changes the order of the puts: the contracts of the functions below are the
-//! same for every kind. To add a kind, add a variant, say in `rows` how many rows its strips have,
-//! and handle it in `put_strip`. If its strips are put by blocks, `block_rows`, `block_cols` and
-//! `has_blocks` say what the blocks are.
+//! [`Strips`] lists the kinds of strips, and [`Strips::by_shape`] chooses one by the shape of the
+//! matrix. That choice only changes the order of the puts: the contracts of the functions below are
+//! the same for every kind. To add a kind, add a variant, say in `rows` how many rows its strips
+//! have, and handle it in `put_strip`. If its strips are put by blocks, `block` and `has_blocks` say
+//! what the blocks are.
 //!
 //! Each function takes the holder by value and returns it. This keeps the holder in registers in
 //! the loops.
 
-use crate::kernels::places::{Cells, Four, Source};
+use crate::kernels::places::{Block, Cells, Source};
 use crate::kernels::transpose::regions::{Matrix, Region};
 
 /// The greatest number of items of a small matrix. A small matrix is put tile after tile if 16
@@ -29,14 +29,37 @@ const SMALL_MATRIX: usize = 1024;
 /// The side of a tile.
 pub(crate) const TILE_SIDE: usize = 16;
 
-/// The side of a block.
-const BLOCK_SIDE: usize = 4;
-
 /// The greatest number of rows of a strip of kind `High` or `Blocks`.
 const STRIP_ROWS: usize = 128;
 
 /// A column is put by loops over this many items each. The compiler knows how long these loops are.
 const COLUMN_ITEMS: usize = 8;
+
+/// The side of a square block.
+#[derive(Clone, Copy)]
+pub(crate) enum Side {
+    /// Four items.
+    Four,
+    /// Eight items.
+    Eight,
+}
+
+impl Side {
+    /// The number of items in a row of the block.
+    ///
+    /// # Contract
+    ///
+    /// ```text
+    /// ensures { 0 < result }
+    /// ```
+    #[inline(always)]
+    fn items(self) -> usize {
+        match self {
+            Side::Four => 4,
+            Side::Eight => 8,
+        }
+    }
+}
 
 /// The kinds of strips. All strips of a region are of the same kind.
 #[derive(Clone, Copy)]
@@ -45,16 +68,17 @@ pub(crate) enum Strips {
     High,
     /// At most 16 rows, put column after column. A column of 16 rows fills 16 consecutive cells.
     Low,
-    /// At most 16 rows, put tile after tile, and each tile block after block.
+    /// At most 16 rows, put tile after tile, and each tile by blocks of 4 by 4 items.
     Tiles,
     /// At most 16 rows, put tile after tile, and each tile row after row. This suits items of 32
-    /// and of 64 bytes. `Strips::of` never returns this kind, but the caller of a kernel may choose
-    /// it.
+    /// and of 64 bytes. `Strips::by_shape` never returns this kind, but the caller of a kernel may
+    /// choose it.
     Wide,
-    /// At most 128 rows, put 4 columns at a time, in blocks that a holder may transpose in
-    /// registers. This suits items of 4 and of 8 bytes. `Strips::of` never returns this kind, but
-    /// the caller of a kernel may choose it.
-    Blocks,
+    /// At most 128 rows, put as many columns at a time as a block has, by blocks that a holder may
+    /// transpose in registers. Blocks of side 4 suit items of 4 and of 8 bytes, and blocks of side
+    /// 8 suit items of 1 and of 2 bytes. `Strips::by_shape` never returns this kind, but the caller
+    /// of a kernel may choose it.
+    Blocks(Side),
 }
 
 impl Strips {
@@ -68,7 +92,7 @@ impl Strips {
     /// the rows are spread over the sets of the cache. A high strip is better there, since it puts
     /// longer runs of consecutive cells. A small matrix stays in the cache whatever the order is,
     /// and is put block by block.
-    pub(crate) fn of<R: Source + Copy>(matrix: Matrix<R>) -> Self {
+    pub(crate) fn by_shape<R: Source + Copy>(matrix: Matrix<R>) -> Self {
         if matrix.width % TILE_SIDE != 0 {
             Strips::High
         } else if matrix.source.len() > SMALL_MATRIX {
@@ -88,28 +112,31 @@ impl Strips {
     #[inline(always)]
     fn rows(self) -> usize {
         match self {
-            Strips::High | Strips::Blocks => STRIP_ROWS,
+            Strips::High | Strips::Blocks(_) => STRIP_ROWS,
             Strips::Low | Strips::Tiles | Strips::Wide => TILE_SIDE,
         }
     }
 
-    /// The row after the last one of the strip that begins at row `row`. The region ends before row
-    /// `end`. The number of rows of a `Blocks` strip is a multiple of 4, unless fewer than 4 rows
-    /// are left.
+    /// The row after the last one of the first strip of `region`. The number of rows of a `Blocks`
+    /// strip is a multiple of the side of its blocks, unless fewer rows than that are left.
     ///
     /// # Contract
     ///
     /// ```text
-    /// requires some_rows { row < end }
-    /// ensures from { row < result }
-    /// ensures to { result ≤ end }
+    /// requires some_rows { region.row_start < region.row_end }
+    /// requires cols_in_order { region.col_start ≤ region.col_end }
+    /// ensures from { region.row_start < result }
+    /// ensures to { result ≤ region.row_end }
     /// ```
     #[inline(always)]
-    fn end(self, row: usize, end: usize) -> usize {
+    fn end(self, region: Region) -> usize {
+        let rows = self.rows().min(region.rows());
+        let (side, _) = self.block();
         match self {
-            Strips::Blocks if end - row < STRIP_ROWS && end - row >= BLOCK_SIDE => end
-                - (end - row) % BLOCK_SIDE,
-            _ => end.min(row.saturating_add(self.rows())),
+            // The items of one column go to consecutive cells, whatever the strips are.
+            _ if region.cols() == 1 => region.row_end,
+            Strips::Blocks(_) if rows >= side => region.row_start + rows - rows % side,
+            _ => region.row_start + rows,
         }
     }
 
@@ -118,38 +145,25 @@ impl Strips {
     #[inline(always)]
     fn has_blocks(self, rows: usize) -> bool {
         match self {
-            Strips::Blocks => true,
+            Strips::Blocks(_) => true,
             _ => rows == TILE_SIDE,
         }
     }
 
-    /// The number of rows of a block.
+    /// The number of rows and the number of columns of a block.
     ///
     /// # Contract
     ///
     /// ```text
-    /// ensures { 0 < result }
+    /// ensures rows { 0 < result.0 }
+    /// ensures cols { 0 < result.1 }
     /// ```
     #[inline(always)]
-    fn block_rows(self) -> usize {
+    fn block(self) -> (usize, usize) {
         match self {
-            Strips::Wide => 1,
-            _ => BLOCK_SIDE,
-        }
-    }
-
-    /// The number of columns of a block.
-    ///
-    /// # Contract
-    ///
-    /// ```text
-    /// ensures { 0 < result }
-    /// ```
-    #[inline(always)]
-    fn block_cols(self) -> usize {
-        match self {
-            Strips::Wide => TILE_SIDE,
-            _ => BLOCK_SIDE,
+            Strips::Wide => (1, TILE_SIDE),
+            Strips::Blocks(side) => (side.items(), side.items()),
+            _ => (Side::Four.items(), Side::Four.items()),
         }
     }
 }
@@ -179,7 +193,7 @@ pub(crate) fn put_strips<M: Cells, R: Source<Item = M::Item> + Copy>(
     let mut out = out;
     let mut row = region.row_start;
     while row < region.row_end {
-        let end = strips.end(row, region.row_end);
+        let end = strips.end(region.with_rows(row, region.row_end));
         out = put_strip(out, matrix, region.with_rows(row, end), strips);
         row = end;
     }
@@ -210,7 +224,8 @@ fn put_strip<M: Cells, R: Source<Item = M::Item> + Copy>(
         // Here the compiler knows the kind of strips, and so the lengths of the loops.
         Strips::Tiles => put_tiles(out, matrix, region, Strips::Tiles),
         Strips::Wide => put_tiles(out, matrix, region, Strips::Wide),
-        Strips::Blocks => put_tiles(out, matrix, region, Strips::Blocks),
+        Strips::Blocks(Side::Four) => put_tiles(out, matrix, region, Strips::Blocks(Side::Four)),
+        Strips::Blocks(Side::Eight) => put_tiles(out, matrix, region, Strips::Blocks(Side::Eight)),
         // Most strips of kind `Low` have `TILE_SIDE` rows. Here the compiler knows that number.
         Strips::Low if rows == TILE_SIDE => put_columns(
             out,
@@ -244,7 +259,8 @@ fn put_tiles<M: Cells, R: Source<Item = M::Item> + Copy>(
     let mut out = out;
     let mut col = region.col_start;
     while col < region.col_end {
-        let end = region.col_end.min(col.saturating_add(strips.block_cols()));
+        let (_, cols) = strips.block();
+        let end = region.col_end.min(col.saturating_add(cols));
         out = put_blocks(out, matrix, region.with_cols(col, end), strips);
         col = end;
     }
@@ -271,7 +287,7 @@ fn put_blocks<M: Cells, R: Source<Item = M::Item> + Copy>(
     region: Region,
     strips: Strips,
 ) -> M {
-    let (rows, cols) = (strips.block_rows(), strips.block_cols());
+    let (rows, cols) = strips.block();
     let height = region.rows();
     if !strips.has_blocks(height) || height % rows != 0 || region.cols() != cols {
         return put_columns(out, matrix, region);
@@ -280,13 +296,12 @@ fn put_blocks<M: Cells, R: Source<Item = M::Item> + Copy>(
     for k in 0..height / rows {
         let row = region.row_start + k * rows;
         let block = region.with_rows(row, row + rows);
-        out = put_block(out, matrix, block.with_known_sides(rows, cols), strips);
+        out = put_block(out, matrix, block.with_known_sides(rows, cols));
     }
     out
 }
 
-/// Puts a block: by whole rows, so that a holder may transpose it in registers, or column after
-/// column.
+/// Puts a block: in the holder's own way if the block is a square, else column after column.
 ///
 /// # Contract
 ///
@@ -303,32 +318,29 @@ fn put_block<M: Cells, R: Source<Item = M::Item> + Copy>(
     out: M,
     matrix: Matrix<R>,
     region: Region,
-    strips: Strips,
 ) -> M {
-    match strips {
-        Strips::Blocks if region.rows() == BLOCK_SIDE && region.cols() == BLOCK_SIDE => put_turned(
-            out, matrix, region,
-        ),
-        _ => put_columns(out, matrix, region),
+    if region.rows() == region.cols() {
+        put_square(out, matrix, region)
+    } else {
+        put_columns(out, matrix, region)
     }
 }
 
-/// Puts a block of 4 by 4 items. It reads the rows of the block, transposes them, and puts the
-/// columns. A holder may do each of these in registers.
+/// Puts a square block in the holder's own way.
 ///
 /// # Contract
 ///
 /// ```text
-/// requires rows { rows_of region ≡ 4 }
-/// requires cols { cols_of region ≡ 4 }
+/// requires some_rows { region.row_start < region.row_end }
+/// requires square { rows_of region ≡ cols_of region }
 /// requires ready { IsReady region matrix.width matrix.height
 ///     (R.items matrix.source) (M.items out) }
 /// ensures transposed { IsRegionTransposed region matrix.width matrix.height
 ///     (R.items matrix.source) (M.items out) (M.items result) }
-/// ensures holder { M.same_holder 16 out result }
+/// ensures holder { M.same_holder (items_of region) out result }
 /// ```
 #[inline(always)]
-fn put_turned<M: Cells, R: Source<Item = M::Item> + Copy>(
+fn put_square<M: Cells, R: Source<Item = M::Item> + Copy>(
     out: M,
     matrix: Matrix<R>,
     region: Region,
@@ -338,20 +350,15 @@ fn put_turned<M: Cells, R: Source<Item = M::Item> + Copy>(
         width,
         height,
     } = matrix;
-    let from = region.row_start * width + region.col_start;
-    let to = region.col_start * height + region.row_start;
-    let rows = Four(
-        source.four(from),
-        source.four(from + width),
-        source.four(from + 2 * width),
-        source.four(from + 3 * width),
-    );
-    let cols = M::turned(&rows);
+    let block = Block {
+        side: region.rows(),
+        from: region.row_start * width + region.col_start,
+        width,
+        to: region.col_start * height + region.row_start,
+        height,
+    };
     let mut out = out;
-    out.put_four(to, &cols.0);
-    out.put_four(to + height, &cols.1);
-    out.put_four(to + 2 * height, &cols.2);
-    out.put_four(to + 3 * height, &cols.3);
+    out.put_block(&source, block);
     out
 }
 

@@ -7,12 +7,12 @@ use Rattle.p3_util_kernels.proofs.transpose.strips.put_blocks.Goals as goal
 
 pub loop-k-preserved : goal.loop-k-preserved
 loop-k-preserved g c =
-    let height = c.block_rows-rows.result in
+    let height = c.block-rows.result.0 in
     let row = c.args.region.row_start + c.loop-k.k * height in
     let done = record c.args.region { row_end = row + height } in
     let more : c.args.region.row_start + (c.loop-k.k + 1) * height ≡ row + height = omega arith in
     let rows : row + height - row ≡ height = omega arith in
-    let cols : c.args.region.col_end - c.args.region.col_start ≡ c.block_cols-cols.result = omega arith in
+    let cols : c.args.region.col_end - c.args.region.col_start ≡ c.block-rows.result.1 = omega arith in
     let inside : (c.loop-k.k + 1) * height ≤ c.rows-height.result / height * height = mul-le-mul_right height (omega arith) in
     let below : row + height ≤ c.args.region.row_end = omega (arith, inside, div-add-mod' c.rows-height.result height) in
     record {
@@ -23,7 +23,7 @@ loop-k-preserved g c =
 
 pub returns-clause-transposed : goal.returns-clause-transposed
 returns-clause-transposed g c =
-    let height = c.block_rows-rows.result in
+    let height = c.block-rows.result.0 in
     let all : c.loop-k.k ≡ c.rows-height.result / height = omega arith in
     let end : c.args.region.row_start + c.loop-k.k * height ≡ c.args.region.row_end = rw all (omega (arith, div-add-mod' c.rows-height.result height)) in
     rw end at c.loop-k.invariant.transposed

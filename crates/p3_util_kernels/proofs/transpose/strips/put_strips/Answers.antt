@@ -6,6 +6,7 @@ use Rattle.p3_util_kernels.proofs.transpose.strips.put_strips.Goals as goal
 
 pub loop-row-preserved : goal.loop-row-preserved
 loop-row-preserved g c =
+    let below = rw c.with_rows.ensures at c.end-end.ensures in
     let done = record c.args.region { row_end = c.end-end.result } in
     let strip = record done { row_start = c.loop-row.row } in
     let cut = IsCut-rows done c.loop-row.row (omega arith) (omega arith) in
@@ -13,8 +14,8 @@ loop-row-preserved g c =
       from = omega arith;
       to = omega arith;
       transposed = IsRegionTransposed-cut c.args.matrix.width c.args.matrix.height (g.R.Source.items c.args.matrix.source) done _ _ _ _ _ (omega arith) cut
-          c.loop-row.invariant.transposed (rw c.with_rows.ensures at c.put_strip-out.ensures.transposed);
-      holder = g.met.M.Cells.same_holder_trans _ (items_of strip) _ _ _ _ c.loop-row.invariant.holder (rw c.with_rows.ensures at c.put_strip-out.ensures.holder) cut.items;
+          c.loop-row.invariant.transposed (rw c.with_rows-in-loop-row.ensures at c.put_strip-out.ensures.transposed);
+      holder = g.met.M.Cells.same_holder_trans _ (items_of strip) _ _ _ _ c.loop-row.invariant.holder (rw c.with_rows-in-loop-row.ensures at c.put_strip-out.ensures.holder) cut.items;
     }
 
 pub returns-clause-transposed : goal.returns-clause-transposed
