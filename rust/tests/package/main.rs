@@ -14,6 +14,8 @@ mod parts;
 mod puts;
 mod refusal;
 mod shapes;
+#[cfg(not(debug_assertions))]
+mod stack;
 mod steps;
 mod words;
 
