@@ -3,7 +3,6 @@
 use Rattle.std.proofs.Common.{◌≡◌, ◌≢◌, ℕ, Bool, cond, ◌==◌, ◌+◌, ◌*◌, ◌/◌, ◌%◌, ◌<◌, IsTrue, List, length, slice_get, inl, inr, sym, subst, ◌∙◌, ap, arith}
 use Rattle.std.proofs.lemmas.Bool.{cases_eq}
 use Rattle.p3_util_kernels.specs.Least.{AllDiffer, AreOnceAmong, after_swaps, count_below, places_swapped}
-use Rattle.p3_util_kernels.specs.Mirrored.{Mirrored}
 use Rattle.p3_util_kernels.proofs.Counts.{count-twice}
 use Rattle.p3_util_kernels.proofs.WrittenPlaces.{AreOnceAmong-weaker, Changed, swaps-places, swaps-written, written-at}
 
@@ -64,32 +63,3 @@ module _ (n : ℕ) (test : ℕ → Bool) (upper lower : ℕ → ℕ)
       (omega (arith, count-twice n test, many, swaps-places steps)) in
       AreOnceAmong-weaker _ _ (places_swapped steps)
       (λ p (k, less, t, e). rw e (each (λ k p. among p) (λ i hi ti. (known i hi ti).2) (λ i hi ti. (known i hi ti).3) k less t, changed k less t)) at
-
--- The same for items that are exchanged as `Mirrored` says. Number i stands for the place of `m i`,
--- `x i` and `y i`, and `y i` is greater than `x i`.
-module _ {A M : Type 0} (place : M → ℕ → ℕ → ℕ) (S : M → ℕ → ℕ → Type 0) (Same : M → M → Type 0)
-    (turned : (m : M) (x y : ℕ) → S m x y → S m y x)
-    (parts : (k l : M) (x y v w : ℕ) → S k x y → S l v w → place k x y ≡ place l v w → Same k l × (x ≡ v) × (y ≡ w))
-    (n : ℕ) (test : ℕ → Bool) (m : ℕ → M) (x y : ℕ → ℕ)
-    (known : (i : ℕ) → i < n → IsTrue (test i) → S (m i) (x i) (y i) × (x i < y i))
-    (one : (i j : ℕ) → i < n → j < n → IsTrue (test i) → IsTrue (test j) → Same (m i) (m j) → x i ≡ x j → y i ≡ y j → i ≡ j) where
-  pub mirrored-stays : (old new : List A) (among : ℕ → Type 0) → ((k : M) (v w : ℕ) → S k v w → (place k v w < length old) × among (place k v w))
-      → AllDiffer old → Mirrored place S old new → SwapsStay among (count_below n test) old new
-  mirrored-stays old new among at differ mirrored =
-      mirror-stays n test (λ i. place (m i) (x i) (y i)) (λ i. place (m i) (y i) (x i))
-      (λ i j hi hj ti tj e.
-      let same = parts (m i) (m j) (x i) (y i) (x j) (y j) (known i hi ti).0 (known j hj tj).0 e in
-      one i j hi hj ti tj same.0 same.1 same.2)
-      (λ i j hi hj ti tj e.
-      let same = parts (m i) (m j) (y i) (x i) (y j) (x j) (turned _ _ _ (known i hi ti).0) (turned _ _ _ (known j hj tj).0) e in
-      one i j hi hj ti tj same.0 same.2 same.1)
-      (λ i j hi hj ti tj e.
-      let same = parts (m i) (m j) (x i) (y i) (y j) (x j) (known i hi ti).0 (turned _ _ _ (known j hj tj).0) e in
-      omega (arith, (known i hi ti).1, (known j hj tj).1, same.1, same.2))
-      old new among differ
-      (λ i hi ti.
-      let upper = (known i hi ti).0 in
-      let lower = turned (m i) (x i) (y i) upper in
-      let first = at (m i) (x i) (y i) upper in
-      let second = at (m i) (y i) (x i) lower in
-      (first.0, second.0, first.1, second.1, mirrored.crossed (m i) (x i) (y i) upper, mirrored.crossed (m i) (y i) (x i) lower))

@@ -223,8 +223,11 @@ swaps-stay (OnePart rows) len k steps less of (reversal, many) =
           AreOnceAmong-weaker _ _ (places_swapped steps) (λ p changed. (first, changed))
           (rows-stay width (clog (len / width)) (numbers_below len) steps (numbers-length len ∙ rows.whole) (numbers-differ len) reversal count)
     ]
-swaps-stay (ByPairs pairs) len k steps less of made =
-    pairs-steps pairs.rows.digits pairs.rows.width pairs.cut.step k pairs.cut.some_step (numbers_below len) _ steps (numbers-length len ∙ of.1) (numbers-differ len) refl made
+swaps-stay (ByPairs pairs) len k steps less of (middle, region, block, crossed, many) =
+    let rows = pairs.rows in
+    let some = pairs.cut.some_step in
+    pairs-steps rows.digits rows.width pairs.cut.step k some middle region block (numbers_below len) _ steps (numbers-length len ∙ of.1) (numbers-differ len) refl
+    (pairs-exchanged rows.digits rows.width pairs.cut.step some k middle region (numbers_below len) _ block crossed) many
 
 pub parts-apart : (plan : ReversalPlan) (i j : ℕ) → i ≢ j → NoPlaceInCommon (IsPlaceOfPart plan i) (IsPlaceOfPart plan j)
 parts-apart (OnePart rows) i j other p at at' = other (at ∙ sym at')

@@ -1,17 +1,10 @@
 -- Squares that lie side by side are transposed one after another.
-use Rattle.std.proofs.Common.{◌≡◌, ℕ, ◌+◌, ◌-◌, ◌*◌, ◌/◌, ◌^◌, ◌<◌, ◌≤◌, List, slice_get, sym, ap, ◌∙◌, arith}
-use Rattle.std.proofs.lemmas.Nat.{div-mul-add, pow-add, pow_pos, mul-add-lt, same_from_place}
+use Rattle.std.proofs.Common.{◌≡◌, ℕ, ◌+◌, ◌-◌, ◌*◌, ◌^◌, ◌<◌, ◌≤◌, List, slice_get, sym, ap, ◌∙◌, arith}
+use Rattle.std.proofs.lemmas.Nat.{pow-add, pow_pos, mul-add-lt, same_from_place}
 use Rattle.p3_util_kernels.proofs.DigitsLemmas.{middle-below}
 use Rattle.p3_util_kernels.proofs.Matrix.{each_place}
 use Rattle.p3_util_kernels.specs.Square.{IsSquareTransposed}
 use Rattle.p3_util_kernels.specs.SideBySide.{AreTransposed}
-
--- how many squares lie side by side
-pub squares_of : (half c : ℕ) → half ≤ c → 2 ^ c / 2 ^ half ≡ 2 ^ (c - half)
-squares_of half c from =
-    let rest : c - half + half ≡ c = omega arith in
-    let whole : 2 ^ c ≡ 2 ^ (c - half) * 2 ^ half + 0 = omega (arith, ap (λ e. 2 ^ e) (sym rest), pow-add 2 (c - half) half) in
-    rw whole (div-mul-add (2 ^ (c - half)) (2 ^ half) 0 (pow_pos half))
 
 module _ (log_stride log_size : ℕ) (within : log_size ≤ log_stride) where
   -- the squares fill the rows
