@@ -126,10 +126,7 @@ module _ (n : ℕ) (place : ℕ → ℕ) where
   pub written-at : {A : Type 0} (test : ℕ → Bool) → Apart test → (places : List ℕ) (old new : List A) → Written places old new
       → Changed test old new → count_below n test ≡ length places → AreOnceAmong (λ p. (i : ℕ) × (i < n) × IsTrue (test i) × (p ≡ place i)) places
   unfolding Written
-  written-at test apart [] old new same changed all = record {
-    inside = All-nil (λ p. (i : ℕ) × (i < n) × IsTrue (test i) × (p ≡ place i));
-    once = λ i j d less below. absurd (omega arith);
-  }
+  written-at test apart [] old new same changed all = AreOnceAmong-nil (λ p. (i : ℕ) × (i < n) × IsTrue (test i) × (p ≡ place i))
   written-at test apart (p ∷ places) old new (mid, kept, rest) changed all =
       let rest_apart : Apart (but test p) = but-apart test p apart in
       let rest_changed : Changed (but test p) mid new = but-changed test p old mid new kept changed in
@@ -139,15 +136,8 @@ module _ (n : ℕ) (place : ℕ → ℕ) where
       let (i, less, here) = count-some n (λ i. test i && place i == p) (omega (arith, split, few, all)) in
       let passes = and_parts (test i) (place i == p) here in
       let others = written-at (but test p) rest_apart places mid new rest rest_changed (omega (arith, split, few, once, all)) in
-      let weaker = All-weaker (λ q. (j : ℕ) × (j < n) × IsTrue (but test p j) × (q ≡ place j)) (λ q. (j : ℕ) × (j < n) × IsTrue (test j) × (q ≡ place j))
-      (λ q (j, below, t, at). (j, below, but-test test p j t, at)) places others.inside in
-      record {
-        inside = All-cons (λ q. (j : ℕ) × (j < n) × IsTrue (test j) × (q ≡ place j)) p places (i, less, passes.0, sym (eqb-true (place i) p passes.1)) weaker;
-        once = AllPairs-cons (λ a b. a ≢ b) p places
-            (All-weaker (λ q. (j : ℕ) × (j < n) × IsTrue (but test p j) × (q ≡ place j)) (λ q. p ≢ q)
-            (λ q (j, below, t, at) e. but-away test p j t (sym at ∙ sym e)) places others.inside)
-            others.once;
-      }
+      AreOnceAmong-cons (λ q. (j : ℕ) × (j < n) × IsTrue (test j) × (q ≡ place j)) p places (i, less, passes.0, sym (eqb-true (place i) p passes.1))
+      (AreOnceAmong-weaker _ _ places (λ q (j, below, t, at). ((j, below, but-test test p j t, at), λ e. but-away test p j t (sym at ∙ sym e))) others)
 
 -- if each written place is written once and changes, as many places were written as changed
 pub written-count : {A : Type 0} (n : ℕ) (test : ℕ → Bool) (places : List ℕ) (old new : List A) → Written places old new

@@ -1,5 +1,5 @@
 -- A block is a region of the grid of its rows.
-use Rattle.std.proofs.Common.{◌≡◌, ℕ, ◌+◌, ◌-◌, ◌/◌, ◌%◌, ◌^◌, ◌<◌, ◌≤◌, ap, refl, subst, ◌∙◌, eq-eqb, ne_eqb, arith}
+use Rattle.std.proofs.Common.{◌≡◌, ℕ, ◌+◌, ◌-◌, ◌/◌, ◌%◌, ◌^◌, ◌<◌, ◌≤◌, refl, subst, eq-eqb, ne_eqb, arith}
 use Rattle.p3_util_kernels.specs.declared.transpose.regions.Region.{Region}
 use Rattle.p3_util_kernels.specs.Blocks.{IsBlock, swaps_of_block}
 use Rattle.p3_util_kernels.specs.Grid.{SwapsInGrid, grid_of_rows}
@@ -16,12 +16,7 @@ below digits step number middle region block = let rest : digits - digits / 2 - 
 -- a region on the diagonal is a square
 square : (region : Region) → region.row_start ≤ region.row_end → region.row_start ≡ region.col_start → region.row_end ≡ region.col_end
     → record { row_start = region.row_start; row_end = region.row_start + rows_of region; col_start = region.row_start; col_end = region.row_start + rows_of region } ≡ region
-square region order start end =
-    let size : region.row_start + rows_of region ≡ region.row_end = omega arith in
-    let to : region.row_start + rows_of region ≡ region.col_end = omega arith in
-    ap (λ (n : ℕ). record { row_start = region.row_start; row_end = n; col_start = region.row_start; col_end = region.row_start + rows_of region }) size
-    ∙ ap (λ (n : ℕ). record { row_start = region.row_start; row_end = region.row_end; col_start = n; col_end = region.row_start + rows_of region }) start
-    ∙ ap (λ (n : ℕ). record { row_start = region.row_start; row_end = region.row_end; col_start = region.col_start; col_end = n }) to
+square region order start end = let size : region.row_start + rows_of region ≡ region.row_end = omega arith in rw (size, end, start) refl
 
 pub grid-grid-requires-clause-middle : goal.grid-grid-requires-clause-middle
 grid-grid-requires-clause-middle g c = below _ _ _ _ _ c.block-middle.ensures
