@@ -1,8 +1,8 @@
 -- Exchanged pairs of rows. These definitions serve private contracts: those of the kernels in
--- `src/reverse/pairs.rt`.
+-- `src/reverse/rows.rt`.
 --
 -- There are `2 ^ (half + c)` rows of `row_width` items, where c is `half` or `half + 1`. As
--- `src/reverse/pairs.rt` explains, the index of a row has three parts: `half` high binary digits,
+-- `src/reverse/rows.rt` explains, the index of a row has three parts: `half` high binary digits,
 -- whose reverse is x; then `c - half` digits `middle`; and then `half` low digits y. The row is
 -- exchanged with the row for which x and y are swapped. A line is all pairs that have the same
 -- `middle` and the same greater number of x and y. So a line and the smaller number determine a

@@ -32,8 +32,9 @@ pub(crate) const TILE: usize = 8;
 const LEAF: usize = 64;
 
 /// Entry `i` has the six binary digits of `i` in reversed order. Reading this table once is faster
-/// than reversing so few digits by halves.
-static REVERSED_SIX: [u8; 64] = [
+/// than reversing so few digits by halves. It is a `const`, so that the compiler knows its entries
+/// where it knows the index.
+const REVERSED_SIX: [u8; 64] = [
     0, 32, 16, 48, 8, 40, 24, 56, 4, 36, 20, 52, 12, 44, 28, 60, 2, 34, 18, 50, 10, 42, 26, 58, 6,
     38, 22, 54, 14, 46, 30, 62, 1, 33, 17, 49, 9, 41, 25, 57, 5, 37, 21, 53, 13, 45, 29, 61, 3, 35,
     19, 51, 11, 43, 27, 59, 7, 39, 23, 55, 15, 47, 31, 63,
@@ -358,23 +359,24 @@ pub(crate) fn exchange_quadrants<M: Places>(m: M, grid: Grid, start: usize, size
     exchange_quadrants(m, grid, start + half, size - half)
 }
 
-/// Does the same as [`exchange_quadrants`]. The compiler knows here which small squares it makes.
+/// Exchanges all items of a grid that are above the diagonal with their mirror images. If the
+/// compiler knows that the grid has two or four rows, it unrolls the exchanges.
 #[inline(always)]
-pub(crate) fn exchange_square<M: Places>(m: M, grid: Grid, start: usize, size: usize) -> M
-    requires within { start + size ≤ 2 ^ grid.digits }
-    requires ready { HoldsGrid grid (M.items m) }
+pub(crate) fn exchange_square<M: Places>(m: M, grid: Grid) -> M
+    requires { HoldsGrid grid (M.items m) }
     ensures exchanged { SwapsInGrid grid (record {
-      row_start = start;
-      row_end = start + size;
-      col_start = start;
-      col_end = start + size;
+      row_start = 0;
+      row_end = 2 ^ grid.digits;
+      col_start = 0;
+      col_end = 2 ^ grid.digits;
     }) (M.items m) (M.items result) }
-    ensures holder { M.same_holder (grid.width * square_swaps size) m result }
+    ensures holder { M.same_holder (grid.width * square_swaps (2 ^ grid.digits)) m result }
 {
-    if size < TILE {
-        exchange_corner(m, grid, start, size)
+    let size = pow2(grid.digits);
+    if grid.digits < 3 {
+        exchange_corner(m, grid, 0, size)
     } else {
-        exchange_quadrants(m, grid, start, size)
+        exchange_quadrants(m, grid, 0, size)
     }
 }
 

@@ -7,13 +7,12 @@
 //! count their swaps, and the choice of the path. The modules below it have the paths:
 //!
 //! - `rows` reverses the order of rows of any width. It exchanges each pair of rows whose indices
-//!   are each other's reverse. With rows of one item this is the short path. A call on a slice takes
-//!   it at every length, and a call that counts its swaps for at most `SHORT_PATH_ITEMS` items. The
-//!   long path uses it for its chunks.
+//!   are each other's reverse. These pairs lie across the diagonal of a square or of two squares,
+//!   and the module `grid` exchanges them. With rows of one item this is the short path. A call on
+//!   a slice takes it at every length, and a call that counts its swaps for at most
+//!   `SHORT_PATH_ITEMS` items. The long path uses it for its chunks.
 //! - `long` is the long path, which a call that counts its swaps takes for more items. It makes more
 //!   swaps, in three passes. Its number of swaps is part of the contracts of these calls.
-//! - `pairs` says which pairs of rows are exchanged. They lie across the diagonal of a square or of
-//!   two squares, and the module `grid` exchanges them. Both paths use it.
 //!
 //! It is proved that each call leaves the list in bit-reversed order (`IsReversal`,
 //! `IsRowReversal`). For the calls that count, the exact number of swaps is proved too. The order
@@ -26,14 +25,12 @@ ghost use Rattle.p3_util_kernels.specs.Steps.{counted};
 ghost use Rattle.p3_util_kernels.specs.SwapCounts.{reversal_swaps, row_swaps};
 
 mod long;
-mod pairs;
 mod rows;
 
 use crate::places::{Places, SlicePlaces, Swaps};
 pub use long::reverse_index_bits_long;
 use long::reverse_long;
-pub(crate) use pairs::RowDigits;
-pub(crate) use rows::{reverse_rows, reverse_short};
+pub(crate) use rows::{RowDigits, reverse_rows, reverse_short};
 pub use rows::{reverse_chunks_on, reverse_index_bits_short, reverse_row_index_bits_on};
 
 /// A call that counts its swaps takes the short path for at most this many items, and the long path

@@ -379,7 +379,14 @@ mod refused {
             assert!(tiles(rows(x), rows(y)), "{x} {y}");
         }
         #[cfg(not(feature = "checked"))]
-        assert!(tiles([0, 8, 16, 24, 32, 40, 48, 54], rows(64)));
+        for (row, start) in [(0, 1), (0, 8), (3, 31), (7, 49)] {
+            let mut overlapping = rows(0);
+            overlapping[row] = start;
+            assert!(
+                tiles(overlapping, rows(64)) && tiles(rows(64), overlapping),
+                "{row} {start}"
+            );
+        }
     }
 
     #[test]

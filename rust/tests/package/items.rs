@@ -24,9 +24,9 @@ fn reverses<F: Debug + PartialEq + Send + Sync>(bits: u32, width: usize, item: i
     }
 }
 
-/// Reverses lists and rows of the items that `item` makes. The lists go up to lengths of the long path and beyond.
+/// Reverses lists and rows of the items that `item` makes. The longest lists have squares of 4 leaves of the kernel.
 fn moves<F: Debug + PartialEq + Send + Sync>(item: impl Fn(usize) -> F) {
-    (0..=14).for_each(|bits| reverses(bits, 1, &item));
+    (0..=16).for_each(|bits| reverses(bits, 1, &item));
     for (bits, width) in [(0, 5), (1, 2), (3, 2), (4, 3), (5, 32), (7, 5)] {
         reverses(bits, width, &item);
     }
@@ -57,7 +57,7 @@ fn serves<T: Copy + Debug + PartialEq + Send + Sync>(item: impl Fn(usize) -> T) 
 
 #[test]
 fn numbers() {
-    serves(|i| (i * 7) as u8);
+    serves(|i| (i * 7 + (i >> 8) * 31) as u8);
     serves(|i| (i * 31) as u16);
     serves(|i| i as u32);
     serves(|i| i as u64 * 0x1_0000_0001);
@@ -68,9 +68,9 @@ fn numbers() {
 #[test]
 fn bytes_of_many_lengths() {
     macro_rules! lengths {
-        ($($len:literal)*) => { $(serves(|i| [(i >> 8) as u8 ^ i as u8; $len]);)* };
+        ($($len:literal)*) => { $(serves(|i| array::from_fn::<u8, $len, _>(|k| (i >> (k % 3 * 8)) as u8 ^ k as u8));)* };
     }
-    lengths!(2 3 5 7 8 12 17 32 36 257);
+    lengths!(2 3 5 7 8 12 17 24 32 36 257);
 }
 
 #[test]

@@ -1,16 +1,90 @@
 //! Bit reversal of the order of rows of any width. Each pair of rows whose indices are each other's
 //! reverse is exchanged once. Single items are reversed as rows of one item.
+//!
+//! There are 2^k rows, and the index of a row has three parts. The high part has `half = k / 2`
+//! digits, and `x` stands for its reverse. The part `middle` is one digit if k is odd, and empty
+//! otherwise. The low part `y` has `half` digits. In the reversed index, `x` and `y` have changed
+//! places:
+//!
+//! ```text
+//!     index      rev(x)  middle  y         k = 5, x = 01, middle = 1, y = 11:   10 1 11
+//!     reversed   rev(y)  middle  x                                              11 1 01
+//! ```
+//!
+//! So for each middle digit and all `x < y`, the row of `x` and `y` is exchanged with the row of
+//! `y` and `x`. This reaches each pair of rows exactly once, so no loop has to test an index. All
+//! other rows stay where they are.
+//!
+//! The rows with the same middle digit form a [`Grid`]: the row of `x` and `y` is the place of row
+//! `x` and column `y`, and is exchanged with the place of row `y` and column `x`.
 
-ghost use Rattle.std.specs.Prelude.{◌≡◌, ℕ, ◌+◌, ◌*◌, ◌/◌, ◌^◌, ◌<◌, ◌≤◌, length};
+ghost use Rattle.std.specs.Prelude.{◌≡◌, ℕ, ◌+◌, ◌-◌, ◌*◌, ◌/◌, ◌^◌, ◌<◌, ◌≤◌, length};
+ghost use Rattle.p3_util_kernels.specs.Grid.{grid_of_rows};
 ghost use Rattle.p3_util_kernels.specs.Levels.{clog};
 ghost use Rattle.p3_util_kernels.specs.Reversal.{FitsRows, IsReversal, IsReversible, IsRowReversal};
 ghost use Rattle.p3_util_kernels.specs.Steps.{counted};
 ghost use Rattle.p3_util_kernels.specs.SwapCounts.{row_swaps, short_swaps};
 
-use crate::bits::pow2;
-use crate::grid::exchange_square;
+use crate::bits::{log2_strict_usize, pow2};
+use crate::grid::{Grid, exchange_square};
 use crate::places::{Places, Swaps};
-use crate::reverse::pairs::RowDigits;
+
+/// Rows of `width` items each, whose indices have `digits` binary digits: there are `2^digits`
+/// rows, or none.
+#[derive(Clone, Copy)]
+pub(crate) struct RowDigits {
+    pub width: usize,
+    pub digits: usize,
+}
+
+impl RowDigits {
+    /// The rows of `width` items of a list of `len` items.
+    #[inline(always)]
+    pub(crate) fn of(len: usize, width: usize) -> Self
+        requires { FitsRows len width }
+        ensures width { result.width ≡ width }
+        ensures digits { result.digits ≡ clog (len / width) }
+        ensures few { result.digits < 64 }
+    {
+        if len == 0 {
+            return RowDigits { width, digits: 0 };
+        }
+        let digits = log2_strict_usize(len / width);
+        RowDigits { width, digits }
+    }
+
+    /// The rows of a list of `2^lb_num_chunks` chunks of `2^lb_chunk_size` items. Each chunk is a
+    /// row.
+    #[inline(always)]
+    pub(crate) fn chunks(lb_num_chunks: usize, lb_chunk_size: usize) -> Self
+        requires { lb_chunk_size < 64 }
+        ensures width { result.width ≡ 2 ^ lb_chunk_size }
+        ensures digits { result.digits ≡ lb_num_chunks }
+    {
+        RowDigits {
+            width: pow2(lb_chunk_size),
+            digits: lb_num_chunks,
+        }
+    }
+
+    /// The grid of the rows whose indices have the middle part `middle`.
+    #[inline(always)]
+    pub(crate) fn grid(self, middle: usize) -> Grid
+        requires few { self.digits < 64 }
+        requires middle { middle < 2 ^ (self.digits - self.digits / 2 - self.digits / 2) }
+        ensures { let half = self.digits / 2 in
+            result ≡ grid_of_rows half (self.digits - half) self.width middle }
+    {
+        let half = self.digits / 2;
+        Grid {
+            width: self.width,
+            base: middle * pow2(half),
+            stride: pow2(self.digits - half),
+            digits: half,
+            reversed: true,
+        }
+    }
+}
 
 /// Reverses the order of the rows of `m` by index bits. Each row has `row_width` items. With 2^k
 /// rows, the row at index `r` comes from the index that has the k bits of `r` in reversed order.
@@ -111,7 +185,7 @@ pub(crate) fn reverse_rows<M: Places>(m: M, rows: RowDigits) -> M
         3 => exchange_all(m, RowDigits { digits: 3, ..rows }),
         4 => exchange_all(m, RowDigits { digits: 4, ..rows }),
         5 => exchange_all(m, RowDigits { digits: 5, ..rows }),
-        _ => exchange_all(m, rows),
+        _ => exchange_many(m, rows),
     }
 }
 
@@ -130,7 +204,20 @@ fn exchange_all<M: Places>(m: M, rows: RowDigits) -> M
     let half = rows.digits / 2;
     let mut m = m;
     for middle in 0..pow2(rows.digits - half - half) {
-        m = exchange_square(m, rows.grid(middle), 0, pow2(half));
+        m = exchange_square(m, rows.grid(middle));
     }
     m
+}
+
+/// Does the same as [`exchange_all`], in a function of its own. So a call with few rows needs no
+/// stack frame, which would take longer than its exchanges.
+#[inline(never)]
+fn exchange_many<M: Places>(m: M, rows: RowDigits) -> M
+    requires fits { FitsRows (length (M.items m)) rows.width }
+    requires digits { rows.digits ≡ clog (length (M.items m) / rows.width) }
+    requires len_fits { length (M.items m) < 2 ^ 64 }
+    ensures order { IsRowReversal rows.width (M.items m) (M.items result) }
+    ensures holder { M.same_holder (rows.width * short_swaps rows.digits) m result }
+{
+    exchange_all(m, rows)
 }

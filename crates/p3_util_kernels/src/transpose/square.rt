@@ -84,5 +84,5 @@ pub(crate) fn transpose_square<M: Places>(
         digits: log_size,
         reversed: false,
     };
-    exchange_square(m, grid, 0, pow2(log_size))
+    exchange_square(m, grid)
 }

@@ -14,9 +14,6 @@ returns c =
     placed c.args.self c.args.x c.if-self.row
     (elim c.if-self.branch [ then-self w ↦ rw w.if-self.true (w.row-is ∙ w.reverse_digits-row.ensures) | else-self w ↦ rw w.if-self.false w.row-is ])
 
-fits : (grid : Grid) (x row : ℕ) → row ≡ (if grid.reversed then rev grid.digits x else x) → grid.base + row * grid.stride ≡ row_place grid x
-fits = placed
-
 pub overflow_mul-result : goal.overflow_mul-result
 overflow_mul-result c =
     let at = placed c.args.self c.args.x c.if-self.row

@@ -59,18 +59,15 @@ loop-middle-preserved g c =
     record {
       crossed = rw next
           (IsCrossed-cut half (digits - half) within w whole _ _ _ _ _ (IsCut-cols whole (middle * 2 ^ half) (omega arith) (omega arith)) c.loop-middle.invariant.crossed
-          (rw first at (IsCrossed-grid half (digits - half) w middle within below square _ _ (omega arith) (rw (c.grid.ensures, c.pow2.ensures, zero-add) at c.exchange_square-m.ensures.exchanged))));
-      holder = g.met.M.Places.same_holder_trans _ _ _ _ _ _ c.loop-middle.invariant.holder (rw (c.grid.ensures, c.pow2.ensures) at c.exchange_square-m.ensures.holder) (omega arith);
+          (rw first at (IsCrossed-grid half (digits - half) w middle within below square _ _ (omega arith) (rw c.grid.ensures at c.exchange_square-m.ensures.exchanged))));
+      holder = g.met.M.Places.same_holder_trans _ _ _ _ _ _ c.loop-middle.invariant.holder (rw c.grid.ensures at c.exchange_square-m.ensures.holder) (omega arith);
     }
 
 pub grid-requires-clause-few : goal.grid-requires-clause-few
 grid-requires-clause-few g c = (ready _ _ _ c.requires.fits c.requires.digits c.requires.len_fits c.if-rows-lt2.false).few
 
-pub pow2-requires : goal.pow2-requires
-pow2-requires g c = omega (arith, (ready _ _ _ c.requires.fits c.requires.digits c.requires.len_fits c.if-rows-lt2.false).few)
-
-pub exchange_square-m-requires-clause-ready : goal.exchange_square-m-requires-clause-ready
-exchange_square-m-requires-clause-ready g c =
+pub exchange_square-m-requires : goal.exchange_square-m-requires
+exchange_square-m-requires g c =
     let digits = c.args.rows.digits in
     let half = digits / 2 in
     let below : c.loop-middle.middle < 2 ^ (digits - half - half) = omega (arith, c.pow2-middle-end.ensures, c.loop-middle-test.true) in

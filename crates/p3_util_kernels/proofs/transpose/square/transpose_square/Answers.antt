@@ -4,17 +4,17 @@ use Rattle.p3_util_kernels.specs.SwapCounts.{square_swaps}
 use Rattle.p3_util_kernels.proofs.GridSquares.{HoldsGrid-square, IsSquareTransposed-grid}
 use Rattle.p3_util_kernels.proofs.transpose.square.transpose_square.Goals as goal
 
-pub exchange_square-requires-clause-ready : goal.exchange_square-requires-clause-ready
-exchange_square-requires-clause-ready g c =
+pub exchange_square-requires : goal.exchange_square-requires
+exchange_square-requires g c =
     rw c.pow2.ensures (HoldsGrid-square c.args.base c.args.log_stride c.args.log_size c.requires.rows_apart _ c.requires.stride_fits c.requires.room c.requires.len_fits)
 
 pub returns-clause-transposed : goal.returns-clause-transposed
 returns-clause-transposed g c =
     IsSquareTransposed-grid c.args.base c.args.log_stride c.args.log_size c.requires.rows_apart _ _
-    (rw (c.pow2.ensures, c.pow2-2.ensures, zero-add) at c.exchange_square.ensures.exchanged)
+    (rw c.pow2.ensures at c.exchange_square.ensures.exchanged)
 
 pub returns-clause-holder : goal.returns-clause-holder
 returns-clause-holder g c =
     let s = 2 ^ c.args.log_size in
     let one : 1 * square_swaps s ≡ square_swaps s = omega arith in
-    rw (c.pow2-2.ensures, one) at c.exchange_square.ensures.holder
+    rw one at c.exchange_square.ensures.holder

@@ -2,7 +2,7 @@
 -- exponent is the number of digits.
 use Rattle.std.proofs.Common.{inl, refl, sym}
 use Rattle.p3_util_kernels.proofs.Lengths.{IsDigitsOfRows-from, no_digits}
-use Rattle.p3_util_kernels.proofs.reverse.pairs.RowDigits.of.Goals as goal
+use Rattle.p3_util_kernels.proofs.reverse.rows.RowDigits.of.Goals as goal
 
 pub returns-then-len-eq0-clause-digits : goal.returns-then-len-eq0-clause-digits
 returns-then-len-eq0-clause-digits c = sym (no_digits c.args.len c.args.width c.if-len-eq0.true)
