@@ -13,16 +13,6 @@ use Rattle.p3_util_kernels.proofs.CrossingLemmas.{outside}
 use Rattle.p3_util_kernels.proofs.MirroredLemmas.{Mirrored-cut, Mirrored-none}
 use Rattle.p3_util_kernels.proofs.RegionLemmas.{IsCut-cols, IsCut-rows}
 
--- a list of the same length holds the same grid
-pub HoldsGrid-kept : {A : Type 0} (grid : Grid) (old new : List A) → length new ≡ length old → HoldsGrid grid old → HoldsGrid grid new
-HoldsGrid-kept grid old new same h = record {
-  few = h.few;
-  wide = h.wide;
-  apart = h.apart;
-  room = λ a less. rw same (h.room a less);
-  length_fits = rw same h.length_fits;
-}
-
 module _ {A : Type 0} (grid : Grid) (items : List A) (holds : HoldsGrid grid items) where
   side : ℕ
   side = 2 ^ grid.digits
