@@ -17,6 +17,7 @@ mod shapes;
 #[cfg(not(debug_assertions))]
 mod stack;
 mod steps;
+mod unwritten;
 mod words;
 
 use std::sync::atomic::{AtomicUsize, Ordering::Relaxed};

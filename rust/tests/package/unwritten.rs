@@ -1,0 +1,81 @@
+//! Items that have bytes which were never written: padding, the payload of `None`, and half of a `MaybeUninit`.
+//! `rust/test` also runs these tests under valgrind, which reports a result that depends on such a byte.
+
+use std::mem::MaybeUninit;
+
+use p3_util_proved::transpose::transpose;
+use p3_util_proved::{reverse_slice_index_bits, reverse_slice_row_index_bits};
+
+use crate::{reversed, transposed};
+
+/// Reverses and transposes lists of items. `write` writes item number i, field by field, so that all other bytes stay as
+/// the allocator left them. `is` recognises it by what was written.
+fn moves<T: Copy + Send + Sync>(write: impl Fn(*mut T, usize), is: impl Fn(&T, usize) -> bool) {
+    let list = |len| {
+        let mut items = Vec::<T>::with_capacity(len);
+        for (i, item) in items.spare_capacity_mut()[..len].iter_mut().enumerate() {
+            write(item.as_mut_ptr(), i);
+        }
+        // SAFETY: the capacity is at least `len`, and `write` wrote all that an item has.
+        unsafe { items.set_len(len) };
+        items
+    };
+    for (bits, width) in [(1, 1), (4, 1), (6, 1), (9, 1), (12, 1), (3, 2), (5, 8), (7, 3)] {
+        let mut items = list(width << bits);
+        match width {
+            1 => reverse_slice_index_bits(&mut items),
+            _ => reverse_slice_row_index_bits(&mut items, width),
+        }
+        for (place, got) in items.iter().enumerate() {
+            let wanted = reversed(bits, place / width) * width + place % width;
+            assert!(is(got, wanted), "place {place} of 2^{bits} rows of {width}");
+        }
+    }
+    for (width, height) in [(2, 2), (4, 4), (8, 8), (16, 16), (17, 19), (33, 40), (64, 48)] {
+        let mut output = list(width * height);
+        transpose(&list(width * height), &mut output, width, height);
+        for (place, got) in output.iter().enumerate() {
+            let wanted = transposed(width, height, place);
+            assert!(is(got, wanted), "place {place} of {width} by {height}");
+        }
+    }
+}
+
+#[test]
+fn padding() {
+    macro_rules! of {
+        ($($first:ty, $second:ty);*) => { $(moves(
+            |item: *mut ($first, $second), i| unsafe {
+                // SAFETY (of both): the pointer is valid for writes of an item, so also for those of its fields.
+                (&raw mut (*item).0).write(i as $first);
+                (&raw mut (*item).1).write(i as $second);
+            },
+            |item, i| *item == (i as $first, i as $second),
+        );)* };
+    }
+    of!(u8, u16; u32, u8; u64, u8);
+}
+
+#[test]
+fn payloads_that_are_not_there() {
+    macro_rules! of {
+        ($($payload:ty)*) => { $({
+            let item = |i: usize| (i % 3 > 0).then_some(i as $payload);
+            // SAFETY: the pointer is valid for writes of an item.
+            moves(|to: *mut Option<$payload>, i| unsafe { to.write(item(i)) }, |got, i| *got == item(i));
+        })* };
+    }
+    of!(u8 u16 u32);
+}
+
+#[test]
+fn halves() {
+    macro_rules! of {
+        ($($whole:ty, $half:ty);*) => { $(moves(
+            // SAFETY (of both): this half lies within the item, and is the one that was written.
+            |item: *mut MaybeUninit<$whole>, i| unsafe { item.cast::<$half>().add(i % 2).write(i as $half) },
+            |item, i| unsafe { item.as_ptr().cast::<$half>().add(i % 2).read() } == i as $half,
+        );)* };
+    }
+    of!(u16, u8; u32, u16; u64, u32; u128, u64);
+}
