@@ -196,6 +196,7 @@ fn block_of(cut: Cut, digits: usize, row: usize) -> (usize, usize, usize) {
 }
 
 /// Each part exchanges all pairs of rows of one block. The test takes the block from the first row that the part moves.
+/// Blocks on a diagonal have half as many pairs as the others, so they come last.
 #[test]
 fn blocks_of_pairs_of_rows() {
     let cases = (0..=11).flat_map(|digits| (0..=9).map(move |parts| (digits, parts)));
@@ -222,18 +223,8 @@ fn blocks_of_pairs_of_rows() {
         assert_eq!(moved, all.count(), "2^{digits} rows of {width} in {parts} parts");
         let squares = 1 + digits % 2;
         assert_eq!(plan.count(), squares * cut.count() * (cut.count() + 1) / 2);
-    }
-}
-
-/// Parts on the diagonal make half as many exchanges as the others, so they are run last.
-#[test]
-fn pairs_of_a_part_with_itself_come_last() {
-    for parts in 1..=20 {
-        let cut = Cut::new(parts, parts, 1);
-        for number in 0..cut.pairs() {
-            let (first, second) = cut.pair(number);
-            assert_eq!(first == second, number >= cut.pairs() - parts);
-        }
+        let is_on_diagonal = |(_, first, second): &(usize, usize, usize)| first == second;
+        assert!(blocks.iter().flatten().map(is_on_diagonal).is_sorted());
     }
 }
 
@@ -291,6 +282,16 @@ fn count_and_share(sizes: impl IntoIterator<Item = usize>) -> (usize, usize) {
     (sizes.len(), (largest * 1000).div_ceil(sizes.iter().sum()))
 }
 
+/// The same for the plan of a reversal of `len` items. Each part is run alone.
+fn shares(len: usize, plan: ReversalPlan) -> (usize, usize) {
+    let exchanges_of = |number| {
+        let mut counted = Counted { len, exchanges: 0 };
+        let _ = plan.exchange(&mut counted, number);
+        counted.exchanges
+    };
+    count_and_share((0..plan.count()).map(exchanges_of))
+}
+
 /// The number of parts of a reversal, and the largest part's share of the exchanges. Each part is run alone. Only this
 /// test notices if a list is not cut, or is cut into parts of very different sizes.
 #[test]
@@ -319,12 +320,7 @@ fn shares_of_reversals() {
     for (digits, row_width, asked, wanted) in cases {
         let len = row_width << digits;
         let plan = ReversalPlan::new(len, row_width, parts_of_side(asked), 1 << 18);
-        let exchanges_of = |number| {
-            let mut counted = Counted { len, exchanges: 0 };
-            let _ = plan.exchange(&mut counted, number);
-            counted.exchanges
-        };
-        let got = count_and_share((0..plan.count()).map(exchanges_of));
+        let got = shares(len, plan);
         assert_eq!(got, wanted, "2^{digits} rows of {row_width} if {asked} are asked for");
         let most = match (digits, asked) {
             (10.., 64..) => 20,
@@ -341,13 +337,7 @@ fn small_shares_of_short_lists() {
     let items = (13..=18).map(|digits| (digits, 1));
     for (digits, row_width) in items.chain((7..=12).map(|digits| (digits, 5))) {
         let len = row_width << digits;
-        let plan = ReversalPlan::new(len, row_width, parts_of_side(64), 0);
-        let exchanges_of = |number| {
-            let mut counted = Counted { len, exchanges: 0 };
-            let _ = plan.exchange(&mut counted, number);
-            counted.exchanges
-        };
-        let (_, largest) = count_and_share((0..plan.count()).map(exchanges_of));
+        let (_, largest) = shares(len, ReversalPlan::new(len, row_width, parts_of_side(64), 0));
         assert!(largest <= 20, "2^{digits} rows of {row_width}: {largest}");
     }
 }
