@@ -56,10 +56,16 @@ pub(crate) fn reverse_rows<F>(vals: &mut [F], row_width: usize) -> bool {
 pub(crate) fn transpose<T: Copy>(input: &[T], output: &mut [T], width: usize, height: usize) -> bool {
     let fits = fits_matrix(input.len(), output.len(), width, height);
     if fits && size_of::<T>() > 0 {
-        let matrix = Matrix::new(SliceSource::new(input), width, height);
-        let _ = transpose_matrix(SliceCells::new(output), matrix, strips_by_size(matrix));
+        transpose_from(SliceSource::new(input), output, width, height);
     }
     fits
+}
+
+/// Transposes a matrix of `height` rows of `width` items from `source` into `output`. Both have `width * height` items.
+#[inline(always)]
+fn transpose_from<T: Copy>(source: impl Source<Item = T> + Copy, output: &mut [T], width: usize, height: usize) {
+    let matrix = Matrix::new(source, width, height);
+    let _ = transpose_matrix(SliceCells::new(output), matrix, strips_by_size(matrix));
 }
 
 /// Whether the holders of this file transpose blocks of items of 4 and of 8 bytes in registers.

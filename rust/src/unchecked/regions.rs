@@ -1,4 +1,4 @@
-//! Tests what the parts of a transpose read: each item once, in the order that the strips have. A test of results would
+//! Tests what a transpose and its parts read: each item once, in the order that the strips have. A test of results would
 //! notice neither a second read nor another order.
 
 use core::cell::RefCell;
@@ -10,27 +10,27 @@ use crate::kernels::transpose::transpose_matrix;
 
 /// A slice that notes the index of each read.
 #[derive(Clone, Copy)]
-struct Noted<'a> {
-    items: &'a [usize],
+struct Noted<'a, T> {
+    items: &'a [T],
     reads: &'a RefCell<Vec<usize>>,
 }
 
-impl Source for Noted<'_> {
-    type Item = usize;
+impl<T: Copy> Source for Noted<'_, T> {
+    type Item = T;
 
     fn len(&self) -> usize {
         self.items.len()
     }
 
-    fn at(&self, i: usize) -> usize {
+    fn at(&self, i: usize) -> T {
         self.reads.borrow_mut().push(i);
         self.items[i]
     }
 }
 
-/// Calls `call` with the numbers below `len` and returns the indices that it reads, in order.
-fn reads(len: usize, call: impl FnOnce(&[usize], &mut [usize], Noted)) -> Vec<usize> {
-    let items: Vec<usize> = (0..len).collect();
+/// Calls `call` with `len` items and returns the indices that it reads, in order.
+fn reads<T: Copy + Default>(len: usize, call: impl FnOnce(&[T], &mut [T], Noted<T>)) -> Vec<usize> {
+    let items = std::vec![T::default(); len];
     let mut output = items.clone();
     let reads = RefCell::new(Vec::new());
     let source = Noted {
@@ -44,7 +44,7 @@ fn reads(len: usize, call: impl FnOnce(&[usize], &mut [usize], Noted)) -> Vec<us
 #[test]
 fn each_item_is_read_once() {
     for (width, height, asked) in [(64, 64, 1), (64, 64, 4), (100, 40, 3), (40, 100, 3), (5, 3, 9)] {
-        let mut read = reads(width * height, |items, output, source| {
+        let mut read = reads::<usize>(width * height, |items, output, source| {
             let mut parts = parts_of_transpose(items, output, width, height, asked).unwrap();
             while let Some(part) = parts.split_first() {
                 part.put_from(source);
@@ -61,12 +61,12 @@ fn strips_of_the_parts() {
         Strips::Wide,
         Strips::by_shape(Matrix::new(SliceSource::new(&[0; 64 * 64]), 64, 64)),
     ] {
-        let by_parts = reads(64 * 64, |items, output, source| {
+        let by_parts = reads::<usize>(64 * 64, |items, output, source| {
             let mut parts = parts_of_transpose(items, output, 64, 64, 1).unwrap();
             parts.plan.strips = strips;
             parts.put_from(source);
         });
-        let by_call = reads(64 * 64, |_, output, source| {
+        let by_call = reads::<usize>(64 * 64, |_, output, source| {
             let _ = transpose_matrix(SliceCells::new(output), Matrix::new(source, 64, 64), strips);
         });
         assert!(by_parts == by_call);
@@ -87,4 +87,26 @@ fn strips_of_the_call() {
     }
     assert!(is_of_call(0u8, 64, 64));
     assert!(!is_of_call([0u64; 4], 16, 65_664));
+}
+
+/// A call on slices puts the items by the strips that suit their size.
+#[test]
+fn strips_of_calls_on_slices() {
+    fn check<T: Copy + Default>(width: usize, height: usize) {
+        let by_call = reads::<T>(width * height, |_, output, source| {
+            transpose_from(source, output, width, height);
+        });
+        let by_strips = reads::<T>(width * height, |_, output, source| {
+            let matrix = Matrix::new(source, width, height);
+            let _ = transpose_matrix(SliceCells::new(output), matrix, strips_by_size(matrix));
+        });
+        assert!(by_call == by_strips, "{width} by {height}");
+    }
+    check::<u8>(64, 64);
+    check::<u32>(64, 64);
+    check::<u64>(48, 20);
+    check::<u128>(16, 16);
+    check::<u128>(64, 64);
+    check::<u128>(17, 20);
+    check::<[u64; 4]>(16, 65_664);
 }
