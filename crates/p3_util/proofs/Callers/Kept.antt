@@ -157,7 +157,7 @@ module _ {A : Type 0} where
   pub transposed_differ : (w h : ℕ) (old new : List A) → IsTranspose w h old new → length old ≡ w * h → AllDiffer old → AllDiffer new
   transposed_differ w h old new turned len = differ_permuted old new (transposed_permuted w h old new turned len)
 
-pub ruleset kept_different = (reversed_differ, rows_differ, transposed_differ)
+pub ruleset kept_different = (transposed_differ, rows_differ, reversed_differ)
 
 -- the sum of all items stays the same
 pub reversed_sum : (old new : List ℕ) → IsReversal old new → IsReversible (length old) → sum new ≡ sum old
