@@ -69,12 +69,51 @@ fn blocks_of_small_items() {
     for (width, height) in [(7, 1000), (1000, 7), (8, 9), (11, 11), (513, 512), (1000, 1000)] {
         assert!(is_by_shape::<u32>(width, height), "{width} by {height}");
     }
-    assert!(
-        is_by_shape::<u8>(64, 64)
-            && is_by_shape::<u16>(64, 64)
-            && is_by_shape::<[u32; 3]>(64, 64)
-            && is_by_shape::<u128>(64, 64)
-    );
+    for (width, height) in [
+        (8, 8),
+        (8, 9),
+        (11, 11),
+        (300, 60),
+        (1024, 1024),
+        (262_144, 12),
+        (2003, 757),
+    ] {
+        for strips in [strips::<u8>(width, height), strips::<u16>(width, height)] {
+            assert_eq!(
+                matches!(strips, Strips::Blocks(Side::Eight)),
+                turns,
+                "{width} by {height}"
+            );
+        }
+    }
+    for (width, height) in [(7, 8), (8, 7), (7, 1000), (1000, 7)] {
+        assert!(
+            is_by_shape::<u8>(width, height) && is_by_shape::<u16>(width, height),
+            "{width} by {height}"
+        );
+    }
+    for (width, height) in [(64, 64), (100, 90), (300, 60)] {
+        assert!(!has_blocks::<[u8; 3]>(width, height) && !has_blocks::<[u32; 3]>(width, height));
+        assert!(!has_blocks::<u128>(width, height) && !has_blocks::<[u64; 4]>(width, height));
+    }
+}
+
+/// By the shape alone, these matrices would be put in tiles.
+#[test]
+fn small_matrices_without_tiles() {
+    for (width, height) in [(16, 1), (16, 15), (64, 12), (112, 7)] {
+        assert!(matches!(strips::<[u8; 3]>(width, height), Strips::High));
+        assert!(matches!(strips::<u128>(width, height), Strips::High));
+    }
+    for (width, height) in [(16, 16), (16, 64), (32, 32), (48, 17)] {
+        assert!(matches!(strips::<[u8; 3]>(width, height), Strips::Tiles));
+        assert!(matches!(strips::<[u8; 11]>(width, height), Strips::Tiles));
+        assert!(matches!(strips::<[u32; 3]>(width, height), Strips::Low));
+        assert!(matches!(strips::<[u64; 8]>(width, height), Strips::Low));
+    }
+    for (width, height) in [(16, 65), (1040, 12), (64, 64)] {
+        assert!(is_by_shape::<[u8; 3]>(width, height) && is_by_shape::<u128>(width, height));
+    }
 }
 
 #[test]

@@ -85,7 +85,7 @@ fn strips_of_the_call() {
         assert!(discriminant(&parts.plan.strips) == discriminant(&strips_by_size(matrix)));
         discriminant(&Strips::by_shape(matrix)) == discriminant(&strips_by_size(matrix))
     }
-    assert!(is_of_call(0u8, 64, 64));
+    assert!(is_of_call(0u128, 64, 65));
     assert!(!is_of_call([0u64; 4], 16, 65_664));
 }
 

@@ -9,8 +9,6 @@
 
 use core::array::from_fn;
 use core::mem::{MaybeUninit, transmute_copy};
-use core::ptr;
-use core::sync::atomic::{Ordering, compiler_fence};
 
 use crate::kernels::places::Block;
 
@@ -43,6 +41,9 @@ pub(super) type Register = MaybeUninit<Vector>;
 
 /// 8 bytes: 8 items of 1 byte.
 pub(super) type Half = MaybeUninit<u64>;
+
+/// A function that takes the rows of a square and returns its columns. Each row and each column is an `R`.
+type Turned<R, const SIDE: usize> = fn([R; SIDE]) -> [R; SIDE];
 
 /// Defines functions that are one instruction each. A line has the name of the function, the name of the instruction on
 /// x86-64, and its name on aarch64 with the form of the register's parts.
@@ -120,22 +121,39 @@ pub(super) fn turned_8([a, b]: [Register; 2]) -> [Register; 2] {
     [low_8(a, b), high_8(a, b)]
 }
 
-/// Transposes two squares of items of 4 bytes.
+/// Exchanges two tiles, each with the mirror image of the other: `SIDE` rows of one tile at a time, which are `SQUARES`
+/// squares, with as many columns of the other. `x` and `y` are the places at which the rows of the tiles begin. A row of
+/// a square is an `R`.
+///
+/// # Safety
+///
+/// `first` is the first of some items, and may be used for all of them. The 8 items from each of these places on are
+/// among them, and no two of these runs overlap.
 #[inline(always)]
-pub(super) fn two_turned_4([a, b, c, d, e, f, g, h]: [Register; 8]) -> [Register; 8] {
-    let [[a, b, c, d], [e, f, g, h]] = [turned_4([a, b, c, d]), turned_4([e, f, g, h])];
-    [a, b, c, d, e, f, g, h]
+pub(super) unsafe fn exchange<T, R: Copy, const SIDE: usize, const SQUARES: usize>(
+    first: *mut T,
+    x: [usize; 8],
+    y: [usize; 8],
+    turned: Turned<R, SIDE>,
+) {
+    debug_assert!(size_of::<R>() == SIDE * size_of::<T>() && SIDE * SQUARES == 8);
+    for row in (0..8).step_by(SIDE) {
+        // SAFETY: a square is in 8 rows of a tile and in 8 of its columns, since `SIDE * SQUARES` is 8. An item may be
+        // at any multiple of its alignment. Everything is read before anything is written, and each side is written as
+        // a whole: a row of the one and a row of the other in turn would take longer.
+        unsafe {
+            let of_x = |square| from_fn(|t| first.add(x[row + t] + square * SIDE).cast::<R>());
+            let of_y = |square| from_fn(|t| first.add(y[square * SIDE + t] + row).cast::<R>());
+            let to_y: [_; SQUARES] = from_fn(|square| turned(read(of_x(square))));
+            let to_x: [_; SQUARES] = from_fn(|square| turned(read(of_y(square))));
+            (0..SQUARES).for_each(|square| write(of_y(square), to_y[square]));
+            (0..SQUARES).for_each(|square| write(of_x(square), to_x[square]));
+        }
+    }
 }
 
-/// Transposes four squares of items of 8 bytes.
-#[inline(always)]
-pub(super) fn four_turned_8([a, b, c, d, e, f, g, h]: [Register; 8]) -> [Register; 8] {
-    let [[a, b], [c, d], [e, f], [g, h]] = [turned_8([a, b]), turned_8([c, d]), turned_8([e, f]), turned_8([g, h])];
-    [a, b, c, d, e, f, g, h]
-}
-
-/// Puts a block of the items from `source` on into the cells from `cells` on, by squares of `SIDE` rows and columns,
-/// which `turned` transposes. A row of a square is one `R`, so it has the size of `SIDE` items.
+/// Puts a block of the items from `source` on into the cells from `cells` on, by squares of `SIDE` rows and columns. A
+/// row of a square is an `R`.
 ///
 /// # Safety
 ///
@@ -145,9 +163,8 @@ pub(super) unsafe fn put<T, R: Copy, const SIDE: usize>(
     source: *const T,
     cells: *mut T,
     block: Block,
-    turned: fn([R; SIDE]) -> [R; SIDE],
+    turned: Turned<R, SIDE>,
 ) {
-    debug_assert!(size_of::<R>() == SIDE * size_of::<T>());
     let Block {
         side,
         from,
@@ -155,100 +172,30 @@ pub(super) unsafe fn put<T, R: Copy, const SIDE: usize>(
         to,
         height,
     } = block;
+    debug_assert!(size_of::<R>() == SIDE * size_of::<T>() && side % SIDE == 0);
     for col in (0..side).step_by(SIDE) {
         for row in (0..side).step_by(SIDE) {
-            // SAFETY: these are rows of squares of the block, and columns of such squares in the cells. An item may be
-            // at any multiple of its alignment.
+            // SAFETY: these are rows of a square of the block, and columns of it in the cells. An item may be at any
+            // multiple of its alignment.
             unsafe {
-                let rows = from_fn(|t| source.add(from + (row + t) * width + col).cast::<R>());
-                let cols = turned(rows.map(|row| row.read_unaligned()));
-                for (t, items) in cols.into_iter().enumerate() {
-                    cells
-                        .add(to + (col + t) * height + row)
-                        .cast::<R>()
-                        .write_unaligned(items);
-                }
+                let rows = from_fn(|t| source.add(from + (row + t) * width + col).cast::<R>().cast_mut());
+                let cols = from_fn(|t| cells.add(to + (col + t) * height + row).cast::<R>());
+                write(cols, turned(read(rows)));
             }
         }
     }
 }
 
-/// Exchanges two tiles, each with the mirror image of the other: `SIDE` rows of one tile at a time, which are as wide as
-/// a square that `turned` transposes, with `SIDE` columns of the other. `x` and `y` are the places at which the rows of
-/// the tiles begin. A row of a square is one `R`, so it has the size of `SIDE` items.
-///
-/// # Safety
-///
-/// `first` is the first of a list of items. The 8 items from each of these places on are within the list, no two of
-/// these runs overlap, and the caller may read and write all of them.
+/// Reads the rows of a square.
 #[inline(always)]
-pub(super) unsafe fn exchange<T, R: Copy, const SIDE: usize>(
-    first: *mut T,
-    x: [usize; 8],
-    y: [usize; 8],
-    turned: fn([R; 8]) -> [R; 8],
-) {
-    debug_assert!(size_of::<R>() == SIDE * size_of::<T>());
-    for row in (0..8).step_by(SIDE) {
-        // SAFETY: in `x` these are the rows from `row` on, each of 8 / SIDE squares, and in `y` the same columns of all
-        // 8 rows. An item may be at any multiple of its alignment. Everything is read before anything is written, and
-        // each side is written as a whole: a row of the one and a row of the other in turn would take longer.
-        unsafe {
-            let of_x: [*mut R; 8] = from_fn(|k| first.add(x[row + k % SIDE]).cast::<R>().add(k / SIDE));
-            let of_y = y.map(|start| first.add(start + row).cast::<R>());
-            let to_y = turned(of_x.map(|part| part.read_unaligned()));
-            let to_x = turned(of_y.map(|part| part.read_unaligned()));
-            (0..8).for_each(|k| of_y[k].write_unaligned(to_y[k]));
-            (0..8).for_each(|k| of_x[k].write_unaligned(to_x[k]));
-        }
-    }
+unsafe fn read<R: Copy, const SIDE: usize>(rows: [*mut R; SIDE]) -> [R; SIDE] {
+    // SAFETY: the caller says that they are valid for reads.
+    rows.map(|row| unsafe { row.read_unaligned() })
 }
 
-/// Writes an item of at most 64 bytes, a multiple of 4, in parts of 16, of 8 and of 4 bytes, from the lowest address on.
-/// The compiler would write the upper part first, or parts that overlap. That takes longer, most of all if an item lies
-/// in two cache lines.
-///
-/// # Safety
-///
-/// `to` is valid for writes of an item.
+/// Writes the rows of a square, the first one first.
 #[inline(always)]
-pub(super) unsafe fn write_parts<T>(to: *mut T, item: T) {
-    let (item, size) = (MaybeUninit::new(item), size_of::<T>());
-    let (from, to) = (item.as_ptr().cast::<u8>(), to.cast::<u8>());
-    let registers = size / 16;
-    // SAFETY: these parts are the item: some registers, then half of one if 8 bytes or more are left, then 4 bytes if
-    // they are left.
-    unsafe {
-        for k in 0..registers {
-            copy::<Register>(from.add(16 * k), to.add(16 * k));
-            // Without the fence, the compiler would join two parts. With AVX, two registers are one.
-            if registers > 1 && (k % 2 == 1 || cfg!(not(target_feature = "avx"))) {
-                compiler_fence(Ordering::SeqCst);
-            }
-        }
-        if size % 16 >= 8 {
-            copy::<Half>(from.add(16 * registers), to.add(16 * registers));
-        }
-        if size % 8 == 4 {
-            copy::<MaybeUninit<u32>>(from.add(size - 4), to.add(size - 4));
-        }
-    }
-}
-
-/// Exchanges two items of a size that [`write_parts`] takes.
-#[inline(always)]
-pub(super) fn swap_parts<T>(x: &mut T, y: &mut T) {
-    // SAFETY: both items are read, and then each is written over the other.
-    unsafe {
-        let (of_x, of_y) = (ptr::read(x), ptr::read(y));
-        write_parts(y, of_x);
-        write_parts(x, of_y);
-    }
-}
-
-/// Copies a part of an item. Both addresses are valid for it, and it may have bytes that were never written.
-#[inline(always)]
-unsafe fn copy<P>(from: *const u8, to: *mut u8) {
-    // SAFETY: this is what the caller promises.
-    unsafe { to.cast::<P>().write_unaligned(from.cast::<P>().read_unaligned()) }
+unsafe fn write<R: Copy, const SIDE: usize>(rows: [*mut R; SIDE], values: [R; SIDE]) {
+    // SAFETY: the caller says that they are valid for writes.
+    (0..SIDE).for_each(|row| unsafe { rows[row].write_unaligned(values[row]) });
 }
