@@ -574,3 +574,6 @@ mod regions;
 
 #[cfg(all(test, not(feature = "checked")))]
 mod races;
+
+#[cfg(all(test, target_os = "linux", not(miri), not(feature = "checked")))]
+mod guarded;

@@ -1,0 +1,153 @@
+//! Tests that a step touches only its own places, for items of many sizes. Each run of places that a step may touch
+//! begins where a page begins or ends where a page ends, and the pages around it cannot be read. So a step that touches a
+//! place next to a run ends the test program.
+
+use std::array::from_fn;
+use std::ptr::null_mut;
+
+use super::*;
+use crate::kernels::places::{Block, Cells, Places};
+
+unsafe extern "C" {
+    fn mmap(address: *mut u8, len: usize, protection: i32, flags: i32, file: i32, offset: i64) -> *mut u8;
+    fn mprotect(address: *mut u8, len: usize, protection: i32) -> i32;
+    fn munmap(address: *mut u8, len: usize) -> i32;
+}
+
+const UNREADABLE: i32 = 0;
+const READ_AND_WRITE: i32 = 3;
+const PRIVATE_AND_ANONYMOUS: i32 = 0x22;
+
+/// The size of a page here, a multiple of that of the processor. A run has at most this many bytes.
+const PAGE: usize = 1 << 16;
+
+/// The distance of the first places of two runs. It is two pages or more.
+const GAP: usize = 2 * PAGE;
+
+/// A list of items of `N` bytes, of which only `runs` runs of `len` places can be read and written.
+struct Runs<const N: usize> {
+    memory: *mut u8,
+    first: *mut [u8; N],
+    runs: usize,
+    len: usize,
+}
+
+impl<const N: usize> Runs<N> {
+    fn new(runs: usize, len: usize, ends_with_page: bool) -> Self {
+        // SAFETY: each run lies in a page of its own of the new memory, which is made readable first. A page before the
+        // first run stays unreadable.
+        unsafe {
+            let memory = mmap(null_mut(), Self::bytes(runs), UNREADABLE, PRIVATE_AND_ANONYMOUS, -1, 0);
+            let start = memory.add(PAGE);
+            for run in 0..runs {
+                assert_eq!(mprotect(start.add(GAP * N * run), PAGE, READ_AND_WRITE), 0);
+            }
+            let first = start.add(if ends_with_page { PAGE - N * len } else { 0 }).cast();
+            let list = Runs {
+                memory,
+                first,
+                runs,
+                len,
+            };
+            for (run, k) in list.places() {
+                list.first.add(GAP * run + k).write(Self::item(run, k));
+            }
+            list
+        }
+    }
+
+    fn bytes(runs: usize) -> usize {
+        PAGE + GAP * N * runs
+    }
+
+    /// Item `k` of a run. Two items of the first 16 runs differ if `k` is below 16.
+    fn item(run: usize, k: usize) -> [u8; N] {
+        from_fn(|byte| (16 * run + k) as u8 ^ (37 * byte + k / 16) as u8)
+    }
+
+    fn places(&self) -> impl Iterator<Item = (usize, usize)> + use<N> {
+        let len = self.len;
+        (0..self.runs).flat_map(move |run| (0..len).map(move |k| (run, k)))
+    }
+
+    /// The list as a slice, of which a holder uses only the pointer and the length.
+    fn list(&mut self) -> &mut [[u8; N]] {
+        // SAFETY: the list lies in the memory.
+        unsafe { core::slice::from_raw_parts_mut(self.first, GAP * (self.runs - 1) + self.len) }
+    }
+
+    /// Compares the item at each place of a run with the one that was at the place `wanted` in the beginning.
+    fn check(&self, wanted: impl Fn(usize, usize) -> (usize, usize)) {
+        for (run, k) in self.places() {
+            let (from, of) = wanted(run, k);
+            // SAFETY: this is a place of a run.
+            let got = unsafe { self.first.add(GAP * run + k).read() };
+            assert_eq!(
+                got,
+                Self::item(from, of),
+                "run {run}, place {k} of {}, items of {N} bytes",
+                self.len
+            );
+        }
+    }
+}
+
+impl<const N: usize> Drop for Runs<N> {
+    fn drop(&mut self) {
+        // SAFETY: this is the memory that `new` asked for.
+        unsafe { munmap(self.memory, Self::bytes(self.runs)) };
+    }
+}
+
+/// Makes each kind of step with runs at both ends of pages.
+fn steps<const N: usize>() {
+    for ends_with_page in [false, true] {
+        let mut two = Runs::<N>::new(2, 1, ends_with_page);
+        SlicePlaces::new(two.list()).exchange(0, GAP);
+        two.check(|run, k| (1 - run, k));
+        SlicePlaces::new(two.list()).exchange_apart(GAP, 0);
+        two.check(|run, k| (run, k));
+        let put = SliceSource::new(two.list()).at(GAP);
+        SliceCells::new(two.list()).put(0, put);
+        two.check(|_, k| (1, k));
+
+        for len in (1..=17).chain([33, 100]) {
+            let mut runs = Runs::<N>::new(2, len, ends_with_page);
+            SlicePlaces::new(runs.list()).exchange_runs(0, GAP, len);
+            runs.check(|run, k| (1 - run, k));
+        }
+
+        let mut tiles = Runs::<N>::new(16, 8, ends_with_page);
+        let row = |number: usize| number * 7 % 16;
+        let (x, y) = (from_fn(|r| GAP * row(r)), from_fn(|r| GAP * row(8 + r)));
+        SlicePlaces::new(tiles.list()).exchange_tiles(x, y);
+        tiles.check(|run, k| match (0..16).find(|number| row(*number) == run) {
+            Some(number) if number < 8 => (row(8 + k), number),
+            number => (row(k), number.unwrap() - 8),
+        });
+
+        for side in [1, 2, 3, 4, 5, 8, 16] {
+            let mut source = Runs::<N>::new(side, side, ends_with_page);
+            let mut cells = Runs::<N>::new(side, side, ends_with_page);
+            let (from, width, to, height) = (0, GAP, 0, GAP);
+            let block = Block {
+                side,
+                from,
+                width,
+                to,
+                height,
+            };
+            SliceCells::new(cells.list()).put_block(&SliceSource::new(source.list()), block);
+            cells.check(|run, k| (k, run));
+            source.check(|run, k| (run, k));
+        }
+    }
+}
+
+#[test]
+fn steps_touch_their_places_alone() {
+    macro_rules! sizes {
+        ($($size:literal)*) => { $(steps::<$size>();)* };
+    }
+    sizes!(1 2 3 4 5 6 7 8 9 12 15 16 20 24 28 32 36 40 44 48 52 56 60 64 65 80);
+}
