@@ -1,6 +1,6 @@
 -- The places of a block that are exchanged with their mirror images, and the exchanges at these
 -- places.
-use Rattle.std.proofs.Common.{◌≡◌, ◌≢◌, ℕ, Bool, true, nat_lt, ltb-true, ◌+◌, ◌*◌, ◌/◌, ◌%◌, ◌^◌, ◌<◌, IsTrue, List, length, slice_get, max, min, inl, inr, refl, ap, arith}
+use Rattle.std.proofs.Common.{◌≡◌, ◌≢◌, ℕ, Bool, true, nat_lt, ltb-true, ◌*◌, ◌/◌, ◌%◌, ◌^◌, ◌<◌, IsTrue, List, length, slice_get, max, min, inl, inr, refl, ap, arith}
 use Rattle.std.proofs.lemmas.Bool.{cases_eq, eq-eqb, ne_eqb}
 use Rattle.std.proofs.lemmas.Bool.Decides.{nat_tests}
 use Rattle.p3_util_kernels.specs.declared.transpose.regions.Region.{Region}
@@ -8,7 +8,7 @@ use Rattle.p3_util_kernels.specs.Blocks.{IsBlock, swaps_of_block}
 use Rattle.p3_util_kernels.specs.Least.{AllDiffer, AreOnceAmong, after_swaps, count_below, places_swapped}
 use Rattle.p3_util_kernels.specs.Mirrored.{Mirrored}
 use Rattle.p3_util_kernels.specs.PartSteps.{IsInBlock}
-use Rattle.p3_util_kernels.specs.Region.{IsInRegion, cols_of, items_of, rows_of}
+use Rattle.p3_util_kernels.specs.Region.{items_of, rows_of}
 use Rattle.p3_util_kernels.specs.SwapCounts.{square_swaps}
 use Rattle.p3_util_kernels.proofs.BlocksLemmas.{block-above, block-diagonal}
 use Rattle.p3_util_kernels.proofs.Counts.{count-all, count-first, count-same, count-times}
@@ -16,62 +16,49 @@ use Rattle.p3_util_kernels.proofs.Matrix.{row_and_column, same_number}
 use Rattle.p3_util_kernels.proofs.MirrorSteps.{mirror-stays}
 use Rattle.p3_util_kernels.proofs.PartPlaces.{InPairs, pairs-inside, pairs-same, pairs-turned, place}
 use Rattle.p3_util_kernels.proofs.Pairs.{square_swaps-next}
+use Rattle.p3_util_kernels.proofs.RegionSteps.{column, in_region, row}
 
 module _ (digits width step number : ℕ) (some : 0 < step) (middle : ℕ) (region : Region) (block : IsBlock digits step number middle region) where
-  abbrev rows : ℕ
-  rows = rows_of region
-
-  -- the row and the column of place i of the block, counted column by column, and whether the place
-  -- is above the diagonal
-  abbrev row : ℕ → ℕ
-  row i = region.row_start + i % rows
-
-  abbrev col : ℕ → ℕ
-  col i = region.col_start + i / rows
-
+  -- whether place i of the block, counted column by column, is above the diagonal
   abbrev above : ℕ → Bool
-  above i = nat_lt (row i) (col i)
+  above i = nat_lt (row region i) (column region i)
 
-  in_region : (i : ℕ) → i < cols_of region * rows → IsInRegion region (col i) (row i)
-  in_region i less =
-      let at = row_and_column i (cols_of region) rows less in
-      record { row_from = omega arith; row_to = omega arith; col_from = omega arith; col_to = omega arith }
-
-  pairs-counted : count_below (cols_of region * rows) above ≡ swaps_of_block region
+  pairs-counted : count_below (items_of region) above ≡ swaps_of_block region
   pairs-counted =
       elim (cases_eq region.row_start region.col_start) [
         | inl same ↦
             let end = block-diagonal digits step number middle region some block same in
-            let size : cols_of region ≡ rows = omega arith in
-            let swaps : swaps_of_block region ≡ square_swaps rows = rw (eq-eqb region.row_start region.col_start same) refl in
+            let rows : ℕ = rows_of region in
+            let size : items_of region ≡ rows * rows = ap (λ n. rows * n) (omega arith) in
+            let swaps : swaps_of_block region ≡ square_swaps (rows_of region) = rw (eq-eqb region.row_start region.col_start same) refl in
             let count = count-first rows rows (λ n. n) square_swaps (λ n less. (omega arith, square_swaps-next n)) in
             let test = count-same (rows * rows) above (λ i. nat_lt (i % rows) (i / rows)) (λ i less. grind (arith, nat_tests, same)) in
             rw (swaps, size) (omega (arith, count, test))
         | inr other ↦
             let before = block-above digits step number middle region some block other in
             let swaps : swaps_of_block region ≡ items_of region = rw (ne_eqb region.row_start region.col_start other) refl in
-            let test = count-same (cols_of region * rows) above (λ i. true) (λ i less. let at = in_region i less in grind (arith, nat_tests, before, at)) in
-            rw swaps (omega (arith, test, count-all (cols_of region * rows)))
+            let test = count-same (items_of region) above (λ i. true) (λ i less. let at = in_region region i less in grind (arith, nat_tests, before, at)) in
+            rw swaps (omega (arith, test, count-all (items_of region)))
       ]
 
   -- number q names item `q % width` of the pair of rows at place `q / width`
   abbrev upper : ℕ → ℕ
-  upper q = place digits width step some (middle, q % width) (row (q / width)) (col (q / width))
+  upper q = place digits width step some (middle, q % width) (row region (q / width)) (column region (q / width))
 
   abbrev lower : ℕ → ℕ
-  lower q = place digits width step some (middle, q % width) (col (q / width)) (row (q / width))
+  lower q = place digits width step some (middle, q % width) (column region (q / width)) (row region (q / width))
 
-  named : (q : ℕ) → q < cols_of region * rows * width → IsTrue (above (q / width))
-      → (row (q / width) < col (q / width)) × InPairs digits width step some number (middle, q % width) (row (q / width)) (col (q / width))
+  named : (q : ℕ) → q < items_of region * width → IsTrue (above (q / width))
+      → (row region (q / width) < column region (q / width)) × InPairs digits width step some number (middle, q % width) (row region (q / width)) (column region (q / width))
   named q less t =
-      let (of_pair, of_item) = row_and_column q (cols_of region * rows) width less in
-      let order : row (q / width) < col (q / width) = ltb-true (row (q / width)) (col (q / width)) t in
-      let greater : max (row (q / width)) (col (q / width)) ≡ col (q / width) = omega arith in
-      let smaller : min (row (q / width)) (col (q / width)) ≡ row (q / width) = omega arith in
-      (order, (of_item, (region, block, rw (greater, smaller) (in_region (q / width) of_pair))))
+      let (of_pair, of_item) = row_and_column q (items_of region) width less in
+      let order : row region (q / width) < column region (q / width) = ltb-true (row region (q / width)) (column region (q / width)) t in
+      let greater : max (row region (q / width)) (column region (q / width)) ≡ column region (q / width) = omega arith in
+      let smaller : min (row region (q / width)) (column region (q / width)) ≡ row region (q / width) = omega arith in
+      (order, (of_item, (region, block, rw (greater, smaller) (in_region region (q / width) of_pair))))
 
-  same-name : (p q : ℕ) → p % width ≡ q % width → row (p / width) ≡ row (q / width) → col (p / width) ≡ col (q / width) → p ≡ q
-  same-name p q item same_row same_col = same_number p q width (same_number (p / width) (q / width) rows (omega arith) (omega arith)) item
+  same-name : (p q : ℕ) → p % width ≡ q % width → row region (p / width) ≡ row region (q / width) → column region (p / width) ≡ column region (q / width) → p ≡ q
+  same-name p q item same_row same_col = same_number p q width (same_number (p / width) (q / width) (rows_of region) (omega arith) (omega arith)) item
 
   -- the exchanges of the block
   pub pairs-steps : {A : Type 0} (old new : List A) (steps : List (ℕ × ℕ)) → length old ≡ width * 2 ^ digits → AllDiffer old
@@ -80,7 +67,7 @@ module _ (digits width step number : ℕ) (some : 0 < step) (middle : ℕ) (regi
   pairs-steps old new steps fits differ leads exchanged many =
       let same = pairs-same digits width step some number number in
       let turned = pairs-turned digits width step some number in
-      mirror-stays (cols_of region * rows * width) (λ q. above (q / width)) upper lower
+      mirror-stays (items_of region * width) (λ q. above (q / width)) upper lower
       (λ p q hp hq tp tq e. let at = same _ _ _ _ _ _ (named p hp tp).1 (named q hq tq).1 e in same-name p q at.0.1 at.1 at.2)
       (λ p q hp hq tp tq e. let at = same _ _ _ _ _ _ (turned _ _ _ (named p hp tp).1) (turned _ _ _ (named q hq tq).1) e in same-name p q at.0.1 at.2 at.1)
       (λ p q hp hq tp tq e.
@@ -92,9 +79,9 @@ module _ (digits width step number : ℕ) (some : 0 < step) (middle : ℕ) (regi
       let back = turned _ _ _ in_pair in (
         pairs-inside digits width step some (length old) number _ _ _ fits in_pair,
         pairs-inside digits width step some (length old) number _ _ _ fits back,
-        (middle, q % width, row (q / width), col (q / width), in_pair.0, in_pair.1, refl),
-        (middle, q % width, col (q / width), row (q / width), back.0, back.1, refl),
+        (middle, q % width, row region (q / width), column region (q / width), in_pair.0, in_pair.1, refl),
+        (middle, q % width, column region (q / width), row region (q / width), back.0, back.1, refl),
         exchanged.crossed _ _ _ in_pair,
         exchanged.crossed _ _ _ back,
       ))
-      steps (omega (arith, many, count-times (cols_of region * rows) width above, ap (λ n. width * n) pairs-counted)) leads
+      steps (omega (arith, many, count-times (items_of region) width above, ap (λ n. width * n) pairs-counted)) leads

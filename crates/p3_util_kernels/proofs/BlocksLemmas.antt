@@ -2,7 +2,7 @@
 -- grid is in one of them, and no two of them have a place in common.
 use Rattle.std.proofs.Common.{◌≡◌, ◌≢◌, ℕ, ◌+◌, ◌-◌, ◌*◌, ◌/◌, ◌%◌, ◌^◌, ◌<◌, ◌≤◌, max, min, refl, sym, ◌∙◌, inl, inr, arith}
 use Rattle.std.proofs.lemmas.Bool.{cases_lt}
-use Rattle.std.proofs.lemmas.Nat.{div-add-mod', le-div, mod_below, mul-add-lt, pow_pos, same_from_place}
+use Rattle.std.proofs.lemmas.Nat.{le-div, mul-add-lt, same_from_place}
 use Rattle.std.proofs.Math.Nat.{div-mul-le_self, mul-le-mul, mul-le-mul_left, pow-le-pow_right}
 use Rattle.p3_util_kernels.specs.declared.transpose.regions.Region.{Region}
 use Rattle.p3_util_kernels.specs.Blocks.{IsBlock, blocks_of}
@@ -20,20 +20,6 @@ blocks-few digits step few =
     let next : n + 1 ≤ 2 ^ 32 = omega arith in
     let square : n * (n + 1) ≤ (2 ^ 32 - 1) * 2 ^ 32 = mul-le-mul less next in
     omega (arith, all, square)
-
-pub block-is : (digits step number first last : ℕ) (region : Region) → number < blocks_of digits step → first ≤ last → last < parts_in (2 ^ (digits / 2)) step
-    → number_of_pair (parts_in (2 ^ (digits / 2)) step) first last ≡ number / 2 ^ (digits % 2)
-    → region ≡ record { row_start = start_of (2 ^ (digits / 2)) step first; row_end = start_of (2 ^ (digits / 2)) step (first + 1); col_start = start_of (2 ^ (digits / 2)) step last; col_end = start_of (2 ^ (digits / 2)) step (last + 1) }
-    → IsBlock digits step number (number % 2 ^ (digits % 2)) region
-block-is digits step number first last region below in_order last_below pair region_is = record {
-  row = first;
-  col = last;
-  in_order = in_order;
-  below = last_below;
-  middle_below = mod_below number (2 ^ (digits % 2)) (pow_pos (digits % 2));
-  number_is = rw pair (sym (div-add-mod' number (2 ^ (digits % 2))));
-  region_is = region_is;
-}
 
 -- the number of a block determines the block
 pub block-alone : (digits step number middle middle' : ℕ) (region region' : Region) → IsBlock digits step number middle region

@@ -1,5 +1,5 @@
 -- The square is a grid. The whole grid, exchanged across its diagonal, is its transpose.
-use Rattle.std.proofs.Common.{◌≡◌, ◌*◌, ◌^◌, zero-add, arith}
+use Rattle.std.proofs.Common.{◌≡◌, ◌*◌, ◌^◌, arith}
 use Rattle.p3_util_kernels.specs.SwapCounts.{square_swaps}
 use Rattle.p3_util_kernels.proofs.GridSquares.{HoldsGrid-square, IsSquareTransposed-grid}
 use Rattle.p3_util_kernels.proofs.transpose.square.transpose_square.Goals as goal
