@@ -17,7 +17,7 @@ module _ (half c row_width middle : ℕ) (within : half ≤ c) (below : middle <
   grid = grid_of_rows half c row_width middle
 
   -- the place of row x and column y is the row whose index has these parts
-  place-row : (x y : ℕ) → row_place (grid_of_rows half c row_width middle) x + y ≡ row_of half c middle x y
+  pub place-row : (x y : ℕ) → row_place (grid_of_rows half c row_width middle) x + y ≡ row_of half c middle x y
   place-row x y = omega (arith, turned grid x refl)
 
   -- the grid's columns are part of a row of the list

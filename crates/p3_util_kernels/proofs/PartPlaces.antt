@@ -1,19 +1,21 @@
 -- The places of the parts of a call: no two parts have a place in common, and each place belongs to
 -- some part.
-use Rattle.std.proofs.Common.{◌≡◌, ℕ, Bool, true, false, if◌then◌else◌, ◌+◌, ◌-◌, ◌*◌, ◌/◌, ◌%◌, ◌^◌, ◌<◌, ◌≤◌, max, min, List, ap, arith}
+use Rattle.std.proofs.Common.{◌≡◌, ℕ, Bool, true, false, if◌then◌else◌, ◌+◌, ◌-◌, ◌*◌, ◌/◌, ◌%◌, ◌^◌, ◌<◌, ◌≤◌, List, ap, arith, ◌∙◌}
 use Rattle.std.proofs.lemmas.Nat.{mul-add-lt, pow-add, same_from_place}
 use Rattle.p3_util_kernels.specs.declared.transpose.regions.Region.{Region}
 use Rattle.p3_util_kernels.specs.Blocks.{IsBlock}
-use Rattle.p3_util_kernels.specs.Crossing.{IsCrossed, IsRowItem, row_of}
+use Rattle.p3_util_kernels.specs.Crossing.{IsRowItem, row_of}
 use Rattle.p3_util_kernels.specs.Digits.{rev}
+use Rattle.p3_util_kernels.specs.Grid.{SwapsInGrid, grid_of_rows}
 use Rattle.p3_util_kernels.specs.Mirrored.{Mirrored}
 use Rattle.p3_util_kernels.specs.Parts.{part_of_matrix, parts_in}
 use Rattle.p3_util_kernels.specs.PartSteps.{IsInBlock}
 use Rattle.p3_util_kernels.specs.Region.{IsInRegion}
-use Rattle.p3_util_kernels.proofs.BlocksLemmas.{block-alone, block-cols, block-same, block-sides, block-turned}
+use Rattle.p3_util_kernels.proofs.BlocksLemmas.{block-alone, block-same, block-sides, block-turned}
 use Rattle.p3_util_kernels.proofs.CrossingLemmas.{same_item}
 use Rattle.p3_util_kernels.proofs.CutParts.{number-covered, part-same}
 use Rattle.p3_util_kernels.proofs.DigitsLemmas.{rev-lt}
+use Rattle.p3_util_kernels.proofs.GridRows.{place-row}
 use Rattle.p3_util_kernels.proofs.SideBySideLemmas.{in_row}
 
 -- the parts of a matrix
@@ -83,31 +85,16 @@ module _ (digits width step : ℕ) (some : 0 < step) where
 
   -- the exchange of a block, stated with the middle part of its pairs
   pub pairs-exchanged : {A : Type 0} (k middle : ℕ) (region : Region) (old new : List A) → IsBlock digits step k middle region
-      → IsCrossed half c width (record region { col_start = middle * 2 ^ half + region.col_start; col_end = middle * 2 ^ half + region.col_end }) old new
-      → Mirrored place (InPairs k) old new
-  pairs-exchanged k middle region old new block crossed =
-      let cols = block-cols digits step k middle region some block in
+      → SwapsInGrid (grid_of_rows half c width middle) region old new → Mirrored place (InPairs k) old new
+  pairs-exchanged k middle region old new block swapped =
+      let rest : digits - digits / 2 - digits / 2 ≡ digits % 2 = omega arith in
+      let at_row = place-row half c width middle within (rw rest block.middle_below) in
       record {
-        same_length = crossed.same_length;
+        same_length = swapped.same_length;
         crossed = λ m x y h.
             let one = block-alone digits step k middle m.0 region h.1.0 block h.1.1 in
-            let at : middle * 2 ^ half ≡ m.0 * 2 ^ half = ap (λ s. s * 2 ^ half) one.0 in
-            let inside : IsInRegion region (max x y) (min x y) = rw one.1 h.1.2 in
-            crossed.crossed m x y (
-              pairs-item k m x y h,
-              record { row_from = inside.row_from; row_to = inside.row_to; col_from = omega (arith, inside.col_from, at); col_to = omega (arith, inside.col_to, at) },
-            );
+            let own = pairs-item k m x y h in
+            rw (← one.0, ← at_row x y, ← at_row y x) (swapped.crossed m.1 x y ((own.item, own.high, own.low), rw one.1 h.1.2));
         others = λ p out.
-            crossed.others p
-            (λ m x y h e.
-            let at : m.0 * 2 ^ half + max x y ≡ middle * 2 ^ half + (m.0 * 2 ^ half + max x y - middle * 2 ^ half) = omega (arith, h.1.col_from) in
-            let same = same_from_place m.0 (max x y) middle (m.0 * 2 ^ half + max x y - middle * 2 ^ half) (2 ^ half) (omega (arith, h.0.high, h.0.low)) (omega (arith, h.1.col_to, cols)) at in
-            out m x y (
-              h.0.item,
-              (
-                region,
-                rw same.0 block,
-                record { row_from = h.1.row_from; row_to = h.1.row_to; col_from = omega (arith, h.1.col_from, same.1); col_to = omega (arith, h.1.col_to, same.1) },
-              ),
-            ) e);
+            swapped.others p (λ t x y h e. out (middle, t) x y (h.0.0, (region, block, h.1)) (e ∙ ap (λ n. n * width + t) (at_row x y)));
       }

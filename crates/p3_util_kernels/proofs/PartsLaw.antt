@@ -197,16 +197,7 @@ one-list [] all one is = absurd (omega (arith, one))
 one-list (steps ∷ []) all one is = ap (λ s. Some s) (sym (only-list all steps is))
 one-list (steps ∷ more ∷ lists) all one is = absurd (omega (arith, one))
 
--- the exchanges of a whole reversal, if there are no more than there have to be
-rows-stay : {A : Type 0} (width k : ℕ) (old : List A) (steps : List (ℕ × ℕ)) → length old ≡ width * 2 ^ k → AllDiffer old
-    → IsRowReversal width old (after_swaps old steps) → length steps ≡ width * short_swaps k
-    → AreOnceAmong (λ p. slice_get old p ≢ slice_get (after_swaps old steps) p) (places_swapped steps)
-rows-stay width k old steps fits differ reversal many =
-    let at_rows = rows-differ-where width k old (after_swaps old steps) fits differ reversal in
-    AreOnceAmong-weaker _ _ (places_swapped steps) (λ p (i, less, t, e). rw e ((at_rows i less).0 t))
-    (written-at (width * 2 ^ k) (λ i. i) (row_moves width k) (λ i j hi hj ti tj e. e) (places_swapped steps) old (after_swaps old steps) (swaps-written steps old)
-    (λ i less t. (at_rows i less).0 t) (omega (arith, count-moved width k, swaps-places steps, many)))
-
+-- the places of the exchanges of a part
 pub swaps-stay : (plan : ReversalPlan) (len k : ℕ) (steps : List (ℕ × ℕ)) → k < parts_of plan → IsReversalPlan len plan → IsMadeAlone plan k (numbers_below len) steps
     → AreOnceAmong (λ p. IsPlaceOfPart plan k p × (slice_get (numbers_below len) p ≢ slice_get (after_swaps (numbers_below len) steps) p)) (places_swapped steps)
 swaps-stay (OnePart rows) len k steps less of (reversal, many) =
@@ -219,9 +210,13 @@ swaps-stay (OnePart rows) len k steps less of (reversal, many) =
           nil_from_length steps (count ∙ ap (λ d. width * short_swaps d) (no_digits len width none) ∙ omega arith) in
           rw no_steps ((swaps-are {A = ℕ}).no_places _)
       | inr some ↦
-          let rows = IsDigitsOfRows-from len width (clog (len / width)) some of.0 refl in
-          AreOnceAmong-weaker _ _ (places_swapped steps) (λ p changed. (first, changed))
-          (rows-stay width (clog (len / width)) (numbers_below len) steps (numbers-length len ∙ rows.whole) (numbers-differ len) reversal count)
+          let digits : ℕ = clog (len / width) in
+          let fits : len ≡ width * 2 ^ digits = (IsDigitsOfRows-from len width digits some of.0 refl).whole in
+          let new : List ℕ = after_swaps (numbers_below len) steps in
+          let moved = rows-differ-where width digits (numbers_below len) new (numbers-length len ∙ fits) (numbers-differ len) reversal in
+          AreOnceAmong-weaker _ _ (places_swapped steps) (λ p (i, less, t, e). (first, rw e ((moved i less).0 t)))
+          (written-at (width * 2 ^ digits) (λ i. i) (row_moves width digits) (λ i j hi hj ti tj e. e) (places_swapped steps) (numbers_below len) new
+          (swaps-written steps (numbers_below len)) (λ i less t. (moved i less).0 t) (omega (arith, count-moved width digits, swaps-places steps, count)))
     ]
 swaps-stay (ByPairs pairs) len k steps less of (middle, region, block, crossed, many) =
     let rows = pairs.rows in
@@ -272,14 +267,14 @@ module _ (pairs : RowPairs) (len : ℕ) (of : IsReversalPlan len (ByPairs pairs)
   all-counted : length all ≡ row_swaps len width
   all-counted =
       let new : List ℕ = after_swaps (numbers_below len) all in
-      let at_rows = rows-differ-where width digits (numbers_below len) new (numbers-length len ∙ of.1) (numbers-differ len) all-reversed in
+      let moved = rows-differ-where width digits (numbers_below len) new (numbers-length len ∙ of.1) (numbers-differ len) all-reversed in
       let count = written-count (width * 2 ^ digits) (row_moves width digits) (places_swapped all) (numbers_below len) new (swaps-written all (numbers_below len))
       (AreOnceAmong-weaker _ _ (places_swapped all)
       (λ p changed.
       let below : p < width * 2 ^ digits = omega (arith, numbers-length len, of.1, changed-below (numbers_below len) new p (after-length swaps-are all (numbers_below len)) changed) in
-      (below, (at_rows p below).1 changed))
+      (below, (moved p below).1 changed))
       (all-changed swaps-are (IsPlaceOfPart (ByPairs pairs)) (parts-apart (ByPairs pairs)) (numbers_below len) pair-inside lists own-pairs all is))
-      (λ p less t. (at_rows p less).0 t) in
+      (λ p less t. (moved p less).0 t) in
       let rows : len / width ≡ 2 ^ digits = ap (λ n. n / width) of.1 ∙ mul-div_cancel_left (2 ^ digits) of.0 in
       rw (clog_power (len / width) digits rows) (omega (arith, count, count-moved width digits, swaps-places all))
 

@@ -7,7 +7,7 @@
 -- Source: new.
 use Rattle.std.specs.Prelude.{ℕ, ◌≡◌, ◌+◌, ◌-◌, ◌*◌, ◌/◌, ◌%◌, ◌^◌, ◌<◌, ◌≤◌, ◌==◌, if◌then◌else◌, List}
 use Rattle.p3_util_kernels.specs.declared.transpose.regions.Region.{Region}
-use Rattle.p3_util_kernels.specs.Crossing.{IsCrossed}
+use Rattle.p3_util_kernels.specs.Grid.{SwapsInGrid, grid_of_rows}
 use Rattle.p3_util_kernels.specs.Parts.{number_of_pair, pairs_of, parts_in, start_of}
 use Rattle.p3_util_kernels.specs.Region.{items_of, rows_of}
 use Rattle.p3_util_kernels.specs.SwapCounts.{square_swaps}
@@ -40,5 +40,5 @@ abbrev pub IsBlockExchanged : {A : Type 0} → (digits row_width step number : �
 IsBlockExchanged digits row_width step number old new Steps =
     let half = digits / 2 in
     (middle : ℕ) × (region : Region) × IsBlock digits step number middle region
-    × IsCrossed half (digits - half) row_width (record region { col_start = middle * 2 ^ half + region.col_start; col_end = middle * 2 ^ half + region.col_end }) old new
+    × SwapsInGrid (grid_of_rows half (digits - half) row_width middle) region old new
     × Steps (row_width * swaps_of_block region)

@@ -44,8 +44,8 @@ IsInBlock digits step number middle a b =
     (region : Region) × IsBlock digits step number middle region × IsInRegion region (max a b) (min a b)
 
 -- p is a place of part `number` of the plan. A plan of one part has all places. Otherwise p is a
--- place in one of the rows that the block with this number exchanges, in the way that `IsCrossed`
--- describes. A row that stays where it is counts as a pair with itself
+-- place in one of the rows that the block with this number exchanges. A row that stays where it is
+-- counts as a pair with itself
 abbrev pub IsPlaceOfPart : (plan : ReversalPlan) (number p : ℕ) → Type 0
 IsPlaceOfPart (OnePart rows) number p = number ≡ 0
 IsPlaceOfPart (ByPairs pairs) number p =

@@ -5,8 +5,8 @@ use Rattle.p3_util_kernels.specs.Blocks.{IsBlock, swaps_of_block}
 use Rattle.p3_util_kernels.specs.Grid.{SwapsInGrid, grid_of_rows}
 use Rattle.p3_util_kernels.specs.Region.{items_of, rows_of}
 use Rattle.p3_util_kernels.specs.SwapCounts.{square_swaps}
-use Rattle.p3_util_kernels.proofs.BlocksLemmas.{block-above, block-cols, block-diagonal, block-rows}
-use Rattle.p3_util_kernels.proofs.GridRows.{HoldsGrid-rows, IsCrossed-grid}
+use Rattle.p3_util_kernels.proofs.BlocksLemmas.{block-above, block-diagonal, block-rows}
+use Rattle.p3_util_kernels.proofs.GridRows.{HoldsGrid-rows}
 use Rattle.p3_util_kernels.proofs.parts.RowPairs.exchange.Goals as goal
 
 -- the grid of a block is one of those of the rows
@@ -41,39 +41,28 @@ exchange_region-requires-clause-above g c = block-above _ _ _ _ _ c.args.self.cu
 pub returns-then-region : goal.returns-then-region
 returns-then-region g c =
     let pairs = c.args.self in
-    let digits = pairs.rows.digits in
-    let half = digits / 2 in
-    let width = pairs.rows.width in
-    let middle = c.block-middle.result.0 in
+    let half = pairs.rows.digits / 2 in
+    let grid = grid_of_rows half (pairs.rows.digits - half) pairs.rows.width c.block-middle.result.0 in
     let region = c.block-middle.result.1 in
     let block = c.block-middle.ensures in
     let rows = block-rows _ _ _ _ region pairs.cut.some_step block in
-    let cols = block-cols _ _ _ _ region pairs.cut.some_step block in
     let end = block-diagonal _ _ _ _ region pairs.cut.some_step block c.if-region.true in
     let swaps : swaps_of_block region ≡ square_swaps (rows_of region) = rw (eq-eqb region.row_start region.col_start c.if-region.true) refl in (
-      middle,
+      c.block-middle.result.0,
       region,
       block,
-      IsCrossed-grid half (digits - half) width middle (omega arith) (below _ _ _ _ _ block) region _ _ cols.1
-          (subst (λ (r : Region). SwapsInGrid (grid_of_rows half (digits - half) width middle) r (g.M.Places.items c.args.m) (g.M.Places.items c.exchange_quadrants.result))
-          (square region (omega (arith, rows)) c.if-region.true end) (rw (c.grid-grid.ensures, c.rows.ensures) at c.exchange_quadrants.ensures.exchanged)),
+      subst (λ (r : Region). SwapsInGrid grid r (g.M.Places.items c.args.m) (g.M.Places.items c.exchange_quadrants.result))
+          (square region (omega (arith, rows)) c.if-region.true end) (rw (c.grid-grid.ensures, c.rows.ensures) at c.exchange_quadrants.ensures.exchanged),
       rw swaps (rw (c.grid-grid.ensures, c.rows.ensures) at c.exchange_quadrants.ensures.holder),
     )
 
 pub returns-else-region : goal.returns-else-region
 returns-else-region g c =
-    let pairs = c.args.self in
-    let digits = pairs.rows.digits in
-    let half = digits / 2 in
-    let middle = c.block-middle.result.0 in
     let region = c.block-middle.result.1 in
-    let block = c.block-middle.ensures in
-    let cols = block-cols _ _ _ _ region pairs.cut.some_step block in
     let swaps : swaps_of_block region ≡ items_of region = rw (ne_eqb region.row_start region.col_start c.if-region.false) refl in (
-      middle,
+      c.block-middle.result.0,
       region,
-      block,
-      IsCrossed-grid half (digits - half) pairs.rows.width middle (omega arith) (below _ _ _ _ _ block) region _ _ cols.1
-          (rw c.grid-grid.ensures at c.exchange_region.ensures.exchanged),
+      c.block-middle.ensures,
+      rw c.grid-grid.ensures at c.exchange_region.ensures.exchanged,
       rw swaps (rw c.grid-grid.ensures at c.exchange_region.ensures.holder),
     )
