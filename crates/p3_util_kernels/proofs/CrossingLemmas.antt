@@ -1,16 +1,13 @@
--- Pairs of rows are exchanged part by part, and all pairs together make the reversal of rows.
-use Rattle.std.proofs.Common.{◌≡◌, ◌≢◌, ℕ, ◌+◌, ◌-◌, ◌*◌, ◌/◌, ◌^◌, ◌<◌, ◌≤◌, ◌⊎◌, min, max, List, length, slice_get, refl, sym, ap, ◌∙◌, arith}
+-- Rows and the parts of their indices. If all pairs of rows are exchanged, the rows are reversed.
+use Rattle.std.proofs.Common.{◌≡◌, ◌≢◌, ℕ, ◌+◌, ◌-◌, ◌*◌, ◌^◌, ◌<◌, ◌≤◌, ◌⊎◌, List, length, slice_get, sym, ap, ◌∙◌, arith}
 use Rattle.std.proofs.Math.Nat.{mul-le-mul_right}
 use Rattle.std.proofs.lemmas.Nat.{same_from_place}
-use Rattle.p3_util_kernels.specs.declared.transpose.regions.Region.{Region}
-use Rattle.p3_util_kernels.specs.Crossing.{IsCrossed, IsRowItem, row_of}
+use Rattle.p3_util_kernels.specs.Crossing.{IsRowItem, row_of}
 use Rattle.p3_util_kernels.specs.Digits.{rev}
-use Rattle.p3_util_kernels.specs.Halves.{IsCut}
-use Rattle.p3_util_kernels.specs.Region.{IsInRegion}
+use Rattle.p3_util_kernels.specs.Mirrored.{Mirrored}
 use Rattle.p3_util_kernels.specs.Reversal.{IsRowReversal}
 use Rattle.p3_util_kernels.proofs.DigitsLemmas.{rev-lt, rev-rev-below, rev-around}
 use Rattle.p3_util_kernels.proofs.Lengths.{rows-same}
-use Rattle.p3_util_kernels.proofs.MirroredLemmas.{Mirrored-cut, Mirrored-none}
 use Rattle.p3_util_kernels.proofs.SideBySideLemmas.{each_part, in_row}
 
 -- the places of two different rows do not overlap
@@ -20,6 +17,11 @@ runs-apart row_width i j apart = grind (arith, mul-le-mul_right {m = i + 1} {n =
 -- a place that is not in a run is before it or after it
 pub outside : (p i len : ℕ) → ((t : ℕ) → t < len → p ≢ i + t) → (p < i) ⊎ (i + len ≤ p)
 outside p i len out = grind (arith, out (p - i))
+
+-- the pairs in the grids of the middle parts below n are exchanged, item by item
+abbrev pub AreCrossed : {A : Type 0} → (half c row_width n : ℕ) (old new : List A) → Type 0
+AreCrossed half c row_width n =
+    Mirrored {M = ℕ × ℕ} (λ m x y. row_of half c m.0 x y * row_width + m.1) (λ m x y. IsRowItem half c row_width m.0 m.1 x y × (m.0 < n))
 
 module _ (half c : ℕ) (within : half ≤ c) where
   -- equal rows have equal parts
@@ -41,24 +43,7 @@ module _ (half c : ℕ) (within : half ≤ c) where
         let same = row-same m.0 x y n.0 v w h.middle h.high h.low k.middle k.high k.low rows.0 in
         ((same.0, rows.1), same.1, same.2)
 
-    same_pair : (m n : ℕ × ℕ) (x y v w : ℕ) → IsRowItem half c row_width m.0 m.1 x y → IsRowItem half c row_width n.0 n.1 v w
-        → row_of half c m.0 x y * row_width + m.1 ≡ row_of half c n.0 v w * row_width + n.1
-        → (m.0 * 2 ^ half + max x y ≡ n.0 * 2 ^ half + max v w) × (min x y ≡ min v w)
-    same_pair m n x y v w h k e =
-        let same = same_item m n x y v w h k e in
-        let greater : max x y ≡ max v w = omega (arith, same.1, same.2) in
-        (rw (same.0.0, greater) refl, omega (arith, same.1, same.2))
-
     module _ {A : Type 0} where
-      pub IsCrossed-none : (pairs : Region) (xs : List A)
-          → ((m : ℕ × ℕ) (x y : ℕ) → IsRowItem half c row_width m.0 m.1 x y → IsInRegion pairs (m.0 * 2 ^ half + max x y) (min x y) → x ≡ y)
-          → IsCrossed half c row_width pairs xs xs
-      IsCrossed-none = Mirrored-none _ _ (λ m n. m.0 * 2 ^ half + n) turned same_pair
-
-      pub IsCrossed-cut : (whole first second : Region) (xs ys zs : List A) → IsCut whole first second
-          → IsCrossed half c row_width first xs ys → IsCrossed half c row_width second ys zs → IsCrossed half c row_width whole xs zs
-      IsCrossed-cut = Mirrored-cut _ _ (λ m n. m.0 * 2 ^ half + n) turned same_pair
-
       -- if all pairs are exchanged, each row is the one whose index was its reverse
       pub IsRowReversal-crossed : (old new : List A) → c ≤ half + 1 → length old ≡ row_width * 2 ^ (half + c) → length new ≡ length old
           → ((m : ℕ × ℕ) (x y : ℕ) → IsRowItem half c row_width m.0 m.1 x y
@@ -78,10 +63,3 @@ module _ (half c : ℕ) (within : half ≤ c) where
             ∙ ap (λ n. slice_get old (n * row_width + j)) (sym turned)) in
             at r (rw same at h) ∙ ap (λ n. slice_get old (rev n r * row_width + j)) (sym same);
       }
-
--- one row or two rows have no pairs
-pub IsCrossed-few : {A : Type 0} (digits row_width : ℕ) (pairs : Region) (xs : List A) → digits < 2
-    → IsCrossed (digits / 2) (digits - digits / 2) row_width pairs xs xs
-IsCrossed-few digits row_width pairs xs few =
-    let one : 2 ^ (digits / 2) ≡ 1 = let none : digits / 2 ≡ 0 = omega arith in rw none refl in
-    IsCrossed-none (digits / 2) (digits - digits / 2) (omega arith) row_width pairs xs (λ m x y own h. omega (arith, own.high, own.low, one))

@@ -1,13 +1,13 @@
 -- Rows of a list as grids: those whose indices have the same middle bit form one grid.
-use Rattle.std.proofs.Common.{◌≡◌, ℕ, ◌+◌, ◌-◌, ◌*◌, ◌^◌, ◌<◌, ◌≤◌, max, List, inl, inr, sym, ap, ◌∙◌, refl, arith}
+use Rattle.std.proofs.Common.{◌≡◌, ℕ, ◌+◌, ◌-◌, ◌*◌, ◌^◌, ◌<◌, ◌≤◌, List, inl, inr, sym, ap, ◌∙◌, refl, arith}
 use Rattle.std.proofs.Math.Nat.{mul-le-mul_right}
 use Rattle.std.proofs.lemmas.Bool.{cases_lt}
-use Rattle.std.proofs.lemmas.Nat.{pow-add, same_from_place}
+use Rattle.std.proofs.lemmas.Nat.{pow-add}
 use Rattle.p3_util_kernels.specs.declared.grid.Grid.{Grid}
-use Rattle.p3_util_kernels.specs.declared.transpose.regions.Region.{Region}
-use Rattle.p3_util_kernels.specs.Crossing.{HoldsRows, IsCrossed, row_of}
+use Rattle.p3_util_kernels.specs.Crossing.{HoldsRows, IsRowItem, row_of}
 use Rattle.p3_util_kernels.specs.Digits.{rev}
 use Rattle.p3_util_kernels.specs.Grid.{HoldsGrid, SwapsInGrid, grid_of_rows, row_place}
+use Rattle.p3_util_kernels.proofs.CrossingLemmas.{AreCrossed, same_item, turned as turned_item}
 use Rattle.p3_util_kernels.proofs.DigitsLemmas.{rev-lt, rev-rev-below}
 use Rattle.p3_util_kernels.proofs.GridSteps.{turned}
 use Rattle.p3_util_kernels.proofs.SideBySideLemmas.{row_length}
@@ -55,20 +55,31 @@ module _ (half c row_width middle : ℕ) (within : half ≤ c) (below : middle <
     length_fits = rows.length_fits;
   }
 
-  -- a region of the grid, exchanged, is a region of all pairs of rows, exchanged
-  pub IsCrossed-grid : {A : Type 0} (region : Region) (old new : List A) → region.col_end ≤ 2 ^ half
-      → SwapsInGrid (grid_of_rows half c row_width middle) region old new
-      → IsCrossed half c row_width (record region { col_start = middle * 2 ^ half + region.col_start; col_end = middle * 2 ^ half + region.col_end }) old new
-  IsCrossed-grid region old new fits s = record {
-    same_length = s.same_length;
-    crossed = λ m x y h.
-        let number = m.0 * 2 ^ half + max x y in
-        let inner : number ≡ middle * 2 ^ half + (number - middle * 2 ^ half) = omega (arith, h.1.col_from) in
-        let part = same_from_place m.0 (max x y) middle (number - middle * 2 ^ half) (2 ^ half) (omega (arith, h.0.high, h.0.low)) (omega (arith, h.1.col_to)) inner in
-        let at = s.crossed m.1 x y ((h.0.item, h.0.high, h.0.low), record { row_from = h.1.row_from; row_to = h.1.row_to; col_from = omega (arith, part.1, h.1.col_from); col_to = omega (arith, part.1, h.1.col_to) }) in
-        rw (part.0, ← place-row x y, ← place-row y x) at;
-    others = λ k out.
-        s.others k (λ t x y h e.
-        out (middle, t) x y (record { middle = below; item = h.0.0; high = h.0.1; low = h.0.2 }, record { row_from = h.1.row_from; row_to = h.1.row_to; col_from = omega (arith, h.1.col_from); col_to = omega (arith, h.1.col_to) })
-        (e ∙ ap (λ n. n * row_width + t) (place-row x y)));
-  }
+  -- the pairs in the grids before this one are exchanged, and then those in this grid
+  pub AreCrossed-more : {A : Type 0} (xs ys zs : List A) → AreCrossed half c row_width middle xs ys
+      → SwapsInGrid (grid_of_rows half c row_width middle) (record { row_start = 0; row_end = 2 ^ half; col_start = 0; col_end = 2 ^ half }) ys zs
+      → AreCrossed half c row_width (middle + 1) xs zs
+  AreCrossed-more xs ys zs s t =
+      let own : (u v w : ℕ) → (u < row_width) × (v < 2 ^ half) × (w < 2 ^ half) → IsRowItem half c row_width middle u v w =
+      λ u v w h. record { middle = below; item = h.0; high = h.1; low = h.2 } in
+      record {
+        same_length = t.same_length ∙ s.same_length;
+        crossed = λ m x y (item, less).
+            elim (cases_lt m.0 middle) [
+              | inl before ↦
+                  t.others (row_of half c m.0 x y * row_width + m.1)
+                  (λ u v w k e.
+                  omega (arith, before, (same_item half c within row_width m (middle, u) x y v w item (own u v w k.0) (e ∙ ap (λ n. n * row_width + u) (place-row v w))).0.0))
+                  ∙ s.crossed m x y (item, before)
+              | inr last ↦
+                  let is : m.0 ≡ middle = omega arith in
+                  rw (is, ← place-row x y, ← place-row y x)
+                  (t.crossed m.1 x y ((item.item, item.high, item.low), record { row_from = omega arith; row_to = omega (arith, item.high, item.low); col_from = omega arith; col_to = omega (arith, item.high, item.low) })
+                  ∙ rw (place-row, ← is)
+                  (s.others (row_of half c m.0 y x * row_width + m.1)
+                  (λ n v w k e. omega (arith, is, k.1, (same_item half c within row_width m n y x v w (turned_item half c within row_width m x y item) k.0 e).0.0))))
+            ];
+        others = λ p out.
+            t.others p (λ u v w k e. out (middle, u) v w (own u v w k.0, omega arith) (e ∙ ap (λ n. n * row_width + u) (place-row v w)))
+            ∙ s.others p (λ m x y k. out m x y (k.0, omega (arith, k.1)));
+      }

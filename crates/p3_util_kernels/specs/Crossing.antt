@@ -1,19 +1,13 @@
--- Exchanged pairs of rows. These definitions serve private contracts: those of the kernels in
+-- Rows that a reversal exchanges. These definitions serve private contracts: those of the kernels in
 -- `src/reverse/rows.rt`.
 --
 -- There are `2 ^ (half + c)` rows of `row_width` items, where c is `half` or `half + 1`. As
 -- `src/reverse/rows.rt` explains, the index of a row has three parts: `half` high binary digits,
 -- whose reverse is x; then `c - half` digits `middle`; and then `half` low digits y. The row is
--- exchanged with the row for which x and y are swapped. A line is all pairs that have the same
--- `middle` and the same greater number of x and y. So a line and the smaller number determine a
--- pair. A set of pairs is given as a region: its columns are lines, and its rows are the smaller
--- numbers.
+-- exchanged with the row for which x and y are swapped.
 -- Source: new.
-use Rattle.std.specs.Prelude.{ℕ, ◌≡◌, ◌+◌, ◌-◌, ◌*◌, ◌^◌, ◌<◌, min, max, List, length}
-use Rattle.p3_util_kernels.specs.declared.transpose.regions.Region.{Region}
+use Rattle.std.specs.Prelude.{ℕ, ◌≡◌, ◌+◌, ◌-◌, ◌*◌, ◌^◌, ◌<◌, List, length}
 use Rattle.p3_util_kernels.specs.Digits.{rev}
-use Rattle.p3_util_kernels.specs.Mirrored.{Mirrored}
-use Rattle.p3_util_kernels.specs.Region.{IsInRegion}
 
 -- the index of the row with these three parts: x reversed, `middle` and y
 abbrev pub row_of : (half c middle x y : ℕ) → ℕ
@@ -25,15 +19,6 @@ pub record IsRowItem (half c row_width m t x y : ℕ) : Type 0 where
   pub item : t < row_width
   pub high : x < 2 ^ half
   pub low : y < 2 ^ half
-
--- The index of a row has `half + c` bits: `half` high bits, then `c - half` middle bits, and then
--- `half` low bits. x is the reverse of the high bits, m is the middle bits, and y is the low bits.
--- The row is exchanged, item by item, with the row for which x and y are swapped, if the region
--- `pairs` has row `min x y` and column `m * 2 ^ half + max x y`. All other rows stay where they are
-abbrev pub IsCrossed : {A : Type 0} (half c row_width : ℕ) (pairs : Region) (old new : List A) → Type 0
-IsCrossed half c row_width pairs old new =
-    Mirrored {M = ℕ × ℕ} (λ m x y. row_of half c m.0 x y * row_width + m.1)
-    (λ m x y. IsRowItem half c row_width m.0 m.1 x y × IsInRegion pairs (m.0 * 2 ^ half + max x y) (min x y)) old new
 
 -- the list has `2 ^ digits` rows of `row_width` items, its length fits in a usize, and `row_width`
 -- is at least 1

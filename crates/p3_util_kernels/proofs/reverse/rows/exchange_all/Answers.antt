@@ -1,18 +1,15 @@
 -- Each turn of the loop exchanges the pairs of one more grid. All grids have all pairs.
-use Rattle.std.proofs.Common.{◌≡◌, ℕ, ◌+◌, ◌-◌, ◌*◌, ◌/◌, ◌^◌, ◌<◌, ◌≤◌, max, List, length, inl, inr, ap, ◌∙◌, arith}
+use Rattle.std.proofs.Common.{◌≡◌, ℕ, ◌+◌, ◌-◌, ◌*◌, ◌/◌, ◌^◌, ◌<◌, ◌≤◌, List, length, slice_get, inl, inr, refl, ap, ◌∙◌, arith}
 use Rattle.std.proofs.lemmas.Bool.{cases_eq}
-use Rattle.p3_util_kernels.specs.declared.transpose.regions.Region.{Region}
-use Rattle.p3_util_kernels.specs.Crossing.{HoldsRows, IsCrossed}
+use Rattle.p3_util_kernels.specs.Crossing.{HoldsRows, IsRowItem, row_of}
 use Rattle.p3_util_kernels.specs.Levels.{clog}
 use Rattle.p3_util_kernels.specs.Reversal.{FitsRows, IsRowReversal}
 use Rattle.p3_util_kernels.specs.SwapCounts.{short_swaps, square_swaps}
-use Rattle.p3_util_kernels.proofs.CrossingLemmas.{IsCrossed-cut, IsCrossed-few, IsRowReversal-crossed}
-use Rattle.p3_util_kernels.proofs.GridRows.{HoldsGrid-rows, IsCrossed-grid}
+use Rattle.p3_util_kernels.proofs.CrossingLemmas.{IsRowReversal-crossed}
+use Rattle.p3_util_kernels.proofs.GridRows.{AreCrossed-more, HoldsGrid-rows}
 use Rattle.p3_util_kernels.proofs.Lengths.{IsDigitsOfRows-from, no_digits}
 use Rattle.p3_util_kernels.proofs.ReversalLemmas.{IsRowReversal-none}
 use Rattle.p3_util_kernels.proofs.SquareCounts.{squares-short}
-use Rattle.p3_util_kernels.proofs.RegionLemmas.{IsCut-cols}
-use Rattle.p3_util_kernels.proofs.SideBySideLemmas.{in_row, row_length}
 use Rattle.p3_util_kernels.proofs.reverse.rows.exchange_all.Goals as goal
 
 -- a list whose row indices have two digits or more has rows
@@ -28,38 +25,32 @@ kept : {A : Type 0} (row_width digits : ℕ) (xs ys : List A) → length ys ≡ 
 kept row_width digits xs ys same rows = record { wide = rows.wide; few = rows.few; rows = same ∙ rows.rows; length_fits = rw same rows.length_fits }
 
 -- if all pairs are exchanged, the rows are reversed, also if there are no rows
-reversed : {A : Type 0} (row_width digits : ℕ) (xs ys : List A) → FitsRows (length xs) row_width → digits ≡ clog (length xs / row_width)
-    → IsCrossed (digits / 2) (digits - digits / 2) row_width (record { row_start = 0; row_end = 2 ^ (digits / 2); col_start = 0; col_end = 2 ^ (digits - digits / 2) }) xs ys
+reversed : {A : Type 0} (row_width digits : ℕ) (xs ys : List A) → FitsRows (length xs) row_width → digits ≡ clog (length xs / row_width) → length ys ≡ length xs
+    → ((m : ℕ × ℕ) (x y : ℕ) → IsRowItem (digits / 2) (digits - digits / 2) row_width m.0 m.1 x y
+    → slice_get ys (row_of (digits / 2) (digits - digits / 2) m.0 x y * row_width + m.1) ≡ slice_get xs (row_of (digits / 2) (digits - digits / 2) m.0 y x * row_width + m.1))
     → IsRowReversal row_width xs ys
-reversed row_width digits xs ys fits counted crossed =
-    let half = digits / 2 in
+reversed row_width digits xs ys fits counted same crossed =
     elim (cases_eq (length xs) 0) [
-      | inl none ↦ IsRowReversal-none row_width xs ys none crossed.same_length
+      | inl none ↦ IsRowReversal-none row_width xs ys none same
       | inr some ↦
           let rows = IsDigitsOfRows-from (length xs) row_width digits some fits counted in
-          let parts : half + (digits - half) ≡ digits = omega arith in
-          IsRowReversal-crossed half (digits - half) (omega arith) row_width _ _ (omega arith) (rw parts rows.whole) crossed.same_length
-          (λ m x y own.
-          let line = in_row (digits - half) half (omega arith) m.0 (max x y) own.middle (omega (arith, own.high, own.low)) in
-          crossed.crossed m x y (own, record { row_from = omega arith; row_to = omega (arith, own.high); col_from = omega arith; col_to = line }))
+          let parts : digits / 2 + (digits - digits / 2) ≡ digits = omega arith in
+          IsRowReversal-crossed (digits / 2) (digits - digits / 2) (omega arith) row_width xs ys (omega arith) (rw parts rows.whole) same crossed
     ]
+
+pub loop-middle-init : goal.loop-middle-init
+loop-middle-init g c = record {
+  crossed = record { same_length = refl; crossed = λ m x y h. absurd (omega (arith, h.1)); others = λ p out. refl };
+  holder = let none : 0 * (c.args.rows.width * square_swaps (2 ^ (c.args.rows.digits / 2))) ≡ 0 = omega arith in rw none (g.met.M.Places.same_holder_refl _);
+}
 
 pub loop-middle-preserved : goal.loop-middle-preserved
 loop-middle-preserved g c =
-    let digits = c.args.rows.digits in
-    let half = digits / 2 in
-    let w = c.args.rows.width in
-    let middle = c.loop-middle.middle in
-    let next : (middle + 1) * 2 ^ half ≡ middle * 2 ^ half + 2 ^ half = omega arith in
-    let first : middle * 2 ^ half + 0 ≡ middle * 2 ^ half = omega arith in
-    let within : half ≤ digits - half = omega arith in
-    let below : middle < 2 ^ (digits - half - half) = omega (arith, c.pow2-middle-end.ensures, c.loop-middle-test.true) in
-    let whole : Region = record { row_start = 0; row_end = 2 ^ half; col_start = 0; col_end = middle * 2 ^ half + 2 ^ half } in
-    let square : Region = record { row_start = 0; row_end = 2 ^ half; col_start = 0; col_end = 2 ^ half } in
+    let half = c.args.rows.digits / 2 in
+    let below : c.loop-middle.middle < 2 ^ (c.args.rows.digits - half - half) = omega (arith, c.pow2-middle-end.ensures, c.loop-middle-test.true) in
     record {
-      crossed = rw next
-          (IsCrossed-cut half (digits - half) within w whole _ _ _ _ _ (IsCut-cols whole (middle * 2 ^ half) (omega arith) (omega arith)) c.loop-middle.invariant.crossed
-          (rw first at (IsCrossed-grid half (digits - half) w middle within below square _ _ (omega arith) (rw c.grid.ensures at c.exchange_square-m.ensures.exchanged))));
+      crossed = AreCrossed-more half (c.args.rows.digits - half) c.args.rows.width c.loop-middle.middle (omega arith) below _ _ _ c.loop-middle.invariant.crossed
+          (rw c.grid.ensures at c.exchange_square-m.ensures.exchanged);
       holder = g.met.M.Places.same_holder_trans _ _ _ _ _ _ c.loop-middle.invariant.holder (rw c.grid.ensures at c.exchange_square-m.ensures.holder) (omega arith);
     }
 
@@ -77,14 +68,18 @@ exchange_square-m-requires g c =
 
 pub returns-then-rows-lt2-clause-order : goal.returns-then-rows-lt2-clause-order
 returns-then-rows-lt2-clause-order g c =
-    reversed c.args.rows.width c.args.rows.digits _ _ c.requires.fits c.requires.digits (IsCrossed-few c.args.rows.digits c.args.rows.width _ _ c.if-rows-lt2.true)
+    let digits = c.args.rows.digits in
+    let one : 2 ^ (digits / 2) ≡ 1 = let none : digits / 2 ≡ 0 = omega (arith, c.if-rows-lt2.true) in rw none refl in
+    reversed c.args.rows.width digits _ _ c.requires.fits c.requires.digits refl
+    (λ m x y own. let same : x ≡ y = omega (arith, own.high, own.low, one) in rw same refl)
 
 pub returns-clause-order : goal.returns-clause-order
 returns-clause-order g c =
     let digits = c.args.rows.digits in
     let half = digits / 2 in
     let all : c.loop-middle.middle ≡ 2 ^ (digits - half - half) = omega (arith, c.pow2-middle-end.ensures, c.loop-middle-test.false, c.loop-middle.auto.middle-end) in
-    reversed c.args.rows.width digits _ _ c.requires.fits c.requires.digits (rw (all, row_length (digits - half) half (omega arith)) at c.loop-middle.invariant.crossed)
+    let crossed = c.loop-middle.invariant.crossed in
+    reversed c.args.rows.width digits _ _ c.requires.fits c.requires.digits crossed.same_length (λ m x y own. crossed.crossed m x y (own, rw all own.middle))
 
 pub returns-clause-holder : goal.returns-clause-holder
 returns-clause-holder g c =

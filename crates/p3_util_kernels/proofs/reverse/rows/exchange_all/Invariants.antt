@@ -1,12 +1,11 @@
 use Rattle.std.proofs.Common.{◌-◌, ◌*◌, ◌^◌}
-use Rattle.p3_util_kernels.specs.Crossing.{IsCrossed}
 use Rattle.p3_util_kernels.specs.SwapCounts.{square_swaps}
+use Rattle.p3_util_kernels.proofs.CrossingLemmas.{AreCrossed}
 use Rattle.p3_util_kernels.proofs.reverse.rows.exchange_all.Given as goal
 
 -- the pairs of the grids before this one are exchanged
 abbrev pub invariant-loop-middle : goal.invariant-loop-middle
 invariant-loop-middle g l = record {
-  crossed : IsCrossed l.half (l.rows.digits - l.half) l.rows.width (record { row_start = 0; row_end = 2 ^ l.half; col_start = 0; col_end = l.middle * 2 ^ l.half })
-      (g.M.Places.items l.initial.m) (g.M.Places.items l.m);
+  crossed : AreCrossed l.half (l.rows.digits - l.half) l.rows.width l.middle (g.M.Places.items l.initial.m) (g.M.Places.items l.m);
   holder : g.M.Places.same_holder (l.middle * (l.rows.width * square_swaps (2 ^ l.half))) l.initial.m l.m;
 }
