@@ -46,10 +46,7 @@ pub(crate) fn reverse_rows<F>(vals: &mut [F], row_width: usize) -> bool {
     if fits && size_of::<F>() > 0 {
         match row_width {
             2 => reverse_narrow::<F, 2>(vals),
-            3 => reverse_narrow::<F, 3>(vals),
             4 => reverse_narrow::<F, 4>(vals),
-            5 => reverse_narrow::<F, 5>(vals),
-            6 => reverse_narrow::<F, 6>(vals),
             8 => reverse_narrow::<F, 8>(vals),
             16 => reverse_narrow::<F, 16>(vals),
             32 => reverse_narrow::<F, 32>(vals),
@@ -59,14 +56,12 @@ pub(crate) fn reverse_rows<F>(vals: &mut [F], row_width: usize) -> bool {
     fits
 }
 
-/// The greatest number of bytes of a narrow row.
-const NARROW_BYTES: usize = 128;
-
 /// Reverses the order of rows of `W` items. Narrow rows are exchanged as items, which takes half the time or less. Each
-/// `W` is a copy of the kernel.
+/// `W` is a copy of the kernel, which has about 20 KB, so few of them are called here.
 fn reverse_narrow<F, const W: usize>(vals: &mut [F]) {
+    // Wider rows take no less time as items.
     #[cfg(not(feature = "checked"))]
-    if W * size_of::<F>() <= NARROW_BYTES {
+    if W * size_of::<F>() <= 128 {
         let _ = reverse_short(SlicePlaces::<[F; W]>::of_rows(vals));
         return;
     }

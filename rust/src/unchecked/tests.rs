@@ -86,6 +86,35 @@ fn turns<T: Debug + PartialEq>(item: impl Fn(usize) -> T) {
     }
 }
 
+/// Reverses the order of rows of the items that `item` makes, of widths up to and beyond those of narrow rows.
+fn reverses_rows<T: Debug + PartialEq>(item: impl Fn(usize) -> T) {
+    for width in (1..=34).chain([64, 65]) {
+        for bits in 0..=7 {
+            let mut list: Vec<T> = (0..width << bits).map(&item).collect();
+            assert!(super::reverse_rows(&mut list, width));
+            let reversed = |row: usize| (0..bits).fold(0, |rev, bit| rev << 1 | row >> bit & 1);
+            for (place, got) in list.iter().enumerate() {
+                let wanted = item(reversed(place / width) * width + place % width);
+                assert_eq!(*got, wanted, "place {place} of 2^{bits} rows of {width}");
+            }
+        }
+    }
+}
+
+#[test]
+fn rows_of_all_widths() {
+    reverses_rows(byte);
+    reverses_rows(|number| number as u16);
+    reverses_rows(parts::<1>);
+    reverses_rows(|number| [number as u8; 5]);
+    reverses_rows(|number| number);
+    reverses_rows(parts::<5>);
+    reverses_rows(parts::<8>);
+    reverses_rows(Box::new);
+    let mut list = [0; 48];
+    assert!(!super::reverse_rows(&mut list, 16) && !super::reverse_rows(&mut list[..33], 2));
+}
+
 /// Floats that are equal if their bits are.
 #[derive(Clone, Copy, Debug)]
 struct Float(f32);
