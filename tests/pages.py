@@ -247,11 +247,17 @@ def check_tables():
 
 
 def check_modules():
-    """Each source is a module of the file above it. Otherwise it would not be compiled, and its tests would not run. A
-    file that `rust/test` compiles alone is not a module."""
+    """Each source is a module of the file above it, or of one that names its path. Otherwise it would not be compiled,
+    and its tests would not run. A file that `rust/test` compiles alone is not a module."""
+    named = {
+        os.path.normpath(os.path.join(os.path.dirname(path), other))
+        for path in tracked
+        if path.endswith(".rs")
+        for other in re.findall(r'^#\[path = "(.*)"\]', read(path), re.M)
+    }
     for path in tracked:
         file = re.fullmatch(r"((?:crates/\w+|rust|tests/unproved)/(?:src|tests)\b.*)/(?!(?:lib|main|mod)\.)(\w+)(\.rt|\.rs|\.rt\.in)", path)
-        if not file or path.startswith("rust/tests/assembly/"):
+        if not file or path in named or path.startswith("rust/tests/assembly/"):
             continue
         folder, name, end = file.groups()
         above = {folder + end, *(f"{folder}/{root}{end}" for root in ("lib", "main", "mod"))}.intersection(tracked)

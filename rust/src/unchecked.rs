@@ -571,4 +571,5 @@ mod regions;
 mod races;
 
 #[cfg(all(test, target_os = "linux", not(miri), not(feature = "checked")))]
+#[path = "../tests/guarded/steps.rs"]
 mod guarded;
