@@ -44,4 +44,4 @@ pub use Rattle.p3_util.proofs.DiagonalLemmas.{SwapsAcross-item as item_across, s
 pub use Rattle.p3_util.proofs.ItemsAtLemmas.{from_end-swap as from_end_swapped, from_end-set as from_end_written}
 -- two lists joined to one: an exchange in the first, in the second or across both
 pub use Rattle.p3_util.proofs.TwoLists.{in-front as joined_front, in-back as joined_back, swap-sym as swap_turned}
-pub use Rattle.p3_util_kernels.proofs.JoinedLists.{across as joined_across}
+pub use Rattle.p3_util.proofs.JoinedLists.{across as joined_across}

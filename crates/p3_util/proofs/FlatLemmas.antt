@@ -10,7 +10,7 @@ use Rattle.std.proofs.lemmas.List.Concat.{get_or-flat_map}
 use Rattle.std.proofs.lemmas.Bool.{cases_lt, le-ltb}
 use Rattle.p3_util.specs.Flat.{IsFlat, countable_items, flat}
 use Rattle.p3_util.proofs.TwoLists.{swap-sym}
-use Rattle.p3_util_kernels.proofs.JoinedLists.{set-behind}
+use Rattle.p3_util.proofs.JoinedLists.{set-behind}
 
 -- if place i is before place j and its row is not before that of j, both are in one row
 pub one_row : (r c s d n i j : ℕ) → d < n → i ≡ r * n + c → j ≡ s * n + d → i < j → s ≤ r → r ≡ s

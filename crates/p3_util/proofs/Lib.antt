@@ -4,6 +4,7 @@ pub mod DiagonalLemmas
 pub mod FilledChunk
 pub mod FlatLemmas
 pub mod ItemsAtLemmas
+pub mod JoinedLists
 pub mod JsonLists
 pub mod Loans
 pub mod MapLemmas

@@ -4,7 +4,7 @@ use Rattle.std.proofs.lemmas.Bool.{cases_eq}
 use Rattle.std.proofs.lemmas.List.{get_or_append_left, get_or-append-add, length-set, set-append_left, set_comm}
 use Rattle.std.proofs.lemmas.List.Edits.{swap_is}
 use Rattle.std.specs.List.{swap}
-use Rattle.p3_util_kernels.proofs.JoinedLists.{set-behind}
+use Rattle.p3_util.proofs.JoinedLists.{set-behind}
 
 module _ {A : Type 0} where
   module _ (d : A) (xs ys : List A) where

@@ -30,8 +30,3 @@ transpose_turned width height old new fits there = record {
   same_length = fits ∙ mul_comm width height;
   places = λ y x hy hx. sym (there.places x y hx hy);
 }
-
-pub IsTranspose-twice : {A : Type 0} (width height : ℕ) (old mid new : List A) → length old ≡ width * height → IsTranspose width height old mid
-    → IsTranspose height width mid new → new ≡ old
-IsTranspose-twice width height old mid new fits first second =
-    IsTranspose-unique height width mid new old second (transpose_turned width height old mid fits first)

@@ -1,5 +1,4 @@
--- Reversal of rows and of items: place by place, that it is its own inverse, and that a list has
--- only one reversal.
+-- Reversal of rows and of items: that it is its own inverse, and that a list has only one reversal.
 use Rattle.std.proofs.Common.{◌≡◌, ℕ, ◌+◌, ◌*◌, ◌^◌, ◌<◌, List, length, slice_get, inl, inr, refl, sym, ap, ◌∙◌, arith}
 use Rattle.std.proofs.Math.Nat.{mul-pos}
 use Rattle.std.proofs.lemmas.Nat.{pow_pos}
@@ -11,14 +10,7 @@ use Rattle.p3_util_kernels.proofs.Matrix.{each_place}
 use Rattle.p3_util_kernels.proofs.PowersLemmas.{exponent-same}
 use Rattle.p3_util_kernels.proofs.SameList.{same_places}
 
--- reversal of items, place by place
-pub IsReversal-places : {A : Type 0} (old new : List A) → IsReversal old new → (k i : ℕ) → length old ≡ 2 ^ k → i < 2 ^ k → slice_get new i ≡ slice_get old (rev k i)
-IsReversal-places old new reversal k i e h =
-    let from : i * 1 + 0 ≡ i = omega arith in
-    let to : rev k i * 1 + 0 ≡ rev k i = omega arith in
-    rw (from, to) at (reversal.places k i 0 (omega arith) h (omega arith))
-
--- the same for a list of 2 ^ k items, in the other direction
+-- a list of 2 ^ k items is reversed if each place has the item that was at the reverse of the place
 pub IsReversal-from_power : {A : Type 0} (k : ℕ) (old new : List A) → length old ≡ 2 ^ k → length new ≡ length old
     → ((i : ℕ) → i < length old → slice_get new i ≡ slice_get old (rev k i)) → IsReversal old new
 IsReversal-from_power k old new e same at = record {

@@ -18,7 +18,7 @@ use Rattle.p3_util_kernels.proofs.Exchange.{slice_get-swap_first, slice_get-swap
 use Rattle.p3_util_kernels.proofs.ListParts.{slice_get-append_left, slice_get-append_right, slice_get-drop, slice_get-take}
 use Rattle.p3_util_kernels.proofs.DigitsLemmas.{rev-lt, rev-rev-below}
 use Rattle.p3_util_kernels.proofs.Lengths.{zero_or_power}
-use Rattle.p3_util_kernels.proofs.ReversalLemmas.{IsReversal-places}
+use Rattle.p3_util.proofs.Callers.Reverse.{reversed_place}
 use Rattle.p3_util.proofs.Callers.ZipEq.{zip_length, zip_place}
 use Rattle.p3_util_kernels.proofs.Matrix.{row_and_column, same_number}
 use Rattle.std.proofs.Math.Nat.{mod-add-div'}
@@ -195,7 +195,7 @@ pairs_alike f xs ys xs' ys' one other fits same =
         let hi : i < 2 ^ k = omega (arith, lens, len) in
         let hx : slice_get xs (rev k i) ≡ Some (get_or xs (rev k i) 0) = slice_get-get_or xs (rev k i) 0 (omega (arith, rev-lt k i)) in
         let hy : slice_get ys (rev k i) ≡ Some (get_or ys (rev k i) 0) = slice_get-get_or ys (rev k i) 0 (omega (arith, rev-lt k i)) in
-        zip_place xs' ys' i _ _ (IsReversal-places xs xs' one k i power hi ∙ hx) (IsReversal-places ys ys' other k i (same ∙ power) hi ∙ hy)
+        zip_place xs' ys' i _ _ (reversed_place k i xs xs' one power hi ∙ hx) (reversed_place k i ys ys' other (same ∙ power) hi ∙ hy)
         ∙ sym (zip_place xs ys (rev k i) _ _ hx hy))
 
 pub reversed_alike : (xs ys xs' ys' : List ℕ) → IsReversal xs xs' → IsReversal ys ys' → IsReversible (length xs) → length ys ≡ length xs

@@ -5,13 +5,16 @@ use Rattle.std.proofs.Math.Pow.{pow_mono}
 use Rattle.p3_util_kernels.specs.Digits.{rev}
 use Rattle.p3_util_kernels.specs.Reversal.{IsReversal, IsReversible, IsRowReversal, IsZeroOrPowerOfTwo}
 use Rattle.p3_util_kernels.proofs.Lengths.{zero_or_power}
-use Rattle.p3_util_kernels.proofs.ReversalLemmas.{IsReversal-places, IsReversal-unique, row_reversed_back, IsRowReversal-unique, IsReversal-from_power}
+use Rattle.p3_util_kernels.proofs.ReversalLemmas.{IsReversal-unique, row_reversed_back, IsRowReversal-unique, IsReversal-from_power}
 use Rattle.p3_util.proofs.Callers.Bits.{pair_below, rev_even, rev_odd, rev_longer}
 
 module _ {A : Type 0} where
   -- place i of a reversal of 2 ^ k items
   pub reversed_place : (k i : ℕ) (old new : List A) → IsReversal old new → length old ≡ 2 ^ k → i < 2 ^ k → slice_get new i ≡ slice_get old (rev k i)
-  reversed_place k i old new reversal e h = IsReversal-places old new reversal k i e h
+  reversed_place k i old new reversal e h =
+      let from : i * 1 + 0 ≡ i = omega arith in
+      let to : rev k i * 1 + 0 ≡ rev k i = omega arith in
+      rw (from, to) at (reversal.places k i 0 (omega arith) h (omega arith))
 
   -- the first 2 ^ k places of a reversal of 2 ^ (k + s) items
   pub reversed_longer : (k s i : ℕ) (old new : List A) → IsReversal old new → length old ≡ 2 ^ (k + s) → i < 2 ^ k

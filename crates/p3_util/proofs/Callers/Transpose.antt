@@ -2,7 +2,7 @@
 -- region leaves as it was; and a reversal by way of a transpose.
 use Rattle.std.proofs.Common.{◌≡◌, ℕ, ◌+◌, ◌*◌, ◌/◌, ◌%◌, ◌^◌, ◌<◌, ◌≤◌, List, length, slice_get, refl, sym, ap, ◌∙◌, arith}
 use Rattle.p3_util_kernels.specs.Transpose.{IsTranspose}
-use Rattle.p3_util_kernels.proofs.Matrix.{IsTranspose-twice, IsTranspose-unique}
+use Rattle.p3_util_kernels.proofs.Matrix.{IsTranspose-unique, transpose_turned}
 use Rattle.std.proofs.lemmas.Nat.{mod_below, pow-add, pow_pos, same_from_place}
 use Rattle.std.proofs.Math.Nat.{div-lt_iff_lt-mul, mod-add-div'}
 use Rattle.p3_util_kernels.specs.Digits.{rev}
@@ -21,7 +21,7 @@ module _ {A : Type 0} where
 
   pub transposed_back : (width height : ℕ) (old mid new : List A) → IsTranspose width height mid new → IsTranspose height width old mid
       → length old ≡ height * width → new ≡ old
-  transposed_back width height old mid new second first fits = IsTranspose-twice height width old mid new fits first second
+  transposed_back width height old mid new second first fits = IsTranspose-unique width height mid new old second (transpose_turned height width old mid fits first)
 
   -- the first row and the first column of a transpose
   pub first_in_rows : (width height x p : ℕ) (old new : List A) → IsTranspose width height old new → p ≡ x * height → x < width → 0 < height
