@@ -225,7 +225,7 @@ fn put_strip<M: Cells, R: Source<Item = M::Item> + Copy>(
         Strips::Tiles => put_tiles(out, matrix, region, Strips::Tiles),
         Strips::Wide => put_tiles(out, matrix, region, Strips::Wide),
         Strips::Blocks(Side::Four) => put_tiles(out, matrix, region, Strips::Blocks(Side::Four)),
-        Strips::Blocks(Side::Eight) => put_tiles(out, matrix, region, Strips::Blocks(Side::Eight)),
+        Strips::Blocks(Side::Eight) => put_strip_of_eights(out, matrix, region),
         // Most strips of kind `Low` have `TILE_SIDE` rows. Here the compiler knows that number.
         Strips::Low if rows == TILE_SIDE => put_columns(
             out,
@@ -234,6 +234,27 @@ fn put_strip<M: Cells, R: Source<Item = M::Item> + Copy>(
         ),
         _ => put_columns(out, matrix, region),
     }
+}
+
+/// Puts a strip of kind `Blocks` whose blocks have the side 8. No call in Rattle does this. It is a
+/// function of its own, so that `put_strip` stays small enough to be inlined.
+///
+/// # Contract
+///
+/// ```text
+/// requires some_rows { region.row_start < region.row_end }
+/// requires ready { IsReady region matrix.width matrix.height
+///     (R.items matrix.source) (M.items out) }
+/// ensures transposed { IsRegionTransposed region matrix.width matrix.height
+///     (R.items matrix.source) (M.items out) (M.items result) }
+/// ensures holder { M.same_holder (items_of region) out result }
+/// ```
+fn put_strip_of_eights<M: Cells, R: Source<Item = M::Item> + Copy>(
+    out: M,
+    matrix: Matrix<R>,
+    region: Region,
+) -> M {
+    put_tiles(out, matrix, region, Strips::Blocks(Side::Eight))
 }
 
 /// Puts a strip, with as many columns at a time as a block of `strips` has. There is no function
