@@ -114,7 +114,7 @@ pub(crate) struct Parts<'a, T, P> {
     numbers: Range<usize>,
 }
 
-/// A matrix that is transposed in regions, and the kind of strips by which each region is put.
+/// A matrix that is transposed in regions, and the strips by which each region is put.
 #[derive(Clone, Copy)]
 pub(crate) struct Regions<R> {
     source: R,

@@ -4,9 +4,10 @@
 //! neighbouring columns. To *put* a region is to put each of its items into the cell that it has in
 //! the transpose.
 //!
-//! The transpose of a whole matrix takes one of two paths. A matrix of at most `LARGE_MATRIX` items
-//! is put as one region. A larger one is split into regions first, unless it is narrow. The calls
-//! for a region in this file put that region without a split, and those in `split` split it first.
+//! The transpose of a whole matrix takes one of three paths. A matrix of fewer than `TINY_MATRIX`
+//! items is put column after column, and one of at most `LARGE_MATRIX` items as one region, strip by
+//! strip. A larger one is split into regions first, unless it is narrow. The calls for a region in
+//! this file put that region without a split, and those in `split` split it first.
 //! This file has the calls on slices, calls that count their writes, and the choice of the path.
 //! The modules below it do the rest:
 //!
@@ -14,7 +15,7 @@
 //! - `split` halves the longer side of a large region, and does the same with each half, until the
 //!   parts are small or narrow.
 //! - `strips` puts a region strip by strip. A strip is some neighbouring rows of the region.
-//!   `Strips::by_shape` chooses the kind of strips. Begin there if you want to change strips.
+//!   `Strips::by_shape` chooses the strips. Begin there if you want to change them.
 //! - `square` transposes a square inside a list in place, by exchanges. The long path of a bit
 //!   reversal uses it.
 //! - `butterfly` transposes a block of 4 by 4 items in two stages. No kernel uses it.
@@ -43,8 +44,11 @@ pub(crate) use split::put_split;
 pub use split::{transpose_source_split_on, transpose_split_on};
 pub(crate) use square::transpose_square;
 pub use square::{fits_square, transpose_square_on};
-use strips::put_strips;
-pub(crate) use strips::{Side, Strips, TILE_SIDE};
+pub(crate) use strips::{Strips, UNIT};
+use strips::{put_columns, put_strips};
+
+/// A matrix of fewer items is put column after column.
+const TINY_MATRIX: usize = 128;
 
 /// The greatest number of items of a matrix that is not split.
 const LARGE_MATRIX: usize = 1_048_576;
@@ -118,9 +122,9 @@ where
 
 /// Writes the transpose of `input` to `out`, as [`transpose`] does, in exactly `width * height`
 /// writes. Both lengths must be `width * height`, which [`fits_matrix`] checks. If 16 divides
-/// `width`, a matrix of up to 1024 items is written 16 rows at a time, in blocks of 4 by 4 items.
-/// If fewer than 16 rows remain, they are written column after column. The contract does not say
-/// so, but tests of the order of the writes show it.
+/// `width`, a matrix of 128 to 1024 items is written 16 rows at a time, in blocks of 4 by 4 items.
+/// Rows that fill no block are written column after column. The contract does not say so, but tests
+/// of the order of the writes show it.
 pub fn transpose_on<C: Cells>(input: &[C::Item], out: &mut Writes<C>, width: usize, height: usize)
     requires input_fits { length input.now ≡ width * height }
     requires output_fits { length (C.items out.old.holder) ≡ width * height }
@@ -263,7 +267,30 @@ fn transpose_items<T: Copy, R: Source<Item = T> + Copy>(
 /// The kernel of [`transpose_source_on`], with the given strips. The source is passed by value,
 /// here and in the functions that this one calls. Behind a reference, the address of the items
 /// would be read from memory again for each item.
+#[inline(always)]
 pub(crate) fn transpose_matrix<M: Cells, R: Source<Item = M::Item> + Copy>(
+    out: M,
+    matrix: Matrix<R>,
+    strips: Strips,
+) -> M
+    requires input_fits { length (R.items matrix.source) ≡ matrix.width * matrix.height }
+    requires output_fits { length (M.items out) ≡ matrix.width * matrix.height }
+    ensures order { IsTranspose matrix.width matrix.height (R.items matrix.source)
+        (M.items result) }
+    ensures holder { M.same_holder (matrix.width * matrix.height) out result }
+{
+    let items = out.len();
+    // A matrix without items may have very many columns, which have no rows.
+    if 0 < items && items < TINY_MATRIX {
+        return put_columns(out, matrix, matrix.whole());
+    }
+    transpose_in_strips(out, matrix, strips)
+}
+
+/// Does the same as [`transpose_matrix`], always in strips. It is not inlined, so that calls for
+/// tiny matrices stay short.
+#[inline(never)]
+fn transpose_in_strips<M: Cells, R: Source<Item = M::Item> + Copy>(
     out: M,
     matrix: Matrix<R>,
     strips: Strips,
@@ -279,10 +306,5 @@ pub(crate) fn transpose_matrix<M: Cells, R: Source<Item = M::Item> + Copy>(
         let (out, _) = put_split(out, matrix, whole, ENOUGH_LEVELS, strips);
         return out;
     }
-    match strips {
-        // Here the compiler knows the kind of strips, so the smallest matrices take a third less
-        // time.
-        Strips::High => put_strips(out, matrix, whole, Strips::High),
-        strips => put_strips(out, matrix, whole, strips),
-    }
+    put_strips(out, matrix, whole, strips)
 }

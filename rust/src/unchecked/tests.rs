@@ -8,7 +8,7 @@ use std::vec::Vec;
 
 use super::{SliceCells, SlicePlaces, SliceSource};
 use crate::kernels::places::{Block, Cells, Places, Source};
-use crate::kernels::transpose::{Matrix, Side, Strips, transpose_matrix, transpose_square};
+use crate::kernels::transpose::{Matrix, Strips, transpose_matrix, transpose_square};
 
 /// The result of a call on the numbers below 6, each as an item of five bytes. For items of this size, std tests that
 /// no place is borrowed twice if it is compiled with `-Zub-checks`.
@@ -250,17 +250,17 @@ fn is_transposed<T: Copy + PartialEq>(width: usize, height: usize, item: impl Fn
         .map(|place| item(place % height * width + place / height))
         .collect();
     let blank = std::vec![item(usize::MAX); width * height];
-    let by_blocks = |side| {
+    let by_blocks = |strips| {
         let mut output = blank.clone();
         let matrix = Matrix::new(SliceSource::new(&input), width, height);
-        let _ = transpose_matrix(SliceCells::new(&mut output), matrix, Strips::Blocks(side));
+        let _ = transpose_matrix(SliceCells::new(&mut output), matrix, strips);
         output == expected
     };
     let mut by_call = blank.clone();
     super::transpose(&input, &mut by_call, width, height)
         && by_call == expected
-        && by_blocks(Side::Four)
-        && by_blocks(Side::Eight)
+        && by_blocks(Strips::FOURS)
+        && by_blocks(Strips::EIGHTS)
 }
 
 #[test]

@@ -88,14 +88,11 @@ fn by_strips(rows: Range<usize>, cols: Range<usize>, most: usize) -> impl Iterat
 }
 
 /// The columns and rows of a matrix by strips of 16 rows. In a strip, four columns are put together, in blocks of four
-/// rows. If the strip at the bottom is lower, four of its columns are put together with all their rows.
+/// rows. At the bottom fewer rows may be left.
 fn by_blocks(width: usize, height: usize) -> impl Iterator<Item = (usize, usize)> {
     let strips = (0..height).step_by(16).map(move |top| top..height.min(top + 16));
-    let groups = strips.flat_map(move |rows| (0..width).step_by(4).map(move |x| (rows.clone(), x..x + 4)));
-    groups.flat_map(|(rows, cols)| match rows.len() {
-        16 => by_strips(rows, cols, 4),
-        _ => by_strips(rows, cols, 16),
-    })
+    let stacks = strips.flat_map(move |rows| (0..width).step_by(4).map(move |x| (rows.clone(), x..x + 4)));
+    stacks.flat_map(|(rows, cols)| by_strips(rows, cols, 4))
 }
 
 /// The columns and rows of a matrix by the parts of its split. Each part goes by strips of at most `most` rows.
@@ -113,39 +110,41 @@ fn by_parts(width: usize, height: usize, most: usize) -> impl Iterator<Item = (u
 }
 
 /// Widths, heights and the order of the puts.
-const ORDERS: [(usize, usize, Order); 20] = [
+const ORDERS: [(usize, usize, Order); 22] = [
     // High strips if 16 does not divide the width.
     (20, 51, Order::Strips(128)),
     (5, 204, Order::Strips(128)),
     (20, 272, Order::Strips(128)),
     (5000, 20, Order::Strips(128)),
     // If it does: blocks up to 1024 items, and low strips beyond.
+    (16, 8, Order::Blocks),
     (16, 16, Order::Blocks),
     (16, 64, Order::Blocks),
     (32, 32, Order::Blocks),
     (48, 20, Order::Blocks),
-    (16, 65, Order::Strips(16)),
-    (64, 64, Order::Strips(16)),
-    (48, 32, Order::Strips(16)),
-    (16, 256, Order::Strips(16)),
-    (16, 8192, Order::Strips(16)),
-    (4992, 20, Order::Strips(16)),
+    (32, 31, Order::Blocks),
+    (16, 65, Order::Strips(24)),
+    (64, 64, Order::Strips(24)),
+    (48, 32, Order::Strips(24)),
+    (16, 256, Order::Strips(24)),
+    (16, 8192, Order::Strips(24)),
+    (4992, 20, Order::Strips(24)),
     // The largest matrix that is not split, and the smallest that is.
-    (1024, 1024, Order::Strips(16)),
+    (1024, 1024, Order::Strips(24)),
     (17, 61_681, Order::Parts(128)),
     // Other matrices that are split, the last one into parts of 32 columns.
     (1025, 1024, Order::Parts(128)),
-    (1040, 1024, Order::Parts(16)),
-    (28_352, 37, Order::Parts(16)),
-    (32, 32_800, Order::Parts(16)),
+    (1040, 1024, Order::Parts(24)),
+    (28_352, 37, Order::Parts(24)),
+    (32, 32_800, Order::Parts(24)),
 ];
 
 /// A contract says what is put where, but not in which order. So these bodies meet their contracts, but fail this test:
 ///
 /// - a matrix that is never split, or that is split from another size on;
 /// - a split that puts by strips and computes its answer, or whose leaves take another path if 16 divides the width;
-/// - tiles everywhere, or strips everywhere, also for regions and for sources;
-/// - a tile whose blocks or runs are not put one after another, and blocks beyond 1024 items;
+/// - blocks everywhere, or columns everywhere, also for regions and for sources;
+/// - a stack whose blocks are not put one after another, and blocks beyond 1024 items;
 /// - high strips chosen by another test of the shape;
 /// - columns from right to left, and strips from the last to the first.
 #[test]
@@ -206,7 +205,7 @@ fn blocks_by_a_holder_of_ones_own() {
         let right = by_rows(4);
         let order = right.noted.puts.iter().map(|place| (place / height, place % height));
         assert!(order.eq(single.iter().copied()));
-        assert_eq!(right.blocks, height / 16 * width);
+        assert_eq!(right.blocks, height / 4 * (width / 4));
         // The test notices if a row of a block is left out.
         let wrong = by_rows(3);
         assert_eq!(wrong.noted.puts.len() + 4 * wrong.blocks, single.len());

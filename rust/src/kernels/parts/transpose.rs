@@ -2,7 +2,7 @@
 
 use crate::kernels::parts::Cut;
 use crate::kernels::places::{Cells, Source};
-use crate::kernels::transpose::{ENOUGH_LEVELS, Matrix, Strips, TILE_SIDE, put_split};
+use crate::kernels::transpose::{ENOUGH_LEVELS, Matrix, Strips, UNIT, put_split};
 
 /// The transpose of a matrix of `height` rows of `width` items, cut into regions of neighbouring
 /// rows or of neighbouring columns.
@@ -15,7 +15,7 @@ pub(crate) struct TransposePlan {
 }
 
 impl TransposePlan {
-    /// Cuts the longer side into at most `parts` parts, at multiples of the side of a tile. If
+    /// Cuts the longer side into at most `parts` parts, at multiples of `UNIT`. If
     /// `may_cut_rows` is false, the columns are cut, whichever side is longer. A `parts` of 0
     /// counts as 1. A matrix without items has no region.
     ///
@@ -28,9 +28,9 @@ impl TransposePlan {
     /// ensures by_rows { IsTrue result.by_rows ↔ (IsTrue may_cut_rows × (width < height)) }
     /// ensures empty { width * height ≡ 0 → parts_in result.cut.len result.cut.step ≡ 0 }
     /// ensures few { parts_in result.cut.len result.cut.step ≤ max parts 1 }
-    /// ensures least { IsLeastStep parts TILE_SIDE result.cut.len result.cut.step }
+    /// ensures least { IsLeastStep parts UNIT result.cut.len result.cut.step }
     /// ensures units { (k : ℕ) → k < parts_in result.cut.len result.cut.step
-    ///     → start_of result.cut.len result.cut.step k % TILE_SIDE ≡ 0 }
+    ///     → start_of result.cut.len result.cut.step k % UNIT ≡ 0 }
     /// ```
     pub(crate) fn new(
         width: usize,
@@ -50,7 +50,7 @@ impl TransposePlan {
             width,
             height,
             by_rows,
-            cut: Cut::new(side, parts, TILE_SIDE),
+            cut: Cut::new(side, parts, UNIT),
         }
     }
 

@@ -118,7 +118,7 @@ fn put_split_resumed<C: Cells, R: Source<Item = C::Item> + Copy>(
 }
 
 /// The kernel of [`transpose_source_split_on`]. Splits `region` into leaves, with splits that nest
-/// at most `levels` deep, and puts each leaf in strips of the kind `strips`. Also returns how deep
+/// at most `levels` deep, and puts each leaf in the strips `strips`. Also returns how deep
 /// the splits nest.
 ///
 /// # Contract

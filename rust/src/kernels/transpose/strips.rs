@@ -6,15 +6,15 @@
 //!   some neighbouring columns. To *put* a region, or a part of one, is to put each of its items
 //!   into its cell.
 //! - A *strip* is some neighbouring rows of a region. A region is cut into strips, which are put
-//!   from top to bottom. Most strips are put column after column.
-//! - A *tile* is 16 columns of a strip of 16 rows. A *block* is a square of 4 by 4 or of 8 by 8
-//!   items of a strip. In a strip of kind [`Strips::Wide`], a block is one row of a tile instead.
+//!   from top to bottom.
+//! - A *block* is a square of 4 by 4 or of 8 by 8 items of a strip. A *stack* is as many
+//!   neighbouring columns of a strip as a block has: its blocks, one below the other, and the rows
+//!   below them.
 //!
-//! [`Strips`] lists the kinds of strips, and [`Strips::by_shape`] chooses one by the shape of the
-//! matrix. That choice only changes the order of the puts: the contracts of the functions below are
-//! the same for every kind. To add a kind, add a variant, say in `rows` how many rows its strips
-//! have, and handle it in `put_strip`. If its strips are put by blocks, `block` and `has_blocks` say
-//! what the blocks are.
+//! [`Strips`] says how many rows a strip has, and whether it is put column after column or stack
+//! after stack. [`Strips::by_shape`] chooses by the shape of the matrix. That choice only changes
+//! the order of the puts: the contracts of the functions below are the same for all strips. For
+//! blocks of another side, handle that side in `put_strip`.
 //!
 //! Each function takes the holder by value and returns it. This keeps the holder in registers in
 //! the loops.
@@ -22,103 +22,85 @@
 use crate::kernels::places::{Block, Cells, Source};
 use crate::kernels::transpose::regions::{Matrix, Region};
 
-/// The greatest number of items of a small matrix. A small matrix is put tile after tile if 16
-/// divides its width.
+/// If the width of a matrix is a multiple of this, its strips are low. Parts of a call begin at
+/// multiples of it.
+pub(crate) const UNIT: usize = 16;
+
+/// The greatest number of items of a matrix that is put by blocks if 16 divides its width.
 const SMALL_MATRIX: usize = 1024;
 
-/// The side of a tile.
-pub(crate) const TILE_SIDE: usize = 16;
+/// The greatest number of rows of a high strip.
+const HIGH_ROWS: usize = 128;
 
-/// The greatest number of rows of a strip of kind `High` or `Blocks`.
-const STRIP_ROWS: usize = 128;
+/// The greatest number of rows of a low strip.
+const LOW_ROWS: usize = 24;
 
 /// A column is put by loops over this many items each. The compiler knows how long these loops are.
 const COLUMN_ITEMS: usize = 8;
 
-/// The side of a square block.
-#[derive(Clone, Copy)]
-pub(crate) enum Side {
-    /// Four items.
-    Four,
-    /// Eight items.
-    Eight,
-}
-
-impl Side {
-    /// The number of items in a row of the block.
-    ///
-    /// # Contract
-    ///
-    /// ```text
-    /// ensures { 0 < result }
-    /// ```
-    #[inline(always)]
-    fn items(self) -> usize {
-        match self {
-            Side::Four => 4,
-            Side::Eight => 8,
-        }
-    }
-}
-
-/// The kinds of strips. All strips of a region are of the same kind.
-#[derive(Clone, Copy)]
-pub(crate) enum Strips {
-    /// At most 128 rows, put column after column.
-    High,
-    /// At most 16 rows, put column after column. A column of 16 rows fills 16 consecutive cells.
-    Low,
-    /// At most 16 rows, put tile after tile, and each tile by blocks of 4 by 4 items.
-    Tiles,
-    /// At most 16 rows, put tile after tile, and each tile row after row. This suits items of 32
-    /// and of 64 bytes. `Strips::by_shape` never returns this kind, but the caller of a kernel may
-    /// choose it.
-    Wide,
-    /// At most 128 rows, put as many columns at a time as a block has, by blocks that a holder may
-    /// transpose in registers. Blocks of side 4 suit items of 4 and of 8 bytes, and blocks of side
-    /// 8 suit items of 1 and of 2 bytes. `Strips::by_shape` never returns this kind, but the caller
-    /// of a kernel may choose it.
-    Blocks(Side),
+/// How a region is put in strips.
+#[derive(Clone, Copy, PartialEq, Eq)]
+pub(crate) struct Strips {
+    /// The greatest number of rows of a strip.
+    rows: usize,
+    /// The side of a block, which is 4 or 8. If it is 1, a strip is put column after column.
+    side: usize,
 }
 
 impl Strips {
-    /// The kind of strips for `matrix`, chosen by its shape alone. Every call in Rattle uses this
-    /// choice. The plain Rust package knows the size of an item and may choose another kind.
+    /// High strips, of at most 128 rows, put column after column.
+    pub(crate) const HIGH: Strips = Strips {
+        rows: HIGH_ROWS,
+        side: 1,
+    };
+
+    /// Low strips, of at most 24 rows, put column after column.
+    pub(crate) const LOW: Strips = Strips {
+        rows: LOW_ROWS,
+        side: 1,
+    };
+
+    /// Strips of at most 16 rows, put by blocks of 4 by 4 items.
+    pub(crate) const SMALL: Strips = Strips {
+        rows: UNIT,
+        side: 4,
+    };
+
+    /// High strips, put by blocks of 4 by 4 items, which a holder may transpose in registers. This
+    /// suits items of 4 and of 8 bytes. `by_shape` never returns these strips, but the caller of a
+    /// kernel may choose them.
+    pub(crate) const FOURS: Strips = Strips {
+        rows: HIGH_ROWS,
+        side: 4,
+    };
+
+    /// The same with blocks of 8 by 8 items, which suits items of 1 and of 2 bytes.
+    pub(crate) const EIGHTS: Strips = Strips {
+        rows: HIGH_ROWS,
+        side: 8,
+    };
+
+    /// The strips for `matrix`, chosen by its shape alone. Every call in Rattle uses this choice.
+    /// The plain Rust package knows the size of an item and may choose others.
     ///
     /// A strip is read column by column, so a cache line of each of its rows is in use at the same
     /// time. If 16 divides the width, the distance of two rows may be a multiple of a high power of
     /// two. The cache lines of a high strip then fall into few sets of the cache, and each line is
-    /// evicted before its next item is read. Those of 16 rows stay in the cache. With other widths,
+    /// evicted before its next item is read. Those of 24 rows stay in the cache. With other widths,
     /// the rows are spread over the sets of the cache. A high strip is better there, since it puts
     /// longer runs of consecutive cells. A small matrix stays in the cache whatever the order is,
     /// and is put block by block.
     pub(crate) fn by_shape<R: Source + Copy>(matrix: Matrix<R>) -> Self {
-        if matrix.width % TILE_SIDE != 0 {
-            Strips::High
+        if matrix.width % UNIT != 0 {
+            Strips::HIGH
         } else if matrix.source.len() > SMALL_MATRIX {
-            Strips::Low
+            Strips::LOW
         } else {
-            Strips::Tiles
+            Strips::SMALL
         }
     }
 
-    /// The greatest number of rows of a strip.
-    ///
-    /// # Contract
-    ///
-    /// ```text
-    /// ensures { 0 < result }
-    /// ```
-    #[inline(always)]
-    fn rows(self) -> usize {
-        match self {
-            Strips::High | Strips::Blocks(_) => STRIP_ROWS,
-            Strips::Low | Strips::Tiles | Strips::Wide => TILE_SIDE,
-        }
-    }
-
-    /// The row after the last one of the first strip of `region`. The number of rows of a `Blocks`
-    /// strip is a multiple of the side of its blocks, unless fewer rows than that are left.
+    /// The row after the last one of the first strip of `region`.
     ///
     /// # Contract
     ///
@@ -130,40 +112,11 @@ impl Strips {
     /// ```
     #[inline(always)]
     fn end(self, region: Region) -> usize {
-        let rows = self.rows().min(region.rows());
-        let (side, _) = self.block();
-        match self {
+        if region.cols() == 1 {
             // The items of one column go to consecutive cells, whatever the strips are.
-            _ if region.cols() == 1 => region.row_end,
-            Strips::Blocks(_) if rows >= side => region.row_start + rows - rows % side,
-            _ => region.row_start + rows,
-        }
-    }
-
-    /// Whether a strip of `rows` rows is put by blocks, except for pieces that do not consist of
-    /// whole blocks. A strip of tiles is put by blocks only if it has all 16 rows.
-    #[inline(always)]
-    fn has_blocks(self, rows: usize) -> bool {
-        match self {
-            Strips::Blocks(_) => true,
-            _ => rows == TILE_SIDE,
-        }
-    }
-
-    /// The number of rows and the number of columns of a block.
-    ///
-    /// # Contract
-    ///
-    /// ```text
-    /// ensures rows { 0 < result.0 }
-    /// ensures cols { 0 < result.1 }
-    /// ```
-    #[inline(always)]
-    fn block(self) -> (usize, usize) {
-        match self {
-            Strips::Wide => (1, TILE_SIDE),
-            Strips::Blocks(side) => (side.items(), side.items()),
-            _ => (Side::Four.items(), Side::Four.items()),
+            region.row_end
+        } else {
+            region.row_start + self.rows.min(region.rows())
         }
     }
 }
@@ -219,30 +172,25 @@ fn put_strip<M: Cells, R: Source<Item = M::Item> + Copy>(
     region: Region,
     strips: Strips,
 ) -> M {
-    let (rows, cols) = (region.rows(), region.cols());
-    match strips {
-        // Here the compiler knows the kind of strips, and so the lengths of the loops.
-        Strips::Tiles => put_tiles(out, matrix, region, Strips::Tiles),
-        Strips::Wide => put_tiles(out, matrix, region, Strips::Wide),
-        Strips::Blocks(Side::Four) => put_tiles(out, matrix, region, Strips::Blocks(Side::Four)),
-        Strips::Blocks(Side::Eight) => put_strip_of_eights(out, matrix, region),
-        // Most strips of kind `Low` have `TILE_SIDE` rows. Here the compiler knows that number.
-        Strips::Low if rows == TILE_SIDE => put_columns(
-            out,
-            matrix,
-            region.with_known_sides(TILE_SIDE, cols),
-        ),
+    match strips.side {
+        // Here the compiler knows the side of a block, and so the lengths of the loops.
+        4 => put_stacks(out, matrix, region, 4),
+        8 => put_strip_of_eights(out, matrix, region),
+        // Most low strips have `LOW_ROWS` rows. Here the compiler knows that number.
+        _ if region.rows() == LOW_ROWS => {
+            let known = region.with_known_sides(LOW_ROWS, region.cols());
+            put_columns(out, matrix, known)
+        }
         _ => put_columns(out, matrix, region),
     }
 }
 
-/// Puts a strip of kind `Blocks` whose blocks have the side 8. No call in Rattle does this. It is a
-/// function of its own, so that `put_strip` stays small enough to be inlined.
+/// Puts a strip by blocks of 8 by 8 items. No call in Rattle does this. It is a function of its
+/// own, so that `put_strip` stays small enough to be inlined.
 ///
 /// # Contract
 ///
 /// ```text
-/// requires some_rows { region.row_start < region.row_end }
 /// requires ready { IsReady region matrix.width matrix.height
 ///     (R.items matrix.source) (M.items out) }
 /// ensures transposed { IsRegionTransposed region matrix.width matrix.height
@@ -254,16 +202,15 @@ fn put_strip_of_eights<M: Cells, R: Source<Item = M::Item> + Copy>(
     matrix: Matrix<R>,
     region: Region,
 ) -> M {
-    put_tiles(out, matrix, region, Strips::Blocks(Side::Eight))
+    put_stacks(out, matrix, region, 8)
 }
 
-/// Puts a strip, with as many columns at a time as a block of `strips` has. There is no function
-/// for a tile: a tile takes four rounds of this loop, or one round for `Strips::Wide`.
+/// Puts a strip stack after stack, from left to right.
 ///
 /// # Contract
 ///
 /// ```text
-/// requires some_rows { region.row_start < region.row_end }
+/// requires some_side { 0 < side }
 /// requires ready { IsReady region matrix.width matrix.height
 ///     (R.items matrix.source) (M.items out) }
 /// ensures transposed { IsRegionTransposed region matrix.width matrix.height
@@ -271,30 +218,49 @@ fn put_strip_of_eights<M: Cells, R: Source<Item = M::Item> + Copy>(
 /// ensures holder { M.same_holder (items_of region) out result }
 /// ```
 #[inline(always)]
-fn put_tiles<M: Cells, R: Source<Item = M::Item> + Copy>(
+fn put_stacks<M: Cells, R: Source<Item = M::Item> + Copy>(
     out: M,
     matrix: Matrix<R>,
     region: Region,
-    strips: Strips,
+    side: usize,
 ) -> M {
     let mut out = out;
     let mut col = region.col_start;
     while col < region.col_end {
-        let (_, cols) = strips.block();
-        let end = region.col_end.min(col.saturating_add(cols));
-        out = put_blocks(out, matrix, region.with_cols(col, end), strips);
+        let end = region.col_end.min(col.saturating_add(side));
+        out = put_stack(out, matrix, region.with_cols(col, end), side);
         col = end;
     }
     out
 }
 
-/// Puts a piece of a strip that is as wide as a block: its blocks, from top to bottom. If the piece
-/// does not consist of whole blocks, as at the edge of a matrix, it is put column after column.
+/// The number of blocks of a stack. If the last stack of a strip has fewer columns than a block, it
+/// has none.
 ///
 /// # Contract
 ///
 /// ```text
-/// requires some_rows { region.row_start < region.row_end }
+/// requires some_side { 0 < side }
+/// requires rows_in_order { region.row_start ≤ region.row_end }
+/// requires cols_in_order { region.col_start ≤ region.col_end }
+/// ensures rows { result * side ≤ rows_of region }
+/// ensures cols { 0 < result → cols_of region ≡ side }
+/// ```
+#[inline(always)]
+fn blocks_of(region: Region, side: usize) -> usize {
+    if region.cols() == side {
+        region.rows() / side
+    } else {
+        0
+    }
+}
+
+/// Puts a stack: its blocks from top to bottom, and then the rows below them column after column.
+///
+/// # Contract
+///
+/// ```text
+/// requires some_side { 0 < side }
 /// requires ready { IsReady region matrix.width matrix.height
 ///     (R.items matrix.source) (M.items out) }
 /// ensures transposed { IsRegionTransposed region matrix.width matrix.height
@@ -302,52 +268,47 @@ fn put_tiles<M: Cells, R: Source<Item = M::Item> + Copy>(
 /// ensures holder { M.same_holder (items_of region) out result }
 /// ```
 #[inline(always)]
-fn put_blocks<M: Cells, R: Source<Item = M::Item> + Copy>(
+fn put_stack<M: Cells, R: Source<Item = M::Item> + Copy>(
     out: M,
     matrix: Matrix<R>,
     region: Region,
-    strips: Strips,
+    side: usize,
 ) -> M {
-    let (rows, cols) = strips.block();
-    let height = region.rows();
-    if !strips.has_blocks(height) || height % rows != 0 || region.cols() != cols {
-        return put_columns(out, matrix, region);
-    }
+    let blocks = blocks_of(region, side);
     let mut out = out;
-    for k in 0..height / rows {
-        let row = region.row_start + k * rows;
-        let block = region.with_rows(row, row + rows);
-        out = put_block(out, matrix, block.with_known_sides(rows, cols));
+    for k in 0..blocks {
+        let row = region.row_start + k * side;
+        let block = region.with_rows(row, row + side);
+        out = put_block(out, matrix, block.with_known_sides(side, side));
+    }
+    let row = region.row_start + blocks * side;
+    put_rest(out, matrix, region.with_rows(row, region.row_end))
+}
+
+/// Puts a region column after column. It may have no rows.
+///
+/// # Contract
+///
+/// ```text
+/// requires ready { IsReady region matrix.width matrix.height
+///     (R.items matrix.source) (M.items out) }
+/// ensures transposed { IsRegionTransposed region matrix.width matrix.height
+///     (R.items matrix.source) (M.items out) (M.items result) }
+/// ensures holder { M.same_holder (items_of region) out result }
+/// ```
+#[inline(always)]
+fn put_rest<M: Cells, R: Source<Item = M::Item> + Copy>(
+    out: M,
+    matrix: Matrix<R>,
+    region: Region,
+) -> M {
+    if region.row_start < region.row_end {
+        return put_columns(out, matrix, region);
     }
     out
 }
 
-/// Puts a block: in the holder's own way if the block is a square, else column after column.
-///
-/// # Contract
-///
-/// ```text
-/// requires some_rows { region.row_start < region.row_end }
-/// requires ready { IsReady region matrix.width matrix.height
-///     (R.items matrix.source) (M.items out) }
-/// ensures transposed { IsRegionTransposed region matrix.width matrix.height
-///     (R.items matrix.source) (M.items out) (M.items result) }
-/// ensures holder { M.same_holder (items_of region) out result }
-/// ```
-#[inline(always)]
-fn put_block<M: Cells, R: Source<Item = M::Item> + Copy>(
-    out: M,
-    matrix: Matrix<R>,
-    region: Region,
-) -> M {
-    if region.rows() == region.cols() {
-        put_square(out, matrix, region)
-    } else {
-        put_columns(out, matrix, region)
-    }
-}
-
-/// Puts a square block in the holder's own way.
+/// Puts a block in the holder's own way.
 ///
 /// # Contract
 ///
@@ -361,7 +322,7 @@ fn put_block<M: Cells, R: Source<Item = M::Item> + Copy>(
 /// ensures holder { M.same_holder (items_of region) out result }
 /// ```
 #[inline(always)]
-fn put_square<M: Cells, R: Source<Item = M::Item> + Copy>(
+fn put_block<M: Cells, R: Source<Item = M::Item> + Copy>(
     out: M,
     matrix: Matrix<R>,
     region: Region,
@@ -396,7 +357,7 @@ fn put_square<M: Cells, R: Source<Item = M::Item> + Copy>(
 /// ensures holder { M.same_holder (items_of region) out result }
 /// ```
 #[inline(always)]
-fn put_columns<M: Cells, R: Source<Item = M::Item> + Copy>(
+pub(crate) fn put_columns<M: Cells, R: Source<Item = M::Item> + Copy>(
     out: M,
     matrix: Matrix<R>,
     region: Region,

@@ -4,7 +4,7 @@ use Rattle.std.proofs.Math.Nat.{mul_comm}
 use Rattle.p3_util_kernels.specs.declared.transpose.regions.Region.{Region}
 use Rattle.p3_util_kernels.specs.Region.{items_of}
 use Rattle.p3_util_kernels.proofs.HalvesLemmas.{lev-of_whole}
-use Rattle.p3_util_kernels.proofs.transpose.transpose_matrix.Goals as goal
+use Rattle.p3_util_kernels.proofs.transpose.transpose_in_strips.Goals as goal
 
 pub put_split-out-requires-clause-enough : goal.put_split-out-requires-clause-enough
 put_split-out-requires-clause-enough g c = lev-of_whole c.whole-whole.result c.args.matrix.width c.args.matrix.height c.whole-whole.ensures (omega arith) (omega arith) (omega arith)

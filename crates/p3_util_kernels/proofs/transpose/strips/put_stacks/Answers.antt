@@ -2,7 +2,7 @@
 use Rattle.std.proofs.Common.{◌≡◌, arith}
 use Rattle.p3_util_kernels.specs.Region.{items_of}
 use Rattle.p3_util_kernels.proofs.RegionLemmas.{IsCut-cols, IsRegionTransposed-cut}
-use Rattle.p3_util_kernels.proofs.transpose.strips.put_tiles.Goals as goal
+use Rattle.p3_util_kernels.proofs.transpose.strips.put_stacks.Goals as goal
 
 pub loop-col-preserved : goal.loop-col-preserved
 loop-col-preserved g c =
@@ -13,8 +13,8 @@ loop-col-preserved g c =
       from = omega arith;
       to = omega arith;
       transposed = IsRegionTransposed-cut c.args.matrix.width c.args.matrix.height (g.R.Source.items c.args.matrix.source) done _ _ _ _ _ (omega arith) cut
-          c.loop-col.invariant.transposed (rw c.with_cols.ensures at c.put_blocks-out.ensures.transposed);
-      holder = g.met.M.Cells.same_holder_trans _ (items_of strip) _ _ _ _ c.loop-col.invariant.holder (rw c.with_cols.ensures at c.put_blocks-out.ensures.holder) cut.items;
+          c.loop-col.invariant.transposed (rw c.with_cols.ensures at c.put_stack-out.ensures.transposed);
+      holder = g.met.M.Cells.same_holder_trans _ (items_of strip) _ _ _ _ c.loop-col.invariant.holder (rw c.with_cols.ensures at c.put_stack-out.ensures.holder) cut.items;
     }
 
 pub returns-clause-transposed : goal.returns-clause-transposed
