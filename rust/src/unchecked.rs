@@ -18,7 +18,7 @@
 use core::ops::Range;
 
 use crate::kernels::parts::{ReversalPlan, TransposePlan};
-use crate::kernels::places::Source;
+use crate::kernels::places::{Places, Source};
 use crate::kernels::reverse::{self, RowDigits, fits_rows, reverse_short};
 use crate::kernels::transpose::{Matrix, Strips, fits_matrix, transpose_matrix};
 use crate::transpose::strips_by_size;
@@ -33,7 +33,7 @@ use slices::{SliceItems as PartItems, SliceItems as SliceCells, SliceItems as Sl
 pub(crate) fn reverse<F>(vals: &mut [F]) -> bool {
     let fits = fits_rows(vals.len(), 1);
     if fits && size_of::<F>() > 0 {
-        let _ = reverse_short(SlicePlaces::new(vals));
+        let _ = reverse_short(Singles(SlicePlaces::new(vals)));
     }
     fits
 }
@@ -62,10 +62,54 @@ fn reverse_narrow<F, const W: usize>(vals: &mut [F]) {
     // Wider rows take no less time as items.
     #[cfg(not(feature = "checked"))]
     if W * size_of::<F>() <= 128 {
-        let _ = reverse_short(SlicePlaces::<[F; W]>::of_rows(vals));
+        let _ = reverse_short(Singles(SlicePlaces::<[F; W]>::of_rows(vals)));
         return;
     }
     reverse_wide(vals, W);
+}
+
+/// A holder for a kernel whose places are single items. Such a kernel never calls `exchange_runs`, but the compiler does
+/// not know that. Here the method is not inlined, so a reversal of items has half as much code.
+struct Singles<P>(P);
+
+impl<P: Places> Places for Singles<P> {
+    type Item = P::Item;
+
+    #[inline(always)]
+    fn len(&self) -> usize {
+        self.0.len()
+    }
+
+    #[inline(always)]
+    fn exchange(&mut self, i: usize, j: usize) {
+        self.0.exchange(i, j);
+    }
+
+    #[inline(always)]
+    fn exchange_apart(&mut self, i: usize, j: usize) {
+        self.0.exchange_apart(i, j);
+    }
+
+    #[inline(always)]
+    fn exchange_tiles(&mut self, x: [usize; 8], y: [usize; 8]) {
+        self.0.exchange_tiles(x, y);
+    }
+
+    #[inline(always)]
+    fn turn_tile(&mut self, x: [usize; 8]) {
+        self.0.turn_tile(x);
+    }
+
+    #[inline(always)]
+    fn expect_tiles(&self, x: [usize; 8], y: [usize; 8]) {
+        self.0.expect_tiles(x, y);
+    }
+
+    #[cold]
+    #[inline(never)]
+    fn exchange_runs(&mut self, i: usize, j: usize, len: usize) {
+        self.0.exchange_runs(i, j, len);
+    }
 }
 
 /// Reverses the order of rows, each of which is exchanged as a run of items.
@@ -224,6 +268,7 @@ impl<F> Parts<'_, F, ReversalPlan> {
 /// Holders of slices, which check no index except with debug assertions.
 #[cfg(not(feature = "checked"))]
 mod slices {
+    use core::array::from_fn;
     use core::marker::PhantomData;
     use core::mem::MaybeUninit;
     use core::ptr;
@@ -360,13 +405,65 @@ mod slices {
                 }
             }
         }
+
+        /// Stands for 28 calls of `exchange_apart`, one for each row `r` and column `c` with `r < c`, which exchange
+        /// `x[r] + c` and `x[c] + r`. Items of 1, 2, 4 and 8 bytes are exchanged in registers, and others one by one.
+        #[inline(always)]
+        fn turn_tile(&mut self, x: [usize; 8]) {
+            debug_assert!(are_rows(x, self.len));
+            let first = self.first;
+            // SAFETY (of all four): the 8 items from each of these places on are within the slice, and no two of these
+            // runs overlap, by the precondition of `Places::turn_tile`.
+            match size_of::<F>() {
+                1 if vectors::HERE => unsafe { vectors::turn::<F, _, 8, 1>(first, x, vectors::turned_1) },
+                2 if vectors::HERE => unsafe { vectors::turn::<F, _, 8, 1>(first, x, vectors::turned_2) },
+                4 if vectors::HERE => unsafe { vectors::turn::<F, _, 4, 2>(first, x, vectors::turned_4) },
+                8 if vectors::HERE => unsafe { vectors::turn::<F, _, 2, 4>(first, x, vectors::turned_8) },
+                _ => {
+                    for row in 0..8 {
+                        for col in row + 1..8 {
+                            self.exchange_apart(x[row] + col, x[col] + row);
+                        }
+                    }
+                }
+            }
+        }
+
+        /// Prefetches the cache lines of both tiles if the list does not fit in a cache. The places may be outside. No
+        /// reference is made to them.
+        #[inline(always)]
+        fn expect_tiles(&self, x: [usize; 8], y: [usize; 8]) {
+            let size = size_of::<F>();
+            // Items of 1 byte take no less time if they are fetched early.
+            if size == 1 || self.len * size < FAR_BYTES {
+                return;
+            }
+            for row in x.into_iter().chain(y) {
+                let row = self.first.wrapping_add(row).cast::<u8>();
+                for byte in (0..8 * size).step_by(64) {
+                    vectors::prefetch(row.wrapping_add(byte));
+                }
+                // A row seldom begins at the start of a line, so its end is in one line more. Without that line, items
+                // of 4 bytes would take longer than without any prefetch.
+                vectors::prefetch(row.wrapping_add(8 * size - 1));
+            }
+        }
+    }
+
+    /// A list of at least this many bytes does not fit in a cache.
+    const FAR_BYTES: usize = 1 << 23;
+
+    /// Whether the rows of tiles, of 8 items each, are within `len` places, and no two of them overlap.
+    fn are_rows<const N: usize>(starts: [usize; N], len: usize) -> bool {
+        let apart =
+            |(number, start): (usize, &usize)| starts[number + 1..].iter().all(|other| start.abs_diff(*other) >= 8);
+        len >= 8 && starts.iter().all(|start| *start <= len - 8) && starts.iter().enumerate().all(apart)
     }
 
     /// Whether the rows of two tiles are within `len` places, and no two of them overlap.
     fn are_tiles(x: [usize; 8], y: [usize; 8], len: usize) -> bool {
-        let starts = || x.into_iter().chain(y);
-        let apart = |(number, start): (usize, usize)| starts().skip(number + 1).all(|other| start.abs_diff(other) >= 8);
-        len >= 8 && starts().all(|start| start <= len - 8) && starts().enumerate().all(apart)
+        let both: [usize; 16] = from_fn(|row| if row < 8 { x[row] } else { y[row - 8] });
+        are_rows(both, len)
     }
 
     impl<T: Copy> Cells for SliceItems<'_, T> {

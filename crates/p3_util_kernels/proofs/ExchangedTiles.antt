@@ -1,9 +1,9 @@
--- Two tiles are exchanged with each other's mirror image, item by item.
-use Rattle.std.proofs.Common.{◌≡◌, ◌≢◌, ℕ, ◌+◌, ◌*◌, ◌<◌, ◌≤◌, ◌⊎◌, List, length, slice_index, inl, inr, ap, ◌∙◌, arith}
+-- Two tiles are exchanged with each other's mirror image, or one tile is transposed, item by item.
+use Rattle.std.proofs.Common.{◌≡◌, ◌≢◌, ℕ, ◌+◌, ◌*◌, ◌<◌, ◌≤◌, ◌⊎◌, min, max, List, length, slice_index, inl, inr, ap, ◌∙◌, arith}
 use Rattle.std.specs.List.{swap}
 use Rattle.std.proofs.lemmas.Bool.{cases_eq, cases_lt}
 use Rattle.std.proofs.lemmas.List.Edits.{length-swap}
-use Rattle.p3_util_kernels.specs.Exchanged.{AreTiles, TilesExchanged}
+use Rattle.p3_util_kernels.specs.Exchanged.{AreTiles, IsTile, TileTurned, TilesExchanged}
 use Rattle.p3_util_kernels.proofs.Exchange.{slice_get-swap_first, slice_get-swap_second, slice_get-swap_other}
 
 -- a place of a tile has only one row and one column
@@ -71,4 +71,62 @@ module _ (x y : List ℕ) (len : ℕ) (tiles : AreTiles x y len) where
             rw step
             (slice_get-swap_other now _ _ p (out r c hc (omega arith)).0 (out r c hc (omega arith)).1
             ∙ before.others p (λ v w hw k. out v w hw (omega arith)));
+      }
+
+module _ (x : List ℕ) (len : ℕ) (tile : IsTile x len) where
+  one : (a b r c : ℕ) → a < 8 → b < 8 → r < 8 → c < 8 → slice_index x a + b ≡ slice_index x r + c → (a ≡ r) × (b ≡ c)
+  one a b r c = one_row x a b r c tile.apart
+
+  -- the items of row r before the diagonal are exchanged already, and the one on it stays
+  pub TileTurned-row : {A : Type 0} (r : ℕ) (old now : List A) → r < 8 → TileTurned (8 * r) x old now → TileTurned (8 * r + (r + 1)) x old now
+  TileTurned-row r old now hr before = record {
+    same_length = before.same_length;
+    turned = λ a b ha hb h.
+        elim (cases_lt (8 * min a b + max a b) (8 * r)) [
+          | inl done ↦ before.turned a b ha hb done
+          | inr left ↦
+              let row : a ≡ r = omega arith in
+              let col : b ≡ r = omega arith in
+              rw (row, col) (before.others _ (λ v w hv hw k e. let at = one r r v w hr hr hv hw e in omega (arith, at.0, at.1)))
+        ];
+    others = λ p out. before.others p (λ v w hv hw k. out v w hv hw (omega arith));
+  }
+
+  -- one more item is exchanged
+  pub TileTurned-more : {A : Type 0} (r c : ℕ) (old now next : List A) → len ≡ length old → r < c → c < 8
+      → TileTurned (8 * r + c) x old now → next ≡ swap now (slice_index x r + c) (slice_index x c + r)
+      → TileTurned (8 * r + (c + 1)) x old next
+  TileTurned-more r c old now next all up hc before step =
+      let hr : r < 8 = omega arith in
+      let upper_in : slice_index x r + c < length now = omega (arith, before.same_length, tile.inside r hr) in
+      let lower_in : slice_index x c + r < length now = omega (arith, before.same_length, tile.inside c hc) in
+      record {
+        same_length = ap length step ∙ length-swap now _ _ ∙ before.same_length;
+        turned = λ a b ha hb h.
+            elim (cases_lt (8 * min a b + max a b) (8 * r + c)) [
+              | inl done ↦
+                  rw step
+                  (slice_get-swap_other now _ _ (slice_index x a + b) (λ e. let at = one a b r c ha hb hr hc e in omega (arith, at.0, at.1))
+                  (λ e. let at = one a b c r ha hb hc hr e in omega (arith, at.0, at.1))
+                  ∙ before.turned a b ha hb done)
+              | inr left ↦
+                  elim (cases_lt a b) [
+                    | inl less ↦
+                        let row : a ≡ r = omega arith in
+                        let col : b ≡ c = omega arith in
+                        rw (row, col, step)
+                        (slice_get-swap_first now _ _ upper_in lower_in
+                        ∙ before.others _ (λ v w hv hw k e. let at = one c r v w hc hr hv hw e in omega (arith, at.0, at.1)))
+                    | inr more ↦
+                        let row : a ≡ c = omega arith in
+                        let col : b ≡ r = omega arith in
+                        rw (row, col, step)
+                        (slice_get-swap_second now _ _ upper_in lower_in
+                        ∙ before.others _ (λ v w hv hw k e. let at = one r c v w hr hc hv hw e in omega (arith, at.0, at.1)))
+                  ]
+            ];
+        others = λ p out.
+            rw step
+            (slice_get-swap_other now _ _ p (out r c hr hc (omega arith)) (out c r hc hr (omega arith))
+            ∙ before.others p (λ v w hv hw k. out v w hv hw (omega arith)));
       }

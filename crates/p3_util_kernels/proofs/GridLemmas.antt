@@ -5,7 +5,7 @@ use Rattle.std.proofs.lemmas.Bool.{cases_eq, cases_lt}
 use Rattle.std.proofs.lemmas.Nat.{same_from_place}
 use Rattle.p3_util_kernels.specs.declared.grid.Grid.{Grid}
 use Rattle.p3_util_kernels.specs.declared.transpose.regions.Region.{Region}
-use Rattle.p3_util_kernels.specs.Exchanged.{AreTiles, RunsExchanged, TilesExchanged}
+use Rattle.p3_util_kernels.specs.Exchanged.{AreTiles, IsTile, RunsExchanged, TileTurned, TilesExchanged}
 use Rattle.p3_util_kernels.specs.Grid.{HoldsGrid, PlacesFit, SwapsInGrid, row_place}
 use Rattle.p3_util_kernels.specs.Halves.{IsCut}
 use Rattle.p3_util_kernels.specs.Region.{IsInRegion}
@@ -168,18 +168,52 @@ module _ {A : Type 0} (grid : Grid) (items : List A) (holds : HoldsGrid grid ite
               ));
         }
 
+    -- a tile on the diagonal is transposed
+    pub SwapsInGrid-turned : (start : ℕ) (x : List ℕ) (xs ys : List B) → grid.width ≡ 1 → start + 8 ≤ 2 ^ grid.digits
+        → ((t : ℕ) → t < 8 → slice_index x t ≡ row_place grid (start + t) + start) → TileTurned 64 x xs ys
+        → SwapsInGrid grid (record { row_start = start; row_end = start + 8; col_start = start; col_end = start + 8 }) xs ys
+    SwapsInGrid-turned start x xs ys one within at s =
+        let place : (a b : ℕ) → start ≤ a → a < start + 8 → start ≤ b → (row_place grid a + b) * grid.width + 0 ≡ slice_index x (a - start) + (b - start) =
+        λ a b ha ka hb. let row : start + (a - start) ≡ a = omega arith in omega (arith, ap (λ k. (row_place grid a + b) * k) one, rw row at (at (a - start) (omega arith))) in
+        record {
+          same_length = s.same_length;
+          crossed = λ t a b h.
+              let first : t ≡ 0 = omega (arith, h.0.0, one) in
+              let ha : (start ≤ a) × (a < start + 8) = (omega (arith, h.1), omega (arith, h.1)) in
+              let hb : (start ≤ b) × (b < start + 8) = (omega (arith, h.1), omega (arith, h.1)) in
+              rw (first, place a b ha.0 ha.1 hb.0, place b a hb.0 hb.1 ha.0) (s.turned (a - start) (b - start) (omega (arith, ha)) (omega (arith, hb)) (omega (arith, ha, hb)));
+          others = λ k out.
+              s.others k (λ r c hr hc h e.
+              let row : start + r - start ≡ r = omega arith in
+              let col : start + c - start ≡ c = omega arith in
+              out 0 (start + r) (start + c) ((omega (arith, one), omega arith, omega arith), record { row_from = omega arith; row_to = omega arith; col_from = omega arith; col_to = omega arith })
+              (omega (arith, e, rw (row, col) at (place (start + r) (start + c) (omega arith) (omega arith) (omega arith)))));
+        }
+
+  -- the rows of tiles
+  room : grid.width ≡ 1 → (a : ℕ) → a < 2 ^ grid.digits → row_place grid a + 2 ^ grid.digits ≤ length items
+  room one a ha = omega (arith, ap (λ k. (row_place grid a + 2 ^ grid.digits) * k) one, holds.room a ha)
+
+  parts : (a b p q : ℕ) → a < 2 ^ grid.digits → b < 2 ^ grid.digits → a ≢ b → p + 8 ≤ 2 ^ grid.digits → q + 8 ≤ 2 ^ grid.digits
+      → (row_place grid a + p + 8 ≤ row_place grid b + q) ⊎ (row_place grid b + q + 8 ≤ row_place grid a + p)
+  parts a b p q ha hb ne hp hq = elim (rows_apart a b ha hb ne) [ inl u ↦ inl (omega arith) | inr u ↦ inr (omega arith) ]
+
+  -- no two rows of a tile on the diagonal overlap
+  pub IsTile-grid : (start : ℕ) (x : List ℕ) → grid.width ≡ 1 → start + 8 ≤ 2 ^ grid.digits
+      → ((t : ℕ) → t < 8 → slice_index x t ≡ row_place grid (start + t) + start) → IsTile x (length items)
+  IsTile-grid start x one within at = record {
+    inside = λ r h. rw (at r h) (omega (arith, room one (start + r) (omega arith)));
+    apart = λ a b less h. rw (at a (omega arith), at b h) (parts (start + a) (start + b) start start (omega arith) (omega arith) (λ e. omega arith) within within);
+  }
+
   -- a tile above the diagonal and its mirror image do not overlap
   pub AreTiles-grid : (row col : ℕ) (x y : List ℕ) → grid.width ≡ 1 → row + 8 ≤ col → col + 8 ≤ 2 ^ grid.digits
       → ((t : ℕ) → t < 8 → slice_index x t ≡ row_place grid (row + t) + col) → ((t : ℕ) → t < 8 → slice_index y t ≡ row_place grid (col + t) + row)
       → AreTiles x y (length items)
   AreTiles-grid row col x y one above within upper lower =
-      let room : (a : ℕ) → a < 2 ^ grid.digits → row_place grid a + 2 ^ grid.digits ≤ length items = λ a ha. omega (arith, ap (λ k. (row_place grid a + 2 ^ grid.digits) * k) one, holds.room a ha) in
-      let parts : (a b p q : ℕ) → a < 2 ^ grid.digits → b < 2 ^ grid.digits → a ≢ b → p + 8 ≤ 2 ^ grid.digits → q + 8 ≤ 2 ^ grid.digits
-      → (row_place grid a + p + 8 ≤ row_place grid b + q) ⊎ (row_place grid b + q + 8 ≤ row_place grid a + p) =
-      λ a b p q ha hb ne hp hq. elim (rows_apart a b ha hb ne) [ inl u ↦ inl (omega arith) | inr u ↦ inr (omega arith) ] in
       record {
-        first_inside = λ r h. rw (upper r h) (omega (arith, room (row + r) (omega arith)));
-        second_inside = λ r h. rw (lower r h) (omega (arith, room (col + r) (omega arith)));
+        first_inside = λ r h. rw (upper r h) (omega (arith, room one (row + r) (omega arith)));
+        second_inside = λ r h. rw (lower r h) (omega (arith, room one (col + r) (omega arith)));
         first_apart = λ a b less h. rw (upper a (omega arith), upper b h) (parts (row + a) (row + b) col col (omega arith) (omega arith) (λ e. omega arith) within within);
         second_apart = λ a b less h. rw (lower a (omega arith), lower b h) (parts (col + a) (col + b) row row (omega arith) (omega arith) (λ e. omega arith) (omega arith) (omega arith));
         both_apart = λ a b ha hb. rw (upper a ha, lower b hb) (parts (row + a) (col + b) col row (omega arith) (omega arith) (λ e. omega arith) within (omega arith));

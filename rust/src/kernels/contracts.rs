@@ -108,6 +108,8 @@
 //! | `RunsExchanged i j len old new` | The `len` items that begin at place i are exchanged, in order, with the `len` items that begin at place j. All other items stay where they are |
 //! | `AreTiles x y len` | Two tiles have 8 rows each. Row r of the one is the 8 places of a list from entry r of `x` on, and row r of the other the 8 places from entry r of `y` on. The list has `len` places, which include all these places, and no two of the 16 rows overlap |
 //! | `TilesExchanged n x y old new` | The first n items of the tile at `x`, counted row after row, are exchanged with their mirror images in the tile at `y`: row r and column c of one tile with row c and column r of the other. All other items stay where they are |
+//! | `IsTile x len` | A tile has 8 rows. Row r is the 8 places of a list from entry r of `x` on. The list has `len` places, which include all these places, and no two of the rows overlap |
+//! | `TileTurned n x old new` | The tile at `x` is transposed as far as its first n items, counted row after row: if one of the two items in row r and column c and in row c and column r is among the first n, they are exchanged. All other items stay where they are |
 //! | `IsTranspose width height old new` | `old` has `height` rows of `width` items. `new` is its transpose, which has `width` rows of `height` items: item `x * height + y` of `new` is item `y * width + x` of `old`, for x < width and y < height |
 //! | `LiesInMatrix region width height` | The region lies in a matrix of `height` rows of `width` items. Neither its rows nor its columns end before they begin |
 //! | `rows_of region` | the number of rows of the region |

@@ -163,7 +163,7 @@ fn exchange_row<M: Places>(m: M, grid: Grid, row: usize, region: Region) -> M {
 }
 
 /// Exchanges the tile at row `row` and column `col`, which is above the diagonal, with its mirror
-/// image. `start` is the place at which row `col` begins.
+/// image. `first` and `start` are the places at which row `row` and row `col` begin.
 ///
 /// # Contract
 ///
@@ -173,6 +173,7 @@ fn exchange_row<M: Places>(m: M, grid: Grid, row: usize, region: Region) -> M {
 /// requires whole_col { col % 8 ≡ 0 }
 /// requires above { row + 8 ≤ col }
 /// requires within { col + 8 ≤ 2 ^ grid.digits }
+/// requires first { first ≡ row_place grid row }
 /// requires start { start ≡ row_place grid col }
 /// requires ready { HoldsGrid grid (M.items m) }
 /// ensures exchanged { SwapsInGrid grid
@@ -181,9 +182,16 @@ fn exchange_row<M: Places>(m: M, grid: Grid, row: usize, region: Region) -> M {
 /// ensures holder { M.same_holder 64 m result }
 /// ```
 #[inline(always)]
-fn exchange_tile<M: Places>(m: M, grid: Grid, row: usize, col: usize, start: usize) -> M {
+fn exchange_tile<M: Places>(
+    m: M,
+    grid: Grid,
+    row: usize,
+    col: usize,
+    first: usize,
+    start: usize,
+) -> M {
     let mut m = m;
-    let rows = grid.tile_column(grid.start(row) + col);
+    let rows = grid.tile_column(first + col);
     m.exchange_tiles(rows, grid.tile_column(start + row));
     m
 }
@@ -208,9 +216,16 @@ fn exchange_tile<M: Places>(m: M, grid: Grid, row: usize, col: usize, start: usi
 #[inline(always)]
 fn exchange_tile_column<M: Places>(m: M, grid: Grid, col: usize, region: Region) -> M {
     let start = grid.start(col);
+    let mut first = grid.start(region.row_start);
     let mut m = m;
     for tile in region.row_start / TILE..region.row_end / TILE {
-        m = exchange_tile(m, grid, tile * TILE, col, start);
+        // After the last tile this is the one below the region, which is within the grid too.
+        let next = tile * TILE + TILE;
+        let below = grid.start(next);
+        let rows = grid.tile_column(below + col);
+        m.expect_tiles(rows, grid.tile_column(start + next));
+        m = exchange_tile(m, grid, tile * TILE, col, first, start);
+        first = below;
     }
     m
 }
@@ -366,6 +381,10 @@ fn exchange_corner<M: Places>(m: M, grid: Grid, start: usize, size: usize) -> M 
 fn exchange_corner_tile<M: Places>(m: M, grid: Grid, start: usize) -> M {
     let places = grid.tile_column(grid.start(start) + start);
     let mut m = m;
+    if grid.width == 1 {
+        m.turn_tile(places);
+        return m;
+    }
     for row in 0..TILE {
         for col in row + 1..TILE {
             m = exchange_places(m, grid.width, places[row] + col, places[col] + row);

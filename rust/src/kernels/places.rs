@@ -130,6 +130,36 @@ pub trait Places {
         }
     }
 
+    /// Transposes a tile of 8 by 8 items in place: for all r < c, the item in row r and column c is
+    /// exchanged with the item in row c and column r. Row r is the 8 places from `x[r]` on. No two
+    /// of the 8 rows may overlap. A holder may have a faster way to do this than 28 calls of
+    /// `exchange`.
+    ///
+    /// # Contract
+    ///
+    /// [`contracts`](crate::kernels::contracts) explains the names in this contract:
+    ///
+    /// ```text
+    /// requires { IsTile x (length (items self.old)) }
+    /// ensures turned { TileTurned 64 x (items self.old) (items self.new) }
+    /// ensures holder { same_holder 28 self.old self.new }
+    /// ```
+    #[inline(always)]
+    fn turn_tile(&mut self, x: [usize; 8]) {
+        length_fits(self.len());
+        for row in 0..8 {
+            for col in row + 1..8 {
+                self.exchange_apart(x[row] + col, x[col] + row);
+            }
+        }
+    }
+
+    /// A hint that a call of `exchange_tiles` with the same arguments may come soon. Nothing has to
+    /// follow from it, and the list stays as it is. A holder may fetch the tiles into a cache. The
+    /// arguments may be any numbers.
+    #[inline(always)]
+    fn expect_tiles(&self, _x: [usize; 8], _y: [usize; 8]) {}
+
     /// Exchanges two runs of `len` consecutive items: those from place `i` on and those from place
     /// `j` on. Each run keeps its order. The runs must not overlap. A holder may have a faster way
     /// to do this than `len` calls of `exchange`.

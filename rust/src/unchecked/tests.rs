@@ -49,27 +49,45 @@ fn leaves<T: Debug + PartialEq>(
     }
 }
 
-/// Exchanges tiles and transposes squares of the items that `item` makes.
+/// Exchanges and transposes tiles, and transposes squares of the items that `item` makes.
 fn turns<T: Debug + PartialEq>(item: impl Fn(usize) -> T) {
     // Row `number` of the 16 rows begins at `gap * number` places and 8 for each earlier row. They lie in a mixed order.
     for gap in 0..3 {
         let start = |number: usize| (number * 7 % 16) * (8 + gap) + gap;
         let (x, y) = (from_fn(start), from_fn(|row| start(8 + row)));
+        let within = |tile: [usize; 8], place: usize| {
+            let row = tile.iter().position(|start| (*start..start + 8).contains(&place))?;
+            Some((row, place - tile[row]))
+        };
+        let len = 16 * (8 + gap) + gap;
         leaves(
-            16 * (8 + gap) + gap,
+            len,
             &item,
             |mut places| places.exchange_tiles(x, y),
-            |place| {
-                let within = |tile: [usize; 8]| {
-                    let row = tile.iter().position(|start| (*start..start + 8).contains(&place))?;
-                    Some((row, place - tile[row]))
-                };
-                match (within(x), within(y)) {
-                    (Some((row, col)), _) => y[col] + row,
-                    (_, Some((row, col))) => x[col] + row,
-                    _ => place,
-                }
+            |place| match (within(x, place), within(y, place)) {
+                (Some((row, col)), _) => y[col] + row,
+                (_, Some((row, col))) => x[col] + row,
+                _ => place,
             },
+        );
+        for tile in [x, y] {
+            leaves(
+                len,
+                &item,
+                |mut places| places.turn_tile(tile),
+                |place| within(tile, place).map_or(place, |(row, col)| tile[col] + row),
+            );
+        }
+        // A hint changes nothing, and may name any places.
+        let far = from_fn(|row| usize::MAX - row);
+        leaves(
+            len,
+            &item,
+            |places| {
+                places.expect_tiles(x, y);
+                places.expect_tiles(far, far);
+            },
+            |place| place,
         );
     }
     for (log_size, log_stride) in (0..=6).flat_map(|size| (size..=7).map(move |stride| (size, stride))) {
@@ -415,6 +433,24 @@ mod refused {
                 tiles(overlapping, rows(64)) && tiles(rows(64), overlapping),
                 "{row} {start}"
             );
+        }
+    }
+
+    #[test]
+    fn turns_of_tiles() {
+        let rows = |first: usize| from_fn(|row| first.wrapping_add(8 * row));
+        let turn = |x| panics(|| SlicePlaces::new(&mut [0u32; 66]).turn_tile(x));
+        assert!(!turn(rows(0)) && !turn(rows(2)));
+        for x in [4, usize::MAX - 60] {
+            assert!(turn(rows(x)), "{x}");
+        }
+        // Rows that overlap, and a tile of which only the last item is outside, are refused too, except with the feature
+        // `checked`: this item stays where it is.
+        #[cfg(not(feature = "checked"))]
+        for (row, start) in [(0, 1), (0, 8), (3, 31), (7, 49), (7, 59)] {
+            let mut tile = rows(0);
+            tile[row] = start;
+            assert!(turn(tile), "{row} {start}");
         }
     }
 

@@ -6,8 +6,15 @@
 //! each pointer. The shuffles of `core::arch` take numbers. Therefore a shuffle here is one assembly instruction. It
 //! has the same effect as Rust code that moves such bytes one by one, and touches no memory. All items are read and
 //! written by Rust code, so a race detector sees these accesses.
+//!
+//! Squares and their rows are reached by plain loops. The compiler does not always inline `from_fn` and `map`. Then
+//! registers would go through memory.
 
-use core::array::from_fn;
+#![allow(
+    clippy::needless_range_loop,
+    reason = "squares and rows are reached by their numbers"
+)]
+
 use core::mem::{MaybeUninit, transmute_copy};
 
 use crate::kernels::places::Block;
@@ -40,7 +47,8 @@ pub(crate) const HERE: bool = cfg!(all(
 pub(super) type Register = MaybeUninit<Vector>;
 
 /// 8 bytes: 8 items of 1 byte.
-pub(super) type Half = MaybeUninit<u64>;
+/// As a float it stays in a vector register.
+pub(super) type Half = MaybeUninit<f64>;
 
 /// A function that takes the rows of a square and returns its columns. Each row and each column is an `R`.
 type Turned<R, const SIDE: usize> = fn([R; SIDE]) -> [R; SIDE];
@@ -88,11 +96,13 @@ pub(super) fn turned_1(rows: [Half; 8]) -> [Half; 8] {
     // SAFETY (of both): a register is two halves, whose bytes may be unwritten.
     let wide = |half: Half| -> Register { unsafe { transmute_copy(&[half, MaybeUninit::uninit()]) } };
     let halves = |register: Register| -> [Half; 2] { unsafe { transmute_copy(&register) } };
-    let [a, b, c, d, e, f, g, h] = rows.map(wide);
+    let [a, b, c, d, e, f, g, h] = rows;
+    let [a, b, c, d] = [wide(a), wide(b), wide(c), wide(d)];
+    let [e, f, g, h] = [wide(e), wide(f), wide(g), wide(h)];
     let [a, b, c, d] = [low_1(a, b), low_1(c, d), low_1(e, f), low_1(g, h)];
     let [a, b, c, d] = [low_2(a, b), high_2(a, b), low_2(c, d), high_2(c, d)];
     let [a, b, c, d] = [low_4(a, c), high_4(a, c), low_4(b, d), high_4(b, d)];
-    let [[a, b], [c, d], [e, f], [g, h]] = [a, b, c, d].map(halves);
+    let [[a, b], [c, d], [e, f], [g, h]] = [halves(a), halves(b), halves(c), halves(d)];
     [a, b, c, d, e, f, g, h]
 }
 
@@ -142,14 +152,67 @@ pub(super) unsafe fn exchange<T, R: Copy, const SIDE: usize, const SQUARES: usiz
         // at any multiple of its alignment. Everything is read before anything is written, and each side is written as
         // a whole: a row of the one and a row of the other in turn would take longer.
         unsafe {
-            let of_x = |square| from_fn(|t| first.add(x[row + t] + square * SIDE).cast::<R>());
-            let of_y = |square| from_fn(|t| first.add(y[square * SIDE + t] + row).cast::<R>());
-            let to_y: [_; SQUARES] = from_fn(|square| turned(read(of_x(square))));
-            let to_x: [_; SQUARES] = from_fn(|square| turned(read(of_y(square))));
-            (0..SQUARES).for_each(|square| write(of_y(square), to_y[square]));
-            (0..SQUARES).for_each(|square| write(of_x(square), to_x[square]));
+            let of_x = |square: usize, t: usize| first.add(x[row + t] + square * SIDE);
+            let of_y = |square: usize, t: usize| first.add(y[square * SIDE + t] + row);
+            let mut to_y = [turned(read(|t| of_x(0, t))); SQUARES];
+            for square in 1..SQUARES {
+                to_y[square] = turned(read(|t| of_x(square, t)));
+            }
+            let mut to_x = [turned(read(|t| of_y(0, t))); SQUARES];
+            for square in 1..SQUARES {
+                to_x[square] = turned(read(|t| of_y(square, t)));
+            }
+            for square in 0..SQUARES {
+                write(|t| of_y(square, t), to_y[square]);
+            }
+            for square in 0..SQUARES {
+                write(|t| of_x(square, t), to_x[square]);
+            }
         }
     }
+}
+
+/// Transposes a tile in place: its squares on the diagonal, and pairs of the others, each with the mirror image of the
+/// other. `x` is the places at which the rows of the tile begin. A row of a square is an `R`, and a tile has `SQUARES`
+/// squares in a row and in a column.
+///
+/// # Safety
+///
+/// `first` is the first of some items, and may be used for all of them. The 8 items from each of these places on are
+/// among them, and no two of these runs overlap.
+#[inline(always)]
+pub(super) unsafe fn turn<T, R: Copy, const SIDE: usize, const SQUARES: usize>(
+    first: *mut T,
+    x: [usize; 8],
+    turned: Turned<R, SIDE>,
+) {
+    debug_assert!(size_of::<R>() == SIDE * size_of::<T>() && SIDE * SQUARES == 8);
+    // SAFETY: a square is in `SIDE` rows and `SIDE` columns of the tile, since `SIDE * SQUARES` is 8. An item may be at
+    // any multiple of its alignment. Both squares of a pair are read before one of them is written.
+    unsafe {
+        let of = |row: usize, col: usize, t: usize| first.add(x[row * SIDE + t] + col * SIDE);
+        for row in 0..SQUARES {
+            write(|t| of(row, row, t), turned(read(|t| of(row, row, t))));
+            for col in row + 1..SQUARES {
+                let (right, left) = (read(|t| of(row, col, t)), read(|t| of(col, row, t)));
+                write(|t| of(col, row, t), turned(right));
+                write(|t| of(row, col, t), turned(left));
+            }
+        }
+    }
+}
+
+/// Asks the processor to read a cache line. Any address may be given.
+#[inline(always)]
+pub(super) fn prefetch(address: *const u8) {
+    // SAFETY: this instruction changes no memory and does not fail, whatever the address is.
+    #[cfg(all(target_arch = "x86_64", target_feature = "sse2"))]
+    unsafe {
+        use core::arch::x86_64::{_MM_HINT_T0, _mm_prefetch};
+        _mm_prefetch::<_MM_HINT_T0>(address.cast());
+    }
+    #[cfg(not(all(target_arch = "x86_64", target_feature = "sse2")))]
+    let _ = address;
 }
 
 /// Puts a block of the items from `source` on into the cells from `cells` on, by squares of `SIDE` rows and columns. A
@@ -178,24 +241,31 @@ pub(super) unsafe fn put<T, R: Copy, const SIDE: usize>(
             // SAFETY: these are rows of a square of the block, and columns of it in the cells. An item may be at any
             // multiple of its alignment.
             unsafe {
-                let rows = from_fn(|t| source.add(from + (row + t) * width + col).cast::<R>().cast_mut());
-                let cols = from_fn(|t| cells.add(to + (col + t) * height + row).cast::<R>());
-                write(cols, turned(read(rows)));
+                let rows = read(|t| source.add(from + (row + t) * width + col));
+                write(|t| cells.add(to + (col + t) * height + row), turned(rows));
             }
         }
     }
 }
 
-/// Reads the rows of a square.
+/// Reads the rows of a square. Row `t` begins at `row(t)`.
 #[inline(always)]
-unsafe fn read<R: Copy, const SIDE: usize>(rows: [*mut R; SIDE]) -> [R; SIDE] {
-    // SAFETY: the caller says that they are valid for reads.
-    rows.map(|row| unsafe { row.read_unaligned() })
+unsafe fn read<T, R: Copy, const SIDE: usize>(row: impl Fn(usize) -> *const T) -> [R; SIDE] {
+    // SAFETY: the caller says that the rows are valid for reads.
+    unsafe {
+        let mut rows = [row(0).cast::<R>().read_unaligned(); SIDE];
+        for t in 1..SIDE {
+            rows[t] = row(t).cast::<R>().read_unaligned();
+        }
+        rows
+    }
 }
 
 /// Writes the rows of a square, the first one first.
 #[inline(always)]
-unsafe fn write<R: Copy, const SIDE: usize>(rows: [*mut R; SIDE], values: [R; SIDE]) {
-    // SAFETY: the caller says that they are valid for writes.
-    (0..SIDE).for_each(|row| unsafe { rows[row].write_unaligned(values[row]) });
+unsafe fn write<T, R: Copy, const SIDE: usize>(row: impl Fn(usize) -> *mut T, rows: [R; SIDE]) {
+    for t in 0..SIDE {
+        // SAFETY: the caller says that the rows are valid for writes.
+        unsafe { row(t).cast::<R>().write_unaligned(rows[t]) }
+    }
 }

@@ -125,6 +125,9 @@ fn steps<const N: usize>() {
             Some(number) if number < 8 => (row(8 + k), number),
             number => (row(k), number.unwrap() - 8),
         });
+        let mut tile = Runs::<N>::new(8, 8, ends_with_page);
+        SlicePlaces::new(tile.list()).turn_tile(from_fn(|r| GAP * r));
+        tile.check(|run, k| (k, run));
 
         for side in [1, 2, 3, 4, 5, 8, 16] {
             let mut source = Runs::<N>::new(side, side, ends_with_page);

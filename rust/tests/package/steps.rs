@@ -255,11 +255,12 @@ fn a_holder_of_ones_own() {
     }
 }
 
-/// A holder that exchanges tiles itself and counts them. Of each tile it exchanges `rows` rows.
+/// A holder that exchanges and transposes tiles itself and counts them. Of each tile it exchanges `rows` rows.
 struct ByTiles {
     noted: Noted,
     rows: usize,
     tiles: usize,
+    turned: usize,
 }
 
 impl Places for ByTiles {
@@ -279,13 +280,25 @@ impl Places for ByTiles {
         }
         self.tiles += 1;
     }
+
+    fn turn_tile(&mut self, x: [usize; 8]) {
+        for (row, col) in (0..self.rows).flat_map(|row| (row + 1..self.rows).map(move |col| (row, col))) {
+            self.noted.exchange(x[row] + col, x[col] + row);
+        }
+        self.turned += 1;
+    }
 }
 
 /// What a call leaves of the numbers below `len` if `rows` rows of each tile are exchanged, and how many exchanges its
 /// counter counts.
 fn by_tiles(rows: usize, len: usize, call: impl FnOnce(&mut Swaps<&mut ByTiles>)) -> (ByTiles, u128) {
     let noted = Noted::numbered(len);
-    let mut places = ByTiles { noted, rows, tiles: 0 };
+    let mut places = ByTiles {
+        noted,
+        rows,
+        tiles: 0,
+        turned: 0,
+    };
     let mut counter = Swaps::new(&mut places);
     call(&mut counter);
     let swaps = counter.swaps();
@@ -302,22 +315,24 @@ fn tiles_by_a_holder_of_ones_own() {
         // The test notices if a row of a tile is left out: the list differs, and there are fewer exchanges than the
         // count says.
         let (wrong, counted) = by_tiles(7, len, call);
-        assert_eq!(wrong.noted.items != single.items, places.tiles > 0);
+        assert_eq!(wrong.noted.items != single.items, places.turned > 0);
         assert_eq!(counted, swaps);
-        assert_eq!(wrong.noted.exchanges.len() + 8 * wrong.tiles, single.exchanges.len());
-        places.tiles
+        let left_out = 8 * wrong.tiles + 7 * wrong.turned;
+        assert_eq!(wrong.noted.exchanges.len() + left_out, single.exchanges.len());
+        (places.tiles, places.turned)
     };
     for bits in 2..=17 {
         let single = swapped(1 << bits, reverse_index_bits_short);
         let tiles = same(1 << bits, &|m| reverse_index_bits_short(m), single);
         let side = (1usize << (bits / 2)) / 8;
-        assert_eq!(tiles, (side * (side.max(1) - 1) / 2) << (bits % 2), "2^{bits}");
+        let wanted = ((side * (side.max(1) - 1) / 2) << (bits % 2), side << (bits % 2));
+        assert_eq!(tiles, wanted, "2^{bits}");
     }
     for (size, stride) in (0..=6).flat_map(|size| (size..=7).map(move |stride| (size, stride))) {
         let len = 1 << (size + stride);
         let single = swapped(len, |m| transpose_square_on(m, 0, stride, size));
         let tiles = same(len, &|m| transpose_square_on(m, 0, stride, size), single);
         let side = (1usize << size) / 8;
-        assert_eq!(tiles, side * (side.max(1) - 1) / 2, "2^{size} rows");
+        assert_eq!(tiles, (side * (side.max(1) - 1) / 2, side), "2^{size} rows");
     }
 }

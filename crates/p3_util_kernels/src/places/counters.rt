@@ -7,7 +7,7 @@
 
 ghost use Rattle.std.specs.Prelude.{◌≡◌, ℕ, ◌+◌, ◌-◌, ◌*◌, ◌^◌, ◌<◌, ◌≤◌, ◌⊎◌, List, length, swap, slice_set};
 ghost use Rattle.std.proofs.Common.{rules};
-ghost use Rattle.p3_util_kernels.specs.Exchanged.{AreTiles, RunsExchanged, TilesExchanged};
+ghost use Rattle.p3_util_kernels.specs.Exchanged.{AreTiles, IsTile, RunsExchanged, TileTurned, TilesExchanged};
 ghost use Rattle.p3_util_kernels.specs.Steps.{counted};
 
 use crate::places::{Block, Cells, Places, Source, length_fits};
@@ -170,6 +170,17 @@ impl<S: Places> Places for Swaps<S> {
     fn exchange_tiles(&mut self, x: [usize; 8], y: [usize; 8]) {
         self.holder.exchange_tiles(x, y);
         self.count = self.count.saturating_add(64);
+    }
+
+    #[inline(always)]
+    fn turn_tile(&mut self, x: [usize; 8]) {
+        self.holder.turn_tile(x);
+        self.count = self.count.saturating_add(28);
+    }
+
+    #[inline(always)]
+    fn expect_tiles(&self, x: [usize; 8], y: [usize; 8]) {
+        self.holder.expect_tiles(x, y);
     }
 
     #[inline(always)]

@@ -229,6 +229,17 @@ impl<S: Places> Places for Swaps<S> {
     }
 
     #[inline(always)]
+    fn turn_tile(&mut self, x: [usize; 8]) {
+        self.holder.turn_tile(x);
+        self.count = self.count.saturating_add(28);
+    }
+
+    #[inline(always)]
+    fn expect_tiles(&self, x: [usize; 8], y: [usize; 8]) {
+        self.holder.expect_tiles(x, y);
+    }
+
+    #[inline(always)]
     fn exchange_runs(&mut self, i: usize, j: usize, len: usize) {
         self.holder.exchange_runs(i, j, len);
         self.count = self.count.saturating_add(len as u128);

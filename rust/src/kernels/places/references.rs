@@ -27,6 +27,16 @@ impl<S: Places> Places for &mut S {
     }
 
     #[inline(always)]
+    fn turn_tile(&mut self, x: [usize; 8]) {
+        S::turn_tile(self, x);
+    }
+
+    #[inline(always)]
+    fn expect_tiles(&self, x: [usize; 8], y: [usize; 8]) {
+        S::expect_tiles(self, x, y);
+    }
+
+    #[inline(always)]
     fn exchange_runs(&mut self, i: usize, j: usize, len: usize) {
         S::exchange_runs(self, i, j, len);
     }

@@ -4,10 +4,20 @@ use Rattle.std.proofs.Common.{◌≡◌, ◌+◌, ◌-◌, ◌*◌, ◌∙◌, s
 use Rattle.p3_util_kernels.specs.declared.transpose.regions.Region.{Region}
 use Rattle.p3_util_kernels.specs.Grid.{row_place}
 use Rattle.p3_util_kernels.specs.SwapCounts.{square_swaps}
-use Rattle.p3_util_kernels.proofs.GridLemmas.{SwapsInGrid-corner, SwapsInGrid-item, SwapsInGrid-none, grid_fits, grid_room, one_place}
+use Rattle.p3_util_kernels.proofs.GridLemmas.{IsTile-grid, SwapsInGrid-corner, SwapsInGrid-item, SwapsInGrid-none, SwapsInGrid-turned, grid_fits, grid_room, one_place}
 use Rattle.p3_util_kernels.proofs.Pairs.{square_swaps-next}
 use Rattle.p3_util_kernels.proofs.grid.exchange_corner_tile.Goals as goal
 
+-- single items
+pub turn_tile-requires : goal.turn_tile-requires
+turn_tile-requires g c =
+    IsTile-grid c.args.grid _ c.requires.ready c.args.start _ c.if-grid-eq1.true c.requires.within (c.tile_column-places.ensures c.args.start c.args.start c.requires.whole c.requires.within (omega arith))
+
+pub returns-then-grid-eq1-clause-exchanged : goal.returns-then-grid-eq1-clause-exchanged
+returns-then-grid-eq1-clause-exchanged g c =
+    SwapsInGrid-turned c.args.grid _ c.requires.ready c.args.start _ _ _ c.if-grid-eq1.true c.requires.within (c.tile_column-places.ensures c.args.start c.args.start c.requires.whole c.requires.within (omega arith)) c.turn_tile.ensures.turned
+
+-- wider places
 pub loop-row-init : goal.loop-row-init
 loop-row-init g c =
     let none : c.args.grid.width * 0 ≡ 0 = omega arith in

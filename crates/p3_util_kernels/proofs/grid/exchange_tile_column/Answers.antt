@@ -11,9 +11,19 @@ loop-tile-preserved g c =
     let next : (c.loop-tile.tile + 1) * 8 ≡ row + 8 = omega arith in
     let done : Region = record c.args.region { row_end = row + 8; col_start = c.args.col; col_end = c.args.col + 8 } in
     record {
+      first = rw next c.start-below.ensures;
       exchanged = rw next (cut_exchanged c.args.grid _ c.requires.ready done _ _ _ _ _ (IsCut-rows done row (omega arith) (omega arith)) c.loop-tile.invariant.exchanged c.exchange_tile-m.ensures.exchanged);
       holder = g.met.M.Places.same_holder_trans _ _ _ _ _ _ c.loop-tile.invariant.holder c.exchange_tile-m.ensures.holder (omega arith);
     }
 
 pub returns-clause-exchanged : goal.returns-clause-exchanged
 returns-clause-exchanged g c = let end : c.loop-tile.tile * 8 ≡ c.args.region.row_end = omega (arith, c.requires.whole_start, c.requires.whole_end) in rw end at c.loop-tile.invariant.exchanged
+
+-- the places that the hint names are in the first rows of two tiles
+pub tile_column-rows-requires-clause-tile : goal.tile_column-rows-requires-clause-tile
+tile_column-rows-requires-clause-tile g c =
+    record { x = c.loop-tile.tile * 8 + 8; y = c.args.col; whole = omega arith; x_below = omega (arith, c.requires.whole_end); y_below = omega arith; is = omega arith }
+
+pub tile_column-requires-clause-tile : goal.tile_column-requires-clause-tile
+tile_column-requires-clause-tile g c =
+    record { x = c.args.col; y = c.loop-tile.tile * 8 + 8; whole = c.requires.whole_col; x_below = c.requires.within; y_below = omega (arith, c.requires.whole_end); is = omega arith }
