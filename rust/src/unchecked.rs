@@ -1,4 +1,4 @@
-//! Runs the kernels on slices. All unsafe code of the package is in this file and in `vectors_unchecked.rs`. That file
+//! Runs the kernels on slices. All unsafe code of the package is in this file and in `registers_unchecked.rs`. That file
 //! transposes squares of items of 1 to 8 bytes in vector registers, and writes items by parts. Only this file uses it.
 //!
 //! It is proved that a kernel whose own precondition holds meets the preconditions of `exchange`, `put` and `at`, for
@@ -143,7 +143,7 @@ fn transpose_from<T: Copy>(source: impl Source<Item = T> + Copy, output: &mut [T
 
 /// Whether the holders of this file transpose blocks of items of 4 and of 8 bytes in registers.
 #[cfg(not(feature = "checked"))]
-pub(crate) use vectors::HERE as TURNS_IN_REGISTERS;
+pub(crate) use registers::HERE as TURNS_IN_REGISTERS;
 #[cfg(feature = "checked")]
 pub(crate) const TURNS_IN_REGISTERS: bool = false;
 
@@ -275,7 +275,7 @@ mod slices {
     use core::slice::from_raw_parts_mut;
     use core::sync::atomic::{Ordering, compiler_fence};
 
-    use super::vectors;
+    use super::registers;
     use crate::kernels::places::{Block, Cells, Places, Source};
 
     /// The items of a slice, as places or as cells, for one kernel or for one part.
@@ -388,10 +388,10 @@ mod slices {
             // SAFETY (of all four): the 8 items from each of these places on are within the slice, and no two of these
             // runs overlap, by the precondition of `Places::exchange_tiles`.
             match size_of::<F>() {
-                1 if vectors::HERE => unsafe { vectors::exchange::<F, _, 8, 1>(first, x, y, vectors::turned_1) },
-                2 if vectors::HERE => unsafe { vectors::exchange::<F, _, 8, 1>(first, x, y, vectors::turned_2) },
-                4 if vectors::HERE => unsafe { vectors::exchange::<F, _, 4, 2>(first, x, y, vectors::turned_4) },
-                8 if vectors::HERE => unsafe { vectors::exchange::<F, _, 2, 4>(first, x, y, vectors::turned_8) },
+                1 if registers::HERE => unsafe { registers::exchange::<F, _, 8, 1>(first, x, y, registers::turned_1) },
+                2 if registers::HERE => unsafe { registers::exchange::<F, _, 8, 1>(first, x, y, registers::turned_2) },
+                4 if registers::HERE => unsafe { registers::exchange::<F, _, 4, 2>(first, x, y, registers::turned_4) },
+                8 if registers::HERE => unsafe { registers::exchange::<F, _, 2, 4>(first, x, y, registers::turned_8) },
                 _ => {
                     for row in (0..8).step_by(4) {
                         for col in (0..8).step_by(4) {
@@ -415,10 +415,10 @@ mod slices {
             // SAFETY (of all four): the 8 items from each of these places on are within the slice, and no two of these
             // runs overlap, by the precondition of `Places::turn_tile`.
             match size_of::<F>() {
-                1 if vectors::HERE => unsafe { vectors::turn::<F, _, 8, 1>(first, x, vectors::turned_1) },
-                2 if vectors::HERE => unsafe { vectors::turn::<F, _, 8, 1>(first, x, vectors::turned_2) },
-                4 if vectors::HERE => unsafe { vectors::turn::<F, _, 4, 2>(first, x, vectors::turned_4) },
-                8 if vectors::HERE => unsafe { vectors::turn::<F, _, 2, 4>(first, x, vectors::turned_8) },
+                1 if registers::HERE => unsafe { registers::turn::<F, _, 8, 1>(first, x, registers::turned_1) },
+                2 if registers::HERE => unsafe { registers::turn::<F, _, 8, 1>(first, x, registers::turned_2) },
+                4 if registers::HERE => unsafe { registers::turn::<F, _, 4, 2>(first, x, registers::turned_4) },
+                8 if registers::HERE => unsafe { registers::turn::<F, _, 2, 4>(first, x, registers::turned_8) },
                 _ => {
                     for row in 0..8 {
                         for col in row + 1..8 {
@@ -441,11 +441,11 @@ mod slices {
             for row in x.into_iter().chain(y) {
                 let row = self.first.wrapping_add(row).cast::<u8>();
                 for byte in (0..8 * size).step_by(64) {
-                    vectors::prefetch(row.wrapping_add(byte));
+                    registers::prefetch(row.wrapping_add(byte));
                 }
                 // A row seldom begins at the start of a line, so its end is in one line more. Without that line, items
                 // of 4 bytes would take longer than without any prefetch.
-                vectors::prefetch(row.wrapping_add(8 * size - 1));
+                registers::prefetch(row.wrapping_add(8 * size - 1));
             }
         }
     }
@@ -506,7 +506,7 @@ mod slices {
                 _ => 0,
             };
             let items = match source.as_slice() {
-                Some(items) if vectors::HERE && squares > 0 && block.side % squares == 0 => items,
+                Some(items) if registers::HERE && squares > 0 && block.side % squares == 0 => items,
                 _ => return Singly(self).put_block(source, block),
             };
             debug_assert!(block_fits(block, items.len(), self.len));
@@ -516,10 +516,10 @@ mod slices {
             // squares, whose rows have 8 bytes for items of one byte, and 16 bytes for others.
             unsafe {
                 match squares {
-                    8 if size_of::<T>() == 1 => vectors::put(items, cells, block, vectors::turned_1),
-                    8 => vectors::put(items, cells, block, vectors::turned_2),
-                    4 => vectors::put(items, cells, block, vectors::turned_4),
-                    _ => vectors::put(items, cells, block, vectors::turned_8),
+                    8 if size_of::<T>() == 1 => registers::put(items, cells, block, registers::turned_1),
+                    8 => registers::put(items, cells, block, registers::turned_2),
+                    4 => registers::put(items, cells, block, registers::turned_4),
+                    _ => registers::put(items, cells, block, registers::turned_8),
                 }
             }
         }
@@ -566,19 +566,19 @@ mod slices {
     unsafe fn write_parts<T>(to: *mut T, item: T) {
         let (item, size) = (MaybeUninit::new(item), size_of::<T>());
         let (from, to) = (item.as_ptr().cast::<u8>(), to.cast::<u8>());
-        let registers = size / 16;
+        let whole = size / 16;
         // SAFETY: these parts are the item: some registers, then half of one if 8 bytes or more are left, then 4 bytes if
         // they are left.
         unsafe {
-            for k in 0..registers {
-                copy::<vectors::Register>(from.add(16 * k), to.add(16 * k));
+            for k in 0..whole {
+                copy::<registers::Register>(from.add(16 * k), to.add(16 * k));
                 // Without the fence, the compiler would join two parts. With AVX, two registers are one.
-                if registers > 1 && (k % 2 == 1 || cfg!(not(target_feature = "avx"))) {
+                if whole > 1 && (k % 2 == 1 || cfg!(not(target_feature = "avx"))) {
                     compiler_fence(Ordering::SeqCst);
                 }
             }
             if size % 16 >= 8 {
-                copy::<vectors::Half>(from.add(16 * registers), to.add(16 * registers));
+                copy::<registers::Half>(from.add(16 * whole), to.add(16 * whole));
             }
             if size % 8 == 4 {
                 copy::<MaybeUninit<u32>>(from.add(size - 4), to.add(size - 4));
@@ -639,17 +639,17 @@ mod slices {
 }
 
 #[cfg(not(feature = "checked"))]
-mod vectors_unchecked;
+mod registers_unchecked;
 #[cfg(not(feature = "checked"))]
-use vectors_unchecked as vectors;
+use registers_unchecked as registers;
 
 /// Shuffles two registers that hold these items. Returns the items of the result.
 #[cfg(all(test, not(feature = "checked")))]
 fn shuffled<T: Copy, const N: usize>(
-    shuffle: fn(vectors::Register, vectors::Register) -> vectors::Register,
+    shuffle: fn(registers::Register, registers::Register) -> registers::Register,
     operands: [[T; N]; 2],
 ) -> [T; N] {
-    const { assert!(size_of::<[T; N]>() == size_of::<vectors::Register>()) };
+    const { assert!(size_of::<[T; N]>() == size_of::<registers::Register>()) };
     let [a, b] = operands;
     // SAFETY: this many items fill a register, and a shuffle keeps items whole.
     unsafe {

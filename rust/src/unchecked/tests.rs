@@ -340,7 +340,7 @@ fn blocks_of_parts() {
 #[cfg(not(feature = "checked"))]
 #[test]
 fn shuffles() {
-    use super::{TURNS_IN_REGISTERS, shuffled, vectors};
+    use super::{TURNS_IN_REGISTERS, registers, shuffled};
 
     let has_registers = cfg!(target_arch = "x86_64") || cfg!(all(target_arch = "aarch64", target_endian = "little"));
     assert_eq!(TURNS_IN_REGISTERS, has_registers && cfg!(not(miri)));
@@ -350,24 +350,27 @@ fn shuffles() {
     let of_2 = |number: u8| [number, number + 32];
     let operands: [[u8; 16]; 2] = [0, 16].map(|first| from_fn(|i| first + i as u8));
     let in_turn: [u8; 16] = from_fn(|i| (i / 2 + i % 2 * 16) as u8);
-    assert_eq!(shuffled(vectors::low_1, operands), in_turn);
+    assert_eq!(shuffled(registers::low_1, operands), in_turn);
     let operands = [
         [0, 1, 2, 3, 4, 5, 6, 7].map(of_2),
         [8, 9, 10, 11, 12, 13, 14, 15].map(of_2),
     ];
-    assert_eq!(shuffled(vectors::low_2, operands), [0, 8, 1, 9, 2, 10, 3, 11].map(of_2));
     assert_eq!(
-        shuffled(vectors::high_2, operands),
+        shuffled(registers::low_2, operands),
+        [0, 8, 1, 9, 2, 10, 3, 11].map(of_2)
+    );
+    assert_eq!(
+        shuffled(registers::high_2, operands),
         [4, 12, 5, 13, 6, 14, 7, 15].map(of_2)
     );
     let of_4 = |number: u8| [0, 64, 128, 192].map(|part| part + number);
     let of_8 = |number: u8| [0, 32, 64, 96, 128, 160, 192, 224].map(|part| part + number);
     let operands = [[0, 1, 2, 3].map(of_4), [4, 5, 6, 7].map(of_4)];
-    assert_eq!(shuffled(vectors::low_4, operands), [0, 4, 1, 5].map(of_4));
-    assert_eq!(shuffled(vectors::high_4, operands), [2, 6, 3, 7].map(of_4));
+    assert_eq!(shuffled(registers::low_4, operands), [0, 4, 1, 5].map(of_4));
+    assert_eq!(shuffled(registers::high_4, operands), [2, 6, 3, 7].map(of_4));
     let operands = [[0, 1].map(of_8), [2, 3].map(of_8)];
-    assert_eq!(shuffled(vectors::low_8, operands), [0, 2].map(of_8));
-    assert_eq!(shuffled(vectors::high_8, operands), [1, 3].map(of_8));
+    assert_eq!(shuffled(registers::low_8, operands), [0, 2].map(of_8));
+    assert_eq!(shuffled(registers::high_8, operands), [1, 3].map(of_8));
 }
 
 #[cfg(any(debug_assertions, feature = "checked"))]
