@@ -149,36 +149,6 @@ fn exchange_row<M: Places>(m: M, grid: Grid, row: usize, region: Region) -> M
     m
 }
 
-/// Exchanges the tile at row `row` and column `col`, which is above the diagonal, with its mirror
-/// image. `first` and `start` are the places at which row `row` and row `col` begin.
-#[inline(always)]
-fn exchange_tile<M: Places>(
-    m: M,
-    grid: Grid,
-    row: usize,
-    col: usize,
-    first: usize,
-    start: usize,
-) -> M
-    requires one { grid.width ≡ 1 }
-    requires whole_row { row % 8 ≡ 0 }
-    requires whole_col { col % 8 ≡ 0 }
-    requires above { row + 8 ≤ col }
-    requires within { col + 8 ≤ 2 ^ grid.digits }
-    requires first { first ≡ row_place grid row }
-    requires start { start ≡ row_place grid col }
-    requires ready { HoldsGrid grid (M.items m) }
-    ensures exchanged { SwapsInGrid grid
-        (record { row_start = row; row_end = row + 8; col_start = col; col_end = col + 8 })
-        (M.items m) (M.items result) }
-    ensures holder { M.same_holder 64 m result }
-{
-    let mut m = m;
-    let rows = grid.tile_column(first + col);
-    m.exchange_tiles(rows, grid.tile_column(start + row));
-    m
-}
-
 /// Exchanges the tiles of a region that lie in the 8 columns from `col` on with their mirror images.
 #[inline(always)]
 fn exchange_tile_column<M: Places>(m: M, grid: Grid, col: usize, region: Region) -> M
@@ -198,12 +168,14 @@ fn exchange_tile_column<M: Places>(m: M, grid: Grid, col: usize, region: Region)
     let mut first = grid.start(region.row_start);
     let mut m = m;
     for tile in region.row_start / TILE..region.row_end / TILE {
-        // After the last tile this is the one below the region, which is within the grid too.
         let next = tile * TILE + TILE;
+        // After the last tile the next one is below the region, and within the grid too.
         let below = grid.start(next);
-        let rows = grid.tile_column(below + col);
-        m.expect_tiles(rows, grid.tile_column(start + next));
-        m = exchange_tile(m, grid, tile * TILE, col, first, start);
+        let next_rows = grid.tile_column(below + col);
+        m.expect_tiles(next_rows, grid.tile_column(start + next));
+        let rows = grid.tile_column(first + col);
+        let cols = grid.tile_column(start + tile * TILE);
+        m.exchange_tiles(rows, cols);
         first = below;
     }
     m

@@ -1,7 +1,7 @@
 -- Each turn of the loop exchanges one more tile.
 use Rattle.std.proofs.Common.{◌≡◌, ◌+◌, ◌*◌, arith}
 use Rattle.p3_util_kernels.specs.declared.transpose.regions.Region.{Region}
-use Rattle.p3_util_kernels.proofs.GridLemmas.{cut_exchanged}
+use Rattle.p3_util_kernels.proofs.GridLemmas.{AreTiles-grid, SwapsInGrid-tile, cut_exchanged}
 use Rattle.p3_util_kernels.proofs.RegionLemmas.{IsCut-rows}
 use Rattle.p3_util_kernels.proofs.grid.exchange_tile_column.Goals as goal
 
@@ -10,18 +10,35 @@ loop-tile-preserved g c =
     let row = c.loop-tile.tile * 8 in
     let next : (c.loop-tile.tile + 1) * 8 ≡ row + 8 = omega arith in
     let done : Region = record c.args.region { row_end = row + 8; col_start = c.args.col; col_end = c.args.col + 8 } in
+    let tile = SwapsInGrid-tile c.args.grid _ c.requires.ready row c.args.col _ _ _ _ c.requires.one (omega arith) c.requires.within (c.tile_column-rows.ensures row c.args.col (omega arith) (omega arith) (omega arith))
+    (c.tile_column-cols.ensures c.args.col row c.requires.whole_col c.requires.within (omega arith)) c.exchange_tiles.ensures.exchanged in
     record {
       first = rw next c.start-below.ensures;
-      exchanged = rw next (cut_exchanged c.args.grid _ c.requires.ready done _ _ _ _ _ (IsCut-rows done row (omega arith) (omega arith)) c.loop-tile.invariant.exchanged c.exchange_tile-m.ensures.exchanged);
-      holder = g.met.M.Places.same_holder_trans _ _ _ _ _ _ c.loop-tile.invariant.holder c.exchange_tile-m.ensures.holder (omega arith);
+      exchanged = rw next (cut_exchanged c.args.grid _ c.requires.ready done _ _ _ _ _ (IsCut-rows done row (omega arith) (omega arith)) c.loop-tile.invariant.exchanged tile);
+      holder = g.met.M.Places.same_holder_trans _ _ _ _ _ _ c.loop-tile.invariant.holder c.exchange_tiles.ensures.holder (omega arith);
     }
 
 pub returns-clause-exchanged : goal.returns-clause-exchanged
 returns-clause-exchanged g c = let end : c.loop-tile.tile * 8 ≡ c.args.region.row_end = omega (arith, c.requires.whole_start, c.requires.whole_end) in rw end at c.loop-tile.invariant.exchanged
 
--- the places that the hint names are in the first rows of two tiles
+pub exchange_tiles-requires : goal.exchange_tiles-requires
+exchange_tiles-requires g c =
+    let row = c.loop-tile.tile * 8 in
+    rw c.loop-tile.invariant.exchanged.same_length (AreTiles-grid c.args.grid _ c.requires.ready row c.args.col _ _ c.requires.one (omega arith) c.requires.within (c.tile_column-rows.ensures row c.args.col (omega arith) (omega arith) (omega arith))
+    (c.tile_column-cols.ensures c.args.col row c.requires.whole_col c.requires.within (omega arith)))
+
+-- the places of this tile and of the next one, and those of their mirror images, are in the first
+-- rows of these tiles
 pub tile_column-rows-requires-clause-tile : goal.tile_column-rows-requires-clause-tile
 tile_column-rows-requires-clause-tile g c =
+    record { x = c.loop-tile.tile * 8; y = c.args.col; whole = omega arith; x_below = omega arith; y_below = omega arith; is = omega arith }
+
+pub tile_column-cols-requires-clause-tile : goal.tile_column-cols-requires-clause-tile
+tile_column-cols-requires-clause-tile g c =
+    record { x = c.args.col; y = c.loop-tile.tile * 8; whole = c.requires.whole_col; x_below = c.requires.within; y_below = omega arith; is = omega arith }
+
+pub tile_column-next_rows-requires-clause-tile : goal.tile_column-next_rows-requires-clause-tile
+tile_column-next_rows-requires-clause-tile g c =
     record { x = c.loop-tile.tile * 8 + 8; y = c.args.col; whole = omega arith; x_below = omega (arith, c.requires.whole_end); y_below = omega arith; is = omega arith }
 
 pub tile_column-requires-clause-tile : goal.tile_column-requires-clause-tile
