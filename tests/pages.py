@@ -7,7 +7,7 @@ import os
 import re
 import subprocess
 
-from contracts import items
+from contract_list import contracts
 from rattle_source import definition_texts, functions, stood_on
 from rattle_source import read as read_source
 
@@ -269,8 +269,7 @@ def check_specs():
     """If no public contract uses a file of specs/, its first lines say that it serves private ones. Otherwise they do
     not say so."""
     files = {path: dict(definition_texts(path)) for path in tracked if re.fullmatch(r"crates/\w+/specs/\w+\.antt", path)}
-    public = " ".join(said for path in sources if "/parts" not in path
-                      for said in items(read_source(path), lambda owner, declared: declared.kind == "impl" or declared.seen_by == "pub"))
+    public = " ".join(said for path in sources if "/parts" not in path for said in contracts(read_source(path)))
     used = stood_on(public, {name: text for texts in files.values() for name, text in texts.items()})
     for path, texts in files.items():
         says_private = "private" in re.match(r"(?:--.*\n)*", read(path))[0]

@@ -1,38 +1,31 @@
-"""Makes the text of rust/src/kernels/contracts.rs for rust/erase. It explains what the names in the contracts of the
+"""Makes the text of rust/src/kernels/contracts.rs for rust/erase. It explains what the names in the public contracts of the
 package's documentation mean.
 
-Its tables have the rows of docs/CALLING.md and docs/MODEL.md for each name that a contract uses. Names that only private
-functions use are explained by the comments above their definitions. The page also explains one contract clause by clause,
-the same one as docs/CALLING.md."""
+The names of this project are explained by the comments above their definitions in crates/*/specs/, and each has an anchor
+there. The marks and the names of std are explained by the table of docs/CALLING.md, and one contract clause by clause, as
+on that page."""
 import re
 from dataclasses import dataclass
 
-# Both are at the top of the page. Between them is the paragraph under the first table's heading.
+from rattle_source import DEFINITION
+
+# Both are at the top of the page. Between them is the paragraph under the heading READ.
 HEAD = "What the names and marks in the contracts mean."
 END = """No function of `kernels` tests its `requires`. The repository has each definition as the checker reads it, in
-the `specs` folders of its crates."""
-# The page and the heading of the section that explains a contract clause by clause.
-READ_ALOUD = "docs/CALLING.md", "A contract, word by word"
-# For each table: its title, the head of its first column, and the page and the heading under which its rows are.
-TABLES = [
-    ("Marks, and names from Rust and its std", "In a clause", "docs/CALLING.md", "How a clause is read"),
-    ("Names for this package's kernels", "Name", "docs/MODEL.md", "Definitions of `p3_util_kernels`, in `specs/`"),
-    ("Names for the chunks, the map and `zip_eq`", "Name", "docs/MODEL.md", "Definitions of `p3_util`, in `specs/`"),
-]
-# The last table, for what only the contracts of private functions have: its title, and the marks and names of std in it.
-PRIVATE = "What only the contracts of private functions have"
-PRIVATE_MARKS = """
-| `A ≢ B` | A and B are not equal |
-| `if A`, `then B`, `else C` | B if the `bool` A is true, otherwise C |
-| `record x { f = A; g = B }` | the value x, with A as its field f and B as its field g; without x, a value of these fields |
-| `max m n` | the greater of two numbers |
-| `position p xs` | `Some` of the index of the first item of the list xs for which p is true, or `None` if there is none |
-| `MatchBool b P Q` | P holds if b is true, and Q if it is false |
-| `x.ghost_name` | which reference x is. Two references of one name give access to the same list |
-"""
+`docs/contracts.txt`."""
+# The page and its headings of the marks, and of the section that explains a contract clause by clause.
+PAGE, READ, READ_ALOUD = "docs/CALLING.md", "How a clause is read", "A contract, word by word"
+# The crates whose definitions the contracts of the package use.
+CRATES = ["p3_util_kernels", "p3_util"]
+# The definition that each holder gives for itself, and the file in which the comments on its traits explain it.
+OF_HOLDERS, TRAITS = "same_holder n a b", "crates/p3_util_kernels/src/places.rt"
+# How the documentation of a contract begins, and what follows for each name that is explained.
+EXPLAINED = "[`contracts`](crate::kernels::contracts) explains how to read this contract"
+LINK = "[`{0}`](crate::kernels::contracts#{0})"
 # What a source declares needs no row: fields, constants and types.
 DECLARED = re.compile(r"^ *(?:pub(?:\(crate\))? )?(?:(\w+): |(?:const|struct|enum) (\w+))", re.M)
-CONTRACT = re.compile(r"^ */// ```text\n(?P<clauses>(?: *///.*\n)*?) */// ```\n(?: *#\[.*\n)*(?P<head>(?:; \w+\]|[^;{])*)", re.M)
+CONTRACT = re.compile(rf"^ */// {re.escape(EXPLAINED)}(?:.*\n *///)+ ```text\n(?P<clauses>(?: *///.*\n)*?) */// ```\n(?: *#\[.*\n)*"
+                      r"(?P<head>(?:; \w+\]|[^;{])*)", re.M)
 OWNER = re.compile(r"^(?:impl|pub trait)\b[^{]*", re.M)
 TOKEN = re.compile(r"\.\w+|\w+|[^\s\w]")
 
@@ -54,8 +47,8 @@ def section(page, heading):
     return page.partition(f"\n## {heading}\n")[2].partition("\n## ")[0]
 
 
-def rows(text):
-    """The rows of the table of a section."""
+def marks(text):
+    """The rows of the tables of a section."""
     for name, meaning in re.findall(r"^\|([^|\n]*)\|([^|\n]*)\|", text, re.M)[2:]:
         words = {word for code in re.findall(r"`([^`]*)`", name) for word in defined(code)}
         yield Row(name.strip(), unlinked(meaning.strip()), words)
@@ -78,8 +71,64 @@ def bare(token):
     return token[1:] if token[0] == "." and len(token) > 1 else token
 
 
+def names_in(groups):
+    """The names in groups such as `(x y : A)`."""
+    return re.findall(r"\w+", " ".join(re.findall(r"\(((?:\w+ )+):", groups)))
+
+
+def arguments(text, start, name):
+    """The arguments of a definition: those that its type names, or those of its equation, if it has only one equation
+    and that has more."""
+    head = text[start:text.index("\n", start)]
+    if head.lstrip().startswith(("pub record", "pub data")):
+        return names_in(head)
+    named = re.match(r"[^:]*: (?:\{[^}]*\} → )?((?:\((?:\w+ )+: (?:[^()]|\([^()]*\))*\) ?→? ?)+)", head)
+    equations = re.findall(rf"^ *{name}\b(.*?) =(?: |$)", re.sub(r"\{[^}\n]*\}", "", text[start:]), re.M)
+    plain = equations[0].split() if len(equations) == 1 else []
+    return max(names_in(named[1]) if named else [], plain, key=len)
+
+
+def explains(name, meaning):
+    """The row for a name with its arguments. Its anchor is the name."""
+    word = name.split()[0]
+    return Row(f'<a id="{word}"></a>`{name}`', meaning, {word})
+
+
+def definition(text, found):
+    """The row of a definition in the text of a file: its name with its arguments, and what the comment above it says,
+    without the source that the comment names."""
+    above = re.search(rf"((?:^{found[1]}--.*\n)*)\Z", text[:found.start()], re.M)[0]
+    meaning = " ".join(comment.strip().removeprefix("--").strip() for comment in above.splitlines())
+    outer = {len(module[1]): module[2] for module in re.finditer(r"^( *)module _ (.*) where$", text[:found.start()], re.M)}
+    given = "".join(said for indent, said in outer.items() if indent < len(found[1]))
+    said = " ".join([found[2], *names_in(given), *arguments(text, found.start(), found[2])])
+    return explains(said, meaning.partition("Source: ")[0].strip().removesuffix("."))
+
+
+def of_holders(text):
+    """The row for the definition that each holder gives for itself, from the comments on `Places` and on `Cells`."""
+    places, cells = re.findall(rf"`{OF_HOLDERS}` says that (.*?)\.? pub trait (?:Places|Cells) ", " ".join(text.replace("///", " ").split()))
+    cells = re.sub(r"\[(`\w+`)\]", r"\1", cells)
+    return explains(OF_HOLDERS, f"For `Places`: {places}. For `Cells`: {cells}")
+
+
+def definitions(top):
+    """The rows of all definitions, sorted by their names. `top` is the folder of the repository."""
+    rows = {"same_holder": of_holders((top / TRAITS).read_text(encoding="utf-8"))}
+    for path in (path for crate in CRATES for path in sorted((top / "crates" / crate / "specs").glob("*.antt"))):
+        text = path.read_text(encoding="utf-8")
+        rows |= {found[2]: definition(text, found) for found in DEFINITION.finditer(text)}
+    return dict(sorted(rows.items(), key=lambda row: row[0].lower()))
+
+
+def explained(names):
+    """The lines with which the documentation of a public contract begins. They link to these names."""
+    links = ",\n".join(map(LINK.format, names))
+    return (EXPLAINED + (f", and its names\n{links}." if links else ".")).split("\n")
+
+
 def contracts(text):
-    """For each contract in a file that `erase` wrote: its clauses, and the heads of its function and of the impl or
+    """For each public contract in a file that `erase` wrote: its clauses, and the heads of its function and of the impl or
     trait around the function."""
     for contract in CONTRACT.finditer(text):
         owners = [owner[0] for owner in OWNER.finditer(text, 0, contract.start())]
@@ -97,18 +146,18 @@ def used(clauses, head):
 
 
 def undefined(written, tables):
-    """A line for each name in a contract that no source declares and that has no row."""
+    """A line for each name in a public contract that no source declares and that has no row."""
     known = {word for text in written.values() for names in DECLARED.findall(text) for word in names}
     known |= {word for table in tables for row in table for word in row.words}
     for path, text in written.items():
         for clauses, head in contracts(text):
             for word in sorted(used(clauses, head) - known):
                 function = re.search(r"fn (\w+)", head)[1]
-                yield f"{path}: no row of docs/CALLING.md or docs/MODEL.md, and no file in specs/, defines `{word}`, which the contract of {function} has"
+                yield f"{path}: no row of {PAGE}, and no file in specs/, defines `{word}`, which the contract of {function} has"
 
 
 def shown(written, tables):
-    """The rows of each table for the names in the contracts, and for the names that such rows have in backquotes."""
+    """The rows of each table for the names in the public contracts, and for the names that such rows have in backquotes."""
     words = {word for text in written.values() for clauses, head in contracts(text) for word in used(clauses, head)}
     before = None
     while words != before:
@@ -125,26 +174,14 @@ def read_aloud(text):
     return unlinked(parts).split("\n")
 
 
-def private_rows(definitions, tables):
-    """The rows of the last table: the marks, and the definitions that have no row in another table."""
-    known = {word for table in tables for row in table for word in row.words}
-    yield from rows("| Name | Meaning |\n|---|---|" + PRIVATE_MARKS)
-    for found in (found for found in definitions if found.name not in known):
-        yield Row(f"`{' '.join([found.name, *found.words])}`", found.meaning, {found.name})
-
-
-def page(written, read, definitions=()):
-    """The text of the page for the files that `erase` wrote. `read` gives the text of a page of the repository, and
-    `definitions` are those of the crates. A name without a row is an error."""
-    sections = [section(read(source), heading) for *_, source, heading in TABLES]
-    tables = [list(rows(text)) for text in sections]
-    tables.append(list(private_rows(definitions, tables)))
+def page(written, calling, known):
+    """The text of the page for the files that `erase` wrote. `calling` is the text of PAGE, and `known` has the rows of the
+    definitions. A name without a row is an error."""
+    tables = [list(marks(section(calling, READ))), list(known.values())]
     for line in undefined(written, tables):
         raise Undefined(line)
-    lines = [HEAD, "", *sections[0].strip().split("\n\n")[0].split("\n"), "", *END.split("\n")]
-    aloud, heading = READ_ALOUD
-    lines += ["", f"# {heading}", "", *read_aloud(section(read(aloud), heading))]
-    for (title, column, *_), table in zip([*TABLES, (PRIVATE, "Name")], shown(written, tables)):
-        if table:
-            lines += ["", f"# {title}", "", f"| {column} | Meaning |", "|---|---|", *(f"| {row.name} | {row.meaning} |" for row in table)]
+    lines = [HEAD, "", *section(calling, READ).strip().split("\n\n")[0].split("\n"), "", *END.split("\n")]
+    lines += ["", f"# {READ_ALOUD}", "", *read_aloud(section(calling, READ_ALOUD))]
+    for (title, column), table in zip([("Marks, and names of Rust and its std", "In a clause"), ("Names of this package", "Name")], shown(written, tables)):
+        lines += ["", f"# {title}", "", f"| {column} | Meaning |", "|---|---|", *(f"| {row.name} | {row.meaning} |" for row in table)]
     return "".join(f"//! {line}".rstrip() + "\n" for line in lines)

@@ -161,7 +161,7 @@ def closed(text, opened):
 
 def declarations(text, indent):
     """Each declaration of the text at this indent."""
-    kinds = rf'^ {{{indent}}}(?:(pub(?:\(\w+\))?) )?(?:const |extern "C" )?(fn|struct|enum|trait|type|impl|ghost(?! use))\b'
+    kinds = rf'^ {{{indent}}}(?:(pub(?:\(\w+\))?) )?(?:const |extern "C" )?(fn|const|struct|enum|trait|type|impl|ghost(?! use))\b'
     for start in re.finditer(kinds, text, re.M):
         end = HEAD_ENDS.search(text, start.end()).start()
         head, clauses = " ".join(text[start.start(2):end].split()), []

@@ -64,7 +64,8 @@ static EXPONENTS_OF_THREE: [u8; 64] = [
 ///
 /// # Contract
 ///
-/// [`contracts`](crate::kernels::contracts) explains the names in this contract:
+/// [`contracts`](crate::kernels::contracts) explains how to read this contract, and its names
+/// [`clog`](crate::kernels::contracts#clog).
 ///
 /// ```text
 /// ensures enough { n ≤ 2 ^ result }
@@ -83,7 +84,7 @@ pub const fn log2_ceil_usize(n: usize) -> usize {
 ///
 /// # Contract
 ///
-/// [`contracts`](crate::kernels::contracts) explains the names in this contract:
+/// [`contracts`](crate::kernels::contracts) explains how to read this contract.
 ///
 /// ```text
 /// ensures zero { n ≡ 0 → result ≡ 0 }
@@ -102,7 +103,7 @@ pub const fn log2_floor_usize(n: usize) -> usize {
 ///
 /// # Contract
 ///
-/// [`contracts`](crate::kernels::contracts) explains the names in this contract:
+/// [`contracts`](crate::kernels::contracts) explains how to read this contract.
 ///
 /// ```text
 /// ensures enough { n ≤ 2 ^ result }
@@ -132,7 +133,7 @@ pub(crate) const fn pow2(exponent: usize) -> usize {
 ///
 /// # Contract
 ///
-/// [`contracts`](crate::kernels::contracts) explains the names in this contract:
+/// [`contracts`](crate::kernels::contracts) explains how to read this contract.
 ///
 /// ```text
 /// ensures { SomeIff result (log_degree < 64) (2 ^ log_degree) }
@@ -151,7 +152,7 @@ pub const fn checked_pow2(log_degree: usize) -> Option<usize> {
 ///
 /// # Contract
 ///
-/// [`contracts`](crate::kernels::contracts) explains the names in this contract:
+/// [`contracts`](crate::kernels::contracts) explains how to read this contract.
 ///
 /// ```text
 /// ensures { SomeIff result (a + b < 64) (a + b, 2 ^ (a + b)) }
@@ -172,7 +173,9 @@ pub const fn checked_log_size_sum(a: usize, b: usize) -> Option<(usize, usize)> 
 ///
 /// # Contract
 ///
-/// [`contracts`](crate::kernels::contracts) explains the names in this contract:
+/// [`contracts`](crate::kernels::contracts) explains how to read this contract, and its names
+/// [`clog`](crate::kernels::contracts#clog),
+/// [`HasLog2`](crate::kernels::contracts#HasLog2).
 ///
 /// ```text
 /// requires { HasLog2 n }
@@ -190,7 +193,8 @@ pub const fn log2_strict_usize(n: usize) -> usize {
 ///
 /// # Contract
 ///
-/// [`contracts`](crate::kernels::contracts) explains the names in this contract:
+/// [`contracts`](crate::kernels::contracts) explains how to read this contract, and its names
+/// [`HasLog3`](crate::kernels::contracts#HasLog3).
 ///
 /// ```text
 /// requires { HasLog3 n }
@@ -208,7 +212,8 @@ pub const fn log3_strict_usize(n: usize) -> usize {
 ///
 /// # Contract
 ///
-/// [`contracts`](crate::kernels::contracts) explains the names in this contract:
+/// [`contracts`](crate::kernels::contracts) explains how to read this contract, and its names
+/// [`IsPowerOfThree`](crate::kernels::contracts#IsPowerOfThree).
 ///
 /// ```text
 /// ensures { IsTrue result ↔ IsPowerOfThree n }
@@ -252,7 +257,7 @@ const fn exponent_of_three(top: usize) -> usize {
 ///
 /// # Contract
 ///
-/// [`contracts`](crate::kernels::contracts) explains the names in this contract:
+/// [`contracts`](crate::kernels::contracts) explains how to read this contract.
 ///
 /// ```text
 /// ensures len { length result ≡ N }

@@ -12,7 +12,10 @@ use core::iter::FusedIterator;
 ///
 /// # Contract
 ///
-/// [`contracts`](crate::kernels::contracts) explains the names in this contract:
+/// [`contracts`](crate::kernels::contracts) explains how to read this contract, and its names
+/// [`CallsOnPieces`](crate::kernels::contracts#CallsOnPieces),
+/// [`flat`](crate::kernels::contracts#flat),
+/// [`pieces`](crate::kernels::contracts#pieces).
 ///
 /// ```text
 /// requires fits { BUFLEN < 2 ^ 63 }
@@ -55,7 +58,13 @@ where
 ///
 /// # Contract
 ///
-/// [`contracts`](crate::kernels::contracts) explains the names in this contract:
+/// [`contracts`](crate::kernels::contracts) explains how to read this contract, and its names
+/// [`EndsForGood`](crate::kernels::contracts#EndsForGood),
+/// [`padded_done`](crate::kernels::contracts#padded_done),
+/// [`padded_fill`](crate::kernels::contracts#padded_fill),
+/// [`padded_source`](crate::kernels::contracts#padded_source),
+/// [`padded_steps`](crate::kernels::contracts#padded_steps),
+/// [`PadsRuns`](crate::kernels::contracts#PadsRuns).
 ///
 /// ```text
 /// ensures source { I.into_iter_gives iter (padded_source result) }

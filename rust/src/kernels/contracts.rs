@@ -7,7 +7,7 @@
 //! the list of its bytes, a map as the list of its pairs, and an iterator of a map as the list of what it has not yet returned.
 //!
 //! No function of `kernels` tests its `requires`. The repository has each definition as the checker reads it, in
-//! the `specs` folders of its crates.
+//! `docs/contracts.txt`.
 //!
 //! # A contract, word by word
 //!
@@ -33,7 +33,7 @@
 //! - `holder`: the holder made exactly as many exchanges as the result says. (A swap is an exchange that is counted.) If the
 //!   holder borrows a slice, it still borrows the same slice, so the new list is in that slice.
 //!
-//! # Marks, and names from Rust and its std
+//! # Marks, and names of Rust and its std
 //!
 //! | In a clause | Meaning |
 //! |---|---|
@@ -50,7 +50,6 @@
 //! | `(x : T) → A`, `(x : T) × A` | A holds for every x of the type T; for some x |
 //! | `λ x. A` | the function that takes x to A |
 //! | `let x = A`, `in B` | B, in which x stands for A |
-//! | `if b then x else y` | x if b is `true`, and otherwise y; to be imported as `if◌then◌else◌` |
 //! | `f {x = A}` | f with A as its argument x, which is usually left out |
 //! | `ℕ`, `List T`, `K × V` | the whole numbers from 0 on; the lists of items of T; the pairs of a K and a V |
 //! | `+`, `-`, `*`, `/`, `%`, `^` | of whole numbers without an upper limit: sum, difference (0 if it would be negative), product, quotient rounded down, remainder, power |
@@ -86,117 +85,70 @@
 //! | `WholeRun .. i P` | P holds for a run of calls of `next` on i that ends with a `None`. A run p returned `p.items` |
 //! | `ShowsInOrder f` | calls of `next` return, in order, the items that were left. f takes a returned value to the item, as `deref` does |
 //!
-//! # Names for this package's kernels
+//! # Names of this package
 //!
 //! | Name | Meaning |
 //! |---|---|
-//! | `bit x i` | bit i of x, counted from the lowest one: `x / 2 ^ i % 2` |
-//! | `rev k x` | the k low bits of x in reversed order: bit i of x, which is `bit x i`, becomes bit `k - 1 - i` |
-//! | `rev_word bit_len x` | what `reverse_bits_len` returns: `rev bit_len x`. If `bit_len` is 0, it is `rev 64 x` instead, which reverses all 64 bits |
-//! | `IsPowerOfThree n` | n is `3 ^ e` for some e |
-//! | `HasLog2 n` | n is a power of two. There are three ways to show this: std's `IsPowerOfTwo`; a call of std's `is_power_of_two` that returned true; or, if n is a literal, a test that the checker evaluates. The last two ways spare callers a proof |
-//! | `HasLog3 n` | n is a power of three. There are two ways to show this: `IsPowerOfThree`; or a test that compares n with the 41 powers of three that fit in a usize, and that the checker evaluates if n is a literal |
-//! | `clog n` | the least e with `n ≤ 2 ^ e`. This is the number of powers of two below n |
-//! | `lev r c` | how often a region of r rows and c columns can be halved at its longer side until both sides are at most 128, which is 2 ^ 7: `(clog r - 7) + (clog c - 7)`, where a negative difference counts as 0 |
-//! | `nest r c` | how deep the splits of a region of r rows and c columns nest: `lev r c`, or 0 if one side is at most 2 from the start, because such a region is not split |
-//! | `short_name t` | The text t is cut into pieces after each `<`, `>` and `,`. Of each piece only the part after its last `::` is kept, and a piece without `::` is kept whole. What is kept is joined in order. The search for `::` goes from left to right, so `a:::b` gives `:b` |
-//! | `IsZeroOrPowerOfTwo n` | n is 0 or a power of two |
-//! | `IsReversible n` | `IsZeroOrPowerOfTwo n`, which may be shown in one of three ways: by itself; by a call of std's `is_power_of_two` that returned true; or, if n is a literal, by a test that the checker evaluates. The last two ways spare callers a proof |
-//! | `FitsRows len row_width` | `len` items fill whole rows of `row_width` items, and the number of rows is 0 or a power of two |
-//! | `IsRowReversal row_width old new` | The two lists have the same length. If `old` has `2 ^ k` rows of `row_width` items, row r of `new` has the items of row `rev k r` of `old`, in the same order |
-//! | `IsReversal old new` | The two lists have the same length. If `old` has `2 ^ k` items, item i of `new` is item `rev k i` of `old`. This is `IsRowReversal` for rows of one item |
-//! | `RunsExchanged i j len old new` | The `len` items that begin at place i are exchanged, in order, with the `len` items that begin at place j. All other items stay where they are |
-//! | `AreTiles x y len` | Two tiles have 8 rows each. Row r of the one is the 8 places of a list from entry r of `x` on, and row r of the other the 8 places from entry r of `y` on. The list has `len` places, which include all these places, and no two of the 16 rows overlap |
-//! | `TilesExchanged n x y old new` | The first n items of the tile at `x`, counted row after row, are exchanged with their mirror images in the tile at `y`: row r and column c of one tile with row c and column r of the other. All other items stay where they are |
-//! | `IsTile x len` | A tile has 8 rows. Row r is the 8 places of a list from entry r of `x` on. The list has `len` places, which include all these places, and no two of the rows overlap |
-//! | `TileTurned n x old new` | The tile at `x` is transposed as far as its first n items, counted row after row: if one of the two items in row r and column c and in row c and column r is among the first n, they are exchanged. All other items stay where they are |
-//! | `IsTranspose width height old new` | `old` has `height` rows of `width` items. `new` is its transpose, which has `width` rows of `height` items: item `x * height + y` of `new` is item `y * width + x` of `old`, for x < width and y < height |
-//! | `LiesInMatrix region width height` | The region lies in a matrix of `height` rows of `width` items. Neither its rows nor its columns end before they begin |
-//! | `rows_of region` | the number of rows of the region |
-//! | `cols_of region` | the number of columns of the region |
-//! | `items_of region` | the number of items of the region |
-//! | `IsRegionTransposed region width height input old new` | `input` has `height` rows of `width` items, and an output changes from `old` to `new`. For each row y and column x of the region, item `x * height + y` of `new` is item `y * width + x` of `input`. Every other item of the output stays as it was |
-//! | `IsStageOne old new` | Both lists are the rows of a block of 4 by 4 items. From `old` to `new`, the low bit of the row number of each item is exchanged with the low bit of its column number |
-//! | `IsStageTwo old new` | Both lists are the rows of a block of 4 by 4 items. From `old` to `new`, the high bit of the row number of each item is exchanged with the high bit of its column number |
-//! | `IsBlockTransposed old new` | Both lists are the rows of a block of 4 by 4 items, and `new` is the transpose of `old` |
-//! | `IsSquareTransposed base log_stride log_size old new` | A square in a list has `2 ^ log_size` rows and as many columns. It begins at place `base`, and each row begins `2 ^ log_stride` places after the row before it. In row a and column b, the square in `new` has the item that the square in `old` has in row b and column a. All other items stay where they are |
-//! | `short_swaps k` | the number of pairs of different k-bit numbers that are each other's reverse. Of the `2 ^ k` numbers, `2 ^ ceil(k / 2)` are their own reverse, so there are `(2 ^ k - 2 ^ ceil(k / 2)) / 2` pairs |
-//! | `row_swaps items row_width` | the number of swaps for reversing `items` items in rows of `row_width` items. Each pair of rows takes `row_width` swaps, so this is `row_width * short_swaps (clog (items / row_width))` |
-//! | `square_swaps side` | the number of swaps for transposing a square of `side` rows, one for each pair of places that mirror each other across the diagonal: `side * (side - 1) / 2` |
-//! | `long_swaps k` | the number of swaps for reversing `2 ^ k` items on the long path. It reverses the order of chunks, transposes squares, and reverses the order of chunks again. With `h = k / 2` and `c = k - h` this takes `2 * short_swaps h * 2 ^ c + 2 ^ (c - h) * square_swaps (2 ^ h)` swaps |
-//! | `reversal_swaps items` | the number of swaps for reversing `items` items, where `items` is zero or a power of two: `short_swaps (clog items)` up to 8192 items, and `long_swaps (clog items)` beyond |
-//! | `counted c s` | the count c after s more steps. A count stops at the largest u128, so this is `min (2 ^ 128 - 1) (c + s)` |
-//! | `block_items block` | the number of items of the block |
-//! | `BlockFits block input_len output_len` | A source of `input_len` items has all items of the block, and a list of `output_len` cells has all cells of the block's transpose. The columns of the block do not overlap in the cells |
-//! | `IsBlockPut n block input old new` | The first n items of the block, counted column after column, are put: the item in row r and column c of the block is at cell `to + c * height + r` of `new`. Every other cell holds what it held before |
-//! | `same_holder n a b` | For `Places`: b is the holder a after n exchanges. What that means depends on the holder. If the holder counts, the count of b is n more than the count of a. If it does not count, it ignores n. If it borrows its items, b borrows the same slice as a, so a change to the holder is a change to that slice. For `Cells`: b is the holder a after n puts. The rest is the same as for `Places` |
-//!
-//! # Names for the chunks, the map and `zip_eq`
-//!
-//! | Name | Meaning |
-//! |---|---|
-//! | `flat rows` | the items of the rows as one list, row after row |
-//! | `pieces n xs` | the list xs cut into pieces of n items. The last piece may be shorter. The number of pieces is the length divided by n, rounded up. If n is 0, there is no piece |
-//! | `padded_pieces n fill xs` | `pieces n xs`, each of them filled to n items with `fill` |
-//! | `CallsOnPieces g n f xs` | The closure f was called on each piece of n items of xs, in order. The first call used f, and each later call used the closure as the call before had left it. `g` says what one call does |
-//! | `padded_source s` | the iterator inside an `ArrayChunksPadded` |
-//! | `padded_done s` | whether the iterator inside has returned `None`. After that it is not called again |
-//! | `padded_fill s` | the item with which the last piece is filled |
-//! | `padded_steps steps s r t` | A call of `next` in state s may return r and leave state t: r is the next piece, filled to n items, or `None` if there is no further piece. `steps` says the same of the iterator inside |
-//! | `PadsRuns steps fill s` | For every sequence of calls of `next` from state s on, there is one of the iterator inside, and the pieces that were returned are `padded_pieces` of the items that it returned |
-//! | `EndsForGood steps` | after `None`, every further call returns `None` |
-//! | `HasTrueLength steps left s` | `left` gives the length that an iterator in state s claims to have. This length is true now and after any calls: each item lowers it by one, and it is 0 when `None` is returned |
-//! | `zip_eq_first z` | the first of the two iterators of a `ZipEq` |
-//! | `zip_eq_second z` | the second of the two iterators of a `ZipEq` |
-//! | `zip_eq_steps steps others s r t` | A call of `next` in state s may return r and leave state t. It calls both iterators, and returns a pair if both return an item, and otherwise `None` |
-//! | `PairsRuns steps others z` | For every sequence of calls of `next` on z, there is one of the first iterator and one of the second, and the pairs that were returned are their items, paired in order |
-//! | `AskedRuns steps others z` | The same as `PairsRuns`, except that the two sequences have all calls of the iterators that `next` made, also those whose item found no partner |
-//! | `zip_eq_left left z` | how many pairs are left at most, if there is a bound: as many as the first iterator has items left, which `left` gives |
-//! | `HasDistinctKeys eq pairs` | no two pairs have keys that are equal by `eq` |
-//! | `value_at eq pairs k` | the value of the pair whose key is equal to k, or `None` if there is no such pair |
-//! | `put eq pairs k v` | the pairs after k was given the value v. If a key is already equal to k, its pair keeps its place and that key, and only the value changes. Otherwise a new pair is added at the end |
-//! | `put_all eq pairs xs` | the pairs after each pair of xs was inserted, in order, as by `put` |
-//! | `lends_value K V eq m k r` | r is a `&mut` to the value of the key k in the map m, or `None`. When the loan ends, the key has the value that was last written through r, and every other pair is unchanged. If r is `None`, the map is unchanged |
-//! | `lends_put K V eq m k r` | r is a `&mut` to the value of the key k in the map m, or an `Err`. When the loan ends, the map is as after `put` of the value that was last written through r. If r is an `Err`, the map is unchanged |
-//!
-//! # What only the contracts of private functions have
-//!
-//! | Name | Meaning |
-//! |---|---|
-//! | `A ≢ B` | A and B are not equal |
-//! | `if A`, `then B`, `else C` | B if the `bool` A is true, otherwise C |
-//! | `record x { f = A; g = B }` | the value x, with A as its field f and B as its field g; without x, a value of these fields |
-//! | `max m n` | the greater of two numbers |
-//! | `position p xs` | `Some` of the index of the first item of the list xs for which p is true, or `None` if there is none |
-//! | `MatchBool b P Q` | P holds if b is true, and Q if it is false |
-//! | `x.ghost_name` | which reference x is. Two references of one name give access to the same list |
-//! | `is_mark b` | a mark after which a name is cut: `<`, `>` or `,` |
-//! | `IsReady region width height input out` | Both lists have `width * height` items, which is less than `2 ^ 64`, and the region lies in a matrix of that width and height. Only private functions have this precondition |
-//! | `FollowEachOther count len start` | The numbers below `len` are cut into `count` parts. Part k has the numbers from `start k` up to, but not including, `start (k + 1)`. The first part begins at 0, the last one ends at `len`, and none is empty |
-//! | `parts_in len step` | the number of parts when the numbers below `len` are cut into parts of `step` numbers. The last part may have fewer |
-//! | `IsLeastStep parts unit len step` | Parts of `step` numbers are no longer than necessary. Take any positive multiple L of `unit`. If parts of L numbers cut the numbers below `len` into at most `parts` parts, then L is at least `step`. If `parts` is 0, it counts as 1 |
-//! | `start_of len step k` | where part k begins when the numbers below `len` are cut into parts of `step` numbers: at `k * step`, or at `len` if that is less |
-//! | `part_of_matrix width height by_rows len step k` | the region of part k when a matrix of `height` rows of `width` items is cut. If `by_rows` is true, its `len` rows are cut into parts of `step` rows, and the region has all columns. Otherwise its `len` columns are cut in the same way, and the region has all rows |
-//! | `pairs_of n` | the number of pairs of n parts, if each part makes a pair with itself and with each later part: `n * (n + 1) / 2` |
-//! | `number_of_pair n i j` | The number of the pair of parts i and j, for i ≤ j. Imagine the n parts in a circle, in which each part is followed by the next one, and the last part by part 0. Go only in this direction, and take the shorter of the ways from i to j and from j to i, or that from i to j if both are equally long. The pairs are sorted by n times the number of steps on this way, plus the number of the part at which it begins. They are numbered from the last one to the first one. So different pairs have different numbers, and the pairs of a part with itself have the greatest numbers |
-//! | `blocks_of digits step` | the number of blocks on and above the diagonals of all grids |
-//! | `IsBlock digits step number middle region` | Of the blocks that `blocks_of` counts, the one with this number is `region` in the grid of the rows whose indices have the middle part `middle`. The rows of the block are one part of the grid's rows, and its columns are the same part of the columns or a later one. Blocks of the same rows and columns have consecutive numbers |
-//! | `IsBlockExchanged digits row_width step number old new Steps` | The pairs of rows in the block with this number are exchanged, and no other rows. `Steps` holds for the number of exchanges |
-//! | `width_of plan` | the number of items of each of the rows that the plan reverses |
-//! | `IsReversalPlan len plan` | the plan is one for a list of `len` items |
-//! | `IsCutAsAsked len row_width parts one_part unit plan` | Up to `one_part` items the plan has one part. Beyond that, each side of a grid is cut into at most `parts` parts, where 0 for `parts` counts as 1. The parts are no longer than necessary, as `IsLeastStep` says with the unit `unit` for rows of one item, and with the unit 1 for other rows |
-//! | `parts_of plan` | the number of parts of a plan |
-//! | `IsPartMade plan number old new Steps` | Part `number` of the plan turns `old` into `new`, and `Steps` holds for the number of its exchanges. Depending on the plan, the part makes the bit reversal of all rows, or exchanges the pairs of rows of a block |
-//! | `HoldsRows row_width digits items` | the list has `2 ^ digits` rows of `row_width` items, its length fits in a usize, and `row_width` is at least 1 |
-//! | `HoldsColumn rows from width to input out` | The column is the `rows` items of `input` that begin at place `from` and are `width` places apart. `input` has all of them, and `out` has as many cells from `to` on. Both lengths fit a usize |
-//! | `IsColumnPut rows from width to input old new` | Cell `to + t` holds item t of the column, and every other cell holds what it held before |
-//! | `row_place grid x` | the place at which row x of the grid begins |
-//! | `PlacesFit grid` | all places of the grid fit in a usize |
-//! | `IsInFirstRow grid p` | the place p is in row x of the grid, and 8 divides x |
-//! | `AreSteps grid one two four` | for the 8 rows from row x on, where 8 divides x: how far from row x they begin. Each binary digit of the number of a row adds its own distance |
-//! | `SwapsInGrid grid region old new` | The place of row a and column b of the grid stands for `width` items. For all a and b that are different and whose lesser one is a row and whose greater one is a column of the region, the items of row a and column b are exchanged with those of row b and column a. All other items stay where they are |
-//! | `HoldsGrid grid items` | The list has all places of the grid, no two rows of which overlap. Its length fits in a usize, and `width` is at least 1 |
-//! | `grid_of_rows half c row_width middle` | There are `2 ^ (half + c)` rows of `row_width` items. This is the grid of those rows whose index has `middle` between its `half` high and its `half` low bits: row x and column y of the grid are the row whose index has x reversed, `middle` and y |
-//! | `IsCut whole first second` | A region is cut into two parts. Each place of the region lies in exactly one of them, and together they have as many items as the region |
-//! | `AreHalves whole first second` | A region is cut into two parts. In each part the splits nest at least one level less deep than in the region, and in one of the parts exactly one level less |
-//! | `AreTransposed count log_stride log_size old new` | The list has `2 ^ log_size` rows of `2 ^ log_stride` items, so squares of `2 ^ log_size` rows lie side by side in it. The first `count` squares are transposed, and the others are unchanged |
+//! | <a id="AreTiles"></a>`AreTiles x y len` | Two tiles have 8 rows each. Row r of the one is the 8 places of a list from entry r of `x` on, and row r of the other the 8 places from entry r of `y` on. The list has `len` places, which include all these places, and no two of the 16 rows overlap |
+//! | <a id="AskedRuns"></a>`AskedRuns steps others z` | The same as `PairsRuns`, except that the two sequences have all calls of the iterators that `next` made, also those whose item found no partner |
+//! | <a id="bit"></a>`bit x i` | bit i of x, counted from the lowest one: `x / 2 ^ i % 2` |
+//! | <a id="block_items"></a>`block_items block` | the number of items of the block |
+//! | <a id="BlockFits"></a>`BlockFits block input_len output_len` | A source of `input_len` items has all items of the block, and a list of `output_len` cells has all cells of the block's transpose. The columns of the block do not overlap in the cells |
+//! | <a id="CallsOnPieces"></a>`CallsOnPieces g n f xs` | The closure f was called on each piece of n items of xs, in order. The first call used f, and each later call used the closure as the call before had left it. `g` says what one call does |
+//! | <a id="clog"></a>`clog n` | the least e with `n ≤ 2 ^ e`. This is the number of powers of two below n |
+//! | <a id="cols_of"></a>`cols_of region` | the number of columns of the region |
+//! | <a id="counted"></a>`counted c s` | the count c after s more steps. A count stops at the largest u128, so this is `min (2 ^ 128 - 1) (c + s)` |
+//! | <a id="EndsForGood"></a>`EndsForGood steps` | after `None`, every further call returns `None` |
+//! | <a id="FitsRows"></a>`FitsRows len row_width` | `len` items fill whole rows of `row_width` items, and the number of rows is 0 or a power of two |
+//! | <a id="flat"></a>`flat rows` | the items of the rows as one list, row after row |
+//! | <a id="HasDistinctKeys"></a>`HasDistinctKeys eq pairs` | no two pairs have keys that are equal by `eq` |
+//! | <a id="HasLog2"></a>`HasLog2 n` | n is a power of two. There are three ways to show this: std's `IsPowerOfTwo`; a call of std's `is_power_of_two` that returned true; or, if n is a literal, a test that the checker evaluates. The last two ways spare callers a proof |
+//! | <a id="HasLog3"></a>`HasLog3 n` | n is a power of three. There are two ways to show this: `IsPowerOfThree`; or a test that compares n with the 41 powers of three that fit in a usize, and that the checker evaluates if n is a literal |
+//! | <a id="HasTrueLength"></a>`HasTrueLength steps left s` | `left` gives the length that an iterator in state s claims to have. This length is true now and after any calls: each item lowers it by one, and it is 0 when `None` is returned |
+//! | <a id="IsBlockPut"></a>`IsBlockPut n block input old new` | The first n items of the block, counted column after column, are put: the item in row r and column c of the block is at cell `to + c * height + r` of `new`. Every other cell holds what it held before |
+//! | <a id="IsBlockTransposed"></a>`IsBlockTransposed old new` | Both lists are the rows of a block of 4 by 4 items, and `new` is the transpose of `old` |
+//! | <a id="IsPowerOfThree"></a>`IsPowerOfThree n` | n is `3 ^ e` for some e |
+//! | <a id="IsRegionTransposed"></a>`IsRegionTransposed region width height input old new` | `input` has `height` rows of `width` items, and an output changes from `old` to `new`. For each row y and column x of the region, item `x * height + y` of `new` is item `y * width + x` of `input`. Every other item of the output stays as it was |
+//! | <a id="IsReversal"></a>`IsReversal old new` | The two lists have the same length. If `old` has `2 ^ k` items, item i of `new` is item `rev k i` of `old`. This is `IsRowReversal` for rows of one item |
+//! | <a id="IsReversible"></a>`IsReversible n` | `IsZeroOrPowerOfTwo n`, which may be shown in one of three ways: by itself; by a call of std's `is_power_of_two` that returned true; or, if n is a literal, by a test that the checker evaluates. The last two ways spare callers a proof |
+//! | <a id="IsRowReversal"></a>`IsRowReversal row_width old new` | The two lists have the same length. If `old` has `2 ^ k` rows of `row_width` items, row r of `new` has the items of row `rev k r` of `old`, in the same order |
+//! | <a id="IsSquareTransposed"></a>`IsSquareTransposed base log_stride log_size old new` | A square in a list has `2 ^ log_size` rows and as many columns. It begins at place `base`, and each row begins `2 ^ log_stride` places after the row before it. In row a and column b, the square in `new` has the item that the square in `old` has in row b and column a. All other items stay where they are |
+//! | <a id="IsStageOne"></a>`IsStageOne old new` | Both lists are the rows of a block of 4 by 4 items. From `old` to `new`, the low bit of the row number of each item is exchanged with the low bit of its column number |
+//! | <a id="IsStageTwo"></a>`IsStageTwo old new` | Both lists are the rows of a block of 4 by 4 items. From `old` to `new`, the high bit of the row number of each item is exchanged with the high bit of its column number |
+//! | <a id="IsTile"></a>`IsTile x len` | A tile has 8 rows. Row r is the 8 places of a list from entry r of `x` on. The list has `len` places, which include all these places, and no two of the rows overlap |
+//! | <a id="IsTranspose"></a>`IsTranspose width height old new` | `old` has `height` rows of `width` items. `new` is its transpose, which has `width` rows of `height` items: item `x * height + y` of `new` is item `y * width + x` of `old`, for x < width and y < height |
+//! | <a id="IsZeroOrPowerOfTwo"></a>`IsZeroOrPowerOfTwo n` | n is 0 or a power of two |
+//! | <a id="items_of"></a>`items_of region` | the number of items of the region |
+//! | <a id="lends_put"></a>`lends_put K V eq m k r` | r is a `&mut` to the value of the key k in the map m, or an `Err`. When the loan ends, the map is as after `put` of the value that was last written through r. If r is an `Err`, the map is unchanged |
+//! | <a id="lends_value"></a>`lends_value K V eq m k r` | r is a `&mut` to the value of the key k in the map m, or `None`. When the loan ends, the key has the value that was last written through r, and every other pair is unchanged. If r is `None`, the map is unchanged |
+//! | <a id="lev"></a>`lev r c` | how often a region of r rows and c columns can be halved at its longer side until both sides are at most 128, which is 2 ^ 7: `(clog r - 7) + (clog c - 7)`, where a negative difference counts as 0 |
+//! | <a id="LiesInMatrix"></a>`LiesInMatrix region width height` | The region lies in a matrix of `height` rows of `width` items. Neither its rows nor its columns end before they begin |
+//! | <a id="long_swaps"></a>`long_swaps k` | the number of swaps for reversing `2 ^ k` items on the long path. It reverses the order of chunks, transposes squares, and reverses the order of chunks again. With `h = k / 2` and `c = k - h` this takes `2 * short_swaps h * 2 ^ c + 2 ^ (c - h) * square_swaps (2 ^ h)` swaps |
+//! | <a id="nest"></a>`nest r c` | how deep the splits of a region of r rows and c columns nest: `lev r c`, or 0 if one side is at most 2 from the start, because such a region is not split |
+//! | <a id="padded_done"></a>`padded_done s` | whether the iterator inside has returned `None`. After that it is not called again |
+//! | <a id="padded_fill"></a>`padded_fill s` | the item with which the last piece is filled |
+//! | <a id="padded_pieces"></a>`padded_pieces n fill xs` | `pieces n xs`, each of them filled to n items with `fill` |
+//! | <a id="padded_source"></a>`padded_source s` | the iterator inside an `ArrayChunksPadded` |
+//! | <a id="padded_steps"></a>`padded_steps steps s r t` | A call of `next` in state s may return r and leave state t: r is the next piece, filled to n items, or `None` if there is no further piece. `steps` says the same of the iterator inside |
+//! | <a id="PadsRuns"></a>`PadsRuns steps fill s` | For every sequence of calls of `next` from state s on, there is one of the iterator inside, and the pieces that were returned are `padded_pieces` of the items that it returned |
+//! | <a id="PairsRuns"></a>`PairsRuns steps others z` | For every sequence of calls of `next` on z, there is one of the first iterator and one of the second, and the pairs that were returned are their items, paired in order |
+//! | <a id="pieces"></a>`pieces n xs` | the list xs cut into pieces of n items. The last piece may be shorter. The number of pieces is the length divided by n, rounded up. If n is 0, there is no piece |
+//! | <a id="put"></a>`put eq pairs k v` | the pairs after k was given the value v. If a key is already equal to k, its pair keeps its place and that key, and only the value changes. Otherwise a new pair is added at the end |
+//! | <a id="put_all"></a>`put_all eq pairs xs` | the pairs after each pair of xs was inserted, in order, as by `put` |
+//! | <a id="rev"></a>`rev k x` | the k low bits of x in reversed order: bit i of x, which is `bit x i`, becomes bit `k - 1 - i` |
+//! | <a id="rev_word"></a>`rev_word bit_len x` | what `reverse_bits_len` returns: `rev bit_len x`. If `bit_len` is 0, it is `rev 64 x` instead, which reverses all 64 bits |
+//! | <a id="reversal_swaps"></a>`reversal_swaps items` | the number of swaps for reversing `items` items, where `items` is zero or a power of two: `short_swaps (clog items)` up to 8192 items, and `long_swaps (clog items)` beyond |
+//! | <a id="row_swaps"></a>`row_swaps items row_width` | the number of swaps for reversing `items` items in rows of `row_width` items. Each pair of rows takes `row_width` swaps, so this is `row_width * short_swaps (clog (items / row_width))` |
+//! | <a id="rows_of"></a>`rows_of region` | the number of rows of the region |
+//! | <a id="RunsExchanged"></a>`RunsExchanged i j len old new` | The `len` items that begin at place i are exchanged, in order, with the `len` items that begin at place j. All other items stay where they are |
+//! | <a id="same_holder"></a>`same_holder n a b` | For `Places`: b is the holder a after n exchanges. What that means depends on the holder. If the holder counts, the count of b is n more than the count of a. If it does not count, it ignores n. If it borrows its items, b borrows the same slice as a, so a change to the holder is a change to that slice. For `Cells`: b is the holder a after n puts. The rest is the same as for `Places` |
+//! | <a id="short_name"></a>`short_name t` | The text t is cut into pieces after each `<`, `>` and `,`. Of each piece only the part after its last `::` is kept, and a piece without `::` is kept whole. What is kept is joined in order. The search for `::` goes from left to right, so `a:::b` gives `:b` |
+//! | <a id="short_swaps"></a>`short_swaps k` | the number of pairs of different k-bit numbers that are each other's reverse. Of the `2 ^ k` numbers, `2 ^ ceil(k / 2)` are their own reverse, so there are `(2 ^ k - 2 ^ ceil(k / 2)) / 2` pairs |
+//! | <a id="square_swaps"></a>`square_swaps side` | the number of swaps for transposing a square of `side` rows, one for each pair of places that mirror each other across the diagonal: `side * (side - 1) / 2` |
+//! | <a id="TilesExchanged"></a>`TilesExchanged n x y old new` | The first n items of the tile at `x`, counted row after row, are exchanged with their mirror images in the tile at `y`: row r and column c of one tile with row c and column r of the other. All other items stay where they are |
+//! | <a id="TileTurned"></a>`TileTurned n x old new` | The tile at `x` is transposed as far as its first n items, counted row after row: if one of the two items in row r and column c and in row c and column r is among the first n, they are exchanged. All other items stay where they are |
+//! | <a id="value_at"></a>`value_at eq pairs k` | the value of the pair whose key is equal to k, or `None` if there is no such pair |
+//! | <a id="zip_eq_first"></a>`zip_eq_first z` | the first of the two iterators of a `ZipEq` |
+//! | <a id="zip_eq_left"></a>`zip_eq_left left z` | how many pairs are left at most, if there is a bound: as many as the first iterator has items left, which `left` gives |
+//! | <a id="zip_eq_second"></a>`zip_eq_second z` | the second of the two iterators of a `ZipEq` |
+//! | <a id="zip_eq_steps"></a>`zip_eq_steps steps others s r t` | A call of `next` in state s may return r and leave state t. It calls both iterators, and returns a pair if both return an item, and otherwise `None` |

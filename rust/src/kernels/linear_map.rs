@@ -23,7 +23,7 @@ impl<K: Eq, V> LinearMap<K, V> {
     ///
     /// # Contract
     ///
-    /// [`contracts`](crate::kernels::contracts) explains the names in this contract:
+    /// [`contracts`](crate::kernels::contracts) explains how to read this contract.
     ///
     /// ```text
     /// ensures { result ≡ [] }
@@ -38,7 +38,7 @@ impl<K: Eq, V> LinearMap<K, V> {
     ///
     /// # Contract
     ///
-    /// [`contracts`](crate::kernels::contracts) explains the names in this contract:
+    /// [`contracts`](crate::kernels::contracts) explains how to read this contract.
     ///
     /// ```text
     /// ensures empty { IfOk result (λ m. m ≡ []) }
@@ -54,7 +54,8 @@ impl<K: Eq, V> LinearMap<K, V> {
     ///
     /// # Contract
     ///
-    /// [`contracts`](crate::kernels::contracts) explains the names in this contract:
+    /// [`contracts`](crate::kernels::contracts) explains how to read this contract, and its names
+    /// [`HasDistinctKeys`](crate::kernels::contracts#HasDistinctKeys).
     ///
     /// ```text
     /// ensures len { result ≡ length self.now }
@@ -68,7 +69,7 @@ impl<K: Eq, V> LinearMap<K, V> {
     ///
     /// # Contract
     ///
-    /// [`contracts`](crate::kernels::contracts) explains the names in this contract:
+    /// [`contracts`](crate::kernels::contracts) explains how to read this contract.
     ///
     /// ```text
     /// ensures { result ≡ (length self.now == 0) }
@@ -81,7 +82,7 @@ impl<K: Eq, V> LinearMap<K, V> {
     ///
     /// # Contract
     ///
-    /// [`contracts`](crate::kernels::contracts) explains the names in this contract:
+    /// [`contracts`](crate::kernels::contracts) explains how to read this contract.
     ///
     /// ```text
     /// ensures rest { result ≡ values_of self.now }
@@ -95,7 +96,7 @@ impl<K: Eq, V> LinearMap<K, V> {
     ///
     /// # Contract
     ///
-    /// [`contracts`](crate::kernels::contracts) explains the names in this contract:
+    /// [`contracts`](crate::kernels::contracts) explains how to read this contract.
     ///
     /// ```text
     /// ensures rest { result ≡ keys_of self.now }
@@ -109,7 +110,7 @@ impl<K: Eq, V> LinearMap<K, V> {
     ///
     /// # Contract
     ///
-    /// [`contracts`](crate::kernels::contracts) explains the names in this contract:
+    /// [`contracts`](crate::kernels::contracts) explains how to read this contract.
     ///
     /// ```text
     /// ensures rest { result ≡ self.now }
@@ -134,7 +135,8 @@ impl<K: Eq, V> LinearMap<K, V> {
     ///
     /// # Contract
     ///
-    /// [`contracts`](crate::kernels::contracts) explains the names in this contract:
+    /// [`contracts`](crate::kernels::contracts) explains how to read this contract, and its names
+    /// [`value_at`](crate::kernels::contracts#value_at).
     ///
     /// ```text
     /// ensures { option_copied result ≡ value_at K.eq self.now k.now }
@@ -149,7 +151,9 @@ impl<K: Eq, V> LinearMap<K, V> {
     ///
     /// # Contract
     ///
-    /// [`contracts`](crate::kernels::contracts) explains the names in this contract:
+    /// [`contracts`](crate::kernels::contracts) explains how to read this contract, and its names
+    /// [`lends_value`](crate::kernels::contracts#lends_value),
+    /// [`value_at`](crate::kernels::contracts#value_at).
     ///
     /// ```text
     /// ensures* writes_back { sem 𝓛 (lends_value K.row V.row K.eq self.entry k.now result) }
@@ -168,7 +172,10 @@ impl<K: Eq, V> LinearMap<K, V> {
     ///
     /// # Contract
     ///
-    /// [`contracts`](crate::kernels::contracts) explains the names in this contract:
+    /// [`contracts`](crate::kernels::contracts) explains how to read this contract, and its names
+    /// [`HasDistinctKeys`](crate::kernels::contracts#HasDistinctKeys),
+    /// [`put`](crate::kernels::contracts#put),
+    /// [`value_at`](crate::kernels::contracts#value_at).
     ///
     /// ```text
     /// ensures old { IfOk result (λ old. old ≡ value_at K.eq self.old k) }
@@ -199,7 +206,9 @@ impl<K: Eq, V> LinearMap<K, V> {
     ///
     /// # Contract
     ///
-    /// [`contracts`](crate::kernels::contracts) explains the names in this contract:
+    /// [`contracts`](crate::kernels::contracts) explains how to read this contract, and its names
+    /// [`lends_put`](crate::kernels::contracts#lends_put),
+    /// [`value_at`](crate::kernels::contracts#value_at).
     ///
     /// ```text
     /// requires { value_at K.eq self.old k ≡ None → F.pre f }
@@ -229,7 +238,9 @@ impl<K: Eq, V> LinearMap<K, V> {
     ///
     /// # Contract
     ///
-    /// [`contracts`](crate::kernels::contracts) explains the names in this contract:
+    /// [`contracts`](crate::kernels::contracts) explains how to read this contract, and its names
+    /// [`put_all`](crate::kernels::contracts#put_all),
+    /// [`value_at`](crate::kernels::contracts#value_at).
     ///
     /// ```text
     /// requires { IsFiniteIterable I.into_iter_gives I.IntoIter.can_next I.IntoIter.remaining it }

@@ -65,7 +65,7 @@ pub trait Places {
     ///
     /// # Contract
     ///
-    /// [`contracts`](crate::kernels::contracts) explains the names in this contract:
+    /// [`contracts`](crate::kernels::contracts) explains how to read this contract.
     ///
     /// ```text
     /// ensures { result ≡ length (items self.now) }
@@ -76,7 +76,8 @@ pub trait Places {
     ///
     /// # Contract
     ///
-    /// [`contracts`](crate::kernels::contracts) explains the names in this contract:
+    /// [`contracts`](crate::kernels::contracts) explains how to read this contract, and its names
+    /// [`same_holder`](crate::kernels::contracts#same_holder).
     ///
     /// ```text
     /// requires first { i < length (items self.old) }
@@ -91,7 +92,8 @@ pub trait Places {
     ///
     /// # Contract
     ///
-    /// [`contracts`](crate::kernels::contracts) explains the names in this contract:
+    /// [`contracts`](crate::kernels::contracts) explains how to read this contract, and its names
+    /// [`same_holder`](crate::kernels::contracts#same_holder).
     ///
     /// ```text
     /// requires apart { (i < j) ⊎ (j < i) }
@@ -113,7 +115,10 @@ pub trait Places {
     ///
     /// # Contract
     ///
-    /// [`contracts`](crate::kernels::contracts) explains the names in this contract:
+    /// [`contracts`](crate::kernels::contracts) explains how to read this contract, and its names
+    /// [`AreTiles`](crate::kernels::contracts#AreTiles),
+    /// [`same_holder`](crate::kernels::contracts#same_holder),
+    /// [`TilesExchanged`](crate::kernels::contracts#TilesExchanged).
     ///
     /// ```text
     /// requires { AreTiles x y (length (items self.old)) }
@@ -137,7 +142,10 @@ pub trait Places {
     ///
     /// # Contract
     ///
-    /// [`contracts`](crate::kernels::contracts) explains the names in this contract:
+    /// [`contracts`](crate::kernels::contracts) explains how to read this contract, and its names
+    /// [`IsTile`](crate::kernels::contracts#IsTile),
+    /// [`same_holder`](crate::kernels::contracts#same_holder),
+    /// [`TileTurned`](crate::kernels::contracts#TileTurned).
     ///
     /// ```text
     /// requires { IsTile x (length (items self.old)) }
@@ -166,7 +174,9 @@ pub trait Places {
     ///
     /// # Contract
     ///
-    /// [`contracts`](crate::kernels::contracts) explains the names in this contract:
+    /// [`contracts`](crate::kernels::contracts) explains how to read this contract, and its names
+    /// [`RunsExchanged`](crate::kernels::contracts#RunsExchanged),
+    /// [`same_holder`](crate::kernels::contracts#same_holder).
     ///
     /// ```text
     /// requires apart { (i + len ≤ j) ⊎ (j + len ≤ i) }
@@ -196,7 +206,7 @@ pub trait Cells {
     ///
     /// # Contract
     ///
-    /// [`contracts`](crate::kernels::contracts) explains the names in this contract:
+    /// [`contracts`](crate::kernels::contracts) explains how to read this contract.
     ///
     /// ```text
     /// ensures { result ≡ length (items self.now) }
@@ -207,7 +217,8 @@ pub trait Cells {
     ///
     /// # Contract
     ///
-    /// [`contracts`](crate::kernels::contracts) explains the names in this contract:
+    /// [`contracts`](crate::kernels::contracts) explains how to read this contract, and its names
+    /// [`same_holder`](crate::kernels::contracts#same_holder).
     ///
     /// ```text
     /// requires { i < length (items self.old) }
@@ -223,7 +234,11 @@ pub trait Cells {
     ///
     /// # Contract
     ///
-    /// [`contracts`](crate::kernels::contracts) explains the names in this contract:
+    /// [`contracts`](crate::kernels::contracts) explains how to read this contract, and its names
+    /// [`block_items`](crate::kernels::contracts#block_items),
+    /// [`BlockFits`](crate::kernels::contracts#BlockFits),
+    /// [`IsBlockPut`](crate::kernels::contracts#IsBlockPut),
+    /// [`same_holder`](crate::kernels::contracts#same_holder).
     ///
     /// ```text
     /// requires { BlockFits block (length (R.items source.now)) (length (items self.old)) }
@@ -264,7 +279,7 @@ pub trait Source {
     ///
     /// # Contract
     ///
-    /// [`contracts`](crate::kernels::contracts) explains the names in this contract:
+    /// [`contracts`](crate::kernels::contracts) explains how to read this contract.
     ///
     /// ```text
     /// ensures { result ≡ length (items self.now) }
@@ -275,7 +290,7 @@ pub trait Source {
     ///
     /// # Contract
     ///
-    /// [`contracts`](crate::kernels::contracts) explains the names in this contract:
+    /// [`contracts`](crate::kernels::contracts) explains how to read this contract.
     ///
     /// ```text
     /// requires { i < length (items self.now) }
@@ -288,7 +303,7 @@ pub trait Source {
     ///
     /// # Contract
     ///
-    /// [`contracts`](crate::kernels::contracts) explains the names in this contract:
+    /// [`contracts`](crate::kernels::contracts) explains how to read this contract.
     ///
     /// ```text
     /// ensures { IfSome result (λ slice. slice.now ≡ items self.now) }

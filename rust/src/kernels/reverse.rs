@@ -37,7 +37,9 @@ const SHORT_PATH_ITEMS: usize = 8192;
 ///
 /// # Contract
 ///
-/// [`contracts`](crate::kernels::contracts) explains the names in this contract:
+/// [`contracts`](crate::kernels::contracts) explains how to read this contract, and its names
+/// [`FitsRows`](crate::kernels::contracts#FitsRows),
+/// [`IsZeroOrPowerOfTwo`](crate::kernels::contracts#IsZeroOrPowerOfTwo).
 ///
 /// ```text
 /// ensures rows { IsTrue result ↔ FitsRows len row_width }
@@ -61,7 +63,9 @@ pub const fn fits_rows(len: usize, row_width: usize) -> bool {
 ///
 /// # Contract
 ///
-/// [`contracts`](crate::kernels::contracts) explains the names in this contract:
+/// [`contracts`](crate::kernels::contracts) explains how to read this contract, and its names
+/// [`IsReversal`](crate::kernels::contracts#IsReversal),
+/// [`IsReversible`](crate::kernels::contracts#IsReversible).
 ///
 /// ```text
 /// requires { IsReversible (length vals.old) }
@@ -78,7 +82,11 @@ pub fn reverse_slice_index_bits<F>(vals: &mut [F]) {
 ///
 /// # Contract
 ///
-/// [`contracts`](crate::kernels::contracts) explains the names in this contract:
+/// [`contracts`](crate::kernels::contracts) explains how to read this contract, and its names
+/// [`IsReversal`](crate::kernels::contracts#IsReversal),
+/// [`IsReversible`](crate::kernels::contracts#IsReversible),
+/// [`reversal_swaps`](crate::kernels::contracts#reversal_swaps),
+/// [`same_holder`](crate::kernels::contracts#same_holder).
 ///
 /// ```text
 /// requires { IsReversible (length (S.items places.old)) }
@@ -102,7 +110,9 @@ pub fn reverse_counted<S: Places>(places: &mut S) -> u128 {
 ///
 /// # Contract
 ///
-/// [`contracts`](crate::kernels::contracts) explains the names in this contract:
+/// [`contracts`](crate::kernels::contracts) explains how to read this contract, and its names
+/// [`FitsRows`](crate::kernels::contracts#FitsRows),
+/// [`IsRowReversal`](crate::kernels::contracts#IsRowReversal).
 ///
 /// ```text
 /// requires { FitsRows (length vals.old) row_width }
@@ -119,7 +129,11 @@ pub fn reverse_slice_row_index_bits<F>(vals: &mut [F], row_width: usize) {
 ///
 /// # Contract
 ///
-/// [`contracts`](crate::kernels::contracts) explains the names in this contract:
+/// [`contracts`](crate::kernels::contracts) explains how to read this contract, and its names
+/// [`FitsRows`](crate::kernels::contracts#FitsRows),
+/// [`IsRowReversal`](crate::kernels::contracts#IsRowReversal),
+/// [`row_swaps`](crate::kernels::contracts#row_swaps),
+/// [`same_holder`](crate::kernels::contracts#same_holder).
 ///
 /// ```text
 /// requires { FitsRows (length (S.items places.old)) row_width }
@@ -141,7 +155,12 @@ pub fn reverse_rows_counted<S: Places>(places: &mut S, row_width: usize) -> u128
 ///
 /// # Contract
 ///
-/// [`contracts`](crate::kernels::contracts) explains the names in this contract:
+/// [`contracts`](crate::kernels::contracts) explains how to read this contract, and its names
+/// [`counted`](crate::kernels::contracts#counted),
+/// [`IsReversal`](crate::kernels::contracts#IsReversal),
+/// [`IsReversible`](crate::kernels::contracts#IsReversible),
+/// [`reversal_swaps`](crate::kernels::contracts#reversal_swaps),
+/// [`same_holder`](crate::kernels::contracts#same_holder).
 ///
 /// ```text
 /// requires { IsReversible (length (S.items m.old.holder)) }

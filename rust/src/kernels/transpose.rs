@@ -57,7 +57,7 @@ pub(crate) const ENOUGH_LEVELS: u32 = 64;
 ///
 /// # Contract
 ///
-/// [`contracts`](crate::kernels::contracts) explains the names in this contract:
+/// [`contracts`](crate::kernels::contracts) explains how to read this contract.
 ///
 /// ```text
 /// ensures { IsTrue result ↔ ((input_len ≡ width * height) × (output_len ≡ width * height)) }
@@ -80,7 +80,8 @@ pub const fn fits_matrix(input_len: usize, output_len: usize, width: usize, heig
 ///
 /// # Contract
 ///
-/// [`contracts`](crate::kernels::contracts) explains the names in this contract:
+/// [`contracts`](crate::kernels::contracts) explains how to read this contract, and its names
+/// [`IsTranspose`](crate::kernels::contracts#IsTranspose).
 ///
 /// ```text
 /// requires input_fits { length input.now ≡ width * height }
@@ -98,7 +99,9 @@ pub fn transpose<T: Copy>(input: &[T], output: &mut [T], width: usize, height: u
 ///
 /// # Contract
 ///
-/// [`contracts`](crate::kernels::contracts) explains the names in this contract:
+/// [`contracts`](crate::kernels::contracts) explains how to read this contract, and its names
+/// [`IsTranspose`](crate::kernels::contracts#IsTranspose),
+/// [`same_holder`](crate::kernels::contracts#same_holder).
 ///
 /// ```text
 /// requires input_fits { length input.now ≡ width * height }
@@ -121,7 +124,9 @@ pub fn transpose_counted<C: Cells>(
 ///
 /// # Contract
 ///
-/// [`contracts`](crate::kernels::contracts) explains the names in this contract:
+/// [`contracts`](crate::kernels::contracts) explains how to read this contract, and its names
+/// [`IsTranspose`](crate::kernels::contracts#IsTranspose),
+/// [`same_holder`](crate::kernels::contracts#same_holder).
 ///
 /// ```text
 /// requires input_fits { length (R.items input.now) ≡ width * height }
@@ -147,7 +152,10 @@ where
 ///
 /// # Contract
 ///
-/// [`contracts`](crate::kernels::contracts) explains the names in this contract:
+/// [`contracts`](crate::kernels::contracts) explains how to read this contract, and its names
+/// [`counted`](crate::kernels::contracts#counted),
+/// [`IsTranspose`](crate::kernels::contracts#IsTranspose),
+/// [`same_holder`](crate::kernels::contracts#same_holder).
 ///
 /// ```text
 /// requires input_fits { length input.now ≡ width * height }
@@ -165,7 +173,10 @@ pub fn transpose_on<C: Cells>(input: &[C::Item], out: &mut Writes<C>, width: usi
 ///
 /// # Contract
 ///
-/// [`contracts`](crate::kernels::contracts) explains the names in this contract:
+/// [`contracts`](crate::kernels::contracts) explains how to read this contract, and its names
+/// [`counted`](crate::kernels::contracts#counted),
+/// [`IsTranspose`](crate::kernels::contracts#IsTranspose),
+/// [`same_holder`](crate::kernels::contracts#same_holder).
 ///
 /// ```text
 /// requires input_fits { length (R.items input.now) ≡ width * height }
@@ -192,7 +203,12 @@ where
 ///
 /// # Contract
 ///
-/// [`contracts`](crate::kernels::contracts) explains the names in this contract:
+/// [`contracts`](crate::kernels::contracts) explains how to read this contract, and its names
+/// [`counted`](crate::kernels::contracts#counted),
+/// [`IsRegionTransposed`](crate::kernels::contracts#IsRegionTransposed),
+/// [`items_of`](crate::kernels::contracts#items_of),
+/// [`LiesInMatrix`](crate::kernels::contracts#LiesInMatrix),
+/// [`same_holder`](crate::kernels::contracts#same_holder).
 ///
 /// ```text
 /// requires input_fits { length input.now ≡ width * height }
@@ -218,7 +234,12 @@ pub fn transpose_region_on<C: Cells>(
 ///
 /// # Contract
 ///
-/// [`contracts`](crate::kernels::contracts) explains the names in this contract:
+/// [`contracts`](crate::kernels::contracts) explains how to read this contract, and its names
+/// [`counted`](crate::kernels::contracts#counted),
+/// [`IsRegionTransposed`](crate::kernels::contracts#IsRegionTransposed),
+/// [`items_of`](crate::kernels::contracts#items_of),
+/// [`LiesInMatrix`](crate::kernels::contracts#LiesInMatrix),
+/// [`same_holder`](crate::kernels::contracts#same_holder).
 ///
 /// ```text
 /// requires input_fits { length (R.items input.now) ≡ width * height }
@@ -250,7 +271,11 @@ where
 ///
 /// # Contract
 ///
-/// [`contracts`](crate::kernels::contracts) explains the names in this contract:
+/// [`contracts`](crate::kernels::contracts) explains how to read this contract, and its names
+/// [`IsRegionTransposed`](crate::kernels::contracts#IsRegionTransposed),
+/// [`items_of`](crate::kernels::contracts#items_of),
+/// [`LiesInMatrix`](crate::kernels::contracts#LiesInMatrix),
+/// [`same_holder`](crate::kernels::contracts#same_holder).
 ///
 /// ```text
 /// requires input_fits { length input.now ≡ width * height }
@@ -277,7 +302,11 @@ pub fn transpose_region_counted<C: Cells>(
 ///
 /// # Contract
 ///
-/// [`contracts`](crate::kernels::contracts) explains the names in this contract:
+/// [`contracts`](crate::kernels::contracts) explains how to read this contract, and its names
+/// [`IsRegionTransposed`](crate::kernels::contracts#IsRegionTransposed),
+/// [`items_of`](crate::kernels::contracts#items_of),
+/// [`LiesInMatrix`](crate::kernels::contracts#LiesInMatrix),
+/// [`same_holder`](crate::kernels::contracts#same_holder).
 ///
 /// ```text
 /// requires input_fits { length (R.items input.now) ≡ width * height }

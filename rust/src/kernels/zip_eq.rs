@@ -6,7 +6,14 @@ use core::iter::FusedIterator;
 ///
 /// # Contract
 ///
-/// [`contracts`](crate::kernels::contracts) explains the names in this contract:
+/// [`contracts`](crate::kernels::contracts) explains how to read this contract, and its names
+/// [`AskedRuns`](crate::kernels::contracts#AskedRuns),
+/// [`HasTrueLength`](crate::kernels::contracts#HasTrueLength),
+/// [`PairsRuns`](crate::kernels::contracts#PairsRuns),
+/// [`zip_eq_first`](crate::kernels::contracts#zip_eq_first),
+/// [`zip_eq_left`](crate::kernels::contracts#zip_eq_left),
+/// [`zip_eq_second`](crate::kernels::contracts#zip_eq_second),
+/// [`zip_eq_steps`](crate::kernels::contracts#zip_eq_steps).
 ///
 /// ```text
 /// ensures lengths { (i : A.IntoIter) × (j : B.IntoIter)
@@ -63,7 +70,8 @@ impl<A: ExactSizeIterator, B: ExactSizeIterator> Iterator for ZipEq<A, B> {
 
     /// # Contract
     ///
-    /// [`contracts`](crate::kernels::contracts) explains the names in this contract:
+    /// [`contracts`](crate::kernels::contracts) explains how to read this contract, and its names
+    /// [`zip_eq_left`](crate::kernels::contracts#zip_eq_left).
     ///
     /// ```text
     /// ensures lower { IsWithinCount result.0 (zip_eq_left A.remaining self.now) }

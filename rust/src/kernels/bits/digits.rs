@@ -10,7 +10,10 @@
 ///
 /// # Contract
 ///
-/// [`contracts`](crate::kernels::contracts) explains the names in this contract:
+/// [`contracts`](crate::kernels::contracts) explains how to read this contract, and its names
+/// [`HasLog2`](crate::kernels::contracts#HasLog2),
+/// [`rev`](crate::kernels::contracts#rev),
+/// [`rev_word`](crate::kernels::contracts#rev_word).
 ///
 /// ```text
 /// requires { HasLog2 n }
@@ -28,7 +31,9 @@ pub const fn reverse_bits(x: usize, n: usize) -> usize {
 ///
 /// # Contract
 ///
-/// [`contracts`](crate::kernels::contracts) explains the names in this contract:
+/// [`contracts`](crate::kernels::contracts) explains how to read this contract, and its names
+/// [`rev`](crate::kernels::contracts#rev),
+/// [`rev_word`](crate::kernels::contracts#rev_word).
 ///
 /// ```text
 /// requires { bit_len ≤ 64 }

@@ -16,7 +16,8 @@ use crate::memory::{AllocError, Global, String};
 ///
 /// # Contract
 ///
-/// [`contracts`](crate::kernels::contracts) explains the names in this contract:
+/// [`contracts`](crate::kernels::contracts) explains how to read this contract, and its names
+/// [`short_name`](crate::kernels::contracts#short_name).
 ///
 /// ```text
 /// ensures short { IfOk result (λ s. string_bytes s ≡ short_name name.now) }

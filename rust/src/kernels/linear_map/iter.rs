@@ -44,7 +44,7 @@ impl<'a, K, V> Iterator for Iter<'a, K, V> {
     ///
     /// # Contract
     ///
-    /// [`contracts`](crate::kernels::contracts) explains the names in this contract:
+    /// [`contracts`](crate::kernels::contracts) explains how to read this contract.
     ///
     /// ```text
     /// ensures lower { IsWithinCount result.0 (at_most (length self.now)) }
@@ -113,7 +113,7 @@ impl<'a, K, V> Iterator for Keys<'a, K, V> {
     ///
     /// # Contract
     ///
-    /// [`contracts`](crate::kernels::contracts) explains the names in this contract:
+    /// [`contracts`](crate::kernels::contracts) explains how to read this contract.
     ///
     /// ```text
     /// ensures lower { IsWithinCount result.0 (at_most (length self.now)) }
@@ -183,7 +183,7 @@ impl<'a, K, V> Iterator for Values<'a, K, V> {
     ///
     /// # Contract
     ///
-    /// [`contracts`](crate::kernels::contracts) explains the names in this contract:
+    /// [`contracts`](crate::kernels::contracts) explains how to read this contract.
     ///
     /// ```text
     /// ensures lower { IsWithinCount result.0 (at_most (length self.now)) }

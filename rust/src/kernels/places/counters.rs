@@ -19,7 +19,7 @@ impl<S: Places> Swaps<S> {
     ///
     /// # Contract
     ///
-    /// [`contracts`](crate::kernels::contracts) explains the names in this contract:
+    /// [`contracts`](crate::kernels::contracts) explains how to read this contract.
     ///
     /// ```text
     /// ensures holder { result.holder ≡ holder }
@@ -49,7 +49,7 @@ impl<S: Places> Swaps<S> {
     ///
     /// # Contract
     ///
-    /// [`contracts`](crate::kernels::contracts) explains the names in this contract:
+    /// [`contracts`](crate::kernels::contracts) explains how to read this contract.
     ///
     /// ```text
     /// ensures { result ≡ length (S.items self.now.holder) }
@@ -63,7 +63,9 @@ impl<S: Places> Swaps<S> {
     ///
     /// # Contract
     ///
-    /// [`contracts`](crate::kernels::contracts) explains the names in this contract:
+    /// [`contracts`](crate::kernels::contracts) explains how to read this contract, and its names
+    /// [`counted`](crate::kernels::contracts#counted),
+    /// [`same_holder`](crate::kernels::contracts#same_holder).
     ///
     /// ```text
     /// requires first { i < length (S.items self.old.holder) }
@@ -82,7 +84,7 @@ impl<S: Places> Swaps<S> {
     ///
     /// # Contract
     ///
-    /// [`contracts`](crate::kernels::contracts) explains the names in this contract:
+    /// [`contracts`](crate::kernels::contracts) explains how to read this contract.
     ///
     /// ```text
     /// ensures { result ≡ self.now.count }
@@ -95,7 +97,7 @@ impl<S: Places> Swaps<S> {
     ///
     /// # Contract
     ///
-    /// [`contracts`](crate::kernels::contracts) explains the names in this contract:
+    /// [`contracts`](crate::kernels::contracts) explains how to read this contract.
     ///
     /// ```text
     /// ensures { result ≡ self.holder }
@@ -118,7 +120,7 @@ impl<C: Cells> Writes<C> {
     ///
     /// # Contract
     ///
-    /// [`contracts`](crate::kernels::contracts) explains the names in this contract:
+    /// [`contracts`](crate::kernels::contracts) explains how to read this contract.
     ///
     /// ```text
     /// ensures holder { result.holder ≡ holder }
@@ -148,7 +150,7 @@ impl<C: Cells> Writes<C> {
     ///
     /// # Contract
     ///
-    /// [`contracts`](crate::kernels::contracts) explains the names in this contract:
+    /// [`contracts`](crate::kernels::contracts) explains how to read this contract.
     ///
     /// ```text
     /// ensures { result ≡ length (C.items self.now.holder) }
@@ -161,7 +163,9 @@ impl<C: Cells> Writes<C> {
     ///
     /// # Contract
     ///
-    /// [`contracts`](crate::kernels::contracts) explains the names in this contract:
+    /// [`contracts`](crate::kernels::contracts) explains how to read this contract, and its names
+    /// [`counted`](crate::kernels::contracts#counted),
+    /// [`same_holder`](crate::kernels::contracts#same_holder).
     ///
     /// ```text
     /// requires { i < length (C.items self.old.holder) }
@@ -179,7 +183,7 @@ impl<C: Cells> Writes<C> {
     ///
     /// # Contract
     ///
-    /// [`contracts`](crate::kernels::contracts) explains the names in this contract:
+    /// [`contracts`](crate::kernels::contracts) explains how to read this contract.
     ///
     /// ```text
     /// ensures { result ≡ self.now.count }
@@ -192,7 +196,7 @@ impl<C: Cells> Writes<C> {
     ///
     /// # Contract
     ///
-    /// [`contracts`](crate::kernels::contracts) explains the names in this contract:
+    /// [`contracts`](crate::kernels::contracts) explains how to read this contract.
     ///
     /// ```text
     /// ensures { result ≡ self.holder }

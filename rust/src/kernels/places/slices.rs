@@ -15,7 +15,7 @@ impl<'a, F> SlicePlaces<'a, F> {
     ///
     /// # Contract
     ///
-    /// [`contracts`](crate::kernels::contracts) explains the names in this contract:
+    /// [`contracts`](crate::kernels::contracts) explains how to read this contract.
     ///
     /// ```text
     /// ensures { result.items ≡ items.entry }
@@ -72,7 +72,7 @@ impl<'a, T: Copy> SliceCells<'a, T> {
     ///
     /// # Contract
     ///
-    /// [`contracts`](crate::kernels::contracts) explains the names in this contract:
+    /// [`contracts`](crate::kernels::contracts) explains how to read this contract.
     ///
     /// ```text
     /// ensures { result.values ≡ values.entry }
@@ -107,7 +107,7 @@ impl<'a, T: Copy> SliceSource<'a, T> {
     ///
     /// # Contract
     ///
-    /// [`contracts`](crate::kernels::contracts) explains the names in this contract:
+    /// [`contracts`](crate::kernels::contracts) explains how to read this contract.
     ///
     /// ```text
     /// ensures { result.slice ≡ slice.entry }

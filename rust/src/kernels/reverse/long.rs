@@ -24,7 +24,13 @@ use crate::kernels::transpose::transpose_square;
 ///
 /// # Contract
 ///
-/// [`contracts`](crate::kernels::contracts) explains the names in this contract:
+/// [`contracts`](crate::kernels::contracts) explains how to read this contract, and its names
+/// [`clog`](crate::kernels::contracts#clog),
+/// [`counted`](crate::kernels::contracts#counted),
+/// [`IsReversal`](crate::kernels::contracts#IsReversal),
+/// [`IsReversible`](crate::kernels::contracts#IsReversible),
+/// [`long_swaps`](crate::kernels::contracts#long_swaps),
+/// [`same_holder`](crate::kernels::contracts#same_holder).
 ///
 /// ```text
 /// requires fits { IsReversible (length (S.items m.old.holder)) }

@@ -99,7 +99,12 @@ impl RowDigits {
 ///
 /// # Contract
 ///
-/// [`contracts`](crate::kernels::contracts) explains the names in this contract:
+/// [`contracts`](crate::kernels::contracts) explains how to read this contract, and its names
+/// [`counted`](crate::kernels::contracts#counted),
+/// [`FitsRows`](crate::kernels::contracts#FitsRows),
+/// [`IsRowReversal`](crate::kernels::contracts#IsRowReversal),
+/// [`row_swaps`](crate::kernels::contracts#row_swaps),
+/// [`same_holder`](crate::kernels::contracts#same_holder).
 ///
 /// ```text
 /// requires { FitsRows (length (S.items m.old.holder)) row_width }
@@ -123,7 +128,13 @@ pub fn reverse_row_index_bits_on<S: Places>(m: &mut Swaps<S>, row_width: usize) 
 ///
 /// # Contract
 ///
-/// [`contracts`](crate::kernels::contracts) explains the names in this contract:
+/// [`contracts`](crate::kernels::contracts) explains how to read this contract, and its names
+/// [`clog`](crate::kernels::contracts#clog),
+/// [`counted`](crate::kernels::contracts#counted),
+/// [`IsReversal`](crate::kernels::contracts#IsReversal),
+/// [`IsReversible`](crate::kernels::contracts#IsReversible),
+/// [`same_holder`](crate::kernels::contracts#same_holder),
+/// [`short_swaps`](crate::kernels::contracts#short_swaps).
 ///
 /// ```text
 /// requires { IsReversible (length (S.items m.old.holder)) }
@@ -147,7 +158,11 @@ pub fn reverse_index_bits_short<S: Places>(m: &mut Swaps<S>) {
 ///
 /// # Contract
 ///
-/// [`contracts`](crate::kernels::contracts) explains the names in this contract:
+/// [`contracts`](crate::kernels::contracts) explains how to read this contract, and its names
+/// [`counted`](crate::kernels::contracts#counted),
+/// [`IsRowReversal`](crate::kernels::contracts#IsRowReversal),
+/// [`same_holder`](crate::kernels::contracts#same_holder),
+/// [`short_swaps`](crate::kernels::contracts#short_swaps).
 ///
 /// ```text
 /// requires { length (S.items m.old.holder) ≡ 2 ^ (lb_num_chunks + lb_chunk_size) }

@@ -10,7 +10,8 @@
 ///
 /// # Contract
 ///
-/// [`contracts`](crate::kernels::contracts) explains the names in this contract:
+/// [`contracts`](crate::kernels::contracts) explains how to read this contract, and its names
+/// [`IsBlockTransposed`](crate::kernels::contracts#IsBlockTransposed).
 ///
 /// ```text
 /// ensures { IsBlockTransposed block result }
@@ -24,7 +25,8 @@ pub fn butterfly_4x4<T: Copy>(block: [[T; 4]; 4]) -> [[T; 4]; 4] {
 ///
 /// # Contract
 ///
-/// [`contracts`](crate::kernels::contracts) explains the names in this contract:
+/// [`contracts`](crate::kernels::contracts) explains how to read this contract, and its names
+/// [`IsStageOne`](crate::kernels::contracts#IsStageOne).
 ///
 /// ```text
 /// ensures { IsStageOne block result }
@@ -39,7 +41,8 @@ pub fn butterfly_stage1<T: Copy>(block: [[T; 4]; 4]) -> [[T; 4]; 4] {
 ///
 /// # Contract
 ///
-/// [`contracts`](crate::kernels::contracts) explains the names in this contract:
+/// [`contracts`](crate::kernels::contracts) explains how to read this contract, and its names
+/// [`IsStageTwo`](crate::kernels::contracts#IsStageTwo).
 ///
 /// ```text
 /// ensures { IsStageTwo block result }

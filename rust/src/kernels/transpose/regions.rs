@@ -71,7 +71,8 @@ impl Region {
     ///
     /// # Contract
     ///
-    /// [`contracts`](crate::kernels::contracts) explains the names in this contract:
+    /// [`contracts`](crate::kernels::contracts) explains how to read this contract, and its names
+    /// [`LiesInMatrix`](crate::kernels::contracts#LiesInMatrix).
     ///
     /// ```text
     /// ensures { IsTrue result ↔ LiesInMatrix self width height }

@@ -24,7 +24,16 @@ const NARROW_SIDE: usize = 2;
 ///
 /// # Contract
 ///
-/// [`contracts`](crate::kernels::contracts) explains the names in this contract:
+/// [`contracts`](crate::kernels::contracts) explains how to read this contract, and its names
+/// [`cols_of`](crate::kernels::contracts#cols_of),
+/// [`counted`](crate::kernels::contracts#counted),
+/// [`IsRegionTransposed`](crate::kernels::contracts#IsRegionTransposed),
+/// [`items_of`](crate::kernels::contracts#items_of),
+/// [`lev`](crate::kernels::contracts#lev),
+/// [`LiesInMatrix`](crate::kernels::contracts#LiesInMatrix),
+/// [`nest`](crate::kernels::contracts#nest),
+/// [`rows_of`](crate::kernels::contracts#rows_of),
+/// [`same_holder`](crate::kernels::contracts#same_holder).
 ///
 /// ```text
 /// requires input_fits { length input.now ≡ width * height }
@@ -54,7 +63,16 @@ pub fn transpose_split_on<C: Cells>(
 ///
 /// # Contract
 ///
-/// [`contracts`](crate::kernels::contracts) explains the names in this contract:
+/// [`contracts`](crate::kernels::contracts) explains how to read this contract, and its names
+/// [`cols_of`](crate::kernels::contracts#cols_of),
+/// [`counted`](crate::kernels::contracts#counted),
+/// [`IsRegionTransposed`](crate::kernels::contracts#IsRegionTransposed),
+/// [`items_of`](crate::kernels::contracts#items_of),
+/// [`lev`](crate::kernels::contracts#lev),
+/// [`LiesInMatrix`](crate::kernels::contracts#LiesInMatrix),
+/// [`nest`](crate::kernels::contracts#nest),
+/// [`rows_of`](crate::kernels::contracts#rows_of),
+/// [`same_holder`](crate::kernels::contracts#same_holder).
 ///
 /// ```text
 /// requires input_fits { length (R.items input.now) ≡ width * height }

@@ -15,7 +15,7 @@ use crate::kernels::places::{Places, Swaps};
 ///
 /// # Contract
 ///
-/// [`contracts`](crate::kernels::contracts) explains the names in this contract:
+/// [`contracts`](crate::kernels::contracts) explains how to read this contract.
 ///
 /// ```text
 /// ensures { let s = 2 ^ log_size in
@@ -47,7 +47,10 @@ pub const fn fits_square(len: usize, base: usize, log_stride: usize, log_size: u
 ///
 /// # Contract
 ///
-/// [`contracts`](crate::kernels::contracts) explains the names in this contract:
+/// [`contracts`](crate::kernels::contracts) explains how to read this contract, and its names
+/// [`counted`](crate::kernels::contracts#counted),
+/// [`IsSquareTransposed`](crate::kernels::contracts#IsSquareTransposed),
+/// [`same_holder`](crate::kernels::contracts#same_holder).
 ///
 /// ```text
 /// requires rows_apart { log_size ≤ log_stride }

@@ -1,0 +1,117 @@
+"""Writes docs/contracts.txt, which lists the contracts and definitions that say what is proved.
+
+    python3 docs/make/contract_list.py
+
+tests/agree compares the list with the sources, so each clause or definition that is removed, that promises less or that
+requires more is a changed line of the list."""
+import glob
+import re
+import sys
+import textwrap
+
+sys.dont_write_bytecode = True
+from rattle_source import declarations, read
+
+LIST = "docs/contracts.txt"
+HEAD = """\
+# The public contracts of each crate except the one that has only tests, and all definitions that contracts use. Both are
+# as in the sources. docs/CALLING.md explains how to read a contract, and docs/MODEL.md says in words what is promised.
+#
+# A line names a source, and the lines below it have its contracts. A struct has its private fields too, since a clause may
+# name them. Below an implementation of a trait is what clauses see of that type. The sources on parts of a call have the
+# contracts of functions that are private to their crate too, since what is proved of parts is about these.
+#
+# After its contracts a crate has its definitions, and then the modules from which it imports the names in both. A crate
+# that uses such a name imports it in the same way, by `ghost use`.
+#
+# Written by: python3 docs/make/contract_list.py"""
+CRATES = ["p3_util_kernels", "p3_util", "p3_util_run", "p3_util_c", "p3_util_transform", "p3_util_callers", "p3_util_vectors"]
+ONLY_TESTS = {"p3_util_vectors"}
+# In these sources, what only the crate itself sees is listed too.
+PARTS = r"crates/p3_util_kernels/src/parts\b"
+IMPORT = re.compile(r"^ *(?:ghost )?use ([\w.-]+)\.\{([^}]*)\};?\n", re.M)
+
+
+def line(indent, code):
+    code = re.sub(r",( })|, ?(\))", r"\1\2", " ".join(code.split()).rstrip(",")).replace("( ", "(")
+    return textwrap.fill(code, 118, initial_indent=" " * indent, subsequent_indent=" " * (indent + 4), break_long_words=False)
+
+
+def function(indent, owner, declared):
+    """The lines of a function: its head, with the owner before its name, and its clauses."""
+    return [line(indent, f"fn {owner}{declared.head[3:]}"), *(line(indent + 2, f"{title}: {said}") for title, said in declared.clauses)]
+
+
+def members(outer):
+    """What a trait or an implementation of a trait says, without the proofs of its laws."""
+    for inner in declarations(outer.body, 4):
+        proves = outer.kind == "impl" and re.match(r"ghost (laws|\w+_(refl|trans)) =", inner.head)
+        if inner.kind == "fn" and inner.clauses:
+            yield from function(4, "", inner)
+        elif inner.kind == "ghost" and not proves or inner.kind == "type" and "=" not in inner.head:
+            yield line(4, f"{inner.head} {inner.body}")
+
+
+def is_private(head, text):
+    """Whether a trait is implemented for a type of this file that other crates do not see."""
+    name = re.search(r" for (?:&mut |&)?(\w+)", head)
+    return bool(name and re.search(rf"^(?:pub\(crate\) )?(?:struct|enum) {name[1]}\b", text, re.M))
+
+
+def contracts(text, seen_by=("pub",)):
+    """The contracts of a source that these see."""
+    for outer in declarations(text, 0):
+        if outer.kind == "impl" and " for " not in outer.head:
+            for inner in declarations(outer.body, 4):
+                if inner.kind == "fn" and inner.seen_by in seen_by:
+                    yield from function(2, f"{outer.name()}::", inner)
+        elif outer.kind == "impl":
+            if not is_private(outer.head, text) and (said := list(members(outer))):
+                yield from [line(2, outer.head), *said]
+        elif outer.seen_by not in seen_by:
+            continue
+        elif outer.kind == "fn":
+            yield from function(2, "", outer)
+        elif outer.kind == "trait":
+            yield from [line(2, outer.head), *members(outer)]
+        else:
+            yield line(2, f"{outer.head} {{ {outer.body} }}" if outer.body else outer.head)
+
+
+def listed(path):
+    """The lines of a source or of a file of definitions, and the names that it imports for them, each with its module."""
+    with open(path, encoding="utf-8") as text:
+        source = text.read()
+    if path.endswith(".rt"):
+        lines = list(contracts(read(path), ("pub", "pub(crate)") if re.match(PARTS, path) else ("pub",)))
+    else:
+        lines = [f"  {said}".rstrip() for said in IMPORT.sub("", source).strip().split("\n")]
+    said = set(re.findall(r"\w+|[^\w\s]+", "\n".join(lines)))
+    names = [(module, name.strip()) for module, names in IMPORT.findall(source) for name in names.split(",")]
+    return lines, {(module, name) for module, name in names if said.issuperset(name.split(" as ")[-1].replace("◌", " ").split())}
+
+
+def files(crate):
+    """The sources of a crate without its tests, and then its files of definitions."""
+    sources = [] if crate in ONLY_TESTS else sorted(glob.glob(f"crates/{crate}/src/**/*.rt", recursive=True))
+    return [path for path in sources if not re.search(r"/tests[./]", path)] + sorted(glob.glob(f"crates/{crate}/specs/*.antt"))
+
+
+def page():
+    """The text of the list."""
+    sections = [HEAD]
+    for crate in CRATES:
+        imports = {}
+        for path in files(crate):
+            lines, names = listed(path)
+            sections += ["\n".join([path, *lines])] if lines else []
+            for module, name in names:
+                imports.setdefault(module, set()).add(name)
+        lines = [line(2, f"{module}.{{{', '.join(sorted(names))}}}") for module, names in sorted(imports.items())]
+        sections.append("\n".join([f"Imports of crates/{crate}", *lines]))
+    return "\n\n".join(sections)
+
+
+if __name__ == "__main__":
+    with open(LIST, "w", encoding="utf-8") as text:
+        print(page(), file=text)
