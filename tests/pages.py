@@ -278,8 +278,19 @@ def check_specs():
                 else f"{path}:1: no public contract uses its definitions, and its first lines do not say that it serves private ones"
 
 
+def check_paths_in_comments():
+    """A file or folder that a comment in specs/ or proofs/ names in backquotes is in that crate, or has this path from the
+    top of the repository."""
+    for path in (path for path in tracked if path.endswith(".antt")):
+        crate = "/".join(path.split("/")[:2])
+        text = re.sub("^ *-- ?", lambda mark: " " * len(mark[0]), read(path), flags=re.M)
+        for named in re.finditer(r"`([\w.-]+(?:/[\w.-]+)+/?)`", text):
+            if not any(os.path.exists(os.path.join(folder, named[1])) for folder in (crate, ".")):
+                yield f"{path}:{text.count(chr(10), 0, named.start()) + 1}: no file {named[1]}"
+
+
 def wrong():
     """A line for each thing that is wrong."""
     for check in (check_quotations, check_edits, check_clauses, check_constants, check_links_and_names, check_tables, check_modules,
-                  check_specs):
+                  check_specs, check_paths_in_comments):
         yield from check()
