@@ -1,6 +1,7 @@
 """For tests/agree: compares the pages with the code. It checks the functions that blocks of Rust quote, the clauses
 that MODEL names, the numbers in ARCHITECTURE's table and in sentences, each link, file and name, and the cells of tables. It
-also compares the modules with the files, and the heads of specs with the contracts that use them."""
+also compares the modules with the files, the heads of specs with the contracts that use them, and the files that
+comments of specs and proofs name with those that are there."""
 import functools
 import itertools
 import os
@@ -8,7 +9,7 @@ import re
 import subprocess
 
 from contract_list import contracts
-from rattle_source import definition_texts, functions, stood_on
+from rattle_source import DEFINITION, comment_above, definition_texts, functions, stood_on
 from rattle_source import read as read_source
 
 # Names from std, the original, the kit and the system that pages mention and that no source has.
@@ -19,7 +20,8 @@ OUTSIDE = set("""
 """.split())
 # These pages mention names that the repository does not have, or no longer has, so their names are not looked up.
 ELSEWHERE = {"CHANGELOG.md", "docs/TRIED.md", "docs/DIFFERENCES.md"}
-TABLE_IS_ABOUT = r"rust/|crates/p3_util(_kernels|_c|_run)?/"
+LIBRARIES = "crates/p3_util(_kernels|_c|_run)?/"
+TABLE_IS_ABOUT = "rust/|" + LIBRARIES
 TABLE_ROW = r"^\| (`[A-Z_`, ]+`) \| ([\d, ^+]+) \| `([^`]+)` \|.*$"
 FILE = r"[\w.-]+(/[\w.-]+)+/?|[\w-]+\.(md|rt|antt|sh|py|rs|h|c|tsv|svg|txt|toml)"
 
@@ -267,12 +269,19 @@ def check_modules():
 
 def check_specs():
     """If no public contract uses a file of specs/, its first lines say that it serves private ones. Otherwise they do
-    not say so."""
+    not say so. In a library, the comment above each definition of such a file says what it means, and this comment or the
+    file's first lines say from which source it was made."""
     files = {path: dict(definition_texts(path)) for path in tracked if re.fullmatch(r"crates/\w+/specs/\w+\.antt", path)}
     public = " ".join(said for path in sources if "/parts" not in path for said in contracts(read_source(path)))
     used = stood_on(public, {name: text for texts in files.values() for name, text in texts.items()})
     for path, texts in files.items():
-        says_private = "private" in re.match(r"(?:--.*\n)*", read(path))[0]
+        text = read(path)
+        head = re.match(r"(?:--.*\n)*", text)[0]
+        says_private = "private" in head
+        for found in DEFINITION.finditer(text) if not says_private and re.match(LIBRARIES, path) else ():
+            above = comment_above(text, found)
+            if not above or "Source: " not in head + above:
+                yield f"{path}:{text.count(chr(10), 0, found.end()) + 1}: {found[2]} has no comment, or no sentence 'Source: ..'"
         if texts and says_private == any(name in used for name in texts):
             yield f"{path}:1: its first lines say that it serves private contracts, and a public one uses its definitions" if says_private \
                 else f"{path}:1: no public contract uses its definitions, and its first lines do not say that it serves private ones"

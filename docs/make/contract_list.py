@@ -14,15 +14,16 @@ from rattle_source import declarations, read
 
 LIST = "docs/contracts.txt"
 HEAD = """\
-# The public contracts of each crate except the one that has only tests, and all definitions that contracts use. Both are
-# as in the sources. docs/CALLING.md explains how to read a contract, and docs/MODEL.md says in words what is promised.
+# The public contracts of all crates, and all definitions, as the sources have them. docs/CALLING.md explains how to read a
+# contract, and docs/MODEL.md says in words what is promised.
 #
-# A line names a source, and the lines below it have its contracts. A struct has its private fields too, since a clause may
-# name them. Below an implementation of a trait is what clauses see of that type. The sources on parts of a call have the
-# contracts of functions that are private to their crate too, since what is proved of parts is about these.
+# Below the name of a source are its contracts. Structs are listed with their private fields, since a clause may name them.
+# The lines below an implementation of a trait say what a clause sees of that type. Sources on the parts of a call are
+# listed with the contracts that only their crate sees, because what is proved of parts stands in these. The crate
+# p3_util_vectors has only tests, so it is listed with its definitions alone.
 #
-# After its contracts a crate has its definitions, and then the modules from which it imports the names in both. A crate
-# that uses such a name imports it in the same way, by `ghost use`.
+# The contracts of a crate are followed by its definitions, and then by its imports: the modules that the names in its
+# contracts and definitions come from. Your crate can import the same names, by `ghost use`.
 #
 # Written by: python3 docs/make/contract_list.py"""
 CRATES = ["p3_util_kernels", "p3_util", "p3_util_run", "p3_util_c", "p3_util_transform", "p3_util_callers", "p3_util_vectors"]

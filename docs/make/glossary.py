@@ -7,7 +7,7 @@ on that page."""
 import re
 from dataclasses import dataclass
 
-from rattle_source import DEFINITION
+from rattle_source import DEFINITION, comment_above
 
 # Both are at the top of the page. Between them is the paragraph under the heading READ.
 HEAD = "What the names and marks in the contracts mean."
@@ -97,12 +97,10 @@ def explains(name, meaning):
 def definition(text, found):
     """The row of a definition in the text of a file: its name with its arguments, and what the comment above it says,
     without the source that the comment names."""
-    above = re.search(rf"((?:^{found[1]}--.*\n)*)\Z", text[:found.start()], re.M)[0]
-    meaning = " ".join(comment.strip().removeprefix("--").strip() for comment in above.splitlines())
     outer = {len(module[1]): module[2] for module in re.finditer(r"^( *)module _ (.*) where$", text[:found.start()], re.M)}
     given = "".join(said for indent, said in outer.items() if indent < len(found[1]))
     said = " ".join([found[2], *names_in(given), *arguments(text, found.start(), found[2])])
-    return explains(said, meaning.partition("Source: ")[0].strip().removesuffix("."))
+    return explains(said, comment_above(text, found).partition("Source: ")[0].strip().removesuffix("."))
 
 
 def of_holders(text):

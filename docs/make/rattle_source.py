@@ -184,6 +184,12 @@ def functions(text):
 DEFINITION = re.compile(r"^( *)(?:(?:abbrev|unfoldable) pub|pub (?:record|data)) (\w+)", re.M)
 
 
+def comment_above(text, found):
+    """The comment right above a definition that DEFINITION found in a text, in one line."""
+    lines = re.search(rf"((?:^{found[1]}--.*\n)*)\Z", text[:found.start()], re.M)[0].splitlines()
+    return " ".join(line.strip().removeprefix("--").strip() for line in lines)
+
+
 def definition_texts(path):
     """For each public definition in a file of specs/, its name and its text without comments."""
     with open(path, encoding="utf-8") as source:
