@@ -36,7 +36,7 @@
 //! counts as asking for 1. A transpose has at most as many parts as you ask for.
 //!
 //! A reversal is cut like a square, by a grid. If you ask for N parts, each side of the square is cut into
-//! at most P = 1 + ⌊2√(N − 1)⌋ pieces, and each block of the grid on or above the diagonal is a part. So there are
+//! at most P = 1 + ⌊2√(N − 1)⌋ pieces, and each patch of the grid on or above the diagonal is a part. So there are
 //! P(P + 1) / 2 parts: about two for each part that you ask for. There are twice as many if there are two squares, and
 //! fewer if a side is too short for P pieces.
 //!
@@ -59,7 +59,7 @@
 //! ```
 //!
 //! Four parts for each thread are a good number to ask for. On four threads, nothing was faster than the 36 or 72 parts
-//! of a call that asks for 16. Parts differ in size: a block on a diagonal has about half as many exchanges as a block
+//! of a call that asks for 16. Parts differ in size: a patch on a diagonal has about half as many exchanges as a patch
 //! above it. A list that is empty, or whose items have no bytes, has no parts.
 //!
 //! Threads that already wait for work, such as those of rayon's pool, make a reversal faster from about 2^17 items of 4
@@ -69,7 +69,7 @@
 //! - A transpose is cut along its longer side, at multiples of 16 rows or columns.
 //! - A reversal of up to [`one_part_reversal`] items is one part. A longer reversal, of 2^k items, is cut like a square
 //!   of 2^(k / 2) rows and columns, or like two squares if k is odd. Each square is cut into a grid, at multiples of 8,
-//!   and a part is one of its blocks on or above the diagonal.
+//!   and a part is one of its patches on or above the diagonal.
 //! - A reversal of longer rows is cut in the same way, at any number. It is one part if the list has no more items than
 //!   [`one_part_reversal`] says.
 //! - With the feature `checked` a transpose is cut along its columns, and a reversal is one part.
@@ -144,8 +144,8 @@ pub struct ReversalParts<'a, F>(Parts<'a, F, ReversalPlan>);
 pub struct ReversalPart<'a, F>(Parts<'a, F, ReversalPlan>);
 
 /// The greatest number of pieces that a side is cut into if the caller asks for `parts` parts. P pieces of a side make
-/// P(P + 1) / 2 blocks. These are about two for each part that the caller asks for, so that threads that take one block
-/// after the other end at about the same time. More blocks would be smaller, and small blocks make less use of the
+/// P(P + 1) / 2 patches. These are about two for each part that the caller asks for, so that threads that take one patch
+/// after the other end at about the same time. More patches would be smaller, and small patches make less use of the
 /// caches.
 const fn parts_of_side(parts: usize) -> usize {
     1 + parts.saturating_sub(1).saturating_mul(4).isqrt()

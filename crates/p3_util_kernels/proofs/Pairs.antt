@@ -1,4 +1,4 @@
--- How many pairs of places blocks and squares exchange.
+-- How many pairs of places patches and squares exchange.
 use Rattle.std.proofs.Common.{◌≡◌, ℕ, zero, suc, ◌+◌, ◌-◌, ◌*◌, ◌/◌, arith}
 use Rattle.p3_util_kernels.specs.SwapCounts.{square_swaps}
 

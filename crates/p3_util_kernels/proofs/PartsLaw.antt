@@ -24,8 +24,8 @@ use Rattle.p3_util_kernels.specs.Region.{LiesInMatrix}
 use Rattle.p3_util_kernels.specs.Reversal.{IsRowReversal}
 use Rattle.p3_util_kernels.specs.SwapCounts.{row_swaps, short_swaps}
 use Rattle.p3_util_kernels.specs.Transpose.{IsTranspose}
-use Rattle.p3_util_kernels.proofs.BlocksLemmas.{block-covered}
-use Rattle.p3_util_kernels.proofs.BlockSteps.{pairs-steps}
+use Rattle.p3_util_kernels.proofs.PatchesLemmas.{patch-covered}
+use Rattle.p3_util_kernels.proofs.PatchSteps.{pairs-steps}
 use Rattle.p3_util_kernels.proofs.Counts.{count-all}
 use Rattle.p3_util_kernels.proofs.CrossingLemmas.{IsRowReversal-crossed}
 use Rattle.p3_util_kernels.proofs.CutParts.{part-inside, side-cut}
@@ -218,18 +218,18 @@ swaps-stay (OnePart rows) len k steps less of (reversal, many) =
           (written-at (width * 2 ^ digits) (λ i. i) (row_moves width digits) (λ i j hi hj ti tj e. e) (places_swapped steps) (numbers_below len) new
           (swaps-written steps (numbers_below len)) (λ i less t. (moved i less).0 t) (omega (arith, count-moved width digits, swaps-places steps, count)))
     ]
-swaps-stay (ByPairs pairs) len k steps less of (middle, region, block, crossed, many) =
+swaps-stay (ByPairs pairs) len k steps less of (middle, region, patch, crossed, many) =
     let rows = pairs.rows in
     let some = pairs.cut.some_step in
-    pairs-steps rows.digits rows.width pairs.cut.step k some middle region block (numbers_below len) _ steps (numbers-length len ∙ of.1) (numbers-differ len) refl
-    (pairs-exchanged rows.digits rows.width pairs.cut.step some k middle region (numbers_below len) _ block crossed) many
+    pairs-steps rows.digits rows.width pairs.cut.step k some middle region patch (numbers_below len) _ steps (numbers-length len ∙ of.1) (numbers-differ len) refl
+    (pairs-exchanged rows.digits rows.width pairs.cut.step some k middle region (numbers_below len) _ patch crossed) many
 
 pub parts-apart : (plan : ReversalPlan) (i j : ℕ) → i ≢ j → NoPlaceInCommon (IsPlaceOfPart plan i) (IsPlaceOfPart plan j)
 parts-apart (OnePart rows) i j other p at at' = other (at ∙ sym at')
 parts-apart (ByPairs pairs) i j other p (m, t, x, y, less, at, e) (n, u, v, w, less', at', e') =
     other (pairs-apart pairs.rows.digits pairs.rows.width pairs.cut.step pairs.cut.some_step i j (m, t) (n, u) x y v w (less, at) (less', at') (sym e ∙ e'))
 
--- blocks of pairs of rows, on the list of numbers
+-- patches of pairs of rows, on the list of numbers
 module _ (pairs : RowPairs) (len : ℕ) (of : IsReversalPlan len (ByPairs pairs)) (lists : List (List (ℕ × ℕ))) (all : List (ℕ × ℕ))
     (alone : AreOfParts (parts_of (ByPairs pairs)) (λ k. IsMadeAlone (ByPairs pairs) k (numbers_below len)) lists) (is : IsInterleaved lists all) where
   abbrev digits : ℕ
@@ -258,11 +258,11 @@ module _ (pairs : RowPairs) (len : ℕ) (of : IsReversalPlan len (ByPairs pairs)
       IsRowReversal-crossed half c (omega arith) width (numbers_below len) (after_swaps (numbers_below len) all) (omega arith) (rw whole (numbers-length len ∙ of.1))
       (after-length swaps-are all (numbers_below len))
       (λ m x y item.
-      let (k, less, at) = block-covered digits pairs.cut.step pairs.cut.some_step m.0 x y (rw rest at item.middle) item.high item.low in
-      let (middle, region, block, crossed, many) = alone.1 k (get_or lists k []) (slice_get-get_or lists k [] (omega (arith, less, alone.0))) in
+      let (k, less, at) = patch-covered digits pairs.cut.step pairs.cut.some_step m.0 x y (rw rest at item.middle) item.high item.low in
+      let (middle, region, patch, crossed, many) = alone.1 k (get_or lists k []) (slice_get-get_or lists k [] (omega (arith, less, alone.0))) in
       of-part swaps-are (IsPlaceOfPart (ByPairs pairs)) (parts-apart (ByPairs pairs)) (numbers_below len) pair-inside lists own-pairs all is k
       (place digits width pairs.cut.step pairs.cut.some_step m x y) (m.0, m.1, x, y, item.item, at, refl)
-      ∙ (pairs-exchanged digits width pairs.cut.step pairs.cut.some_step k middle region (numbers_below len) _ block crossed).crossed m x y (item.item, at))
+      ∙ (pairs-exchanged digits width pairs.cut.step pairs.cut.some_step k middle region (numbers_below len) _ patch crossed).crossed m x y (item.item, at))
 
   all-counted : length all ≡ row_swaps len width
   all-counted =
@@ -291,4 +291,4 @@ swaps-reverse (ByPairs pairs) old lists all of alone is =
 pub alone-from : {A : Type 0} (plan : ReversalPlan) (k : ℕ) (old new : List A) → IsPartMade plan k old new (λ n. SwapsLead n old new)
     → (steps : List (ℕ × ℕ)) × (new ≡ after_swaps old steps) × IsMadeAlone plan k old steps
 alone-from (OnePart rows) k old new (made, (steps, many, leads)) = (steps, sym leads, rw leads (made, many))
-alone-from (ByPairs pairs) k old new (middle, part, block, made, (steps, many, leads)) = (steps, sym leads, rw leads (middle, part, block, made, many))
+alone-from (ByPairs pairs) k old new (middle, part, patch, made, (steps, many, leads)) = (steps, sym leads, rw leads (middle, part, patch, made, many))

@@ -1,5 +1,4 @@
 pub mod BlockPut
-pub mod Blocks
 pub mod Columns
 pub mod Crossing
 pub mod Digits
@@ -13,6 +12,7 @@ pub mod Mirrored
 pub mod Names
 pub mod PartSteps
 pub mod Parts
+pub mod Patches
 pub mod Plans
 pub mod Powers
 pub mod Region

@@ -7,7 +7,7 @@ use Rattle.std.specs.Prelude.{swap}
 use Rattle.p3_util_kernels.specs.declared.parts.reversal.ReversalPlan.{ReversalPlan}
 use Rattle.p3_util_kernels.specs.declared.parts.reversal.ReversalPlan.TheVariants.{OnePart, ByPairs}
 use Rattle.p3_util_kernels.specs.declared.transpose.regions.Region.{Region}
-use Rattle.p3_util_kernels.specs.Blocks.{IsBlock}
+use Rattle.p3_util_kernels.specs.Patches.{IsPatch}
 use Rattle.p3_util_kernels.specs.Crossing.{row_of}
 use Rattle.p3_util_kernels.specs.Least.{after_puts, after_swaps}
 use Rattle.p3_util_kernels.specs.Region.{IsInRegion}
@@ -37,20 +37,20 @@ NoItemInCommon xs ys = (i j : ℕ) → i < length xs → j < length ys → slice
 abbrev pub IsPlaceOfRegion : (region : Region) (height p : ℕ) → Type 0
 IsPlaceOfRegion region height p = (x y : ℕ) × IsInRegion region x y × (p ≡ x * height + y)
 
--- row a and column b of the grid of `middle` lie in the block with this number or in its mirror
+-- row a and column b of the grid of `middle` lie in the patch with this number or in its mirror
 -- image
-abbrev pub IsInBlock : (digits step number middle a b : ℕ) → Type 0
-IsInBlock digits step number middle a b =
-    (region : Region) × IsBlock digits step number middle region × IsInRegion region (max a b) (min a b)
+abbrev pub IsInPatch : (digits step number middle a b : ℕ) → Type 0
+IsInPatch digits step number middle a b =
+    (region : Region) × IsPatch digits step number middle region × IsInRegion region (max a b) (min a b)
 
 -- p is a place of part `number` of the plan. A plan of one part has all places. Otherwise p is a
--- place in one of the rows that the block with this number exchanges. A row that stays where it is
+-- place in one of the rows that the patch with this number exchanges. A row that stays where it is
 -- counts as a pair with itself
 abbrev pub IsPlaceOfPart : (plan : ReversalPlan) (number p : ℕ) → Type 0
 IsPlaceOfPart (OnePart rows) number p = number ≡ 0
 IsPlaceOfPart (ByPairs pairs) number p =
     let half = pairs.rows.digits / 2 in
-    (m t x y : ℕ) × (t < pairs.rows.width) × IsInBlock pairs.rows.digits pairs.cut.step number m x y
+    (m t x y : ℕ) × (t < pairs.rows.width) × IsInPatch pairs.rows.digits pairs.cut.step number m x y
     × (p ≡ row_of half (pairs.rows.digits - half) m x y * pairs.rows.width + t)
 
 more_steps : {A S : Type 0} (after : List A → List S → List A) → ((xs : List A) (s t : List S) → after xs (s ++ t) ≡ after (after xs s) t)

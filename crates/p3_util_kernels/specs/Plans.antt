@@ -4,7 +4,7 @@
 use Rattle.std.specs.Prelude.{ℕ, ◌≡◌, ◌*◌, ◌/◌, ◌^◌, ◌<◌, ◌≤◌, ◌==◌, if◌then◌else◌, max, List, length}
 use Rattle.p3_util_kernels.specs.declared.parts.reversal.ReversalPlan.{ReversalPlan}
 use Rattle.p3_util_kernels.specs.declared.parts.reversal.ReversalPlan.TheVariants.{OnePart, ByPairs}
-use Rattle.p3_util_kernels.specs.Blocks.{IsBlockExchanged, blocks_of}
+use Rattle.p3_util_kernels.specs.Patches.{IsPatchExchanged, patches_of}
 use Rattle.p3_util_kernels.specs.Levels.{clog}
 use Rattle.p3_util_kernels.specs.Parts.{IsLeastStep, parts_in}
 use Rattle.p3_util_kernels.specs.Reversal.{FitsRows, IsRowReversal}
@@ -31,13 +31,13 @@ IsCutAsAsked len row_width parts one_part unit (ByPairs pairs) =
 -- the number of parts of a plan
 abbrev pub parts_of : (plan : ReversalPlan) → ℕ
 parts_of (OnePart rows) = 1
-parts_of (ByPairs pairs) = blocks_of pairs.rows.digits pairs.cut.step
+parts_of (ByPairs pairs) = patches_of pairs.rows.digits pairs.cut.step
 
 -- Part `number` of the plan turns `old` into `new`, and `Steps` holds for the number of its
 -- exchanges. Depending on the plan, the part makes the bit reversal of all rows, or exchanges the
--- pairs of rows of a block.
+-- pairs of rows of a patch.
 abbrev pub IsPartMade : {A : Type 0} → (plan : ReversalPlan) (number : ℕ) (old new : List A) (Steps : ℕ → Type 0) → Type 0
 IsPartMade (OnePart rows) number old new Steps =
     IsRowReversal rows.width old new × Steps (row_swaps (length old) rows.width)
 IsPartMade (ByPairs pairs) number old new Steps =
-    IsBlockExchanged pairs.rows.digits pairs.rows.width pairs.cut.step number old new Steps
+    IsPatchExchanged pairs.rows.digits pairs.rows.width pairs.cut.step number old new Steps

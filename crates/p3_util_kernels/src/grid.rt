@@ -183,7 +183,7 @@ fn exchange_tile_column<M: Places>(m: M, grid: Grid, col: usize, region: Region)
 
 /// Exchanges a region above the diagonal with its mirror image, tile by tile.
 #[inline(always)]
-fn exchange_tiles<M: Places>(m: M, grid: Grid, region: Region) -> M
+fn exchange_leaf_tiles<M: Places>(m: M, grid: Grid, region: Region) -> M
     requires one { grid.width ≡ 1 }
     requires rows_in_order { region.row_start ≤ region.row_end }
     requires cols_in_order { region.col_start ≤ region.col_end }
@@ -219,7 +219,7 @@ fn exchange_leaf<M: Places>(m: M, grid: Grid, region: Region) -> M
     let whole_rows = region.row_start % TILE == 0 && region.row_end % TILE == 0;
     let whole_cols = region.col_start % TILE == 0 && region.col_end % TILE == 0;
     if grid.width == 1 && whole_rows && whole_cols {
-        return exchange_tiles(m, grid, region);
+        return exchange_leaf_tiles(m, grid, region);
     }
     let mut m = m;
     for row in region.row_start..region.row_end {

@@ -3,7 +3,7 @@
 //! - A *plan* says how a call is cut: a [`TransposePlan`] for a transpose, and a [`ReversalPlan`]
 //!   for a reversal. The parts may run in any order.
 //! - A transpose is cut into regions. Each region is a part.
-//! - A reversal is a single part, or it has one part for each block of its [`RowPairs`].
+//! - A reversal is a single part, or it has one part for each patch of its [`RowPairs`].
 //! - A [`Cut`] cuts consecutive numbers, such as the columns of a matrix, into parts.
 //!
 //! The module `laws`, which only the Rattle sources have, states what is proved about the parts:
@@ -11,7 +11,7 @@
 //! parts together have the effect of the call, however their steps are interleaved.
 
 ghost use Rattle.std.specs.Prelude.{length, ◌≡◌, ℕ, ◌+◌, ◌-◌, ◌*◌, ◌/◌, ◌%◌, ◌^◌, ◌<◌, ◌≤◌, if◌then◌else◌, max};
-ghost use Rattle.p3_util_kernels.specs.Blocks.{IsBlock, IsBlockExchanged, blocks_of};
+ghost use Rattle.p3_util_kernels.specs.Patches.{IsPatch, IsPatchExchanged, patches_of};
 ghost use Rattle.p3_util_kernels.specs.Crossing.{HoldsRows};
 ghost use Rattle.p3_util_kernels.specs.Parts.{FollowEachOther, IsLeastStep, number_of_pair, pairs_of, part_of_matrix, parts_in, start_of};
 ghost use Rattle.p3_util_kernels.specs.Region.{LiesInMatrix};
@@ -120,7 +120,7 @@ impl Cut {
 
 /// The pairs of rows that the reversal of `rows` exchanges. Each is a place of a grid, which
 /// [`RowDigits::grid`] gives, and its mirror image. The sides of the grids are cut by `cut`, which
-/// divides the grids into blocks.
+/// divides the grids into patches.
 #[derive(Clone, Copy)]
 pub(crate) struct RowPairs {
     rows: RowDigits,
@@ -144,19 +144,19 @@ impl RowPairs {
         RowPairs { rows, cut }
     }
 
-    /// The number of blocks that are on the diagonal of their grid or above it.
+    /// The number of patches that are on the diagonal of their grid or above it.
     pub(crate) fn count(self) -> usize
-        ensures { result ≡ blocks_of self.rows.digits self.cut.step }
+        ensures { result ≡ patches_of self.rows.digits self.cut.step }
     {
         self.cut.pairs() * pow2(self.rows.digits % 2)
     }
 
-    /// Block `number`: the middle part of the indices of the rows of its grid, and its rows and
-    /// columns in that grid. The blocks on the diagonals come last. They have half as many pairs as
+    /// Patch `number`: the middle part of the indices of the rows of its grid, and its rows and
+    /// columns in that grid. The patches on the diagonals come last. They have half as many pairs as
     /// the others.
-    fn block(self, number: usize) -> (usize, Region)
-        requires { number < blocks_of self.rows.digits self.cut.step }
-        ensures { IsBlock self.rows.digits self.cut.step number result.0 result.1 }
+    fn patch(self, number: usize) -> (usize, Region)
+        requires { number < patches_of self.rows.digits self.cut.step }
+        ensures { IsPatch self.rows.digits self.cut.step number result.0 result.1 }
     {
         let grids = pow2(self.rows.digits % 2);
         let (first, second) = self.cut.pair(number / grids);
@@ -171,14 +171,14 @@ impl RowPairs {
         (number % grids, region)
     }
 
-    /// Exchanges the two rows of each pair in block `number`.
+    /// Exchanges the two rows of each pair in patch `number`.
     pub(crate) fn exchange<M: Places>(self, m: M, number: usize) -> M
-        requires below { number < blocks_of self.rows.digits self.cut.step }
+        requires below { number < patches_of self.rows.digits self.cut.step }
         requires ready { HoldsRows self.rows.width self.rows.digits (M.items m) }
-        ensures { IsBlockExchanged self.rows.digits self.rows.width self.cut.step number
+        ensures { IsPatchExchanged self.rows.digits self.rows.width self.cut.step number
             (M.items m) (M.items result) (λ n. M.same_holder n m result) }
     {
-        let (middle, region) = self.block(number);
+        let (middle, region) = self.patch(number);
         let grid = self.rows.grid(middle);
         if region.row_start == region.col_start {
             exchange_quadrants(m, grid, region.row_start, region.rows())

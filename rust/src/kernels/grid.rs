@@ -217,7 +217,7 @@ fn exchange_tile_column<M: Places>(m: M, grid: Grid, col: usize, region: Region)
 /// ensures holder { M.same_holder (items_of region) m result }
 /// ```
 #[inline(always)]
-fn exchange_tiles<M: Places>(m: M, grid: Grid, region: Region) -> M {
+fn exchange_leaf_tiles<M: Places>(m: M, grid: Grid, region: Region) -> M {
     let mut m = m;
     for tile in region.col_start / TILE..region.col_end / TILE {
         m = exchange_tile_column(m, grid, tile * TILE, region);
@@ -244,7 +244,7 @@ fn exchange_leaf<M: Places>(m: M, grid: Grid, region: Region) -> M {
     let whole_rows = region.row_start % TILE == 0 && region.row_end % TILE == 0;
     let whole_cols = region.col_start % TILE == 0 && region.col_end % TILE == 0;
     if grid.width == 1 && whole_rows && whole_cols {
-        return exchange_tiles(m, grid, region);
+        return exchange_leaf_tiles(m, grid, region);
     }
     let mut m = m;
     for row in region.row_start..region.row_end {

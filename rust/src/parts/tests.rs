@@ -187,34 +187,34 @@ fn names(digits: usize, row: usize) -> (usize, usize, usize) {
     (rest >> half, reversed(half, high), rest % (1 << half))
 }
 
-/// The block that has a row: its square, and the pieces of the sides of that square, the lower piece first. A row and the
-/// row that it is exchanged with have the same block. The sides are cut by `cut`.
-fn block_of(cut: Cut, digits: usize, row: usize) -> (usize, usize, usize) {
+/// The patch that has a row: its square, and the pieces of the sides of that square, the lower piece first. A row and the
+/// row that it is exchanged with have the same patch. The sides are cut by `cut`.
+fn patch_of(cut: Cut, digits: usize, row: usize) -> (usize, usize, usize) {
     let (middle, x, y) = names(digits, row);
     let piece = |i| (0..cut.count()).position(|part| (cut.part(part).0..cut.part(part).1).contains(&i));
     (middle, piece(x.min(y)).unwrap(), piece(x.max(y)).unwrap())
 }
 
-/// Each part exchanges all pairs of rows of one block. The test takes the block from the first row that the part moves.
-/// Blocks on a diagonal have half as many pairs as the others, so they come last.
+/// Each part exchanges all pairs of rows of one patch. The test takes the patch from the first row that the part moves.
+/// Patches on a diagonal have half as many pairs as the others, so they come last.
 #[test]
-fn blocks_of_pairs_of_rows() {
+fn patches_of_pairs_of_rows() {
     let cases = (0..=11).flat_map(|digits| (0..=9).map(move |parts| (digits, parts)));
     for ((digits, parts), (width, unit)) in cases.flat_map(|case| [(1, 8), (1, 2), (3, 1)].map(|rows| (case, rows))) {
         let plan = ReversalPlan::ByPairs(RowPairs::new(RowDigits { width, digits }, parts, unit));
         let exchange = |noted: &mut Noted, number| _ = plan.exchange(noted, number);
         let cut = Cut::new(1 << (digits / 2), parts, unit);
         let len = width << digits;
-        let blocks: Vec<_> = (0..plan.count())
+        let patches: Vec<_> = (0..plan.count())
             .map(|number| {
                 let mut noted = Noted::numbered(len);
                 exchange(&mut noted, number);
-                noted.places.first().map(|place| block_of(cut, digits, place / width))
+                noted.places.first().map(|place| patch_of(cut, digits, place / width))
             })
             .collect();
         let wanted = |number: usize, place: usize| {
             let row = place / width;
-            let is_inside = blocks[number] == Some(block_of(cut, digits, row));
+            let is_inside = patches[number] == Some(patch_of(cut, digits, row));
             let row = if is_inside { reversed(digits, row) } else { row };
             row * width + place % width
         };
@@ -224,7 +224,7 @@ fn blocks_of_pairs_of_rows() {
         let squares = 1 + digits % 2;
         assert_eq!(plan.count(), squares * cut.count() * (cut.count() + 1) / 2);
         let is_on_diagonal = |(_, first, second): &(usize, usize, usize)| first == second;
-        assert!(blocks.iter().flatten().map(is_on_diagonal).is_sorted());
+        assert!(patches.iter().flatten().map(is_on_diagonal).is_sorted());
     }
 }
 

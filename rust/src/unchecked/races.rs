@@ -91,7 +91,7 @@ fn run_both<'a, T: Send, P: Copy + Send>(mut parts: Parts<'a, T, P>, plans: [(P,
     run_all(shares, run);
 }
 
-/// Runs two parts of a reversal that overlap, on two threads: a block of a square whose sides are cut into two pieces,
+/// Runs two parts of a reversal that overlap, on two threads: a patch of a square whose sides are cut into two pieces,
 /// and the whole square.
 fn exchanges_both(len: usize, row_width: usize) {
     let mut list: Vec<usize> = (0..len).collect();
@@ -125,6 +125,6 @@ fn overlapping_pairs() {
 /// A square of 64 by 64 items.
 #[test]
 #[ignore = "a race, which a detector has to report"]
-fn overlapping_blocks() {
+fn overlapping_patches() {
     exchanges_both(1 << 12, 1);
 }

@@ -14,7 +14,7 @@ use crate::reverse::{RowDigits, reverse_rows};
 pub(crate) enum ReversalPlan {
     /// The whole reversal of these rows, as one part.
     OnePart(RowDigits),
-    /// Each pair of rows is exchanged. A part is a block of these pairs.
+    /// Each pair of rows is exchanged. A part is a patch of these pairs.
     ByPairs(RowPairs),
 }
 

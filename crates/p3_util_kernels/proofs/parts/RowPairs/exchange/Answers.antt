@@ -1,17 +1,17 @@
--- A block is a region of the grid of its rows.
+-- A patch is a region of the grid of its rows.
 use Rattle.std.proofs.Common.{◌≡◌, ℕ, ◌+◌, ◌-◌, ◌/◌, ◌%◌, ◌^◌, ◌<◌, ◌≤◌, refl, subst, eq-eqb, ne_eqb, arith}
 use Rattle.p3_util_kernels.specs.declared.transpose.regions.Region.{Region}
-use Rattle.p3_util_kernels.specs.Blocks.{IsBlock, swaps_of_block}
+use Rattle.p3_util_kernels.specs.Patches.{IsPatch, swaps_of_patch}
 use Rattle.p3_util_kernels.specs.Grid.{SwapsInGrid, grid_of_rows}
 use Rattle.p3_util_kernels.specs.Region.{items_of, rows_of}
 use Rattle.p3_util_kernels.specs.SwapCounts.{square_swaps}
-use Rattle.p3_util_kernels.proofs.BlocksLemmas.{block-above, block-diagonal, block-rows}
+use Rattle.p3_util_kernels.proofs.PatchesLemmas.{patch-above, patch-diagonal, patch-rows}
 use Rattle.p3_util_kernels.proofs.GridRows.{HoldsGrid-rows}
 use Rattle.p3_util_kernels.proofs.parts.RowPairs.exchange.Goals as goal
 
--- the grid of a block is one of those of the rows
-below : (digits step number middle : ℕ) (region : Region) → IsBlock digits step number middle region → middle < 2 ^ (digits - digits / 2 - digits / 2)
-below digits step number middle region block = let rest : digits - digits / 2 - digits / 2 ≡ digits % 2 = omega arith in rw rest block.middle_below
+-- the grid of a patch is one of those of the rows
+below : (digits step number middle : ℕ) (region : Region) → IsPatch digits step number middle region → middle < 2 ^ (digits - digits / 2 - digits / 2)
+below digits step number middle region patch = let rest : digits - digits / 2 - digits / 2 ≡ digits % 2 = omega arith in rw rest patch.middle_below
 
 -- a region on the diagonal is a square
 square : (region : Region) → region.row_start ≤ region.row_end → region.row_start ≡ region.col_start → region.row_end ≡ region.col_end
@@ -19,38 +19,38 @@ square : (region : Region) → region.row_start ≤ region.row_end → region.ro
 square region order start end = let size : region.row_start + rows_of region ≡ region.row_end = omega arith in rw (size, end, start) refl
 
 pub grid-grid-requires-clause-middle : goal.grid-grid-requires-clause-middle
-grid-grid-requires-clause-middle g c = below _ _ _ _ _ c.block-middle.ensures
+grid-grid-requires-clause-middle g c = below _ _ _ _ _ c.patch-middle.ensures
 
 pub exchange_quadrants-requires-clause-ready : goal.exchange_quadrants-requires-clause-ready
 exchange_quadrants-requires-clause-ready g c =
     let digits = c.args.self.rows.digits in
     rw c.grid-grid.ensures
-    (HoldsGrid-rows (digits / 2) (digits - digits / 2) c.args.self.rows.width c.block-middle.result.0 (omega arith) (below _ _ _ _ _ c.block-middle.ensures)
+    (HoldsGrid-rows (digits / 2) (digits - digits / 2) c.args.self.rows.width c.patch-middle.result.0 (omega arith) (below _ _ _ _ _ c.patch-middle.ensures)
     digits _ (omega arith) c.requires.ready)
 
 pub exchange_region-requires-clause-ready : goal.exchange_region-requires-clause-ready
 exchange_region-requires-clause-ready g c =
     let digits = c.args.self.rows.digits in
     rw c.grid-grid.ensures
-    (HoldsGrid-rows (digits / 2) (digits - digits / 2) c.args.self.rows.width c.block-middle.result.0 (omega arith) (below _ _ _ _ _ c.block-middle.ensures)
+    (HoldsGrid-rows (digits / 2) (digits - digits / 2) c.args.self.rows.width c.patch-middle.result.0 (omega arith) (below _ _ _ _ _ c.patch-middle.ensures)
     digits _ (omega arith) c.requires.ready)
 
 pub exchange_region-requires-clause-above : goal.exchange_region-requires-clause-above
-exchange_region-requires-clause-above g c = block-above _ _ _ _ _ c.args.self.cut.some_step c.block-middle.ensures c.if-region.false
+exchange_region-requires-clause-above g c = patch-above _ _ _ _ _ c.args.self.cut.some_step c.patch-middle.ensures c.if-region.false
 
 pub returns-then-region : goal.returns-then-region
 returns-then-region g c =
     let pairs = c.args.self in
     let half = pairs.rows.digits / 2 in
-    let grid = grid_of_rows half (pairs.rows.digits - half) pairs.rows.width c.block-middle.result.0 in
-    let region = c.block-middle.result.1 in
-    let block = c.block-middle.ensures in
-    let rows = block-rows _ _ _ _ region pairs.cut.some_step block in
-    let end = block-diagonal _ _ _ _ region pairs.cut.some_step block c.if-region.true in
-    let swaps : swaps_of_block region ≡ square_swaps (rows_of region) = rw (eq-eqb region.row_start region.col_start c.if-region.true) refl in (
-      c.block-middle.result.0,
+    let grid = grid_of_rows half (pairs.rows.digits - half) pairs.rows.width c.patch-middle.result.0 in
+    let region = c.patch-middle.result.1 in
+    let patch = c.patch-middle.ensures in
+    let rows = patch-rows _ _ _ _ region pairs.cut.some_step patch in
+    let end = patch-diagonal _ _ _ _ region pairs.cut.some_step patch c.if-region.true in
+    let swaps : swaps_of_patch region ≡ square_swaps (rows_of region) = rw (eq-eqb region.row_start region.col_start c.if-region.true) refl in (
+      c.patch-middle.result.0,
       region,
-      block,
+      patch,
       subst (λ (r : Region). SwapsInGrid grid r (g.M.Places.items c.args.m) (g.M.Places.items c.exchange_quadrants.result))
           (square region (omega (arith, rows)) c.if-region.true end) (rw (c.grid-grid.ensures, c.rows.ensures) at c.exchange_quadrants.ensures.exchanged),
       rw swaps (rw (c.grid-grid.ensures, c.rows.ensures) at c.exchange_quadrants.ensures.holder),
@@ -58,11 +58,11 @@ returns-then-region g c =
 
 pub returns-else-region : goal.returns-else-region
 returns-else-region g c =
-    let region = c.block-middle.result.1 in
-    let swaps : swaps_of_block region ≡ items_of region = rw (ne_eqb region.row_start region.col_start c.if-region.false) refl in (
-      c.block-middle.result.0,
+    let region = c.patch-middle.result.1 in
+    let swaps : swaps_of_patch region ≡ items_of region = rw (ne_eqb region.row_start region.col_start c.if-region.false) refl in (
+      c.patch-middle.result.0,
       region,
-      c.block-middle.ensures,
+      c.patch-middle.ensures,
       rw c.grid-grid.ensures at c.exchange_region.ensures.exchanged,
       rw swaps (rw c.grid-grid.ensures at c.exchange_region.ensures.holder),
     )

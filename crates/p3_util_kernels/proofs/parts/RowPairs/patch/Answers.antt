@@ -1,7 +1,7 @@
--- The block of this number.
+-- The patch of this number.
 use Rattle.std.proofs.Common.{◌%◌, ◌^◌, refl, sym}
 use Rattle.std.proofs.lemmas.Nat.{div-add-mod', mod_below, pow_pos}
-use Rattle.p3_util_kernels.proofs.parts.RowPairs.block.Goals as goal
+use Rattle.p3_util_kernels.proofs.parts.RowPairs.patch.Goals as goal
 
 pub returns : goal.returns
 returns c =

@@ -1,7 +1,7 @@
 use Rattle.std.proofs.Common.{◌-◌, ◌*◌}
 use Rattle.p3_util_kernels.specs.Grid.{SwapsInGrid}
 use Rattle.p3_util_kernels.specs.Region.{rows_of}
-use Rattle.p3_util_kernels.proofs.grid.exchange_tiles.Given as goal
+use Rattle.p3_util_kernels.proofs.grid.exchange_leaf_tiles.Given as goal
 
 -- the columns of tiles before this one are exchanged
 abbrev pub invariant-loop-tile : goal.invariant-loop-tile
