@@ -1,5 +1,4 @@
-//! Bit reversal, transposes and the other small functions of `p3-util` 0.8.0, under the original's names, built on
-//! proved sources.
+//! Bit reversal, transposes and the other small functions of `p3-util` 0.8.0, under its names, built on proved sources.
 //!
 //! The module [`kernels`] has the proved code. It was proved as Rust with contracts, and its documentation still has
 //! these contracts: [`kernels::contracts`] says how to read one. The functions next to this module are those of the
@@ -8,6 +7,8 @@
 //! only with debug assertions. Then the function calls the proved function to which its documentation links, or runs the
 //! kernel of that function on a slice. Functions without a condition are proved functions, or call one, except for
 //! [`assert_send`] and [`assert_sync`], whose bounds the compiler checks.
+//!
+//! The examples call this crate `p3_util_proved`. With the line that README gives for `Cargo.toml`, it is `p3_util`.
 //!
 //! ```
 //! use p3_util_proved::{reverse_slice_index_bits, transpose::transpose};
@@ -66,10 +67,12 @@ use core::any::type_name;
 mod bits;
 #[cfg(feature = "checked")]
 mod checked;
-/// The proved sources themselves, with their contracts as documentation. Here a reversal or a transpose also takes a
-/// list of your own, by a *holder*: a value that gives access to a list by index. Calls that count tell you how many
-/// swaps or writes they make, and their contracts give the exact number. [`places`](kernels::places) has the traits for
-/// holders. [`contracts`](kernels::contracts) says what the names in a contract mean.
+/// The proved sources themselves, with their contracts as documentation.
+///
+/// Here a reversal or a transpose also takes a list of your own, by a *holder*: a value that gives access to a list by
+/// index. Calls that count tell you how many swaps or writes they make, and their contracts give the exact number.
+/// [`places`](kernels::places) has the traits for holders. [`contracts`](kernels::contracts) says what the names in a
+/// contract mean.
 ///
 /// No function here checks its precondition. If the precondition does not hold, a call may leave the list in another
 /// order, panic or never end, but it never touches memory outside the lists. Check the precondition before you call. In
@@ -183,7 +186,7 @@ pub use kernels::bits::{
 #[doc(inline)]
 pub use kernels::chunks::apply_to_chunks;
 
-/// Does nothing. A call compiles only if `T` is `Send`:
+/// Does nothing, but a call compiles only if `T` is `Send`.
 ///
 /// ```compile_fail,E0277
 /// p3_util_proved::assert_send::<std::rc::Rc<u8>>();
@@ -191,7 +194,7 @@ pub use kernels::chunks::apply_to_chunks;
 #[inline]
 pub const fn assert_send<T: Send>() {}
 
-/// Does nothing. A call compiles only if `T` is `Sync`:
+/// Does nothing, but a call compiles only if `T` is `Sync`.
 ///
 /// ```compile_fail,E0277
 /// p3_util_proved::assert_sync::<std::cell::Cell<u8>>();

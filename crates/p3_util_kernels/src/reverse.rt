@@ -1,18 +1,14 @@
 //! Bit reversal of lists: item `i` moves to the index whose binary digits are those of `i` in
-//! reversed order. The rows of a list can be reordered in the same way, by the index of each row.
-//! The items within a row then keep their order.
+//! reversed order.
 //!
-//! A reversal of single items takes one of two paths, the short one or the long one. A reversal of
-//! rows always takes the path of the module `rows`. This file has the calls on slices, calls that
-//! count their swaps, and the choice of the path. The modules below it have the paths:
+//! The rows of a list can be reordered in the same way, by the index of each row. The items within
+//! a row then keep their order.
 //!
-//! - `rows` reverses the order of rows of any width. It exchanges each pair of rows whose indices
-//!   are each other's reverse. These pairs lie across the diagonal of a square or of two squares,
-//!   and the module `grid` exchanges them. With rows of one item this is the short path. A call on
-//!   a slice takes it at every length, and a call that counts its swaps for at most
-//!   `SHORT_PATH_ITEMS` items. The long path uses it for its chunks.
-//! - `long` is the long path, which a call that counts its swaps takes for more items. It makes more
-//!   swaps, in three passes. Its number of swaps is part of the contracts of these calls.
+//! A call exchanges each pair of items, or of rows, whose indices are each other's reverse. For
+//! single items this is the *short path*. A call that counts its swaps takes the short path for up
+//! to 8192 items, and the long one for more. The *long path* makes three passes and more swaps. Its
+//! number of swaps is part of the contracts of these calls. A call on a slice takes the short path
+//! at every length.
 //!
 //! It is proved that each call leaves the list in bit-reversed order (`IsReversal`,
 //! `IsRowReversal`). For the calls that count, the exact number of swaps is proved too. The order
@@ -24,6 +20,8 @@ ghost use Rattle.p3_util_kernels.specs.Levels.{clog};
 ghost use Rattle.p3_util_kernels.specs.Steps.{counted};
 ghost use Rattle.p3_util_kernels.specs.SwapCounts.{reversal_swaps, row_swaps};
 
+// `rows` has the short path, which is that of rows of any width, and `long` has the long path. The
+// module `grid` makes the exchanges of both.
 mod long;
 mod rows;
 
@@ -66,9 +64,11 @@ pub fn reverse_slice_index_bits<F>(vals: &mut [F])
     let _ = reverse_items(vals);
 }
 
-/// Reverses `places` by index bits, as [`reverse_index_bits_on`] does, and returns the number of
-/// swaps. The swaps are counted from 0. The length must be zero or a power of two, which
-/// `fits_rows(places.len(), 1)` checks.
+/// Reverses the order of `places` by index bits, and returns the number of swaps.
+///
+/// With 2^k items, index `i` gets the item from the index that has the k bits of `i` in reversed
+/// order. A list of n items takes at most 3n/2 swaps, which are counted from 0. The length must be
+/// zero or a power of two, which `fits_rows(places.len(), 1)` checks.
 #[tactic(auto, using(crate::proofs::SwapCountsLemmas::reversal_bound))]
 #[inline(always)]
 pub fn reverse_counted<S: Places>(places: &mut S) -> u128
@@ -96,9 +96,12 @@ pub fn reverse_slice_row_index_bits<F>(vals: &mut [F], row_width: usize)
     let _ = reverse_rows_of_items(vals, row_width);
 }
 
-/// Reverses the order of the rows of `places` by index bits, as [`reverse_row_index_bits_on`] does,
-/// and returns the number of swaps. The swaps are counted from 0. Each row has `row_width` items.
-/// The number of rows must be zero or a power of two, which [`fits_rows`] checks.
+/// Reverses the order of the rows of `places` by index bits, and returns the number of swaps. Each
+/// row has `row_width` items.
+///
+/// With 2^k rows, the row at index `r` comes from the index that has the k bits of `r` in reversed
+/// order. The swaps are counted from 0. The number of rows must be zero or a power of two, which
+/// [`fits_rows`] checks.
 #[tactic(auto, using(crate::proofs::SwapCountsLemmas::rows_bound))]
 #[inline(always)]
 pub fn reverse_rows_counted<S: Places>(places: &mut S, row_width: usize) -> u128

@@ -4,21 +4,11 @@
 //! neighbouring columns. To *put* a region is to put each of its items into the cell that it has in
 //! the transpose.
 //!
-//! The transpose of a whole matrix takes one of three paths. A matrix of fewer than `TINY_MATRIX`
-//! items is put column after column, and one of at most `LARGE_MATRIX` items as one region, strip by
-//! strip. A larger one is split into regions first, unless it is narrow. The calls for a region in
-//! this file put that region without a split, and those in `split` split it first.
-//! This file has the calls on slices, calls that count their writes, and the choice of the path.
-//! The modules below it do the rest:
-//!
-//! - `regions` defines matrices and regions, and cuts a region in two.
-//! - `split` halves the longer side of a large region, and does the same with each half, until the
-//!   parts are small or narrow.
-//! - `strips` puts a region strip by strip. A strip is some neighbouring rows of the region.
-//!   `Strips::by_shape` chooses the strips. Begin there if you want to change them.
-//! - `square` transposes a square inside a list in place, by exchanges. The long path of a bit
-//!   reversal uses it.
-//! - `butterfly` transposes a block of 4 by 4 items in two stages. No kernel uses it.
+//! The transpose of a whole matrix takes one of three paths. A matrix of fewer than 128 items is
+//! put column after column, and one of at most 2^20 items as one region, strip by strip. A strip is
+//! some neighbouring rows of the region. A larger matrix is split into regions first, unless it is
+//! narrow. The calls whose names have `region` put a region without a split, and those whose names
+//! have `split` split it first.
 //!
 //! It is proved that each call puts every item where it belongs (`IsTranspose`,
 //! `IsRegionTransposed`). For the calls that count, it is also proved that each item takes exactly
@@ -30,6 +20,10 @@ ghost use Rattle.p3_util_kernels.specs.Region.{IsRegionTransposed, LiesInMatrix,
 ghost use Rattle.p3_util_kernels.specs.Steps.{counted};
 ghost use Rattle.p3_util_kernels.specs.Transpose.{IsTranspose};
 
+// `regions` defines matrices and regions. `strips` puts a region strip by strip: begin at
+// `Strips::by_shape` if you want to change the strips. `split` halves a large region until its parts
+// are small or narrow. `square` transposes a square in place, for the long path of a bit reversal.
+// No kernel uses `butterfly`.
 mod butterfly;
 mod regions;
 mod split;
@@ -86,9 +80,12 @@ pub fn transpose<T: Copy>(input: &[T], output: &mut [T], width: usize, height: u
     let _ = transpose_items(Matrix::new(SliceSource::new(input), width, height), output);
 }
 
-/// Writes the transpose of `input` to `cells`, as [`transpose_on`] does, and returns the number of
-/// writes. The writes are counted from 0. Both lengths must be `width * height`, which
-/// [`fits_matrix`] checks.
+/// Writes the transpose of `input`, a matrix of `height` rows of `width` items, to `cells`, and
+/// returns the number of writes.
+///
+/// The item at `y * width + x` of `input` is written to cell `x * height + y`. The writes are
+/// counted from 0, and there are exactly `width * height`. Both lengths must be `width * height`,
+/// which [`fits_matrix`] checks.
 pub fn transpose_counted<C: Cells>(
     input: &[C::Item],
     cells: &mut C,
@@ -200,8 +197,8 @@ where
     out.count = put_strips(counter, matrix, region, Strips::by_shape(matrix)).writes();
 }
 
-/// Writes the transpose of `region` to `cells`, as [`transpose_region_on`] does, and returns the
-/// number of writes. The writes are counted from 0. The preconditions are the same.
+/// Writes the transpose of `region` to `cells`, and returns the number of writes, which are counted
+/// from 0. The region and the preconditions are as for [`transpose_region_on`].
 pub fn transpose_region_counted<C: Cells>(
     input: &[C::Item],
     cells: &mut C,
@@ -220,9 +217,8 @@ pub fn transpose_region_counted<C: Cells>(
     transpose_source_region_counted(&SliceSource::new(input), cells, region, width, height)
 }
 
-/// Writes the transpose of a region of any source to `cells`, as [`transpose_source_region_on`]
-/// does, and returns the number of writes. The writes are counted from 0. The preconditions are the
-/// same.
+/// Writes the transpose of a region of any source to `cells`, as [`transpose_region_counted`] does
+/// for a slice. The preconditions are the same.
 pub fn transpose_source_region_counted<R, C>(
     input: &R,
     cells: &mut C,

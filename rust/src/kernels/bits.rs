@@ -275,12 +275,13 @@ pub const fn indices_arr<const N: usize>() -> [usize; N] {
     indices
 }
 
-/// Does nothing. It marks a branch that is seldom taken. The original has an empty line of assembly
-/// here, so that the compiler keeps the branch. This body is empty, so the compiler may turn the
-/// branch into a conditional move.
+/// Marks a branch that is seldom taken, and does nothing.
+///
+/// The original has an empty line of assembly here, so that the compiler keeps the branch. This
+/// body is empty, so the compiler may turn the branch into a conditional move.
 #[inline]
 pub const fn branch_hint() {}
 
-/// Does nothing. A call compiles only if `T` is `Clone`.
+/// Does nothing, but a call compiles only if `T` is `Clone`.
 #[inline]
 pub const fn assert_clone<T: Clone>() {}
