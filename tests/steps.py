@@ -1,57 +1,50 @@
-"""For tests/agree: compares .ci/run with CONTRIBUTING's table of the gate. It runs .ci/run with a stub for each command
-of the table. All stubs have to run, in the order of the table. If one of them fails, .ci/run has to fail there."""
-import os
+"""For tests/agree: compares .ci/run with CONTRIBUTING's table of the gate. .ci/run has the head below, then one line for
+each command of the table, in the table's order, and nothing else except comments. So no step is left out, no step has a
+condition, and nothing makes a failed step succeed. If the head is changed, it is changed here too."""
 import pathlib
 import re
-import shutil
-import subprocess
-import tempfile
 
 PAGE = "CONTRIBUTING.md"
-# A stub prints how it was called. Every command says which version it is, and nothing else.
-STUB = """#!/bin/sh
-case "$*" in *version) exit ;; esac
-called=$(echo "${0#"$ROOT"/} $*" | sed 's/ *$//; s|^bin/||')
-echo "$called" >>"$ROOT/called"
-[ "$called" != "$FAILS" ]
-"""
+HEAD = r'''set -euo pipefail
+cd "$(dirname "$0")/.."
+missing=
+for command in "rt version" "git --version" "python3 --version" "cargo --version" "rustc --version" "rustdoc --version" \
+    "cargo clippy --version" "cargo fmt --version" "${CC:-cc} --version" "${CXX:-c++} --version" "nm --version" \
+    "objdump --version"; do
+    $command >/dev/null 2>&1 || missing+="${missing:+, }${command% *}"
+done
+[ -z "$missing" ] || { echo "The gate needs what does not run here: $missing." >&2 && exit 1; }
+command -v valgrind >/dev/null || echo "valgrind is not on the path, so no instructions are counted, and nothing watches reads of unwritten bytes."
+step() {
+    local TIMEFORMAT="== $*: %0R seconds, and %0U of processor time"
+    time "$@"
+}
+static_library() (
+    cd crates/p3_util_c && rt lib
+)
+said=$(mktemp)
+trap 'rm -f "$said"' EXIT
+refusals() (
+    tests/refusals.sh $(sed 's/[ :].*//' crates.txt) <"$said"
+)
+'''
+# The commands of the table that are not written as a step in the same words.
+WORDS = {"rt ci": 'rt ci | tee "$said"', "tests/refusals.sh": "refusals", "rt lib": "static_library"}
 
 
 def steps():
-    """The commands in the first column of the table. The script that reads what `rt ci` said of edits gets all crates."""
+    """The line of .ci/run for each command in the first column of the table."""
     rows = re.search(r"^\| Script \| What it checks .*\n((?:\|.*\n)+)", pathlib.Path(PAGE).read_text(encoding="utf-8"), re.M)
-    crates = re.findall(r"^\w+", pathlib.Path("crates.txt").read_text(), re.M)
-    return [" ".join([command, *crates]) if command == "tests/refusals.sh" else command for row in rows[1].splitlines()
-            for command in re.findall(r"`(.*?)`", row.split("|")[1]) if not command.startswith("crates/")]
-
-
-def calls(root, fails):
-    """The stubs that .ci/run called, and its exit status, if the call `fails` fails."""
-    called = root / "called"
-    called.write_text("")
-    variables = {"PATH": f"{root}/bin:{os.environ['PATH']}", "ROOT": str(root), "FAILS": fails, "CC": "cc", "CXX": "c++"}
-    status = subprocess.run(["bash", root / ".ci/run"], env=variables, stdin=subprocess.DEVNULL, capture_output=True).returncode
-    return called.read_text().splitlines(), status
+    commands = [command for row in rows[1].splitlines() for command in re.findall(r"`(.*?)`", row.split("|")[1])]
+    return ["step " + WORDS.get(command, command) for command in commands if not command.startswith("crates/")]
 
 
 def wrong():
-    """A line for each step that .ci/run leaves out, adds, or does not stop at."""
-    wanted = steps()
-    with tempfile.TemporaryDirectory() as folder:
-        root = pathlib.Path(folder)
-        shutil.copytree(".ci", root / ".ci")
-        shutil.copy("crates.txt", root)
-        (root / "crates/p3_util_c").mkdir(parents=True)
-        commands = re.findall(r'(?<=")[\w+]+(?= (?:\w+ )?(?:--)?version)', (root / ".ci/run").read_text())
-        for path in [*(command.split()[0] for command in wanted), *(f"bin/{command}" for command in ["rt", "cc", "c++", *commands])]:
-            stub = root / (path if "/" in path else f"bin/{path}")
-            stub.parent.mkdir(parents=True, exist_ok=True)
-            stub.write_text(STUB)
-            stub.chmod(0o755)
-        called, status = calls(root, "")
-        if status or called != wanted:
-            yield f".ci/run: exits with {status} after {called}, and {PAGE} has {wanted}"
-        for number, step in enumerate(called, 1):
-            done, status = calls(root, step)
-            if status == 0 or done != called[:number]:
-                yield f".ci/run: if {step} fails, it exits with {status} after {done[-1]}"
+    """The first line of .ci/run that is not as it has to be."""
+    lines = enumerate(pathlib.Path(".ci/run").read_text(encoding="utf-8").splitlines(), 1)
+    lines = [(number, line) for number, line in lines if line and not line.startswith("#")]
+    wanted = [*HEAD.splitlines(), *steps()]
+    for (number, line), want in zip([*lines, ("end", "")], [*wanted, ""]):
+        if line != want:
+            return [f".ci/run:{number}: has '{line}', and not '{want}', by the table of {PAGE} and the head in tests/steps.py"]
+    return []

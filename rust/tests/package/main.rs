@@ -76,17 +76,3 @@ impl Eq for Owner<'_> {}
 fn panics(call: impl FnOnce()) -> bool {
     refusal(call).is_some()
 }
-
-/// The lines of the crate root that refuse systems of other than 64 bits and, with the feature `checked`, unsafe code.
-/// Nothing else shows that they are there: a 64-bit system does not reach the first refusal, and without such code
-/// there is nothing for the second to refuse.
-#[test]
-fn refusals_of_the_root() {
-    let root = include_str!("../../src/lib.rs");
-    for lines in [
-        "\n#![cfg_attr(feature = \"checked\", forbid(unsafe_code))]\n",
-        "\n#[cfg(not(target_pointer_width = \"64\"))]\ncompile_error!(",
-    ] {
-        assert!(root.contains(lines), "{lines}");
-    }
-}
