@@ -17,10 +17,10 @@ HEAD = """\
 # The public contracts of all crates, and all definitions, as the sources have them. docs/CALLING.md explains how to read a
 # contract, and docs/MODEL.md says in words what is promised.
 #
-# Below the name of a source are its contracts. Structs are listed with their private fields, since a clause may name them.
-# The lines below an implementation of a trait say what a clause sees of that type. Sources on the parts of a call are
-# listed with the contracts that only their crate sees, because what is proved of parts stands in these. The crate
-# p3_util_vectors has only tests, so it is listed with its definitions alone.
+# Below the name of a source are its contracts. All structs are listed, with their private fields, since a clause or a
+# definition may name them. The lines below an implementation of a trait say what a clause sees of that type. Sources on the
+# parts of a call are listed with the contracts that only their crate sees, because what is proved of parts stands in these.
+# The crate p3_util_vectors has only tests, so it is listed with its definitions alone.
 #
 # The contracts of a crate are followed by its definitions, and then by its imports: the modules that the names in its
 # contracts and definitions come from. Your crate can import the same names, by `ghost use`.
@@ -60,7 +60,7 @@ def is_private(head, text):
 
 
 def contracts(text, seen_by=("pub",)):
-    """The contracts of a source that these see."""
+    """The contracts of a source that these see, and all its structs and enums, since a definition may use any of them."""
     for outer in declarations(text, 0):
         if outer.kind == "impl" and " for " not in outer.head:
             for inner in declarations(outer.body, 4):
@@ -69,7 +69,7 @@ def contracts(text, seen_by=("pub",)):
         elif outer.kind == "impl":
             if not is_private(outer.head, text) and (said := list(members(outer))):
                 yield from [line(2, outer.head), *said]
-        elif outer.seen_by not in seen_by:
+        elif outer.seen_by not in seen_by and outer.kind not in ("struct", "enum"):
             continue
         elif outer.kind == "fn":
             yield from function(2, "", outer)

@@ -31,7 +31,7 @@ TOKEN = re.compile(r"\.\w+|\w+|[^\s\w]")
 
 
 class Undefined(Exception):
-    """A name or mark in a contract that no row defines. The text has its place and the name."""
+    """A name or mark in a contract that no row defines, or a heading that is not there. The text has its place and its name."""
 
 
 @dataclass
@@ -44,7 +44,10 @@ class Row:
 
 def section(page, heading):
     """The text under a heading of a page."""
-    return page.partition(f"\n## {heading}\n")[2].partition("\n## ")[0]
+    _, found, text = page.partition(f"\n## {heading}\n")
+    if not found:
+        raise Undefined(f"{PAGE}: no heading '{heading}', which docs/make/glossary.py looks for")
+    return text.partition("\n## ")[0]
 
 
 def marks(text):
