@@ -269,8 +269,8 @@ def check_modules():
 
 def check_specs():
     """If no public contract uses a file of specs/, its first lines say that it serves private ones. Otherwise they do
-    not say so. In a library, the comment above each definition of such a file says what it means, and this comment or the
-    file's first lines say from which source it was made."""
+    not say so. Each definition has a comment above it. In a library, this comment or the file's first lines name the source
+    of a definition, unless the file serves private contracts."""
     files = {path: dict(definition_texts(path)) for path in tracked if re.fullmatch(r"crates/\w+/specs/\w+\.antt", path)}
     public = " ".join(said for path in sources if "/parts" not in path for said in contracts(read_source(path)))
     used = stood_on(public, {name: text for texts in files.values() for name, text in texts.items()})
@@ -278,9 +278,10 @@ def check_specs():
         text = read(path)
         head = re.match(r"(?:--.*\n)*", text)[0]
         says_private = "private" in head
-        for found in DEFINITION.finditer(text) if not says_private and re.match(LIBRARIES, path) else ():
+        for found in DEFINITION.finditer(text):
             above = comment_above(text, found)
-            if not above or "Source: " not in head + above:
+            wants_source = not says_private and re.match(LIBRARIES, path)
+            if not above or wants_source and "Source: " not in head + above:
                 yield f"{path}:{text.count(chr(10), 0, found.end()) + 1}: {found[2]} has no comment, or no sentence 'Source: ..'"
         if texts and says_private == any(name in used for name in texts):
             yield f"{path}:1: its first lines say that it serves private contracts, and a public one uses its definitions" if says_private \

@@ -24,15 +24,16 @@ pub record IsInverseTransformed (k root width : ℕ) (old new : List ℕ) : Type
       → slice_index new (r * width + c)
       ≡ (sum_below (2 ^ k) (λ j. slice_index old (j * width + c) * (root ^ (2 ^ k - 1)) ^ (r * j)) * HALF ^ k) % PRIME
 
--- The inverse of the transform of a list is the list itself, and so is the transform of its
--- inverse. The list has 2 ^ k rows of numbers below the prime.
+-- the list has `2 ^ k` rows of `width` numbers below the prime, for k up to 27
 abbrev pub IsMatrixList : (k width : ℕ) → List ℕ → Type 0
 IsMatrixList k width xs = (k ≤ MOST_STAGES) × (length xs ≡ width * 2 ^ k) × EachIndex xs (λ i. slice_index xs i < PRIME)
 
+-- the inverse of the transform of a list is the list itself
 abbrev pub InverseRestores : Type 0
 InverseRestores = (k width : ℕ) (old mid new : List ℕ) → IsMatrixList k width old
     → IsTransformed (slice_index ROOTS k) width (2 ^ k) old mid → IsInverseTransformed k (slice_index ROOTS k) width mid new → new ≡ old
 
+-- the transform of the inverse of a list is the list itself
 abbrev pub TransformRestores : Type 0
 TransformRestores = (k width : ℕ) (old mid new : List ℕ) → IsMatrixList k width old
     → IsInverseTransformed k (slice_index ROOTS k) width old mid → IsTransformed (slice_index ROOTS k) width (2 ^ k) mid new → new ≡ old

@@ -4,10 +4,12 @@ use Rattle.serde_json.specs.Data.{Data, number, array, unsigned, Items, no_items
 use Rattle.p3_util.specs.JsonArray.{Refusal, wrong_kind}
 
 module _ {T : Type 0} (make : ℕ → ℕ → T) where
+  -- the pair of a and the number that is the only item of a list, and no other value
   abbrev pub from_second : ℕ → Items → Result T Refusal
   from_second a (item (number (unsigned b)) no_items) = Ok (make a b)
   from_second a _ = Err wrong_kind
 
+  -- the pair of the two numbers that are the items of a list, and no other value
   abbrev pub from_first : Items → Result T Refusal
   from_first (item (number (unsigned a)) ds) = from_second a ds
   from_first _ = Err wrong_kind
