@@ -1,5 +1,5 @@
 -- How deep the splits of a transpose nest.
-use Rattle.std.proofs.Common.{◌≡◌, ℕ, zero, suc, ◌+◌, ◌-◌, ◌*◌, ◌/◌, ◌^◌, ◌<◌, ◌≤◌, cond, ltb, inl, inr, ◌∙◌, sym, min, max, arith}
+use Rattle.std.proofs.Common.{◌≡◌, ℕ, zero, suc, ◌+◌, ◌-◌, ◌*◌, ◌/◌, ◌%◌, ◌^◌, ◌<◌, ◌≤◌, cond, ltb, inl, inr, ◌∙◌, ap, sym, min, max, arith}
 use Rattle.std.proofs.Math.Nat.{pow-suc, pow-le-pow_right}
 use Rattle.std.proofs.lemmas.Bool.{cases_lt}
 use Rattle.std.proofs.lemmas.Bool.Decides.{nat_tests}
@@ -72,6 +72,20 @@ clog-half n h =
 -- a smaller number has no greater logarithm
 pub clog-le : (m n : ℕ) → m ≤ n → clog m ≤ clog n
 clog-le m n h = clog-least m (clog n) (omega (arith, clog-enough n))
+
+-- if a number above 8 is halved at a multiple of 8, both parts have smaller logarithms
+pub clog-tiles : (n h : ℕ) → 8 < n → h % 8 ≡ 0 → 2 * h < n + 16 → clog h < clog n
+clog-tiles n h some whole up =
+    let more = clog-above n 3 some in
+    let p : ℕ = 2 ^ (clog n - 4) in
+    let parts : clog n ≡ clog n - 4 + 4 = omega arith in
+    let most : 2 ^ clog n ≡ p * 16 = ap (λ e. 2 ^ e) parts ∙ pow-add 2 (clog n - 4) 4 in
+    let parts' : clog n - 1 ≡ clog n - 4 + 3 = omega arith in
+    let less : 2 ^ (clog n - 1) ≡ p * 8 = ap (λ e. 2 ^ e) parts' ∙ pow-add 2 (clog n - 4) 3 in
+    omega (arith, more, clog-least h (clog n - 1) (omega (arith, clog-enough n, most, less)))
+
+pub clog-rest : (n h : ℕ) → 8 < n → h % 8 ≡ 0 → n ≤ 2 * h → 2 * h < n + 16 → clog (n - h) < clog n
+clog-rest n h some whole half up = omega (arith, clog-le (n - h) h (omega arith), clog-tiles n h some whole up)
 
 pub nest_narrow : (r c : ℕ) → min r c ≤ 2 → nest r c ≡ 0
 nest_narrow r c h = grind (arith, nat_tests)

@@ -229,7 +229,8 @@ fn exchange_leaf<M: Places>(m: M, grid: Grid, region: Region) -> M
 }
 
 /// Exchanges a region above the diagonal with its mirror image. A region that is not a leaf is cut
-/// in half at its longer side.
+/// in half at its longer side. The calls nest at most as deep as the sides can be halved until
+/// neither is longer than `LEAF`. The proof that the calls end counts these levels.
 pub(crate) fn exchange_region<M: Places>(m: M, grid: Grid, region: Region) -> M
     requires rows_in_order { region.row_start ≤ region.row_end }
     requires cols_in_order { region.col_start ≤ region.col_end }
@@ -253,11 +254,14 @@ pub(crate) fn exchange_region<M: Places>(m: M, grid: Grid, region: Region) -> M
     }
 }
 
-/// Half of `size`, rounded up to whole tiles.
+/// Half of `size`, rounded up to whole tiles. The rest is not greater. So a side of at most
+/// `8 * 2^d` is cut into two sides of at most `8 * 2^(d - 1)`.
 #[inline(always)]
 fn upper_half(size: usize) -> usize
     requires { 8 < size }
-    ensures some { 0 < result }
+    ensures whole { result % 8 ≡ 0 }
+    ensures half { size ≤ 2 * result }
+    ensures up { 2 * result < size + 16 }
     ensures below { result < size }
 {
     (size - 1) / (2 * TILE) * TILE + TILE
@@ -320,7 +324,8 @@ fn exchange_corner_tile<M: Places>(m: M, grid: Grid, start: usize) -> M
     m
 }
 
-/// Does the same as [`exchange_corner`], by quadrants.
+/// Does the same as [`exchange_corner`], by quadrants. The calls nest at most as deep as `size` can
+/// be halved until it is at most 8. The proof that the calls end counts these levels.
 pub(crate) fn exchange_quadrants<M: Places>(m: M, grid: Grid, start: usize, size: usize) -> M
     requires within { start + size ≤ 2 ^ grid.digits }
     requires ready { HoldsGrid grid (M.items m) }

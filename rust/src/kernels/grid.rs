@@ -254,7 +254,8 @@ fn exchange_leaf<M: Places>(m: M, grid: Grid, region: Region) -> M {
 }
 
 /// Exchanges a region above the diagonal with its mirror image. A region that is not a leaf is cut
-/// in half at its longer side.
+/// in half at its longer side. The calls nest at most as deep as the sides can be halved until
+/// neither is longer than `LEAF`. The proof that the calls end counts these levels.
 ///
 /// # Contract
 ///
@@ -282,13 +283,16 @@ pub(crate) fn exchange_region<M: Places>(m: M, grid: Grid, region: Region) -> M 
     }
 }
 
-/// Half of `size`, rounded up to whole tiles.
+/// Half of `size`, rounded up to whole tiles. The rest is not greater. So a side of at most
+/// `8 * 2^d` is cut into two sides of at most `8 * 2^(d - 1)`.
 ///
 /// # Contract
 ///
 /// ```text
 /// requires { 8 < size }
-/// ensures some { 0 < result }
+/// ensures whole { result % 8 ≡ 0 }
+/// ensures half { size ≤ 2 * result }
+/// ensures up { 2 * result < size + 16 }
 /// ensures below { result < size }
 /// ```
 #[inline(always)]
@@ -361,7 +365,8 @@ fn exchange_corner_tile<M: Places>(m: M, grid: Grid, start: usize) -> M {
     m
 }
 
-/// Does the same as [`exchange_corner`], by quadrants.
+/// Does the same as [`exchange_corner`], by quadrants. The calls nest at most as deep as `size` can
+/// be halved until it is at most 8. The proof that the calls end counts these levels.
 ///
 /// # Contract
 ///

@@ -1,8 +1,22 @@
 -- The quadrants make the square, and their pairs are those of the square.
-use Rattle.std.proofs.Common.{◌≡◌, ◌+◌, ◌-◌, refl, arith}
+use Rattle.std.proofs.Common.{◌≡◌, ◌+◌, ◌-◌, refl, arith, rules}
 use Rattle.p3_util_kernels.proofs.GridLemmas.{SwapsInGrid-quadrants}
+use Rattle.p3_util_kernels.proofs.LevelsLemmas.{clog-above, clog-rest, clog-tiles}
 use Rattle.p3_util_kernels.proofs.Pairs.{pairs-add}
 use Rattle.p3_util_kernels.proofs.grid.+exchange_quadrants.Goals as goal
+
+-- both parts of the side nest less deep
+pub exchange_quadrants-m-requires : goal.exchange_quadrants-m-requires
+exchange_quadrants-m-requires g t c =
+    let half = c.upper_half-half.ensures in
+    let less = clog-tiles c.args.size _ (omega arith) half.whole half.up in
+    λ κs k. (omega (arith, c.decreases, less, clog-above c.args.size 3 (omega arith)), grind (arith, rules, c.requires.ready))
+
+pub exchange_quadrants-requires : goal.exchange_quadrants-requires
+exchange_quadrants-requires g t c =
+    let half = c.upper_half-half.ensures in
+    let less = clog-rest c.args.size _ (omega arith) half.whole half.half half.up in
+    λ κs k. (omega (arith, c.decreases, less, clog-above c.args.size 3 (omega arith)), grind (arith, rules, c.requires.ready))
 
 pub returns-clause-exchanged : goal.returns-clause-exchanged
 returns-clause-exchanged g t c =
