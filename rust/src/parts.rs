@@ -36,9 +36,9 @@
 //! counts as asking for 1. A transpose has at most as many parts as you ask for.
 //!
 //! A reversal is cut like a square, by a grid. If you ask for N parts, each side of the square is cut into
-//! at most P = 1 + ⌊2√(N − 1)⌋ pieces, and each patch of the grid on or above the diagonal is a part. So there are
+//! at most P = 1 + ⌊2√(N − 1)⌋ ranges, and each patch of the grid on or above the diagonal is a part. So there are
 //! P(P + 1) / 2 parts: about two for each part that you ask for. There are twice as many if there are two squares, and
-//! fewer if a side is too short for P pieces.
+//! fewer if a side is too short for P ranges.
 //!
 //! ```
 //! use p3_util_proved::parts::reversal;
@@ -83,13 +83,10 @@
 //!
 //! # Why this is safe
 //!
-//! A *step* is one exchange of two items, or one put of an item. No two parts make a step at the same index. Take the
-//! steps that each part makes when it runs alone: every sequence that has all these steps, and keeps those of each part
-//! in their order, has the effect of the call on every list, in exactly as many steps. Both are proved. That the
-//! steps of a part do not depend on the items is checked by review: a kernel cannot look at an item.
-//!
-//! A part runs at most once, because `run` consumes it. Nobody else can use the list as long as a part exists, because
-//! each part borrows the list. The section "Threads" of the package's README lists what else is checked by review.
+//! It is proved that no two parts make a step at the same index, and that the steps of all parts, interleaved in any
+//! way, have the effect of the call. A part runs at most once, because `run` consumes it. Nobody else can use the list
+//! as long as a part exists, because each part borrows the list. The section "Threads" of the package's README says
+//! exactly what is proved, and what is checked by review.
 use core::fmt;
 use core::iter::FusedIterator;
 
@@ -143,7 +140,7 @@ pub struct ReversalParts<'a, F>(Parts<'a, F, ReversalPlan>);
 #[must_use = "a part that is not run leaves the list neither as it was nor reversed"]
 pub struct ReversalPart<'a, F>(Parts<'a, F, ReversalPlan>);
 
-/// The greatest number of pieces that a side is cut into if the caller asks for `parts` parts. P pieces of a side make
+/// The greatest number of ranges that a side is cut into if the caller asks for `parts` parts. P ranges of a side make
 /// P(P + 1) / 2 patches. These are about two for each part that the caller asks for, so that threads that take one patch
 /// after the other end at about the same time. More patches would be smaller, and small patches make less use of the
 /// caches.
