@@ -40,8 +40,9 @@ pub const fn log3_strict_usize(n: usize) -> usize {
     proved::log3_strict_usize(n)
 }
 
-/// Reverses the k low binary digits of `x` and drops the others, for an `n` of 2^k. An `n` of 1 reverses all 64 digits,
-/// as a `bit_len` of 0 does in [`reverse_bits_len`]. For a power of two this is
+/// Reverses the k low binary digits of `x` and drops the others, for an `n` of 2^k.
+///
+/// An `n` of 1 reverses all 64 digits, as a `bit_len` of 0 does in [`reverse_bits_len`]. For a power of two this is
 /// [`kernels::bits::reverse_bits`](proved::reverse_bits).
 ///
 /// # Panics
@@ -54,8 +55,10 @@ pub const fn reverse_bits(x: usize, n: usize) -> usize {
     proved::reverse_bits(x, n)
 }
 
-/// Reverses the `bit_len` low binary digits of `x` and drops the others. A `bit_len` of 0 reverses all 64 digits. For
-/// up to 64 digits this is [`kernels::bits::reverse_bits_len`](proved::reverse_bits_len).
+/// Reverses the `bit_len` low binary digits of `x` and drops the others.
+///
+/// A `bit_len` of 0 reverses all 64 digits. For up to 64 digits this is
+/// [`kernels::bits::reverse_bits_len`](proved::reverse_bits_len).
 ///
 /// # Panics
 ///

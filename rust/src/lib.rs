@@ -272,9 +272,10 @@ fn refuse_rows(len: usize, row_width: usize) -> ! {
     }
 }
 
-/// Cuts the items of `iter` up to its first `None` into arrays of `N` items. If `N` does not divide their number, the
-/// last array is filled with `default`. If `N` is 0, there is no array. This is the proved
-/// [`kernels::chunks::iter_array_chunks_padded`].
+/// Cuts the items of `iter` up to its first `None` into arrays of `N` items.
+///
+/// If `N` does not divide their number, the last array is filled with `default`. If `N` is 0, there is no array. This
+/// is the proved [`kernels::chunks::iter_array_chunks_padded`].
 #[inline]
 pub fn iter_array_chunks_padded<T: Copy, const N: usize>(
     iter: impl IntoIterator<Item = T>,
@@ -283,8 +284,9 @@ pub fn iter_array_chunks_padded<T: Copy, const N: usize>(
     kernels::chunks::iter_array_chunks_padded(iter, default)
 }
 
-/// The short name of `T`: `alloc::vec::Vec<core::option::Option<u32>>` becomes `Vec<Option<u32>>`. This is what
-/// [`kernels::bits::pretty_name`] returns for the name that the compiler gives.
+/// The short name of `T`: `alloc::vec::Vec<core::option::Option<u32>>` becomes `Vec<Option<u32>>`.
+///
+/// This is what [`kernels::bits::pretty_name`] returns for the name that the compiler gives.
 ///
 /// # Panics
 ///

@@ -10,9 +10,10 @@ use crate::kernels::linear_map as proved;
 pub use crate::kernels::linear_map::{Iter, Keys, Values};
 use crate::memory::{Global, granted};
 
-/// A map in insertion order, for few keys. A lookup compares one stored key after the other with the given one, as in
-/// `stored == given`, until one is equal. So a lookup takes time proportional to the number of pairs, and inserting n new
-/// keys takes time proportional to n^2.
+/// A map in insertion order, for few keys.
+///
+/// A lookup compares one stored key after the other with the given one, as in `stored == given`, until one is equal. So
+/// a lookup takes time proportional to the number of pairs, and inserting n new keys takes time proportional to n^2.
 ///
 /// Each method calls the method of the same name of the proved [`kernels::linear_map::LinearMap`](proved::LinearMap),
 /// whose contract says what it does. If memory runs out, the proved method returns an error, and the method here
@@ -57,8 +58,9 @@ impl<K: Eq, V> LinearMap<K, V> {
         self.0.get_mut(k)
     }
 
-    /// Stores the value `v` for the key `k`, and returns the value that was stored for an equal key before. If there
-    /// was an equal key, that key stays, at its place in the order. Otherwise the new pair goes to the end.
+    /// Stores the value `v` for the key `k`, and returns the value that was stored for an equal key before.
+    ///
+    /// If there was an equal key, that key stays, at its place in the order. Otherwise the new pair goes to the end.
     ///
     /// # Panics
     ///

@@ -99,9 +99,10 @@ const ONE_PART_ITEMS: usize = 1 << 16;
 /// A list of more bytes is cut, however few items it has.
 const ONE_PART_BYTES: usize = 1 << 21;
 
-/// The greatest number of items of this type that [`reversal`] and [`row_reversal`] leave as one part. It is 2^16, or
-/// the number of items that 2^21 bytes hold if that is less. Up to about that number, the call takes less time than its
-/// parts on the threads of a pool.
+/// The greatest number of items of this type that [`reversal`] and [`row_reversal`] leave as one part.
+///
+/// It is 2^16, or the number of items that 2^21 bytes hold if that is less. Up to about that number, the call takes
+/// less time than its parts on the threads of a pool.
 ///
 /// ```
 /// use p3_util_proved::parts::one_part_reversal;

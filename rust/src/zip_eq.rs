@@ -3,8 +3,9 @@
 #[doc(inline)]
 pub use crate::kernels::zip_eq::ZipEq;
 
-/// Pairs the items of `a` and `b` in order, or returns `err` if their lengths differ. This is the proved
-/// [`kernels::zip_eq::zip_eq`](crate::kernels::zip_eq::zip_eq), with the original's type parameters.
+/// Pairs the items of `a` and `b` in order, or returns `err` if their lengths differ.
+///
+/// This is the proved [`kernels::zip_eq::zip_eq`](crate::kernels::zip_eq::zip_eq), with the original's type parameters.
 ///
 /// ```
 /// use p3_util_proved::zip_eq::zip_eq;

@@ -129,9 +129,11 @@ impl<K: Eq, V> LinearMap<K, V> {
 }
 
 impl<K: Eq + Drop, V> LinearMap<K, V> {
-    /// Gives `k` the value `v`. A known key keeps its place and its stored spelling: its old value
-    /// is returned, and `k` is dropped. A new pair goes to the end. Only a new pair can need
-    /// memory. If there is none, `NoRoom` returns the pair, and the map is unchanged.
+    /// Gives `k` the value `v`.
+    ///
+    /// A known key keeps its place and its stored spelling: its old value is returned, and `k` is
+    /// dropped. A new pair goes to the end. Only a new pair can need memory. If there is none,
+    /// `NoRoom` returns the pair, and the map is unchanged.
     pub fn insert(&mut self, k: K, v: V) -> Result<Option<V>, NoRoom<(K, V)>>
         ensures old { IfOk result (λ old. old ≡ value_at K.eq self.old k) }
         ensures put { OnOk result (self.new ≡ put K.eq self.old k v) }
@@ -154,9 +156,11 @@ impl<K: Eq + Drop, V> LinearMap<K, V> {
         Ok(None)
     }
 
-    /// A mutable reference to the value of `k`. For a new key, the call first makes room, and then
-    /// adds the value that `f` returns at the end. For a known key `f` is not called. Only a new
-    /// key can need memory. If there is none, `NoRoom` returns the key, and the map is unchanged.
+    /// A mutable reference to the value of `k`.
+    ///
+    /// For a new key, the call first makes room, and then adds the value that `f` returns at the
+    /// end. For a known key `f` is not called. Only a new key can need memory. If there is none,
+    /// `NoRoom` returns the key, and the map is unchanged.
     pub fn get_or_insert_with<F: FnOnce() -> V>(&mut self, k: K, f: F) -> Result<&mut V, NoRoom<K>>
         requires { value_at K.eq self.old k ≡ None → F.pre f }
         ensures* writes_back { sem 𝓛 (lends_put K.row V.row K.eq self.entry k result) }

@@ -18,9 +18,10 @@ pub fn least_runs()
     least_runs_of::<usize>();
 }
 
-/// The least number of steps in which a list whose items all differ can be rearranged. A step is
-/// one exchange of the items at any two places, or one put at any place. Steps are made one after
-/// the other.
+/// The least number of steps in which a list whose items all differ can be rearranged.
+///
+/// A step is one exchange of the items at any two places, or one put at any place. Steps are made
+/// one after the other.
 ///
 /// - m exchanges change at most 2m places, and m puts change at most m places.
 /// - Of the numbers of k bits, 2^ceil(k/2) are their own reverse.

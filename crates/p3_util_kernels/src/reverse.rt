@@ -36,8 +36,10 @@ pub use rows::{reverse_chunks_on, reverse_index_bits_short, reverse_row_index_bi
 const SHORT_PATH_ITEMS: usize = 8192;
 
 /// Whether `len` items can be cut into rows of `row_width` items so that the number of rows is zero
-/// or a power of two. With a `row_width` of 1 this says whether `len` is zero or a power of two.
-/// With a `row_width` of 0 it says whether `len` is zero.
+/// or a power of two.
+///
+/// With a `row_width` of 1 this says whether `len` is zero or a power of two. With a `row_width` of
+/// 0 it says whether `len` is zero.
 #[inline]
 #[must_use]
 pub const fn fits_rows(len: usize, row_width: usize) -> bool
@@ -82,8 +84,10 @@ pub fn reverse_counted<S: Places>(places: &mut S) -> u128
     reverse_index_bits(Swaps::new(places)).swaps()
 }
 
-/// Reverses the order of the rows of `vals` by index bits. Each row has `row_width` items. The
-/// number of rows must be zero or a power of two, which this call does not check.
+/// Reverses the order of the rows of `vals` by index bits.
+///
+/// Each row has `row_width` items. The number of rows must be zero or a power of two, which this
+/// call does not check.
 ///
 /// With 2^k rows, the row at index `r` comes from the index that has the k bits of `r` in reversed
 /// order. A second call restores the original order. No item is cloned or dropped. [`fits_rows`]
@@ -117,8 +121,10 @@ pub fn reverse_rows_counted<S: Places>(places: &mut S, row_width: usize) -> u128
 }
 
 /// Reverses `m` by index bits, as [`reverse_slice_index_bits`] does: by the short path up to 8192
-/// items, and by the long one if there are more. A list of n items takes at most 3n/2 swaps. The
-/// length must be zero or a power of two, which `fits_rows(m.len(), 1)` checks.
+/// items, and by the long one if there are more.
+///
+/// A list of n items takes at most 3n/2 swaps. The length must be zero or a power of two, which
+/// `fits_rows(m.len(), 1)` checks.
 #[tactic(auto, using(crate::proofs::SwapCountsLemmas::reversal_bound))]
 pub fn reverse_index_bits_on<S: Places>(m: &mut Swaps<S>)
     requires { IsReversible (length (S.items m.old.holder)) }

@@ -50,8 +50,9 @@ where
     }
 }
 
-/// Cuts the items of `iter` up to its first `None` into arrays of `N` items. If `N` does not divide
-/// their number, the last array is filled with `default`.
+/// Cuts the items of `iter` up to its first `None` into arrays of `N` items.
+///
+/// If `N` does not divide their number, the last array is filled with `default`.
 ///
 /// After that `None`, `next` is not called again. If `N` is 0, there is no array, and `next` is
 /// never called.

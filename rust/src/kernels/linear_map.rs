@@ -166,9 +166,11 @@ impl<K: Eq, V> LinearMap<K, V> {
 }
 
 impl<K: Eq, V> LinearMap<K, V> {
-    /// Gives `k` the value `v`. A known key keeps its place and its stored spelling: its old value
-    /// is returned, and `k` is dropped. A new pair goes to the end. Only a new pair can need
-    /// memory. If there is none, `NoRoom` returns the pair, and the map is unchanged.
+    /// Gives `k` the value `v`.
+    ///
+    /// A known key keeps its place and its stored spelling: its old value is returned, and `k` is
+    /// dropped. A new pair goes to the end. Only a new pair can need memory. If there is none,
+    /// `NoRoom` returns the pair, and the map is unchanged.
     ///
     /// # Contract
     ///
@@ -200,9 +202,11 @@ impl<K: Eq, V> LinearMap<K, V> {
         Ok(None)
     }
 
-    /// A mutable reference to the value of `k`. For a new key, the call first makes room, and then
-    /// adds the value that `f` returns at the end. For a known key `f` is not called. Only a new
-    /// key can need memory. If there is none, `NoRoom` returns the key, and the map is unchanged.
+    /// A mutable reference to the value of `k`.
+    ///
+    /// For a new key, the call first makes room, and then adds the value that `f` returns at the
+    /// end. For a known key `f` is not called. Only a new key can need memory. If there is none,
+    /// `NoRoom` returns the key, and the map is unchanged.
     ///
     /// # Contract
     ///

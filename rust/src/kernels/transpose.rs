@@ -45,8 +45,9 @@ const LARGE_MATRIX: usize = 1_048_576;
 /// How many levels of splits a transpose is given. No matrix needs as many.
 pub(crate) const ENOUGH_LEVELS: u32 = 64;
 
-/// Whether an input and an output of these lengths both have `width * height` items. If that
-/// product overflows, they do not. This tests the preconditions of [`transpose`] and
+/// Whether an input and an output of these lengths both have `width * height` items.
+///
+/// If that product overflows, they do not. This tests the preconditions of [`transpose`] and
 /// [`transpose_on`].
 ///
 /// # Contract
@@ -116,8 +117,9 @@ pub fn transpose_counted<C: Cells>(
     transpose_source_counted(&SliceSource::new(input), cells, width, height)
 }
 
-/// Writes the transpose of any source to `cells`, as [`transpose_counted`] does for a slice. Both
-/// lengths must be `width * height`, which [`fits_matrix`] checks.
+/// Writes the transpose of any source to `cells`, as [`transpose_counted`] does for a slice.
+///
+/// Both lengths must be `width * height`, which [`fits_matrix`] checks.
 ///
 /// # Contract
 ///
@@ -142,10 +144,12 @@ where
 }
 
 /// Writes the transpose of `input` to `out`, as [`transpose`] does, in exactly `width * height`
-/// writes. Both lengths must be `width * height`, which [`fits_matrix`] checks. If 16 divides
-/// `width`, a matrix of 128 to 1024 items is written 16 rows at a time, in blocks of 4 by 4 items.
-/// Rows that fill no block are written column after column. The contract does not say so, but tests
-/// of the order of the writes show it.
+/// writes.
+///
+/// Both lengths must be `width * height`, which [`fits_matrix`] checks. If 16 divides `width`, a
+/// matrix of 128 to 1024 items is written 16 rows at a time, in blocks of 4 by 4 items. Rows that
+/// fill no block are written column after column. The contract does not say so, but tests of the
+/// order of the writes show it.
 ///
 /// # Contract
 ///
@@ -165,8 +169,9 @@ pub fn transpose_on<C: Cells>(input: &[C::Item], out: &mut Writes<C>, width: usi
     transpose_source_on(&SliceSource::new(input), out, width, height);
 }
 
-/// Writes the transpose of any source to `out`, as [`transpose_on`] does for a slice. Both lengths
-/// must be `width * height`, which [`fits_matrix`] checks.
+/// Writes the transpose of any source to `out`, as [`transpose_on`] does for a slice.
+///
+/// Both lengths must be `width * height`, which [`fits_matrix`] checks.
 ///
 /// # Contract
 ///
@@ -192,11 +197,12 @@ where
     out.count = transpose_matrix(counter, matrix, Strips::by_shape(matrix)).writes();
 }
 
-/// Writes the transpose of `region` to `out`, with one write for each item. The region is a part of
-/// `input`, a matrix of `height` rows of `width` items. For each row y and column x of the region,
-/// the item at `y * width + x` of `input` is written to cell `x * height + y`. All other cells keep
-/// their items. Both lengths must be `width * height`, which [`fits_matrix`] checks. The region
-/// must lie in the matrix, which [`Region::fits`] checks.
+/// Writes the transpose of `region` to `out`, with one write for each item.
+///
+/// The region is a part of `input`, a matrix of `height` rows of `width` items. For each row y and
+/// column x of the region, the item at `y * width + x` of `input` is written to cell
+/// `x * height + y`. All other cells keep their items. Both lengths must be `width * height`, which
+/// [`fits_matrix`] checks. The region must lie in the matrix, which [`Region::fits`] checks.
 ///
 /// # Contract
 ///
@@ -264,7 +270,9 @@ where
 }
 
 /// Writes the transpose of `region` to `cells`, and returns the number of writes, which are counted
-/// from 0. The region and the preconditions are as for [`transpose_region_on`].
+/// from 0.
+///
+/// The region and the preconditions are as for [`transpose_region_on`].
 ///
 /// # Contract
 ///

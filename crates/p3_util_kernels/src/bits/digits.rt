@@ -9,8 +9,10 @@ ghost use Rattle.std.specs.Prelude.{◌≡◌, ℕ, ◌^◌, ◌<◌, ◌≤◌,
 ghost use Rattle.p3_util_kernels.specs.Digits.{rev, rev_word};
 ghost use Rattle.p3_util_kernels.specs.Powers.{HasLog2};
 
-/// Reverses the k low binary digits of `x`, where `n` is 2^k. This is `reverse_bits_len(x, k)`.
-/// `n` must be a power of two, which std's `is_power_of_two` checks.
+/// Reverses the k low binary digits of `x`, where `n` is 2^k.
+///
+/// This is `reverse_bits_len(x, k)`. `n` must be a power of two, which std's `is_power_of_two`
+/// checks.
 #[inline]
 pub const fn reverse_bits(x: usize, n: usize) -> usize
     requires { HasLog2 n }

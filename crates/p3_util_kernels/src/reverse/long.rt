@@ -24,7 +24,9 @@ use crate::transpose::transpose_square;
 
 /// Reverses `m` by index bits, as
 /// [`reverse_slice_index_bits`](crate::reverse::reverse_slice_index_bits) does, in three passes
-/// over chunks and squares. A list of n items takes at most 3n/2 swaps.
+/// over chunks and squares.
+///
+/// A list of n items takes at most 3n/2 swaps.
 /// [`reverse_index_bits_short`](crate::reverse::reverse_index_bits_short) takes at most n/2, but
 /// the order of the swaps here suits lists that do not fit in a cache. The length must be at least
 /// 4, and a power of two, which std's `is_power_of_two` checks.

@@ -12,10 +12,11 @@ use crate::bits::pow2;
 use crate::grid::{Grid, exchange_square};
 use crate::places::{Places, Swaps};
 
-/// Whether a list of `len` items holds a square of `s = 2^log_size` rows and columns. The square
-/// begins at place `base`, and its rows begin `2^log_stride` places apart. No row may reach into
-/// the next one, and the last place of the square must lie in the list. That place is computed
-/// without wrapping. This tests the preconditions of [`transpose_square_on`].
+/// Whether a list of `len` items holds a square of `s = 2^log_size` rows and columns.
+///
+/// The square begins at place `base`, and its rows begin `2^log_stride` places apart. No row may
+/// reach into the next one, and the last place of the square must lie in the list. That place is
+/// computed without wrapping. This tests the preconditions of [`transpose_square_on`].
 #[inline]
 #[must_use]
 pub const fn fits_square(len: usize, base: usize, log_stride: usize, log_size: usize) -> bool
@@ -35,9 +36,10 @@ pub const fn fits_square(len: usize, base: usize, log_stride: usize, log_size: u
     }
 }
 
-/// Transposes a square in place, by `s * (s - 1) / 2` swaps. The square has `s = 2^log_size` rows
-/// and columns. It begins at place `base`, and its rows begin `2^log_stride` places apart. All
-/// other places keep their items.
+/// Transposes a square in place, by `s * (s - 1) / 2` swaps.
+///
+/// The square has `s = 2^log_size` rows and columns. It begins at place `base`, and its rows begin
+/// `2^log_stride` places apart. All other places keep their items.
 ///
 /// `log_size` must be at most `log_stride`, so that no row reaches into the next one, and
 /// `log_stride` must be below 64. The list must hold the last place of the square,

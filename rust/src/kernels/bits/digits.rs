@@ -5,8 +5,10 @@
 //! shifts on x86-64. For std's `reverse_bits`, Rattle's compilers make a loop over single digits
 //! instead, which takes about 20 ns for each call.
 
-/// Reverses the k low binary digits of `x`, where `n` is 2^k. This is `reverse_bits_len(x, k)`.
-/// `n` must be a power of two, which std's `is_power_of_two` checks.
+/// Reverses the k low binary digits of `x`, where `n` is 2^k.
+///
+/// This is `reverse_bits_len(x, k)`. `n` must be a power of two, which std's `is_power_of_two`
+/// checks.
 ///
 /// # Contract
 ///

@@ -91,9 +91,11 @@ impl RowDigits {
     }
 }
 
-/// Reverses the order of the rows of `m` by index bits. Each row has `row_width` items. With 2^k
-/// rows, the row at index `r` comes from the index that has the k bits of `r` in reversed order.
-/// The number of rows must be zero or a power of two, which [`fits_rows`] checks.
+/// Reverses the order of the rows of `m` by index bits.
+///
+/// Each row has `row_width` items. With 2^k rows, the row at index `r` comes from the index that
+/// has the k bits of `r` in reversed order. The number of rows must be zero or a power of two,
+/// which [`fits_rows`] checks.
 ///
 /// [`fits_rows`]: crate::kernels::reverse::fits_rows
 ///
@@ -120,9 +122,10 @@ pub fn reverse_row_index_bits_on<S: Places>(m: &mut Swaps<S>, row_width: usize) 
     m.count = reverse_rows(Swaps::resumed(&mut m.holder, m.count), rows).swaps();
 }
 
-/// Reverses `m` by index bits, as [`reverse_slice_index_bits`] does. Each pair of items whose
-/// indices are each other's reverse is swapped once. The length must be zero or a power of two,
-/// which `fits_rows(m.len(), 1)` checks.
+/// Reverses `m` by index bits, as [`reverse_slice_index_bits`] does.
+///
+/// Each pair of items whose indices are each other's reverse is swapped once. The length must be
+/// zero or a power of two, which `fits_rows(m.len(), 1)` checks.
 ///
 /// [`reverse_slice_index_bits`]: crate::kernels::reverse::reverse_slice_index_bits
 ///
@@ -149,12 +152,13 @@ pub fn reverse_index_bits_short<S: Places>(m: &mut Swaps<S>) {
     m.count = reverse_short(Swaps::resumed(&mut m.holder, m.count)).swaps();
 }
 
-/// Reverses the order of chunks by index bits. There are `2^h` chunks of `2^c` items, where h is
-/// `lb_num_chunks` and c is `lb_chunk_size`. Place `i` gets the item from place
-/// `rev(h, i / 2^c) * 2^c + i mod 2^c`, where `rev(h, x)` has the h bits of x in reversed order. A
-/// list of n items takes at most n/2 swaps. The length must be `2^(h + c)`. To check the length,
-/// compare it with the power that [`checked_log_size_sum`](crate::kernels::bits::checked_log_size_sum)
-/// returns for the two exponents.
+/// Reverses the order of chunks by index bits.
+///
+/// There are `2^h` chunks of `2^c` items, where h is `lb_num_chunks` and c is `lb_chunk_size`.
+/// Place `i` gets the item from place `rev(h, i / 2^c) * 2^c + i mod 2^c`, where `rev(h, x)` has
+/// the h bits of x in reversed order. A list of n items takes at most n/2 swaps. The length must be
+/// `2^(h + c)`. To check the length, compare it with the power that
+/// [`checked_log_size_sum`](crate::kernels::bits::checked_log_size_sum) returns for the two exponents.
 ///
 /// # Contract
 ///

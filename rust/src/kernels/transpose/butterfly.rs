@@ -36,8 +36,9 @@ pub fn butterfly_stage1<T: Copy>(block: [[T; 4]; 4]) -> [[T; 4]; 4] {
     stage1_of_rows(a, b, c, d)
 }
 
-/// Exchanges the higher bit of the row number with the higher bit of the column number. This
-/// exchanges the upper right square of 2 by 2 items with the lower left one.
+/// Exchanges the higher bit of the row number with the higher bit of the column number.
+///
+/// This exchanges the upper right square of 2 by 2 items with the lower left one.
 ///
 /// # Contract
 ///

@@ -65,9 +65,10 @@ pub struct Region {
 }
 
 impl Region {
-    /// Whether the region lies in a matrix of `height` rows of `width` items:
-    /// `row_start <= row_end <= height` and `col_start <= col_end <= width`. This tests the
-    /// precondition that the calls on a region have in common.
+    /// Whether the region lies in a matrix of `height` rows of `width` items: `row_start <= row_end
+    /// <= height` and `col_start <= col_end <= width`.
+    ///
+    /// This tests the precondition that the calls on a region have in common.
     ///
     /// # Contract
     ///

@@ -14,7 +14,9 @@ const NARROW_SIDE: usize = 2;
 
 /// Writes the transpose of `region` to `out`, as
 /// [`transpose_region_on`](crate::kernels::transpose::transpose_region_on) does, but splits the region
-/// first. Returns how deep the splits nest, which is at most 57.
+/// first.
+///
+/// Returns how deep the splits nest, which is at most 57.
 ///
 /// There is no split if both sides of the region are at most 128 or one of them is at most 2.
 /// Otherwise the longer side is halved. If both sides are equal, the rows are halved. Each half is
