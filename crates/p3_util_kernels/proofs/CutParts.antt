@@ -80,6 +80,13 @@ module _ (len unit units step : ℕ) (some : 0 < unit) (most : 0 < units) (fits 
       let e : units * unit ≤ n * unit = mul-le-mul_right unit (omega (arith, d, units_are)) in
       omega (arith, e)
 
+-- the last part ends where the length does
+pub start-end : (len step : ℕ) → 0 < step → start_of len step (parts_in len step) ≡ len
+start-end len step some = omega (arith, (div_ceil_times len step some).0)
+
+pub start-next : (len step k : ℕ) → start_of len step k ≤ start_of len step (k + 1)
+start-next len step k = let more : k * step ≤ (k + 1) * step = mul-le-mul_right step (omega arith) in omega (arith, more)
+
 -- a part ends before a later part begins, or where it begins
 pub start-rising : (len step k l : ℕ) → k < l → start_of len step (k + 1) ≤ start_of len step l
 start-rising len step k l less = let rows : suc k * step ≤ l * step = mul-le-mul_right step less in omega (arith, rows)

@@ -11,6 +11,10 @@
 //! What is left to review is that the steps of a part do not depend on the items of the list, so
 //! that a part makes the same steps on every list.
 //!
+//! **One thread.** Nothing is left to review if all parts are made one after the other, in the order
+//! of their numbers. [`put_all_parts`] and [`exchange_all_parts`] do so, and it is proved for every
+//! holder that this is the call.
+//!
 //! **From "n steps exist" to "these steps were made".** `SwapsLead n old new` says that some n swaps
 //! lead from `old` to `new`. Why are these the swaps that a part makes, and why are there no others?
 //! The contract of a kernel holds for every holder and every `same_holder` that meets the laws of
@@ -168,6 +172,41 @@ pub(crate) fn reversal_in_parts<T>(plan: ReversalPlan)
         → IsRowReversal (width_of plan) old (after_swaps old all)
         × (length all ≡ row_swaps (length old) (width_of plan)) }
 {}
+
+/// Puts all parts of a plan for a transpose, in the order of their numbers, as one thread may do. In
+/// any holder this is the transpose, by as many puts as there are items.
+pub(crate) fn put_all_parts<C: Cells, R: Source<Item = C::Item> + Copy>(
+    out: C,
+    source: R,
+    plan: TransposePlan,
+    strips: Strips,
+) -> C
+    requires input_fits { length (R.items source) ≡ plan.width * plan.height }
+    requires output_fits { length (C.items out) ≡ plan.width * plan.height }
+    ensures transposed { IsTranspose plan.width plan.height (R.items source) (C.items result) }
+    ensures holder { C.same_holder (plan.width * plan.height) out result }
+{
+    let mut out = out;
+    for number in 0..plan.count() {
+        out = plan.put(out, source, number, strips);
+    }
+    out
+}
+
+/// Makes all parts of a plan for a reversal, in the order of their numbers, as one thread may do. In
+/// any holder this is the reversal, by as many exchanges as the reversal that is not cut.
+pub(crate) fn exchange_all_parts<M: Places>(m: M, plan: ReversalPlan) -> M
+    requires plan { IsReversalPlan (length (M.items m)) plan }
+    requires len_fits { length (M.items m) < 2 ^ 64 }
+    ensures reversed { IsRowReversal (width_of plan) (M.items m) (M.items result) }
+    ensures holder { M.same_holder (row_swaps (length (M.items m)) (width_of plan)) m result }
+{
+    let mut m = m;
+    for part in 0..plan.count() {
+        m = plan.exchange(m, part);
+    }
+    m
+}
 
 /// If the columns are cut, the cells of a region are consecutive, and those of the next region come
 /// right after them.
