@@ -175,7 +175,7 @@ fn put_strip<M: Cells, R: Source<Item = M::Item> + Copy>(
     match strips.side {
         // Here the compiler knows the side of a block, and so the lengths of the loops.
         4 => put_stacks(out, matrix, region, 4),
-        8 => put_strip_of_eights(out, matrix, region),
+        8 => put_stacks(out, matrix, region, 8),
         // Most low strips have `LOW_ROWS` rows. Here the compiler knows that number.
         _ if region.rows() == LOW_ROWS => {
             let known = region.with_known_sides(LOW_ROWS, region.cols());
@@ -183,26 +183,6 @@ fn put_strip<M: Cells, R: Source<Item = M::Item> + Copy>(
         }
         _ => put_columns(out, matrix, region),
     }
-}
-
-/// Puts a strip by blocks of 8 by 8 items. No call in Rattle does this. It is a function of its
-/// own, so that `put_strip` stays small enough to be inlined.
-///
-/// # Contract
-///
-/// ```text
-/// requires ready { IsReady region matrix.width matrix.height
-///     (R.items matrix.source) (M.items out) }
-/// ensures transposed { IsRegionTransposed region matrix.width matrix.height
-///     (R.items matrix.source) (M.items out) (M.items result) }
-/// ensures holder { M.same_holder (items_of region) out result }
-/// ```
-fn put_strip_of_eights<M: Cells, R: Source<Item = M::Item> + Copy>(
-    out: M,
-    matrix: Matrix<R>,
-    region: Region,
-) -> M {
-    put_stacks(out, matrix, region, 8)
 }
 
 /// Puts a strip stack after stack, from left to right.
