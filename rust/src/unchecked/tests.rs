@@ -11,7 +11,7 @@ use crate::kernels::places::{Block, Cells, Places, Source};
 use crate::kernels::transpose::{Matrix, Strips, transpose_matrix, transpose_square};
 
 /// The result of a call on the numbers below 6, each as an item of five bytes. For items of this size, std tests that
-/// no place is borrowed twice if it is compiled with `-Zub-checks`.
+/// no place is borrowed twice if debug assertions are on.
 fn left(call: impl FnOnce(&mut SlicePlaces<[u8; 5]>)) -> [u8; 6] {
     let mut list = [0, 1, 2, 3, 4, 5].map(|number| [number; 5]);
     call(&mut SlicePlaces::new(&mut list));

@@ -9,7 +9,7 @@ use p3_util_proved::linear_map::LinearMap;
 use p3_util_proved::zip_eq::zip_eq;
 use p3_util_proved::{apply_to_chunks, iter_array_chunks_padded, kernels};
 
-use crate::Owner;
+use crate::common::Owner;
 
 /// Returns the answers one after another and then `None`, and counts the calls of `next`.
 struct Asked<'a> {

@@ -5,7 +5,7 @@ use std::sync::atomic::{AtomicUsize, Ordering::Relaxed};
 
 use p3_util_proved::linear_map::{Iter, Keys, LinearMap, Values};
 
-use crate::Owner;
+use crate::common::Owner;
 
 /// A string that is compared without regard to upper and lower case.
 #[derive(Debug)]

@@ -4,8 +4,7 @@ use p3_util_proved::linear_map::LinearMap;
 use p3_util_proved::transpose::transpose;
 use p3_util_proved::*;
 
-use crate::panics;
-use crate::refusal::refusal;
+use crate::refusal::{panics, refusal};
 
 /// Asserts that a call panics with the original's full text, as a build of the original with debug assertions prints
 /// it. The panic names the caller's file.

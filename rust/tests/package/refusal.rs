@@ -1,5 +1,7 @@
 //! Panics that are caught.
 
+#![allow(dead_code, reason = "a test program may use only some of this")]
+
 use std::cell::Cell;
 use std::panic::{AssertUnwindSafe, catch_unwind, set_hook, take_hook};
 use std::sync::Once;
@@ -39,4 +41,9 @@ pub fn refusal(call: impl FnOnce()) -> Option<Refusal> {
     };
     let file = FILE.take()?;
     Some(Refusal { text, file })
+}
+
+/// Whether `call` panics.
+pub fn panics(call: impl FnOnce()) -> bool {
+    refusal(call).is_some()
 }

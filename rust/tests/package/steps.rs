@@ -4,8 +4,8 @@ use p3_util_proved::kernels::places::{Places, Swaps};
 use p3_util_proved::kernels::reverse::*;
 use p3_util_proved::kernels::transpose::*;
 
+use crate::common::{reversed, transposed};
 use crate::noted::Noted;
-use crate::{reversed, transposed};
 
 /// The numbers below `len` after a call on a counter over them. The counter counts each exchange.
 fn swapped(len: usize, call: impl FnOnce(&mut Swaps<Noted>)) -> Noted {

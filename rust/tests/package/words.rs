@@ -7,7 +7,8 @@ use p3_util_proved::zip_eq::zip_eq;
 use p3_util_proved::*;
 
 use crate::answers::{LOGARITHMS, POWERS, REVERSED_BELOW_POWERS, REVERSED_DIGITS, SUMS};
-use crate::{panics, reversed};
+use crate::common::reversed;
+use crate::refusal::panics;
 
 #[test]
 fn originals_answers() {

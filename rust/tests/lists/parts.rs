@@ -9,8 +9,8 @@ use std::thread::scope;
 use p3_util_proved::parts::*;
 use p3_util_proved::reverse_slice_row_index_bits;
 
+use crate::common::{Owner, reversed, transposed};
 use crate::refusal::refusal;
-use crate::{Owner, reversed, transposed};
 
 /// Runs the parts on `threads` threads. Each thread takes the next part when it is done with the one before.
 fn run_on<P: Send>(threads: usize, parts: impl Iterator<Item = P> + Send, run: impl Fn(P) + Sync) {

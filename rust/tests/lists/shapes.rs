@@ -3,7 +3,8 @@
 use p3_util_proved::reverse_slice_index_bits;
 use p3_util_proved::transpose::transpose;
 
-use crate::{panics, reversed};
+use crate::common::reversed;
+use crate::refusal::panics;
 
 /// Reverses the numbers below `len` if `len` is zero or a power of two. Otherwise the call panics and changes nothing.
 fn check_length(len: usize) {
@@ -34,8 +35,8 @@ fn check_shape<T: Copy + PartialEq + Send + Sync>(item: &impl Fn(usize) -> T, (w
     }
 }
 
-/// The shapes of the original's tests, except those with a side of up to 17.
-const SHAPES: [(usize, usize); 22] = [
+/// The shapes of the original's tests, except those with a side of up to 17, and the large ones.
+const SHAPES: [(usize, usize); 13] = [
     (255, 1),
     (256, 1),
     (1, 256),
@@ -49,24 +50,17 @@ const SHAPES: [(usize, usize); 22] = [
     (140, 120),
     (300, 60),
     (60, 300),
-    (1024, 1024),
-    (1025, 1024),
-    (1024, 1025),
-    (1025, 1025),
-    (1100, 1000),
-    (2050, 512),
-    (512, 2050),
-    (2003, 757),
-    (757, 2003),
 ];
 
-/// Every pair of sides up to 70, a single row and a single column of up to 200 items, and `SHAPES`.
+/// Every pair of sides up to 70, a single row and a single column of up to 200 items, `SHAPES`, and a large matrix that
+/// is split.
 fn check_shapes<T: Copy + PartialEq + Send + Sync>(item: impl Fn(usize) -> T) {
     let pairs = (1..=70).flat_map(|width| (1..=70).map(move |height| (width, height)));
     let lines = (71..=200).flat_map(|len| [(len, 1), (1, len)]);
     pairs
         .chain(lines)
         .chain(SHAPES)
+        .chain([(1025, 1025)])
         .for_each(|shape| check_shape(&item, shape));
 }
 
@@ -105,8 +99,16 @@ fn shapes_of_four_words() {
     check_shapes(|i| [i as u64, 1, i as u64, 3]);
 }
 
-/// More shapes that the benchmark measures, and the smallest matrix that is split.
-const LARGE_SHAPES: [(usize, usize); 14] = [
+/// The large shapes of the original's tests, more that the benchmark measures, and the smallest matrix that is split.
+const LARGE_SHAPES: [(usize, usize); 22] = [
+    (1024, 1024),
+    (1025, 1024),
+    (1024, 1025),
+    (1100, 1000),
+    (2050, 512),
+    (512, 2050),
+    (2003, 757),
+    (757, 2003),
     (512, 512),
     (1000, 1024),
     (2048, 2048),
@@ -123,15 +125,20 @@ const LARGE_SHAPES: [(usize, usize); 14] = [
     (61_681, 17),
 ];
 
-#[test]
-fn shapes_of_the_benchmark() {
-    LARGE_SHAPES
-        .into_iter()
-        .for_each(|shape| check_shape(&|i| i as u32, shape));
+/// A build without optimization takes half a minute for these shapes, so it has them of one type.
+fn check_large_shapes<T: Copy + PartialEq + Send + Sync>(item: impl Fn(usize) -> T) {
+    LARGE_SHAPES.into_iter().for_each(|shape| check_shape(&item, shape));
 }
 
 #[test]
-fn shapes_of_the_benchmark_of_three_bytes() {
-    let item = |i| [i as u8, (i >> 8) as u8, (i >> 16) as u8];
-    LARGE_SHAPES.into_iter().for_each(|shape| check_shape(&item, shape));
+fn large_shapes() {
+    check_large_shapes(|i| i as u32);
+}
+
+#[cfg(not(debug_assertions))]
+#[test]
+fn large_shapes_of_other_items() {
+    check_large_shapes(|i| [i as u8, (i >> 8) as u8, (i >> 16) as u8]);
+    check_large_shapes(|i| i as u64);
+    check_large_shapes(|i| i as u128);
 }

@@ -1,4 +1,5 @@
-//! Items of every size, alignment and kind.
+//! Items of every alignment and kind. The test program `sizes` has those of every size up to 72 bytes, and the tests of
+//! `unchecked.rs` have rows of many types.
 
 use std::array;
 use std::fmt::Debug;
@@ -8,27 +9,18 @@ use std::sync::atomic::{AtomicUsize, Ordering::Relaxed};
 use p3_util_proved::transpose::transpose;
 use p3_util_proved::{reverse_slice_index_bits, reverse_slice_row_index_bits};
 
-use crate::{Owner, panics, reversed, transposed};
+use crate::common::{Owner, reversed, transposed};
+use crate::refusal::panics;
 
-/// Reverses 2^`bits` rows of `width` items and compares each place. Item i is `item(i)`.
-fn reverses<F: Debug + PartialEq + Send + Sync>(bits: u32, width: usize, item: impl Fn(usize) -> F) {
-    let mut list: Vec<F> = (0..width << bits).map(&item).collect();
-    if width == 1 {
-        reverse_slice_index_bits(&mut list);
-    } else {
-        reverse_slice_row_index_bits(&mut list, width);
-    }
-    for (i, got) in list.iter().enumerate() {
-        let wanted = item(reversed(bits, i / width) * width + i % width);
-        assert_eq!(*got, wanted, "place {i} of 2^{bits} rows of {width}");
-    }
-}
-
-/// Reverses lists and rows of the items that `item` makes. The longest lists have squares of 4 leaves of the kernel.
+/// Reverses lists of the items that `item` makes, and compares each place. The longest lists have squares of 4 leaves of
+/// the kernel.
 fn moves<F: Debug + PartialEq + Send + Sync>(item: impl Fn(usize) -> F) {
-    (0..=16).for_each(|bits| reverses(bits, 1, &item));
-    for (bits, width) in [(0, 5), (1, 2), (3, 2), (4, 3), (5, 32), (7, 5)] {
-        reverses(bits, width, &item);
+    for bits in (0..=12).chain([15, 16]) {
+        let mut list: Vec<F> = (0..1 << bits).map(&item).collect();
+        reverse_slice_index_bits(&mut list);
+        for (i, got) in list.iter().enumerate() {
+            assert_eq!(*got, item(reversed(bits, i)), "place {i} of 2^{bits}");
+        }
     }
 }
 
@@ -66,22 +58,16 @@ fn numbers() {
 }
 
 #[test]
-fn bytes_of_many_lengths() {
-    macro_rules! lengths {
-        ($($len:literal)*) => { $(serves(|i| array::from_fn::<u8, $len, _>(|k| (i >> (k % 3 * 8)) as u8 ^ k as u8));)* };
-    }
-    lengths!(2 3 5 7 8 12 17 24 32 36 257);
-}
-
-#[test]
-fn words_of_many_lengths() {
-    serves(|i| [i as u16; 3]);
-    serves(|i| [i as u32, 1, 2]);
+fn words_of_some_lengths() {
     serves(|i| [i as u32; 5]);
     serves(|i| [i as u64, 1, 2, 3]);
-    serves(|i| [i as u64; 6]);
     serves(|i| [i as u64; 9]);
-    serves(|i| [i as u128, 1, 2]);
+}
+
+/// Items of more than 72 bytes.
+#[test]
+fn large_items() {
+    serves(|i| array::from_fn::<u8, 257, _>(|k| (i >> (k % 3 * 8)) as u8 ^ k as u8));
     serves(|i| (i as u8, [i as u64; 12]));
 }
 

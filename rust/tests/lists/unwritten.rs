@@ -6,7 +6,7 @@ use std::mem::MaybeUninit;
 use p3_util_proved::transpose::transpose;
 use p3_util_proved::{reverse_slice_index_bits, reverse_slice_row_index_bits};
 
-use crate::{reversed, transposed};
+use crate::common::{reversed, transposed};
 
 /// Reverses and transposes lists of items. `write` writes item number i, field by field, so that all other bytes stay as
 /// the allocator left them. `is` recognises it by what was written.
@@ -54,6 +54,27 @@ fn padding() {
         );)* };
     }
     of!(u8, u16; u32, u8; u64, u8);
+}
+
+/// Items of 24 and of 40 bytes, which are written in parts. Their last 7 bytes are padding.
+#[test]
+fn padding_of_items_in_parts() {
+    moves(
+        |item: *mut ([u64; 2], u8), i| unsafe {
+            // SAFETY (of both): the pointer is valid for writes of an item, so also for those of its fields.
+            (&raw mut (*item).0).write([i as u64, !i as u64]);
+            (&raw mut (*item).1).write(i as u8);
+        },
+        |item, i| *item == ([i as u64, !i as u64], i as u8),
+    );
+    moves(
+        |item: *mut (u8, [u64; 4]), i| unsafe {
+            // SAFETY (of both): as above.
+            (&raw mut (*item).0).write(i as u8);
+            (&raw mut (*item).1).write([i as u64, 1, !i as u64, 3]);
+        },
+        |item, i| *item == (i as u8, [i as u64, 1, !i as u64, 3]),
+    );
 }
 
 #[test]

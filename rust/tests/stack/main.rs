@@ -1,11 +1,15 @@
 //! How much stack the calls need. In a build without optimization, each item that is passed on is on the stack, so these
 //! tests are only for a release build.
 
+#![cfg(not(debug_assertions))]
+
+#[path = "../package/common.rs"]
+mod common;
+
 use std::thread::{Builder, scope};
 
+use common::transposed;
 use p3_util_proved::transpose::transpose;
-
-use crate::transposed;
 
 /// The least stack that a thread can have, in bytes. The stack has no room for one item of this size.
 const STACK: usize = 1 << 16;
@@ -54,7 +58,7 @@ fn reversals_of_large_items() {
     for bits in [1, 4, 7, 8] {
         let mut items = numbered(1 << bits);
         on_a_small_stack(|| p3_util_proved::reverse_slice_index_bits(&mut items));
-        let wanted = (0..1 << bits).map(|place| crate::reversed(bits, place));
+        let wanted = (0..1 << bits).map(|place| common::reversed(bits, place));
         assert!(numbers(&items).into_iter().eq(wanted), "2^{bits}");
     }
 }
