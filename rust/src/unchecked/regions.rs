@@ -73,7 +73,7 @@ fn strips_of_the_parts() {
 }
 
 /// The parts use the strips that the whole call uses. For a small matrix of large items these are not the strips that
-/// the kernels choose.
+/// the kernels choose. Nor are they for items of up to 8 bytes, if blocks of them are transposed in registers.
 #[test]
 fn strips_of_the_call() {
     fn is_of_call<T: Copy>(item: T, width: usize, height: usize) -> bool {
@@ -86,6 +86,13 @@ fn strips_of_the_call() {
     }
     assert!(is_of_call(0u128, 64, 65));
     assert!(!is_of_call([0u64; 4], 16, 64));
+    let are_of_call = [
+        is_of_call(0u8, 64, 65),
+        is_of_call(0u16, 64, 65),
+        is_of_call(0u32, 64, 65),
+        is_of_call(0u64, 64, 65),
+    ];
+    assert_eq!(are_of_call, [!TURNS_IN_REGISTERS; 4]);
 }
 
 /// A call on slices puts the items by the strips that suit their size.
