@@ -129,7 +129,8 @@ pub const fn one_part_reversal<F>() -> usize {
 #[must_use = "a part that is not run leaves its cells as they are"]
 pub struct TransposeParts<'a, T>(Parts<'a, T, Regions<&'a [T]>>);
 
-/// A part of a transpose. It is `Send` if its items are `Send` and `Sync`, and it cannot be cloned.
+/// A part of a transpose. It is `Send` if its items are `Send` and `Sync`. It is `Sync` if they are, and it cannot be
+/// cloned.
 #[must_use = "a part that is not run leaves its cells as they are"]
 pub struct TransposePart<'a, T>(Parts<'a, T, Regions<&'a [T]>>);
 
@@ -137,7 +138,7 @@ pub struct TransposePart<'a, T>(Parts<'a, T, Regions<&'a [T]>>);
 #[must_use = "a part that is not run leaves the list neither as it was nor reversed"]
 pub struct ReversalParts<'a, F>(Parts<'a, F, ReversalPlan>);
 
-/// A part of a reversal. It is `Send` if its items are, and it cannot be cloned.
+/// A part of a reversal. It is `Send` if its items are, and `Sync` if they are. It cannot be cloned.
 #[must_use = "a part that is not run leaves the list neither as it was nor reversed"]
 pub struct ReversalPart<'a, F>(Parts<'a, F, ReversalPlan>);
 

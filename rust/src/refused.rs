@@ -70,6 +70,32 @@
 //! p3_util_proved::assert_send::<p3_util_proved::parts::ReversalPart<'_, std::rc::Rc<u8>>>();
 //! ```
 //!
+//! They can be shared between threads if their items can, with and without the feature `checked`:
+//!
+//! ```
+//! use p3_util_proved::assert_sync;
+//! use p3_util_proved::parts::*;
+//!
+//! assert_sync::<(TransposeParts<'_, u8>, TransposePart<'_, u8>)>();
+//! assert_sync::<(ReversalParts<'_, u8>, ReversalPart<'_, u8>)>();
+//! ```
+//!
+//! ```compile_fail,E0277
+//! p3_util_proved::assert_sync::<p3_util_proved::parts::TransposeParts<'_, std::cell::Cell<u8>>>();
+//! ```
+//!
+//! ```compile_fail,E0277
+//! p3_util_proved::assert_sync::<p3_util_proved::parts::TransposePart<'_, std::cell::Cell<u8>>>();
+//! ```
+//!
+//! ```compile_fail,E0277
+//! p3_util_proved::assert_sync::<p3_util_proved::parts::ReversalParts<'_, std::cell::Cell<u8>>>();
+//! ```
+//!
+//! ```compile_fail,E0277
+//! p3_util_proved::assert_sync::<p3_util_proved::parts::ReversalPart<'_, std::cell::Cell<u8>>>();
+//! ```
+//!
 //! No value of these types can be cloned, so no part can run twice:
 //!
 //! ```compile_fail,E0277

@@ -293,6 +293,11 @@ mod slices {
     // SAFETY: a `SliceItems` is made from a `&mut [T]`, and may do to the items only what that reference may do.
     unsafe impl<T: Send> Send for SliceItems<'_, T> {}
 
+    // SAFETY: a method that takes a `&SliceItems` reads the length and no item, so any number of threads may have one.
+    // It would be safe for every `T`. With this bound it holds for the same items as for a `&mut [T]`, and so for the
+    // same parts as with the feature `checked`.
+    unsafe impl<T: Sync> Sync for SliceItems<'_, T> {}
+
     impl<'a, T> SliceItems<'a, T> {
         #[inline(always)]
         pub(super) fn new(slice: &'a mut [T]) -> Self {
