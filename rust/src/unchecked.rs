@@ -383,20 +383,21 @@ mod slices {
         }
 
         /// Stands for 64 calls of `exchange_apart`, one for each row `r` and column `c`, which exchange `x[r] + c` and
-        /// `y[c] + r`. Items of 1, 2, 4 and 8 bytes are exchanged in registers, and others one by one, in squares of 4
-        /// by 4.
+        /// `y[c] + r`. Items of 1, 2, 4 and 8 bytes are exchanged in registers. For items of 3 bytes, both tiles are
+        /// read before anything is written. Others are exchanged one by one, in squares of 4 by 4.
         #[inline(always)]
         #[allow(clippy::needless_range_loop, reason = "a tile is reached by row and column")]
         fn exchange_tiles(&mut self, x: [usize; 8], y: [usize; 8]) {
             debug_assert!(are_tiles(x, y, self.len));
             let first = self.first;
-            // SAFETY (of all four): the 8 items from each of these places on are within the slice, and no two of these
+            // SAFETY (of all five): the 8 items from each of these places on are within the slice, and no two of these
             // runs overlap, by the precondition of `Places::exchange_tiles`.
             match size_of::<F>() {
                 1 if registers::HERE => unsafe { registers::exchange::<F, _, 8, 1>(first, x, y, registers::turned_1) },
                 2 if registers::HERE => unsafe { registers::exchange::<F, _, 8, 1>(first, x, y, registers::turned_2) },
                 4 if registers::HERE => unsafe { registers::exchange::<F, _, 4, 2>(first, x, y, registers::turned_4) },
                 8 if registers::HERE => unsafe { registers::exchange::<F, _, 2, 4>(first, x, y, registers::turned_8) },
+                3 => unsafe { exchange_at_once(first, x, y) },
                 _ => {
                     for row in (0..8).step_by(4) {
                         for col in (0..8).step_by(4) {
@@ -599,6 +600,51 @@ mod slices {
             let (of_x, of_y) = (ptr::read(x), ptr::read(y));
             write_parts(y, of_x);
             write_parts(x, of_y);
+        }
+    }
+
+    /// Exchanges two tiles, each with the mirror image of the other, by a copy of both. `x` and `y` are the places at which
+    /// their rows begin. The rows of a tile in a long list are a multiple of 4096 bytes apart. If an item of one row were
+    /// written and that of the next row read after it, the processor would take both for the same item, and wait.
+    ///
+    /// # Safety
+    ///
+    /// `first` is the first of some items, and may be used for all of them. The 8 items from each of these places on are
+    /// among them, and no two of these runs overlap.
+    #[inline(always)]
+    unsafe fn exchange_at_once<F>(first: *mut F, x: [usize; 8], y: [usize; 8]) {
+        let (mut to_y, mut to_x) = (unwritten_tile(), unwritten_tile());
+        // SAFETY: every item of both tiles is read once, and then written once: a row of `to_y` is a column of `x`.
+        unsafe {
+            turned_copy(first, x, &mut to_y);
+            turned_copy(first, y, &mut to_x);
+            for row in 0..8 {
+                ptr::copy_nonoverlapping(to_y[row].as_ptr().cast(), first.add(y[row]), 8);
+            }
+            for row in 0..8 {
+                ptr::copy_nonoverlapping(to_x[row].as_ptr().cast(), first.add(x[row]), 8);
+            }
+        }
+    }
+
+    /// A copy of a tile, row by row.
+    type Tile<F> = [[MaybeUninit<F>; 8]; 8];
+
+    /// A tile whose items are not written yet.
+    #[inline(always)]
+    fn unwritten_tile<F>() -> Tile<F> {
+        from_fn(|_| from_fn(|_| MaybeUninit::uninit()))
+    }
+
+    /// Reads the transpose of the tile whose rows begin at these places. The 8 items from each of them on are valid for reads.
+    #[inline(always)]
+    #[allow(clippy::needless_range_loop, reason = "a tile is reached by row and column")]
+    unsafe fn turned_copy<F>(first: *const F, rows: [usize; 8], turned: &mut Tile<F>) {
+        for row in 0..8 {
+            for col in 0..8 {
+                // SAFETY: the item is one of these 8 of its row.
+                turned[col][row] = MaybeUninit::new(unsafe { first.add(rows[row] + col).read() });
+            }
         }
     }
 

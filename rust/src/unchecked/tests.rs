@@ -181,6 +181,7 @@ fn exchanges_of_blocks() {
     turns(Double::odd);
     turns(|number| (number as u32, number % 3 == 0));
     turns(|number| number as u128);
+    turns(|number| [number as u8, 3, !number as u8]);
     turns(|number| [number as u8; 5]);
     turns(Box::new);
     turns(parts::<3>);
