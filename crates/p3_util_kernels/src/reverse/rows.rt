@@ -195,7 +195,7 @@ pub(crate) fn reverse_rows<M: Places>(m: M, rows: RowDigits) -> M
 
 /// Exchanges all pairs of rows whose indices are each other's reverse.
 #[inline(always)]
-fn exchange_all<M: Places>(m: M, rows: RowDigits) -> M
+pub(crate) fn exchange_all<M: Places>(m: M, rows: RowDigits) -> M
     requires fits { FitsRows (length (M.items m)) rows.width }
     requires digits { rows.digits ≡ clog (length (M.items m) / rows.width) }
     requires len_fits { length (M.items m) < 2 ^ 64 }
@@ -216,7 +216,7 @@ fn exchange_all<M: Places>(m: M, rows: RowDigits) -> M
 /// Does the same as [`exchange_all`], in a function of its own. So a call with few rows needs no
 /// stack frame, which would take longer than its exchanges.
 #[inline(never)]
-fn exchange_many<M: Places>(m: M, rows: RowDigits) -> M
+pub(crate) fn exchange_many<M: Places>(m: M, rows: RowDigits) -> M
     requires fits { FitsRows (length (M.items m)) rows.width }
     requires digits { rows.digits ≡ clog (length (M.items m) / rows.width) }
     requires len_fits { length (M.items m) < 2 ^ 64 }

@@ -123,7 +123,6 @@ impl Strips {
 }
 
 /// Puts `region` strip by strip.
-#[inline(always)]
 pub(crate) fn put_strips<M: Cells, R: Source<Item = M::Item> + Copy>(
     out: M,
     matrix: Matrix<R>,

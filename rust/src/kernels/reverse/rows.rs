@@ -251,7 +251,7 @@ pub(crate) fn reverse_rows<M: Places>(m: M, rows: RowDigits) -> M {
 /// ensures holder { M.same_holder (rows.width * short_swaps rows.digits) m result }
 /// ```
 #[inline(always)]
-fn exchange_all<M: Places>(m: M, rows: RowDigits) -> M {
+pub(crate) fn exchange_all<M: Places>(m: M, rows: RowDigits) -> M {
     if rows.digits < 2 {
         return m;
     }
@@ -276,6 +276,6 @@ fn exchange_all<M: Places>(m: M, rows: RowDigits) -> M {
 /// ensures holder { M.same_holder (rows.width * short_swaps rows.digits) m result }
 /// ```
 #[inline(never)]
-fn exchange_many<M: Places>(m: M, rows: RowDigits) -> M {
+pub(crate) fn exchange_many<M: Places>(m: M, rows: RowDigits) -> M {
     exchange_all(m, rows)
 }

@@ -132,7 +132,6 @@ impl Strips {
 ///     (R.items matrix.source) (M.items out) (M.items result) }
 /// ensures holder { M.same_holder (items_of region) out result }
 /// ```
-#[inline(always)]
 pub(crate) fn put_strips<M: Cells, R: Source<Item = M::Item> + Copy>(
     out: M,
     matrix: Matrix<R>,
