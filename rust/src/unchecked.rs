@@ -1,5 +1,6 @@
 //! Runs the kernels on slices. All unsafe code of the package is in this file and in `registers_unchecked.rs`. That file
 //! transposes squares of items of 1 to 8 bytes in vector registers, and writes items by parts. Only this file uses it.
+//! The files `by_size.rs` and `by_type.rs` say which instances of the kernels run.
 //!
 //! It is proved that a kernel whose own precondition holds meets the preconditions of `exchange`, `put` and `at`, for
 //! every holder. So the holders here check no index. `reverse`, `reverse_rows`, `transpose`, `parts_of_transpose` and
@@ -18,9 +19,8 @@
 use core::ops::Range;
 
 use crate::kernels::parts::{ReversalPlan, TransposePlan};
-use crate::kernels::places::{Places, Source};
-use crate::kernels::reverse::{self, RowDigits, fits_rows, reverse_short};
-use crate::kernels::transpose::{Matrix, Strips, fits_matrix, transpose_matrix};
+use crate::kernels::reverse::fits_rows;
+use crate::kernels::transpose::{Matrix, Strips, fits_matrix};
 use crate::transpose::strips_by_size;
 
 #[cfg(feature = "checked")]
@@ -28,12 +28,21 @@ use crate::checked::{PartItems, SliceCells, SlicePlaces, SliceSource};
 #[cfg(not(feature = "checked"))]
 use slices::{SliceItems as PartItems, SliceItems as SliceCells, SliceItems as SlicePlaces, SliceSource};
 
+#[cfg(all(not(feature = "checked"), any(target_arch = "x86_64", target_arch = "aarch64")))]
+mod by_size;
+mod by_type;
+
+#[cfg(all(not(feature = "checked"), any(target_arch = "x86_64", target_arch = "aarch64")))]
+use by_size as instances;
+#[cfg(any(feature = "checked", not(any(target_arch = "x86_64", target_arch = "aarch64"))))]
+use by_type as instances;
+
 /// Reverses `vals` by index bits if their number is zero or a power of two. Returns whether it is.
 #[inline]
 pub(crate) fn reverse<F>(vals: &mut [F]) -> bool {
     let fits = fits_rows(vals.len(), 1);
     if fits && size_of::<F>() > 0 {
-        let _ = reverse_short(Singles(SlicePlaces::new(vals)));
+        instances::reverse(SlicePlaces::new(vals));
     }
     fits
 }
@@ -43,79 +52,10 @@ pub(crate) fn reverse<F>(vals: &mut [F]) -> bool {
 #[inline]
 pub(crate) fn reverse_rows<F>(vals: &mut [F], row_width: usize) -> bool {
     let fits = fits_rows(vals.len(), row_width);
-    if fits && size_of::<F>() > 0 {
-        match row_width {
-            2 => reverse_narrow::<F, 2>(vals),
-            4 => reverse_narrow::<F, 4>(vals),
-            8 => reverse_narrow::<F, 8>(vals),
-            16 => reverse_narrow::<F, 16>(vals),
-            32 => reverse_narrow::<F, 32>(vals),
-            _ => reverse_wide(vals, row_width),
-        }
+    if fits && size_of_val(vals) > 0 {
+        instances::reverse_rows(SlicePlaces::new(vals), row_width);
     }
     fits
-}
-
-/// Reverses the order of rows of `W` items. Narrow rows are exchanged as items, which takes half the time or less. Each
-/// `W` is a copy of the kernel, which has about 20 KB, so few of them are called here.
-fn reverse_narrow<F, const W: usize>(vals: &mut [F]) {
-    // Wider rows take no less time as items.
-    #[cfg(not(feature = "checked"))]
-    if W * size_of::<F>() <= 128 {
-        let _ = reverse_short(Singles(SlicePlaces::<[F; W]>::of_rows(vals)));
-        return;
-    }
-    reverse_wide(vals, W);
-}
-
-/// A holder for a kernel whose places are single items. Such a kernel never calls `exchange_runs`, but the compiler does
-/// not know that. Here the method is not inlined, so a reversal of items has half as much code.
-struct Singles<P>(P);
-
-impl<P: Places> Places for Singles<P> {
-    type Item = P::Item;
-
-    #[inline(always)]
-    fn len(&self) -> usize {
-        self.0.len()
-    }
-
-    #[inline(always)]
-    fn exchange(&mut self, i: usize, j: usize) {
-        self.0.exchange(i, j);
-    }
-
-    #[inline(always)]
-    fn exchange_apart(&mut self, i: usize, j: usize) {
-        self.0.exchange_apart(i, j);
-    }
-
-    #[inline(always)]
-    fn exchange_tiles(&mut self, x: [usize; 8], y: [usize; 8]) {
-        self.0.exchange_tiles(x, y);
-    }
-
-    #[inline(always)]
-    fn turn_tile(&mut self, x: [usize; 8]) {
-        self.0.turn_tile(x);
-    }
-
-    #[inline(always)]
-    fn expect_tiles(&self, x: [usize; 8], y: [usize; 8]) {
-        self.0.expect_tiles(x, y);
-    }
-
-    #[cold]
-    #[inline(never)]
-    fn exchange_runs(&mut self, i: usize, j: usize, len: usize) {
-        self.0.exchange_runs(i, j, len);
-    }
-}
-
-/// Reverses the order of rows, each of which is exchanged as a run of items.
-fn reverse_wide<F>(vals: &mut [F], row_width: usize) {
-    let rows = RowDigits::of(vals.len(), row_width);
-    let _ = reverse::reverse_rows(SlicePlaces::new(vals), rows);
 }
 
 /// Transposes `input`, a matrix of `height` rows of `width` items, into `output` if both lists have `width * height`
@@ -128,17 +68,11 @@ pub(crate) fn transpose<T: Copy>(input: &[T], output: &mut [T], width: usize, he
             // A matrix of one column or of one row keeps the order of its items.
             output.copy_from_slice(input);
         } else {
-            transpose_from(SliceSource::new(input), output, width, height);
+            let matrix = Matrix::new(SliceSource::new(input), width, height);
+            instances::transpose(SliceCells::new(output), matrix);
         }
     }
     fits
-}
-
-/// Transposes a matrix of `height` rows of `width` items from `source` into `output`. Both have `width * height` items.
-#[inline(always)]
-fn transpose_from<T: Copy>(source: impl Source<Item = T> + Copy, output: &mut [T], width: usize, height: usize) {
-    let matrix = Matrix::new(source, width, height);
-    let _ = transpose_matrix(SliceCells::new(output), matrix, strips_by_size(matrix));
 }
 
 /// Whether the holders of this file transpose blocks of items of 4 and of 8 bytes in registers.
@@ -161,7 +95,7 @@ pub(crate) struct Parts<'a, T, P> {
 /// A matrix that is transposed in regions, and the strips by which each region is put.
 #[derive(Clone, Copy)]
 pub(crate) struct Regions<R> {
-    source: R,
+    matrix: Matrix<R>,
     plan: TransposePlan,
     strips: Strips,
 }
@@ -186,7 +120,11 @@ pub(crate) fn parts_of_transpose<'a, T: Copy>(
     let share = if count == 0 { 0 } else { plan.items(0) };
     Some(Parts {
         items: PartItems::in_shares(output, share),
-        plan: Regions { source, plan, strips },
+        plan: Regions {
+            matrix: Matrix::new(source, width, height),
+            plan,
+            strips,
+        },
         numbers: 0..count,
     })
 }
@@ -236,21 +174,14 @@ impl<T, P: Copy> Parts<'_, T, P> {
 
 impl<T: Copy> Parts<'_, T, Regions<&[T]>> {
     /// Puts the remaining regions.
-    pub(crate) fn put(self) {
-        let source = SliceSource::new(self.plan.source);
-        self.put_from(source);
-    }
-}
-
-impl<T: Copy, R> Parts<'_, T, Regions<R>> {
-    /// Puts the remaining regions, with their items from `source`.
-    fn put_from(mut self, source: impl Source<Item = T> + Copy) {
+    pub(crate) fn put(mut self) {
         // The clause `below` of `TransposePlan::put` holds because `numbers` are below the plan's count. `input_fits`
         // and `output_fits` hold because `source` and `items` are the lists that `parts_of_transpose` checked for this
         // plan.
-        let Regions { plan, strips, .. } = self.plan;
+        let Regions { matrix, plan, strips } = self.plan;
+        let matrix = Matrix::new(SliceSource::new(matrix.source), matrix.width, matrix.height);
         self.numbers
-            .for_each(|number| _ = plan.put(self.items.share(), source, number, strips));
+            .for_each(|number| instances::put(self.items.share(), matrix, plan, number, strips));
     }
 }
 
@@ -261,7 +192,7 @@ impl<F> Parts<'_, F, ReversalPlan> {
         // clause `plan` because `items` is the list that `parts_of_reversal` made the plan for. `len_fits` holds for
         // every slice.
         self.numbers
-            .for_each(|number| _ = self.plan.exchange(self.items.share(), number));
+            .for_each(|number| instances::exchange(self.items.share(), self.plan, number));
     }
 }
 
@@ -272,7 +203,7 @@ mod slices {
     use core::marker::PhantomData;
     use core::mem::MaybeUninit;
     use core::ptr;
-    use core::slice::from_raw_parts_mut;
+    use core::slice::{from_raw_parts, from_raw_parts_mut};
     use core::sync::atomic::{Ordering, compiler_fence};
 
     use super::registers;
@@ -321,19 +252,139 @@ mod slices {
         pub(super) fn share(&mut self) -> Self {
             SliceItems { ..*self }
         }
-    }
 
-    impl<'a, F, const W: usize> SliceItems<'a, [F; W]> {
-        /// The whole rows of `slice`, of `W` items each.
-        #[inline(always)]
-        pub(super) fn of_rows(slice: &'a mut [F]) -> Self {
+        /// The whole rows of `W` items, as arrays.
+        #[cfg(not(any(target_arch = "x86_64", target_arch = "aarch64")))]
+        pub(super) fn arrays<const W: usize>(self) -> SliceItems<'a, [T; W]> {
             // An array has the layout and the alignment of its items, one after the other. So this many arrays are
             // within the slice, and `SliceItems` borrows it for as long as the slice is borrowed.
             SliceItems {
-                len: slice.len() / W,
-                first: slice.as_mut_ptr().cast(),
+                first: self.first.cast(),
+                len: self.len / W,
                 slice: PhantomData,
             }
+        }
+
+        /// The same items as runs of bytes.
+        #[inline(always)]
+        #[cfg_attr(not(any(target_arch = "x86_64", target_arch = "aarch64")), allow(dead_code))]
+        pub(super) fn runs(self) -> SliceRuns<'a> {
+            SliceRuns {
+                first: self.first.cast(),
+                len: self.len,
+                size: size_of::<T>(),
+                slice: PhantomData,
+            }
+        }
+    }
+
+    /// An item of `N` bytes, of which only the size is known, or a row of such items.
+    ///
+    /// A copy of a `MaybeUninit` keeps each byte as it is, also if it was never written, and keeps the provenance of each
+    /// pointer. That is true of the parts in which an item is copied too: each of them is a `MaybeUninit`. Its alignment
+    /// is 1, which is weaker than that of any item, so a reference to these bytes is aligned wherever the item is. What
+    /// moves here is always the bytes of whole items, within the list of these items. So each place has an item
+    /// afterwards.
+    pub(super) type Bytes<const N: usize> = [MaybeUninit<u8>; N];
+
+    /// The items of a slice as runs of bytes. How many bytes an item has is a field, so a kernel is compiled once for
+    /// items of all sizes. No single bytes can be exchanged: a place is a whole item.
+    pub(super) struct SliceRuns<'a> {
+        first: *mut u8,
+        len: usize,
+        size: usize,
+        slice: PhantomData<&'a mut [u8]>,
+    }
+
+    #[cfg_attr(not(any(target_arch = "x86_64", target_arch = "aarch64")), allow(dead_code))]
+    impl<'a> SliceRuns<'a> {
+        /// The number of bytes of an item.
+        #[inline(always)]
+        pub(super) fn size(&self) -> usize {
+            self.size
+        }
+
+        /// The whole rows of `row_width` items, which have `N` bytes each.
+        #[inline(always)]
+        pub(super) fn rows<const N: usize>(self, row_width: usize) -> SliceItems<'a, Bytes<N>> {
+            assert!(row_width * self.size == N);
+            // The items have `len * size` bytes together, so this many rows are within the slice. `SliceItems` borrows it
+            // for as long as the slice is borrowed.
+            SliceItems {
+                first: self.first.cast(),
+                len: self.len * self.size / N,
+                slice: PhantomData,
+            }
+        }
+    }
+
+    impl Places for SliceRuns<'_> {
+        type Item = MaybeUninit<u8>;
+
+        #[inline(always)]
+        fn len(&self) -> usize {
+            self.len
+        }
+
+        #[inline(always)]
+        fn exchange(&mut self, i: usize, j: usize) {
+            if i != j {
+                self.exchange_runs(i, j, 1);
+            }
+        }
+
+        #[inline(always)]
+        fn exchange_runs(&mut self, i: usize, j: usize, len: usize) {
+            let (n, size) = (self.len, self.size);
+            debug_assert!(len <= n && i <= n - len && j <= n - len && i.abs_diff(j) >= len);
+            // SAFETY: both runs are within the slice, by the clauses `first` and `second` of `Places::exchange_runs`,
+            // and do not overlap, by `apart`.
+            unsafe { swap_bytes(self.first.add(i * size), self.first.add(j * size), len * size) }
+        }
+    }
+
+    /// Exchanges two runs of `len` bytes, from the lowest address on. A loop over single bytes would take longer for the
+    /// last bytes of a run, of which there may be up to 15.
+    ///
+    /// # Safety
+    ///
+    /// Both runs are valid for reads and writes, and do not overlap.
+    #[inline(always)]
+    unsafe fn swap_bytes(x: *mut u8, y: *mut u8, len: usize) {
+        let mut done = 0;
+        // SAFETY: these parts are the run: some registers, and then 8, 4, 2 and 1 bytes for each digit of the length that
+        // is set.
+        unsafe {
+            while len - done >= 16 {
+                swap_part::<registers::Register>(x.add(done), y.add(done));
+                done += 16;
+            }
+            if len & 8 != 0 {
+                swap_part::<registers::Half>(x.add(done), y.add(done));
+                done += 8;
+            }
+            if len & 4 != 0 {
+                swap_part::<MaybeUninit<u32>>(x.add(done), y.add(done));
+                done += 4;
+            }
+            if len & 2 != 0 {
+                swap_part::<MaybeUninit<u16>>(x.add(done), y.add(done));
+                done += 2;
+            }
+            if len & 1 != 0 {
+                swap_part::<MaybeUninit<u8>>(x.add(done), y.add(done));
+            }
+        }
+    }
+
+    /// Exchanges parts of two items. Both addresses are valid for them, and they may have bytes that were never written.
+    #[inline(always)]
+    unsafe fn swap_part<P>(x: *mut u8, y: *mut u8) {
+        // SAFETY: this is what the caller promises.
+        unsafe {
+            let of_x = x.cast::<P>().read_unaligned();
+            copy::<P>(y, x);
+            y.cast::<P>().write_unaligned(of_x);
         }
     }
 
@@ -354,7 +405,8 @@ mod slices {
             unsafe { core::ptr::swap(self.first.add(i), self.first.add(j)) }
         }
 
-        #[inline(always)]
+        /// This is not inlined, because most kernels have it in their code, but never call it: those for places of one item.
+        #[inline(never)]
         fn exchange_runs(&mut self, i: usize, j: usize, len: usize) {
             let n = self.len;
             debug_assert!(len <= n && i <= n - len && j <= n - len && i.abs_diff(j) >= len);
@@ -371,8 +423,8 @@ mod slices {
             // SAFETY: the places differ by the clause `apart` of `Places::exchange_apart`, and are within the slice by
             // `first` and `second`.
             let (x, y) = unsafe { (&mut *self.first.add(i), &mut *self.first.add(j)) };
-            match size_of::<F>() {
-                20 | 24 | 28 | 36 | 40 | 44 => swap_parts(x, y),
+            match const { size_of::<F>() } {
+                16 | 20 | 24 | 28 | 36 | 40 | 44 => swap_parts(x, y),
                 _ => core::mem::swap(x, y),
             }
             // The fence has no effect on the processor. Without it, the compiler would make one permutation in vector
@@ -392,7 +444,7 @@ mod slices {
             let first = self.first;
             // SAFETY (of all five): the 8 items from each of these places on are within the slice, and no two of these
             // runs overlap, by the precondition of `Places::exchange_tiles`.
-            match size_of::<F>() {
+            match const { size_of::<F>() } {
                 1 if registers::HERE => unsafe { registers::exchange::<F, _, 8, 1>(first, x, y, registers::turned_1) },
                 2 if registers::HERE => unsafe { registers::exchange::<F, _, 8, 1>(first, x, y, registers::turned_2) },
                 4 if registers::HERE => unsafe { registers::exchange::<F, _, 4, 2>(first, x, y, registers::turned_4) },
@@ -420,7 +472,7 @@ mod slices {
             let first = self.first;
             // SAFETY (of all four): the 8 items from each of these places on are within the slice, and no two of these
             // runs overlap, by the precondition of `Places::turn_tile`.
-            match size_of::<F>() {
+            match const { size_of::<F>() } {
                 1 if registers::HERE => unsafe { registers::turn::<F, _, 8, 1>(first, x, registers::turned_1) },
                 2 if registers::HERE => unsafe { registers::turn::<F, _, 8, 1>(first, x, registers::turned_2) },
                 4 if registers::HERE => unsafe { registers::turn::<F, _, 4, 2>(first, x, registers::turned_4) },
@@ -486,7 +538,7 @@ mod slices {
             // SAFETY: the cell is within the slice, by the `requires` of `Cells::put`.
             unsafe {
                 let cell = self.first.add(i);
-                match size_of::<T>() {
+                match const { size_of::<T>() } {
                     12 | 20 | 24 | 28 | 32 | 36 | 40 | 44 | 48 | 52 | 56 | 60 | 64 => write_parts(cell, v),
                     _ => *cell = v,
                 }
@@ -505,7 +557,7 @@ mod slices {
         /// transposed in registers, by squares of 8 by 8, 4 by 4 or 2 by 2.
         #[inline(always)]
         fn put_block<R: Source<Item = T>>(&mut self, source: &R, block: Block) {
-            let squares = match size_of::<T>() {
+            let squares = match const { size_of::<T>() } {
                 1 | 2 => 8,
                 4 => 4,
                 8 => 2,
@@ -521,11 +573,12 @@ mod slices {
             // of `Cells::put_block`, whose clause `apart` also says that no two columns overlap. The block consists of
             // squares, whose rows have 8 bytes for items of one byte, and 16 bytes for others.
             unsafe {
-                match squares {
-                    8 if size_of::<T>() == 1 => registers::put(items, cells, block, registers::turned_1),
-                    8 => registers::put(items, cells, block, registers::turned_2),
+                match const { size_of::<T>() } {
+                    1 => registers::put(items, cells, block, registers::turned_1),
+                    2 => registers::put(items, cells, block, registers::turned_2),
                     4 => registers::put(items, cells, block, registers::turned_4),
-                    _ => registers::put(items, cells, block, registers::turned_8),
+                    8 => registers::put(items, cells, block, registers::turned_8),
+                    _ => unreachable!(),
                 }
             }
         }
@@ -663,6 +716,18 @@ mod slices {
 
     impl<'a, T> SliceSource<'a, T> {
         pub(super) fn new(items: &'a [T]) -> Self {
+            SliceSource { items }
+        }
+    }
+
+    #[cfg_attr(not(any(target_arch = "x86_64", target_arch = "aarch64")), allow(dead_code))]
+    impl<'a, T: Copy> SliceSource<'a, T> {
+        /// The bytes of the same items, `N` at a time.
+        #[inline(always)]
+        pub(super) fn in_bytes<const N: usize>(self) -> SliceSource<'a, Bytes<N>> {
+            // SAFETY: this many groups of `N` bytes are within the slice. No item changes as long as the slice is
+            // borrowed, because a `Copy` type has no `UnsafeCell`.
+            let items = unsafe { from_raw_parts(self.items.as_ptr().cast(), size_of_val(self.items) / N) };
             SliceSource { items }
         }
     }

@@ -5,7 +5,9 @@ use core::cell::RefCell;
 use std::vec::Vec;
 
 use super::*;
+use crate::kernels::places::Source;
 use crate::kernels::transpose::transpose_matrix;
+use crate::transpose::strips_by_size;
 
 /// A slice that notes the index of each read.
 #[derive(Clone, Copy)]
@@ -40,13 +42,22 @@ fn reads<T: Copy + Default>(len: usize, call: impl FnOnce(&[T], &mut [T], Noted<
     reads.into_inner()
 }
 
+/// Puts the regions of some parts, with their items from `source`.
+fn put_from<T: Copy>(mut parts: Parts<T, Regions<&[T]>>, source: impl Source<Item = T> + Copy) {
+    let Regions { matrix, plan, strips } = parts.plan;
+    let matrix = Matrix::new(source, matrix.width, matrix.height);
+    parts
+        .numbers
+        .for_each(|number| by_type::put(parts.items.share(), matrix, plan, number, strips));
+}
+
 #[test]
 fn each_item_is_read_once() {
     for (width, height, asked) in [(64, 64, 1), (64, 64, 4), (100, 40, 3), (40, 100, 3), (5, 3, 9)] {
         let mut read = reads::<usize>(width * height, |items, output, source| {
             let mut parts = parts_of_transpose(items, output, width, height, asked).unwrap();
             while let Some(part) = parts.split_first() {
-                part.put_from(source);
+                put_from(part, source);
             }
         });
         read.sort_unstable();
@@ -63,7 +74,7 @@ fn strips_of_the_parts() {
         let by_parts = reads::<usize>(64 * 64, |items, output, source| {
             let mut parts = parts_of_transpose(items, output, 64, 64, 1).unwrap();
             parts.plan.strips = strips;
-            parts.put_from(source);
+            put_from(parts, source);
         });
         let by_call = reads::<usize>(64 * 64, |_, output, source| {
             let _ = transpose_matrix(SliceCells::new(output), Matrix::new(source, 64, 64), strips);
@@ -100,7 +111,7 @@ fn strips_of_the_call() {
 fn strips_of_calls_on_slices() {
     fn check<T: Copy + Default>(width: usize, height: usize) {
         let by_call = reads::<T>(width * height, |_, output, source| {
-            transpose_from(source, output, width, height);
+            by_type::transpose(SliceCells::new(output), Matrix::new(source, width, height));
         });
         let by_strips = reads::<T>(width * height, |_, output, source| {
             let matrix = Matrix::new(source, width, height);

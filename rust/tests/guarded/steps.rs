@@ -6,7 +6,7 @@ use std::array::from_fn;
 use std::ptr::null_mut;
 
 use super::*;
-use crate::kernels::places::{Block, Cells, Places};
+use crate::kernels::places::{Block, Cells, Places, Source};
 
 unsafe extern "C" {
     fn mmap(address: *mut u8, len: usize, protection: i32, flags: i32, file: i32, offset: i64) -> *mut u8;
@@ -107,6 +107,9 @@ fn steps<const N: usize>() {
         two.check(|run, k| (1 - run, k));
         SlicePlaces::new(two.list()).exchange_apart(GAP, 0);
         two.check(|run, k| (run, k));
+        SlicePlaces::new(two.list()).runs().exchange(0, GAP);
+        SlicePlaces::new(two.list()).runs().exchange_apart(0, GAP);
+        two.check(|run, k| (run, k));
         let put = SliceSource::new(two.list()).at(GAP);
         SliceCells::new(two.list()).put(0, put);
         two.check(|_, k| (1, k));
@@ -115,6 +118,8 @@ fn steps<const N: usize>() {
             let mut runs = Runs::<N>::new(2, len, ends_with_page);
             SlicePlaces::new(runs.list()).exchange_runs(0, GAP, len);
             runs.check(|run, k| (1 - run, k));
+            SlicePlaces::new(runs.list()).runs().exchange_runs(GAP, 0, len);
+            runs.check(|run, k| (run, k));
         }
 
         let mut tiles = Runs::<N>::new(16, 8, ends_with_page);
