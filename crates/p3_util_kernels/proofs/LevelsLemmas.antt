@@ -46,6 +46,11 @@ clog-least n e h = grind (arith, (clog_is n).1 e)
 pub clog_only : (n e : ℕ) → n ≤ 2 ^ e → ((d : ℕ) → n ≤ 2 ^ d → e ≤ d) → e ≡ clog n
 clog_only n e enough least = omega (arith, clog-least n e enough, least (clog n) (clog-enough n))
 
+-- the least exponent whose power is at least n has a power below 2n
+pub below_double : (n e : ℕ) → ((d : ℕ) → n ≤ 2 ^ d → e ≤ d) → 0 < n → 2 ^ e < 2 * n
+below_double n zero least some = omega arith
+below_double n (suc e) least some = grind (arith, pow-suc 2 e, least e)
+
 -- the logarithm of a power of two, and of zero
 pub clog_power : (n k : ℕ) → n ≡ 2 ^ k → clog n ≡ k
 clog_power n k e = sym (clog_only n k (omega arith) (λ d h. exponent-le k d (omega arith)))

@@ -70,6 +70,7 @@ static EXPONENTS_OF_THREE: [u8; 64] = [
 pub const fn log2_ceil_usize(n: usize) -> usize
     ensures enough { n ≤ 2 ^ result }
     ensures least { (e : ℕ) → n ≤ 2 ^ e → result ≤ e }
+    ensures near { 0 < n → 2 ^ result < 2 * n }
     ensures counted { result ≡ clog n }
     ensures bound { result ≤ 64 }
 {
@@ -97,6 +98,7 @@ pub const fn log2_floor_usize(n: usize) -> usize
 pub const fn log2_ceil_u64(n: u64) -> u64
     ensures enough { n ≤ 2 ^ result }
     ensures least { (e : ℕ) → n ≤ 2 ^ e → result ≤ e }
+    ensures near { 0 < n → 2 ^ result < 2 * n }
     ensures bound { result ≤ 64 }
 {
     log2_ceil_usize(n as usize) as u64

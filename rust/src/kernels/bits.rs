@@ -70,6 +70,7 @@ static EXPONENTS_OF_THREE: [u8; 64] = [
 /// ```text
 /// ensures enough { n ≤ 2 ^ result }
 /// ensures least { (e : ℕ) → n ≤ 2 ^ e → result ≤ e }
+/// ensures near { 0 < n → 2 ^ result < 2 * n }
 /// ensures counted { result ≡ clog n }
 /// ensures bound { result ≤ 64 }
 /// ```
@@ -108,6 +109,7 @@ pub const fn log2_floor_usize(n: usize) -> usize {
 /// ```text
 /// ensures enough { n ≤ 2 ^ result }
 /// ensures least { (e : ℕ) → n ≤ 2 ^ e → result ≤ e }
+/// ensures near { 0 < n → 2 ^ result < 2 * n }
 /// ensures bound { result ≤ 64 }
 /// ```
 #[inline]

@@ -1,7 +1,7 @@
 -- The number of digits of n - 1 is the least exponent whose power is at least n.
 use Rattle.std.proofs.Common.{arith}
 use Rattle.std.proofs.lemmas.Nat.{pow_pos}
-use Rattle.p3_util_kernels.proofs.LevelsLemmas.{clog_only}
+use Rattle.p3_util_kernels.proofs.LevelsLemmas.{below_double, clog_only}
 use Rattle.p3_util_kernels.proofs.PowersLemmas.{digits_above, digits_least}
 use Rattle.p3_util_kernels.proofs.bits.log2_ceil_usize.Goals as goal
 
@@ -13,3 +13,6 @@ returns-clause-least c e enough = digits_least 64 _ e c.saturating_sub.type_inv 
 
 pub returns-clause-counted : goal.returns-clause-counted
 returns-clause-counted c = clog_only _ _ (returns-clause-enough c) (returns-clause-least c)
+
+pub returns-clause-near : goal.returns-clause-near
+returns-clause-near c = below_double _ _ (returns-clause-least c)
