@@ -1,42 +1,34 @@
 -- Lemmas for callers, under the names that `#[tactic(auto, using(..))]` takes. Each module of
--- callers has a file of lemmas, and this file re-exports their names. A lemma that is proved
--- elsewhere gets its name below.
-mod Bits
-mod Chunks
-mod Columns
-mod Compose
-mod Kept
-mod LinearMap
-mod Reverse
-mod ReversedTables
-mod Rows
-mod Transpose
-mod TransposeFromParts
-mod Views
-mod ZipEq
-pub use Rattle.p3_util.proofs.Callers.Bits.{rev_even, rev_odd, pair_below, power_of_two_test, half, half_length, rev_longer, exponent_below, power_over, power_step, row_of_place, column_of_place}
+-- callers has a file of lemmas, and this file re-exports their names. `rt lemma` finds the files
+-- because they are public. A lemma that is proved elsewhere gets its name below.
+pub mod Bits
+pub mod Chunks
+pub mod Columns
+pub mod Compose
+pub mod Kept
+pub mod LinearMap
+pub mod Reverse
+pub mod ReversedTables
+pub mod Rows
+pub mod Square
+pub mod Transpose
+pub mod TransposeFromParts
+pub mod Views
+pub mod ZipEq
+pub use Rattle.p3_util.proofs.Callers.Bits.{rev_below, rev_twice, rev_in_parts, rev_even, rev_odd, pair_below, power_of_two_test, half, half_length, rev_longer, power_up, exponent_most, power_in_parts, log_of_power, large_power, below_large_power, power_too_large, exponent_below, power_over, power_step, row_of_place, column_of_place}
 pub use Rattle.p3_util.proofs.Callers.Chunks.{folded_sum, padded_sum, padded_index, padded_inside, padded_beyond, padded_read}
 pub use Rattle.p3_util.proofs.Callers.Columns.{column_inside, column_length, column_place, column_read, column_swapped, column_others}
 pub use Rattle.p3_util.proofs.Callers.Compose.{region_of_rows, region_of_cols, square_inside, square_more, one_square, reversed_by_squares, swaps_around, rows_in_two, cols_in_two}
 pub use Rattle.p3_util.proofs.Callers.Kept.{permuted_by_places, reversed_permuted, permuted_reversal, rows_permuted, transposed_permuted, permuted, kept, kept_different, reversed_sum, kept_sum, reversed_alike}
-pub use Rattle.p3_util.proofs.Callers.LinearMap.{key_found, key_others, number_found, number_others, put_found, put_others, key_summed, key_within_sum, key_or_zero, text_eq, text_summed, text_within_sum, text_or_zero, number_summed, number_within_sum, number_or_zero, values_summed}
-pub use Rattle.p3_util.proofs.Callers.Reverse.{reversed_place, reversed_even, reversed_odd, reversed_once, reversed_twice, rows_reversed_twice, reversed_by_places, reversed_longer}
+pub use Rattle.p3_util.proofs.Callers.LinearMap.{key_found, key_others, number_found, number_others, put_found, put_others, put_put, key_summed, key_within_sum, key_or_zero, text_eq, text_summed, text_within_sum, text_or_zero, number_summed, number_within_sum, number_or_zero, values_summed}
+pub use Rattle.p3_util.proofs.Callers.Reverse.{reversed_place, reversed_even, reversed_odd, reversed_once, reversed_twice, rows_reversed_twice, reversed_by_places, reversed_longer, short_reversed, short_stays, short_same}
 pub use Rattle.p3_util.proofs.Callers.ReversedTables.{reversed_index, reversed_item, reversed_item_at, reversed_item_from, reversed_some, reversed_some_from, even_index, odd_index, reversed_read, even_read, odd_read}
 pub use Rattle.p3_util.proofs.Callers.Rows.{part_length, part_inside, part_before, part_after, part_read, row_moved}
+pub use Rattle.p3_util.proofs.Callers.Square.{square_back}
 pub use Rattle.p3_util.proofs.Callers.Transpose.{transposed_once, transposed_back, first_in_rows, first_row, transposed_first, outside_stays, above_stays, below_stays, left_stays, right_stays, region_others, reversed_by_sides}
 pub use Rattle.p3_util.proofs.Callers.TransposeFromParts.{region_of_column, rows_from_top, rows_across, twice_half, swaps_of_quadrants, last_quadrant_room, quadrants_within, square_of_quadrants}
-pub use Rattle.p3_util.proofs.Callers.Views.{flat_place, elements_reversed}
-pub use Rattle.p3_util.proofs.Callers.ZipEq.{zip_place, reduced_summed}
--- The k low digits of a number, reversed, are a number of k digits. Reversing a number of k digits
--- twice gives it back. The reverse of a number in two parts, high digits and low digits, follows
--- from the reverses of the parts. A greater exponent has a greater power, and the power of a sum of
--- exponents is the product of two powers. Numbers of swaps are stated with the logarithm of a power
--- of two.
-pub use Rattle.p3_util_kernels.proofs.DigitsLemmas.{rev-lt as rev_below, rev-rev-below as rev_twice, rev-parts as rev_in_parts}
-pub use Rattle.std.proofs.Math.Pow.{pow_mono as power_up}
-pub use Rattle.p3_util_kernels.proofs.PowersLemmas.{exponent-le as exponent_most}
-pub use Rattle.std.proofs.lemmas.Nat.{pow-add as power_in_parts}
-pub use Rattle.p3_util_kernels.proofs.LevelsLemmas.{clog_power as log_of_power}
+pub use Rattle.p3_util.proofs.Callers.Views.{flat_place}
+pub use Rattle.p3_util.proofs.Callers.ZipEq.{zip_place, length_zip, zip_set, zip_swap, reduced_summed}
 -- items of a square exchanged across its diagonal, with one more item of a row; a list that has the
 -- last place of a square has every place of it
 pub use Rattle.p3_util.proofs.DiagonalLemmas.{SwapsAcross-item as item_across, square_place}

@@ -1,14 +1,14 @@
 //! Callers of the logarithms and powers. A test before the call of a strict logarithm is enough to
 //! meet its precondition.
 
-ghost use Rattle.std.specs.Prelude.{◌≡◌, ℕ, ◌+◌, ◌*◌, ◌/◌, ◌%◌, ◌^◌, ◌<◌, ◌≤◌, IsFalse, IfSome, MatchOption, None, Some, length};
+ghost use Rattle.std.specs.Prelude.{◌≡◌, ℕ, ◌+◌, ◌*◌, ◌/◌, ◌%◌, ◌^◌, ◌<◌, ◌≤◌, ◌↔◌, IsFalse, IsTrue, IfSome, MatchOption, None, Some, length};
 ghost use Rattle.std.specs.Int.{IsPowerOfTwo, is_power_of_two};
 ghost use Rattle.p3_util.specs.Digits.{rev};
 ghost use Rattle.p3_util.specs.Powers.{IsPowerOfThree};
 
 use p3_util::bits::{
-    checked_log_size_sum, checked_pow2, is_power_of_three, log2_ceil_usize, log2_floor_usize,
-    log2_strict_usize, log3_strict_usize, reverse_bits, reverse_bits_len,
+    checked_log_size_sum, checked_pow2, is_power_of_three, log2_ceil_u64, log2_ceil_usize,
+    log2_floor_usize, log2_strict_usize, log3_strict_usize, reverse_bits, reverse_bits_len,
 };
 
 /// The least power of two that is at least `len`, or `None` if that power is 2^64. A transform pads
@@ -21,6 +21,23 @@ pub fn padded_len(len: usize) -> Option<usize>
     ensures least { IfSome result (λ n. (k : ℕ) → len ≤ 2 ^ k → n ≤ 2 ^ k) }
 {
     checked_pow2(log2_ceil_usize(len))
+}
+
+/// The same for a length that is stored in 64 bits. The new length is less than twice the old one.
+pub fn padded_twice(len: u64) -> Option<usize>
+    requires { 0 < len }
+    ensures { IfSome result (λ n. n < 2 * len) }
+{
+    checked_pow2(log2_ceil_u64(len) as usize)
+}
+
+/// Whether a list of `2^k` items would be longer than `len`, for any `k`.
+#[tactic(auto, using(p3_util::proofs::Callers::power_too_large))]
+pub fn is_below_power(len: usize, k: usize) -> bool
+    ensures yes { IsTrue result → len < 2 ^ k }
+    ensures no { IsFalse result → 2 ^ k ≤ len }
+{
+    k >= 64 || len < 1 << k
 }
 
 /// The greatest power of two that is at most `n`.

@@ -11,7 +11,10 @@ ghost use Rattle.p3_util.specs.SwapCounts.{long_swaps, reversal_swaps, row_swaps
 
 use p3_util::places::{Places, Swaps};
 use p3_util::transpose::transpose_square_on;
-use p3_util::{log2_strict_usize, reverse_chunks_on, reverse_counted, reverse_rows_counted};
+use p3_util::{
+    log2_strict_usize, reverse_chunks_on, reverse_counted, reverse_index_bits_on,
+    reverse_row_index_bits_on, reverse_rows_counted,
+};
 
 /// Reverses the items of a holder and then the order of its rows, and returns the number of steps.
 /// The holder makes as many steps, by `same_holder_trans`.
@@ -28,6 +31,21 @@ pub fn reverse_items_and_rows<S: Places>(places: &mut S, row_width: usize) -> u1
     let items = reverse_counted(places);
     let rows = reverse_rows_counted(places, row_width);
     items + rows
+}
+
+/// Reverses the items of a holder and then the order of its rows, with one counter, and returns the
+/// holder and the number of swaps.
+pub fn reverse_and_count<S: Places>(places: S, row_width: usize) -> (S, u128)
+    requires items { IsReversible (length (S.items places)) }
+    requires rows { FitsRows (length (S.items places)) row_width }
+    ensures count { let n = length (S.items places) in
+        result.1 ≡ counted (counted 0 (reversal_swaps n)) (row_swaps n row_width) }
+{
+    let mut m = Swaps::new(places);
+    reverse_index_bits_on(&mut m);
+    reverse_row_index_bits_on(&mut m, row_width);
+    let swaps = m.swaps();
+    (m.into_inner(), swaps)
 }
 
 /// Reverses `m` by index bits: first by chunks, then by squares, and then by chunks again. It has

@@ -14,6 +14,7 @@ pub mod kept;
 pub mod laws;
 pub mod linear_map;
 pub mod loops;
+pub mod pairs;
 pub mod places;
 pub mod reverse;
 pub mod reversed_tables;

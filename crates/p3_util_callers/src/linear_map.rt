@@ -1,8 +1,8 @@
 //! Callers of `LinearMap`, proved only from the public contracts of the map: any list of calls, and
 //! the map's pairs as a list.
 ghost use Rattle.std.specs.Prelude.{◌≡◌, ◌≢◌, ℕ, ◌+◌, ◌^◌, ◌<◌, false, [], None, Some, IfOk, OnOk, OnErr, length, nat_eq, sum};
-ghost use Rattle.std.specs.Map.{values_of};
-ghost use Rattle.p3_util.specs.LinearMap.{put_all, value_at};
+ghost use Rattle.std.specs.Map.{keys_of, values_of};
+ghost use Rattle.p3_util.specs.LinearMap.{put, put_all, value_at};
 ghost use Rattle.p3_util_callers.specs.MapCalls.{answer_of, answers_of, after, pairs_after};
 
 use p3_util::NoRoom;
@@ -91,6 +91,35 @@ pub fn define_key<K: Eq + Copy + Drop, V: Copy>(
         → value_at K.eq table.new other ≡ value_at K.eq table.old other) }
 {
     table.insert(key, value)
+}
+
+/// Defines `symbol` as `first` and then as `second`. The first definition is lost.
+#[tactic(auto, using(p3_util::proofs::Callers::put_put))]
+pub fn define_twice(
+    table: &mut LinearMap<u32, u64>,
+    symbol: u32,
+    first: u64,
+    second: u64,
+) -> Result<(), NoRoom<(u32, u64)>>
+    ensures { OnOk result (table.new ≡ put nat_eq table.old symbol second) }
+{
+    table.insert(symbol, first)?;
+    table.insert(symbol, second)?;
+    Ok(())
+}
+
+/// The keys of `table`, in the order in which they were first inserted.
+pub fn symbols(alloc: Global, table: &LinearMap<u32, u64>) -> Result<Vec<u32>, AllocError>
+    ensures { IfOk result (λ keys. keys.items ≡ keys_of table.now) }
+{
+    table.keys().copied().collect(alloc)
+}
+
+/// The values of `table`, in the order of their keys.
+pub fn offsets(alloc: Global, table: &LinearMap<u32, u64>) -> Result<Vec<u64>, AllocError>
+    ensures { IfOk result (λ values. values.items ≡ values_of table.now) }
+{
+    table.values().copied().collect(alloc)
 }
 
 /// Counts `word` once more, with a look-up and `insert`. The sum of all counts grows by one.

@@ -4,7 +4,7 @@
 ghost use Rattle.std.specs.Prelude.{◌≡◌, ℕ, ◌+◌, ◌-◌, ◌*◌, ◌^◌, ◌<◌, ◌≤◌, ◌↔◌, [], ◌∷◌, IsTrue, IsFalse, IfOk, drop, length, slice_get, slice_index, take};
 ghost use Rattle.std.specs.Int.{is_power_of_two};
 ghost use Rattle.p3_util.specs.Digits.{rev};
-ghost use Rattle.p3_util.specs.Reversal.{FitsRows, IsReversal, IsReversible, IsZeroOrPowerOfTwo};
+ghost use Rattle.p3_util.specs.Reversal.{FitsRows, IsReversal, IsReversible, IsRowReversal, IsZeroOrPowerOfTwo};
 
 use p3_util::places::{Places, Swaps};
 use p3_util::reverse::{
@@ -58,6 +58,18 @@ pub fn reverse_twice<F>(vals: &mut [F])
     reverse_slice_index_bits(vals);
 }
 
+/// Reverses `vals` by index bits if there are more than two items. Fewer items are in reversed order
+/// as they are.
+#[tactic(auto, using(p3_util::proofs::Callers::short_same))]
+pub fn reverse_unless_short<F>(vals: &mut [F])
+    requires { IsReversible (length vals.old) }
+    ensures { IsReversal vals.old vals.new }
+{
+    if vals.len() > 2 {
+        reverse_slice_index_bits(vals);
+    }
+}
+
 /// Reverses `vals` by index bits, and returns the item that is then at place `i`.
 #[tactic(auto, using(p3_util::proofs::Callers::reversed_read))]
 pub fn item_after(vals: &mut [u64], k: usize, i: usize) -> u64
@@ -75,6 +87,15 @@ pub fn reversed<T>(mut vals: Vec<T>) -> Vec<T>
     ensures { IsReversal vals.items result.items }
 {
     reverse_slice_index_bits(&mut vals);
+    vals
+}
+
+/// The rows of `vals`, of `row_width` items each, in the order of reversed index bits.
+pub fn reversed_rows<T>(mut vals: Vec<T>, row_width: usize) -> Vec<T>
+    requires { FitsRows (length vals.items) row_width }
+    ensures { IsRowReversal row_width vals.items result.items }
+{
+    reverse_slice_row_index_bits(&mut vals, row_width);
     vals
 }
 

@@ -2,8 +2,8 @@
 
 ghost use Rattle.std.specs.Prelude.{◌≡◌, ◌+◌, ◌-◌, ◌*◌, ◌^◌, ◌<◌, ◌≤◌, ◌↔◌, ℕ, IfOk, IsTrue, IsFalse, List, OnOk, length, slice_get};
 ghost use Rattle.std.specs.Int.{IsPowerOfTwo};
-ghost use Rattle.p3_util.specs.Levels.{lev};
-ghost use Rattle.p3_util.specs.Region.{IsRegionTransposed, LiesInMatrix, items_of};
+ghost use Rattle.p3_util.specs.Levels.{lev, nest};
+ghost use Rattle.p3_util.specs.Region.{IsRegionTransposed, LiesInMatrix, cols_of, items_of, rows_of};
 ghost use Rattle.p3_util.specs.Reversal.{IsReversal};
 ghost use Rattle.p3_util.specs.Square.{IsSquareTransposed};
 ghost use Rattle.p3_util.specs.Steps.{counted};
@@ -11,11 +11,11 @@ ghost use Rattle.p3_util.specs.SwapCounts.{square_swaps};
 ghost use Rattle.p3_util.specs.Transpose.{IsTranspose};
 
 use p3_util::bits::log2_ceil_usize;
-use p3_util::places::{Cells, Places, SliceCells, Swaps, Writes};
+use p3_util::places::{Cells, Places, SliceCells, Source, Swaps, Writes};
 use p3_util::reverse::reverse_slice_row_index_bits;
 use p3_util::transpose::{
     Region, fits_matrix, fits_square, transpose, transpose_region_counted, transpose_region_on,
-    transpose_square_on,
+    transpose_source_region_on, transpose_split_on, transpose_square_on,
 };
 use std::alloc::{AllocError, Global};
 
@@ -210,8 +210,9 @@ pub fn transpose_with_first<T: Copy>(input: &[T], output: &mut [T], width: usize
     transpose(input, output, width, height);
 }
 
-/// Writes the transpose of `region` to `output`, and leaves every other row and column as it was. A
-/// proof file names the lemma.
+/// Writes the transpose of `region` to `output`, and leaves all cells outside of it as they were:
+/// above it, below it, on its left and on its right.
+#[tactic(auto, using(p3_util::proofs::Callers::region_others))]
 pub fn transpose_inside<T: Copy>(
     input: &[T],
     output: &mut [T],
@@ -232,6 +233,71 @@ pub fn transpose_inside<T: Copy>(
         → slice_get output.new (x * height + y) ≡ slice_get output.old (x * height + y) }
 {
     transpose_block(input, output, region, width, height);
+}
+
+/// Writes the transpose of the first `rows` rows of a source, and counts the writes.
+pub fn transpose_top<R, C>(input: &R, out: &mut Writes<C>, rows: usize, width: usize, height: usize)
+where
+    C: Cells,
+    R: Source<Item = C::Item>,
+    requires input_fits { length (R.items input.now) ≡ width * height }
+    requires output_fits { length (C.items out.old.holder) ≡ width * height }
+    requires rows_fit { rows ≤ height }
+    ensures transposed { IsRegionTransposed
+        (record { row_start = 0; row_end = rows; col_start = 0; col_end = width }) width height
+        (R.items input.now) (C.items out.old.holder) (C.items out.new.holder) }
+    ensures count { out.new.count ≡ counted out.old.count (rows * width) }
+{
+    let region = Region {
+        row_start: 0,
+        row_end: rows,
+        col_start: 0,
+        col_end: width,
+    };
+    transpose_source_region_on(input, out, region, width, height);
+}
+
+/// Writes the transpose of `region`, split as far as its sides ask for. Returns the cells, and how
+/// deep the splits nest.
+pub fn transpose_by_splits<C: Cells>(
+    input: &[C::Item],
+    out: C,
+    region: Region,
+    width: usize,
+    height: usize,
+) -> (C, u32)
+    requires input_fits { length input.now ≡ width * height }
+    requires output_fits { length (C.items out) ≡ width * height }
+    requires inside { LiesInMatrix region width height }
+    ensures transposed { IsRegionTransposed region width height input.now (C.items out)
+        (C.items result.0) }
+    ensures nested { result.1 ≡ nest (rows_of region) (cols_of region) }
+    ensures bound { result.1 ≤ 57 }
+{
+    let levels = levels_of(
+        region.row_end - region.row_start,
+        region.col_end - region.col_start,
+    );
+    let mut out = Writes::new(out);
+    let nested = transpose_split_on(input, &mut out, region, width, height, levels);
+    (out.into_inner(), nested)
+}
+
+/// Transposes a square in place twice. This leaves the list as it was. A proof file names the lemma.
+pub fn transpose_square_twice<S: Places>(
+    m: &mut Swaps<S>,
+    base: usize,
+    log_stride: usize,
+    log_size: usize,
+)
+    requires rows_apart { log_size ≤ log_stride }
+    requires stride_fits { log_stride < 64 }
+    requires room { let s = 2 ^ log_size in
+        base + (s - 1) * 2 ^ log_stride + (s - 1) < length (S.items m.old.holder) }
+    ensures { S.items m.new.holder ≡ S.items m.old.holder }
+{
+    transpose_square_on(m, base, log_stride, log_size);
+    transpose_square_on(m, base, log_stride, log_size);
 }
 
 /// Reverses `values` by index bits into `scratch`, by way of a matrix: its rows are reversed, it is

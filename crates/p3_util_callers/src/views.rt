@@ -1,12 +1,12 @@
 //! Callers of the views over rows whose length is a parameter or a literal, and of the functions
 //! that move the items of vectors.
 
-ghost use Rattle.std.specs.Prelude.{◌≡◌, ◌+◌, ◌*◌, ◌%◌, ◌^◌, ◌<◌, ◌↔◌, [], IfOk, IsTrue, IsFalse, List, Some, length, slice_get, slice_index_or, slice_set, vec_len};
-ghost use Rattle.p3_util.specs.Flat.{IsFlat, flat};
-ghost use Rattle.p3_util.specs.Reversal.{FitsRows, IsReversal, IsReversible, IsRowReversal, IsZeroOrPowerOfTwo};
+ghost use Rattle.std.specs.Prelude.{◌≡◌, ◌+◌, ◌*◌, ◌%◌, ◌^◌, ◌<◌, ◌↔◌, [], IfOk, IfSome, IsTrue, IsFalse, Some, length, slice_get, slice_index_or, slice_set, vec_len};
+ghost use Rattle.p3_util.specs.Flat.{flat};
+ghost use Rattle.p3_util.specs.Reversal.{FitsRows, IsReversal, IsRowReversal, IsZeroOrPowerOfTwo};
 ghost use Rattle.p3_util.specs.Transpose.{IsTranspose};
 
-use crate::reverse::reversed;
+use crate::reverse::reversed_rows;
 use p3_util::places::Cells;
 use p3_util::reverse::{fits_rows, reverse_counted, reverse_rows_counted};
 use p3_util::transpose::transpose_source_counted;
@@ -121,19 +121,20 @@ pub fn reconstituted_and_back(alloc: Global, numbers: Vec<u64>) -> Result<Vec<u6
     Ok(again)
 }
 
-/// The items of `rows` after the order of the rows was reversed by index bits.
-#[tactic(auto, using(p3_util::proofs::Callers::elements_reversed))]
+/// The items of `rows` after the order of the rows was reversed by index bits, or `None` if the number
+/// of rows is neither zero nor a power of two. The items are moved first, and then reversed as rows.
 pub fn items_of_reversed<T: Default + Drop, const N: usize>(
     alloc: Global,
     rows: Vec<[T; N]>,
-) -> Result<Vec<T>, AllocError>
-    requires fits { vec_len rows * N < 2 ^ 64 }
-    requires power { IsReversible (vec_len rows) }
-    ensures { IfOk result (λ moved. (items : List T) → IsFlat N rows.items items
-        → IsRowReversal N items moved.items) }
+) -> Result<Option<Vec<T>>, AllocError>
+    requires { vec_len rows * N < 2 ^ 64 }
+    ensures { IfOk result (λ r. IfSome r (λ moved. IsRowReversal N (flat rows.items) moved.items)) }
 {
-    let Ok(items) = flatten_to_base(alloc, reversed(rows)) else {
+    let Ok(items) = flatten_to_base(alloc, rows) else {
         return Err(AllocError);
     };
-    Ok(items)
+    if !fits_rows(items.len(), N) {
+        return Ok(None);
+    }
+    Ok(Some(reversed_rows(items, N)))
 }

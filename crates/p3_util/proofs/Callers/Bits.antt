@@ -1,5 +1,6 @@
--- Reversed digits of even and odd numbers, of half a number and of a number of more digits; std's
--- test for a power of two; exponents and powers; and the row and the column of a place.
+-- Reversed digits: in two parts, twice, of even and odd numbers, of half a number and of a number of
+-- more digits; std's test for a power of two; exponents and powers; and the row and the column of a
+-- place.
 use Rattle.std.proofs.Common.{◌≡◌, ℕ, zero, suc, ◌+◌, ◌-◌, ◌*◌, ◌/◌, ◌%◌, ◌^◌, ◌<◌, ◌≤◌, inl, true, refl, sym, ap, ◌∙◌, add-one, arith}
 use Rattle.std.proofs.lemmas.Nat.{pow-add, mod-mul-add, mul-mod_first}
 use Rattle.std.proofs.Math.Nat.{pow-suc}
@@ -7,9 +8,23 @@ use Rattle.std.proofs.Math.Pow.{pow_mono}
 use Rattle.std.specs.Int.{is_power_of_two}
 use Rattle.p3_util_kernels.specs.Digits.{rev}
 use Rattle.p3_util_kernels.specs.Powers.{HasLog2}
-use Rattle.p3_util_kernels.proofs.DigitsLemmas.{rev-parts, rev-of-zero, rev-shl, rev-suc, rev-zero, rev-lt}
+use Rattle.p3_util_kernels.specs.Levels.{clog}
+use Rattle.p3_util_kernels.proofs.DigitsLemmas.{rev-parts, rev-of-zero, rev-rev-below, rev-shl, rev-suc, rev-zero, rev-lt}
+use Rattle.p3_util_kernels.proofs.LevelsLemmas.{clog_power}
 use Rattle.p3_util_kernels.proofs.Matrix.{row_and_column}
 use Rattle.p3_util_kernels.proofs.PowersLemmas.{exponent-le, power_of_two_test as power_test}
+
+-- The k low digits of a number, reversed, are a number of k digits. Reversing a number of k digits
+-- twice gives it back. The reverse of a number in two parts, high digits and low digits, follows
+-- from the reverses of the parts.
+pub rev_below : (k x : ℕ) → rev k x < 2 ^ k
+rev_below k x = rev-lt k x
+
+pub rev_twice : (k x : ℕ) → x < 2 ^ k → rev k (rev k x) ≡ x
+rev_twice k x h = rev-rev-below k x h
+
+pub rev_in_parts : (j k a y : ℕ) → y < 2 ^ k → rev (j + k) (a * 2 ^ k + y) ≡ rev k y * 2 ^ j + rev j a
+rev_in_parts j k a y h = rev-parts j k a y h
 
 -- the reverse of an even number, and of an odd one
 pub rev_even : (k b : ℕ) → rev (k + 1) (2 * b) ≡ rev k b
@@ -62,6 +77,29 @@ rev_longer k s i h =
     let order : k + s ≡ s + k = omega arith in
     let whole : 0 * 2 ^ k + i ≡ i = omega arith in
     rw order (rw whole at (rev-parts s k 0 i h) ∙ omega (arith, rev-of-zero s))
+
+-- A greater exponent has a greater power, and the power of a sum of exponents is the product of two
+-- powers. Numbers of swaps are stated with the logarithm of a power of two.
+pub power_up : {a b : ℕ} → a ≤ b → 2 ^ a ≤ 2 ^ b
+power_up h = pow_mono h
+
+pub exponent_most : (a b : ℕ) → 2 ^ a ≤ 2 ^ b → a ≤ b
+exponent_most a b h = exponent-le a b h
+
+pub power_in_parts : (n a b : ℕ) → n ^ (a + b) ≡ n ^ a * n ^ b
+power_in_parts n a b = pow-add n a b
+
+pub log_of_power : (n k : ℕ) → n ≡ 2 ^ k → clog n ≡ k
+log_of_power n k e = clog_power n k e
+
+-- a length that fits in a usize is below 2 ^ 64 and each greater power
+pub large_power : (k : ℕ) → 64 ≤ k → 2 ^ 64 ≤ 2 ^ k
+large_power k large = pow_mono large
+
+pub below_large_power : (len k : ℕ) → len < 2 ^ 64 → 64 ≤ k → len < 2 ^ k
+below_large_power len k fits large = omega (arith, large_power k large)
+
+pub ruleset power_too_large = (large_power, below_large_power)
 
 -- the exponent of a power of two that is at most a number below 2 ^ k
 pub exponent_below : (r k n : ℕ) → 2 ^ r ≤ n → n < 2 ^ k → r < k

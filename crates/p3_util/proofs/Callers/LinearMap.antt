@@ -1,5 +1,5 @@
 -- A map after an insert: what a look-up finds, and the sum of all values.
-use Rattle.std.proofs.Common.{◌≡◌, ◌≢◌, ℕ, ◌+◌, ◌≤◌, Bool, false, nat_eq, Some, None, List, [], ◌∷◌, ◌++◌, Bor, sum, refl, sym, ap, ◌∙◌, arith}
+use Rattle.std.proofs.Common.{◌≡◌, ◌≢◌, ℕ, ◌+◌, ◌≤◌, Bool, true, false, cond, is_some, nat_eq, Some, None, List, [], ◌∷◌, ◌++◌, Bor, sum, refl, sym, ap, ◌∙◌, arith}
 use Rattle.std.proofs.lemmas.Bool.{ne_eqb}
 use Rattle.std.proofs.lemmas.List.{map-append}
 use Rattle.std.proofs.lemmas.Map.Entries.{sum_by-set_value}
@@ -7,7 +7,7 @@ use Rattle.std.proofs.lemmas.Map.Steps.{lookup-le-sum}
 use Rattle.std.proofs.lemmas.List.Sums.{sum_by-append}
 use Rattle.std.specs.Cmp.{IsEquivalence, nat_eq_equiv}
 use Rattle.std.specs.Cmp.Lexicographic.{on_texts_equal, pointwise}
-use Rattle.std.specs.Map.{values_of}
+use Rattle.std.specs.Map.{lookup, set_value, values_of}
 use Rattle.std.specs.Option.{UnwrapsOrElse, unwrap_or}
 use Rattle.p3_util.specs.LinearMap.{put, value_at}
 use Rattle.p3_util.proofs.MapLemmas.{lookup_put}
@@ -20,8 +20,43 @@ module _ {K V : Type 0} {eq : K → K → Bool} (laws : IsEquivalence eq) where
   pub key_others : (pairs : List (K × V)) (k : K) (v : V) (q : K) → eq k q ≡ false → value_at eq (put eq pairs k v) q ≡ value_at eq pairs q
   key_others pairs k v q apart = lookup_put laws pairs k v q ∙ rw apart refl
 
+-- a value that is written twice at the first key that passes
+set_twice : {K V : Type 0} (test : K → Bool) (pairs : List (K × V)) (v w : V) → set_value test (set_value test pairs v) w ≡ set_value test pairs w
+set_twice test [] v w = refl
+set_twice {K} {V} test (e ∷ pairs) v w =
+    elim (test e.0) as (λ b. test e.0 ≡ b → set_value test (cond b ((e.0, v) ∷ pairs) (e ∷ set_value test pairs v)) w ≡ cond b ((e.0, w) ∷ pairs) (e ∷ set_value test pairs w)) [
+      | true ↦ λ same. rw same refl
+      | false ↦ λ apart. rw apart (ap (λ (t : List (K × V)). e ∷ t) (set_twice test pairs v w))
+    ] refl
+
+-- a value that is written at a key that was added last
+set_added : {K V : Type 0} (test : K → Bool) (pairs : List (K × V)) (k : K) (v w : V) → test k ≡ true → lookup test pairs ≡ None
+    → set_value test (pairs ++ (k, v) ∷ []) w ≡ pairs ++ (k, w) ∷ []
+set_added test [] k v w same absent = rw same refl
+set_added {K} {V} test (e ∷ pairs) k v w same absent =
+    elim (test e.0) as (λ b. test e.0 ≡ b → cond b (Some e.1) (lookup test pairs) ≡ None
+    → cond b ((e.0, w) ∷ (pairs ++ (k, v) ∷ [])) (e ∷ set_value test (pairs ++ (k, v) ∷ []) w) ≡ e ∷ (pairs ++ (k, w) ∷ [])) [
+      | true ↦ λ passes none. absurd (let n : Some e.1 ≡ None = none in cc)
+      | false ↦ λ apart none. ap (λ (t : List (K × V)). e ∷ t) (set_added test pairs k v w same none)
+    ] refl absent
+
+-- two values that are inserted under one key: the second one stays
+module _ {K V : Type 0} {eq : K → K → Bool} (laws : IsEquivalence eq) where
+  pub key_put_put : (pairs : List (K × V)) (k : K) (v w : V) → put eq (put eq pairs k v) k w ≡ put eq pairs k w
+  key_put_put pairs k v w =
+      let found : is_some (value_at eq (put eq pairs k v) k) ≡ true = ap is_some (key_found laws pairs k v) in
+      rw found
+      (elim (value_at eq pairs k) as (λ o. value_at eq pairs k ≡ o
+      → set_value (eq k) (cond (is_some o) (set_value (eq k) pairs v) (pairs ++ (k, v) ∷ [])) w ≡ cond (is_some o) (set_value (eq k) pairs w) (pairs ++ (k, w) ∷ [])) [
+        | Some old ↦ λ known. set_twice (eq k) pairs v w
+        | None ↦ λ absent. set_added (eq k) pairs k v w (laws.refl k) absent
+      ] refl)
+
 -- the same for keys that are numbers
 module _ {V : Type 0} where
+  pub number_put_put : (pairs : List (ℕ × V)) (k : ℕ) (v w : V) → put nat_eq (put nat_eq pairs k v) k w ≡ put nat_eq pairs k w
+  number_put_put = key_put_put nat_eq_equiv
+
   pub number_found : (pairs : List (ℕ × V)) (k : ℕ) (v : V) → value_at nat_eq (put nat_eq pairs k v) k ≡ Some v
   number_found = key_found nat_eq_equiv
 
@@ -31,6 +66,8 @@ module _ {V : Type 0} where
 pub ruleset put_found = (key_found, number_found)
 
 pub ruleset put_others = (key_others, number_others)
+
+pub ruleset put_put = (key_put_put, number_put_put)
 
 -- the value of a new key comes last
 new_value_last : {K V : Type 0} (eq : K → K → Bool) (pairs : List (K × V)) (k : K) (v : V)

@@ -1,12 +1,20 @@
--- Where an item of a reversal comes from; that a list has only one reversal; and that
--- reversing it twice gives the list back.
-use Rattle.std.proofs.Common.{◌≡◌, ℕ, ◌+◌, ◌*◌, ◌^◌, ◌<◌, ◌≤◌, List, length, slice_get, ap, ◌∙◌, arith}
+-- Where an item of a reversal comes from; that a list has only one reversal; that reversing it twice
+-- gives the list back; and that a list of at most two items is its own reversal.
+use Rattle.std.proofs.Common.{◌≡◌, ℕ, zero, suc, ◌+◌, ◌*◌, ◌^◌, ◌<◌, ◌≤◌, List, [], ◌∷◌, length, slice_get, refl, sym, ap, ◌∙◌, arith}
 use Rattle.std.proofs.Math.Pow.{pow_mono}
 use Rattle.p3_util_kernels.specs.Digits.{rev}
 use Rattle.p3_util_kernels.specs.Reversal.{IsReversal, IsReversible, IsRowReversal, IsZeroOrPowerOfTwo}
+use Rattle.std.proofs.lemmas.Nat.{pow_pos}
+use Rattle.p3_util_kernels.proofs.DigitsLemmas.{rev-lt, rev-of-zero, rev-suc, rev-zero}
 use Rattle.p3_util_kernels.proofs.Lengths.{zero_or_power}
 use Rattle.p3_util_kernels.proofs.ReversalLemmas.{IsReversal-unique, row_reversed_back, IsRowReversal-unique, IsReversal-from_power}
 use Rattle.p3_util.proofs.Callers.Bits.{pair_below, rev_even, rev_odd, rev_longer}
+
+-- a number of one digit is its own reverse
+one_digit : (i : ℕ) → i < 2 ^ 1 → rev 1 i ≡ i
+one_digit zero h = rev-of-zero 1
+one_digit (suc zero) h = rw (rev-suc 0 1, rev-zero 1) refl
+one_digit (suc (suc i)) h = absurd (omega arith)
 
 module _ {A : Type 0} where
   -- place i of a reversal of 2 ^ k items
@@ -55,3 +63,15 @@ module _ {A : Type 0} where
       → length old ≡ row_width * rows → IsZeroOrPowerOfTwo rows → new ≡ old
   rows_reversed_twice row_width rows old mid new first second len fits =
       rows_reversed_once row_width rows mid new old second (row_reversed_back row_width old mid first) (first.same_length ∙ len) fits
+
+  -- a list of at most two items is its own reversal, and has no other one
+  pub short_reversed : (xs : List A) → length xs ≤ 2 → IsReversal xs xs
+  short_reversed [] h = record { same_length = refl; places = λ k r j e hr hj. absurd (omega (arith, pow_pos k)) }
+  short_reversed (x ∷ []) h = reversed_by_places 0 (x ∷ []) (x ∷ []) refl refl (λ i less. ap (slice_get (x ∷ [])) (omega (arith, rev-lt 0 i)))
+  short_reversed (x ∷ y ∷ []) h = reversed_by_places 1 (x ∷ y ∷ []) (x ∷ y ∷ []) refl refl (λ i less. ap (slice_get (x ∷ y ∷ [])) (sym (one_digit i less)))
+  short_reversed (x ∷ y ∷ z ∷ xs) h = absurd (omega arith)
+
+  pub short_stays : (old new : List A) → IsReversal old new → length old ≤ 2 → IsReversible (length old) → new ≡ old
+  short_stays old new reversal h fits = reversed_once old new old reversal (short_reversed old h) fits
+
+pub ruleset short_same = (short_reversed, short_stays)

@@ -1,13 +1,14 @@
 -- That a list has only one transpose; transposing there and back; the first row and column; what a
 -- region leaves as it was; and a reversal by way of a transpose.
-use Rattle.std.proofs.Common.{◌≡◌, ℕ, ◌+◌, ◌*◌, ◌/◌, ◌%◌, ◌^◌, ◌<◌, ◌≤◌, List, length, slice_get, refl, sym, ap, ◌∙◌, arith}
+use Rattle.std.proofs.Common.{◌≡◌, ℕ, ◌+◌, ◌*◌, ◌/◌, ◌%◌, ◌^◌, ◌<◌, ◌≤◌, ◌⊎◌, inl, inr, List, length, slice_get, refl, sym, ap, ◌∙◌, arith}
 use Rattle.p3_util_kernels.specs.Transpose.{IsTranspose}
 use Rattle.p3_util_kernels.proofs.Matrix.{IsTranspose-unique, transpose_turned}
+use Rattle.std.proofs.lemmas.Bool.{cases_lt}
 use Rattle.std.proofs.lemmas.Nat.{mod_below, pow-add, pow_pos, same_from_place}
-use Rattle.std.proofs.Math.Nat.{div-lt_iff_lt-mul, mod-add-div'}
+use Rattle.std.proofs.Math.Nat.{div-lt_iff_lt-mul, mod-add-div', mul-le-mul_right}
 use Rattle.p3_util_kernels.specs.Digits.{rev}
 use Rattle.p3_util_kernels.specs.declared.transpose.regions.Region.{Region}
-use Rattle.p3_util_kernels.specs.Region.{IsInRegion, IsRegionTransposed}
+use Rattle.p3_util_kernels.specs.Region.{IsInRegion, IsRegionTransposed, LiesInMatrix}
 use Rattle.p3_util_kernels.specs.Reversal.{IsReversal, IsRowReversal}
 use Rattle.p3_util_kernels.proofs.DigitsLemmas.{rev-lt, rev-parts}
 use Rattle.p3_util_kernels.proofs.ReversalLemmas.{IsReversal-from_power}
@@ -40,12 +41,13 @@ module _ {A : Type 0} where
 
 pub ruleset transposed_first = (first_in_rows, first_row)
 
--- what a region leaves as it was, by row and column
-module _ {A : Type 0} (region : Region) (width height : ℕ) (input old new : List A) (put : IsRegionTransposed region width height input old new)
-    (inside : region.row_end ≤ height) (x y : ℕ) (hy : y < height) where
-  pub outside_stays : (IsInRegion region x y → ⊥) → slice_get new (x * height + y) ≡ slice_get old (x * height + y)
-  outside_stays out = put.others (x * height + y) (λ x' y' within e.
-      let same = same_from_place x y x' y' height hy (omega (arith, within.row_to)) e in
+-- What a region leaves as it was: the items outside of it, by row and column. The place of row y and
+-- column x is `x * height + y`.
+module _ {A : Type 0} (region : Region) (width height x y : ℕ) (input old new : List A) where
+  pub outside_stays : IsRegionTransposed region width height input old new → LiesInMatrix region width height → (IsInRegion region x y → ⊥) → y < height
+      → slice_get new (x * height + y) ≡ slice_get old (x * height + y)
+  outside_stays put inside out hy = put.others (x * height + y) (λ x' y' within e.
+      let same = same_from_place x y x' y' height hy (omega (arith, within.row_to, inside.rows_inside)) e in
       out (record {
         row_from = omega (arith, same.1, within.row_from);
         row_to = omega (arith, same.1, within.row_to);
@@ -53,19 +55,33 @@ module _ {A : Type 0} (region : Region) (width height : ℕ) (input old new : Li
         col_to = omega (arith, same.0, within.col_to);
       }))
 
-  pub above_stays : y < region.row_start → slice_get new (x * height + y) ≡ slice_get old (x * height + y)
-  above_stays h = outside_stays (λ within. omega (arith, within.row_from))
+  pub above_stays : IsRegionTransposed region width height input old new → LiesInMatrix region width height → y < region.row_start → y < height
+      → slice_get new (x * height + y) ≡ slice_get old (x * height + y)
+  above_stays put inside h hy = outside_stays put inside (λ within. omega (arith, within.row_from)) hy
 
-  pub below_stays : region.row_end ≤ y → slice_get new (x * height + y) ≡ slice_get old (x * height + y)
-  below_stays h = outside_stays (λ within. omega (arith, within.row_to))
+  pub below_stays : IsRegionTransposed region width height input old new → LiesInMatrix region width height → region.row_end ≤ y → y < height
+      → slice_get new (x * height + y) ≡ slice_get old (x * height + y)
+  below_stays put inside h hy = outside_stays put inside (λ within. omega (arith, within.row_to)) hy
 
-  pub left_stays : x < region.col_start → slice_get new (x * height + y) ≡ slice_get old (x * height + y)
-  left_stays h = outside_stays (λ within. omega (arith, within.col_from))
+  pub left_stays : IsRegionTransposed region width height input old new → LiesInMatrix region width height → x < region.col_start → y < height
+      → slice_get new (x * height + y) ≡ slice_get old (x * height + y)
+  left_stays put inside h hy = outside_stays put inside (λ within. omega (arith, within.col_from)) hy
 
-  pub right_stays : region.col_end ≤ x → slice_get new (x * height + y) ≡ slice_get old (x * height + y)
-  right_stays h = outside_stays (λ within. omega (arith, within.col_to))
+  pub right_stays : IsRegionTransposed region width height input old new → LiesInMatrix region width height → region.col_end ≤ x → y < height
+      → slice_get new (x * height + y) ≡ slice_get old (x * height + y)
+  right_stays put inside h hy = outside_stays put inside (λ within. omega (arith, within.col_to)) hy
 
-pub ruleset region_others = (above_stays, below_stays, left_stays, right_stays)
+-- `IsRegionTransposed` says of a place that it keeps its item if it differs from all places of the
+-- region. This lemma is what the search lacks to use that: two rows of the output are the same row, or
+-- they begin `height` or more places apart.
+pub region_others : (x x' height : ℕ) → (x ≡ x') ⊎ (x * height + height ≤ x' * height) ⊎ (x' * height + height ≤ x * height)
+region_others x x' height = elim (cases_lt x x') [
+  | inl less ↦ let up : (x + 1) * height ≤ x' * height = mul-le-mul_right height (omega arith) in inr (inl (omega arith))
+  | inr le ↦ elim (cases_lt x' x) [
+    | inl less ↦ let up : (x' + 1) * height ≤ x * height = mul-le-mul_right height (omega arith) in inr (inr (omega arith))
+    | inr same ↦ inl (omega arith)
+  ]
+]
 
 -- reversing the rows, transposing, and reversing the rows of the transpose reverses the whole list
 pub reversed_by_sides : {A : Type 0} (a b width height : ℕ) (old mid out new : List A) → IsRowReversal height out new → IsTranspose width height mid out

@@ -1,8 +1,10 @@
--- The pair at a place, how many pairs there are, and a sum that is reduced at each step.
-use Rattle.std.proofs.Common.{◌≡◌, ℕ, zero, suc, ◌+◌, ◌*◌, ◌/◌, ◌%◌, ◌<◌, Some, List, [], ◌∷◌, length, map, slice_get, sum, refl, sym, ap, ◌∙◌, arith}
+-- The pair at a place, how many pairs there are, an exchange of two pairs, and a sum that is reduced
+-- at each step.
+use Rattle.std.proofs.Common.{◌≡◌, ℕ, zero, suc, ◌+◌, ◌*◌, ◌/◌, ◌%◌, ◌<◌, min, Some, List, [], ◌∷◌, length, get_or, map, set, slice_get, sum, refl, sym, ap, ◌∙◌, arith}
 use Rattle.std.proofs.lemmas.List.Sums.{sum-map}
 use Rattle.std.proofs.Math.Nat.{add-mul-mod_self_right, mod-add-div'}
-use Rattle.std.specs.List.{fold, zip}
+use Rattle.std.proofs.lemmas.Slice.Zip.{get_or-zip, length-zip}
+use Rattle.std.specs.List.{fold, swap, zip}
 
 -- place i of the pairs of two lists
 pub zip_place : {A B : Type 0} (xs : List A) (ys : List B) (i : ℕ) (x : A) (y : B) → slice_get xs i ≡ Some x → slice_get ys i ≡ Some y
@@ -17,6 +19,31 @@ pub zip_length : {A B : Type 0} (xs : List A) (ys : List B) → length ys ≡ le
 zip_length [] ys same = refl
 zip_length (x ∷ xs) [] same = absurd (omega arith)
 zip_length (x ∷ xs) (y ∷ ys) same = ap (λ n. suc n) (zip_length xs ys (omega arith))
+
+-- how many pairs two lists of any lengths have
+pub length_zip : {A B : Type 0} (xs : List A) (ys : List B) → length (zip xs ys) ≡ min (length xs) (length ys)
+length_zip xs ys = length-zip xs ys
+
+-- a write to both lists at one place
+pub zip_set : {A B : Type 0} (xs : List A) (ys : List B) (i : ℕ) (x : A) (y : B) → zip (set xs i x) (set ys i y) ≡ set (zip xs ys) i (x, y)
+zip_set [] ys i x y = refl
+zip_set (x' ∷ xs) [] zero x y = refl
+zip_set (x' ∷ xs) [] (suc i) x y = refl
+zip_set (x' ∷ xs) (y' ∷ ys) zero x y = refl
+zip_set (x' ∷ xs) (y' ∷ ys) (suc i) x y = ap (λ t. (x', y') ∷ t) (zip_set xs ys i x y)
+
+-- An exchange in both lists is an exchange of the pairs.
+pub zip_swap : {A B : Type 0} (xs : List A) (ys : List B) (i j : ℕ) → i < length (zip xs ys) → j < length (zip xs ys)
+    → zip (swap xs i j) (swap ys i j) ≡ swap (zip xs ys) i j
+zip_swap [] ys i j hi hj = refl
+zip_swap (x ∷ xs) [] i j hi hj = absurd (omega arith)
+zip_swap (x ∷ xs) (y ∷ ys) i j hi hj =
+    let all = length-zip (x ∷ xs) (y ∷ ys) in
+    let at-i = get_or-zip (x ∷ xs) (y ∷ ys) i (x, y) (omega arith) (omega arith) in
+    let at-j = get_or-zip (x ∷ xs) (y ∷ ys) j (x, y) (omega arith) (omega arith) in
+    zip_set (set (x ∷ xs) i (get_or (x ∷ xs) j x)) (set (y ∷ ys) i (get_or (y ∷ ys) j y)) j (get_or (x ∷ xs) i x) (get_or (y ∷ ys) i y)
+    ∙ ap (λ t. set t j (get_or (x ∷ xs) i x, get_or (y ∷ ys) i y)) (zip_set (x ∷ xs) (y ∷ ys) i (get_or (x ∷ xs) j x) (get_or (y ∷ ys) j y))
+    ∙ rw (at-i, at-j) refl
 
 -- A fold that takes the remainder at each step, of a state that is reduced before, gives the remainder
 -- of the sum.
