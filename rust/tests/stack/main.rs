@@ -1,25 +1,26 @@
-//! How much stack the calls need. In a build without optimization, each item that is passed on is on the stack, so these
-//! tests are only for a release build.
-
-#![cfg(not(debug_assertions))]
+//! How much stack the calls need. In a build without optimization, each item that is passed on is on the stack, so such a
+//! build gets as much as a thread has by default. A release build gets as little as a thread can have.
 
 #[path = "../package/common.rs"]
 mod common;
 
 use std::thread::{Builder, scope};
 
-use common::transposed;
+use common::{reversed, transposed};
 use p3_util_proved::transpose::transpose;
+use p3_util_proved::{reverse_slice_index_bits, reverse_slice_row_index_bits};
 
-/// The least stack that a thread can have, in bytes. The stack has no room for one item of this size.
+/// The stack of a thread in a debug build, in bytes: what std gives a thread.
+#[cfg(debug_assertions)]
+const STACK: usize = 2 << 20;
+
+/// The least stack that a thread can have, in bytes. It has no room for an item of 64 KiB.
+#[cfg(not(debug_assertions))]
 const STACK: usize = 1 << 16;
 
-/// An item that is found by its first bytes.
-type Large = [u8; STACK];
-
-/// This many items, each with its number. They are filled in place.
-fn numbered(len: usize) -> Vec<Large> {
-    let mut items = vec![[0; STACK]; len];
+/// This many items of `SIZE` bytes, each with its number in its first bytes. They are filled in place.
+fn numbered<const SIZE: usize>(len: usize) -> Vec<[u8; SIZE]> {
+    let mut items = vec![[0; SIZE]; len];
     for (number, item) in items.iter_mut().enumerate() {
         item[..8].copy_from_slice(&number.to_le_bytes());
     }
@@ -27,8 +28,8 @@ fn numbered(len: usize) -> Vec<Large> {
 }
 
 /// The numbers of these items.
-fn numbers(items: &[Large]) -> Vec<usize> {
-    let number = |item: &Large| usize::from_le_bytes(item[..8].try_into().unwrap());
+fn numbers<const SIZE: usize>(items: &[[u8; SIZE]]) -> Vec<usize> {
+    let number = |item: &[u8; SIZE]| usize::from_le_bytes(item[..8].try_into().unwrap());
     items.iter().map(number).collect()
 }
 
@@ -40,25 +41,67 @@ fn on_a_small_stack(call: impl FnOnce() + Send) {
     });
 }
 
-#[test]
-fn transposes_of_large_items() {
+fn check_transposes<const SIZE: usize>() {
     for (width, height) in [(2, 3), (5, 1), (1, 5), (8, 8), (16, 16), (20, 17)] {
-        let input = numbered(width * height);
-        let mut output = numbered(width * height);
+        let input = numbered::<SIZE>(width * height);
+        let mut output = numbered::<SIZE>(width * height);
         on_a_small_stack(|| transpose(&input, &mut output, width, height));
         let wanted = (0..width * height).map(|place| transposed(width, height, place));
         assert!(numbers(&output).into_iter().eq(wanted), "{width} by {height}");
     }
 }
 
-/// With the feature `checked`, std's `swap` makes the exchanges, and it does need room for one item.
-#[cfg(not(feature = "checked"))]
+#[test]
+fn transposes_of_large_items() {
+    check_transposes::<{ 1 << 10 }>();
+    #[cfg(not(debug_assertions))]
+    check_transposes::<{ 1 << 16 }>();
+}
+
+fn check_reversals<const SIZE: usize>() {
+    for bits in [1, 4, 7, 8] {
+        let mut items = numbered::<SIZE>(1 << bits);
+        on_a_small_stack(|| reverse_slice_index_bits(&mut items));
+        let wanted = (0..1 << bits).map(|place| reversed(bits, place));
+        assert!(numbers(&items).into_iter().eq(wanted), "2^{bits} items of {SIZE} bytes");
+    }
+}
+
+/// Reverses empty lists too. A call may need stack for a kernel that it does not run.
+fn check_rows<const SIZE: usize>() {
+    for width in [1, 2, 3, 4, 8, 16, 32] {
+        on_a_small_stack(|| reverse_slice_row_index_bits::<[u8; SIZE]>(&mut [], width));
+        for bits in [1, 3] {
+            let mut items = numbered::<SIZE>(width << bits);
+            on_a_small_stack(|| reverse_slice_row_index_bits(&mut items, width));
+            let wanted = (0..width << bits).map(|place| reversed(bits, place / width) * width + place % width);
+            let name = format!("2^{bits} rows of {width} items of {SIZE} bytes");
+            assert!(numbers(&items).into_iter().eq(wanted), "{name}");
+        }
+    }
+}
+
+/// With the feature `checked` in a release build, std's `swap` makes the exchanges, and it does need room for one item.
+#[cfg(any(debug_assertions, not(feature = "checked")))]
 #[test]
 fn reversals_of_large_items() {
-    for bits in [1, 4, 7, 8] {
-        let mut items = numbered(1 << bits);
-        on_a_small_stack(|| p3_util_proved::reverse_slice_index_bits(&mut items));
-        let wanted = (0..1 << bits).map(|place| common::reversed(bits, place));
-        assert!(numbers(&items).into_iter().eq(wanted), "2^{bits}");
+    #[cfg(debug_assertions)]
+    {
+        check_reversals::<{ 1 << 10 }>();
+        check_reversals::<{ 1 << 12 }>();
+        check_reversals::<{ 1 << 14 }>();
     }
+    check_reversals::<{ 1 << 16 }>();
+}
+
+#[cfg(any(debug_assertions, not(feature = "checked")))]
+#[test]
+fn rows_of_large_items() {
+    #[cfg(debug_assertions)]
+    {
+        check_rows::<{ 1 << 10 }>();
+        check_rows::<{ 1 << 12 }>();
+        check_rows::<{ 1 << 14 }>();
+    }
+    check_rows::<{ 1 << 16 }>();
 }
