@@ -90,8 +90,7 @@
 use core::fmt;
 use core::iter::FusedIterator;
 
-use crate::kernels::parts::ReversalPlan;
-use crate::unchecked::{self, Parts, Regions};
+use crate::unchecked::{self, Parts, Regions, Reversal};
 
 /// A list of more items is cut, whatever the size of its items.
 const ONE_PART_ITEMS: usize = 1 << 16;
@@ -136,11 +135,11 @@ pub struct TransposePart<'a, T>(Parts<'a, T, Regions<&'a [T]>>);
 
 /// The remaining parts of a reversal, as an iterator of known length.
 #[must_use = "a part that is not run leaves the list neither as it was nor reversed"]
-pub struct ReversalParts<'a, F>(Parts<'a, F, ReversalPlan>);
+pub struct ReversalParts<'a, F>(Parts<'a, F, Reversal>);
 
 /// A part of a reversal. It is `Send` if its items are, and `Sync` if they are. It cannot be cloned.
 #[must_use = "a part that is not run leaves the list neither as it was nor reversed"]
-pub struct ReversalPart<'a, F>(Parts<'a, F, ReversalPlan>);
+pub struct ReversalPart<'a, F>(Parts<'a, F, Reversal>);
 
 /// The greatest number of ranges that a side is cut into if the caller asks for `parts` parts. P ranges of a side make
 /// P(P + 1) / 2 patches. These are about two for each part that the caller asks for, so that threads that take one patch

@@ -129,6 +129,17 @@ pub(crate) fn parts_of_transpose<'a, T: Copy>(
     })
 }
 
+/// A reversal that is cut into parts, and how many items a row has.
+#[derive(Clone, Copy)]
+#[cfg_attr(
+    any(feature = "checked", not(any(target_arch = "x86_64", target_arch = "aarch64"))),
+    allow(dead_code, reason = "there, a kernel of the type exchanges rows too")
+)]
+pub(crate) struct Reversal {
+    plan: ReversalPlan,
+    row_width: usize,
+}
+
 /// The parts of [`reverse_rows`], or `None` if that call would return `false`. Each side of a square is cut into at most
 /// `parts` parts. A list of up to `one_part` items is one part. A list that is empty, or whose items have no bytes, has
 /// no part.
@@ -137,7 +148,7 @@ pub(crate) fn parts_of_reversal<F>(
     row_width: usize,
     parts: usize,
     one_part: usize,
-) -> Option<Parts<'_, F, ReversalPlan>> {
+) -> Option<Parts<'_, F, Reversal>> {
     let len = vals.len();
     if !fits_rows(len, row_width) {
         return None;
@@ -148,7 +159,7 @@ pub(crate) fn parts_of_reversal<F>(
     let count = if size_of_val(vals) == 0 { 0 } else { plan.count() };
     Some(Parts {
         items: PartItems::in_shares(vals, len),
-        plan,
+        plan: Reversal { plan, row_width },
         numbers: 0..count,
     })
 }
@@ -185,7 +196,7 @@ impl<T: Copy> Parts<'_, T, Regions<&[T]>> {
     }
 }
 
-impl<F> Parts<'_, F, ReversalPlan> {
+impl<F> Parts<'_, F, Reversal> {
     /// Makes the exchanges of the remaining parts.
     pub(crate) fn exchange(mut self) {
         // The clause `below` of `ReversalPlan::exchange` holds because `numbers` are below the plan's count, and the
@@ -405,8 +416,10 @@ mod slices {
             unsafe { core::ptr::swap(self.first.add(i), self.first.add(j)) }
         }
 
-        /// This is not inlined, because most kernels have it in their code, but never call it: those for places of one item.
-        #[inline(never)]
+        /// Where `by_size.rs` is compiled, rows are exchanged by `SliceRuns`. There the kernels have this method in their
+        /// code, but never call it, so it is not inlined.
+        #[cfg_attr(any(target_arch = "x86_64", target_arch = "aarch64"), inline(never))]
+        #[cfg_attr(not(any(target_arch = "x86_64", target_arch = "aarch64")), inline)]
         fn exchange_runs(&mut self, i: usize, j: usize, len: usize) {
             let n = self.len;
             debug_assert!(len <= n && i <= n - len && j <= n - len && i.abs_diff(j) >= len);

@@ -7,8 +7,8 @@
 //!
 //! This file is only for processors that move unaligned bytes as fast as aligned ones.
 
-use super::by_type;
 use super::slices::{Bytes, SliceItems, SliceRuns, SliceSource};
+use super::{Reversal, by_type};
 use crate::kernels::parts::{ReversalPlan, TransposePlan};
 use crate::kernels::transpose::{Matrix, Strips};
 
@@ -65,11 +65,15 @@ pub(super) fn transpose<T: Copy>(cells: SliceItems<T>, matrix: Matrix<SliceSourc
 
 /// Makes the exchanges of part `number`.
 #[inline(always)]
-pub(super) fn exchange<F>(items: SliceItems<F>, plan: ReversalPlan, number: usize) {
+pub(super) fn exchange<F>(items: SliceItems<F>, reversal: Reversal, number: usize) {
     by_size!(
         const { size_of::<F>() },
-        _N => exchange_part(items.runs(), plan, number),
-        _ => by_type::exchange(items, plan, number)
+        _N => exchange_part(items.runs(), reversal, number),
+        _ => if reversal.row_width == 1 {
+            by_type::exchange(items, reversal, number);
+        } else {
+            exchange_part(items.runs(), reversal, number);
+        }
     );
 }
 
@@ -101,19 +105,21 @@ fn reverse_runs(items: SliceRuns, row_width: usize) {
     by_type::reverse_runs(items, row_width);
 }
 
-/// Makes the exchanges of a part, for items of a size in the table.
+/// Makes the exchanges of a part: of rows, which are exchanged as runs of bytes, or of items of a size in the table.
 #[inline(never)]
-fn exchange_part(items: SliceRuns, plan: ReversalPlan, number: usize) {
+fn exchange_part(items: SliceRuns, reversal: Reversal, number: usize) {
+    let Reversal { plan, row_width } = reversal;
     match plan {
-        ReversalPlan::OnePart(rows) => by_size!(
-            rows.width * items.size(),
-            N => by_type::reverse(items.rows::<N>(rows.width)),
-            _ => reverse_runs(items, rows.width)
+        ReversalPlan::OnePart(_) => by_size!(
+            row_width * items.size(),
+            N => by_type::reverse(items.rows::<N>(row_width)),
+            _ => reverse_runs(items, row_width)
         ),
+        ReversalPlan::ByPairs(pairs) if row_width != 1 => _ = pairs.exchange(items, number),
         ReversalPlan::ByPairs(pairs) => by_size!(
             items.size(),
             N => _ = pairs.exchange(items.rows::<N>(1), number),
-            _ => _ = pairs.exchange(items, number)
+            _ => unreachable!("these items have kernels of their type")
         ),
     }
 }

@@ -2,8 +2,8 @@
 
 #[cfg(any(feature = "checked", not(any(target_arch = "x86_64", target_arch = "aarch64"))))]
 use super::SlicePlaces;
-use super::{PartItems, SliceCells};
-use crate::kernels::parts::{ReversalPlan, TransposePlan};
+use super::{PartItems, Reversal, SliceCells};
+use crate::kernels::parts::TransposePlan;
 use crate::kernels::places::{Places, Source};
 use crate::kernels::reverse::{self, RowDigits, exchange_all, exchange_many};
 use crate::kernels::transpose::{Matrix, Strips, transpose_matrix};
@@ -84,8 +84,8 @@ pub(super) fn transpose<T: Copy>(cells: SliceCells<T>, matrix: Matrix<impl Sourc
 
 /// Makes the exchanges of part `number`.
 #[inline(always)]
-pub(super) fn exchange<F>(items: PartItems<F>, plan: ReversalPlan, number: usize) {
-    let _ = plan.exchange(items, number);
+pub(super) fn exchange<F>(items: PartItems<F>, reversal: Reversal, number: usize) {
+    let _ = reversal.plan.exchange(items, number);
 }
 
 /// Puts region `number`.
