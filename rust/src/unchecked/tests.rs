@@ -3,7 +3,9 @@
 
 use std::array::from_fn;
 use std::boxed::Box;
+use std::cmp::Ordering;
 use std::fmt::Debug;
+use std::num::NonZero;
 use std::vec::Vec;
 
 use super::{SliceCells, SlicePlaces, SliceSource};
@@ -516,4 +518,96 @@ fn shares() {
     refuses(5, &mut second);
     refuses(0, &mut items);
     assert_eq!(list, [0, 1, 7, 4, 8]);
+}
+
+/// Reverses items, rows and parts of the items that `item` makes. Then each item is dropped, which it would be twice or
+/// never if it was at two places or at none.
+fn reverses<T: Debug + PartialEq>(item: impl Fn(usize) -> T) {
+    for (bits, width) in (0..=8).flat_map(|bits| [1, 2, 3, 5, 8].map(|width| (bits, width))) {
+        let reversed = |row: usize| (0..bits).fold(0, |rev, bit| rev << 1 | row >> bit & 1);
+        let check = |list: &[T], wanted: &dyn Fn(usize) -> usize| {
+            let is = |(place, got): (usize, &T)| *got == item(wanted(place / width) * width + place % width);
+            assert!(list.iter().enumerate().all(is), "2^{bits} rows of {width}: {list:?}");
+        };
+        let mut list: Vec<T> = (0..width << bits).map(&item).collect();
+        assert!(super::reverse_rows(&mut list, width));
+        check(&list, &reversed);
+        // With the feature `checked` each reversal is one part.
+        let one_part = if cfg!(feature = "checked") { usize::MAX } else { 0 };
+        super::parts_of_reversal(&mut list, width, 2, one_part)
+            .unwrap()
+            .exchange();
+        check(&list, &|row| row);
+        super::parts_of_reversal(&mut list, width, 1, usize::MAX)
+            .unwrap()
+            .exchange();
+        check(&list, &reversed);
+        if width == 1 {
+            assert!(super::reverse(&mut list));
+            check(&list, &|row| row);
+        }
+    }
+}
+
+/// Transposes matrices of the items that `item` makes, as a whole and in parts.
+fn transposes<T: Copy + Debug + PartialEq>(item: impl Fn(usize) -> T) {
+    for (width, height) in [(2, 3), (8, 8), (5, 40), (33, 20)] {
+        let input: Vec<T> = (0..width * height).map(&item).collect();
+        let wanted = |place: usize| item(place % height * width + place / height);
+        for parts in 0..3 {
+            let mut output = std::vec![item(0); input.len()];
+            match parts {
+                0 => assert!(super::transpose(&input, &mut output, width, height)),
+                _ => super::parts_of_transpose(&input, &mut output, width, height, parts)
+                    .unwrap()
+                    .put(),
+            }
+            assert!(
+                output.into_iter().eq((0..input.len()).map(wanted)),
+                "{width} by {height}"
+            );
+        }
+    }
+}
+
+/// Items with a destructor, of sizes that have kernels in the package and of others.
+#[test]
+fn owners() {
+    let text = |number: usize| std::format!("item {number}");
+    reverses(Box::new);
+    reverses(|number| (number % 3 > 0).then(|| Box::new(number)));
+    reverses(|number| (Box::new(number), number as u8));
+    reverses(|number| text(number).into_boxed_str());
+    reverses(text);
+    reverses(|number| (text(number), number as u8));
+    reverses(|number| (text(number), text(number + 1), Box::new(number), number as u8));
+    reverses(|number| std::vec![Box::new(number); number % 3]);
+    reverses(|number| from_fn::<_, 50, _>(|k| text(number + k)));
+}
+
+/// Items with padding, with values that no item has, and with pointers, of the same sizes.
+#[test]
+fn padding_and_pointers() {
+    static TEXT: &str = "items of a text that is borrowed by all of them, in pieces of up to seven bytes";
+    macro_rules! moves {
+        ($($item:expr),*) => { $(reverses($item); transposes($item);)* };
+    }
+    moves![
+        |number| number % 3 == 0,
+        |number| (number % 2 > 0).then_some(number % 3 > 0),
+        |number| -> Ordering { number.cmp(&9) },
+        |number| (number as u8, number as u16),
+        |number| char::from_u32(number as u32 * 7 + 64),
+        |number| NonZero::new(number as u32 % 5),
+        |number| (number as u8, number as u32 + 1),
+        |number| TEXT.as_bytes().get(number % 90),
+        |number| (number as u32, number as u32 + 1, number as u8),
+        |number| &TEXT[number % 64..number % 64 + number % 8],
+        |number| (TEXT.as_bytes().get(number % 90), number as u8),
+        |number| ([number as u32; 4], number as u8),
+        |number| (Some(&TEXT[number % 64..]), number),
+        |number| ([number; 3], number as u8),
+        |number| ([&TEXT[number % 64..]; 3], number, number as u8),
+        |number| ([number; 140], number as u8)
+    ];
 }
