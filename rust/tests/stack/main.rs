@@ -6,9 +6,8 @@ mod common;
 
 use std::thread::{Builder, scope};
 
-use common::{reversed, transposed};
+use common::transposed;
 use p3_util_proved::transpose::transpose;
-use p3_util_proved::{reverse_slice_index_bits, reverse_slice_row_index_bits};
 
 /// The stack of a thread in a debug build, in bytes: what std gives a thread.
 #[cfg(debug_assertions)]
@@ -58,50 +57,56 @@ fn transposes_of_large_items() {
     check_transposes::<{ 1 << 16 }>();
 }
 
-fn check_reversals<const SIZE: usize>() {
-    for bits in [1, 4, 7, 8] {
-        let mut items = numbered::<SIZE>(1 << bits);
-        on_a_small_stack(|| reverse_slice_index_bits(&mut items));
-        let wanted = (0..1 << bits).map(|place| reversed(bits, place));
-        assert!(numbers(&items).into_iter().eq(wanted), "2^{bits} items of {SIZE} bytes");
-    }
-}
-
-/// Reverses empty lists too. A call may need stack for a kernel that it does not run.
-fn check_rows<const SIZE: usize>() {
-    for width in [1, 2, 3, 4, 8, 16, 32] {
-        on_a_small_stack(|| reverse_slice_row_index_bits::<[u8; SIZE]>(&mut [], width));
-        for bits in [1, 3] {
-            let mut items = numbered::<SIZE>(width << bits);
-            on_a_small_stack(|| reverse_slice_row_index_bits(&mut items, width));
-            let wanted = (0..width << bits).map(|place| reversed(bits, place / width) * width + place % width);
-            let name = format!("2^{bits} rows of {width} items of {SIZE} bytes");
-            assert!(numbers(&items).into_iter().eq(wanted), "{name}");
-        }
-    }
-}
-
 /// With the feature `checked` in a release build, std's `swap` makes the exchanges, and it does need room for one item.
 #[cfg(any(debug_assertions, not(feature = "checked")))]
-#[test]
-fn reversals_of_large_items() {
-    #[cfg(debug_assertions)]
-    {
-        check_reversals::<{ 1 << 10 }>();
-        check_reversals::<{ 1 << 12 }>();
-        check_reversals::<{ 1 << 14 }>();
-    }
-    check_reversals::<{ 1 << 16 }>();
-}
+mod reversals {
+    use p3_util_proved::{reverse_slice_index_bits, reverse_slice_row_index_bits};
 
-#[cfg(any(debug_assertions, not(feature = "checked")))]
-#[test]
-fn rows_of_large_items() {
-    #[cfg(debug_assertions)]
-    {
-        check_rows::<{ 1 << 10 }>();
-        check_rows::<{ 1 << 12 }>();
-        check_rows::<{ 1 << 14 }>();
+    use super::common::reversed;
+    use super::{numbered, numbers, on_a_small_stack};
+
+    fn check_reversals<const SIZE: usize>() {
+        for bits in [1, 4, 7, 8] {
+            let mut items = numbered::<SIZE>(1 << bits);
+            on_a_small_stack(|| reverse_slice_index_bits(&mut items));
+            let wanted = (0..1 << bits).map(|place| reversed(bits, place));
+            assert!(numbers(&items).into_iter().eq(wanted), "2^{bits} items of {SIZE} bytes");
+        }
     }
-    check_rows::<{ 1 << 16 }>();
+
+    /// Reverses empty lists too. A call may need stack for a kernel that it does not run.
+    fn check_rows<const SIZE: usize>() {
+        for width in [1, 2, 3, 4, 8, 16, 32] {
+            on_a_small_stack(|| reverse_slice_row_index_bits::<[u8; SIZE]>(&mut [], width));
+            for bits in [1, 3] {
+                let mut items = numbered::<SIZE>(width << bits);
+                on_a_small_stack(|| reverse_slice_row_index_bits(&mut items, width));
+                let wanted = (0..width << bits).map(|place| reversed(bits, place / width) * width + place % width);
+                let name = format!("2^{bits} rows of {width} items of {SIZE} bytes");
+                assert!(numbers(&items).into_iter().eq(wanted), "{name}");
+            }
+        }
+    }
+
+    #[test]
+    fn reversals_of_large_items() {
+        #[cfg(debug_assertions)]
+        {
+            check_reversals::<{ 1 << 10 }>();
+            check_reversals::<{ 1 << 12 }>();
+            check_reversals::<{ 1 << 14 }>();
+        }
+        check_reversals::<{ 1 << 16 }>();
+    }
+
+    #[test]
+    fn rows_of_large_items() {
+        #[cfg(debug_assertions)]
+        {
+            check_rows::<{ 1 << 10 }>();
+            check_rows::<{ 1 << 12 }>();
+            check_rows::<{ 1 << 14 }>();
+        }
+        check_rows::<{ 1 << 16 }>();
+    }
 }
