@@ -1,15 +1,18 @@
 //! Callers of the logarithms and powers. A test before the call of a strict logarithm is enough to
 //! meet its precondition.
 
-ghost use Rattle.std.specs.Prelude.{◌≡◌, ℕ, ◌+◌, ◌*◌, ◌/◌, ◌%◌, ◌^◌, ◌<◌, ◌≤◌, ◌↔◌, IsFalse, IsTrue, IfSome, MatchOption, None, Some, length};
+ghost use Rattle.std.specs.Prelude.{◌≡◌, ℕ, ◌+◌, ◌*◌, ◌/◌, ◌%◌, ◌^◌, ◌<◌, ◌≤◌, ◌↔◌, IsFalse, IsTrue, IfOk, IfSome, MatchOption, None, Some, length, string_bytes};
 ghost use Rattle.std.specs.Int.{IsPowerOfTwo, is_power_of_two};
 ghost use Rattle.p3_util.specs.Digits.{rev};
+ghost use Rattle.p3_util.specs.Names.{short_name};
 ghost use Rattle.p3_util.specs.Powers.{IsPowerOfThree};
 
 use p3_util::bits::{
     checked_log_size_sum, checked_pow2, is_power_of_three, log2_ceil_u64, log2_ceil_usize,
-    log2_floor_usize, log2_strict_usize, log3_strict_usize, reverse_bits, reverse_bits_len,
+    log2_floor_usize, log2_strict_usize, log3_strict_usize, pretty_name, reverse_bits,
+    reverse_bits_len,
 };
+use std::alloc::{AllocError, Global};
 
 /// The least power of two that is at least `len`, or `None` if that power is 2^64. A transform pads
 /// its input to this length.
@@ -191,4 +194,14 @@ pub fn reverse_in_longer(i: usize, k: usize, s: usize) -> usize
     ensures { result ≡ rev k i * 2 ^ s }
 {
     reverse_bits_len(i, k + s)
+}
+
+/// The short names of two types, such as those of a value and of an error.
+pub fn names_of(alloc: Global, one: &str, other: &str) -> Result<(String, String), AllocError>
+    ensures { IfOk result (λ names. (string_bytes names.0 ≡ short_name one.now)
+        × (string_bytes names.1 ≡ short_name other.now)) }
+{
+    let first = pretty_name(alloc, one)?;
+    let second = pretty_name(alloc, other)?;
+    Ok((first, second))
 }

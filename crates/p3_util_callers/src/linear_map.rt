@@ -1,6 +1,6 @@
 //! Callers of `LinearMap`, proved only from the public contracts of the map: any list of calls, and
 //! the map's pairs as a list.
-ghost use Rattle.std.specs.Prelude.{◌≡◌, ◌≢◌, ℕ, ◌+◌, ◌^◌, ◌<◌, false, [], None, Some, IfOk, OnOk, OnErr, length, nat_eq, sum};
+ghost use Rattle.std.specs.Prelude.{◌≡◌, ◌≢◌, ℕ, ◌+◌, ◌^◌, ◌<◌, ◌↔◌, false, [], IsTrue, None, Some, IfOk, OnOk, OnErr, length, nat_eq, sum};
 ghost use Rattle.std.specs.Map.{keys_of, values_of};
 ghost use Rattle.p3_util.specs.LinearMap.{put, put_all, value_at};
 ghost use Rattle.p3_util_callers.specs.MapCalls.{answer_of, answers_of, after, pairs_after};
@@ -106,6 +106,13 @@ pub fn define_twice(
     table.insert(symbol, first)?;
     table.insert(symbol, second)?;
     Ok(())
+}
+
+/// Whether `table` defines no symbol.
+pub fn defines_nothing(table: &LinearMap<u32, u64>) -> bool
+    ensures { IsTrue result ↔ (keys_of table.now ≡ []) }
+{
+    table.is_empty()
 }
 
 /// The keys of `table`, in the order in which they were first inserted.

@@ -7,7 +7,7 @@ ghost use Rattle.std.specs.List.{range_with_len};
 ghost use Rattle.p3_util.specs.Digits.{rev};
 ghost use Rattle.p3_util.specs.Reversal.{IsReversal, IsReversible, IsZeroOrPowerOfTwo};
 
-use p3_util::bits::{reverse_bits, reverse_bits_len};
+use p3_util::bits::{indices_arr, reverse_bits, reverse_bits_len};
 use p3_util::reverse::{reverse_slice_index_bits, reverse_slice_row_index_bits};
 use p3_util::transpose::transpose;
 use std::alloc::{AllocError, Global};
@@ -248,4 +248,25 @@ pub fn weighted_sum(evals: &[u32], weights: &[u16], k: usize) -> u64
     (0..evals.len())
         .map(|i| u64::from(evals[i]) * u64::from(weights[reverse_bits_len(i, k)]))
         .sum()
+}
+
+/// Reorders places. Afterwards place `i` has what the reverse of `i` had.
+#[tactic(auto, using(p3_util::proofs::Callers::reversed_read))]
+fn reorder_places(places: &mut [usize])
+    requires { IsPowerOfTwo (length places.old) }
+    ensures { (k i : ℕ) → length places.old ≡ 2 ^ k → i < 2 ^ k
+        → slice_index places.new i ≡ slice_index places.old (rev k i) }
+{
+    reverse_slice_index_bits(places);
+}
+
+/// The table of the reversed indices of a list of `N` items.
+#[tactic(auto, using(p3_util::proofs::Callers::rev_below))]
+pub fn reversed_indices<const N: usize>() -> [usize; N]
+    requires { IsPowerOfTwo N }
+    ensures { (k i : ℕ) → N ≡ 2 ^ k → i < N → slice_index result i ≡ rev k i }
+{
+    let mut indices = indices_arr::<N>();
+    reorder_places(&mut indices);
+    indices
 }

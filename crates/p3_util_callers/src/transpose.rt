@@ -6,6 +6,7 @@ ghost use Rattle.p3_util.specs.Levels.{lev, nest};
 ghost use Rattle.p3_util.specs.Region.{IsRegionTransposed, LiesInMatrix, cols_of, items_of, rows_of};
 ghost use Rattle.p3_util.specs.Reversal.{IsReversal};
 ghost use Rattle.p3_util.specs.Square.{IsSquareTransposed};
+ghost use Rattle.p3_util.specs.Stages.{IsStageOne, IsStageTwo};
 ghost use Rattle.p3_util.specs.Steps.{counted};
 ghost use Rattle.p3_util.specs.SwapCounts.{square_swaps};
 ghost use Rattle.p3_util.specs.Transpose.{IsTranspose};
@@ -14,8 +15,9 @@ use p3_util::bits::log2_ceil_usize;
 use p3_util::places::{Cells, Places, SliceCells, Source, Swaps, Writes};
 use p3_util::reverse::reverse_slice_row_index_bits;
 use p3_util::transpose::{
-    Region, fits_matrix, fits_square, transpose, transpose_region_counted, transpose_region_on,
-    transpose_source_region_on, transpose_split_on, transpose_square_on,
+    Region, butterfly_stage1, butterfly_stage2, fits_matrix, fits_square, transpose,
+    transpose_region_counted, transpose_region_on, transpose_source_region_on,
+    transpose_source_split_on, transpose_split_on, transpose_square_on,
 };
 use std::alloc::{AllocError, Global};
 
@@ -281,6 +283,40 @@ pub fn transpose_by_splits<C: Cells>(
     let mut out = Writes::new(out);
     let nested = transpose_split_on(input, &mut out, region, width, height, levels);
     (out.into_inner(), nested)
+}
+
+/// The same from any source, with 64 levels, which are enough for every region. Returns the number of
+/// writes.
+pub fn transpose_source_by_splits<R, C>(
+    input: &R,
+    out: &mut C,
+    region: Region,
+    width: usize,
+    height: usize,
+) -> u128
+where
+    C: Cells,
+    R: Source<Item = C::Item>,
+    requires input_fits { length (R.items input.now) ≡ width * height }
+    requires output_fits { length (C.items out.old) ≡ width * height }
+    requires inside { LiesInMatrix region width height }
+    requires enough { lev (rows_of region) (cols_of region) ≤ 64 }
+    ensures transposed { IsRegionTransposed region width height (R.items input.now)
+        (C.items out.old) (C.items out.new) }
+    ensures count { result ≡ counted 0 (items_of region) }
+{
+    let mut out = Writes::new(out);
+    transpose_source_split_on(input, &mut out, region, width, height, 64);
+    out.writes()
+}
+
+/// Transposes a block of 4 by 4 items in its two stages. Each stage exchanges one bit of the row
+/// number with one bit of the column number.
+pub fn transpose_in_stages<T: Copy>(block: [[T; 4]; 4]) -> [[T; 4]; 4]
+    ensures { (middle : List (List T)) × IsStageOne block middle × IsStageTwo middle result }
+{
+    let middle = butterfly_stage1(block);
+    butterfly_stage2(middle)
 }
 
 /// Transposes a square in place twice. This leaves the list as it was. A proof file names the lemma.
