@@ -9,8 +9,9 @@ use crate::kernels::reverse::{self, RowDigits, exchange_all, exchange_many};
 use crate::kernels::transpose::{Matrix, Strips, transpose_matrix};
 use crate::transpose::strips_by_size;
 
-/// Reverses items by index bits. Few items are reversed by functions of their own, which know how many items there are.
-/// If there was one such function, it would begin with a jump by a table, which takes longer than exchanging few items.
+/// Reverses items by index bits. Their number is zero or a power of two. Few items are reversed by functions of their own,
+/// which know how many items there are. If there was one such function, it would begin with a jump by a table, which takes
+/// longer than exchanging few items.
 #[inline(always)]
 pub(super) fn reverse(items: impl Places) {
     match items.len() {
@@ -20,7 +21,7 @@ pub(super) fn reverse(items: impl Places) {
     }
 }
 
-/// Reverses at most 8 items.
+/// Reverses at most 8 items. Their number is zero or a power of two.
 #[inline(never)]
 fn reverse_8(items: impl Places) {
     match items.len() {
