@@ -121,7 +121,7 @@ def number(text):
 def constants():
     """For each constant of the sources, the package and its overlay: its name, file and value."""
     for path in tracked:
-        if path in sources or re.fullmatch(r"rust/(overlay/)?src/\w+\.rs", path):
+        if path in sources or re.fullmatch(r"rust/(overlay/)?src/(unchecked/)?\w+\.rs", path):
             for name, value in re.findall(r"^ *(?:pub(?:\(\w+\))? )?const ([A-Z_]+): \w+ = ([^;]+);", read(path), re.M):
                 if number(value) is not None:
                     yield name, path, number(value)
