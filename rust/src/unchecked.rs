@@ -429,7 +429,8 @@ mod slices {
             run(i).swap_with_slice(run(j));
         }
 
-        /// Stands for `exchange`. Items of 20 to 44 bytes are written by parts, in the order of their addresses.
+        /// Stands for `exchange`. Items of 16 bytes, and most of 20 to 44 bytes, are written by parts, in the order of their
+        /// addresses.
         #[inline(always)]
         fn exchange_apart(&mut self, i: usize, j: usize) {
             debug_assert!(i != j && i < self.len && j < self.len);
