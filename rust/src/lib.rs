@@ -165,6 +165,10 @@ mod checked;
     clippy::only_used_in_recursion,
     reason = "the bound of a recursion, by which it is proved to end"
 )]
+#[cfg_attr(
+    feature = "checked",
+    allow(dead_code, reason = "its holders have no registers")
+)]
 #[rustfmt::skip]
 pub mod kernels;
 pub mod linear_map;

@@ -217,8 +217,9 @@ mod slices {
     use core::slice::{from_raw_parts, from_raw_parts_mut};
     use core::sync::atomic::{Ordering, compiler_fence};
 
-    use super::registers;
+    use super::registers::{self, Items, List};
     use crate::kernels::places::{Block, Cells, Places, Source};
+    use crate::kernels::registers::{self as squares, InPairs, Pair};
 
     /// The items of a slice, as places or as cells, for one kernel or for one part.
     ///
@@ -455,15 +456,16 @@ mod slices {
         #[allow(clippy::needless_range_loop, reason = "a tile is reached by row and column")]
         fn exchange_tiles(&mut self, x: [usize; 8], y: [usize; 8]) {
             debug_assert!(are_tiles(x, y, self.len));
-            let first = self.first;
-            // SAFETY (of all five): the 8 items from each of these places on are within the slice, and no two of these
-            // runs overlap, by the precondition of `Places::exchange_tiles`.
+            // SAFETY (of both): the 8 items from each of these places on are within the slice, and no two of these runs
+            // overlap, by the precondition of `Places::exchange_tiles`. It is that of `squares::exchange_tiles`, whose
+            // calls of `load` and `store` are proved to be within the list.
+            let mut list = unsafe { List::new(self.first, self.len) };
             match const { size_of::<F>() } {
-                1 if registers::HERE => unsafe { registers::exchange::<F, _, 8, 1>(first, x, y, registers::turned_1) },
-                2 if registers::HERE => unsafe { registers::exchange::<F, _, 8, 1>(first, x, y, registers::turned_2) },
-                4 if registers::HERE => unsafe { registers::exchange::<F, _, 4, 2>(first, x, y, registers::turned_4) },
-                8 if registers::HERE => unsafe { registers::exchange::<F, _, 2, 4>(first, x, y, registers::turned_8) },
-                3 => unsafe { exchange_at_once(first, x, y) },
+                1 if registers::HERE => squares::exchange_tiles::<F, Items<1>, _>(&mut list, 8, x, y),
+                2 if registers::HERE => squares::exchange_tiles::<F, Pair<Items<2>>, _>(&mut InPairs(list), 8, x, y),
+                4 if registers::HERE => squares::exchange_tiles::<F, Pair<Items<4>>, _>(&mut InPairs(list), 4, x, y),
+                8 if registers::HERE => squares::exchange_tiles::<F, Pair<Items<8>>, _>(&mut InPairs(list), 2, x, y),
+                3 => unsafe { exchange_at_once(self.first, x, y) },
                 _ => {
                     for row in (0..8).step_by(4) {
                         for col in (0..8).step_by(4) {
@@ -483,14 +485,15 @@ mod slices {
         #[inline(always)]
         fn turn_tile(&mut self, x: [usize; 8]) {
             debug_assert!(are_rows(x, self.len));
-            let first = self.first;
-            // SAFETY (of all four): the 8 items from each of these places on are within the slice, and no two of these
-            // runs overlap, by the precondition of `Places::turn_tile`.
+            // SAFETY: the 8 items from each of these places on are within the slice, and no two of these runs overlap, by
+            // the precondition of `Places::turn_tile`. It is that of `squares::turn_tile`, whose calls of `load` and
+            // `store` are proved to be within the list.
+            let mut list = unsafe { List::new(self.first, self.len) };
             match const { size_of::<F>() } {
-                1 if registers::HERE => unsafe { registers::turn::<F, _, 8, 1>(first, x, registers::turned_1) },
-                2 if registers::HERE => unsafe { registers::turn::<F, _, 8, 1>(first, x, registers::turned_2) },
-                4 if registers::HERE => unsafe { registers::turn::<F, _, 4, 2>(first, x, registers::turned_4) },
-                8 if registers::HERE => unsafe { registers::turn::<F, _, 2, 4>(first, x, registers::turned_8) },
+                1 if registers::HERE => squares::turn_tile::<F, Items<1>, _>(&mut list, 8, x),
+                2 if registers::HERE => squares::turn_tile::<F, Pair<Items<2>>, _>(&mut InPairs(list), 8, x),
+                4 if registers::HERE => squares::turn_tile::<F, Pair<Items<4>>, _>(&mut InPairs(list), 4, x),
+                8 if registers::HERE => squares::turn_tile::<F, Pair<Items<8>>, _>(&mut InPairs(list), 2, x),
                 _ => {
                     for row in 0..8 {
                         for col in row + 1..8 {
@@ -571,29 +574,34 @@ mod slices {
         /// transposed in registers, by squares of 8 by 8, 4 by 4 or 2 by 2.
         #[inline(always)]
         fn put_block<R: Source<Item = T>>(&mut self, source: &R, block: Block) {
-            let squares = match const { size_of::<T>() } {
+            let side = match const { size_of::<T>() } {
                 1 | 2 => 8,
                 4 => 4,
                 8 => 2,
                 _ => 0,
             };
             let items = match source.as_slice() {
-                Some(items) if registers::HERE && squares > 0 && block.side % squares == 0 => items,
+                Some(items) if registers::HERE && side > 0 && matches!(block.side, 4 | 8) && block.side >= side => {
+                    items
+                }
                 _ => return Singly(self).put_block(source, block),
             };
             debug_assert!(block_fits(block, items.len(), self.len));
-            let (items, cells) = (items.as_ptr(), self.first);
             // SAFETY: the items of the block are within the source and its cells within this slice, by the precondition
-            // of `Cells::put_block`, whose clause `apart` also says that no two columns overlap. The block consists of
-            // squares, whose rows have 8 bytes for items of one byte, and 16 bytes for others.
-            unsafe {
-                match const { size_of::<T>() } {
-                    1 => registers::put(items, cells, block, registers::turned_1),
-                    2 => registers::put(items, cells, block, registers::turned_2),
-                    4 => registers::put(items, cells, block, registers::turned_4),
-                    8 => registers::put(items, cells, block, registers::turned_8),
-                    _ => unreachable!(),
-                }
+            // of `Cells::put_block`, whose clause `apart` also says that no two columns overlap. It is that of
+            // `squares::put_block`, which stores into the cells alone: it has only a reference to the source.
+            let (items, mut cells) = unsafe {
+                (
+                    List::new(items.as_ptr().cast_mut(), items.len()),
+                    List::new(self.first, self.len),
+                )
+            };
+            match const { size_of::<T>() } {
+                1 => squares::put_block::<T, Items<1>, _, _>(&mut cells, &items, 8, block),
+                2 => squares::put_block::<T, Pair<Items<2>>, _, _>(&mut InPairs(cells), &InPairs(items), 8, block),
+                4 => squares::put_block::<T, Pair<Items<4>>, _, _>(&mut InPairs(cells), &InPairs(items), 4, block),
+                8 => squares::put_block::<T, Pair<Items<8>>, _, _>(&mut InPairs(cells), &InPairs(items), 2, block),
+                _ => unreachable!(),
             }
         }
     }

@@ -7,7 +7,7 @@ use Rattle.p3_util_kernels.specs.Exchanged.{AreTiles, IsTile, TileTurned, TilesE
 use Rattle.p3_util_kernels.proofs.Exchange.{slice_get-swap_first, slice_get-swap_second, slice_get-swap_other}
 
 -- a place of a tile has only one row and one column
-one_row : (z : List ℕ) (a b r c : ℕ) → ((a b : ℕ) → a < b → b < 8 → (slice_index z a + 8 ≤ slice_index z b) ⊎ (slice_index z b + 8 ≤ slice_index z a))
+pub one_row : (z : List ℕ) (a b r c : ℕ) → ((a b : ℕ) → a < b → b < 8 → (slice_index z a + 8 ≤ slice_index z b) ⊎ (slice_index z b + 8 ≤ slice_index z a))
     → a < 8 → b < 8 → r < 8 → c < 8 → slice_index z a + b ≡ slice_index z r + c → (a ≡ r) × (b ≡ c)
 one_row z a b r c apart ha hb hr hc e =
     elim (cases_eq a r) [
@@ -21,7 +21,7 @@ one_row z a b r c apart ha hb hr hc e =
 
 module _ (x y : List ℕ) (len : ℕ) (tiles : AreTiles x y len) where
   -- no place is in both tiles
-  places-apart : (a b r c : ℕ) → a < 8 → b < 8 → r < 8 → c < 8 → slice_index x a + b ≢ slice_index y r + c
+  pub places-apart : (a b r c : ℕ) → a < 8 → b < 8 → r < 8 → c < 8 → slice_index x a + b ≢ slice_index y r + c
   places-apart a b r c ha hb hr hc e = elim (tiles.both_apart a r ha hr) [ inl u ↦ omega arith | inr u ↦ omega arith ]
 
   -- one more item is exchanged

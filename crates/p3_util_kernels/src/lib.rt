@@ -7,5 +7,6 @@ pub(crate) mod grid;
 pub mod laws;
 pub(crate) mod parts;
 pub mod places;
+pub(crate) mod registers;
 pub mod reverse;
 pub mod transpose;

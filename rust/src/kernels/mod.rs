@@ -4,6 +4,7 @@ pub mod bits;
 pub(crate) mod grid;
 pub(crate) mod parts;
 pub mod places;
+pub(crate) mod registers;
 pub mod reverse;
 pub mod transpose;
 

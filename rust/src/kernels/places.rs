@@ -317,4 +317,4 @@ pub trait Source {
 /// Does nothing at run time. A function calls it with the length of a list, so that its proof knows
 /// that this length fits in a `usize`.
 #[inline(always)]
-fn length_fits(_len: usize) {}
+pub(crate) fn length_fits(_len: usize) {}

@@ -354,6 +354,7 @@ fn shuffles() {
     let operands: [[u8; 16]; 2] = [0, 16].map(|first| from_fn(|i| first + i as u8));
     let in_turn: [u8; 16] = from_fn(|i| (i / 2 + i % 2 * 16) as u8);
     assert_eq!(shuffled(registers::low_1, operands), in_turn);
+    assert_eq!(shuffled(registers::high_1, operands), in_turn.map(|number| number + 8));
     let operands = [
         [0, 1, 2, 3, 4, 5, 6, 7].map(of_2),
         [8, 9, 10, 11, 12, 13, 14, 15].map(of_2),
