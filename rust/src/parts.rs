@@ -70,7 +70,8 @@
 //! - A reversal of up to [`one_part_reversal`] items is one part. A longer reversal, of 2^k items, is cut like a square
 //!   of 2^(k / 2) rows and columns, or like two squares if k is odd. Each square is cut into a grid, at multiples of 8,
 //!   and a part is one of its patches on or above the diagonal.
-//! - A reversal of longer rows is cut in the same way, at any number. It is one part if the list has no more items than
+//! - A reversal of longer rows is cut in the same way, at multiples of 8 if a row has as many bytes as an item that has
+//!   kernels in this package, and otherwise at any number. It is one part if the list has no more items than
 //!   [`one_part_reversal`] says.
 //! - With the feature `checked` a transpose is cut along its columns, and a reversal is one part.
 //!

@@ -1,6 +1,6 @@
 //! Runs the kernels on slices. All unsafe code of the package is in this file and in `registers_unchecked.rs`. That file
-//! transposes squares of items of 1 to 8 bytes in vector registers, and writes items by parts. Only this file uses it.
-//! The files `by_size.rs` and `by_type.rs` say which instances of the kernels run.
+//! transposes squares of items of 1 to 8 bytes in vector registers. Only this file uses it. The files `by_size.rs` and
+//! `by_type.rs` say which instances of the kernels run.
 //!
 //! It is proved that a kernel whose own precondition holds meets the preconditions of `exchange`, `put` and `at`, for
 //! every holder. So the holders here check no index. `reverse`, `reverse_rows`, `transpose`, `parts_of_transpose` and
@@ -20,21 +20,20 @@ use core::ops::Range;
 
 use crate::kernels::parts::{ReversalPlan, TransposePlan};
 use crate::kernels::reverse::fits_rows;
-use crate::kernels::transpose::{Matrix, Strips, fits_matrix};
-use crate::transpose::strips_by_size;
+use crate::kernels::transpose::{Matrix, fits_matrix};
 
 #[cfg(feature = "checked")]
 use crate::checked::{PartItems, SliceCells, SlicePlaces, SliceSource};
 #[cfg(not(feature = "checked"))]
 use slices::{SliceItems as PartItems, SliceItems as SliceCells, SliceItems as SlicePlaces, SliceSource};
 
-#[cfg(all(not(feature = "checked"), any(target_arch = "x86_64", target_arch = "aarch64")))]
+#[cfg(not(feature = "checked"))]
 mod by_size;
 mod by_type;
 
-#[cfg(all(not(feature = "checked"), any(target_arch = "x86_64", target_arch = "aarch64")))]
+#[cfg(not(feature = "checked"))]
 use by_size as instances;
-#[cfg(any(feature = "checked", not(any(target_arch = "x86_64", target_arch = "aarch64"))))]
+#[cfg(feature = "checked")]
 use by_type as instances;
 
 /// Reverses `vals` by index bits if their number is zero or a power of two. Returns whether it is.
@@ -92,12 +91,11 @@ pub(crate) struct Parts<'a, T, P> {
     numbers: Range<usize>,
 }
 
-/// A matrix that is transposed in regions, and the strips by which each region is put.
+/// A matrix that is transposed in regions.
 #[derive(Clone, Copy)]
 pub(crate) struct Regions<R> {
     matrix: Matrix<R>,
     plan: TransposePlan,
-    strips: Strips,
 }
 
 /// The parts of [`transpose`], or `None` if one of the lists does not have `width * height` items.
@@ -114,7 +112,6 @@ pub(crate) fn parts_of_transpose<'a, T: Copy>(
     // Both lengths are `width * height`, which is below 2^64 because it is a length. These are the clauses `input_fits`
     // and `output_fits` of `TransposePlan::put`, for the plan of this width and height.
     let plan = TransposePlan::new(width, height, parts, cfg!(not(feature = "checked")));
-    let strips = strips_by_size(Matrix::new(SliceSource::new(source), width, height));
     let count = if size_of::<T>() == 0 { 0 } else { plan.count() };
     // If the columns are cut, each region fills a run of this many cells. The last region may fill fewer.
     let share = if count == 0 { 0 } else { plan.items(0) };
@@ -123,21 +120,33 @@ pub(crate) fn parts_of_transpose<'a, T: Copy>(
         plan: Regions {
             matrix: Matrix::new(source, width, height),
             plan,
-            strips,
         },
         numbers: 0..count,
     })
 }
 
-/// A reversal that is cut into parts, and how many items a row has.
+/// A reversal that is cut into parts. The plan is one of places of `place` bytes each: of items, of whole rows, or of bytes.
 #[derive(Clone, Copy)]
-#[cfg_attr(
-    any(feature = "checked", not(any(target_arch = "x86_64", target_arch = "aarch64"))),
-    allow(dead_code, reason = "there, a kernel of the type exchanges rows too")
-)]
+#[cfg_attr(feature = "checked", allow(dead_code, reason = "there, a place is an item"))]
 pub(crate) struct Reversal {
     plan: ReversalPlan,
-    row_width: usize,
+    place: usize,
+}
+
+impl Reversal {
+    /// The plan of a reversal of `len` items of `size` bytes, and the number of its parts. See [`parts_of_reversal`].
+    fn new(len: usize, size: usize, row_width: usize, parts: usize, one_part: usize) -> Option<(Reversal, usize)> {
+        if !fits_rows(len, row_width) {
+            return None;
+        }
+        let row = if len * size == 0 { 0 } else { row_width * size };
+        let place = instances::place(size, row);
+        // The rows fit in so many places too, because a row consists of whole places.
+        let one_part = if len <= one_part { usize::MAX } else { 0 };
+        let plan = ReversalPlan::new(len * size / place, row / place, parts, one_part);
+        let count = if row == 0 { 0 } else { plan.count() };
+        Some((Reversal { plan, place }, count))
+    }
 }
 
 /// The parts of [`reverse_rows`], or `None` if that call would return `false`. Each side of a square is cut into at most
@@ -150,16 +159,11 @@ pub(crate) fn parts_of_reversal<F>(
     one_part: usize,
 ) -> Option<Parts<'_, F, Reversal>> {
     let len = vals.len();
-    if !fits_rows(len, row_width) {
-        return None;
-    }
-    // The plan is made for the length of `vals`, in rows that fit. This is the clause `plan` of
-    // `ReversalPlan::exchange`.
-    let plan = ReversalPlan::new(len, row_width, parts, one_part);
-    let count = if size_of_val(vals) == 0 { 0 } else { plan.count() };
+    // The plan is made for as many places as `vals` has. This is the clause `plan` of `ReversalPlan::exchange`.
+    let (plan, count) = Reversal::new(len, size_of::<F>(), row_width, parts, one_part)?;
     Some(Parts {
         items: PartItems::in_shares(vals, len),
-        plan: Reversal { plan, row_width },
+        plan,
         numbers: 0..count,
     })
 }
@@ -189,10 +193,10 @@ impl<T: Copy> Parts<'_, T, Regions<&[T]>> {
         // The clause `below` of `TransposePlan::put` holds because `numbers` are below the plan's count. `input_fits`
         // and `output_fits` hold because `source` and `items` are the lists that `parts_of_transpose` checked for this
         // plan.
-        let Regions { matrix, plan, strips } = self.plan;
+        let Regions { matrix, plan } = self.plan;
         let matrix = Matrix::new(SliceSource::new(matrix.source), matrix.width, matrix.height);
         self.numbers
-            .for_each(|number| instances::put(self.items.share(), matrix, plan, number, strips));
+            .for_each(|number| instances::put(self.items.share(), matrix, plan, number));
     }
 }
 
@@ -214,12 +218,15 @@ mod slices {
     use core::marker::PhantomData;
     use core::mem::MaybeUninit;
     use core::ptr;
-    use core::slice::{from_raw_parts, from_raw_parts_mut};
+    use core::slice::from_raw_parts;
     use core::sync::atomic::{Ordering, compiler_fence};
 
     use super::registers::{self, Items, List};
     use crate::kernels::places::{Block, Cells, Places, Source};
     use crate::kernels::registers::{self as squares, InPairs, Pair};
+
+    /// Whether this processor moves unaligned bytes as fast as aligned ones. Otherwise each item is moved as its type says.
+    pub(super) const MOVES_BYTES: bool = cfg!(any(target_arch = "x86_64", target_arch = "aarch64"));
 
     /// The items of a slice, as places or as cells, for one kernel or for one part.
     ///
@@ -246,11 +253,9 @@ mod slices {
         pub(super) fn new(slice: &'a mut [T]) -> Self {
             // The length is read first: reading it through the reference after `first` was taken from it would end what
             // `first` may do.
-            let len = slice.len();
-            let first = slice.as_mut_ptr();
             SliceItems {
-                first,
-                len,
+                len: slice.len(),
+                first: slice.as_mut_ptr(),
                 slice: PhantomData,
             }
         }
@@ -265,26 +270,13 @@ mod slices {
             SliceItems { ..*self }
         }
 
-        /// The whole rows of `W` items, as arrays.
-        #[cfg(not(any(target_arch = "x86_64", target_arch = "aarch64")))]
-        pub(super) fn arrays<const W: usize>(self) -> SliceItems<'a, [T; W]> {
-            // An array has the layout and the alignment of its items, one after the other. So this many arrays are
-            // within the slice, and `SliceItems` borrows it for as long as the slice is borrowed.
+        /// The bytes of the items, `N` at a time.
+        #[inline(always)]
+        pub(super) fn in_bytes<const N: usize>(self) -> SliceItems<'a, Bytes<N>> {
+            // This many groups of `N` bytes are within the slice. `SliceItems` borrows it for as long as it is borrowed.
             SliceItems {
                 first: self.first.cast(),
-                len: self.len / W,
-                slice: PhantomData,
-            }
-        }
-
-        /// The same items as runs of bytes.
-        #[inline(always)]
-        #[cfg_attr(not(any(target_arch = "x86_64", target_arch = "aarch64")), allow(dead_code))]
-        pub(super) fn runs(self) -> SliceRuns<'a> {
-            SliceRuns {
-                first: self.first.cast(),
-                len: self.len,
-                size: size_of::<T>(),
+                len: self.len * size_of::<T>() / N,
                 slice: PhantomData,
             }
         }
@@ -299,104 +291,92 @@ mod slices {
     /// afterwards.
     pub(super) type Bytes<const N: usize> = [MaybeUninit<u8>; N];
 
-    /// The items of a slice as runs of bytes. How many bytes an item has is a field, so a kernel is compiled once for
-    /// items of all sizes. No single bytes can be exchanged: a place is a whole item.
-    pub(super) struct SliceRuns<'a> {
-        first: *mut u8,
-        len: usize,
-        size: usize,
-        slice: PhantomData<&'a mut [u8]>,
-    }
-
-    #[cfg_attr(not(any(target_arch = "x86_64", target_arch = "aarch64")), allow(dead_code))]
-    impl<'a> SliceRuns<'a> {
-        /// The number of bytes of an item.
-        #[inline(always)]
-        pub(super) fn size(&self) -> usize {
-            self.size
-        }
-
-        /// The whole rows of `row_width` items, which have `N` bytes each.
-        #[inline(always)]
-        pub(super) fn rows<const N: usize>(self, row_width: usize) -> SliceItems<'a, Bytes<N>> {
-            assert!(row_width * self.size == N);
-            // The items have `len * size` bytes together, so this many rows are within the slice. `SliceItems` borrows it
-            // for as long as the slice is borrowed.
-            SliceItems {
-                first: self.first.cast(),
-                len: self.len * self.size / N,
-                slice: PhantomData,
+    /// Writes an item. Its bytes are written from the lowest address on, see [`move_bytes`]. The compiler would write the
+    /// upper part first, or parts that overlap. That takes longer, most of all if the item lies in two cache lines.
+    ///
+    /// # Safety
+    ///
+    /// `to` is valid for writes of an item.
+    #[inline(always)]
+    unsafe fn write_item<T>(to: *mut T, item: T) {
+        // SAFETY: this is what the caller promises, and a copy of the item is only read.
+        unsafe {
+            if const { MOVES_BYTES && size_of::<T>() <= 64 } {
+                let item = MaybeUninit::new(item);
+                move_bytes::<false>(item.as_ptr().cast_mut().cast(), to.cast(), size_of::<T>());
+            } else {
+                to.write(item);
             }
         }
     }
 
-    impl Places for SliceRuns<'_> {
-        type Item = MaybeUninit<u8>;
-
-        #[inline(always)]
-        fn len(&self) -> usize {
-            self.len
-        }
-
-        #[inline(always)]
-        fn exchange(&mut self, i: usize, j: usize) {
-            if i != j {
-                self.exchange_runs(i, j, 1);
-            }
-        }
-
-        #[inline(always)]
-        fn exchange_runs(&mut self, i: usize, j: usize, len: usize) {
-            let (n, size) = (self.len, self.size);
-            debug_assert!(len <= n && i <= n - len && j <= n - len && i.abs_diff(j) >= len);
-            // SAFETY: both runs are within the slice, by the clauses `first` and `second` of `Places::exchange_runs`,
-            // and do not overlap, by `apart`.
-            unsafe { swap_bytes(self.first.add(i * size), self.first.add(j * size), len * size) }
-        }
-    }
-
-    /// Exchanges two runs of `len` bytes, from the lowest address on. A loop over single bytes would take longer for the
-    /// last bytes of a run, of which there may be up to 15.
+    /// Exchanges two runs of `len` items.
     ///
     /// # Safety
     ///
     /// Both runs are valid for reads and writes, and do not overlap.
-    #[inline(always)]
-    unsafe fn swap_bytes(x: *mut u8, y: *mut u8, len: usize) {
-        let mut done = 0;
-        // SAFETY: these parts are the run: some registers, and then 8, 4, 2 and 1 bytes for each digit of the length that
-        // is set.
+    #[inline(never)]
+    unsafe fn swap_runs<T>(x: *mut T, y: *mut T, len: usize) {
+        // SAFETY: this is what the caller promises.
         unsafe {
-            while len - done >= 16 {
-                swap_part::<registers::Register>(x.add(done), y.add(done));
-                done += 16;
-            }
-            if len & 8 != 0 {
-                swap_part::<registers::Half>(x.add(done), y.add(done));
-                done += 8;
-            }
-            if len & 4 != 0 {
-                swap_part::<MaybeUninit<u32>>(x.add(done), y.add(done));
-                done += 4;
-            }
-            if len & 2 != 0 {
-                swap_part::<MaybeUninit<u16>>(x.add(done), y.add(done));
-                done += 2;
-            }
-            if len & 1 != 0 {
-                swap_part::<MaybeUninit<u8>>(x.add(done), y.add(done));
+            if MOVES_BYTES {
+                move_bytes::<true>(x.cast(), y.cast(), len * size_of::<T>());
+            } else {
+                ptr::swap_nonoverlapping(x, y, len);
             }
         }
     }
 
-    /// Exchanges parts of two items. Both addresses are valid for them, and they may have bytes that were never written.
+    /// Copies the `len` bytes at `from` to `to`. If `BACK` is true, it also copies those at `to` to `from`. It moves parts
+    /// of 16 bytes, and then one of 8, 4, 2 and 1 bytes for each digit of `len` that is set, from the lowest address on.
+    /// Parts of single bytes would take longer: there may be up to 15 at the end.
+    ///
+    /// # Safety
+    ///
+    /// The bytes at `from` are valid for reads and those at `to` for writes, and if `BACK` is true, both for both. They do
+    /// not overlap.
     #[inline(always)]
-    unsafe fn swap_part<P>(x: *mut u8, y: *mut u8) {
+    unsafe fn move_bytes<const BACK: bool>(from: *mut u8, to: *mut u8, len: usize) {
+        let mut done = 0;
+        // SAFETY: each part is within the `len` bytes.
+        unsafe {
+            while len - done >= 16 {
+                move_part::<registers::Register, BACK>(from.add(done), to.add(done));
+                done += 16;
+                // Without the fence, the compiler would join two parts of an item. With AVX, two registers are one.
+                if !BACK && len >= 32 && (done % 32 == 0 || cfg!(not(target_feature = "avx"))) {
+                    compiler_fence(Ordering::SeqCst);
+                }
+            }
+            if len & 8 != 0 {
+                move_part::<registers::Half, BACK>(from.add(done), to.add(done));
+                done += 8;
+            }
+            if len & 4 != 0 {
+                move_part::<MaybeUninit<u32>, BACK>(from.add(done), to.add(done));
+                done += 4;
+            }
+            if len & 2 != 0 {
+                move_part::<MaybeUninit<u16>, BACK>(from.add(done), to.add(done));
+                done += 2;
+            }
+            if len & 1 != 0 {
+                move_part::<MaybeUninit<u8>, BACK>(from.add(done), to.add(done));
+            }
+        }
+    }
+
+    /// Does the same as [`move_bytes`] for one part, which may have bytes that were never written.
+    #[inline(always)]
+    unsafe fn move_part<P, const BACK: bool>(from: *mut u8, to: *mut u8) {
+        let (from, to) = (from.cast::<P>(), to.cast::<P>());
         // SAFETY: this is what the caller promises.
         unsafe {
-            let of_x = x.cast::<P>().read_unaligned();
-            copy::<P>(y, x);
-            y.cast::<P>().write_unaligned(of_x);
+            let part = from.read_unaligned();
+            if BACK {
+                from.write_unaligned(to.read_unaligned());
+            }
+            to.write_unaligned(part);
         }
     }
 
@@ -410,37 +390,27 @@ mod slices {
 
         #[inline(always)]
         fn exchange(&mut self, i: usize, j: usize) {
-            debug_assert!(i < self.len && j < self.len);
-            // SAFETY: both places are within the slice, by the clauses `first` and `second` of `Places::exchange`. They
-            // may be the same place, and there must not be two references to one place, so this uses pointers. With a
-            // check for equal places, exchanging items of 8 bytes would take half as long again.
-            unsafe { core::ptr::swap(self.first.add(i), self.first.add(j)) }
+            debug_assert!(i < self.len);
+            if i != j {
+                self.exchange_apart(i, j);
+            }
         }
 
-        /// Where `by_size.rs` is compiled, rows are exchanged by `SliceRuns`. There the kernels have this method in their
-        /// code, but never call it, so it is not inlined.
-        #[cfg_attr(any(target_arch = "x86_64", target_arch = "aarch64"), inline(never))]
-        #[cfg_attr(not(any(target_arch = "x86_64", target_arch = "aarch64")), inline)]
-        fn exchange_runs(&mut self, i: usize, j: usize, len: usize) {
-            let n = self.len;
-            debug_assert!(len <= n && i <= n - len && j <= n - len && i.abs_diff(j) >= len);
-            // SAFETY: both runs are within the slice, by the clauses `first` and `second` of `Places::exchange_runs`,
-            // and do not overlap, by `apart`.
-            let run = |start| unsafe { from_raw_parts_mut(self.first.add(start), len) };
-            run(i).swap_with_slice(run(j));
-        }
-
-        /// Stands for `exchange`. Items of 16 bytes, and most of 20 to 44 bytes, are written by parts, in the order of their
-        /// addresses.
+        /// Stands for `exchange`. Items of less than 48 bytes are read and then written.
         #[inline(always)]
         fn exchange_apart(&mut self, i: usize, j: usize) {
             debug_assert!(i != j && i < self.len && j < self.len);
             // SAFETY: the places differ by the clause `apart` of `Places::exchange_apart`, and are within the slice by
-            // `first` and `second`.
-            let (x, y) = unsafe { (&mut *self.first.add(i), &mut *self.first.add(j)) };
-            match const { size_of::<F>() } {
-                16 | 20 | 24 | 28 | 36 | 40 | 44 => swap_parts(x, y),
-                _ => core::mem::swap(x, y),
+            // `first` and `second`. If both items are read, each is written over the other.
+            unsafe {
+                let (x, y) = (&mut *self.first.add(i), &mut *self.first.add(j));
+                if const { size_of::<F>() < 48 } {
+                    let (of_x, of_y) = (ptr::read(x), ptr::read(y));
+                    write_item(y, of_x);
+                    write_item(x, of_y);
+                } else {
+                    core::mem::swap(x, y);
+                }
             }
             // The fence has no effect on the processor. Without it, the compiler would make one permutation in vector
             // registers of the exchanges of a small list, which takes twice as long with AVX-512.
@@ -449,9 +419,18 @@ mod slices {
             }
         }
 
+        #[inline(always)]
+        fn exchange_runs(&mut self, i: usize, j: usize, len: usize) {
+            let n = self.len;
+            debug_assert!(len <= n && i <= n - len && j <= n - len && i.abs_diff(j) >= len);
+            // SAFETY: both runs are within the slice, by the clauses `first` and `second` of `Places::exchange_runs`,
+            // and do not overlap, by `apart`.
+            unsafe { swap_runs(self.first.add(i), self.first.add(j), len) }
+        }
+
         /// Stands for 64 calls of `exchange_apart`, one for each row `r` and column `c`, which exchange `x[r] + c` and
-        /// `y[c] + r`. Items of 1, 2, 4 and 8 bytes are exchanged in registers. For items of 3 bytes, both tiles are
-        /// read before anything is written. Others are exchanged one by one, in squares of 4 by 4.
+        /// `y[c] + r`. Items of 1, 2, 4 and 8 bytes are exchanged in registers. Others are exchanged one by one, in
+        /// squares of 4 by 4.
         #[inline(always)]
         #[allow(clippy::needless_range_loop, reason = "a tile is reached by row and column")]
         fn exchange_tiles(&mut self, x: [usize; 8], y: [usize; 8]) {
@@ -465,7 +444,6 @@ mod slices {
                 2 if registers::HERE => squares::exchange_tiles::<F, Pair<Items<2>>, _>(&mut InPairs(list), 8, x, y),
                 4 if registers::HERE => squares::exchange_tiles::<F, Pair<Items<4>>, _>(&mut InPairs(list), 4, x, y),
                 8 if registers::HERE => squares::exchange_tiles::<F, Pair<Items<8>>, _>(&mut InPairs(list), 2, x, y),
-                3 => unsafe { exchange_at_once(self.first, x, y) },
                 _ => {
                     for row in (0..8).step_by(4) {
                         for col in (0..8).step_by(4) {
@@ -529,16 +507,14 @@ mod slices {
     const FAR_BYTES: usize = 1 << 23;
 
     /// Whether the rows of tiles, of 8 items each, are within `len` places, and no two of them overlap.
-    fn are_rows<const N: usize>(starts: [usize; N], len: usize) -> bool {
-        let apart =
-            |(number, start): (usize, &usize)| starts[number + 1..].iter().all(|other| start.abs_diff(*other) >= 8);
-        len >= 8 && starts.iter().all(|start| *start <= len - 8) && starts.iter().enumerate().all(apart)
+    fn are_rows<const N: usize>(mut starts: [usize; N], len: usize) -> bool {
+        starts.sort_unstable();
+        len >= 8 && starts[N - 1] <= len - 8 && starts.is_sorted_by(|start, next| *next - *start >= 8)
     }
 
     /// Whether the rows of two tiles are within `len` places, and no two of them overlap.
     fn are_tiles(x: [usize; 8], y: [usize; 8], len: usize) -> bool {
-        let both: [usize; 16] = from_fn(|row| if row < 8 { x[row] } else { y[row - 8] });
-        are_rows(both, len)
+        are_rows::<16>(from_fn(|row| [x, y][row / 8][row % 8]), len)
     }
 
     impl<T: Copy> Cells for SliceItems<'_, T> {
@@ -553,13 +529,7 @@ mod slices {
         fn put(&mut self, i: usize, v: T) {
             debug_assert!(i < self.len);
             // SAFETY: the cell is within the slice, by the `requires` of `Cells::put`.
-            unsafe {
-                let cell = self.first.add(i);
-                match const { size_of::<T>() } {
-                    12 | 20 | 24 | 28 | 32 | 36 | 40 | 44 | 48 | 52 | 56 | 60 | 64 => write_parts(cell, v),
-                    _ => *cell = v,
-                }
-            }
+            unsafe { write_item(self.first.add(i), v) }
             // Without the fence, the compiler would read eight items before it writes them, because it knows that the
             // input and the output do not overlap. For processors with AVX-512 it would turn these reads, which are in
             // eight rows, into one gather. For items of 4 and 8 bytes, that takes two to four times as long as moving
@@ -606,18 +576,15 @@ mod slices {
         }
     }
 
-    /// Whether a block is within `input_len` items and `output_len` cells, and none of its columns overlap.
+    /// Whether a block is within `input_len` items and `output_len` cells, and none of its columns overlap. It panics if a
+    /// sum overflows.
     fn block_fits(block: Block, input_len: usize, output_len: usize) -> bool {
-        let Block {
-            side,
-            from,
-            width,
-            to,
-            height,
-        } = block;
-        let end = |start: usize, stride: usize| (side - 1).checked_mul(stride)?.checked_add(start)?.checked_add(side);
-        let within = |end: Option<usize>, len: usize| end.is_some_and(|end| end <= len);
-        side == 0 || within(end(from, width), input_len) && within(end(to, height), output_len) && side <= height
+        let side = block.side;
+        let end = |start: usize, stride: usize| start + (side - 1) * stride + side;
+        side == 0
+            || end(block.from, block.width) <= input_len
+                && end(block.to, block.height) <= output_len
+                && side <= block.height
     }
 
     /// The same cells, which put a block item by item.
@@ -636,100 +603,6 @@ mod slices {
         }
     }
 
-    /// Writes an item of at most 64 bytes, a multiple of 4, in parts of 16, of 8 and of 4 bytes, from the lowest address on.
-    /// The compiler would write the upper part first, or parts that overlap. That takes longer, most of all if an item lies
-    /// in two cache lines.
-    ///
-    /// # Safety
-    ///
-    /// `to` is valid for writes of an item.
-    #[inline(always)]
-    unsafe fn write_parts<T>(to: *mut T, item: T) {
-        let (item, size) = (MaybeUninit::new(item), size_of::<T>());
-        let (from, to) = (item.as_ptr().cast::<u8>(), to.cast::<u8>());
-        let whole = size / 16;
-        // SAFETY: these parts are the item: some registers, then half of one if 8 bytes or more are left, then 4 bytes if
-        // they are left.
-        unsafe {
-            for k in 0..whole {
-                copy::<registers::Register>(from.add(16 * k), to.add(16 * k));
-                // Without the fence, the compiler would join two parts. With AVX, two registers are one.
-                if whole > 1 && (k % 2 == 1 || cfg!(not(target_feature = "avx"))) {
-                    compiler_fence(Ordering::SeqCst);
-                }
-            }
-            if size % 16 >= 8 {
-                copy::<registers::Half>(from.add(16 * whole), to.add(16 * whole));
-            }
-            if size % 8 == 4 {
-                copy::<MaybeUninit<u32>>(from.add(size - 4), to.add(size - 4));
-            }
-        }
-    }
-
-    /// Exchanges two items of a size that [`write_parts`] takes.
-    #[inline(always)]
-    fn swap_parts<T>(x: &mut T, y: &mut T) {
-        // SAFETY: both items are read, and then each is written over the other.
-        unsafe {
-            let (of_x, of_y) = (ptr::read(x), ptr::read(y));
-            write_parts(y, of_x);
-            write_parts(x, of_y);
-        }
-    }
-
-    /// Exchanges two tiles, each with the mirror image of the other, by a copy of both. `x` and `y` are the places at which
-    /// their rows begin. The rows of a tile in a long list are a multiple of 4096 bytes apart. If an item of one row were
-    /// written and that of the next row read after it, the processor would take both for the same item, and wait.
-    ///
-    /// # Safety
-    ///
-    /// `first` is the first of some items, and may be used for all of them. The 8 items from each of these places on are
-    /// among them, and no two of these runs overlap.
-    #[inline(always)]
-    unsafe fn exchange_at_once<F>(first: *mut F, x: [usize; 8], y: [usize; 8]) {
-        let (mut to_y, mut to_x) = (unwritten_tile(), unwritten_tile());
-        // SAFETY: every item of both tiles is read once, and then written once: a row of `to_y` is a column of `x`.
-        unsafe {
-            turned_copy(first, x, &mut to_y);
-            turned_copy(first, y, &mut to_x);
-            for row in 0..8 {
-                ptr::copy_nonoverlapping(to_y[row].as_ptr().cast(), first.add(y[row]), 8);
-            }
-            for row in 0..8 {
-                ptr::copy_nonoverlapping(to_x[row].as_ptr().cast(), first.add(x[row]), 8);
-            }
-        }
-    }
-
-    /// A copy of a tile, row by row.
-    type Tile<F> = [[MaybeUninit<F>; 8]; 8];
-
-    /// A tile whose items are not written yet.
-    #[inline(always)]
-    fn unwritten_tile<F>() -> Tile<F> {
-        from_fn(|_| from_fn(|_| MaybeUninit::uninit()))
-    }
-
-    /// Reads the transpose of the tile whose rows begin at these places. The 8 items from each of them on are valid for reads.
-    #[inline(always)]
-    #[allow(clippy::needless_range_loop, reason = "a tile is reached by row and column")]
-    unsafe fn turned_copy<F>(first: *const F, rows: [usize; 8], turned: &mut Tile<F>) {
-        for row in 0..8 {
-            for col in 0..8 {
-                // SAFETY: the item is one of these 8 of its row.
-                turned[col][row] = MaybeUninit::new(unsafe { first.add(rows[row] + col).read() });
-            }
-        }
-    }
-
-    /// Copies a part of an item. Both addresses are valid for it, and it may have bytes that were never written.
-    #[inline(always)]
-    unsafe fn copy<P>(from: *const u8, to: *mut u8) {
-        // SAFETY: this is what the caller promises.
-        unsafe { to.cast::<P>().write_unaligned(from.cast::<P>().read_unaligned()) }
-    }
-
     /// The items of a slice, which are only read.
     #[derive(Clone, Copy)]
     pub(super) struct SliceSource<'a, T> {
@@ -742,7 +615,6 @@ mod slices {
         }
     }
 
-    #[cfg_attr(not(any(target_arch = "x86_64", target_arch = "aarch64")), allow(dead_code))]
     impl<'a, T: Copy> SliceSource<'a, T> {
         /// The bytes of the same items, `N` at a time.
         #[inline(always)]

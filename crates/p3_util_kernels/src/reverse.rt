@@ -28,7 +28,7 @@ mod rows;
 use crate::places::{Places, SlicePlaces, Swaps};
 pub use long::reverse_index_bits_long;
 use long::reverse_long;
-pub(crate) use rows::{RowDigits, exchange_all, exchange_many, reverse_rows, reverse_short};
+pub(crate) use rows::{RowDigits, reverse_rows, reverse_short};
 pub use rows::{reverse_chunks_on, reverse_index_bits_short, reverse_row_index_bits_on};
 
 /// A call that counts its swaps takes the short path for at most this many items, and the long path

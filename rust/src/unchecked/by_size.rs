@@ -1,16 +1,16 @@
 //! Kernels that are compiled for each size of item, and not for each type. Only `unchecked.rs` uses this file.
 //!
 //! A kernel moves items and never looks at one. So all that an instance of a kernel has to know of the type is how many
-//! bytes an item has. The instances for the sizes in the table of `by_size!` are compiled in this package: those of
-//! `reverse_rows` and `put_part` name every size, and are not generic. A crate that uses the package calls them. It
-//! compiles kernels of its own only for items of other sizes.
+//! bytes an item has. The instances for the sizes in the table of `by_size!`, and for rows, are compiled in this package:
+//! those of `reverse_places`, `exchange_part` and `put_part` name every size, and are not generic. A crate that uses the
+//! package calls them. It compiles kernels of its own only for items of other sizes.
 //!
-//! This file is only for processors that move unaligned bytes as fast as aligned ones.
+//! If the processor does not move unaligned bytes as fast as aligned ones, each type has kernels of its own.
 
-use super::slices::{Bytes, SliceItems, SliceRuns, SliceSource};
+use super::slices::{Bytes, MOVES_BYTES, SliceItems, SliceSource};
 use super::{Reversal, by_type};
 use crate::kernels::parts::{ReversalPlan, TransposePlan};
-use crate::kernels::transpose::{Matrix, Strips};
+use crate::kernels::transpose::Matrix;
 
 /// Items of at least this many bytes are exchanged as runs of bytes, which takes hardly longer.
 const LONG_BYTES: usize = 1024;
@@ -20,7 +20,7 @@ const LONG_BYTES: usize = 1024;
 macro_rules! by_size {
     ([$($bytes:literal)*] $size:expr, $n:ident => $call:expr, _ => $other:expr) => {
         match $size {
-            $($bytes => { const $n: usize = $bytes; $call })*
+            $($bytes if MOVES_BYTES => { const $n: usize = $bytes; $call })*
             _ => $other,
         }
     };
@@ -32,12 +32,12 @@ macro_rules! by_size {
 /// Reverses items by index bits.
 #[inline(always)]
 pub(super) fn reverse<F>(items: SliceItems<F>) {
-    if const { size_of::<F>() >= LONG_BYTES } {
-        return reverse_runs(items.runs(), 1);
+    if const { MOVES_BYTES && size_of::<F>() >= LONG_BYTES } {
+        return reverse_rows(items, 1);
     }
     by_size!(
         const { size_of::<F>() },
-        N => by_type::reverse(items.runs().rows::<N>(1)),
+        N => by_type::reverse(items.in_bytes::<N>()),
         _ => by_type::reverse(items)
     );
 }
@@ -45,11 +45,11 @@ pub(super) fn reverse<F>(items: SliceItems<F>) {
 /// Reverses the order of rows of `row_width` items by index bits.
 #[inline(always)]
 pub(super) fn reverse_rows<F>(items: SliceItems<F>, row_width: usize) {
-    by_size!(
-        row_width * size_of::<F>(),
-        N => by_type::reverse(items.runs().rows::<N>(row_width)),
-        _ => reverse_runs(items.runs(), row_width)
-    );
+    if MOVES_BYTES {
+        reverse_places(items.in_bytes(), row_width * size_of::<F>());
+    } else {
+        by_type::reverse_rows(items, row_width);
+    }
 }
 
 /// Transposes a matrix into `cells`. A matrix of few items is transposed in place of this call, since a call of another
@@ -58,9 +58,15 @@ pub(super) fn reverse_rows<F>(items: SliceItems<F>, row_width: usize) {
 pub(super) fn transpose<T: Copy>(cells: SliceItems<T>, matrix: Matrix<SliceSource<T>>) {
     by_size!(
         const { size_of::<T>() },
-        N => by_type::transpose::<Bytes<N>>(cells.runs().rows(1), in_bytes(matrix)),
+        N => by_type::transpose::<Bytes<N>>(cells.in_bytes(), in_bytes(matrix)),
         _ => by_type::transpose(cells, matrix)
     );
+}
+
+/// How many bytes a place has in a reversal of rows of `row` bytes each. If the table has this size, a row is a place.
+/// Otherwise an item is one if a row has only this item, and a byte if it has more, so that rows are runs of bytes.
+pub(super) fn place(size: usize, row: usize) -> usize {
+    by_size!(row, N => N, _ => if row == size || !MOVES_BYTES { size.max(1) } else { 1 })
 }
 
 /// Makes the exchanges of part `number`.
@@ -68,28 +74,22 @@ pub(super) fn transpose<T: Copy>(cells: SliceItems<T>, matrix: Matrix<SliceSourc
 pub(super) fn exchange<F>(items: SliceItems<F>, reversal: Reversal, number: usize) {
     by_size!(
         const { size_of::<F>() },
-        _N => exchange_part(items.runs(), reversal, number),
-        _ => if reversal.row_width == 1 {
+        _N => exchange_part(items.in_bytes(), reversal, number),
+        _ => if reversal.place == size_of::<F>() {
             by_type::exchange(items, reversal, number);
         } else {
-            exchange_part(items.runs(), reversal, number);
+            exchange_part(items.in_bytes(), reversal, number);
         }
     );
 }
 
 /// Puts region `number` of a matrix.
 #[inline(always)]
-pub(super) fn put<T: Copy>(
-    cells: SliceItems<T>,
-    matrix: Matrix<SliceSource<T>>,
-    plan: TransposePlan,
-    number: usize,
-    strips: Strips,
-) {
+pub(super) fn put<T: Copy>(cells: SliceItems<T>, matrix: Matrix<SliceSource<T>>, plan: TransposePlan, number: usize) {
     by_size!(
         const { size_of::<T>() },
-        _N => put_part(cells.runs(), in_bytes(matrix), plan, number, strips),
-        _ => by_type::put(cells, matrix, plan, number, strips)
+        _N => put_part(cells.in_bytes(), in_bytes(matrix), size_of::<T>(), plan, number),
+        _ => by_type::put(cells, matrix, plan, number)
     );
 }
 
@@ -99,26 +99,24 @@ fn in_bytes<T: Copy, const N: usize>(matrix: Matrix<SliceSource<T>>) -> Matrix<S
     Matrix::new(matrix.source.in_bytes(), matrix.width, matrix.height)
 }
 
-/// Reverses the order of rows of `row_width` items, which are exchanged as runs of bytes.
+/// Reverses the order of places of `bytes` bytes each by index bits.
 #[inline(never)]
-fn reverse_runs(items: SliceRuns, row_width: usize) {
-    by_type::reverse_runs(items, row_width);
+fn reverse_places(list: SliceItems<Bytes<1>>, bytes: usize) {
+    by_size!(
+        bytes,
+        N => by_type::reverse(list.in_bytes::<N>()),
+        _ => by_type::reverse_rows(list, bytes)
+    );
 }
 
-/// Makes the exchanges of a part: of rows, which are exchanged as runs of bytes, or of items of a size in the table.
+/// Makes the exchanges of a part. A place has a size in the table.
 #[inline(never)]
-fn exchange_part(items: SliceRuns, reversal: Reversal, number: usize) {
-    let Reversal { plan, row_width } = reversal;
+fn exchange_part(list: SliceItems<Bytes<1>>, Reversal { plan, place }: Reversal, number: usize) {
     match plan {
-        ReversalPlan::OnePart(_) => by_size!(
-            row_width * items.size(),
-            N => by_type::reverse(items.rows::<N>(row_width)),
-            _ => reverse_runs(items, row_width)
-        ),
-        ReversalPlan::ByPairs(pairs) if row_width != 1 => _ = pairs.exchange(items, number),
+        ReversalPlan::OnePart(rows) => reverse_places(list, rows.width * place),
         ReversalPlan::ByPairs(pairs) => by_size!(
-            items.size(),
-            N => _ = pairs.exchange(items.rows::<N>(1), number),
+            place,
+            N => _ = pairs.exchange(list.in_bytes::<N>(), number),
             _ => unreachable!("these items have kernels of their type")
         ),
     }
@@ -127,21 +125,18 @@ fn exchange_part(items: SliceRuns, reversal: Reversal, number: usize) {
 /// Puts a region, for items of a size in the table. If it is the whole matrix, this is the call.
 #[inline(never)]
 fn put_part(
-    cells: SliceRuns,
+    cells: SliceItems<Bytes<1>>,
     matrix: Matrix<SliceSource<Bytes<1>>>,
+    size: usize,
     plan: TransposePlan,
     number: usize,
-    strips: Strips,
 ) {
     by_size!(
-        cells.size(),
-        N => {
-            let cells = cells.rows(1);
-            if plan.count() == 1 {
-                by_type::transpose::<Bytes<N>>(cells, in_bytes(matrix));
-            } else {
-                by_type::put::<Bytes<N>>(cells, in_bytes(matrix), plan, number, strips);
-            }
+        size,
+        N => if plan.count() == 1 {
+            by_type::transpose::<Bytes<N>>(cells.in_bytes(), in_bytes(matrix));
+        } else {
+            by_type::put::<Bytes<N>>(cells.in_bytes(), in_bytes(matrix), plan, number);
         },
         _ => unreachable!("this size has no kernels here")
     );

@@ -95,10 +95,12 @@ fn run_both<'a, T: Send, P: Copy + Send>(mut parts: Parts<'a, T, P>, plans: [(P,
 /// and the whole square.
 fn exchanges_both(len: usize, row_width: usize) {
     let mut list: Vec<usize> = (0..len).collect();
-    let plans = [1, 2].map(|pieces| ReversalPlan::new(len, row_width, pieces, 0));
-    assert_eq!(plans.map(ReversalPlan::count), [1, 3]);
-    let plans = plans.map(|plan| (Reversal { plan, row_width }, 0));
     let parts = parts_of_reversal(&mut list, row_width, 1, 0).unwrap();
+    let place = parts.plan.place;
+    let of_places = |items: usize| items * size_of::<usize>() / place;
+    let plans = [1, 2].map(|pieces| ReversalPlan::new(of_places(len), of_places(row_width), pieces, 0));
+    assert_eq!(plans.map(ReversalPlan::count), [1, 3]);
+    let plans = plans.map(|plan| (Reversal { plan, place }, 0));
     run_both(parts, plans, Parts::exchange);
 }
 

@@ -6,7 +6,7 @@ use std::vec::Vec;
 
 use super::*;
 use crate::kernels::places::Source;
-use crate::kernels::transpose::transpose_matrix;
+use crate::kernels::transpose::{Strips, transpose_matrix};
 use crate::transpose::strips_by_size;
 
 /// A slice that notes the index of each read.
@@ -44,11 +44,11 @@ fn reads<T: Copy + Default>(len: usize, call: impl FnOnce(&[T], &mut [T], Noted<
 
 /// Puts the regions of some parts, with their items from `source`.
 fn put_from<T: Copy>(mut parts: Parts<T, Regions<&[T]>>, source: impl Source<Item = T> + Copy) {
-    let Regions { matrix, plan, strips } = parts.plan;
+    let Regions { matrix, plan } = parts.plan;
     let matrix = Matrix::new(source, matrix.width, matrix.height);
     parts
         .numbers
-        .for_each(|number| by_type::put(parts.items.share(), matrix, plan, number, strips));
+        .for_each(|number| by_type::put(parts.items.share(), matrix, plan, number));
 }
 
 #[test]
@@ -65,45 +65,38 @@ fn each_item_is_read_once() {
     }
 }
 
+/// The parts use the strips that suit the size of the items and the whole matrix. For a small matrix of large items these
+/// are not the strips that the kernels choose. Nor are they for items of up to 8 bytes, if blocks of them are transposed in
+/// registers.
 #[test]
 fn strips_of_the_parts() {
-    for strips in [
-        Strips::FOURS,
-        Strips::by_shape(Matrix::new(SliceSource::new(&[0; 64 * 64]), 64, 64)),
-    ] {
-        let by_parts = reads::<usize>(64 * 64, |items, output, source| {
-            let mut parts = parts_of_transpose(items, output, 64, 64, 1).unwrap();
-            parts.plan.strips = strips;
-            put_from(parts, source);
+    fn check<T: Copy + Default>(width: usize, height: usize) -> bool {
+        let by_parts = reads::<T>(width * height, |items, output, source| {
+            put_from(parts_of_transpose(items, output, width, height, 1).unwrap(), source);
         });
-        let by_call = reads::<usize>(64 * 64, |_, output, source| {
-            let _ = transpose_matrix(SliceCells::new(output), Matrix::new(source, 64, 64), strips);
-        });
-        assert!(by_parts == by_call);
+        let by_strips = |by_size: bool| {
+            reads::<T>(width * height, |_, output, source| {
+                let matrix = Matrix::new(source, width, height);
+                let strips = if by_size {
+                    strips_by_size(matrix)
+                } else {
+                    Strips::by_shape(matrix)
+                };
+                let _ = transpose_matrix(SliceCells::new(output), matrix, strips);
+            })
+        };
+        assert!(by_parts == by_strips(true), "{width} by {height}");
+        by_parts == by_strips(false)
     }
-}
-
-/// The parts use the strips that the whole call uses. For a small matrix of large items these are not the strips that
-/// the kernels choose. Nor are they for items of up to 8 bytes, if blocks of them are transposed in registers.
-#[test]
-fn strips_of_the_call() {
-    fn is_of_call<T: Copy>(item: T, width: usize, height: usize) -> bool {
-        let input = std::vec![item; width * height];
-        let mut output = input.clone();
-        let matrix = Matrix::new(SliceSource::new(&input), width, height);
-        let parts = parts_of_transpose(&input, &mut output, width, height, 4).unwrap();
-        assert!(parts.plan.strips == strips_by_size(matrix));
-        Strips::by_shape(matrix) == strips_by_size(matrix)
-    }
-    assert!(is_of_call(0u128, 64, 65));
-    assert!(!is_of_call([0u64; 4], 16, 64));
-    let are_of_call = [
-        is_of_call(0u8, 64, 65),
-        is_of_call(0u16, 64, 65),
-        is_of_call(0u32, 64, 65),
-        is_of_call(0u64, 64, 65),
+    assert!(check::<u128>(64, 65));
+    assert!(!check::<[u64; 4]>(16, 64));
+    let of_numbers = [
+        check::<u8>(64, 65),
+        check::<u16>(64, 65),
+        check::<u32>(64, 65),
+        check::<u64>(64, 65),
     ];
-    assert_eq!(are_of_call, [!TURNS_IN_REGISTERS; 4]);
+    assert_eq!(of_numbers, [!TURNS_IN_REGISTERS; 4]);
 }
 
 /// A call on slices puts the items by the strips that suit their size.

@@ -521,6 +521,25 @@ fn shares() {
     assert_eq!(list, [0, 1, 7, 4, 8]);
 }
 
+/// The parts of a reversal exchange rows of a usual size as a whole, single items too, and other rows as runs of bytes.
+#[test]
+fn places_of_parts() {
+    fn place<const N: usize>(row_width: usize) -> usize {
+        let mut list = [[0u8; N]; 64];
+        super::parts_of_reversal(&mut list, row_width, 1, 0).unwrap().plan.place
+    }
+    if cfg!(feature = "checked") || cfg!(not(any(target_arch = "x86_64", target_arch = "aarch64"))) {
+        assert_eq!([place::<0>(2), place::<3>(4), place::<4>(4)], [1, 3, 4]);
+        return;
+    }
+    assert_eq!([1, 2, 4, 8, 32].map(place::<4>), [4, 8, 16, 32, 1]);
+    assert_eq!([1, 2, 4, 64].map(place::<3>), [3, 1, 12, 1]);
+    assert_eq!(
+        [place::<0>(1), place::<0>(2), place::<48>(1), place::<64>(2)],
+        [1, 1, 48, 1]
+    );
+}
+
 /// Reverses items, rows and parts of the items that `item` makes. Then each item is dropped, which it would be twice or
 /// never if it was at two places or at none.
 fn reverses<T: Debug + PartialEq>(item: impl Fn(usize) -> T) {

@@ -107,9 +107,6 @@ fn steps<const N: usize>() {
         two.check(|run, k| (1 - run, k));
         SlicePlaces::new(two.list()).exchange_apart(GAP, 0);
         two.check(|run, k| (run, k));
-        SlicePlaces::new(two.list()).runs().exchange(0, GAP);
-        SlicePlaces::new(two.list()).runs().exchange_apart(0, GAP);
-        two.check(|run, k| (run, k));
         let put = SliceSource::new(two.list()).at(GAP);
         SliceCells::new(two.list()).put(0, put);
         two.check(|_, k| (1, k));
@@ -118,7 +115,9 @@ fn steps<const N: usize>() {
             let mut runs = Runs::<N>::new(2, len, ends_with_page);
             SlicePlaces::new(runs.list()).exchange_runs(0, GAP, len);
             runs.check(|run, k| (1 - run, k));
-            SlicePlaces::new(runs.list()).runs().exchange_runs(GAP, 0, len);
+            SlicePlaces::new(runs.list())
+                .in_bytes::<1>()
+                .exchange_runs(GAP * N, 0, len * N);
             runs.check(|run, k| (run, k));
         }
 
