@@ -31,7 +31,7 @@ while IFS= read -r line; do
         function=${BASH_REMATCH[1]} goal=${BASH_REMATCH[2]} end=${BASH_REMATCH[3]}
     elif [[ $said =~ $in_source ]]; then
         file=${BASH_REMATCH[1]} number=${BASH_REMATCH[2]} goal=${BASH_REMATCH[3]} end=${BASH_REMATCH[4]}
-        function=$file/$(python3 -B docs/make/rattle_source.py "crates/$crate/src/$file.rt" "$number")
+        function=$file/$(python3 -B tools/rattle_source.py "crates/$crate/src/$file.rt" "$number")
     else
         function='' goal=$said end='`'
     fi

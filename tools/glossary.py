@@ -46,7 +46,7 @@ def section(page, heading):
     """The text under a heading of a page."""
     _, found, text = page.partition(f"\n## {heading}\n")
     if not found:
-        raise Undefined(f"{PAGE}: no heading '{heading}', which docs/make/glossary.py looks for")
+        raise Undefined(f"{PAGE}: no heading '{heading}', which tools/glossary.py looks for")
     return text.partition("\n## ")[0]
 
 

@@ -1,6 +1,6 @@
 """Reads Rattle sources (`.rt`): their tokens, their declarations with clauses, and which function a line belongs to.
 
-    python3 docs/make/rattle_source.py FILE LINE        prints the name of the function that has this line
+    python3 tools/rattle_source.py FILE LINE        prints the name of the function that has this line
 
 `rust/erase`, the scripts of this folder and those in `tests/` import it."""
 import re

@@ -1,6 +1,6 @@
 """Writes docs/contracts.txt, which lists the contracts and definitions that say what is proved.
 
-    python3 docs/make/contract_list.py
+    python3 tools/contract_list.py
 
 tests/agree compares the list with the sources, so each clause or definition that is removed, that promises less or that
 requires more is a changed line of the list."""
@@ -25,7 +25,7 @@ HEAD = """\
 # The contracts of a crate are followed by its definitions, and then by its imports: the modules that the names in its
 # contracts and definitions come from. Your crate can import the same names, by `ghost use`.
 #
-# Written by: python3 docs/make/contract_list.py"""
+# Written by: python3 tools/contract_list.py"""
 CRATES = ["p3_util_kernels", "p3_util", "p3_util_run", "p3_util_c", "p3_util_transform", "p3_util_callers", "p3_util_vectors"]
 ONLY_TESTS = {"p3_util_vectors"}
 # In these sources, what only the crate itself sees is listed too.
