@@ -177,7 +177,6 @@ pub mod parts;
 #[cfg(doctest)]
 mod refused;
 pub mod transpose;
-#[cfg_attr(not(feature = "checked"), allow(unsafe_code))]
 mod unchecked;
 pub mod zip_eq;
 

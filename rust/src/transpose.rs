@@ -70,9 +70,9 @@ const LONG_ITEMS: Strips = if cfg!(target_arch = "aarch64") {
 #[inline(always)]
 pub(crate) fn strips_by_size<R: Source + Copy>(matrix: Matrix<R>) -> Strips {
     match size_of::<R::Item>() {
-        1 | 2 if unchecked::TURNS_IN_REGISTERS => Strips::EIGHTS,
-        4 if unchecked::TURNS_IN_REGISTERS => Strips::FOURS,
-        8 if unchecked::TURNS_IN_REGISTERS && matrix.source.len() <= BLOCKS_LONG_ITEMS => LONG_ITEMS,
+        1 | 2 if unchecked::USES_REGISTERS => Strips::EIGHTS,
+        4 if unchecked::USES_REGISTERS => Strips::FOURS,
+        8 if unchecked::USES_REGISTERS && matrix.source.len() <= BLOCKS_LONG_ITEMS => LONG_ITEMS,
         _ => match Strips::by_shape(matrix) {
             Strips::SMALL => Strips::LOW,
             strips => strips,

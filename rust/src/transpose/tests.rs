@@ -43,7 +43,7 @@ fn is_by_shape<T: Copy>(width: usize, height: usize) -> bool {
 
 #[test]
 fn blocks_of_small_items() {
-    let turns = unchecked::TURNS_IN_REGISTERS;
+    let turns = unchecked::USES_REGISTERS;
     for (width, height) in [(7, 1000), (8, 17), (12, 11), (64, 64), (181, 181)] {
         assert_eq!(
             strips::<u8>(width, height) == Strips::EIGHTS,

@@ -7,7 +7,7 @@
 //!
 //! If the processor does not move unaligned bytes as fast as aligned ones, each type has kernels of its own.
 
-use super::slices::{Bytes, MOVES_BYTES, SliceItems, SliceSource};
+use super::holders::{Bytes, MOVES_BYTES, SliceItems, SliceSource};
 use super::{Reversal, by_type};
 use crate::kernels::parts::{ReversalPlan, TransposePlan};
 use crate::kernels::transpose::Matrix;

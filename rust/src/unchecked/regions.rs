@@ -96,7 +96,7 @@ fn strips_of_the_parts() {
         check::<u32>(64, 65),
         check::<u64>(64, 65),
     ];
-    assert_eq!(of_numbers, [!TURNS_IN_REGISTERS; 4]);
+    assert_eq!(of_numbers, [!USES_REGISTERS; 4]);
 }
 
 /// A call on slices puts the items by the strips that suit their size.

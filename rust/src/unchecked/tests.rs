@@ -5,9 +5,13 @@ use std::array::from_fn;
 use std::boxed::Box;
 use std::cmp::Ordering;
 use std::fmt::Debug;
+#[cfg(not(feature = "checked"))]
+use std::mem::transmute_copy;
 use std::num::NonZero;
 use std::vec::Vec;
 
+#[cfg(not(feature = "checked"))]
+use super::registers::Register;
 use super::{SliceCells, SlicePlaces, SliceSource};
 use crate::kernels::places::{Block, Cells, Places, Source};
 use crate::kernels::transpose::{Matrix, Strips, transpose_matrix, transpose_square};
@@ -338,16 +342,25 @@ fn blocks_of_parts() {
     }
 }
 
+/// Shuffles two registers that hold these items. Returns the items of the result.
+#[cfg(not(feature = "checked"))]
+fn shuffled<T: Copy, const N: usize>(shuffle: fn(Register, Register) -> Register, operands: [[T; N]; 2]) -> [T; N] {
+    const { assert!(size_of::<[T; N]>() == size_of::<Register>()) };
+    let [a, b] = operands;
+    // SAFETY: this many items fill a register, and a shuffle keeps items whole.
+    unsafe { transmute_copy(&shuffle(transmute_copy(&a), transmute_copy(&b))) }
+}
+
 /// Each shuffle alone. The items of the first operand have the lowest numbers, and no two bytes are equal, so the
 /// result shows where each item of both operands goes.
 #[cfg(not(feature = "checked"))]
 #[test]
 fn shuffles() {
-    use super::{TURNS_IN_REGISTERS, registers, shuffled};
+    use super::{USES_REGISTERS, registers};
 
     let has_registers = cfg!(target_arch = "x86_64") || cfg!(all(target_arch = "aarch64", target_endian = "little"));
-    assert_eq!(TURNS_IN_REGISTERS, has_registers && cfg!(not(miri)));
-    if !TURNS_IN_REGISTERS {
+    assert_eq!(USES_REGISTERS, has_registers && cfg!(not(miri)));
+    if !USES_REGISTERS {
         return;
     }
     let of_2 = |number: u8| [number, number + 32];
@@ -376,6 +389,9 @@ fn shuffles() {
     assert_eq!(shuffled(registers::low_8, operands), [0, 2].map(of_8));
     assert_eq!(shuffled(registers::high_8, operands), [1, 3].map(of_8));
 }
+
+#[cfg(all(target_os = "linux", not(miri), not(feature = "checked")))]
+mod guarded;
 
 #[cfg(any(debug_assertions, feature = "checked"))]
 mod refused {
@@ -482,7 +498,7 @@ mod refused {
         assert!(refused(|block| block.side += 1));
         // Columns that overlap are refused, except with the feature `checked`, which puts them item by item.
         #[cfg(not(feature = "checked"))]
-        assert!(refused(|block| block.height = 3) || !super::super::TURNS_IN_REGISTERS);
+        assert!(refused(|block| block.height = 3) || !super::super::USES_REGISTERS);
     }
 
     #[test]

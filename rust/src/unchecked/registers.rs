@@ -1,6 +1,6 @@
 //! The vector registers of x86-64 and of aarch64, in which tiles and blocks of items of 1, 2, 4 and 8 bytes are
 //! transposed. This file reads and writes registers, and interleaves two of them. Proved code (`kernels/registers.rs`)
-//! decides which ones, and at which places. Only `unchecked.rs` uses this file.
+//! decides which ones, and at which places, and this file trusts it. Only `holders.rs` uses this file.
 //!
 //! A register holds whole items. Items may be pointers, or have bytes that were never written, so a register must never
 //! be read as a number. It is a [`MaybeUninit`]: a copy of it keeps each byte as it is, and keeps the provenance of
@@ -25,7 +25,7 @@ use core::arch::x86_64::__m128i as Vector;
 type Vector = u128;
 
 /// Whether items are transposed in registers here. Miri does not support assembly.
-pub(crate) const HERE: bool = cfg!(all(
+pub(crate) const USES_REGISTERS: bool = cfg!(all(
     not(miri),
     any(
         all(
@@ -49,7 +49,7 @@ pub(super) type Half = MaybeUninit<f64>;
 macro_rules! shuffles {
     ($($name:ident: $x86:literal, $arm:literal $parts:literal)*) => {$(
         #[inline(always)]
-        #[allow(unused)] // Without `HERE`, nothing is shuffled.
+        #[allow(unused)] // Without `USES_REGISTERS`, nothing is shuffled.
         pub(super) fn $name(a: Register, b: Register) -> Register {
             let mut to = a;
             // SAFETY (of all three): the instruction reads two registers, writes one, and does nothing else. Any 16

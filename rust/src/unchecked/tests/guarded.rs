@@ -5,8 +5,7 @@
 use std::array::from_fn;
 use std::ptr::null_mut;
 
-use super::*;
-use crate::kernels::places::{Block, Cells, Places, Source};
+use super::{Block, Cells, Places, SliceCells, SlicePlaces, SliceSource, Source};
 
 unsafe extern "C" {
     fn mmap(address: *mut u8, len: usize, protection: i32, flags: i32, file: i32, offset: i64) -> *mut u8;

@@ -1,0 +1,444 @@
+//! Holders of slices, which check no index except with debug assertions. A holder may do to the items of its slice what
+//! a step of `Places`, `Cells` or `Source` says. It trusts that each call of a step meets the step's precondition. The
+//! kernels are proved to do so. Only this folder can make a holder.
+
+use core::array::from_fn;
+use core::marker::PhantomData;
+use core::mem::MaybeUninit;
+use core::ptr;
+use core::slice::from_raw_parts;
+use core::sync::atomic::{Ordering, compiler_fence};
+
+use super::registers::{self, Items, List};
+use crate::kernels::places::{Block, Cells, Places, Source};
+use crate::kernels::registers::{self as squares, InPairs, Pair};
+
+/// Whether this processor moves unaligned bytes as fast as aligned ones. Otherwise each item is moved as its type says.
+pub(super) const MOVES_BYTES: bool = cfg!(any(target_arch = "x86_64", target_arch = "aarch64"));
+
+/// The items of a slice, as places or as cells, for one kernel or for one part.
+///
+/// Other parts of a call may have such a holder of the same list at the same time. So no function of this type
+/// makes a reference to the whole list, or to a place or a run that it does not change. A reference to something
+/// that another part changes is undefined behaviour, even if nothing is read through the reference. No test and no
+/// race detector would notice that.
+pub(super) struct SliceItems<'a, T> {
+    first: *mut T,
+    len: usize,
+    slice: PhantomData<&'a mut [T]>,
+}
+
+// SAFETY: a `SliceItems` is made from a `&mut [T]`, and may do to the items only what that reference may do.
+unsafe impl<T: Send> Send for SliceItems<'_, T> {}
+
+// SAFETY: a method that takes a `&SliceItems` reads the length and no item, so any number of threads may have one.
+// It would be safe for every `T`. With this bound it holds for the same items as for a `&mut [T]`, and so for the
+// same parts as with the feature `checked`.
+unsafe impl<T: Sync> Sync for SliceItems<'_, T> {}
+
+impl<'a, T> SliceItems<'a, T> {
+    #[inline(always)]
+    pub(super) fn new(slice: &'a mut [T]) -> Self {
+        // The length is read first: reading it through the reference after `first` was taken from it would end what
+        // `first` may do.
+        SliceItems {
+            len: slice.len(),
+            first: slice.as_mut_ptr(),
+            slice: PhantomData,
+        }
+    }
+
+    /// The items, for several parts. Each part gets a share, and every share is the whole list.
+    pub(super) fn in_shares(slice: &'a mut [T], _: usize) -> Self {
+        SliceItems::new(slice)
+    }
+
+    /// The same items, for one part. No two parts of a call change the same place.
+    pub(super) fn share(&mut self) -> Self {
+        SliceItems { ..*self }
+    }
+
+    /// The bytes of the items, `N` at a time.
+    #[inline(always)]
+    pub(super) fn in_bytes<const N: usize>(self) -> SliceItems<'a, Bytes<N>> {
+        // This many groups of `N` bytes are within the slice. `SliceItems` borrows it for as long as it is borrowed.
+        SliceItems {
+            first: self.first.cast(),
+            len: self.len * size_of::<T>() / N,
+            slice: PhantomData,
+        }
+    }
+}
+
+/// An item of `N` bytes, of which only the size is known, or a row of such items.
+///
+/// A copy of a `MaybeUninit` keeps each byte as it is, also if it was never written, and keeps the provenance of each
+/// pointer. That is true of the parts in which an item is copied too: each of them is a `MaybeUninit`. Its alignment
+/// is 1, which is weaker than that of any item, so a reference to these bytes is aligned wherever the item is. What
+/// moves here is always the bytes of whole items, within the list of these items. So each place has an item
+/// afterwards.
+pub(super) type Bytes<const N: usize> = [MaybeUninit<u8>; N];
+
+/// Writes an item. Its bytes are written from the lowest address on, see [`move_bytes`]. The compiler would write the
+/// upper part first, or parts that overlap. That takes longer, most of all if the item lies in two cache lines.
+///
+/// # Safety
+///
+/// `to` is valid for writes of an item.
+#[inline(always)]
+unsafe fn write_item<T>(to: *mut T, item: T) {
+    // SAFETY: this is what the caller promises, and a copy of the item is only read.
+    unsafe {
+        if const { MOVES_BYTES && size_of::<T>() <= 64 } {
+            let item = MaybeUninit::new(item);
+            move_bytes::<false>(item.as_ptr().cast_mut().cast(), to.cast(), size_of::<T>());
+        } else {
+            to.write(item);
+        }
+    }
+}
+
+/// Exchanges two runs of `len` items.
+///
+/// # Safety
+///
+/// Both runs are valid for reads and writes, and do not overlap.
+#[inline(never)]
+unsafe fn swap_runs<T>(x: *mut T, y: *mut T, len: usize) {
+    // SAFETY: this is what the caller promises.
+    unsafe {
+        if MOVES_BYTES {
+            move_bytes::<true>(x.cast(), y.cast(), len * size_of::<T>());
+        } else {
+            ptr::swap_nonoverlapping(x, y, len);
+        }
+    }
+}
+
+/// Copies the `len` bytes at `from` to `to`. If `BACK` is true, it also copies those at `to` to `from`. It moves parts
+/// of 16 bytes, and then one of 8, 4, 2 and 1 bytes for each digit of `len` that is set, from the lowest address on.
+/// Parts of single bytes would take longer: there may be up to 15 at the end.
+///
+/// # Safety
+///
+/// The bytes at `from` are valid for reads and those at `to` for writes, and if `BACK` is true, both for both. They do
+/// not overlap.
+#[inline(always)]
+unsafe fn move_bytes<const BACK: bool>(from: *mut u8, to: *mut u8, len: usize) {
+    let mut done = 0;
+    // SAFETY: each part is within the `len` bytes.
+    unsafe {
+        while len - done >= 16 {
+            move_part::<registers::Register, BACK>(from.add(done), to.add(done));
+            done += 16;
+            // Without the fence, the compiler would join two parts of an item. With AVX, two registers are one.
+            if !BACK && len >= 32 && (done % 32 == 0 || cfg!(not(target_feature = "avx"))) {
+                compiler_fence(Ordering::SeqCst);
+            }
+        }
+        if len & 8 != 0 {
+            move_part::<registers::Half, BACK>(from.add(done), to.add(done));
+            done += 8;
+        }
+        if len & 4 != 0 {
+            move_part::<MaybeUninit<u32>, BACK>(from.add(done), to.add(done));
+            done += 4;
+        }
+        if len & 2 != 0 {
+            move_part::<MaybeUninit<u16>, BACK>(from.add(done), to.add(done));
+            done += 2;
+        }
+        if len & 1 != 0 {
+            move_part::<MaybeUninit<u8>, BACK>(from.add(done), to.add(done));
+        }
+    }
+}
+
+/// Does the same as [`move_bytes`] for one part, which may have bytes that were never written.
+#[inline(always)]
+unsafe fn move_part<P, const BACK: bool>(from: *mut u8, to: *mut u8) {
+    let (from, to) = (from.cast::<P>(), to.cast::<P>());
+    // SAFETY: this is what the caller promises.
+    unsafe {
+        let part = from.read_unaligned();
+        if BACK {
+            from.write_unaligned(to.read_unaligned());
+        }
+        to.write_unaligned(part);
+    }
+}
+
+impl<F> Places for SliceItems<'_, F> {
+    type Item = F;
+
+    #[inline(always)]
+    fn len(&self) -> usize {
+        self.len
+    }
+
+    #[inline(always)]
+    fn exchange(&mut self, i: usize, j: usize) {
+        debug_assert!(i < self.len);
+        if i != j {
+            self.exchange_apart(i, j);
+        }
+    }
+
+    /// Stands for `exchange`. Items of less than 48 bytes are read and then written.
+    #[inline(always)]
+    fn exchange_apart(&mut self, i: usize, j: usize) {
+        debug_assert!(i != j && i < self.len && j < self.len);
+        // SAFETY: the places differ by the clause `apart` of `Places::exchange_apart`, and are within the slice by
+        // `first` and `second`. If both items are read, each is written over the other.
+        unsafe {
+            let (x, y) = (&mut *self.first.add(i), &mut *self.first.add(j));
+            if const { size_of::<F>() < 48 } {
+                let (of_x, of_y) = (ptr::read(x), ptr::read(y));
+                write_item(y, of_x);
+                write_item(x, of_y);
+            } else {
+                core::mem::swap(x, y);
+            }
+        }
+        // The fence has no effect on the processor. Without it, the compiler would make one permutation in vector
+        // registers of the exchanges of a small list, which takes twice as long with AVX-512.
+        if size_of::<F>() <= 8 {
+            compiler_fence(Ordering::SeqCst);
+        }
+    }
+
+    #[inline(always)]
+    fn exchange_runs(&mut self, i: usize, j: usize, len: usize) {
+        let n = self.len;
+        debug_assert!(len <= n && i <= n - len && j <= n - len && i.abs_diff(j) >= len);
+        // SAFETY: both runs are within the slice, by the clauses `first` and `second` of `Places::exchange_runs`,
+        // and do not overlap, by `apart`.
+        unsafe { swap_runs(self.first.add(i), self.first.add(j), len) }
+    }
+
+    /// Stands for 64 calls of `exchange_apart`, one for each row `r` and column `c`, which exchange `x[r] + c` and
+    /// `y[c] + r`. Items of 1, 2, 4 and 8 bytes are exchanged in registers. Others are exchanged one by one, in
+    /// squares of 4 by 4.
+    #[inline(always)]
+    #[allow(clippy::needless_range_loop, reason = "a tile is reached by row and column")]
+    fn exchange_tiles(&mut self, x: [usize; 8], y: [usize; 8]) {
+        debug_assert!(are_tiles(x, y, self.len));
+        // SAFETY (of both): the 8 items from each of these places on are within the slice, and no two of these runs
+        // overlap, by the precondition of `Places::exchange_tiles`. It is that of `squares::exchange_tiles`, whose
+        // calls of `load` and `store` are proved to be within the list.
+        let mut list = unsafe { List::new(self.first, self.len) };
+        match const { size_of::<F>() } {
+            1 if registers::USES_REGISTERS => squares::exchange_tiles::<F, Items<1>, _>(&mut list, 8, x, y),
+            2 if registers::USES_REGISTERS => {
+                squares::exchange_tiles::<F, Pair<Items<2>>, _>(&mut InPairs(list), 8, x, y)
+            }
+            4 if registers::USES_REGISTERS => {
+                squares::exchange_tiles::<F, Pair<Items<4>>, _>(&mut InPairs(list), 4, x, y)
+            }
+            8 if registers::USES_REGISTERS => {
+                squares::exchange_tiles::<F, Pair<Items<8>>, _>(&mut InPairs(list), 2, x, y)
+            }
+            _ => {
+                for row in (0..8).step_by(4) {
+                    for col in (0..8).step_by(4) {
+                        for r in row..row + 4 {
+                            for c in col..col + 4 {
+                                self.exchange_apart(x[r] + c, y[c] + r);
+                            }
+                        }
+                    }
+                }
+            }
+        }
+    }
+
+    /// Stands for 28 calls of `exchange_apart`, one for each row `r` and column `c` with `r < c`, which exchange
+    /// `x[r] + c` and `x[c] + r`. Items of 1, 2, 4 and 8 bytes are exchanged in registers, and others one by one.
+    #[inline(always)]
+    fn turn_tile(&mut self, x: [usize; 8]) {
+        debug_assert!(are_rows(x, self.len));
+        // SAFETY: the 8 items from each of these places on are within the slice, and no two of these runs overlap, by
+        // the precondition of `Places::turn_tile`. It is that of `squares::turn_tile`, whose calls of `load` and
+        // `store` are proved to be within the list.
+        let mut list = unsafe { List::new(self.first, self.len) };
+        match const { size_of::<F>() } {
+            1 if registers::USES_REGISTERS => squares::turn_tile::<F, Items<1>, _>(&mut list, 8, x),
+            2 if registers::USES_REGISTERS => squares::turn_tile::<F, Pair<Items<2>>, _>(&mut InPairs(list), 8, x),
+            4 if registers::USES_REGISTERS => squares::turn_tile::<F, Pair<Items<4>>, _>(&mut InPairs(list), 4, x),
+            8 if registers::USES_REGISTERS => squares::turn_tile::<F, Pair<Items<8>>, _>(&mut InPairs(list), 2, x),
+            _ => {
+                for row in 0..8 {
+                    for col in row + 1..8 {
+                        self.exchange_apart(x[row] + col, x[col] + row);
+                    }
+                }
+            }
+        }
+    }
+
+    /// Prefetches the cache lines of both tiles if the list does not fit in a cache. The places may be outside. No
+    /// reference is made to them.
+    #[inline(always)]
+    fn expect_tiles(&self, x: [usize; 8], y: [usize; 8]) {
+        let size = size_of::<F>();
+        // Items of 1 byte take no less time if they are fetched early.
+        if size == 1 || self.len * size < FAR_BYTES {
+            return;
+        }
+        for row in x.into_iter().chain(y) {
+            let row = self.first.wrapping_add(row).cast::<u8>();
+            for byte in (0..8 * size).step_by(64) {
+                registers::prefetch(row.wrapping_add(byte));
+            }
+            // A row seldom begins at the start of a line, so its end is in one line more. Without that line, items
+            // of 4 bytes would take longer than without any prefetch.
+            registers::prefetch(row.wrapping_add(8 * size - 1));
+        }
+    }
+}
+
+/// A list of at least this many bytes does not fit in a cache.
+const FAR_BYTES: usize = 1 << 23;
+
+/// Whether the rows of tiles, of 8 items each, are within `len` places, and no two of them overlap.
+fn are_rows<const N: usize>(mut starts: [usize; N], len: usize) -> bool {
+    starts.sort_unstable();
+    len >= 8 && starts[N - 1] <= len - 8 && starts.is_sorted_by(|start, next| *next - *start >= 8)
+}
+
+/// Whether the rows of two tiles are within `len` places, and no two of them overlap.
+fn are_tiles(x: [usize; 8], y: [usize; 8], len: usize) -> bool {
+    are_rows::<16>(from_fn(|row| [x, y][row / 8][row % 8]), len)
+}
+
+impl<T: Copy> Cells for SliceItems<'_, T> {
+    type Item = T;
+
+    #[inline(always)]
+    fn len(&self) -> usize {
+        self.len
+    }
+
+    #[inline(always)]
+    fn put(&mut self, i: usize, v: T) {
+        debug_assert!(i < self.len);
+        // SAFETY: the cell is within the slice, by the `requires` of `Cells::put`.
+        unsafe { write_item(self.first.add(i), v) }
+        // Without the fence, the compiler would read eight items before it writes them, because it knows that the
+        // input and the output do not overlap. For processors with AVX-512 it would turn these reads, which are in
+        // eight rows, into one gather. For items of 4 and 8 bytes, that takes two to four times as long as moving
+        // one item after the other. The fence keeps each read after the write that comes before it in the program.
+        // It has no effect on the processor. Without AVX-512, items of 16 bytes take less time without it.
+        if size_of::<T>() != 16 || cfg!(target_feature = "avx512f") {
+            compiler_fence(Ordering::SeqCst);
+        }
+    }
+
+    /// Stands for single puts, column after column. Items of 1, 2, 4 and 8 bytes that are read from a slice are
+    /// transposed in registers, by squares of 8 by 8, 4 by 4 or 2 by 2.
+    #[inline(always)]
+    fn put_block<R: Source<Item = T>>(&mut self, source: &R, block: Block) {
+        let side = match const { size_of::<T>() } {
+            1 | 2 => 8,
+            4 => 4,
+            8 => 2,
+            _ => 0,
+        };
+        let items = match source.as_slice() {
+            Some(items)
+                if registers::USES_REGISTERS && side > 0 && matches!(block.side, 4 | 8) && block.side >= side =>
+            {
+                items
+            }
+            _ => return Singly(self).put_block(source, block),
+        };
+        debug_assert!(block_fits(block, items.len(), self.len));
+        // SAFETY: the items of the block are within the source and its cells within this slice, by the precondition
+        // of `Cells::put_block`, whose clause `apart` also says that no two columns overlap. It is that of
+        // `squares::put_block`, which stores into the cells alone: it has only a reference to the source.
+        let (items, mut cells) = unsafe {
+            (
+                List::new(items.as_ptr().cast_mut(), items.len()),
+                List::new(self.first, self.len),
+            )
+        };
+        match const { size_of::<T>() } {
+            1 => squares::put_block::<T, Items<1>, _, _>(&mut cells, &items, 8, block),
+            2 => squares::put_block::<T, Pair<Items<2>>, _, _>(&mut InPairs(cells), &InPairs(items), 8, block),
+            4 => squares::put_block::<T, Pair<Items<4>>, _, _>(&mut InPairs(cells), &InPairs(items), 4, block),
+            8 => squares::put_block::<T, Pair<Items<8>>, _, _>(&mut InPairs(cells), &InPairs(items), 2, block),
+            _ => unreachable!(),
+        }
+    }
+}
+
+/// Whether a block is within `input_len` items and `output_len` cells, and none of its columns overlap. It panics if a
+/// sum overflows.
+fn block_fits(block: Block, input_len: usize, output_len: usize) -> bool {
+    let side = block.side;
+    let end = |start: usize, stride: usize| start + (side - 1) * stride + side;
+    side == 0
+        || end(block.from, block.width) <= input_len
+            && end(block.to, block.height) <= output_len
+            && side <= block.height
+}
+
+/// The same cells, which put a block item by item.
+struct Singly<'a, C>(&'a mut C);
+
+impl<C: Cells> Cells for Singly<'_, C> {
+    type Item = C::Item;
+
+    fn len(&self) -> usize {
+        C::len(self.0)
+    }
+
+    #[inline(always)]
+    fn put(&mut self, i: usize, v: C::Item) {
+        self.0.put(i, v);
+    }
+}
+
+/// The items of a slice, which are only read.
+#[derive(Clone, Copy)]
+pub(super) struct SliceSource<'a, T> {
+    items: &'a [T],
+}
+
+impl<'a, T> SliceSource<'a, T> {
+    pub(super) fn new(items: &'a [T]) -> Self {
+        SliceSource { items }
+    }
+}
+
+impl<'a, T: Copy> SliceSource<'a, T> {
+    /// The bytes of the same items, `N` at a time.
+    #[inline(always)]
+    pub(super) fn in_bytes<const N: usize>(self) -> SliceSource<'a, Bytes<N>> {
+        // SAFETY: this many groups of `N` bytes are within the slice. No item changes as long as the slice is
+        // borrowed, because a `Copy` type has no `UnsafeCell`.
+        let items = unsafe { from_raw_parts(self.items.as_ptr().cast(), size_of_val(self.items) / N) };
+        SliceSource { items }
+    }
+}
+
+impl<T: Copy> Source for SliceSource<'_, T> {
+    type Item = T;
+
+    #[inline(always)]
+    fn len(&self) -> usize {
+        self.items.len()
+    }
+
+    #[inline(always)]
+    fn at(&self, i: usize) -> T {
+        debug_assert!(i < self.items.len());
+        // SAFETY: the index is within the slice, by the `requires` of `Source::at`.
+        unsafe { *self.items.get_unchecked(i) }
+    }
+
+    #[inline(always)]
+    fn as_slice(&self) -> Option<&[T]> {
+        Some(self.items)
+    }
+}
