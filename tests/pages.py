@@ -271,7 +271,7 @@ def check_specs():
     """If no public contract uses a file of specs/, its first lines say that it serves private ones. Otherwise they do
     not say so. Each definition has a comment above it. In a library, this comment or the file's first lines name the source
     of a definition, unless the file serves private contracts."""
-    files = {path: dict(definition_texts(path)) for path in tracked if re.fullmatch(r"crates/\w+/specs/\w+\.antt", path)}
+    files = {path: dict(definition_texts(path)) for path in tracked if re.fullmatch(r"crates/\w+/specs/[\w/]+\.antt", path)}
     public = " ".join(said for path in sources if "/parts" not in path for said in contracts(read_source(path)))
     used = stood_on(public, {name: text for texts in files.values() for name, text in texts.items()})
     for path, texts in files.items():

@@ -1,36 +1,41 @@
-"""Writes docs/contracts.txt, which lists the contracts and definitions that say what is proved.
+"""Writes docs/contracts.txt, which lists the contracts, definitions and lemmas for callers that say what is proved.
 
     python3 tools/contract_list.py
 
-tests/agree compares the list with the sources, so each clause or definition that is removed, that promises less or that
-requires more is a changed line of the list."""
+tests/agree compares the list with the sources, so each clause, definition or lemma for callers that is removed, that
+promises less or that requires more is a changed line of the list. An axiom or a hole in a proof is not: `rt check` refuses
+both, in any file of specs/ or proofs/."""
 import glob
 import re
 import sys
 import textwrap
 
 sys.dont_write_bytecode = True
-from rattle_source import declarations, read
+from rattle_source import declarations, read, statements
 
 LIST = "docs/contracts.txt"
 HEAD = """\
-# The public contracts of all crates, and all definitions, as the sources have them. docs/CALLING.md explains how to read a
-# contract, and docs/MODEL.md says in words what is promised.
+# The public contracts of all crates, all definitions, and the statements of the lemmas for callers, as the sources have
+# them. docs/CALLING.md explains how to read a contract, and docs/MODEL.md says in words what is promised.
 #
 # Below the name of a source are its contracts. All structs are listed, with their private fields, since a clause or a
 # definition may name them. The lines below an implementation of a trait say what a clause sees of that type. Sources on the
 # parts of a call are listed with the contracts that only their crate sees, because what is proved of parts stands in these.
 # The crate p3_util_vectors has only tests, so it is listed with its definitions alone.
 #
-# The contracts of a crate are followed by its definitions, and then by its imports: the modules that the names in its
-# contracts and definitions come from. Your crate can import the same names, by `ghost use`.
+# The contracts of a crate are followed by its definitions and, in p3_util, by the lemmas for callers without their proofs.
+# Below these are the crate's imports: the modules that the names in its contracts, definitions and lemmas come from. Your
+# crate can import the same names, by `ghost use`.
 #
 # Written by: python3 tools/contract_list.py"""
 CRATES = ["p3_util_kernels", "p3_util", "p3_util_run", "p3_util_c", "p3_util_transform", "p3_util_callers", "p3_util_vectors"]
 ONLY_TESTS = {"p3_util_vectors"}
 # In these sources, what only the crate itself sees is listed too.
 PARTS = r"crates/p3_util_kernels/src/parts\b"
-IMPORT = re.compile(r"^ *(?:ghost )?use ([\w.-]+)\.\{([^}]*)\};?\n", re.M)
+# A file with this name, in a crate's proofs/, names the crate's lemmas for callers.
+LEMMAS = "Callers.antt"
+IMPORT = re.compile(r"^ *(?:ghost )?use ([\w.-]+)\.\{([^}]*)\};?(?: *--.*)?\n", re.M)
+EXPORT = re.compile(r"^pub use Rattle\.([\w.-]+)\.\{([^}]*)\}", re.M)
 
 
 def line(indent, code):
@@ -47,7 +52,7 @@ def members(outer):
     """What a trait or an implementation of a trait says, without the proofs of its laws."""
     for inner in declarations(outer.body, 4):
         proves = outer.kind == "impl" and re.match(r"ghost (laws|\w+_(refl|trans)) =", inner.head)
-        if inner.kind == "fn" and inner.clauses:
+        if inner.kind == "fn" and (inner.clauses or outer.kind == "trait"):
             yield from function(4, "", inner)
         elif inner.kind == "ghost" and not proves or inner.kind == "type" and "=" not in inner.head:
             yield line(4, f"{inner.head} {inner.body}")
@@ -79,12 +84,15 @@ def contracts(text, seen_by=("pub",)):
             yield line(2, f"{outer.head} {{ {outer.body} }}" if outer.body else outer.head)
 
 
-def listed(path):
-    """The lines of a source or of a file of definitions, and the names that it imports for them, each with its module."""
+def listed(path, named=None):
+    """The lines of a source, of a file of definitions or of a file of lemmas, and the names that it imports for them, each
+    with its module. If names are given, these are the lemmas that are listed."""
     with open(path, encoding="utf-8") as text:
-        source = text.read()
+        source = read(path) if path.endswith(".rt") else text.read()
     if path.endswith(".rt"):
-        lines = list(contracts(read(path), ("pub", "pub(crate)") if re.match(PARTS, path) else ("pub",)))
+        lines = list(contracts(source, ("pub", "pub(crate)") if re.match(PARTS, path) else ("pub",)))
+    elif "/proofs/" in path:
+        lines = [f"  {said}" for said in statements(source, named)]
     else:
         lines = [f"  {said}".rstrip() for said in IMPORT.sub("", source).strip().split("\n")]
     said = set(re.findall(r"\w+|[^\w\s]+", "\n".join(lines)))
@@ -92,25 +100,40 @@ def listed(path):
     return lines, {(module, name) for module, name in names if said.issuperset(name.split(" as ")[-1].replace("◌", " ").split())}
 
 
-def files(crate):
-    """The sources of a crate without its tests, and then its files of definitions."""
+def exports(text):
+    """The lines by which a file of this text re-exports lemmas, and the file of each, with the names of these lemmas."""
+    found = EXPORT.findall(text)
+    files = {f"crates/{module.replace('.', '/')}.antt": [name.split()[0] for name in names.split(",")] for module, names in found}
+    return [line(2, f"pub use Rattle.{module}.{{{names}}}") for module, names in found], files
+
+
+def sections(crate):
+    """The sections of a crate, each with its path, its lines and the names that it imports: the sources without tests, the
+    files of definitions, and the files of lemmas for callers."""
     sources = [] if crate in ONLY_TESTS else sorted(glob.glob(f"crates/{crate}/src/**/*.rt", recursive=True))
-    return [path for path in sources if not re.search(r"/tests[./]", path)] + sorted(glob.glob(f"crates/{crate}/specs/*.antt"))
+    definitions = sorted(glob.glob(f"crates/{crate}/specs/**/*.antt", recursive=True))
+    for path in [*(path for path in sources if not re.search(r"/tests[./]", path)), *definitions]:
+        yield path, *listed(path)
+    for path in glob.glob(f"crates/{crate}/proofs/{LEMMAS}"):
+        with open(path, encoding="utf-8") as text:
+            lines, files = exports(text.read())
+        yield path, lines, set()
+        files |= dict.fromkeys(glob.glob(f"{path.removesuffix('.antt')}/**/*.antt", recursive=True))
+        yield from ((path, *listed(path, named)) for path, named in sorted(files.items()))
 
 
 def page():
     """The text of the list."""
-    sections = [HEAD]
+    text = [HEAD]
     for crate in CRATES:
         imports = {}
-        for path in files(crate):
-            lines, names = listed(path)
-            sections += ["\n".join([path, *lines])] if lines else []
+        for path, lines, names in sections(crate):
+            text += ["\n".join([path, *lines])] if lines else []
             for module, name in names:
                 imports.setdefault(module, set()).add(name)
         lines = [line(2, f"{module}.{{{', '.join(sorted(names))}}}") for module, names in sorted(imports.items())]
-        sections.append("\n".join([f"Imports of crates/{crate}", *lines]))
-    return "\n\n".join(sections)
+        text.append("\n".join([f"Imports of crates/{crate}", *lines]))
+    return "\n\n".join(text)
 
 
 if __name__ == "__main__":

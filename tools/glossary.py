@@ -116,7 +116,7 @@ def of_holders(text):
 def definitions(top):
     """The rows of all definitions, sorted by their names. `top` is the folder of the repository."""
     rows = {"same_holder": of_holders((top / TRAITS).read_text(encoding="utf-8"))}
-    for path in (path for crate in CRATES for path in sorted((top / "crates" / crate / "specs").glob("*.antt"))):
+    for path in (path for crate in CRATES for path in sorted((top / "crates" / crate / "specs").rglob("*.antt"))):
         text = path.read_text(encoding="utf-8")
         rows |= {found[2]: definition(text, found) for found in DEFINITION.finditer(text)}
     return dict(sorted(rows.items(), key=lambda row: row[0].lower()))

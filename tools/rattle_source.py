@@ -3,6 +3,7 @@
     python3 tools/rattle_source.py FILE LINE        prints the name of the function that has this line
 
 `rust/erase`, the scripts of this folder and those in `tests/` import it."""
+import functools
 import re
 import sys
 from dataclasses import dataclass
@@ -145,10 +146,18 @@ class Declaration:
         return {title.partition(" ")[2] for title, _ in self.clauses}
 
 
+@functools.cache
 def read(path):
-    """The text of a source, with empty lines in place of its comments and attributes."""
-    with open(path, encoding="utf-8") as text:
-        return re.sub(r"^ *(//.*|#!?\[.*\])$", "", text.read(), flags=re.M)
+    """The text of a source without its comments and attributes. Each declaration stays in its line."""
+    with open(path, encoding="utf-8") as file:
+        tokens = list(scanned(file.read(), path))
+    text = "".join(blank(token.gap) + (blank(token.text) if token.kind == "doc" else token.text) for token in tokens)
+    return re.sub(r"^ *#!?\[.*\]$| +$", "", text, flags=re.M)
+
+
+def blank(text):
+    """The white space of a text, with blanks in place of everything else."""
+    return re.sub(r"\S", " ", text)
 
 
 def closed(text, opened):
@@ -181,6 +190,21 @@ def functions(text):
             yield "", outer
         elif outer.kind in ("impl", "trait"):
             yield from ((outer.name(), inner) for inner in declarations(outer.body, 4) if inner.kind == "fn")
+
+
+def statements(text, named=None, indent=""):
+    """The lines of a file of lemmas that say what its public lemmas state, without the proofs. If names are given, these
+    are the lemmas of these names. Above a lemma is the head of its module, since the arguments there are its own too. A
+    definition is whole."""
+    defined = None
+    for block in re.findall(rf"^{indent}[^\s-].*\n(?:(?:{indent} .*)?\n)*", text, re.M):
+        head = re.match(r" *module _ .*? where\n", block, re.S)
+        if head and (inner := list(statements(block[head.end():], named, indent + "  "))):
+            yield from [*head[0].splitlines(), *inner]
+        stated = re.match(r" *((?:(?:abbrev|unfoldable) )*)pub (?:ruleset )?(?!use |mod )(\S+)", block)
+        if stated and (named is None or stated[2] in named) or block.split()[0] == defined:
+            defined = stated[2] if stated and stated[1] else defined
+            yield from (line for line in block.rstrip().splitlines() if not re.match(r" *(--|$)", line))
 
 
 DEFINITION = re.compile(r"^( *)(?:(?:abbrev|unfoldable) pub|pub (?:record|data)) (\w+)", re.M)
