@@ -59,9 +59,9 @@ const BLOCKS_LONG_ITEMS: usize = 1 << 15;
 /// The strips of a matrix of at most that many items of 8 bytes. On aarch64, which has 32 vector registers, a block of 8
 /// by 8 items takes fewer instructions than four of 4 by 4. On x86-64 it takes more.
 const LONG_ITEMS: Strips = if cfg!(target_arch = "aarch64") {
-    Strips::EIGHTS
+    Strips::high(8)
 } else {
-    Strips::FOURS
+    Strips::high(4)
 };
 
 /// The strips by which a matrix is put, as a whole or in parts. They only determine the order of the puts. Items of 1, 2
@@ -70,8 +70,8 @@ const LONG_ITEMS: Strips = if cfg!(target_arch = "aarch64") {
 #[inline(always)]
 pub(crate) fn strips_by_size<R: Source + Copy>(matrix: Matrix<R>) -> Strips {
     match size_of::<R::Item>() {
-        1 | 2 if unchecked::USES_REGISTERS => Strips::EIGHTS,
-        4 if unchecked::USES_REGISTERS => Strips::FOURS,
+        1 | 2 if unchecked::USES_REGISTERS => Strips::high(8),
+        4 if unchecked::USES_REGISTERS => Strips::high(4),
         8 if unchecked::USES_REGISTERS && matrix.source.len() <= BLOCKS_LONG_ITEMS => LONG_ITEMS,
         _ => match Strips::by_shape(matrix) {
             Strips::SMALL => Strips::LOW,

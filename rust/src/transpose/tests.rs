@@ -46,17 +46,17 @@ fn blocks_of_small_items() {
     let turns = unchecked::USES_REGISTERS;
     for (width, height) in [(7, 1000), (8, 17), (12, 11), (64, 64), (181, 181)] {
         assert_eq!(
-            strips::<u8>(width, height) == Strips::EIGHTS,
+            strips::<u8>(width, height) == Strips::high(8),
             turns,
             "{width} by {height}"
         );
         assert_eq!(
-            strips::<u16>(width, height) == Strips::EIGHTS,
+            strips::<u16>(width, height) == Strips::high(8),
             turns,
             "{width} by {height}"
         );
         assert_eq!(
-            strips::<u32>(width, height) == Strips::FOURS,
+            strips::<u32>(width, height) == Strips::high(4),
             turns,
             "{width} by {height}"
         );
@@ -64,17 +64,17 @@ fn blocks_of_small_items() {
     }
     for (width, height) in [(1, 32_769), (182, 181), (512, 512), (1025, 1024), (262_144, 12)] {
         assert_eq!(
-            strips::<u8>(width, height) == Strips::EIGHTS,
+            strips::<u8>(width, height) == Strips::high(8),
             turns,
             "{width} by {height}"
         );
         assert_eq!(
-            strips::<u16>(width, height) == Strips::EIGHTS,
+            strips::<u16>(width, height) == Strips::high(8),
             turns,
             "{width} by {height}"
         );
         assert_eq!(
-            strips::<u32>(width, height) == Strips::FOURS,
+            strips::<u32>(width, height) == Strips::high(4),
             turns,
             "{width} by {height}"
         );
@@ -180,8 +180,8 @@ fn strips_of_blocks_in_order() {
         (7, 263),
     ] {
         let order = |side| by_strips_of_blocks(width, height, side);
-        check_order(Strips::FOURS, (width, height), order(4));
-        check_order(Strips::EIGHTS, (width, height), order(8));
+        check_order(Strips::high(4), (width, height), order(4));
+        check_order(Strips::high(8), (width, height), order(8));
     }
 }
 
@@ -235,8 +235,7 @@ fn put_by_blocks(width: usize, height: usize, side: usize, changed: bool) -> ByB
         blocks: 0,
     };
     let matrix = Matrix::new(SliceSource::new(&input), width, height);
-    let strips = if side == 4 { Strips::FOURS } else { Strips::EIGHTS };
-    transpose_matrix(blank, matrix, strips)
+    transpose_matrix(blank, matrix, Strips::high(side))
 }
 
 #[test]

@@ -284,8 +284,8 @@ fn is_transposed<T: Copy + PartialEq>(width: usize, height: usize, item: impl Fn
     let mut by_call = blank.clone();
     super::transpose(&input, &mut by_call, width, height)
         && by_call == expected
-        && by_blocks(Strips::FOURS)
-        && by_blocks(Strips::EIGHTS)
+        && by_blocks(Strips::high(4))
+        && by_blocks(Strips::high(8))
 }
 
 #[test]

@@ -48,11 +48,22 @@ pub(crate) struct Strips {
 }
 
 impl Strips {
-    /// High strips, of at most 128 rows, put column after column.
-    pub(crate) const HIGH: Strips = Strips {
-        rows: HIGH_ROWS,
-        side: 1,
-    };
+    /// High strips, of at most 128 rows, put by blocks of `side` by `side` items, or column after
+    /// column if `side` is neither 4 nor 8. A holder may transpose blocks in registers.
+    ///
+    /// # Contract
+    ///
+    /// ```text
+    /// ensures side { result.side ≡ side }
+    /// ensures rows { result.rows ≡ HIGH_ROWS }
+    /// ```
+    #[inline(always)]
+    pub(crate) const fn high(side: usize) -> Self {
+        Strips {
+            rows: HIGH_ROWS,
+            side,
+        }
+    }
 
     /// Low strips, of at most 24 rows, put column after column.
     pub(crate) const LOW: Strips = Strips {
@@ -64,20 +75,6 @@ impl Strips {
     pub(crate) const SMALL: Strips = Strips {
         rows: UNIT,
         side: 4,
-    };
-
-    /// High strips, put by blocks of 4 by 4 items, which a holder may transpose in registers. This
-    /// suits items of 4 and of 8 bytes. `by_shape` never returns these strips, but the caller of a
-    /// kernel may choose them.
-    pub(crate) const FOURS: Strips = Strips {
-        rows: HIGH_ROWS,
-        side: 4,
-    };
-
-    /// The same with blocks of 8 by 8 items, which suits items of 1 and of 2 bytes.
-    pub(crate) const EIGHTS: Strips = Strips {
-        rows: HIGH_ROWS,
-        side: 8,
     };
 
     /// The strips for `matrix`, chosen by its shape alone. Every call in Rattle uses this choice.
@@ -92,7 +89,7 @@ impl Strips {
     /// and is put block by block.
     pub(crate) fn by_shape<R: Source + Copy>(matrix: Matrix<R>) -> Self {
         if matrix.width % UNIT != 0 {
-            Strips::HIGH
+            Strips::high(1)
         } else if matrix.source.len() > SMALL_MATRIX {
             Strips::LOW
         } else {
@@ -213,8 +210,8 @@ fn put_stacks<M: Cells, R: Source<Item = M::Item> + Copy>(
     out
 }
 
-/// The number of blocks of a stack. If the last stack of a strip has fewer columns than a block, it
-/// has none.
+/// The number of blocks of a stack: as many as fit below each other. If the last stack of a strip
+/// has fewer columns than a block, it has none.
 ///
 /// # Contract
 ///
@@ -224,6 +221,7 @@ fn put_stacks<M: Cells, R: Source<Item = M::Item> + Copy>(
 /// requires cols_in_order { region.col_start ≤ region.col_end }
 /// ensures rows { result * side ≤ rows_of region }
 /// ensures cols { 0 < result → cols_of region ≡ side }
+/// ensures all { cols_of region ≡ side → rows_of region < (result + 1) * side }
 /// ```
 #[inline(always)]
 fn blocks_of(region: Region, side: usize) -> usize {
