@@ -1,12 +1,13 @@
 //! Runs each part on a holder that notes every place that a step changes. A part moves the items of its region, and no
 //! other part of the call changes one of its places.
 
+use std::array::from_fn;
 use std::collections::BTreeSet;
 use std::vec::Vec;
 
-use super::{one_part_reversal, parts_of_side};
+use super::{one_part_reversal, parts_of_side, row_reversal, transpose};
 use crate::kernels::parts::{Cut, ReversalPlan, RowPairs, TransposePlan};
-use crate::kernels::places::{Cells, Places, SliceSource, Source};
+use crate::kernels::places::{Cells, Places, SliceCells, SlicePlaces, SliceSource, Source};
 use crate::kernels::reverse::RowDigits;
 use crate::kernels::transpose::{Matrix, Strips};
 
@@ -385,4 +386,81 @@ fn items_of_one_part() {
     assert_eq!(one_part_reversal::<[u8; 33]>(), wanted(63_550));
     assert_eq!(one_part_reversal::<[u64; 8]>(), wanted(32_768));
     assert_eq!(one_part_reversal::<[u64; 1 << 19]>(), wanted(0));
+}
+
+/// Item `number` of a list. Each byte tells an item from most others.
+fn item<const N: usize>(number: usize) -> [u8; N] {
+    let mixed = number.wrapping_mul(0x9e37_79b9_7f4a_7c15).to_be_bytes();
+    from_fn(|byte| mixed[byte % 8] ^ byte as u8)
+}
+
+/// Runs part `number` of the reversal of these rows as a plan says, by the proved code and the holder of a slice that
+/// checks each index. If the processor moves unaligned bytes fast, a row is one place if it has as many bytes as an item
+/// that has kernels in this package.
+fn exchange_by_plan<const N: usize, const WIDTH: usize>(rows: &mut [[[u8; N]; WIDTH]], asked: usize, number: usize) {
+    let len = rows.len() * WIDTH;
+    let one_part = if len <= one_part_reversal::<[u8; N]>() {
+        usize::MAX
+    } else {
+        0
+    };
+    let plan = |places, width| ReversalPlan::new(places, width, parts_of_side(asked), one_part);
+    let moves_rows = cfg!(any(target_arch = "x86_64", target_arch = "aarch64"));
+    if moves_rows && matches!(N * WIDTH, 1 | 2 | 4 | 8 | 12 | 16 | 20 | 32 | 64) {
+        let _ = plan(rows.len(), 1).exchange(SlicePlaces::new(rows), number);
+    } else {
+        let _ = plan(len, WIDTH).exchange(SlicePlaces::new(rows.as_flattened_mut()), number);
+    }
+}
+
+/// Runs each part of a reversal of 2^`digits` rows alone.
+fn exchanges_alone<const N: usize, const WIDTH: usize>(digits: u32, asked: usize) {
+    let rows: Vec<[[u8; N]; WIDTH]> = (0..1 << digits)
+        .map(|row| from_fn(|col| item(row * WIDTH + col)))
+        .collect();
+    let (mut moved, mut wanted) = (rows.clone(), rows.clone());
+    let count = row_reversal(moved.as_flattened_mut(), WIDTH, asked).len();
+    assert_eq!(count > 1, cfg!(not(feature = "checked")));
+    for number in 0..count {
+        moved.copy_from_slice(&rows);
+        wanted.copy_from_slice(&rows);
+        let part = row_reversal(moved.as_flattened_mut(), WIDTH, asked).nth(number);
+        part.unwrap().run();
+        exchange_by_plan(&mut wanted, asked, number);
+        let is_wanted = moved.as_flattened().as_flattened() == wanted.as_flattened().as_flattened();
+        assert!(is_wanted, "part {number} of rows of {WIDTH} items of {N} bytes");
+    }
+}
+
+/// Runs each part of some transposes alone. The other cells keep their items.
+fn puts_alone<const N: usize>() {
+    for (width, height, asked) in [(40, 100, 3), (100, 40, 5), (64, 64, 2), (260, 33, 4)] {
+        let input: Vec<[u8; N]> = (0..width * height).map(item).collect();
+        let blank: Vec<[u8; N]> = (0..width * height).map(|place| item(!place)).collect();
+        let source = SliceSource::new(&input);
+        let strips = Strips::by_shape(Matrix::new(source, width, height));
+        let plan = TransposePlan::new(width, height, asked, cfg!(not(feature = "checked")));
+        for number in 0..plan.count() {
+            let (mut output, mut wanted) = (blank.clone(), blank.clone());
+            let part = transpose(&input, &mut output, width, height, asked).nth(number);
+            part.unwrap().run();
+            let _ = plan.put(SliceCells::new(&mut wanted), source, number, strips);
+            let is_wanted = output.as_flattened() == wanted.as_flattened();
+            assert!(is_wanted, "part {number} of {width} by {height}, items of {N} bytes");
+        }
+    }
+}
+
+/// Each part alone does what the plan says, for items of each size that has kernels in this package, and of two others.
+#[test]
+fn each_part_alone() {
+    macro_rules! sizes {
+        ($($bytes:literal)*) => { $(
+            exchanges_alone::<$bytes, 1>(17, 2);
+            exchanges_alone::<$bytes, 2>(16, 2);
+            exchanges_alone::<$bytes, 3>(15, 2);
+            puts_alone::<$bytes>();
+        )* };
+    }
+    sizes!(1 2 3 4 8 12 16 20 32 48 64);
 }
