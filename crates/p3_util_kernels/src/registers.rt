@@ -15,13 +15,18 @@ ghost use Rattle.p3_util_kernels.specs.BlockPut.{BlockFits, IsBlockPut, block_it
 ghost use Rattle.p3_util_kernels.specs.Registers.{AreApart, AreColumns, AreInside, AreInterleaved, AreLoaded, AreStored, ColumnsPut, IsNextStage, IsSide, IsRunStored, IsStored, RowsExchanged, SquaresTurned, items_of_four, length_of_pair};
 ghost use Rattle.p3_util_kernels.specs.Exchanged.{AreTiles, IsTile, TileTurned, TilesExchanged};
 
-use crate::places::{Block, length_fits};
+use crate::places::Block;
 
 /// Some items, one after another, as many for each register of a type.
 pub(crate) trait Register<T>: Copy {
+    /// The items of one half of a register.
+    type Half: Copy;
+
     ghost items: { Self → List T };
 
-    /// Half the number of items.
+    ghost half_items: { Self.Half → List T };
+
+    /// The number of items of a half.
     ghost half: { ℕ };
 
     /// Interleaves the first halves of two registers.
@@ -32,33 +37,33 @@ pub(crate) trait Register<T>: Copy {
     fn high(self, other: Self) -> Self
         ensures { AreInterleaved half half half (items self) (items other) (items result) };
 
+    /// A register whose first half is this one. Its second half may be anything.
+    fn from_half(first: Self::Half) -> Self
+        ensures { (t : ℕ) → t < half → slice_get (items result) t ≡ slice_get (half_items first) t };
+
+    /// Both halves of a register.
+    fn halves(self) -> (Self::Half, Self::Half)
+        ensures first { (t : ℕ) → t < half → slice_get (half_items result.0) t ≡ slice_get (items self) t }
+        ensures second { (t : ℕ) → t < half → slice_get (half_items result.1) t ≡ slice_get (items self) (half + t) };
+
     ghost full: { (a : Self) → length (items a) ≡ 2 * half };
 }
 
-/// A list from which two runs of items can be read at once.
-pub(crate) trait RowSource<T, D: Register<T>> {
+/// A list in which a run of items, half a register, can be read or written at once.
+pub(crate) trait Runs<T, D: Register<T>> {
     ghost items: { Self → List T };
 
-    /// The number of items.
-    fn len(&self) -> usize
-        ensures { result ≡ length (items self.now) };
+    /// Reads the run from `place` on.
+    fn load(&self, place: usize) -> D::Half
+        requires { place + D.half ≤ length (items self.now) }
+        ensures { (t : ℕ) → t < D.half → slice_get (D.half_items result) t ≡ slice_get (items self.now) (place + t) };
 
-    /// Reads two runs, interleaved.
-    fn load(&self, first: usize, second: usize) -> D
-        requires first { first + D.half ≤ length (items self.now) }
-        requires second { second + D.half ≤ length (items self.now) }
-        ensures { AreInterleaved D.half first second (items self.now) (items self.now) (D.items result) };
-}
+    /// Writes the run from `place` on.
+    fn store(&mut self, place: usize, run: D::Half)
+        requires { place + D.half ≤ length (items self.old) }
+        ensures { IsRunStored D.half place (D.half_items run) (items self.old) (items self.new) };
 
-/// A list in which two runs of items can be read or written at once.
-pub(crate) trait Rows<T, D: Register<T>>: RowSource<T, D> {
-    /// Writes the first half of a register from place `first` on, and the second half from place
-    /// `second` on.
-    fn store(&mut self, first: usize, second: usize, rows: D)
-        requires apart { (first + D.half ≤ second) ⊎ (second + D.half ≤ first) }
-        requires first { first + D.half ≤ length (Self.items self.old) }
-        requires second { second + D.half ≤ length (Self.items self.old) }
-        ensures { IsStored D.half first second (D.items rows) (Self.items self.old) (Self.items self.new) };
+    ghost fits: { (a : Self) → length (items a) < 2 ^ 64 };
 }
 
 /// Four registers.
@@ -84,17 +89,27 @@ fn next_stage<T, D: Register<T>>(four: Four<D>) -> Four<D>
     }
 }
 
+/// Reads two runs and interleaves them.
+#[inline(always)]
+fn load_two<T, D: Register<T>, S: Runs<T, D>>(list: &S, first: usize, second: usize) -> D
+    requires first { first + D.half ≤ length (S.items list.now) }
+    requires second { second + D.half ≤ length (S.items list.now) }
+    ensures { AreInterleaved D.half first second (S.items list.now) (S.items list.now) (D.items result) }
+{
+    D::from_half(list.load(first)).low(D::from_half(list.load(second)))
+}
+
 /// Reads 8 runs. Each register has two of them, interleaved: the first stage is made as they are read.
 #[inline(always)]
-fn load<T, D: Register<T>, S: RowSource<T, D>>(list: &S, from: [usize; 8]) -> Four<D>
+fn load<T, D: Register<T>, S: Runs<T, D>>(list: &S, from: [usize; 8]) -> Four<D>
     requires { AreInside D.half from (length (S.items list.now)) }
     ensures { AreLoaded D.half from (S.items list.now) (items_of_four D.items result) }
 {
     Four {
-        a: list.load(from[0], from[4]),
-        b: list.load(from[1], from[5]),
-        c: list.load(from[2], from[6]),
-        d: list.load(from[3], from[7]),
+        a: load_two(list, from[0], from[4]),
+        b: load_two(list, from[1], from[5]),
+        c: load_two(list, from[2], from[6]),
+        d: load_two(list, from[3], from[7]),
     }
 }
 
@@ -121,7 +136,7 @@ fn in_order(places: [usize; 8], side: usize) -> [usize; 8]
 /// Reads squares of `side` rows, which are 8 rows together, and transposes them. `places` has the first
 /// place of each row, one square after another.
 #[inline(always)]
-fn load_columns<T, D: Register<T>, S: RowSource<T, D>>(
+fn load_columns<T, D: Register<T>, S: Runs<T, D>>(
     list: &S,
     side: usize,
     places: [usize; 8],
@@ -142,27 +157,40 @@ fn load_columns<T, D: Register<T>, S: RowSource<T, D>>(
     next_stage(two)
 }
 
+/// Writes the first half of a register from place `first` on, and the second half from place `second` on.
+#[inline(always)]
+fn store_two<T, D: Register<T>, M: Runs<T, D>>(list: &mut M, first: usize, second: usize, rows: D)
+    requires apart { (first + D.half ≤ second) ⊎ (second + D.half ≤ first) }
+    requires first { first + D.half ≤ length (M.items list.old) }
+    requires second { second + D.half ≤ length (M.items list.old) }
+    ensures { IsStored D.half first second (D.items rows) (M.items list.old) (M.items list.new) }
+{
+    let (a, b) = rows.halves();
+    list.store(first, a);
+    list.store(second, b);
+}
+
 /// Stores the first two registers.
 #[inline(always)]
-fn store_half<T, D: Register<T>, M: Rows<T, D>>(list: &mut M, to: [usize; 8], four: Four<D>)
+fn store_half<T, D: Register<T>, M: Runs<T, D>>(list: &mut M, to: [usize; 8], four: Four<D>)
     requires inside { AreInside D.half to (length (M.items list.old)) }
     requires apart { AreApart 4 D.half to }
     ensures { AreStored 4 D.half to (items_of_four D.items four) (M.items list.old) (M.items list.new) }
 {
-    list.store(to[0], to[1], four.a);
-    list.store(to[2], to[3], four.b);
+    store_two(list, to[0], to[1], four.a);
+    store_two(list, to[2], to[3], four.b);
 }
 
 /// Stores four registers.
 #[inline(always)]
-fn store<T, D: Register<T>, M: Rows<T, D>>(list: &mut M, to: [usize; 8], four: Four<D>)
+fn store<T, D: Register<T>, M: Runs<T, D>>(list: &mut M, to: [usize; 8], four: Four<D>)
     requires inside { AreInside D.half to (length (M.items list.old)) }
     requires apart { AreApart 8 D.half to }
     ensures { AreStored 8 D.half to (items_of_four D.items four) (M.items list.old) (M.items list.new) }
 {
     store_half(list, to, four);
-    list.store(to[4], to[5], four.c);
-    list.store(to[6], to[7], four.d);
+    store_two(list, to[4], to[5], four.c);
+    store_two(list, to[6], to[7], four.d);
 }
 
 /// The number of the row of a square that is row `c` of all squares, if these have `side` rows.
@@ -208,7 +236,7 @@ fn in_columns(y: [usize; 8], col: usize) -> [usize; 8]
 
 /// Exchanges `side` rows of a tile, from row `row` on, with as many columns of the other.
 #[inline(always)]
-fn exchange_band<T, D: Register<T>, M: Rows<T, D>>(
+fn exchange_band<T, D: Register<T>, M: Runs<T, D>>(
     list: &mut M,
     side: usize,
     x: [usize; 8],
@@ -232,7 +260,7 @@ fn exchange_band<T, D: Register<T>, M: Rows<T, D>>(
 
 /// Does what `Places::exchange_tiles` does, by squares of `side` rows.
 #[inline(always)]
-pub(crate) fn exchange_tiles<T, D: Register<T>, M: Rows<T, D>>(
+pub(crate) fn exchange_tiles<T, D: Register<T>, M: Runs<T, D>>(
     list: &mut M,
     side: usize,
     x: [usize; 8],
@@ -243,7 +271,6 @@ pub(crate) fn exchange_tiles<T, D: Register<T>, M: Rows<T, D>>(
     requires tiles { AreTiles x y (length (M.items list.old)) }
     ensures { TilesExchanged 64 x y (M.items list.old) (M.items list.new) }
 {
-    length_fits(list.len());
     match side {
         2 => {
             exchange_band(list, side, x, y, 0);
@@ -304,7 +331,7 @@ fn turned_to(x: [usize; 8], side: usize, sum: usize) -> [usize; 8]
 
 /// Transposes some squares of a tile, each into the place of its mirror image.
 #[inline(always)]
-fn turn_squares<T, D: Register<T>, M: Rows<T, D>>(
+fn turn_squares<T, D: Register<T>, M: Runs<T, D>>(
     list: &mut M,
     side: usize,
     x: [usize; 8],
@@ -324,13 +351,12 @@ fn turn_squares<T, D: Register<T>, M: Rows<T, D>>(
 
 /// Does what `Places::turn_tile` does, by squares of `side` rows.
 #[inline(always)]
-pub(crate) fn turn_tile<T, D: Register<T>, M: Rows<T, D>>(list: &mut M, side: usize, x: [usize; 8])
+pub(crate) fn turn_tile<T, D: Register<T>, M: Runs<T, D>>(list: &mut M, side: usize, x: [usize; 8])
     requires some_side { IsSide D.half }
     requires side { side ≡ D.half }
     requires tile { IsTile x (length (M.items list.old)) }
     ensures { TileTurned 64 x (M.items list.old) (M.items list.new) }
 {
-    length_fits(list.len());
     match side {
         2 => {
             turn_squares(list, side, x, 0);
@@ -416,7 +442,7 @@ fn block_to(block: Block, side: usize, col: usize) -> [usize; 8]
 /// Puts `side` columns of a block, from column `col` on. If the block has 4 rows, the registers have
 /// each of its squares twice, and one of both is put.
 #[inline(always)]
-fn put_columns<T, D: Register<T>, S: RowSource<T, D>, M: Rows<T, D>>(
+fn put_columns<T, D: Register<T>, S: Runs<T, D>, M: Runs<T, D>>(
     cells: &mut M,
     source: &S,
     side: usize,
@@ -443,7 +469,7 @@ fn put_columns<T, D: Register<T>, S: RowSource<T, D>, M: Rows<T, D>>(
 
 /// Does what `Cells::put_block` does, by squares of `side` rows.
 #[inline(always)]
-pub(crate) fn put_block<T, D: Register<T>, S: RowSource<T, D>, M: Rows<T, D>>(
+pub(crate) fn put_block<T, D: Register<T>, S: Runs<T, D>, M: Runs<T, D>>(
     cells: &mut M,
     source: &S,
     side: usize,
@@ -456,8 +482,6 @@ pub(crate) fn put_block<T, D: Register<T>, S: RowSource<T, D>, M: Rows<T, D>>(
     requires block { BlockFits block (length (S.items source.now)) (length (M.items cells.old)) }
     ensures { IsBlockPut (block_items block) block (S.items source.now) (M.items cells.old) (M.items cells.new) }
 {
-    length_fits(source.len());
-    length_fits(cells.len());
     match (block.side, side) {
         (8, 2) => {
             put_columns(cells, source, side, block, 0);
@@ -485,7 +509,11 @@ pub(crate) struct Pair<R> {
 }
 
 impl<T, R: Register<T>> Register<T> for Pair<R> {
+    type Half = R;
+
     ghost items = { λ pair. R.items pair.a ++ R.items pair.b };
+
+    ghost half_items = { λ r. R.items r };
 
     ghost half = { 2 * R.half };
 
@@ -505,53 +533,15 @@ impl<T, R: Register<T>> Register<T> for Pair<R> {
         }
     }
 
+    #[inline(always)]
+    fn from_half(first: R) -> Self {
+        Pair { a: first, b: first }
+    }
+
+    #[inline(always)]
+    fn halves(self) -> (R, R) {
+        (self.a, self.b)
+    }
+
     ghost full = { λ pair. length_of_pair (R.items pair.a) (R.items pair.b) R.half (R.full pair.a) (R.full pair.b) };
-}
-
-/// A list in which a run of items can be read or written at once.
-pub(crate) trait Runs<T, R: Register<T>> {
-    ghost items: { Self → List T };
-
-    /// The number of items.
-    fn len(&self) -> usize
-        ensures { result ≡ length (items self.now) };
-
-    /// Reads a run.
-    fn load(&self, place: usize) -> R
-        requires { place + 2 * R.half ≤ length (items self.now) }
-        ensures { (t : ℕ) → t < 2 * R.half → slice_get (R.items result) t ≡ slice_get (items self.now) (place + t) };
-
-    /// Writes a run.
-    fn store(&mut self, place: usize, run: R)
-        requires { place + 2 * R.half ≤ length (items self.old) }
-        ensures { IsRunStored (2 * R.half) place (R.items run) (items self.old) (items self.new) };
-}
-
-/// A list whose runs are read and written two at a time.
-pub(crate) struct InPairs<L>(pub L);
-
-impl<T, R: Register<T>, L: Runs<T, R>> RowSource<T, Pair<R>> for InPairs<L> {
-    ghost items = { λ list. L.items list.0 };
-
-    #[inline(always)]
-    fn len(&self) -> usize {
-        self.0.len()
-    }
-
-    #[inline(always)]
-    fn load(&self, first: usize, second: usize) -> Pair<R> {
-        let (a, b) = (self.0.load(first), self.0.load(second));
-        Pair {
-            a: a.low(b),
-            b: a.high(b),
-        }
-    }
-}
-
-impl<T, R: Register<T>, L: Runs<T, R>> Rows<T, Pair<R>> for InPairs<L> {
-    #[inline(always)]
-    fn store(&mut self, first: usize, second: usize, rows: Pair<R>) {
-        self.0.store(first, rows.a);
-        self.0.store(second, rows.b);
-    }
 }

@@ -10,10 +10,13 @@
 //! [`exchange_tiles`], [`turn_tile`] and [`put_block`] leave the list that the methods of these names in
 //! [`places`](crate::kernels::places) leave. A holder's own method may call them.
 
-use crate::kernels::places::{Block, length_fits};
+use crate::kernels::places::Block;
 
 /// Some items, one after another, as many for each register of a type.
 pub(crate) trait Register<T>: Copy {
+    /// The items of one half of a register.
+    type Half: Copy;
+
     /// Interleaves the first halves of two registers.
     ///
     /// # Contract
@@ -31,45 +34,48 @@ pub(crate) trait Register<T>: Copy {
     /// ensures { AreInterleaved half half half (items self) (items other) (items result) }
     /// ```
     fn high(self, other: Self) -> Self;
+
+    /// A register whose first half is this one. Its second half may be anything.
+    ///
+    /// # Contract
+    ///
+    /// ```text
+    /// ensures { (t : ℕ) → t < half → slice_get (items result) t ≡ slice_get (half_items first) t }
+    /// ```
+    fn from_half(first: Self::Half) -> Self;
+
+    /// Both halves of a register.
+    ///
+    /// # Contract
+    ///
+    /// ```text
+    /// ensures first { (t : ℕ) → t < half → slice_get (half_items result.0) t ≡ slice_get (items self) t }
+    /// ensures second { (t : ℕ) → t < half → slice_get (half_items result.1) t ≡ slice_get (items self) (half + t) }
+    /// ```
+    fn halves(self) -> (Self::Half, Self::Half);
 }
 
-/// A list from which two runs of items can be read at once.
-pub(crate) trait RowSource<T, D: Register<T>> {
-    /// The number of items.
+/// A list in which a run of items, half a register, can be read or written at once.
+pub(crate) trait Runs<T, D: Register<T>> {
+    /// Reads the run from `place` on.
     ///
     /// # Contract
     ///
     /// ```text
-    /// ensures { result ≡ length (items self.now) }
+    /// requires { place + D.half ≤ length (items self.now) }
+    /// ensures { (t : ℕ) → t < D.half → slice_get (D.half_items result) t ≡ slice_get (items self.now) (place + t) }
     /// ```
-    fn len(&self) -> usize;
+    fn load(&self, place: usize) -> D::Half;
 
-    /// Reads two runs, interleaved.
+    /// Writes the run from `place` on.
     ///
     /// # Contract
     ///
     /// ```text
-    /// requires first { first + D.half ≤ length (items self.now) }
-    /// requires second { second + D.half ≤ length (items self.now) }
-    /// ensures { AreInterleaved D.half first second (items self.now) (items self.now) (D.items result) }
+    /// requires { place + D.half ≤ length (items self.old) }
+    /// ensures { IsRunStored D.half place (D.half_items run) (items self.old) (items self.new) }
     /// ```
-    fn load(&self, first: usize, second: usize) -> D;
-}
-
-/// A list in which two runs of items can be read or written at once.
-pub(crate) trait Rows<T, D: Register<T>>: RowSource<T, D> {
-    /// Writes the first half of a register from place `first` on, and the second half from place
-    /// `second` on.
-    ///
-    /// # Contract
-    ///
-    /// ```text
-    /// requires apart { (first + D.half ≤ second) ⊎ (second + D.half ≤ first) }
-    /// requires first { first + D.half ≤ length (Self.items self.old) }
-    /// requires second { second + D.half ≤ length (Self.items self.old) }
-    /// ensures { IsStored D.half first second (D.items rows) (Self.items self.old) (Self.items self.new) }
-    /// ```
-    fn store(&mut self, first: usize, second: usize, rows: D);
+    fn store(&mut self, place: usize, run: D::Half);
 }
 
 /// Four registers.
@@ -99,6 +105,20 @@ fn next_stage<T, D: Register<T>>(four: Four<D>) -> Four<D> {
     }
 }
 
+/// Reads two runs and interleaves them.
+///
+/// # Contract
+///
+/// ```text
+/// requires first { first + D.half ≤ length (S.items list.now) }
+/// requires second { second + D.half ≤ length (S.items list.now) }
+/// ensures { AreInterleaved D.half first second (S.items list.now) (S.items list.now) (D.items result) }
+/// ```
+#[inline(always)]
+fn load_two<T, D: Register<T>, S: Runs<T, D>>(list: &S, first: usize, second: usize) -> D {
+    D::from_half(list.load(first)).low(D::from_half(list.load(second)))
+}
+
 /// Reads 8 runs. Each register has two of them, interleaved: the first stage is made as they are read.
 ///
 /// # Contract
@@ -108,12 +128,12 @@ fn next_stage<T, D: Register<T>>(four: Four<D>) -> Four<D> {
 /// ensures { AreLoaded D.half from (S.items list.now) (items_of_four D.items result) }
 /// ```
 #[inline(always)]
-fn load<T, D: Register<T>, S: RowSource<T, D>>(list: &S, from: [usize; 8]) -> Four<D> {
+fn load<T, D: Register<T>, S: Runs<T, D>>(list: &S, from: [usize; 8]) -> Four<D> {
     Four {
-        a: list.load(from[0], from[4]),
-        b: list.load(from[1], from[5]),
-        c: list.load(from[2], from[6]),
-        d: list.load(from[3], from[7]),
+        a: load_two(list, from[0], from[4]),
+        b: load_two(list, from[1], from[5]),
+        c: load_two(list, from[2], from[6]),
+        d: load_two(list, from[3], from[7]),
     }
 }
 
@@ -153,7 +173,7 @@ fn in_order(places: [usize; 8], side: usize) -> [usize; 8] {
 /// ensures { AreColumns D.half places (S.items list.now) (items_of_four D.items result) }
 /// ```
 #[inline(always)]
-fn load_columns<T, D: Register<T>, S: RowSource<T, D>>(
+fn load_columns<T, D: Register<T>, S: Runs<T, D>>(
     list: &S,
     side: usize,
     places: [usize; 8],
@@ -169,6 +189,23 @@ fn load_columns<T, D: Register<T>, S: RowSource<T, D>>(
     next_stage(two)
 }
 
+/// Writes the first half of a register from place `first` on, and the second half from place `second` on.
+///
+/// # Contract
+///
+/// ```text
+/// requires apart { (first + D.half ≤ second) ⊎ (second + D.half ≤ first) }
+/// requires first { first + D.half ≤ length (M.items list.old) }
+/// requires second { second + D.half ≤ length (M.items list.old) }
+/// ensures { IsStored D.half first second (D.items rows) (M.items list.old) (M.items list.new) }
+/// ```
+#[inline(always)]
+fn store_two<T, D: Register<T>, M: Runs<T, D>>(list: &mut M, first: usize, second: usize, rows: D) {
+    let (a, b) = rows.halves();
+    list.store(first, a);
+    list.store(second, b);
+}
+
 /// Stores the first two registers.
 ///
 /// # Contract
@@ -179,9 +216,9 @@ fn load_columns<T, D: Register<T>, S: RowSource<T, D>>(
 /// ensures { AreStored 4 D.half to (items_of_four D.items four) (M.items list.old) (M.items list.new) }
 /// ```
 #[inline(always)]
-fn store_half<T, D: Register<T>, M: Rows<T, D>>(list: &mut M, to: [usize; 8], four: Four<D>) {
-    list.store(to[0], to[1], four.a);
-    list.store(to[2], to[3], four.b);
+fn store_half<T, D: Register<T>, M: Runs<T, D>>(list: &mut M, to: [usize; 8], four: Four<D>) {
+    store_two(list, to[0], to[1], four.a);
+    store_two(list, to[2], to[3], four.b);
 }
 
 /// Stores four registers.
@@ -194,10 +231,10 @@ fn store_half<T, D: Register<T>, M: Rows<T, D>>(list: &mut M, to: [usize; 8], fo
 /// ensures { AreStored 8 D.half to (items_of_four D.items four) (M.items list.old) (M.items list.new) }
 /// ```
 #[inline(always)]
-fn store<T, D: Register<T>, M: Rows<T, D>>(list: &mut M, to: [usize; 8], four: Four<D>) {
+fn store<T, D: Register<T>, M: Runs<T, D>>(list: &mut M, to: [usize; 8], four: Four<D>) {
     store_half(list, to, four);
-    list.store(to[4], to[5], four.c);
-    list.store(to[6], to[7], four.d);
+    store_two(list, to[4], to[5], four.c);
+    store_two(list, to[6], to[7], four.d);
 }
 
 /// The number of the row of a square that is row `c` of all squares, if these have `side` rows.
@@ -266,7 +303,7 @@ fn in_columns(y: [usize; 8], col: usize) -> [usize; 8] {
 /// ensures { RowsExchanged row (row + side) x y (M.items list.old) (M.items list.new) }
 /// ```
 #[inline(always)]
-fn exchange_band<T, D: Register<T>, M: Rows<T, D>>(
+fn exchange_band<T, D: Register<T>, M: Runs<T, D>>(
     list: &mut M,
     side: usize,
     x: [usize; 8],
@@ -292,13 +329,12 @@ fn exchange_band<T, D: Register<T>, M: Rows<T, D>>(
 /// ensures { TilesExchanged 64 x y (M.items list.old) (M.items list.new) }
 /// ```
 #[inline(always)]
-pub(crate) fn exchange_tiles<T, D: Register<T>, M: Rows<T, D>>(
+pub(crate) fn exchange_tiles<T, D: Register<T>, M: Runs<T, D>>(
     list: &mut M,
     side: usize,
     x: [usize; 8],
     y: [usize; 8],
 ) {
-    length_fits(list.len());
     match side {
         2 => {
             exchange_band(list, side, x, y, 0);
@@ -383,7 +419,7 @@ fn turned_to(x: [usize; 8], side: usize, sum: usize) -> [usize; 8] {
 /// ensures { SquaresTurned sum (sum + side) side x (M.items list.old) (M.items list.new) }
 /// ```
 #[inline(always)]
-fn turn_squares<T, D: Register<T>, M: Rows<T, D>>(
+fn turn_squares<T, D: Register<T>, M: Runs<T, D>>(
     list: &mut M,
     side: usize,
     x: [usize; 8],
@@ -404,8 +440,7 @@ fn turn_squares<T, D: Register<T>, M: Rows<T, D>>(
 /// ensures { TileTurned 64 x (M.items list.old) (M.items list.new) }
 /// ```
 #[inline(always)]
-pub(crate) fn turn_tile<T, D: Register<T>, M: Rows<T, D>>(list: &mut M, side: usize, x: [usize; 8]) {
-    length_fits(list.len());
+pub(crate) fn turn_tile<T, D: Register<T>, M: Runs<T, D>>(list: &mut M, side: usize, x: [usize; 8]) {
     match side {
         2 => {
             turn_squares(list, side, x, 0);
@@ -520,7 +555,7 @@ fn block_to(block: Block, side: usize, col: usize) -> [usize; 8] {
 /// ensures { ColumnsPut col (col + side) block (S.items source.now) (M.items cells.old) (M.items cells.new) }
 /// ```
 #[inline(always)]
-fn put_columns<T, D: Register<T>, S: RowSource<T, D>, M: Rows<T, D>>(
+fn put_columns<T, D: Register<T>, S: Runs<T, D>, M: Runs<T, D>>(
     cells: &mut M,
     source: &S,
     side: usize,
@@ -549,14 +584,12 @@ fn put_columns<T, D: Register<T>, S: RowSource<T, D>, M: Rows<T, D>>(
 /// ensures { IsBlockPut (block_items block) block (S.items source.now) (M.items cells.old) (M.items cells.new) }
 /// ```
 #[inline(always)]
-pub(crate) fn put_block<T, D: Register<T>, S: RowSource<T, D>, M: Rows<T, D>>(
+pub(crate) fn put_block<T, D: Register<T>, S: Runs<T, D>, M: Runs<T, D>>(
     cells: &mut M,
     source: &S,
     side: usize,
     block: Block,
 ) {
-    length_fits(source.len());
-    length_fits(cells.len());
     match (block.side, side) {
         (8, 2) => {
             put_columns(cells, source, side, block, 0);
@@ -584,6 +617,8 @@ pub(crate) struct Pair<R> {
 }
 
 impl<T, R: Register<T>> Register<T> for Pair<R> {
+    type Half = R;
+
     #[inline(always)]
     fn low(self, other: Self) -> Self {
         Pair {
@@ -599,63 +634,14 @@ impl<T, R: Register<T>> Register<T> for Pair<R> {
             b: self.b.high(other.b),
         }
     }
-}
 
-/// A list in which a run of items can be read or written at once.
-pub(crate) trait Runs<T, R: Register<T>> {
-    /// The number of items.
-    ///
-    /// # Contract
-    ///
-    /// ```text
-    /// ensures { result ≡ length (items self.now) }
-    /// ```
-    fn len(&self) -> usize;
-
-    /// Reads a run.
-    ///
-    /// # Contract
-    ///
-    /// ```text
-    /// requires { place + 2 * R.half ≤ length (items self.now) }
-    /// ensures { (t : ℕ) → t < 2 * R.half → slice_get (R.items result) t ≡ slice_get (items self.now) (place + t) }
-    /// ```
-    fn load(&self, place: usize) -> R;
-
-    /// Writes a run.
-    ///
-    /// # Contract
-    ///
-    /// ```text
-    /// requires { place + 2 * R.half ≤ length (items self.old) }
-    /// ensures { IsRunStored (2 * R.half) place (R.items run) (items self.old) (items self.new) }
-    /// ```
-    fn store(&mut self, place: usize, run: R);
-}
-
-/// A list whose runs are read and written two at a time.
-pub(crate) struct InPairs<L>(pub L);
-
-impl<T, R: Register<T>, L: Runs<T, R>> RowSource<T, Pair<R>> for InPairs<L> {
     #[inline(always)]
-    fn len(&self) -> usize {
-        self.0.len()
+    fn from_half(first: R) -> Self {
+        Pair { a: first, b: first }
     }
 
     #[inline(always)]
-    fn load(&self, first: usize, second: usize) -> Pair<R> {
-        let (a, b) = (self.0.load(first), self.0.load(second));
-        Pair {
-            a: a.low(b),
-            b: a.high(b),
-        }
-    }
-}
-
-impl<T, R: Register<T>, L: Runs<T, R>> Rows<T, Pair<R>> for InPairs<L> {
-    #[inline(always)]
-    fn store(&mut self, first: usize, second: usize, rows: Pair<R>) {
-        self.0.store(first, rows.a);
-        self.0.store(second, rows.b);
+    fn halves(self) -> (R, R) {
+        (self.a, self.b)
     }
 }

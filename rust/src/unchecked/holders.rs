@@ -9,9 +9,9 @@ use core::ptr;
 use core::slice::from_raw_parts;
 use core::sync::atomic::{Ordering, compiler_fence};
 
-use super::registers::{self, Items, List};
+use super::registers::{self, Items};
 use crate::kernels::places::{Block, Cells, Places, Source};
-use crate::kernels::registers::{self as squares, InPairs, Pair};
+use crate::kernels::registers::{self as squares, Pair, Register, Runs};
 
 /// Whether this processor moves unaligned bytes as fast as aligned ones. Otherwise each item is moved as its type says.
 pub(super) const MOVES_BYTES: bool = cfg!(any(target_arch = "x86_64", target_arch = "aarch64"));
@@ -223,21 +223,11 @@ impl<F> Places for SliceItems<'_, F> {
     #[allow(clippy::needless_range_loop, reason = "a tile is reached by row and column")]
     fn exchange_tiles(&mut self, x: [usize; 8], y: [usize; 8]) {
         debug_assert!(are_tiles(x, y, self.len));
-        // SAFETY (of both): the 8 items from each of these places on are within the slice, and no two of these runs
-        // overlap, by the precondition of `Places::exchange_tiles`. It is that of `squares::exchange_tiles`, whose
-        // calls of `load` and `store` are proved to be within the list.
-        let mut list = unsafe { List::new(self.first, self.len) };
         match const { size_of::<F>() } {
-            1 if registers::USES_REGISTERS => squares::exchange_tiles::<F, Items<1>, _>(&mut list, 8, x, y),
-            2 if registers::USES_REGISTERS => {
-                squares::exchange_tiles::<F, Pair<Items<2>>, _>(&mut InPairs(list), 8, x, y)
-            }
-            4 if registers::USES_REGISTERS => {
-                squares::exchange_tiles::<F, Pair<Items<4>>, _>(&mut InPairs(list), 4, x, y)
-            }
-            8 if registers::USES_REGISTERS => {
-                squares::exchange_tiles::<F, Pair<Items<8>>, _>(&mut InPairs(list), 2, x, y)
-            }
+            1 if registers::USES_REGISTERS => squares::exchange_tiles::<F, Items<1>, _>(self, 8, x, y),
+            2 if registers::USES_REGISTERS => squares::exchange_tiles::<F, Pair<Items<2>>, _>(self, 8, x, y),
+            4 if registers::USES_REGISTERS => squares::exchange_tiles::<F, Pair<Items<4>>, _>(self, 4, x, y),
+            8 if registers::USES_REGISTERS => squares::exchange_tiles::<F, Pair<Items<8>>, _>(self, 2, x, y),
             _ => {
                 for row in (0..8).step_by(4) {
                     for col in (0..8).step_by(4) {
@@ -257,15 +247,11 @@ impl<F> Places for SliceItems<'_, F> {
     #[inline(always)]
     fn turn_tile(&mut self, x: [usize; 8]) {
         debug_assert!(are_rows(x, self.len));
-        // SAFETY: the 8 items from each of these places on are within the slice, and no two of these runs overlap, by
-        // the precondition of `Places::turn_tile`. It is that of `squares::turn_tile`, whose calls of `load` and
-        // `store` are proved to be within the list.
-        let mut list = unsafe { List::new(self.first, self.len) };
         match const { size_of::<F>() } {
-            1 if registers::USES_REGISTERS => squares::turn_tile::<F, Items<1>, _>(&mut list, 8, x),
-            2 if registers::USES_REGISTERS => squares::turn_tile::<F, Pair<Items<2>>, _>(&mut InPairs(list), 8, x),
-            4 if registers::USES_REGISTERS => squares::turn_tile::<F, Pair<Items<4>>, _>(&mut InPairs(list), 4, x),
-            8 if registers::USES_REGISTERS => squares::turn_tile::<F, Pair<Items<8>>, _>(&mut InPairs(list), 2, x),
+            1 if registers::USES_REGISTERS => squares::turn_tile::<F, Items<1>, _>(self, 8, x),
+            2 if registers::USES_REGISTERS => squares::turn_tile::<F, Pair<Items<2>>, _>(self, 8, x),
+            4 if registers::USES_REGISTERS => squares::turn_tile::<F, Pair<Items<4>>, _>(self, 4, x),
+            8 if registers::USES_REGISTERS => squares::turn_tile::<F, Pair<Items<8>>, _>(self, 2, x),
             _ => {
                 for row in 0..8 {
                     for col in row + 1..8 {
@@ -353,22 +339,37 @@ impl<T: Copy> Cells for SliceItems<'_, T> {
             _ => return Singly(self).put_block(source, block),
         };
         debug_assert!(block_fits(block, items.len(), self.len));
-        // SAFETY: the items of the block are within the source and its cells within this slice, by the precondition
-        // of `Cells::put_block`, whose clause `apart` also says that no two columns overlap. It is that of
-        // `squares::put_block`, which stores into the cells alone: it has only a reference to the source.
-        let (items, mut cells) = unsafe {
-            (
-                List::new(items.as_ptr().cast_mut(), items.len()),
-                List::new(self.first, self.len),
-            )
+        // These items are only read: `squares::put_block` has a shared reference to them.
+        let items = &SliceItems {
+            first: items.as_ptr().cast_mut(),
+            len: items.len(),
+            slice: PhantomData,
         };
         match const { size_of::<T>() } {
-            1 => squares::put_block::<T, Items<1>, _, _>(&mut cells, &items, 8, block),
-            2 => squares::put_block::<T, Pair<Items<2>>, _, _>(&mut InPairs(cells), &InPairs(items), 8, block),
-            4 => squares::put_block::<T, Pair<Items<4>>, _, _>(&mut InPairs(cells), &InPairs(items), 4, block),
-            8 => squares::put_block::<T, Pair<Items<8>>, _, _>(&mut InPairs(cells), &InPairs(items), 2, block),
+            1 => squares::put_block::<T, Items<1>, _, _>(self, items, 8, block),
+            2 => squares::put_block::<T, Pair<Items<2>>, _, _>(self, items, 8, block),
+            4 => squares::put_block::<T, Pair<Items<4>>, _, _>(self, items, 4, block),
+            8 => squares::put_block::<T, Pair<Items<8>>, _, _>(self, items, 2, block),
             _ => unreachable!(),
         }
+    }
+}
+
+/// Runs of the items, which fill half a register `D`. The functions of `kernels/registers.rs` are proved to read and
+/// write within the list alone, if their own precondition holds. It is that of the method which calls them.
+impl<T, D: Register<T>> Runs<T, D> for SliceItems<'_, T> {
+    #[inline(always)]
+    fn load(&self, place: usize) -> D::Half {
+        debug_assert!(place + size_of::<D::Half>() / size_of::<T>() <= self.len);
+        // SAFETY: the items are within the list, by the `requires` of `Runs::load`.
+        unsafe { self.first.add(place).cast::<D::Half>().read_unaligned() }
+    }
+
+    #[inline(always)]
+    fn store(&mut self, place: usize, run: D::Half) {
+        debug_assert!(place + size_of::<D::Half>() / size_of::<T>() <= self.len);
+        // SAFETY: the items are within the list, by the `requires` of `Runs::store`.
+        unsafe { self.first.add(place).cast::<D::Half>().write_unaligned(run) }
     }
 }
 

@@ -5,13 +5,9 @@ use std::array::from_fn;
 use std::boxed::Box;
 use std::cmp::Ordering;
 use std::fmt::Debug;
-#[cfg(not(feature = "checked"))]
-use std::mem::transmute_copy;
 use std::num::NonZero;
 use std::vec::Vec;
 
-#[cfg(not(feature = "checked"))]
-use super::registers::Register;
 use super::{SliceCells, SlicePlaces, SliceSource};
 use crate::kernels::places::{Block, Cells, Places, Source};
 use crate::kernels::transpose::{Matrix, Strips, transpose_matrix, transpose_square};
@@ -342,52 +338,50 @@ fn blocks_of_parts() {
     }
 }
 
-/// Shuffles two registers that hold these items. Returns the items of the result.
-#[cfg(not(feature = "checked"))]
-fn shuffled<T: Copy, const N: usize>(shuffle: fn(Register, Register) -> Register, operands: [[T; N]; 2]) -> [T; N] {
-    const { assert!(size_of::<[T; N]>() == size_of::<Register>()) };
-    let [a, b] = operands;
-    // SAFETY: this many items fill a register, and a shuffle keeps items whole.
-    unsafe { transmute_copy(&shuffle(transmute_copy(&a), transmute_copy(&b))) }
-}
-
-/// Each shuffle alone. The items of the first operand have the lowest numbers, and no two bytes are equal, so the
-/// result shows where each item of both operands goes.
+/// Each shuffle alone: both interleaves of two registers, and both halves of one, next to those of lists. No two bytes are
+/// equal, so the result shows where each of them goes.
 #[cfg(not(feature = "checked"))]
 #[test]
 fn shuffles() {
-    use super::{USES_REGISTERS, registers};
+    use super::USES_REGISTERS;
+    use super::holders::SliceItems;
+    use super::registers::Items;
+    use crate::kernels::registers::{Pair, Register, Runs};
+
+    fn compare<const N: usize>()
+    where
+        Items<N>: Register<[u8; N]>,
+    {
+        let lists: [Vec<[u8; N]>; 2] = [0, 16].map(|first| {
+            (0..16 / N)
+                .map(|i| from_fn(|byte| (first + N * i + byte) as u8))
+                .collect()
+        });
+        let mut list = lists.concat();
+        let mut runs = SliceItems::new(&mut list);
+        let [a, b] = [0, 16 / N].map(|place| Runs::<_, Pair<Items<N>>>::load(&runs, place));
+        Runs::<_, Pair<Items<N>>>::store(&mut runs, 0, a.low(b));
+        Runs::<_, Pair<Items<N>>>::store(&mut runs, 16 / N, a.high(b));
+        let interleaved: Vec<[u8; N]> = lists[0].iter().zip(&lists[1]).flat_map(|(a, b)| [*a, *b]).collect();
+        assert_eq!(list, interleaved);
+
+        let mut list = lists[0].clone();
+        let mut runs = SliceItems::new(&mut list);
+        let (first, second) = a.halves();
+        Runs::<_, Items<N>>::store(&mut runs, 0, second);
+        Runs::<_, Items<N>>::store(&mut runs, 8 / N, Items::<N>::from_half(first).halves().0);
+        let (first, second) = lists[0].split_at(8 / N);
+        assert_eq!(list, [second, first].concat());
+    }
 
     let has_registers = cfg!(target_arch = "x86_64") || cfg!(all(target_arch = "aarch64", target_endian = "little"));
     assert_eq!(USES_REGISTERS, has_registers && cfg!(not(miri)));
-    if !USES_REGISTERS {
-        return;
+    if USES_REGISTERS {
+        compare::<1>();
+        compare::<2>();
+        compare::<4>();
+        compare::<8>();
     }
-    let of_2 = |number: u8| [number, number + 32];
-    let operands: [[u8; 16]; 2] = [0, 16].map(|first| from_fn(|i| first + i as u8));
-    let in_turn: [u8; 16] = from_fn(|i| (i / 2 + i % 2 * 16) as u8);
-    assert_eq!(shuffled(registers::low_1, operands), in_turn);
-    assert_eq!(shuffled(registers::high_1, operands), in_turn.map(|number| number + 8));
-    let operands = [
-        [0, 1, 2, 3, 4, 5, 6, 7].map(of_2),
-        [8, 9, 10, 11, 12, 13, 14, 15].map(of_2),
-    ];
-    assert_eq!(
-        shuffled(registers::low_2, operands),
-        [0, 8, 1, 9, 2, 10, 3, 11].map(of_2)
-    );
-    assert_eq!(
-        shuffled(registers::high_2, operands),
-        [4, 12, 5, 13, 6, 14, 7, 15].map(of_2)
-    );
-    let of_4 = |number: u8| [0, 64, 128, 192].map(|part| part + number);
-    let of_8 = |number: u8| [0, 32, 64, 96, 128, 160, 192, 224].map(|part| part + number);
-    let operands = [[0, 1, 2, 3].map(of_4), [4, 5, 6, 7].map(of_4)];
-    assert_eq!(shuffled(registers::low_4, operands), [0, 4, 1, 5].map(of_4));
-    assert_eq!(shuffled(registers::high_4, operands), [2, 6, 3, 7].map(of_4));
-    let operands = [[0, 1].map(of_8), [2, 3].map(of_8)];
-    assert_eq!(shuffled(registers::low_8, operands), [0, 2].map(of_8));
-    assert_eq!(shuffled(registers::high_8, operands), [1, 3].map(of_8));
 }
 
 #[cfg(all(target_os = "linux", not(miri), not(feature = "checked")))]

@@ -6,4 +6,4 @@ use Rattle.p3_util_kernels.proofs.registers.store_half.Goals as goal
 pub returns : goal.returns
 returns g c =
     AreStored-more 1 _ _ _ _ _ _ _ (λ t. refl) c.requires.apart
-    (AreStored-more 0 _ _ _ _ _ _ _ (λ t. refl) (λ a b h k. c.requires.apart a b h (omega arith)) (AreStored-none _ _ _ _) c.store.ensures) c.store-2.ensures
+    (AreStored-more 0 _ _ _ _ _ _ _ (λ t. refl) (λ a b h k. c.requires.apart a b h (omega arith)) (AreStored-none _ _ _ _) c.store_two.ensures) c.store_two-2.ensures
