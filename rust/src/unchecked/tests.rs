@@ -515,20 +515,30 @@ fn shares() {
     let mut items = super::PartItems::in_shares(&mut list, 3);
     let (mut first, mut second) = (items.share(), items.share());
     first.put(2, 7);
+    first.exchange(0, 1);
     second.put(3, 8);
     second.exchange(3, 4);
-    assert_eq!(Cells::len(&second), 5);
-    let refuses = |outside, share: &mut super::PartItems<i32>| {
-        assert!(
-            catch_unwind(AssertUnwindSafe(|| share.put(outside, 9))).is_err(),
-            "{outside}"
-        );
+    assert_eq!([Cells::len(&first), Cells::len(&second), Places::len(&second)], [5; 3]);
+    let is_refused = |call: &mut dyn FnMut()| catch_unwind(AssertUnwindSafe(call)).is_err();
+    let refuses = |share: &mut super::PartItems<i32>, inside: usize, outside: &[usize]| {
+        for outside in outside {
+            assert!(is_refused(&mut || share.put(*outside, 9)), "{outside}");
+            assert!(
+                is_refused(&mut || share.exchange(inside, *outside)),
+                "{inside} {outside}"
+            );
+            assert!(
+                is_refused(&mut || share.exchange(*outside, inside)),
+                "{outside} {inside}"
+            );
+            assert!(is_refused(&mut || share.exchange(*outside, *outside)), "{outside}");
+        }
     };
-    refuses(3, &mut first);
-    refuses(2, &mut second);
-    refuses(5, &mut second);
-    refuses(0, &mut items);
-    assert_eq!(list, [0, 1, 7, 4, 8]);
+    refuses(&mut first, 1, &[3, 4, 5, usize::MAX]);
+    refuses(&mut second, 4, &[0, 2, 5, 6, usize::MAX]);
+    // Without places, every one is outside.
+    refuses(&mut items, 5, &[0, 3, 4, 5, usize::MAX]);
+    assert_eq!(list, [1, 0, 7, 4, 8]);
 }
 
 /// The parts of a reversal exchange rows of a usual size as a whole, single items too, and other rows as runs of bytes.

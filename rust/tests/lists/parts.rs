@@ -10,7 +10,7 @@ use p3_util_proved::parts::*;
 use p3_util_proved::reverse_slice_row_index_bits;
 
 use crate::common::{Owner, reversed, transposed};
-use crate::refusal::refusal;
+use crate::refusal::{Refusal, refusal, text_of_transpose};
 
 /// Runs the parts on `threads` threads. Each thread takes the next part when it is done with the one before.
 fn run_on<P: Send>(threads: usize, parts: impl Iterator<Item = P> + Send, run: impl Fn(P) + Sync) {
@@ -305,7 +305,7 @@ fn a_warning_where_parts_are_thrown_away() {
     assert_eq!((list, output), ([0, 1, 2, 3], [0; 4]));
 }
 
-/// The panics of the calls themselves. They name the caller's line.
+/// The panics of the calls themselves. They name the caller's file.
 #[test]
 fn panics_of_the_calls() {
     use p3_util_proved as call;
@@ -330,31 +330,27 @@ fn panics_of_the_calls() {
             || reverse_slice_row_index_bits(&mut [0u8; 9], 3),
             || _ = row_reversal(&mut [0u8; 9], 3, 2),
         ],
-        [
-            || call::transpose::transpose(&[0u8; 5], &mut [0; 6], 3, 2),
-            || _ = transpose(&[0u8; 5], &mut [0; 6], 3, 2, 2),
-        ],
-        [
-            || call::transpose::transpose(&[0u8; 6], &mut [0; 5], 3, 2),
-            || _ = transpose(&[0u8; 6], &mut [0; 5], 3, 2, 2),
-        ],
-        [
-            || call::transpose::transpose(&[0u8; 7], &mut [0; 6], 3, 2),
-            || _ = transpose(&[0u8; 7], &mut [0; 6], 3, 2, 2),
-        ],
-        [
-            || call::transpose::transpose(&[0u8; 6], &mut [0; 7], 3, 2),
-            || _ = transpose(&[0u8; 6], &mut [0; 7], 3, 2, 2),
-        ],
-        // The product is 2^64, which wraps to zero.
-        [
-            || call::transpose::transpose::<u8>(&[], &mut [], 1 << 32, 1 << 32),
-            || _ = transpose::<u8>(&[], &mut [], 1 << 32, 1 << 32, 3),
-        ],
     ];
-    for [call, in_parts] in pairs {
-        let panic = refusal(in_parts).unwrap();
-        assert_eq!(panic, refusal(call).unwrap());
-        assert_eq!(panic.file, file!());
+    for calls in pairs {
+        let [panic, in_parts] = calls.map(|call| refusal(call).unwrap());
+        assert_eq!(panic.text, in_parts.text);
+        assert_eq!([panic.file, in_parts.file], [file!(); 2]);
+    }
+}
+
+/// A transpose in parts refuses the same lengths as the original, with its text and with the caller's line. The last
+/// product is 2^64, which wraps to zero.
+#[test]
+fn lengths_that_do_not_fit() {
+    let lengths = (0..=8).flat_map(|input| (0..=8).map(move |output| (input, output)));
+    for ((input, output), (width, height)) in
+        lengths.flat_map(|it| [(3, 2), (7, 1), (1 << 32, 1 << 32)].map(|shape| (it, shape)))
+    {
+        let (from, mut to) = (vec![0u8; input], vec![0; output]);
+        let line = line!() + 1;
+        let refused = refusal(|| _ = transpose(&from, &mut to, width, height, 2));
+        let text = text_of_transpose(input, output, width as u128 * height as u128);
+        let file = file!().to_owned();
+        assert_eq!(refused, text.map(|text| Refusal { text, file, line }));
     }
 }

@@ -4,7 +4,7 @@ use p3_util_proved::linear_map::LinearMap;
 use p3_util_proved::transpose::transpose;
 use p3_util_proved::*;
 
-use crate::refusal::{panics, refusal};
+use crate::refusal::{Refusal, panics, refusal, text_of_transpose};
 
 /// Asserts that a call panics with the original's full text, as a build of the original with debug assertions prints
 /// it. The panic names the caller's file.
@@ -112,37 +112,65 @@ fn rows_that_no_memory_holds() {
     }
 }
 
-#[test]
-fn matrices_of_other_lengths() {
-    let input: Vec<u16> = (0..31).collect();
-    for (input_len, output_len) in [
-        (29, 30),
-        (30, 29),
-        (29, 29),
-        (31, 30),
-        (30, 31),
-        (31, 31),
-        (0, 30),
-        (30, 0),
-    ] {
-        let mut output = vec![7; output_len];
-        assert!(panics(|| transpose(&input[..input_len], &mut output, 5, 6)));
-        assert!(output.iter().all(|it| *it == 7));
-        let (input, mut output) = (vec![(); input_len], vec![(); output_len]);
-        assert!(panics(|| transpose(&input, &mut output, 5, 6)));
-    }
+/// The panic of a transpose of lists of these lengths names the length that does not fit, as the original's does, and the
+/// caller's line. The output keeps its items.
+fn check_lengths(lengths: [usize; 2], (width, height): (usize, usize)) {
+    let product = width as u128 * height as u128;
+    let wanted = |line| {
+        let text = text_of_transpose(lengths[0], lengths[1], product)?;
+        let file = file!().to_owned();
+        Some(Refusal { text, file, line })
+    };
+    let (input, mut output) = (vec![8u16; lengths[0]], vec![7; lengths[1]]);
+    let line = line!() + 1;
+    let refused = refusal(|| transpose(&input, &mut output, width, height));
+    assert_eq!(refused, wanted(line));
+    assert!(refused.is_none() || output.iter().all(|it| *it == 7));
+    let (input, mut output) = (vec![(); lengths[0]], vec![(); lengths[1]]);
+    let line = line!() + 1;
+    let refused = refusal(|| transpose(&input, &mut output, width, height));
+    assert_eq!(refused, wanted(line));
 }
 
 #[test]
-fn matrices_whose_product_wraps() {
-    for (width, height, product) in [
-        (1 << 32, 1 << 32, "= 18446744073709551616\n"),
-        (1 << 63, 2, "= 18446744073709551616\n"),
-        (usize::MAX, usize::MAX, "= 340282366920938463426481119284349108225\n"),
+fn matrices_of_all_lengths() {
+    for (input, output) in (0..=13).flat_map(|input| (0..=13).map(move |output| (input, output))) {
+        for shape in [
+            (3, 4),
+            (4, 3),
+            (12, 1),
+            (1, 12),
+            (1, 1),
+            (0, 5),
+            (5, 0),
+            (usize::MAX, 0),
+        ] {
+            check_lengths([input, output], shape);
+        }
+    }
+    for lengths in [
+        [29, 30],
+        [30, 29],
+        [29, 29],
+        [31, 30],
+        [30, 31],
+        [31, 31],
+        [0, 30],
+        [30, 0],
+        [5000, 5001],
     ] {
-        let refused = refusal(|| transpose::<u64>(&[], &mut [], width, height)).unwrap();
-        assert!(refused.text.contains(product), "{refused:?}");
-        assert!(panics(|| transpose::<()>(&[], &mut [], width, height)));
-        assert!(panics(|| transpose(&[1u64], &mut [0u64], width, height)));
+        check_lengths(lengths, (5, 6));
+        check_lengths(lengths, (50, 100));
+    }
+}
+
+/// The products of these sides are 0 or 1 if they wrap. The text has the product without wrapping.
+#[test]
+fn matrices_whose_product_wraps() {
+    let shapes = [(1 << 32, 1 << 32), (1 << 63, 2), (2, 1 << 63), (usize::MAX, usize::MAX)];
+    for shape in shapes {
+        for lengths in [[0, 0], [1, 1], [0, 1], [1, 0]] {
+            check_lengths(lengths, shape);
+        }
     }
 }

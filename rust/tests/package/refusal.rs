@@ -6,19 +6,20 @@ use std::cell::Cell;
 use std::panic::{AssertUnwindSafe, catch_unwind, set_hook, take_hook};
 use std::sync::Once;
 
-/// The text of a panic, and the file that it names.
+/// The text of a panic, and the file and the line that it names.
 #[derive(Debug, PartialEq)]
 pub struct Refusal {
     pub text: String,
     pub file: String,
+    pub line: u32,
 }
 
 thread_local! {
     /// Whether a panic of this thread is expected, which means that it is caught and not shown.
     static EXPECTED: Cell<bool> = const { Cell::new(false) };
 
-    /// The file that the last panic named.
-    static FILE: Cell<Option<String>> = const { Cell::new(None) };
+    /// The file and the line that the last panic named.
+    static PLACE: Cell<Option<(String, u32)>> = const { Cell::new(None) };
 }
 
 /// The panic of `call`, if it panics.
@@ -27,7 +28,7 @@ pub fn refusal(call: impl FnOnce()) -> Option<Refusal> {
     HOOK.call_once(|| {
         let shown = take_hook();
         set_hook(Box::new(move |info| match info.location() {
-            Some(at) if EXPECTED.get() => FILE.set(Some(at.file().to_owned())),
+            Some(at) if EXPECTED.get() => PLACE.set(Some((at.file().to_owned(), at.line()))),
             _ => shown(info),
         }));
     });
@@ -39,8 +40,18 @@ pub fn refusal(call: impl FnOnce()) -> Option<Refusal> {
         Some(text) => text.clone(),
         None => payload.downcast_ref::<&str>()?.to_string(),
     };
-    let file = FILE.take()?;
-    Some(Refusal { text, file })
+    let (file, line) = PLACE.take()?;
+    Some(Refusal { text, file, line })
+}
+
+/// The text of the original's panic if it transposes lists of these lengths and `width * height` is `product`. It names
+/// the first length that does not fit.
+pub fn text_of_transpose(input: usize, output: usize, product: u128) -> Option<String> {
+    let lengths = [("Input", input), ("Output", output)];
+    let (name, len) = lengths.into_iter().find(|(_, len)| *len as u128 != product)?;
+    Some(format!(
+        "assertion `left == right` failed: {name} length {len} doesn't match width*height = {product}\n  left: {len}\n right: {product}"
+    ))
 }
 
 /// Whether `call` panics.

@@ -30,12 +30,12 @@ fn originals_answers() {
     }
 }
 
-/// The powers of two and of three, and their neighbours.
+/// The powers of two and of three, their neighbours, and the numbers up to 9.
 fn powers_and_neighbours() -> impl Iterator<Item = usize> {
     let twos = (0..64).map(|e| 1 << e);
     let threes = (0..=40).map(|e| 3usize.pow(e));
     let near = |n: usize| [n - 1, n, n.wrapping_add(1)];
-    twos.chain(threes).flat_map(near).chain([usize::MAX])
+    twos.chain(threes).flat_map(near).chain(0..=9).chain([usize::MAX])
 }
 
 #[test]
@@ -44,17 +44,42 @@ fn powers_and_their_neighbours() {
         let floor = (0..64).rev().find(|e| 1 << e <= n).unwrap_or(0);
         let ceil = (0..64).find(|e| n <= 1 << e).unwrap_or(64);
         assert_eq!((log2_floor_usize(n), log2_ceil_usize(n)), (floor, ceil), "{n}");
+        assert_eq!(log2_ceil_u64(n as u64), ceil as u64, "{n}");
         let two = (0..64).find(|e| n == 1 << e);
         let three = (0..=40).find(|e| n == 3usize.pow(*e));
         assert_eq!(two.is_none(), panics(|| _ = log2_strict_usize(n)), "{n}");
         assert_eq!(three.is_none(), panics(|| _ = log3_strict_usize(n)), "{n}");
         assert!(two.is_none_or(|e| log2_strict_usize(n) == e), "{n}");
         assert!(three.is_none_or(|e| log3_strict_usize(n) == e as usize), "{n}");
-        for bits in 1..=64 {
-            assert_eq!(reverse_bits_len(n, bits), reversed(bits as u32, n), "{n} {bits}");
+        // Both calls reverse all 64 digits if they are asked for none.
+        for bits in 0..=64 {
+            let wanted = reversed(if bits == 0 { 64 } else { bits }, n);
+            assert_eq!(reverse_bits_len(n, bits as usize), wanted, "{n} {bits}");
+            assert!(bits == 64 || reverse_bits(n, 1 << bits) == wanted, "{n} {bits}");
         }
-        assert_eq!(reverse_bits_len(n, 0), reversed(64, n), "{n}");
     }
+}
+
+/// Every number below 10 as the length of which `reverse_bits` takes the digits, and as the length of a list of indices.
+#[test]
+fn short_lengths() {
+    for n in 0..10_usize {
+        let is_refused = cfg!(debug_assertions) && !n.is_power_of_two();
+        for x in 0..40 {
+            // Without debug assertions, these are the digits below the lowest set digit of `n`, or all 64.
+            let bits = (0..63).find(|bit| n >> bit & 1 == 1).unwrap_or(0);
+            let wanted = reversed(if bits == 0 { 64 } else { bits }, x);
+            assert_eq!(panics(|| assert_eq!(reverse_bits(x, n), wanted)), is_refused, "{x} {n}");
+        }
+    }
+    fn check<const N: usize>() {
+        assert!(indices_arr::<N>().into_iter().eq(0..N), "{N}");
+    }
+    let of_each_length: [fn(); 10] = [
+        check::<0>, check::<1>, check::<2>, check::<3>, check::<4>, check::<5>, check::<6>, check::<7>, check::<8>,
+        check::<9>,
+    ];
+    of_each_length.into_iter().for_each(|check| check());
 }
 
 const ROWS: usize = 1 << 5;
