@@ -13,6 +13,16 @@ from rattle_source import DEFINITION, comment_above
 HEAD = "What the names and marks in the contracts mean."
 END = """No function of `kernels` tests its `requires`. The repository has each definition as the checker reads it, in
 `docs/contracts.txt`."""
+# The top of the page on parts.
+PARTS = """
+What is proved of the parts of a call: the contracts of the plans by which a call is cut, and the laws about all parts.
+
+A *plan* says how a call is cut: `TransposePlan` into regions of a matrix, and `ReversalPlan` into patches of a grid. `put` and
+`exchange` of a plan make the steps of one part. The functions of `laws.rt` are there only for their contracts, and are not
+part of this package. A clause that begins with `(steps : List ..)` holds for every list of steps. [The page
+above](super) explains the marks.
+"""
+NAMES = "Names of this package"
 # The page and its headings of the marks, and of the section that explains a contract clause by clause.
 PAGE, READ, READ_ALOUD = "docs/CALLING.md", "How a clause is read", "A contract, word by word"
 # The crates whose definitions the contracts of the package use.
@@ -157,9 +167,8 @@ def undefined(written, tables):
                 yield f"{path}: no row of {PAGE}, and no file in specs/, defines `{word}`, which the contract of {function} has"
 
 
-def shown(written, tables):
-    """The rows of each table for the names in the public contracts, and for the names that such rows have in backquotes."""
-    words = {word for text in written.values() for clauses, head in contracts(text) for word in used(clauses, head)}
+def shown(words, tables):
+    """The rows of each table for these names, and for the names that such rows have in backquotes."""
     before = None
     while words != before:
         before = set(words)
@@ -183,6 +192,28 @@ def page(written, calling, known):
         raise Undefined(line)
     lines = [HEAD, "", *section(calling, READ).strip().split("\n\n")[0].split("\n"), "", *END.split("\n")]
     lines += ["", f"# {READ_ALOUD}", "", *read_aloud(section(calling, READ_ALOUD))]
-    for (title, column), table in zip([("Marks, and names of Rust and its std", "In a clause"), ("Names of this package", "Name")], shown(written, tables)):
-        lines += ["", f"# {title}", "", f"| {column} | Meaning |", "|---|---|", *(f"| {row.name} | {row.meaning} |" for row in table)]
+    words = {word for text in written.values() for clauses, head in contracts(text) for word in used(clauses, head)}
+    marks_shown, names_shown = shown(words, tables)
+    lines += [*table("Marks, and names of Rust and its std", "In a clause", marks_shown), *table(NAMES, "Name", names_shown)]
+    return documentation(lines) + "\npub mod parts;\n"
+
+
+def parts_page(sources, known):
+    """The text of the page on the parts of a call. `sources` has the list of contracts of each source, by its path."""
+    lines = PARTS.strip().split("\n")
+    for path, listed in sources.items():
+        lines += ["", f"# `{path}`", "", "```text", *(line[2:] for said in listed for line in said.split("\n")), "```"]
+    contracts = "\n".join(line for listed in sources.values() for line in listed)
+    words = set(re.findall(r"\w+", re.sub(r"fn [\w:]+", "", contracts)))
+    rows, = shown(words, [list(known.values())])
+    return documentation(lines + table(NAMES, "Name", rows))
+
+
+def table(title, column, rows):
+    """The lines of a table with a heading."""
+    return ["", f"# {title}", "", f"| {column} | Meaning |", "|---|---|", *(f"| {row.name} | {row.meaning} |" for row in rows)]
+
+
+def documentation(lines):
+    """The lines as the documentation of a module."""
     return "".join(f"//! {line}".rstrip() + "\n" for line in lines)

@@ -87,7 +87,8 @@
 //! It is proved that no two parts make a step at the same index, and that the steps of all parts, interleaved in any
 //! way, have the effect of the call. A part runs at most once, because `run` consumes it. Nobody else can use the list
 //! as long as a part exists, because each part borrows the list. The section "Threads" of the package's README says
-//! exactly what is proved, and what is checked by review.
+//! exactly what is proved, and what is checked by review. [`kernels::contracts::parts`](crate::kernels::contracts::parts)
+//! has the contracts.
 use core::fmt;
 use core::iter::FusedIterator;
 

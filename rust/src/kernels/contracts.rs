@@ -152,3 +152,5 @@
 //! | <a id="zip_eq_left"></a>`zip_eq_left left z` | how many pairs are left at most, if there is a bound: as many as the first iterator has items left, which `left` gives |
 //! | <a id="zip_eq_second"></a>`zip_eq_second z` | the second of the two iterators of a `ZipEq` |
 //! | <a id="zip_eq_steps"></a>`zip_eq_steps steps others s r t` | A call of `next` in state s may return r and leave state t. It calls both iterators, and returns a pair if both return an item, and otherwise `None` |
+
+pub mod parts;

@@ -17,7 +17,9 @@ pub use no_room::NoRoom;
 
 pub mod contracts;
 
-/// Types for calls that may need memory, written by hand instead of taken from Rattle's std.
+/// What the functions of [`kernels`](self) that may need memory take and return: [`Global`](memory::Global) stands for the
+/// allocator, and [`AllocError`](memory::AllocError) says that there was no memory. The functions at the package's root need
+/// neither.
 pub mod memory {
     pub use crate::memory::{AllocError, Global, String};
 }
