@@ -1,0 +1,77 @@
+//! Calls on integers, and the names of types.
+
+use std::fmt::Debug;
+
+use crate::answer::{Answer, Compared};
+use crate::choices::Choices;
+
+/// A call on two integers, of which it may use one. Its result is a text.
+type Call = fn(u64, u64) -> String;
+
+macro_rules! calls_of {
+    ($library:ident) => {
+        [
+            ("log2_ceil_usize", |x, _| text($library::log2_ceil_usize(x as usize))),
+            ("log2_ceil_u64", |x, _| text($library::log2_ceil_u64(x))),
+            ("log2_floor_usize", |x, _| text($library::log2_floor_usize(x as usize))),
+            ("log2_strict_usize", |x, _| {
+                text($library::log2_strict_usize(x as usize))
+            }),
+            ("log3_strict_usize", |x, _| {
+                text($library::log3_strict_usize(x as usize))
+            }),
+            ("checked_pow2", |x, _| text($library::checked_pow2(x as usize))),
+            ("checked_log_size_sum", |x, y| {
+                text($library::checked_log_size_sum(x as usize, y as usize))
+            }),
+            ("reverse_bits", |x, y| {
+                text($library::reverse_bits(x as usize, y as usize))
+            }),
+            ("reverse_bits_len", |x, y| {
+                text($library::reverse_bits_len(x as usize, y as usize))
+            }),
+            ("indices_arr", |_, _| {
+                text(($library::indices_arr::<0>(), $library::indices_arr::<9>()))
+            }),
+            ("pretty_name", |x, _| match x % 4 {
+                0 => $library::pretty_name::<Vec<Option<(u8, String)>>>(),
+                1 => $library::pretty_name::<&Choices>(),
+                2 => $library::pretty_name::<[[Box<str>; 2]; 3]>(),
+                _ => $library::pretty_name::<fn(&mut Option<u8>) -> std::rc::Rc<dyn Debug>>(),
+            }),
+        ]
+    };
+}
+
+const PACKAGE: [(&str, Call); 11] = calls_of!(p3_util_proved);
+const ORIGINAL: [(&str, Call); 11] = calls_of!(p3_util);
+
+fn text(result: impl Debug) -> String {
+    format!("{result:?}")
+}
+
+pub fn word(choices: &mut Choices) -> Compared {
+    let call = choices.below(PACKAGE.len());
+    let (name, [x, y]) = (PACKAGE[call].0, [(); 2].map(|()| number(choices)));
+    Compared {
+        call: format!("{name} of {x}, or of {x} and {y}"),
+        package: Answer::text(|| (PACKAGE[call].1)(x, y)),
+        original: Answer::text(|| (ORIGINAL[call].1)(x, y)),
+        list: (0, 1),
+    }
+}
+
+/// A small number, a power of two or of three, one next to such a power, or any number.
+fn number(choices: &mut Choices) -> u64 {
+    let power = match choices.below(4) {
+        0 => return choices.below(200) as u64,
+        1 => 1 << choices.below(64),
+        2 => 3_u64.pow(choices.below(41) as u32),
+        _ => return choices.up_to(usize::MAX) as u64,
+    };
+    match choices.below(4) {
+        0 | 1 => power,
+        2 => power - 1,
+        _ => power + 1,
+    }
+}
