@@ -388,10 +388,14 @@ fn items_of_one_part() {
     assert_eq!(one_part_reversal::<[u64; 1 << 19]>(), wanted(0));
 }
 
-/// Item `number` of a list. Each byte tells an item from most others.
+/// Item `number` of a list. Its first byte tells it from most others, and its first eight from all.
 fn item<const N: usize>(number: usize) -> [u8; N] {
     let mixed = number.wrapping_mul(0x9e37_79b9_7f4a_7c15).to_be_bytes();
-    from_fn(|byte| mixed[byte % 8] ^ byte as u8)
+    let mut item = [0; N];
+    for part in item.chunks_mut(8) {
+        part.copy_from_slice(&mixed[..part.len()]);
+    }
+    item
 }
 
 /// Runs part `number` of the reversal of these rows as a plan says, by the proved code and the holder of a slice that

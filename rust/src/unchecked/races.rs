@@ -68,7 +68,7 @@ fn reverses<T: Number>(digits: u32, row_width: usize, parts: usize, threads: usi
 
 #[test]
 fn parts_on_threads() {
-    for round in 0..150 {
+    for round in 0..if cfg!(miri) { 12 } else { 150 } {
         let (parts, threads) = (1 + round % 11, 2 + round % 7);
         transposes::<u32>(1 + round * 7 % 97, 1 + round * 13 % 89, parts, threads);
         transposes::<usize>(1 + round * 13 % 89, 1 + round * 7 % 97, parts, threads);

@@ -28,6 +28,34 @@ fn exchanges() {
     assert_eq!(left(|places| places.exchange_apart(5, 0)), [5, 1, 2, 3, 4, 0]);
 }
 
+/// A list taken as groups of bytes has as many groups as lie within it.
+#[cfg(not(feature = "checked"))]
+#[test]
+fn lists_in_bytes() {
+    fn check<const ITEM: usize, const N: usize>() {
+        for len in 0..=20 {
+            let mut list = std::vec![[0u8; ITEM]; len];
+            let source = SliceSource::new(&list).in_bytes::<N>();
+            assert_eq!(
+                source.as_slice().unwrap().len(),
+                len * ITEM / N,
+                "{len} of {ITEM} by {N}"
+            );
+            let places = SlicePlaces::new(&mut list).in_bytes::<N>();
+            assert_eq!(Places::len(&places), len * ITEM / N, "{len} of {ITEM} by {N}");
+        }
+    }
+    check::<1, 1>();
+    check::<1, 8>();
+    check::<2, 2>();
+    check::<3, 2>();
+    check::<5, 1>();
+    check::<12, 12>();
+    check::<20, 64>();
+    check::<64, 1>();
+    check::<64, 64>();
+}
+
 #[test]
 fn exchanges_of_runs() {
     for (i, j) in [(0, 4), (4, 0)] {
@@ -493,6 +521,36 @@ mod refused {
         // Columns that overlap are refused, except with the feature `checked`, which puts them item by item.
         #[cfg(not(feature = "checked"))]
         assert!(refused(|block| block.height = 3) || !super::super::USES_REGISTERS);
+    }
+
+    /// Runs of the first 20 items of a longer list, by registers of two rows or of four.
+    #[cfg(not(feature = "checked"))]
+    #[test]
+    fn runs() {
+        use super::super::registers::Items;
+        use crate::kernels::registers::{Pair, Register, Runs};
+
+        fn check<T: Copy + Default, D: Register<T>>() {
+            let len = size_of::<D::Half>() / size_of::<T>();
+            let mut list = [T::default(); 40];
+            let mut places = SlicePlaces::new(&mut list[..20]);
+            let first = Runs::<T, D>::load(&places, 0);
+            for place in 0..=20 {
+                let is_outside = place + len > 20;
+                let call = |places: &mut _| Runs::<T, D>::store(places, place, first);
+                assert_eq!(
+                    panics(|| call(&mut places)),
+                    is_outside,
+                    "a store of {len} items at {place}"
+                );
+                let call = |places: &_| _ = Runs::<T, D>::load(places, place);
+                assert_eq!(panics(|| call(&places)), is_outside, "a load of {len} items at {place}");
+            }
+        }
+        check::<u8, Items<1>>();
+        check::<u16, Pair<Items<2>>>();
+        check::<u32, Pair<Items<4>>>();
+        check::<u64, Pair<Items<8>>>();
     }
 
     #[test]
