@@ -66,17 +66,14 @@ const LONG_ITEMS: Strips = if cfg!(target_arch = "aarch64") {
 
 /// The strips by which a matrix is put, as a whole or in parts. They only determine the order of the puts. Items of 1, 2
 /// and 4 bytes, and up to 32768 items of 8 bytes, are put by blocks that are transposed in registers. All others are put
-/// column after column, in strips that are low or high as in the kernels' own choice.
+/// column after column, in strips that are low or high by the width.
 #[inline(always)]
 pub(crate) fn strips_by_size<R: Source + Copy>(matrix: Matrix<R>) -> Strips {
     match size_of::<R::Item>() {
         1 | 2 if unchecked::USES_REGISTERS => Strips::high(8),
         4 if unchecked::USES_REGISTERS => Strips::high(4),
         8 if unchecked::USES_REGISTERS && matrix.source.len() <= BLOCKS_LONG_ITEMS => LONG_ITEMS,
-        _ => match Strips::by_shape(matrix) {
-            Strips::SMALL => Strips::LOW,
-            strips => strips,
-        },
+        _ => Strips::by_width(matrix.width),
     }
 }
 

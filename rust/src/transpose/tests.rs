@@ -87,7 +87,7 @@ fn blocks_of_small_items() {
 fn columns_of_other_items() {
     fn check<T: Copy>() {
         for (width, height) in [(16, 8), (16, 64), (32, 32), (48, 17)] {
-            assert!(strips::<T>(width, height) == Strips::LOW, "{width} by {height}");
+            assert!(strips::<T>(width, height) == Strips::low(), "{width} by {height}");
         }
         for (width, height) in [
             (16, 65),

@@ -67,34 +67,58 @@ impl Strips {
     }
 
     /// Low strips, of at most 24 rows, put column after column.
-    pub(crate) const LOW: Strips = Strips {
-        rows: LOW_ROWS,
-        side: 1,
-    };
+    #[inline(always)]
+    pub(crate) const fn low() -> Self
+        ensures side { result.side ≡ 1 }
+        ensures rows { result.rows ≡ LOW_ROWS }
+    {
+        Strips {
+            rows: LOW_ROWS,
+            side: 1,
+        }
+    }
 
     /// Strips of at most 16 rows, put by blocks of 4 by 4 items.
-    pub(crate) const SMALL: Strips = Strips {
-        rows: UNIT,
-        side: 4,
-    };
+    #[inline(always)]
+    const fn small() -> Self
+        ensures side { result.side ≡ 4 }
+        ensures rows { result.rows ≡ UNIT }
+    {
+        Strips {
+            rows: UNIT,
+            side: 4,
+        }
+    }
 
-    /// The strips for `matrix`, chosen by its shape alone. Every call in Rattle uses this choice.
-    /// The plain Rust package knows the size of an item and may choose others.
+    /// The strips for a matrix of `width` columns, if it is put column after column.
     ///
     /// A strip is read column by column, so a cache line of each of its rows is in use at the same
     /// time. If 16 divides the width, the distance of two rows may be a multiple of a high power of
     /// two. The cache lines of a high strip then fall into few sets of the cache, and each line is
     /// evicted before its next item is read. Those of 24 rows stay in the cache. With other widths,
     /// the rows are spread over the sets of the cache. A high strip is better there, since it puts
-    /// longer runs of consecutive cells. A small matrix stays in the cache whatever the order is,
-    /// and is put block by block.
-    pub(crate) fn by_shape<R: Source + Copy>(matrix: Matrix<R>) -> Self {
-        if matrix.width % UNIT != 0 {
-            Strips::high(1)
-        } else if matrix.source.len() > SMALL_MATRIX {
-            Strips::LOW
+    /// longer runs of consecutive cells.
+    #[inline(always)]
+    pub(crate) const fn by_width(width: usize) -> Self
+        ensures side { result.side ≡ 1 }
+    {
+        if width % UNIT == 0 {
+            Strips::low()
         } else {
-            Strips::SMALL
+            Strips::high(1)
+        }
+    }
+
+    /// The strips for `matrix`, chosen by its shape alone. Every call in Rattle uses this choice.
+    /// The plain Rust package knows the size of an item and may choose others.
+    ///
+    /// If 16 divides the width, a small matrix is put block by block, since it stays in the cache
+    /// whatever the order is.
+    pub(crate) fn by_shape<R: Source + Copy>(matrix: Matrix<R>) -> Self {
+        if matrix.width % UNIT == 0 && matrix.source.len() <= SMALL_MATRIX {
+            Strips::small()
+        } else {
+            Strips::by_width(matrix.width)
         }
     }
 
