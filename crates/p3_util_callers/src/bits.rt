@@ -1,7 +1,7 @@
 //! Callers of the logarithms and powers. A test before the call of a strict logarithm is enough to
 //! meet its precondition.
 
-ghost use Rattle.std.specs.Prelude.{◌≡◌, ℕ, ◌+◌, ◌*◌, ◌/◌, ◌%◌, ◌^◌, ◌<◌, ◌≤◌, ◌↔◌, IsFalse, IsTrue, IfOk, IfSome, MatchOption, None, Some, length, string_bytes};
+ghost use Rattle.std.specs.Prelude.{◌≡◌, ℕ, ◌+◌, ◌-◌, ◌*◌, ◌/◌, ◌%◌, ◌^◌, ◌<◌, ◌≤◌, ◌↔◌, IsFalse, IsTrue, IfOk, IfSome, MatchOption, None, Some, length, string_bytes};
 ghost use Rattle.std.specs.Int.{IsPowerOfTwo, is_power_of_two};
 ghost use Rattle.p3_util.specs.Digits.{rev};
 ghost use Rattle.p3_util.specs.Names.{short_name};
@@ -123,6 +123,28 @@ pub fn place_of_pair(i: usize, k: usize) -> usize
     ensures odd { result + 2 ^ k ≡ rev (k + 1) (2 * i + 1) }
 {
     reverse_bits_len(i, k)
+}
+
+/// The reverse of the last index into a list of `n` items, which is the last index.
+#[tactic(auto, using(p3_util::proofs::Callers::rev_last))]
+pub fn reverse_of_last(n: usize, k: usize) -> usize
+    requires some { 1 ≤ k }
+    requires few { k < 64 }
+    requires n { n ≡ 2 ^ k }
+    ensures { result ≡ n - 1 }
+{
+    reverse_bits_len(n - 1, k)
+}
+
+/// The reverse of the index `2^k + y` into a list of `2^(k + 1)` items. The index is in the upper
+/// half, and its reverse is one more than that of `y`.
+#[tactic(auto, using(p3_util::proofs::Callers::rev_high))]
+pub fn reverse_in_upper_half(y: usize, k: usize) -> usize
+    requires few { k < 63 }
+    requires inside { y < 2 ^ k }
+    ensures { result ≡ rev (k + 1) (2 ^ k + y) }
+{
+    reverse_bits_len(y, k + 1) + 1
 }
 
 /// Where a reversal of all items moves item (row, column) of a matrix of `2^log_height` rows of

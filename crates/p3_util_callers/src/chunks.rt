@@ -46,6 +46,18 @@ pub fn lanes(alloc: Global, xs: &[u32], fill: u32) -> Result<Vec<[u32; 4]>, Allo
     iter_array_chunks_padded::<u32, 4, _>(xs.iter().copied(), fill).collect(alloc)
 }
 
+/// Item `j` of lane `p`, which is an item of the list that was cut into lanes.
+#[tactic(auto, using(p3_util::proofs::Callers::item_of_lane))]
+pub fn item_in_lane(xs: &[u32], lanes: &[[u32; 4]], p: usize, j: usize) -> u32
+    requires cut { lanes.now ≡ padded_pieces 4 0 xs.now }
+    requires lane { p < length lanes.now }
+    requires item { j < 4 }
+    requires inside { p * 4 + j < length xs.now }
+    ensures { result ≡ slice_index xs.now (p * 4 + j) }
+{
+    lanes[p][j]
+}
+
 /// The state after it took in each lane of 2 items of `xs`. The lanes are collected first.
 pub fn mixed_lanes(alloc: Global, xs: &[u32]) -> Result<u64, AllocError>
     ensures { IfOk result (λ state. state ≡ fold

@@ -71,16 +71,29 @@ pub fn pad_reduced(alloc: Global, items: &[u64], len: usize, m: u64) -> Result<V
     padded_to(alloc, items, len)
 }
 
-/// Reorders `vals`. An item is in it exactly if it was in it before, and it has as many zeros as
-/// before.
+/// Reorders `vals`. An item is in it exactly if it was in it before, it has as many zeros as before,
+/// and its greatest item is the same.
 pub fn reorder_and_keep(vals: &mut [u64])
     requires { IsReversible (length vals.old) }
     ensures kept { (x : ℕ) → Contains vals.old x → Contains vals.new x }
     ensures none_new { (x : ℕ) → Contains vals.new x → Contains vals.old x }
     ensures zeros { count_by (λ x. x == 0) vals.new ≡ count_by (λ x. x == 0) vals.old }
     ensures total { sum vals.new ≡ sum vals.old }
+    ensures greatest { (m : ℕ) → All (λ x. x ≤ m) vals.old → All (λ x. x ≤ m) vals.new }
 {
     reordered(vals);
+}
+
+/// Writes the items of `input` to `output`, the last one first. A proof file names the lemma, which
+/// takes the function from a place of `output` to the place from which its item comes.
+pub fn copy_from_end<T: Copy>(input: &[T], output: &mut [T])
+    requires { length output.old ≡ length input.now }
+    ensures { IsPermutation input.now output.new }
+{
+    let len = input.len();
+    for i in 0..len {
+        output[i] = input[len - 1 - i];
+    }
 }
 
 /// Reverses two lists in the same way, which does not change the sum of the products of their

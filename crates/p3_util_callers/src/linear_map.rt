@@ -1,6 +1,6 @@
 //! Callers of `LinearMap`, proved only from the public contracts of the map: any list of calls, and
 //! the map's pairs as a list.
-ghost use Rattle.std.specs.Prelude.{◌≡◌, ◌≢◌, ℕ, ◌+◌, ◌^◌, ◌<◌, ◌↔◌, false, [], IsTrue, None, Some, IfOk, OnOk, OnErr, length, nat_eq, sum};
+ghost use Rattle.std.specs.Prelude.{◌≡◌, ◌≢◌, ℕ, ◌+◌, ◌^◌, ◌<◌, ◌≤◌, ◌↔◌, false, [], IsTrue, None, Some, IfOk, IfSome, OnOk, OnErr, length, nat_eq, sum};
 ghost use Rattle.std.specs.Map.{keys_of, values_of};
 ghost use Rattle.p3_util.specs.LinearMap.{put, put_all, value_at};
 ghost use Rattle.p3_util_callers.specs.MapCalls.{answer_of, answers_of, after, pairs_after};
@@ -115,6 +115,14 @@ pub fn defines_nothing(table: &LinearMap<u32, u64>) -> bool
     table.is_empty()
 }
 
+/// Whether two tables have the same symbols with the same offsets, in the same order. A proof file
+/// names the lemma.
+pub fn same_tables(one: &LinearMap<u32, u64>, other: &LinearMap<u32, u64>) -> bool
+    ensures { IsTrue result ↔ (one.now ≡ other.now) }
+{
+    one == other
+}
+
 /// The keys of `table`, in the order in which they were first inserted.
 pub fn symbols(alloc: Global, table: &LinearMap<u32, u64>) -> Result<Vec<u32>, AllocError>
     ensures { IfOk result (λ keys. keys.items ≡ keys_of table.now) }
@@ -140,6 +148,14 @@ pub fn count_word<K: Eq + Copy + Drop>(
 {
     let count = counts.get(&word).copied().unwrap_or(0);
     counts.insert(word, count + 1)
+}
+
+/// How often `word` was counted. No word was counted more often than all words together.
+#[tactic(auto, using(p3_util::proofs::Callers::value_within_sum))]
+pub fn count_of<K: Eq>(counts: &LinearMap<K, u64>, word: &K) -> Option<u64>
+    ensures { IfSome result (λ n. n ≤ sum (values_of counts.now)) }
+{
+    counts.get(word).copied()
 }
 
 /// Counts how often each word occurs.

@@ -1,13 +1,20 @@
 //! Loops in the callers' own code, each with its invariant in a proof file: a loop that changes
 //! numbers in place, a stage of a transform, a loop that takes one item after another into a state,
-//! and a merge of maps.
+//! and a merge of maps. Then loops that fill an array, write to a holder, count rounds, go over a
+//! view, compare two lists, and transpose one matrix after another.
 
-ghost use Rattle.std.specs.Prelude.{◌≡◌, ℕ, ◌+◌, ◌-◌, ◌*◌, ◌/◌, ◌%◌, ◌^◌, ◌<◌, ◌≤◌, All, OnOk, fold, length, map, nat_eq, slice_index};
+ghost use Rattle.std.specs.Prelude.{◌≡◌, ℕ, ◌+◌, ◌-◌, ◌*◌, ◌/◌, ◌%◌, ◌^◌, ◌<◌, ◌≤◌, All, IsTrue, OnOk, Some, drop, fold, length, map, nat_eq, slice_get, slice_index, take};
+ghost use Rattle.p3_util.specs.Digits.{rev};
+ghost use Rattle.p3_util.specs.Flat.{flat};
 ghost use Rattle.p3_util.specs.LinearMap.{put_all};
-ghost use Rattle.p3_util.specs.Reversal.{IsReversible};
+ghost use Rattle.p3_util.specs.Reversal.{IsReversal, IsReversible};
+ghost use Rattle.p3_util.specs.Transpose.{IsTranspose};
 
+use p3_util::bits::reverse_bits_len;
 use p3_util::linear_map::LinearMap;
-use p3_util::reverse_slice_index_bits;
+use p3_util::places::Cells;
+use p3_util::transpose::transpose;
+use p3_util::{as_base_slice, reverse_slice_index_bits};
 use std::alloc::AllocError;
 
 /// Reduces each item of `vals` below `m`, in place.
@@ -100,4 +107,121 @@ pub fn merge_into(map: &mut LinearMap<u32, u64>, pairs: &[(u32, u64)]) -> Result
         }
     }
     Ok(())
+}
+
+/// The reverse of each index into a list of 64 items. The invariant also has the length of the
+/// array.
+pub fn reversed_indices_of_64() -> [usize; 64]
+    ensures { (i : ℕ) → i < 64 → slice_index result i ≡ rev 6 i }
+{
+    let mut table = [0; 64];
+    for i in 0..64 {
+        table[i] = reverse_bits_len(i, 6);
+    }
+    table
+}
+
+/// The same for a list of `N` items, where an index has `k` bits.
+pub fn reversed_indices_of<const N: usize>(k: usize) -> [usize; N]
+    requires some { 1 ≤ k }
+    requires few { k < 64 }
+    ensures { (i : ℕ) → i < N → slice_index result i ≡ rev k i }
+{
+    let mut table = [0; N];
+    for i in 0..N {
+        table[i] = reverse_bits_len(i, k);
+    }
+    table
+}
+
+/// Writes `value` to each cell.
+pub fn fill_cells<C: Cells>(cells: &mut C, value: C::Item)
+where
+    C::Item: Copy,
+    ensures every { (i : ℕ) → i < length (C.items cells.old)
+        → slice_get (C.items cells.new) i ≡ Some value }
+    ensures holder { C.same_holder (length (C.items cells.old)) cells.old cells.new }
+{
+    for i in 0..cells.len() {
+        cells.put(i, value);
+    }
+}
+
+/// The power `b^n` modulo `m`. A loop whose index has no use names it all the same, so that the
+/// invariant can.
+#[tactic(auto, using(p3_util::proofs::Callers::power_step))]
+pub fn power_in_rounds(b: u32, n: usize, m: u32) -> u64
+    requires { 0 < m }
+    ensures { result ≡ b ^ n % m }
+{
+    let mut power = 1 % u64::from(m);
+    for _round in 0..n {
+        power = power * u64::from(b) % u64::from(m);
+    }
+    power
+}
+
+/// The sum of the items of all rows, modulo `2^64`, with a loop over a view.
+pub fn sum_of_rows<const N: usize>(rows: &[[u32; N]]) -> u64
+    requires { length rows.now * N < 2 ^ 64 }
+    ensures { result ≡ fold (λ s x. (s + x) % 2 ^ 64) 0 (flat rows.now) }
+{
+    let mut sum = 0u64;
+    for item in &as_base_slice(rows) {
+        sum = sum.wrapping_add(u64::from(*item));
+    }
+    sum
+}
+
+/// Whether `new` is the list `old` in the order of reversed index bits.
+#[tactic(auto, using(p3_util::proofs::Callers::reversed_by_index))]
+pub fn is_reversed(old: &[u64], new: &[u64], k: usize) -> bool
+    requires some { 1 ≤ k }
+    requires few { k < 64 }
+    requires old_len { length old.now ≡ 2 ^ k }
+    requires new_len { length new.now ≡ 2 ^ k }
+    ensures { IsTrue result → IsReversal old.now new.now }
+{
+    for i in 0..old.len() {
+        if new[i] != old[reverse_bits_len(i, k)] {
+            return false;
+        }
+    }
+    true
+}
+
+/// Writes the transpose of the matrix that begins at place `from` of `input` to the same places of
+/// `output`. The places before it keep their items.
+#[tactic(auto, using(p3_util::proofs::Callers::part_there, p3_util::proofs::Callers::part_apart))]
+fn transpose_at<T: Copy>(input: &[T], output: &mut [T], width: usize, height: usize, from: usize)
+    requires input_room { from + width * height ≤ length input.now }
+    requires output_room { from + width * height ≤ length output.old }
+    ensures here { IsTranspose width height (take (width * height) (drop from input.now))
+        (take (width * height) (drop from output.new)) }
+    ensures before { (at n : ℕ) → at + n ≤ from
+        → take n (drop at output.new) ≡ take n (drop at output.old) }
+    ensures same_length { length output.new ≡ length output.old }
+{
+    let to = from + width * height;
+    transpose(&input[from..to], &mut output[from..to], width, height);
+}
+
+/// Transposes `count` matrices, which stand one after another.
+#[tactic(auto, using(p3_util::proofs::Callers::part_within))]
+pub fn transpose_each<T: Copy>(
+    input: &[T],
+    output: &mut [T],
+    width: usize,
+    height: usize,
+    count: usize,
+)
+    requires input_fits { length input.now ≡ count * (width * height) }
+    requires output_fits { length output.old ≡ count * (width * height) }
+    ensures { (r : ℕ) → r < count
+        → IsTranspose width height (take (width * height) (drop (r * (width * height)) input.now))
+        (take (width * height) (drop (r * (width * height)) output.new)) }
+{
+    for m in 0..count {
+        transpose_at(input, output, width, height, m * (width * height));
+    }
 }

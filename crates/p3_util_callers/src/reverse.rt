@@ -1,7 +1,7 @@
 //! Callers of bit reversal. None of them has a proof by hand: a test before the call is enough, or
 //! a lemma that the function names.
 
-ghost use Rattle.std.specs.Prelude.{◌≡◌, ℕ, ◌+◌, ◌-◌, ◌*◌, ◌^◌, ◌<◌, ◌≤◌, ◌↔◌, [], ◌∷◌, IsTrue, IsFalse, IfOk, drop, length, slice_get, slice_index, take};
+ghost use Rattle.std.specs.Prelude.{◌≡◌, ℕ, ◌+◌, ◌-◌, ◌*◌, ◌^◌, ◌<◌, ◌≤◌, ◌↔◌, [], ◌∷◌, IsTrue, IsFalse, IfOk, drop, length, replicate, slice_get, slice_index, take};
 ghost use Rattle.std.specs.Int.{is_power_of_two};
 ghost use Rattle.p3_util.specs.Digits.{rev};
 ghost use Rattle.p3_util.specs.Reversal.{FitsRows, IsReversal, IsReversible, IsRowReversal, IsZeroOrPowerOfTwo};
@@ -70,6 +70,26 @@ pub fn reverse_unless_short<F>(vals: &mut [F])
     }
 }
 
+/// Reverses `vals` by index bits. The first and the last item stay where they are.
+#[tactic(auto, using(p3_util::proofs::Callers::ends_stay))]
+pub fn reverse_between_ends<F>(vals: &mut [F])
+    requires { IsReversible (length vals.old) }
+    ensures first { slice_get vals.new 0 ≡ slice_get vals.old 0 }
+    ensures last { slice_get vals.new (length vals.old - 1)
+        ≡ slice_get vals.old (length vals.old - 1) }
+{
+    reverse_slice_index_bits(vals);
+}
+
+/// Reverses the order of the rows of `vals`, of `row_width` items each. The first row stays.
+#[tactic(auto, using(p3_util::proofs::Callers::first_row_stays))]
+pub fn reverse_later_rows<F>(vals: &mut [F], row_width: usize)
+    requires { FitsRows (length vals.old) row_width }
+    ensures { take row_width vals.new ≡ take row_width vals.old }
+{
+    reverse_slice_row_index_bits(vals, row_width);
+}
+
 /// Reverses `vals` by index bits, and returns the item that is then at place `i`.
 #[tactic(auto, using(p3_util::proofs::Callers::reversed_read))]
 pub fn item_after(vals: &mut [u64], k: usize, i: usize) -> u64
@@ -88,6 +108,16 @@ pub fn reversed<T>(mut vals: Vec<T>) -> Vec<T>
 {
     reverse_slice_index_bits(&mut vals);
     vals
+}
+
+/// `len` equal items in the order of reversed index bits, which are the same list.
+#[tactic(auto, using(p3_util::proofs::Callers::equal_stay))]
+pub fn reversed_equal(alloc: Global, item: u64, len: usize) -> Result<Vec<u64>, AllocError>
+    requires { IsReversible len }
+    ensures { IfOk result (λ v. v.items ≡ replicate len item) }
+{
+    let items = vec![in alloc; item; len]?;
+    Ok(reversed(items))
 }
 
 /// The rows of `vals`, of `row_width` items each, in the order of reversed index bits.

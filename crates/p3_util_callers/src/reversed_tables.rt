@@ -5,9 +5,10 @@ ghost use Rattle.std.specs.Prelude.{◌≡◌, ℕ, ◌+◌, ◌*◌, ◌/◌, �
 ghost use Rattle.std.specs.Int.{IsPowerOfTwo};
 ghost use Rattle.std.specs.List.{range_with_len};
 ghost use Rattle.p3_util.specs.Digits.{rev};
+ghost use Rattle.p3_util.specs.Powers.{HasLog2};
 ghost use Rattle.p3_util.specs.Reversal.{IsReversal, IsReversible, IsZeroOrPowerOfTwo};
 
-use p3_util::bits::{indices_arr, reverse_bits, reverse_bits_len};
+use p3_util::bits::{indices_arr, log2_strict_usize, reverse_bits, reverse_bits_len};
 use p3_util::reverse::{reverse_slice_index_bits, reverse_slice_row_index_bits};
 use p3_util::transpose::transpose;
 use std::alloc::{AllocError, Global};
@@ -48,6 +49,30 @@ pub fn evaluation_kept<T: Copy>(evals: &mut [T], k: usize, i: usize) -> T
 {
     reverse_slice_index_bits(evals);
     evals[reverse_bits_len(i, k)]
+}
+
+/// Reorders the table, and returns the place to which the item at `i` goes. The number of bits
+/// follows from the length.
+#[tactic(auto, using(p3_util::proofs::Callers::item_moved))]
+pub fn place_after<T>(table: &mut [T], i: usize) -> usize
+    requires power { HasLog2 (length table.old) }
+    requires inside { i < length table.old }
+    ensures { slice_get table.new result ≡ slice_get table.old i }
+{
+    reverse_slice_index_bits(table);
+    reverse_bits(i, table.len())
+}
+
+/// The same with the logarithm of the length.
+#[tactic(auto, using(p3_util::proofs::Callers::item_moved))]
+pub fn place_by_log<T>(table: &mut [T], i: usize) -> usize
+    requires power { HasLog2 (length table.old) }
+    requires inside { i < length table.old }
+    ensures { slice_get table.new result ≡ slice_get table.old i }
+{
+    let k = log2_strict_usize(table.len());
+    reverse_slice_index_bits(table);
+    reverse_bits_len(i, k)
 }
 
 /// Item `i` of a table that was reordered before the call: the item was at the reversed index.

@@ -109,6 +109,50 @@ pub fn transpose_into_two<T: Copy>(
     transpose(input, other, width, height);
 }
 
+/// Writes the transpose of a matrix of one row to `output`. It is the same list.
+#[tactic(auto, using(p3_util::proofs::Callers::one_line))]
+pub fn transpose_one_row<T: Copy>(input: &[T], output: &mut [T])
+    requires { length input.now ≡ length output.old }
+    ensures { output.new ≡ input.now }
+{
+    transpose(input, output, input.len(), 1);
+}
+
+/// The same for a matrix whose width turns out to be 1.
+#[tactic(auto, using(p3_util::proofs::Callers::line_alone))]
+pub fn transpose_one_column<T: Copy>(input: &[T], output: &mut [T], width: usize, height: usize)
+    requires one { width ≡ 1 }
+    requires input_fits { length input.now ≡ width * height }
+    requires output_fits { length output.old ≡ width * height }
+    ensures { output.new ≡ input.now }
+{
+    transpose(input, output, width, height);
+}
+
+/// Transposes a region without rows, which changes nothing.
+#[tactic(auto, using(p3_util::proofs::Callers::same_places))]
+pub fn transpose_no_rows<T: Copy>(
+    input: &[T],
+    output: &mut [T],
+    row: usize,
+    width: usize,
+    height: usize,
+)
+    requires input_fits { length input.now ≡ width * height }
+    requires output_fits { length output.old ≡ width * height }
+    requires inside { row ≤ height }
+    ensures { output.new ≡ output.old }
+{
+    let region = Region {
+        row_start: row,
+        row_end: row,
+        col_start: 0,
+        col_end: width,
+    };
+    let mut cells = SliceCells::new(output);
+    transpose_region_counted(input, &mut cells, region, width, height);
+}
+
 /// Transposes a whole matrix of `2^log_size` rows of as many items in place.
 pub fn transpose_whole_square<S: Places>(m: &mut Swaps<S>, log_size: usize)
     requires fits { length (S.items m.old.holder) ≡ 2 ^ log_size * 2 ^ log_size }

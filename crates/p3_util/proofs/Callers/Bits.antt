@@ -1,16 +1,18 @@
--- Reversed digits: in two parts, twice, of even and odd numbers, of half a number and of a number of
--- more digits; std's test for a power of two; exponents and powers; and the row and the column of a
+-- Reversed digits: in two parts, twice, of even and odd numbers, of the first and the last number, of
+-- half a number and of a number of more digits; std's test for a power of two; exponents and powers; and the row and the column of a
 -- place.
-use Rattle.std.proofs.Common.{◌≡◌, ℕ, zero, suc, ◌+◌, ◌-◌, ◌*◌, ◌/◌, ◌%◌, ◌^◌, ◌<◌, ◌≤◌, inl, true, refl, sym, ap, ◌∙◌, add-one, arith}
-use Rattle.std.proofs.lemmas.Nat.{pow-add, mod-mul-add, mul-mod_first}
+use Rattle.std.proofs.Common.{◌≡◌, ℕ, zero, suc, ◌+◌, ◌-◌, ◌*◌, ◌/◌, ◌%◌, ◌^◌, ◌<◌, ◌≤◌, inl, inr, true, refl, sym, ap, ◌∙◌, add-one, arith}
+use Rattle.std.proofs.lemmas.Nat.{pow-add, pow_pos, mod-mul-add, mul-mod_first}
 use Rattle.std.proofs.Math.Nat.{pow-suc}
 use Rattle.std.proofs.Math.Pow.{pow_mono}
 use Rattle.std.specs.Int.{is_power_of_two}
 use Rattle.p3_util_kernels.specs.Digits.{rev}
 use Rattle.p3_util_kernels.specs.Powers.{HasLog2}
 use Rattle.p3_util_kernels.specs.Levels.{clog}
+use Rattle.p3_util_kernels.specs.Reversal.{IsReversible}
 use Rattle.p3_util_kernels.proofs.DigitsLemmas.{rev-parts, rev-of-zero, rev-rev-below, rev-shl, rev-suc, rev-zero, rev-lt}
 use Rattle.p3_util_kernels.proofs.LevelsLemmas.{clog_power}
+use Rattle.p3_util_kernels.proofs.Logs.{power_of_two}
 use Rattle.p3_util_kernels.proofs.Matrix.{row_and_column}
 use Rattle.p3_util_kernels.proofs.PowersLemmas.{exponent-le, power_of_two_test as power_test}
 
@@ -38,6 +40,30 @@ rev_odd k b =
     let one : rev 1 1 ≡ 1 = rw (rev-suc 0 1, rev-zero 1) refl in
     rw (double, rev-parts k 1 b 1 (omega arith), one) (omega arith)
 
+-- the first and the last number of k digits are their own reverses
+pub rev_first : (k : ℕ) → rev k 0 ≡ 0
+rev_first k = rev-of-zero k
+
+pub rev_last : (k : ℕ) → rev k (2 ^ k - 1) ≡ 2 ^ k - 1
+rev_last zero = rev-zero 0
+rev_last (suc k) =
+    let next : suc k ≡ k + 1 = omega arith in
+    let some = pow_pos k in
+    let double : 2 ^ (k + 1) ≡ 2 ^ k * 2 = rw add-one (pow-suc 2 k) in
+    let odd : 2 ^ (k + 1) - 1 ≡ 2 * (2 ^ k - 1) + 1 = omega arith in
+    rw next (ap (λ n. rev (k + 1) n) odd ∙ rev_odd k (2 ^ k - 1) ∙ omega (arith, rev_last k))
+
+-- the reverse of a number of k + 1 digits whose highest digit is 1
+pub rev_high : (k y : ℕ) → y < 2 ^ k → rev (k + 1) (2 ^ k + y) ≡ rev (k + 1) y + 1
+rev_high k y h =
+    let order : k + 1 ≡ 1 + k = omega arith in
+    let with : 1 * 2 ^ k + y ≡ 2 ^ k + y = omega arith in
+    let without : 0 * 2 ^ k + y ≡ y = omega arith in
+    let one : rev 1 1 ≡ 1 = rw (rev-suc 0 1, rev-zero 1) refl in
+    let high : rev (1 + k) (2 ^ k + y) ≡ rev k y * 2 ^ 1 + 1 = rw (with, one) at (rev-parts 1 k 1 y h) in
+    let low : rev (1 + k) y ≡ rev k y * 2 ^ 1 + 0 = rw (without, rev-of-zero 1) at (rev-parts 1 k 0 y h) in
+    rw order (omega arith)
+
 -- if a list of 2 ^ k items has place i, a list of twice as many items has the pair of neighbours 2i
 -- and 2i + 1
 pub pair_below : (k i : ℕ) → i < 2 ^ k → 2 * i + 1 < 2 ^ (k + 1)
@@ -49,6 +75,10 @@ pair_below k i h =
 -- has to name the lemma.
 pub power_of_two_test : (n : ℕ) → is_power_of_two n ≡ true → HasLog2 n
 power_of_two_test n tested = inl ((power_test n).0 tested)
+
+-- a length with a logarithm meets the precondition of a reversal
+pub log_reversible : (n : ℕ) → HasLog2 n → IsReversible n
+log_reversible n has = inl (inr (power_of_two n has))
 
 -- The reverse of half an index is the reverse of the index without its highest digit.
 pub half : (k i : ℕ) → rev k (i / 2) ≡ rev (k + 1) i % 2 ^ k

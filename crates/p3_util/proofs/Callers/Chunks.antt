@@ -1,13 +1,18 @@
 -- What calls on chunks add up to, what padded lanes add up to, and which item a padded list has at
 -- a place.
-use Rattle.std.proofs.Common.{◌≡◌, ℕ, zero, suc, ◌+◌, ◌-◌, ◌<◌, ◌≤◌, Some, List, [], ◌∷◌, ◌++◌, length, get_or, map, slice_get, sum, refl, sym, ap, ◌∙◌, arith}
+use Rattle.std.proofs.Common.{◌≡◌, ℕ, zero, suc, ◌+◌, ◌-◌, ◌*◌, ◌/◌, ◌%◌, ◌<◌, ◌≤◌, inl, inr, Some, List, [], ◌∷◌, ◌++◌, length, get_or, map, slice_get, sum, refl, sym, ap, ◌∙◌, arith}
+use Rattle.std.proofs.Math.Nat.{lt_of_mul-lt-mul_left}
+use Rattle.std.proofs.lemmas.List.{get_or-map, length-map}
 use Rattle.std.proofs.lemmas.List.Folds.{sum_by-replicate}
 use Rattle.std.proofs.lemmas.List.Sums.{sum-map, sum_by-append, sum_by-cons}
+use Rattle.std.proofs.lemmas.Nat.{div-mul-add, mod-mul-add}
+use Rattle.std.proofs.lemmas.Option.{get_or_from_slice_get, slice_get-get_or, slice_get_cases, slice_get_within}
+use Rattle.std.specs.Int.{div_ceil}
 use Rattle.std.specs.List.{FoldsTo, sum_by}
 use Rattle.std.specs.Prelude.{replicate}
 use Rattle.p3_util.specs.Flat.{flat}
 use Rattle.p3_util.specs.Pieces.{padded, padded_pieces, pieces}
-use Rattle.p3_util.proofs.PiecesLemmas.{joined-pieces}
+use Rattle.p3_util.proofs.PiecesLemmas.{div_ceil-upper, joined-pieces, length-pieces, slice_get-pieces}
 use Rattle.p3_util_kernels.proofs.ListParts.{slice_get-append_left, slice_get-append_right}
 
 -- If each step over a piece adds the sum of the piece to what `total` reads, the steps over all
@@ -63,3 +68,42 @@ module _ {A : Type 0} (fill : A) where
       slice_get-append_right xs (replicate n fill) i (i - length xs) (omega arith) ∙ fill_place n (i - length xs) (omega arith)
 
 pub ruleset padded_read = (padded_index, padded_inside, padded_beyond)
+
+-- An item of a lane, which is a piece of a list that is filled up: it is the item of the list at its
+-- place.
+piece_inside : {A : Type 0} (n p j : ℕ) (fill : A) (xs : List A) → p * n + j < length xs → j < n → p < length (padded_pieces n fill xs)
+piece_inside zero p j fill xs h inside = absurd (omega arith)
+piece_inside (suc m) p j fill xs h inside =
+    let n = suc m in
+    let upper : length xs ≤ div_ceil (length xs) n * n = div_ceil-upper (length xs) n (omega arith) in
+    let len : length (padded_pieces n fill xs) ≡ div_ceil (length xs) n = length-map (pieces n xs) (padded n fill) ∙ length-pieces n xs in
+    let below : p < div_ceil (length xs) n = lt_of_mul-lt-mul_left n (omega arith) in
+    omega arith
+
+piece_item : {A : Type 0} (n p j : ℕ) (fill : A) (xs : List A) → p * n + j < length xs → j < n
+    → slice_get (get_or (padded_pieces n fill xs) p []) j ≡ slice_get xs (p * n + j)
+piece_item zero p j fill xs h inside = absurd (omega arith)
+piece_item {A} (suc m) p j fill xs h inside =
+    let n = suc m in
+    let many : p < length (pieces n xs) = let c = piece_inside n p j fill xs h inside in omega (arith, length-map (pieces n xs) (padded n fill)) in
+    let row : (p * n + j) / n ≡ p = div-mul-add p n j inside in
+    let column : (p * n + j) % n ≡ j = mod-mul-add p n j inside in
+    let whole : slice_get xs (p * n + j) ≡ slice_get (get_or (pieces n xs) p []) j = rw (row, column) at (slice_get-pieces n (p * n + j) xs (omega arith) h) in
+    let piece = get_or (pieces n xs) p [] in
+    let full : get_or (padded_pieces n fill xs) p [] ≡ padded n fill piece = get_or-map (padded n fill) (pieces n xs) p [] [] many in
+    let has : j < length piece = elim (slice_get_cases xs (p * n + j)).1 [
+      | inl (x, less, some, read) ↦ slice_get_within piece j x (sym whole ∙ some)
+      | inr (past, none) ↦ absurd (omega arith)
+    ] in
+    rw full (slice_get-append_left piece (replicate (n - length piece) fill) j has ∙ sym whole)
+
+module _ {A : Type 0} (n : ℕ) (fill : A) (xs : List A) (lanes : List (List A)) (cut : lanes ≡ padded_pieces n fill xs) (p j : ℕ) (inside : p * n + j < length xs) (column : j < n) where
+  pub lane_item : slice_get (get_or lanes p []) j ≡ slice_get xs (p * n + j)
+  lane_item = rw cut (piece_item n p j fill xs inside column)
+
+  pub lane_index : (d : A) → get_or (get_or lanes p []) j d ≡ get_or xs (p * n + j) d
+  lane_index d =
+      let some : slice_get xs (p * n + j) ≡ Some (get_or xs (p * n + j) d) = slice_get-get_or xs (p * n + j) d inside in
+      get_or_from_slice_get (get_or lanes p []) j (get_or xs (p * n + j) d) d (lane_item ∙ some)
+
+pub ruleset item_of_lane = (lane_item, lane_index)

@@ -1,14 +1,16 @@
 -- A map after an insert: what a look-up finds, and the sum of all values.
-use Rattle.std.proofs.Common.{◌≡◌, ◌≢◌, ℕ, ◌+◌, ◌≤◌, Bool, true, false, cond, is_some, nat_eq, Some, None, List, [], ◌∷◌, ◌++◌, Bor, sum, refl, sym, ap, ◌∙◌, arith}
-use Rattle.std.proofs.lemmas.Bool.{ne_eqb}
+use Rattle.std.proofs.Common.{◌≡◌, ◌≢◌, ℕ, ◌+◌, ◌≤◌, Bool, true, false, ◌&&◌, cond, Decides, IsTrue, is_some, nat_eq, Some, None, List, [], ◌∷◌, ◌++◌, Bor, sum, refl, sym, ap, ◌∙◌, arith}
+use Rattle.std.proofs.lemmas.Bool.{and_from, and_parts, ne_eqb}
 use Rattle.std.proofs.lemmas.List.{map-append}
 use Rattle.std.proofs.lemmas.Map.Entries.{sum_by-set_value}
 use Rattle.std.proofs.lemmas.Map.Steps.{lookup-le-sum}
 use Rattle.std.proofs.lemmas.List.Sums.{sum_by-append}
-use Rattle.std.specs.Cmp.{IsEquivalence, nat_eq_equiv}
+use Rattle.std.proofs.lemmas.Slice.Eq.{slice_eq-Decides}
+use Rattle.std.specs.Cmp.{IsEquivalence, nat_eq_equiv, unsigned_Decides}
 use Rattle.std.specs.Cmp.Lexicographic.{on_texts_equal, pointwise}
 use Rattle.std.specs.Map.{lookup, set_value, values_of}
 use Rattle.std.specs.Option.{UnwrapsOrElse, unwrap_or}
+use Rattle.std.specs.Ordering.{eq_of_both, on}
 use Rattle.p3_util.specs.LinearMap.{put, value_at}
 use Rattle.p3_util.proofs.MapLemmas.{lookup_put}
 
@@ -125,3 +127,27 @@ module _ (pairs : List (ℕ × ℕ)) (k : ℕ) where
   number_or_zero = key_or_zero nat_eq_equiv pairs k
 
 pub ruleset values_summed = (key_summed, number_summed, text_summed, key_within_sum, number_within_sum, text_within_sum, key_or_zero, number_or_zero, text_or_zero)
+
+-- a value that is in the map is at most the sum of all values
+pub value_within_sum : {K : Type 0} (eq : K → K → Bool) (pairs : List (K × ℕ)) (k : K) (v : ℕ) → value_at eq pairs k ≡ Some v → v ≤ sum (values_of pairs)
+value_within_sum eq pairs k v known =
+    let most : unwrap_or (value_at eq pairs k) 0 ≤ sum (values_of pairs) = lookup-le-sum (eq k) pairs in
+    rw known at most
+
+-- two maps with numbers as keys and values are equal exactly if `==` returns true
+same_pairs : (p q : ℕ × ℕ) → Decides (nat_eq p.0 q.0 && nat_eq p.1 q.1) (p ≡ q)
+same_pairs p q = (
+  λ held i. (
+    (unsigned_Decides p.0 q.0).0 (and_parts _ _ held).0 i,
+    (unsigned_Decides p.1 q.1).0 (and_parts _ _ held).1 i,
+  ),
+  λ same. and_from _ _ ((unsigned_Decides p.0 q.0).1 (ap (λ (u : ℕ × ℕ). u.0) same)) ((unsigned_Decides p.1 q.1).1 (ap (λ (u : ℕ × ℕ). u.1) same)),
+)
+
+pub equal_pairs : (r : Bool) (xs ys : List (ℕ × ℕ)) → r ≡ pointwise (eq_of_both (on (λ x. x.0) nat_eq) (on (λ x. x.1) nat_eq)) xs ys → IsTrue r → xs ≡ ys
+equal_pairs r xs ys compared held = (slice_eq-Decides same_pairs xs ys r compared).0 held
+
+pub pairs_compared : (r : Bool) (xs ys : List (ℕ × ℕ)) → r ≡ pointwise (eq_of_both (on (λ x. x.0) nat_eq) (on (λ x. x.1) nat_eq)) xs ys → xs ≡ ys → IsTrue r
+pairs_compared r xs ys compared same = (slice_eq-Decides same_pairs xs ys r compared).1 same
+
+pub ruleset maps_equal = (equal_pairs, pairs_compared)

@@ -1,20 +1,34 @@
--- Where an item of a reversal comes from; that a list has only one reversal; that reversing it twice
--- gives the list back; and that a list of at most two items is its own reversal.
-use Rattle.std.proofs.Common.{◌≡◌, ℕ, zero, suc, ◌+◌, ◌*◌, ◌^◌, ◌<◌, ◌≤◌, List, [], ◌∷◌, length, slice_get, refl, sym, ap, ◌∙◌, arith}
+-- Where an item of a reversal comes from, and where an item goes; that a list has only one reversal;
+-- that reversing it twice gives the list back; that a list of at most two items is its own reversal,
+-- and so is a list of equal items; and that the first and the last item stay.
+use Rattle.std.proofs.Common.{◌≡◌, ℕ, zero, suc, ◌+◌, ◌-◌, ◌*◌, ◌^◌, ◌<◌, ◌≤◌, inl, inr, Some, List, [], ◌∷◌, length, replicate, slice_get, slice_index, refl, sym, ap, ◌∙◌, arith}
 use Rattle.std.proofs.Math.Pow.{pow_mono}
-use Rattle.p3_util_kernels.specs.Digits.{rev}
+use Rattle.std.proofs.lemmas.List.{length-replicate}
+use Rattle.std.proofs.lemmas.Option.{slice_get-get_or}
+use Rattle.p3_util_kernels.specs.Digits.{rev, rev_word}
+use Rattle.p3_util_kernels.specs.Powers.{HasLog2}
 use Rattle.p3_util_kernels.specs.Reversal.{IsReversal, IsReversible, IsRowReversal, IsZeroOrPowerOfTwo}
 use Rattle.std.proofs.lemmas.Nat.{pow_pos}
-use Rattle.p3_util_kernels.proofs.DigitsLemmas.{rev-lt, rev-of-zero, rev-suc, rev-zero}
+use Rattle.p3_util_kernels.proofs.DigitsLemmas.{rev-lt, rev-of-zero, rev-rev-below, rev-suc, rev-zero}
 use Rattle.p3_util_kernels.proofs.Lengths.{zero_or_power}
+use Rattle.p3_util_kernels.proofs.Logs.{power_of_two}
+use Rattle.p3_util_kernels.proofs.SameList.{same_places}
 use Rattle.p3_util_kernels.proofs.ReversalLemmas.{IsReversal-unique, row_reversed_back, IsRowReversal-unique, IsReversal-from_power}
-use Rattle.p3_util.proofs.Callers.Bits.{pair_below, rev_even, rev_odd, rev_longer}
+use Rattle.p3_util.proofs.Callers.Bits.{log_reversible, pair_below, rev_even, rev_odd, rev_first, rev_last, rev_longer}
 
 -- a number of one digit is its own reverse
 one_digit : (i : ℕ) → i < 2 ^ 1 → rev 1 i ≡ i
 one_digit zero h = rev-of-zero 1
 one_digit (suc zero) h = rw (rev-suc 0 1, rev-zero 1) refl
 one_digit (suc (suc i)) h = absurd (omega arith)
+
+-- `rev_word` of an index. An index into one item is 0, whose 64 bits are reversed
+word_same : (k i : ℕ) → i < 2 ^ k → rev_word k i ≡ rev k i
+unfolding rev_word
+word_same zero i h =
+    let none : i ≡ 0 = omega arith in
+    rw none (rev-of-zero 64 ∙ sym (rev-of-zero 0))
+word_same (suc k) i h = refl
 
 module _ {A : Type 0} where
   -- place i of a reversal of 2 ^ k items
@@ -23,6 +37,24 @@ module _ {A : Type 0} where
       let from : i * 1 + 0 ≡ i = omega arith in
       let to : rev k i * 1 + 0 ≡ rev k i = omega arith in
       rw (from, to) at (reversal.places k i 0 (omega arith) h (omega arith))
+
+  -- where the item at i goes: to the reverse of i. The number of digits is the logarithm of the
+  -- length, or a call such as `reverse_bits` finds it.
+  pub place_moved : (k i : ℕ) (old new : List A) → IsReversal old new → length old ≡ 2 ^ k → i < 2 ^ k → slice_get new (rev k i) ≡ slice_get old i
+  place_moved k i old new reversal len h =
+      reversed_place k (rev k i) old new reversal len (rev-lt k i) ∙ ap (slice_get old) (rev-rev-below k i h)
+
+  pub word_moved : (k i p : ℕ) (old new : List A) → IsReversal old new → length old ≡ 2 ^ k → i < length old → p ≡ rev_word k i
+      → slice_get new p ≡ slice_get old i
+  word_moved k i p old new reversal len h e =
+      let below : i < 2 ^ k = omega arith in
+      rw (e, word_same k i below) (place_moved k i old new reversal len below)
+
+  pub bits_moved : (i p : ℕ) (old new : List A) → IsReversal old new → HasLog2 (length old) → i < length old
+      → ((k : ℕ) → length old ≡ 2 ^ k → p ≡ rev_word k i) → slice_get new p ≡ slice_get old i
+  bits_moved i p old new reversal has h at =
+      let (k, len) = power_of_two (length old) has in
+      word_moved k i p old new reversal len h (at k len)
 
   -- the first 2 ^ k places of a reversal of 2 ^ (k + s) items
   pub reversed_longer : (k s i : ℕ) (old new : List A) → IsReversal old new → length old ≡ 2 ^ (k + s) → i < 2 ^ k
@@ -74,4 +106,56 @@ module _ {A : Type 0} where
   pub short_stays : (old new : List A) → IsReversal old new → length old ≤ 2 → IsReversible (length old) → new ≡ old
   short_stays old new reversal h fits = reversed_once old new old reversal (short_reversed old h) fits
 
+  -- the first and the last item stay where they are
+  ends : (k : ℕ) (old new : List A) → IsReversal old new → length old ≡ 2 ^ k
+      → (slice_get new 0 ≡ slice_get old 0) × (slice_get new (2 ^ k - 1) ≡ slice_get old (2 ^ k - 1))
+  ends k old new reversal len =
+      let some = pow_pos k in (
+        reversed_place k 0 old new reversal len some ∙ ap (slice_get old) (rev_first k),
+        reversed_place k (2 ^ k - 1) old new reversal len (omega arith) ∙ ap (slice_get old) (rev_last k),
+      )
+
+  no_items : (xs ys : List A) → length xs ≡ 0 → length ys ≡ length xs → ys ≡ xs
+  no_items xs ys none same = same_places ys xs same (λ i h. absurd (omega arith))
+
+  pub first_stays : (old new : List A) → IsReversal old new → IsReversible (length old) → slice_get new 0 ≡ slice_get old 0
+  first_stays old new reversal fits = elim (zero_or_power (length old) fits) [
+    | inl none ↦ ap (λ xs. slice_get xs 0) (no_items old new none reversal.same_length)
+    | inr (k, len) ↦ (ends k old new reversal len).0
+  ]
+
+  pub last_stays : (old new : List A) → IsReversal old new → IsReversible (length old)
+      → slice_get new (length old - 1) ≡ slice_get old (length old - 1)
+  last_stays old new reversal fits = elim (zero_or_power (length old) fits) [
+    | inl none ↦ ap (λ xs. slice_get xs (length old - 1)) (no_items old new none reversal.same_length)
+    | inr (k, len) ↦ rw len ((ends k old new reversal len).1)
+  ]
+
+  -- a list of equal items is its own reversal
+  replicate_get : (n i : ℕ) (x : A) → i < n → slice_get (replicate n x) i ≡ Some x
+  replicate_get zero i x h = absurd (omega arith)
+  replicate_get (suc n) zero x h = refl
+  replicate_get (suc n) (suc i) x h = replicate_get n i x (omega arith)
+
+  pub equal_stay : (n : ℕ) (x : A) (new : List A) → IsReversal (replicate n x) new → IsReversible n → new ≡ replicate n x
+  equal_stay n x new reversal fits = elim (zero_or_power n fits) [
+    | inl none ↦ no_items (replicate n x) new (length-replicate n x ∙ none) reversal.same_length
+    | inr (k, len) ↦
+        let whole : length (replicate n x) ≡ 2 ^ k = length-replicate n x ∙ len in
+        same_places new (replicate n x) reversal.same_length (λ i h.
+        let hi : i < 2 ^ k = omega (arith, whole, reversal.same_length) in
+        reversed_place k i (replicate n x) new reversal whole hi
+        ∙ replicate_get n (rev k i) x (omega (arith, rev-lt k i)) ∙ sym (replicate_get n i x (omega arith)))
+  ]
+
 pub ruleset short_same = (short_reversed, short_stays)
+
+pub ruleset item_moved = (bits_moved, word_moved, place_moved, log_reversible)
+
+pub ruleset ends_stay = (first_stays, last_stays)
+
+-- a list of numbers that has at each place the number at the reverse of the place
+pub reversed_by_index : (k : ℕ) (old new : List ℕ) → length new ≡ length old → length old ≡ 2 ^ k
+    → ((i : ℕ) → i < 2 ^ k → slice_index new i ≡ slice_index old (rev k i)) → IsReversal old new
+reversed_by_index k old new same len at = reversed_by_places k old new same len (λ i h.
+    slice_get-get_or new i 0 (omega arith) ∙ ap Some (at i h) ∙ sym (slice_get-get_or old (rev k i) 0 (omega (arith, rev-lt k i))))

@@ -1,6 +1,7 @@
--- That a list has only one transpose; transposing there and back; the first row and column; what a
--- region leaves as it was; and a reversal by way of a transpose.
-use Rattle.std.proofs.Common.{◌≡◌, ℕ, ◌+◌, ◌*◌, ◌/◌, ◌%◌, ◌^◌, ◌<◌, ◌≤◌, ◌⊎◌, inl, inr, List, length, slice_get, refl, sym, ap, ◌∙◌, arith}
+-- That a list has only one transpose; transposing there and back; the first row and column; a matrix
+-- of one row or column; matrices one after another; what a region leaves as it was; and a reversal by
+-- way of a transpose.
+use Rattle.std.proofs.Common.{◌≡◌, ℕ, ◌+◌, ◌*◌, ◌/◌, ◌%◌, ◌^◌, ◌<◌, ◌≤◌, ◌⊎◌, inl, inr, List, length, take, drop, slice_get, refl, sym, ap, ◌∙◌, arith}
 use Rattle.p3_util_kernels.specs.Transpose.{IsTranspose}
 use Rattle.p3_util_kernels.proofs.Matrix.{IsTranspose-unique, transpose_turned}
 use Rattle.std.proofs.lemmas.Bool.{cases_lt}
@@ -12,6 +13,8 @@ use Rattle.p3_util_kernels.specs.Region.{IsInRegion, IsRegionTransposed, LiesInM
 use Rattle.p3_util_kernels.specs.Reversal.{IsReversal, IsRowReversal}
 use Rattle.p3_util_kernels.proofs.DigitsLemmas.{rev-lt, rev-parts}
 use Rattle.p3_util_kernels.proofs.ReversalLemmas.{IsReversal-from_power}
+use Rattle.p3_util_kernels.proofs.SameList.{same_places}
+use Rattle.p3_util.proofs.Callers.Rows.{part_within}
 
 module _ {A : Type 0} where
   -- A list has only one transpose, and transposing there and back gives it back. The second
@@ -39,7 +42,45 @@ module _ {A : Type 0} where
       let to : y * width + 0 ≡ q = omega arith in
       rw (from, to) at (turned.places 0 y some hy)
 
+  -- a transpose of one row or of one column is the same list
+  pub one_column : (height : ℕ) (old new : List A) → IsTranspose 1 height old new → length old ≡ height → new ≡ old
+  one_column height old new turned len =
+      same_places new old (turned.same_length ∙ omega arith) (λ i h.
+      let from : 0 * height + i ≡ i = omega arith in
+      let to : i * 1 + 0 ≡ i = omega arith in
+      rw (from, to) at (turned.places 0 i (omega arith) (omega (arith, turned.same_length))))
+
+  pub one_row : (width : ℕ) (old new : List A) → IsTranspose width 1 old new → length old ≡ width → new ≡ old
+  one_row width old new turned len =
+      same_places new old (turned.same_length ∙ omega arith) (λ i h.
+      let from : i * 1 + 0 ≡ i = omega arith in
+      let to : 0 * width + i ≡ i = omega arith in
+      rw (from, to) at (turned.places i 0 (omega (arith, turned.same_length)) (omega arith)))
+
+  pub column_alone : (width height : ℕ) (old new : List A) → IsTranspose width height old new → width ≡ 1 → length old ≡ width * height → new ≡ old
+  column_alone width height old new turned one len =
+      one_column height old new (rw one at turned) (len ∙ rw one (omega arith))
+
+  pub row_alone : (width height : ℕ) (old new : List A) → IsTranspose width height old new → height ≡ 1 → length old ≡ width * height → new ≡ old
+  row_alone width height old new turned one len =
+      one_row width old new (rw one at turned) (len ∙ rw one (omega arith))
+
 pub ruleset transposed_first = (first_in_rows, first_row)
+
+pub ruleset one_line = (one_column, one_row)
+
+pub ruleset line_alone = (column_alone, row_alone)
+
+-- one more matrix of several that stand one after another
+pub transposes_more : {A : Type 0} (w h m : ℕ) (input old new : List A)
+    → IsTranspose w h (take (w * h) (drop (m * (w * h)) input)) (take (w * h) (drop (m * (w * h)) new))
+    → ((at n : ℕ) → at + n ≤ m * (w * h) → take n (drop at new) ≡ take n (drop at old))
+    → ((r : ℕ) → r < m → IsTranspose w h (take (w * h) (drop (r * (w * h)) input)) (take (w * h) (drop (r * (w * h)) old)))
+    → (r : ℕ) → r < m + 1 → IsTranspose w h (take (w * h) (drop (r * (w * h)) input)) (take (w * h) (drop (r * (w * h)) new))
+transposes_more w h m input old new last before done r less = elim (cases_lt r m) [
+  | inl earlier ↦ rw (before (r * (w * h)) (w * h) (part_within r m (w * h) earlier)) (done r earlier)
+  | inr from ↦ let same : r ≡ m = omega arith in rw same last
+]
 
 -- What a region leaves as it was: the items outside of it, by row and column. The place of row y and
 -- column x is `x * height + y`.
