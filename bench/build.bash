@@ -6,6 +6,10 @@ library=
 checked=
 instructions=
 parallel=
+before=
+built=
+debug=
+lines=
 while [ $# -gt 0 ]; do
     case $1 in
     --help)
@@ -26,6 +30,16 @@ while [ $# -gt 0 ]; do
         original=$parallel/libp3_util.rlib
         shift
         ;;
+    --before)
+        before=${2:?--before FOLDER}
+        shift
+        ;;
+    --debug)
+        debug=${2:?--debug LEVEL}
+        shift
+        ;;
+    --lines) lines=yes ;;
+    --built) built=yes ;;
     --library) library=yes ;;
     --checked) checked=yes ;;
     --instructions) instructions=yes ;;
@@ -34,12 +48,34 @@ while [ $# -gt 0 ]; do
     shift
 done
 
+[ -z "$built" ] || return 0
 mkdir -p "$out"
-rust+=(--edition 2024 -C opt-level=3 ${cpu:+-C target-cpu="$cpu"})
-"${rust[@]}" --crate-type lib --crate-name p3_util_proved --check-cfg 'cfg(test)' \
-    --check-cfg 'cfg(feature, values("checked"))' ${checked:+--cfg 'feature="checked"'} \
-    -o "$out/libp3_util_proved.rlib" "$here/../rust/src/lib.rs"
-link=(--extern "p3_util_proved=$out/libp3_util_proved.rlib")
+link=(--extern "p3_util_proved=$out/libp3_util_proved.rlib" --extern "other=$out/libother.rlib")
+rust+=(--edition 2024 ${cpu:+-C target-cpu="$cpu"})
+# The options of the benchmark, which is the user's crate here, and of the package.
+level=(-C opt-level=3)
+package_level=(-C opt-level=3)
+if [ -n "$debug" ]; then
+    # Those of cargo's profile `dev`, and with --lines those that rust/README.md gives for the package.
+    dev=(-C codegen-units=256 -C debug-assertions -C overflow-checks)
+    level=("${dev[@]}" -C "opt-level=$debug")
+    package_level=("${dev[@]}" -C opt-level=0)
+    [ -z "$lines" ] || package_level=(-C codegen-units=256 -C opt-level=3)
+fi
+
+# package NAME FOLDER: builds the package of the checkout in this folder as a crate with this name.
+package() {
+    "${rust[@]}" "${package_level[@]}" --crate-type lib --crate-name "$1" --check-cfg 'cfg(test)' --cap-lints warn \
+        --check-cfg 'cfg(feature, values("checked"))' ${checked:+--cfg 'feature="checked"'} \
+        -o "$out/lib$1.rlib" "$2/rust/src/lib.rs"
+}
+
+package p3_util_proved "$here/.."
+"${rust[@]}" -C opt-level=3 --crate-type lib --crate-name other -o "$out/libother.rlib" "$here/src/other.rs"
+if [ -n "$before" ]; then
+    package p3_util_before "$before"
+    link+=(--extern "p3_util_before=$out/libp3_util_before.rlib" --cfg before)
+fi
 if [ -n "$library" ]; then
     crate=$here/../crates/p3_util_c
     (cd "$crate" && rt lib ${cpu:+--cpu "$cpu"}) >"$out/rt.log" 2>&1 || {
@@ -54,10 +90,10 @@ if [ -n "$original" ]; then
 fi
 if [ -n "$parallel" ]; then
     # The overlay over the package and the original, as cargo builds it with the feature.
-    "${rust[@]}" --crate-type lib --crate-name p3_util_overlay --cfg 'feature="parallel"' "${link[@]}" --extern "original=$original" \
-        --extern "p3_maybe_rayon=$(echo "$parallel"/libp3_maybe_rayon-*.rlib)" -L "dependency=$parallel" \
-        -o "$out/libp3_util_overlay.rlib" "$here/../rust/overlay/src/lib.rs"
+    "${rust[@]}" "${level[@]}" --crate-type lib --crate-name p3_util_overlay --cfg 'feature="parallel"' "${link[@]}" \
+        --extern "original=$original" --extern "p3_maybe_rayon=$(echo "$parallel"/libp3_maybe_rayon-*.rlib)" \
+        -L "dependency=$parallel" -o "$out/libp3_util_overlay.rlib" "$here/../rust/overlay/src/lib.rs"
     link+=(--extern "overlay=$out/libp3_util_overlay.rlib" --extern "rayon=$(echo "$parallel"/librayon-*.rlib)" \
         -L "dependency=$parallel" -L "dependency=$out" --cfg parallel)
 fi
-"${rust[@]}" --check-cfg 'cfg(original, library, parallel)' --crate-name bench "${link[@]}" -o "$out/bench" "$here/src/main.rs"
+"${rust[@]}" "${level[@]}" --check-cfg 'cfg(original, library, parallel, before)' --crate-name bench "${link[@]}" -o "$out/bench" "$here/src/main.rs"

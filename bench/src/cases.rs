@@ -67,6 +67,8 @@ pub enum Work {
 pub struct Case {
     pub work: Work,
     pub item_size: usize,
+    /// The number of parts to ask for, if the call is cut into parts.
+    pub parts: Option<usize>,
 }
 
 impl Case {
@@ -169,7 +171,8 @@ pub fn chosen(options: &Options) -> Vec<Case> {
         .chain(transposes)
         .filter(|work| options.calls.iter().any(|it| it == work.call()))
         .collect();
-    let of_size = |item_size| works.iter().map(move |&work| Case { work, item_size });
+    let parts = options.parts;
+    let of_size = |item_size| works.iter().map(move |&work| Case { work, item_size, parts });
     let sizes = distinct(options.items.iter().flatten().copied());
     let mut cases: Vec<Case> = sizes.into_iter().flat_map(of_size).filter(Case::is_whole).collect();
     cases.sort_by_key(|case| case.work.call());

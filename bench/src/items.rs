@@ -63,9 +63,44 @@ impl<T: Item, const N: usize> Item for [T; N] {
     }
 }
 
+/// Who makes a call.
+#[derive(Clone, Copy, PartialEq, Eq)]
+pub enum Contender {
+    /// The package, the overlay on all threads, or the static library.
+    Proved,
+    /// `p3-util` 0.8.0.
+    Original,
+    /// A loop over all pairs of rows, on all threads, which crates write without a call for rows.
+    Pairs,
+    /// The package's whole call on one thread, if parts or several threads are measured.
+    Call,
+    /// The package of another checkout.
+    Before,
+    /// A copy of the same bytes.
+    Copy,
+}
+
+/// The contenders for a case, which take turns. The first one is measured, and the last one is the copy. The original has
+/// no call for rows.
+pub fn contenders(case: &Case) -> Vec<Contender> {
+    let rows = matches!(case.work, Work::Rows { .. });
+    let is_there = [
+        (Contender::Proved, true),
+        (Contender::Original, cfg!(original) && !rows),
+        (Contender::Pairs, cfg!(parallel) && rows),
+        (Contender::Call, cfg!(parallel) || case.parts.is_some()),
+        (Contender::Before, cfg!(before)),
+        (Contender::Copy, true),
+    ];
+    is_there
+        .into_iter()
+        .filter_map(|(contender, is)| is.then_some(contender))
+        .collect()
+}
+
 impl Task for Case {
     fn contenders(&self) -> usize {
-        contenders(self.work).len()
+        contenders(self).len()
     }
 
     fn prepare(&self) -> Runner {
@@ -90,7 +125,7 @@ impl Task for Case {
 }
 
 fn runner<T: Item>(case: &Case) -> Runner {
-    let contenders = contenders(case.work);
+    let contenders = contenders(case);
     let mut lists = Lists::<T>::new(case);
     contenders.iter().for_each(|&contender| lists.check(contender));
     Box::new(move |contender, times| lists.run(contenders[contender], times))
@@ -101,43 +136,6 @@ struct Lists<T> {
     case: Case,
     from: Vec<T>,
     to: Vec<T>,
-}
-
-#[derive(Clone, Copy, PartialEq, Eq)]
-enum Contender {
-    Proved,
-    #[cfg(original)]
-    Original,
-    /// A loop over all pairs of rows, on all threads.
-    #[cfg(parallel)]
-    Pairs,
-    /// The package's call on one thread.
-    #[cfg(parallel)]
-    Call,
-    Copy,
-}
-
-/// The contenders for a call, which take turns. The original has no call for rows. On several threads, a loop over the
-/// pairs of rows is measured instead, which crates without such a call write.
-fn contenders(work: Work) -> &'static [Contender] {
-    match work {
-        Work::Rows { .. } => &[
-            Contender::Proved,
-            #[cfg(parallel)]
-            Contender::Pairs,
-            #[cfg(parallel)]
-            Contender::Call,
-            Contender::Copy,
-        ],
-        _ => &[
-            Contender::Proved,
-            #[cfg(original)]
-            Contender::Original,
-            #[cfg(parallel)]
-            Contender::Call,
-            Contender::Copy,
-        ],
-    }
 }
 
 impl<T: Item> Lists<T> {
@@ -153,45 +151,62 @@ impl<T: Item> Lists<T> {
     /// Makes the contender's call `times` times, each time on the result of the call before.
     fn run(&mut self, contender: Contender, times: u32) {
         let (from, to, row_width) = (self.from.as_slice(), self.to.as_mut_slice(), self.case.row_width());
-        match (contender, self.case.work) {
-            (Contender::Proved, Work::Reverse { .. }) => repeat(times, to, (), |to, ()| reverse(to)),
-            (Contender::Proved, Work::Rows { .. }) => repeat(times, to, row_width, reverse_rows),
-            (Contender::Proved, Work::Transpose { width, height }) => {
-                repeat(times, to, (from, width, height), |to, (from, width, height)| {
-                    transpose(from, to, width, height)
-                })
-            }
+        /// The call of the case, which is one of these three.
+        macro_rules! call_of {
+            ($reverse:expr, $reverse_rows:expr, $transpose:expr $(,)?) => {
+                match self.case.work {
+                    Work::Reverse { .. } => repeat(times, to, (), |to, ()| $reverse(to)),
+                    Work::Rows { .. } => repeat(times, to, row_width, $reverse_rows),
+                    Work::Transpose { width, height } => {
+                        repeat(times, to, (from, width, height), |to, (from, width, height)| {
+                            $transpose(from, to, width, height)
+                        })
+                    }
+                }
+            };
+        }
+        /// The call of the case in parts, one after the other, by the package with this name.
+        macro_rules! parts_of {
+            ($package:ident, $parts:ident) => {
+                call_of!(
+                    |to| $package::parts::reversal(to, $parts).for_each(|part| part.run()),
+                    |to, width| $package::parts::row_reversal(to, width, $parts).for_each(|part| part.run()),
+                    |from, to, width, height| {
+                        $package::parts::transpose(from, to, width, height, $parts).for_each(|part| part.run())
+                    },
+                )
+            };
+        }
+        match contender {
+            Contender::Proved => match self.case.parts {
+                Some(parts) => parts_of!(p3_util_proved, parts),
+                None => call_of!(reverse, reverse_rows, transpose),
+            },
             #[cfg(original)]
-            (Contender::Original, Work::Reverse { .. }) => {
-                repeat(times, to, (), |to, ()| p3_util::reverse_slice_index_bits(to))
-            }
-            #[cfg(original)]
-            (Contender::Original, Work::Rows { .. }) => unreachable!("the original has no call for rows"),
-            #[cfg(original)]
-            (Contender::Original, Work::Transpose { width, height }) => {
-                repeat(times, to, (from, width, height), |to, (from, width, height)| {
-                    p3_util::transpose::transpose(from, to, width, height)
-                })
-            }
+            Contender::Original => call_of!(
+                p3_util::reverse_slice_index_bits,
+                |_, _| unreachable!("the original has no call for rows"),
+                p3_util::transpose::transpose,
+            ),
             #[cfg(parallel)]
-            (Contender::Pairs, Work::Rows { .. }) => repeat(times, to, row_width, crate::pairs::reverse_rows),
-            #[cfg(parallel)]
-            (Contender::Pairs, _) => unreachable!("this call moves no rows"),
-            #[cfg(parallel)]
-            (Contender::Call, Work::Reverse { .. }) => {
-                repeat(times, to, (), |to, ()| p3_util_proved::reverse_slice_index_bits(to))
-            }
-            #[cfg(parallel)]
-            (Contender::Call, Work::Rows { .. }) => {
-                repeat(times, to, row_width, p3_util_proved::reverse_slice_row_index_bits)
-            }
-            #[cfg(parallel)]
-            (Contender::Call, Work::Transpose { width, height }) => {
-                repeat(times, to, (from, width, height), |to, (from, width, height)| {
-                    p3_util_proved::transpose::transpose(from, to, width, height)
-                })
-            }
-            (Contender::Copy, _) => repeat(times, to, from, copy),
+            Contender::Pairs => repeat(times, to, row_width, crate::pairs::reverse_rows),
+            Contender::Call => call_of!(
+                p3_util_proved::reverse_slice_index_bits,
+                p3_util_proved::reverse_slice_row_index_bits,
+                p3_util_proved::transpose::transpose,
+            ),
+            #[cfg(before)]
+            Contender::Before => match self.case.parts {
+                Some(parts) => parts_of!(p3_util_before, parts),
+                None => call_of!(
+                    p3_util_before::reverse_slice_index_bits,
+                    p3_util_before::reverse_slice_row_index_bits,
+                    p3_util_before::transpose::transpose,
+                ),
+            },
+            Contender::Copy => repeat(times, to, from, copy),
+            #[cfg(not(all(original, parallel, before)))]
+            _ => unreachable!("the benchmark was built without this contender"),
         }
     }
 

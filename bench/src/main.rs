@@ -2,6 +2,7 @@
 //! compared with a copy of the same bytes.
 
 mod busy;
+mod call;
 mod cases;
 mod counts;
 mod items;
@@ -20,7 +21,7 @@ use std::process::ExitCode;
 
 use busy::Busy;
 use measure::measured;
-use options::Options;
+use options::{Mode, Options};
 use table::Row;
 
 fn main() -> ExitCode {
@@ -61,6 +62,12 @@ fn run(options: &Options) -> Result<(), String> {
         table::summaries(&rows, &options.items),
         table::slower(&rows, &options.build())
     );
+    if let Mode::Time = options.mode {
+        println!(
+            "A call of another crate that does nothing takes {:.1} ns on this machine.",
+            call::of_another_crate(options.runs)
+        );
+    }
     if let Some(file) = &options.svg {
         let svg = picture::svg(&rows, options.cpu.as_deref());
         std::fs::write(file, svg).map_err(|e| format!("{}: {e}", file.display()))?;

@@ -25,6 +25,8 @@ pub struct Options {
     pub sizes: Vec<u32>,
     pub rows: Vec<(usize, usize)>,
     pub shapes: Vec<(usize, usize)>,
+    /// The number of parts to ask for, if calls are cut into parts.
+    pub parts: Option<usize>,
     pub runs: usize,
     pub wide: bool,
     pub svg: Option<PathBuf>,
@@ -77,6 +79,7 @@ impl Options {
             sizes: (2..=22).collect(),
             rows: list(ROWS, rows)?,
             shapes: distinct(shapes.into_iter().chain(list(WIDE_SHAPES, shape)?)),
+            parts: None,
             runs: 9,
             wide: false,
             svg: None,
@@ -100,6 +103,7 @@ impl Options {
                 "--sizes" => options.sizes = sizes(&value()?)?,
                 "--rows" => options.rows = list(&value()?, rows)?,
                 "--shapes" => options.shapes = list(&value()?, shape)?,
+                "--parts" => options.parts = Some(number(&value()?)?),
                 "--runs" => options.runs = number(&value()?)?,
                 "--wide" => options.wide = true,
                 "--svg" => options.svg = Some(value()?.into()),
@@ -109,6 +113,9 @@ impl Options {
                 "--counted" => options.mode = Mode::Counted(value()?.into()),
                 _ => return Err(format!("unknown option {word}")),
             }
+        }
+        if cfg!(any(library, parallel)) && options.parts.is_some() {
+            return Err("--parts is for the package alone".into());
         }
         if options.items.is_empty() {
             options.items.push(vec![1, 4, 8, 32]);
@@ -167,8 +174,8 @@ fn shape(text: &str) -> Result<(usize, usize), String> {
 
 fn rows(text: &str) -> Result<(usize, usize), String> {
     match shape(text)? {
-        (bytes, rows) if bytes > 0 && bytes.is_multiple_of(32) && rows.is_power_of_two() => Ok((bytes, rows)),
-        _ => Err(format!("{text} is no multiple of 32 bytes by a power of two")),
+        (bytes, rows) if bytes > 0 && rows.is_power_of_two() => Ok((bytes, rows)),
+        _ => Err(format!("{text} is no number of bytes by a power of two")),
     }
 }
 

@@ -3,6 +3,7 @@
 use std::fmt::Write;
 
 use crate::cases::{CALLS, Case, distinct, groups};
+use crate::items::{Contender, contenders};
 
 #[derive(Clone, Copy)]
 pub enum Unit {
@@ -10,57 +11,58 @@ pub enum Unit {
     Instructions,
 }
 
-/// The total cost of one case: nanoseconds or instructions.
+/// What each contender took for one case: nanoseconds or instructions.
 pub struct Row {
     pub case: Case,
-    proved: f64,
-    /// The original's call. For rows on several threads, which the original does not have, it is the loop over pairs of
-    /// rows.
-    original: Option<f64>,
-    /// The package's call on one thread, if `proved` is on several threads.
-    one_thread: Option<f64>,
-    copy: f64,
+    took: Vec<(Contender, f64)>,
 }
 
 impl Row {
-    /// A row with what each contender took.
+    /// A row with what each contender took, in the order of [`contenders`].
     pub fn new(case: &Case, took: &[f64]) -> Self {
-        let (first, last) = (took[0], took[took.len() - 1]);
         Row {
             case: *case,
-            proved: first,
-            original: (took.len() >= 3).then(|| took[1]),
-            one_thread: (took.len() == 4).then(|| took[2]),
-            copy: last,
+            took: contenders(case).into_iter().zip(took.iter().copied()).collect(),
         }
     }
 
-    /// The row of the call on one thread.
-    fn on_one_thread(&self) -> Option<Self> {
-        let proved = self.one_thread?;
-        Some(Row {
-            proved,
-            one_thread: None,
-            ..*self
-        })
+    fn took(&self, contender: Contender) -> Option<f64> {
+        let &(_, took) = self.took.iter().find(|(it, _)| *it == contender)?;
+        Some(took)
+    }
+
+    /// What the first of these took divided by what the second took, if both were measured.
+    fn ratio_of(&self, a: Contender, b: Contender) -> Option<f64> {
+        Some(self.took(a)? / self.took(b)?)
     }
 
     /// What one item took, or one row if rows move.
     fn an_item(&self) -> f64 {
-        self.proved / self.case.work.units() as f64
+        self.took[0].1 / self.case.work.units() as f64
     }
 
     fn copies(&self) -> f64 {
-        self.proved / self.copy
+        self.ratio_of(Contender::Proved, Contender::Copy).unwrap_or(f64::NAN)
     }
 
     pub fn call(&self) -> &'static str {
         self.case.work.call()
     }
 
-    /// What the proved call took, if the original's time is 1.
+    /// Whom calls are compared with: the original, the loop over pairs of rows, or a copy.
+    fn base(&self) -> Contender {
+        let bases = [Contender::Original, Contender::Pairs];
+        bases
+            .into_iter()
+            .find(|&it| self.took(it).is_some())
+            .unwrap_or(Contender::Copy)
+    }
+
+    /// What the proved call took if the original's time, or that of the loop over pairs of rows, is 1.
     fn ratio(&self) -> Option<f64> {
-        self.original.map(|original| self.proved / original)
+        let base = self.base();
+        self.ratio_of(Contender::Proved, base)
+            .filter(|_| base != Contender::Copy)
     }
 
     /// The ratio to the contender that [`Row::compared_with`] names.
@@ -69,11 +71,18 @@ impl Row {
     }
 
     pub fn compared_with(&self) -> &'static str {
-        match (self.original, self.call()) {
-            (Some(_), "rows") => "a loop over pairs of rows",
-            (Some(_), _) => "the original",
-            (None, _) => "a copy",
-        }
+        name(self.base())
+    }
+}
+
+fn name(contender: Contender) -> &'static str {
+    match contender {
+        Contender::Proved => "the proved call",
+        Contender::Original => "the original",
+        Contender::Pairs => "a loop over pairs of rows",
+        Contender::Call => "the whole call on one thread",
+        Contender::Before => "the package before",
+        Contender::Copy => "a copy",
     }
 }
 
@@ -90,19 +99,20 @@ impl Unit {
 pub fn long(rows: &[Row], unit: Unit) -> String {
     let unit = unit.name();
     let mut out = format!(
-        "| call | item | shape | {unit} an item | copies | to the original | on one thread |\n\
-         |---|---|---|---|---|---|---|\n"
+        "| call | item | shape | {unit} an item | copies | to the original | to the whole call | to the package before |\n\
+         |---|---|---|---|---|---|---|---|\n"
     );
     for row in rows {
-        let Case { work, item_size } = row.case;
+        let Case { work, item_size, .. } = row.case;
         let shown = |ratio: Option<f64>| ratio.map_or(String::new(), |it| format!("{it:.2}"));
-        let one_thread = shown(row.on_one_thread().and_then(|row| row.ratio()));
         let ratio = shown(row.ratio());
+        let [call_ratio, before] =
+            [Contender::Call, Contender::Before].map(|it| shown(row.ratio_of(Contender::Proved, it)));
         let (call, shape) = (row.call(), work.shape());
         let (an_item, copies) = (row.an_item(), row.copies());
         let _ = writeln!(
             out,
-            "| {call} | {item_size} | {shape} | {an_item:.2} | {copies:.1} | {ratio} | {one_thread} |"
+            "| {call} | {item_size} | {shape} | {an_item:.2} | {copies:.1} | {ratio} | {call_ratio} | {before} |"
         );
     }
     out.push('\n');
@@ -150,32 +160,44 @@ fn cell(rows: &[&Row], shape: &str, size: usize, unit: Unit) -> String {
     }
 }
 
-/// A table for each set of sizes, with the summary of each group of rows, in all and for each size. If calls ran on
-/// several threads, another table has those on one thread.
+/// For each set of sizes, tables with the summary of each group of rows, in all and for each size. The first one compares
+/// the proved call with the original. Others do this for the whole call on one thread and for the package before, if
+/// these were measured, and compare the proved call with them.
 pub fn summaries(rows: &[Row], sets: &[Vec<usize>]) -> String {
-    let one_thread: Vec<Row> = rows.iter().filter_map(Row::on_one_thread).collect();
-    let name = if one_thread.is_empty() { "" } else { "on all threads, " };
-    sets.iter()
-        .map(|sizes| summary(name, rows, sizes) + &summary("on one thread, ", &one_thread, sizes))
-        .collect()
+    let mut out = String::new();
+    for sizes in sets {
+        let rows: Vec<&Row> = rows.iter().filter(|row| sizes.contains(&row.case.item_size)).collect();
+        let Some(base) = rows.first().map(|row| row.base()) else {
+            continue;
+        };
+        let mut compared = vec![(Contender::Proved, base)];
+        for other in [Contender::Call, Contender::Before] {
+            if rows.iter().any(|row| row.took(other).is_some()) {
+                compared.extend([(other, base), (Contender::Proved, other)]);
+            }
+        }
+        for (a, b) in compared {
+            out += &summary(&rows, sizes, a, b);
+        }
+    }
+    out
 }
 
-fn summary(name: &str, rows: &[Row], sizes: &[usize]) -> String {
-    let rows: Vec<&Row> = rows.iter().filter(|row| sizes.contains(&row.case.item_size)).collect();
-    let Some(first) = rows.first() else {
-        return String::new();
-    };
-    let mut out = format!(
-        "| {name}compared with {} | mean | worst | where |",
-        first.compared_with()
-    );
+/// A group's ratios, each with the row that it is of.
+type Ratios<'a> = Vec<(&'a Row, f64)>;
+
+fn summary(rows: &[&Row], sizes: &[usize], a: Contender, b: Contender) -> String {
+    let mut out = format!("| {}, compared with {} | mean | worst | where |", name(a), name(b));
     for size in sizes {
         let _ = write!(out, " items of {size} bytes |");
     }
     let _ = writeln!(out, "\n|---|---|---|---|{}", "---|".repeat(sizes.len()));
     for (name, has) in groups() {
-        let group: Vec<&Row> = rows.iter().copied().filter(|row| has(row.case.work)).collect();
-        line(&mut out, name, &group, sizes);
+        let group = rows.iter().filter(|row| has(row.case.work));
+        // Rows of several items are compared with a copy if the original was not measured.
+        let ratio = |row: &Row| row.ratio_of(a, if row.took(b).is_some() { b } else { row.base() });
+        let ratios: Ratios = group.filter_map(|&row| Some((row, ratio(row)?))).collect();
+        line(&mut out, name, &ratios, sizes);
     }
     out.push('\n');
     out
@@ -211,29 +233,23 @@ pub fn slower(rows: &[Row], build: &str) -> String {
 }
 
 /// The mean and the worst ratio of a group, and the mean for each size.
-fn line(out: &mut String, name: &str, group: &[&Row], sizes: &[usize]) {
-    let Some(worst) = group.iter().max_by(|a, b| a.relative().total_cmp(&b.relative())) else {
+fn line(out: &mut String, name: &str, group: &Ratios, sizes: &[usize]) {
+    let Some((worst, most)) = group.iter().max_by(|(_, a), (_, b)| a.total_cmp(b)) else {
         return;
     };
-    let (most, size, shape) = (worst.relative(), worst.case.item_size, worst.case.work.shape());
-    let _ = write!(
-        out,
-        "| {name} | {} | {most:.2} | {shape}, items of {size} |",
-        mean(group.iter())
-    );
+    let (size, shape) = (worst.case.item_size, worst.case.work.shape());
+    let all = mean(group.iter().map(|&(_, ratio)| ratio));
+    let _ = write!(out, "| {name} | {all} | {most:.2} | {shape}, items of {size} |");
     for &size in sizes {
-        let _ = write!(
-            out,
-            " {} |",
-            mean(group.iter().filter(|row| row.case.item_size == size))
-        );
+        let of_size = group.iter().filter(|(row, _)| row.case.item_size == size);
+        let _ = write!(out, " {} |", mean(of_size.map(|&(_, ratio)| ratio)));
     }
     out.push('\n');
 }
 
-/// The geometric mean as text, which is empty if there are no rows.
-fn mean<'a>(rows: impl Iterator<Item = &'a &'a Row>) -> String {
-    let logs: Vec<f64> = rows.map(|row| row.relative().ln()).collect();
+/// The geometric mean as text, which is empty if there are no ratios.
+fn mean(ratios: impl Iterator<Item = f64>) -> String {
+    let logs: Vec<f64> = ratios.map(f64::ln).collect();
     match logs.len() {
         0 => String::new(),
         len => format!("{:.2}", (logs.iter().sum::<f64>() / len as f64).exp()),
