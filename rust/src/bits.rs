@@ -17,7 +17,8 @@ use crate::kernels::bits as proved;
 #[track_caller]
 pub const fn log2_strict_usize(n: usize) -> usize {
     // The call below is proved for every power of two. This check is also a hint to the compiler, which learns from it
-    // what `1 << log2_strict_usize(n)` is. If `n` is 0, the shift by 64 is a shift by 0. It gives 1, which is not `n`.
+    // what `1 << log2_strict_usize(n)` is. Rust 1.85 does not learn this from `n.is_power_of_two()`. If `n` is 0, the
+    // shift by 64 is a shift by 0. It gives 1, which is not `n`.
     assert!(1_usize.wrapping_shl(n.trailing_zeros()) == n, "Not a power of two");
     proved::log2_strict_usize(n)
 }
