@@ -1,26 +1,11 @@
 -- Blocks whose columns are put by squares.
-use Rattle.std.proofs.Common.{◌≡◌, ◌≢◌, ℕ, ◌+◌, ◌-◌, ◌*◌, ◌%◌, ◌<◌, ◌≤◌, ◌⊎◌, List, slice_index, inl, inr, sym, ap, ◌∙◌, arith}
+use Rattle.std.proofs.Common.{◌≡◌, ◌≢◌, ℕ, ◌+◌, ◌-◌, ◌*◌, ◌%◌, ◌<◌, ◌≤◌, ◌⊎◌, List, slice_index, inl, inr, ◌∙◌, arith}
 use Rattle.std.proofs.Math.Nat.{mul-le-mul_right}
-use Rattle.std.proofs.lemmas.Bool.{cases_eq, cases_lt}
+use Rattle.std.proofs.lemmas.Bool.{cases_lt}
 use Rattle.p3_util_kernels.specs.declared.places.Block.{Block}
 use Rattle.p3_util_kernels.specs.BlockPut.{BlockFits, IsBlockPut}
 use Rattle.p3_util_kernels.specs.Registers.{AreApart, AreColumns, AreInside, AreStored, ColumnsPut, IsSide}
-use Rattle.p3_util_kernels.proofs.RegistersLemmas.{block_row}
-use Rattle.p3_util_kernels.proofs.RegistersTiles.{outside, side_cases, row_below, row_most, row_in_square, squares_apart}
-
--- the rows of a block are those of whole squares
-square_in_block : (side : ℕ) → IsSide side → (all r : ℕ) → (all ≡ 4) ⊎ (all ≡ 8) → side ≤ all → r < all → r - r % side + side ≤ all
-square_in_block = side_cases (λ side. (all r : ℕ) → (all ≡ 4) ⊎ (all ≡ 8) → side ≤ all → r < all → r - r % side + side ≤ all)
-    (λ all r k h m. elim k [ inl u ↦ omega arith | inr u ↦ omega arith ]) (λ all r k h m. elim k [ inl u ↦ omega arith | inr u ↦ omega arith ])
-    (λ all r k h m. elim k [ inl u ↦ omega arith | inr u ↦ omega arith ])
-
-block_row_is : (side c : ℕ) → (side ≡ 4) ⊎ (side ≡ 8) → c < side → c % side ≡ c
-block_row_is side c (inl is) h = rw is (omega arith)
-block_row_is side c (inr is) h = rw is (omega arith)
-
-pub side_four : (side : ℕ) → (side ≡ 4) ⊎ (side ≡ 8) → side ≢ 8 → 4 ≡ side
-side_four side (inl is) other = sym is
-side_four side (inr is) other = absurd (other is)
+use Rattle.p3_util_kernels.proofs.RegistersTiles.{AreApart-rows, AreInside-rows, SquaresMoved-rows, row_below}
 
 -- what is in one column is before the next one
 column_before : (a b height : ℕ) → a < b → a * height + height ≤ b * height
@@ -28,80 +13,56 @@ column_before a b height h =
     let next : a + 1 ≤ b = omega arith in
     omega (arith, mul-le-mul_right height next)
 
+-- what is in a row of a block is also a row that comes again
+row_in_block : (side c : ℕ) → (side ≡ 4) ⊎ (side ≡ 8) → (c % side < side) × (c < side → c % side ≡ c)
+row_in_block side c (inl is) = rw is (omega arith, λ h. omega arith)
+row_in_block side c (inr is) = rw is (omega arith, λ h. omega arith)
+
 module _ (side : ℕ) (block : Block) (col input_len len : ℕ) (is : IsSide side) (known : (block.side ≡ 4) ⊎ (block.side ≡ 8))
-    (below : col + side ≤ block.side) (fits : BlockFits block input_len len) where
-  some : 0 < side
-  some = side_cases (λ side. 0 < side) (omega arith) (omega arith) (omega arith) side is
+    (below : col + side ≤ block.side) (fits : BlockFits block input_len len) (rows cols tops : List ℕ)
+    (is_top : (c : ℕ) → c < 8 → slice_index tops c ≡ col)
+    (at_rows : (c : ℕ) → c < 8 → slice_index rows c ≡ block.from + c % block.side * block.width)
+    (at_cols : (c : ℕ) → c < 8 → slice_index cols c ≡ block.to + c % block.side * block.height) where
+  in_all : (c : ℕ) → c < block.side → c < 8
+  in_all c h = elim known [ inl u ↦ omega arith | inr u ↦ omega arith ]
 
-  pub AreInside-block_from : (from : List ℕ) → ((c : ℕ) → c < 8 → slice_index from c ≡ block.from + c % block.side * block.width + col) → AreInside side from input_len
+  pub AreInside-block_from : (from : List ℕ) → ((c : ℕ) → c < 8 → slice_index from c ≡ slice_index rows c + slice_index tops c) → AreInside 8 side from input_len
   AreInside-block_from from at j h =
-      omega (arith, at j h, some, fits.inside (j % block.side) (col + side - 1) (block_row block.side j known) (omega (arith, some)))
+      let some : 0 < side = omega (arith, row_below side is 0) in
+      omega (arith, at j h, is_top j h, at_rows j h, some, fits.inside (j % block.side) (col + side - 1) (row_in_block block.side j known).0 (omega (arith, some)))
 
-  module _ (to : List ℕ) (at : (c : ℕ) → c < 8 → slice_index to c ≡ block.to + (col + c % block.side % side) * block.height + (c % block.side - c % block.side % side)) where
-    pub AreInside-block_to : AreInside side to len
-    AreInside-block_to j h =
-        let r = j % block.side in
-        let row = block_row block.side j known in
-        let up = square_in_block side is block.side r known (omega arith) row in
-        omega (arith, at j h, some, fits.room (r - r % side + side - 1) (col + r % side) (omega (arith, some)) (omega (arith, row_below side is r)))
+  inside : (r : ℕ) → r < block.side → slice_index cols r + block.side ≤ len
+  inside r h =
+      let row = (row_in_block block.side r known).1 h in
+      omega (arith, rw row at (at_cols r (in_all r h)), fits.room (block.side - 1) r (omega arith) h)
 
-    -- where the rows before the end of the block go
-    at_row : (c : ℕ) → c < block.side → slice_index to c ≡ block.to + (col + c % side) * block.height + (c - c % side)
-    at_row c h =
-        let in_all : c < 8 = elim known [ inl u ↦ omega arith | inr u ↦ omega arith ] in
-        rw (block_row_is block.side c known h) at (at c in_all)
+  apart : (a b : ℕ) → a < b → b < block.side → (slice_index cols a + block.side ≤ slice_index cols b) ⊎ (slice_index cols b + block.side ≤ slice_index cols a)
+  apart a b h k =
+      let row_a = (row_in_block block.side a known).1 (omega arith) in
+      let row_b = (row_in_block block.side b known).1 k in
+      inl (omega (arith, rw row_a at (at_cols a (in_all a (omega arith))), rw row_b at (at_cols b (in_all b k)), fits.apart, column_before a b block.height h))
 
-    rows_apart : AreApart block.side side to
-    rows_apart a b h k =
-        let at_a = at_row a (omega arith) in
-        let at_b = at_row b k in
-        let up_a = square_in_block side is block.side a known (omega arith) (omega arith) in
-        let up_b = square_in_block side is block.side b known (omega arith) k in
-        elim (cases_eq (a % side) (b % side)) [
-          | inl same ↦
-              let on : (col + a % side) * block.height ≡ (col + b % side) * block.height = ap (λ r. (col + r) * block.height) same in
-              inl (omega (arith, squares_apart side is a b h same))
-          | inr other ↦
-              elim (cases_lt (a % side) (b % side)) [
-                | inl less ↦ inl (omega (arith, fits.apart, column_before (col + a % side) (col + b % side) block.height (omega arith)))
-                | inr more ↦ inr (omega (arith, fits.apart, column_before (col + b % side) (col + a % side) block.height (omega arith)))
-              ]
-        ]
+  module _ (to : List ℕ) (at : (c : ℕ) → c < 8 → slice_index to c ≡ slice_index cols (slice_index tops c + c % side) + (c - c % side)) where
+    at_row : (c : ℕ) → c < block.side → slice_index to c ≡ slice_index cols (slice_index tops c + c % side) + (c - c % side)
+    at_row c h = at c (in_all c h)
 
-    pub AreApart-block_to : (n : ℕ) → n ≡ block.side → AreApart n side to
-    AreApart-block_to n all = rw all rows_apart
+    pub AreInside-block_to : AreInside block.side side to len
+    AreInside-block_to = AreInside-rows block.side side known is (omega arith) (λ s. col) cols tops to (λ c h. below) (λ c h. is_top c (in_all c h)) at_row len inside
 
-    pub ColumnsPut-step : {A : Type 0} (n : ℕ) → n ≡ block.side → (from : List ℕ) (columns : List (List A)) (input old new : List A)
-        → ((c : ℕ) → c < 8 → slice_index from c ≡ block.from + c % block.side * block.width + col)
-        → AreColumns side from input columns → AreStored n side to columns old new → ColumnsPut col (col + side) block input old new
-    ColumnsPut-step n all from columns input old new at_from of stored = let step = rw all at stored in record {
-      same_length = step.same_length;
-      places = λ r c hr h k.
-          let e = c - col in
-          let place = r - r % side + e in
-          let inside : place < block.side = omega (arith, square_in_block side is block.side r known (omega arith) hr) in
-          let in_all : place < 8 = elim known [ inl u ↦ omega arith | inr u ↦ omega arith ] in
-          let r_in : r < 8 = elim known [ inl u ↦ omega arith | inr u ↦ omega arith ] in
-          let row : place % side ≡ e = row_in_square side is r e (omega arith) in
-          let column : col + e ≡ c = omega arith in
-          let to_is : slice_index to place + r % side ≡ block.to + c * block.height + r =
-          let moved = rw (row, column) at (at_row place inside) in
-          omega (arith, moved, row_most side is r)
-          in
-          let back : place - place % side + r % side ≡ r = omega (arith, row, row_most side is r) in
-          let from_is : slice_index from r + e ≡ block.from + r * block.width + c =
-          let read = rw (block_row_is block.side r known hr) at (at_from r r_in) in
-          omega (arith, read)
-          in
-          rw to_is at (step.rows place (r % side) inside (row_below side is r)) ∙ rw (back, row, from_is) at (of place (r % side) in_all (row_below side is r));
-      others = λ p out.
-          step.others p (λ j m.
-          let on = at_row j m in
-          let up = square_in_block side is block.side j known (omega arith) m in
-          let row = row_below side is j in
-          outside p (slice_index to j) side
-          (λ from within. out (p - (block.to + (col + j % side) * block.height)) (col + j % side) (omega arith) (omega arith) (omega arith) (omega arith)));
-    }
+    pub AreApart-block_to : AreApart block.side side to
+    AreApart-block_to = AreApart-rows block.side side known is (omega arith) (λ s. col) cols tops to (λ c h. below) (λ c h. is_top c (in_all c h)) at_row apart
+
+    pub ColumnsPut-step : {A : Type 0} (from : List ℕ) (columns : List (List A)) (input old new : List A) → ((c : ℕ) → c < 8 → slice_index from c ≡ slice_index rows c + slice_index tops c)
+        → AreColumns side from input columns → AreStored block.side side to columns old new → ColumnsPut col (col + side) block input old new
+    ColumnsPut-step from columns input old new at_from of stored =
+        let moved = SquaresMoved-rows block.side side known is (omega arith) (λ s. col) cols tops to (λ c h. below) (λ c h. is_top c (in_all c h)) at_row rows from columns input old new (λ c h. at_from c (in_all c h)) of stored in
+        let to_is : (c : ℕ) → c < block.side → slice_index cols c ≡ block.to + c * block.height = λ c h. rw ((row_in_block block.side c known).1 h) at (at_cols c (in_all c h)) in
+        let from_is : (r : ℕ) → r < block.side → slice_index rows r ≡ block.from + r * block.width = λ r h. rw ((row_in_block block.side r known).1 h) at (at_rows r (in_all r h)) in
+        record {
+          same_length = moved.same_length;
+          places = λ r c hr h k. rw (to_is c (omega arith), from_is r hr) at (moved.places c r hr h k);
+          others = λ p out. moved.others p (λ c r hr h k. rw (to_is c (omega arith)) (out r c hr h k));
+        }
 
 module _ (block : Block) (input_len len : ℕ) (fits : BlockFits block input_len len) where
   -- a cell belongs to only one column
@@ -125,14 +86,14 @@ module _ (block : Block) (input_len len : ℕ) (fits : BlockFits block input_len
   }
 
 -- all columns are put
-pub IsBlockPut-columns : {A : Type 0} (side : ℕ) (block : Block) (input old new : List A) → block.side ≡ side → (side ≡ 4) ⊎ (side ≡ 8) → ColumnsPut 0 side block input old new
+pub IsBlockPut-columns : {A : Type 0} (side : ℕ) (block : Block) (input old new : List A) → block.side ≡ side → (block.side ≡ 4) ⊎ (block.side ≡ 8) → ColumnsPut 0 side block input old new
     → IsBlockPut (block.side * block.side) block input old new
 IsBlockPut-columns side block input old new whole known all =
     let cols : (r c : ℕ) → block.side * c + r < block.side * block.side → c < side =
-    λ r c h. elim known [ inl u ↦ let v : block.side ≡ 4 = whole ∙ u in omega (arith, rw v at h) | inr u ↦ let v : block.side ≡ 8 = whole ∙ u in omega (arith, rw v at h) ]
+    λ r c h. elim known [ inl u ↦ omega (arith, u, whole, rw u at h) | inr u ↦ omega (arith, u, whole, rw u at h) ]
     in
     let in_all : (r c : ℕ) → r < block.side → c < side → block.side * c + r < block.side * block.side =
-    λ r c h k. elim known [ inl u ↦ let v : block.side ≡ 4 = whole ∙ u in rw v (omega arith) | inr u ↦ let v : block.side ≡ 8 = whole ∙ u in rw v (omega arith) ]
+    λ r c h k. elim known [ inl u ↦ rw u (omega (arith, u, whole)) | inr u ↦ rw u (omega (arith, u, whole)) ]
     in
     record {
       same_length = all.same_length;

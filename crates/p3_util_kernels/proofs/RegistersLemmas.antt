@@ -1,18 +1,9 @@
 -- Squares that are transposed in registers.
-use Rattle.std.proofs.Common.{◌≡◌, ◌≢◌, ℕ, ◌+◌, ◌-◌, ◌*◌, ◌/◌, ◌%◌, ◌<◌, ◌≤◌, ◌⊎◌, List, ◌++◌, length, slice_get, slice_index, slice_set, inl, inr, refl, sym, ◌∙◌, arith}
-use Rattle.std.proofs.lemmas.List.{get_or-set_same, get_or-set_other, length-set}
+use Rattle.std.proofs.Common.{◌≡◌, ◌≢◌, ℕ, ◌+◌, ◌-◌, ◌*◌, ◌/◌, ◌%◌, ◌<◌, ◌≤◌, ◌⊎◌, List, ◌++◌, length, slice_get, slice_index, inl, inr, refl, sym, ◌∙◌, arith}
 use Rattle.std.proofs.lemmas.Bool.{cases_eq, cases_lt}
 use Rattle.p3_util_kernels.specs.Stages.{item_at}
 use Rattle.p3_util_kernels.proofs.ListParts.{slice_get-append_left, slice_get-append_right}
 use Rattle.p3_util_kernels.specs.Registers.{AreInterleaved, AreColumns, AreInside, AreLoaded, AreStored, IsNextStage, IsSide, IsStored}
-
--- one more place of a table is set
-pub set_next : (places : List ℕ) (c v : ℕ) (at : ℕ → ℕ) → length places ≡ 8 → c < 8 → v ≡ at c → ((a : ℕ) → a < c → slice_index places a ≡ at a)
-    → (length (slice_set places c v) ≡ 8) × ((a : ℕ) → a < c + 1 → slice_index (slice_set places c v) a ≡ at a)
-set_next places c v at all hc is before = (
-  length-set places c v ∙ all,
-  λ a h. elim (cases_eq a c) [ inl same ↦ rw same (get_or-set_same places c v 0 (omega arith) ∙ is) | inr other ↦ get_or-set_other places c a v 0 other ∙ before a (omega arith) ],
-)
 
 -- the places `from` are those of `places`, in the order of a stage
 abbrev pub AreInOrder : ℕ → List ℕ → List ℕ → Type 0
@@ -66,7 +57,7 @@ AreColumns-eight side places from list a b d (inr (inl is)) _ not_four order one
 AreColumns-eight side places from list a b d (inr (inr is)) _ _ order one next last = rw is (eight places from list a b d (rw is at order) (rw is at one) (rw is at next) (rw is at last))
 
 -- each place is one of those
-pub AreInside-in_order : (side len : ℕ) (places from : List ℕ) → IsSide side → AreInOrder side places from → AreInside side places len → AreInside side from len
+pub AreInside-in_order : (side len : ℕ) (places from : List ℕ) → IsSide side → AreInOrder side places from → AreInside 8 side places len → AreInside 8 side from len
 AreInside-in_order side len places from (inl is) order inside j h =
     let of : 4 * (j / 4) + j % 4 ≡ j = omega arith in
     let at : slice_index from j ≡ slice_index places (2 * (j % 4) + j / 4) = rw of at (rw is at order (j % 4) (j / 4) (omega arith) (omega arith)) in
@@ -79,6 +70,10 @@ AreInside-in_order side len places from (inr (inr is)) order inside j h =
     let of : 1 * j + 0 ≡ j = omega arith in
     let at : slice_index from j ≡ slice_index places (8 * 0 + j) = rw of at (rw is at order 0 j h (omega arith)) in
     rw at (inside (8 * 0 + j) (omega arith))
+
+pub fewer : (n : ℕ) → (n ≡ 4) ⊎ (n ≡ 8) → n ≢ 8 → n ≡ 4
+fewer n (inl is) other = is
+fewer n (inr is) other = absurd (other is)
 
 -- nothing is stored yet
 pub AreStored-none : {A : Type 0} (side : ℕ) (to : List ℕ) (regs : List (List A)) (old : List A) → AreStored 0 side to regs old old
@@ -120,11 +115,6 @@ AreStored-more k side to regs items old now next same apart before step = record
       ];
   others = λ p out. step.others p (out (2 * k) (omega arith)) (out (2 * k + 1) (omega arith)) ∙ before.others p (λ c hc. out c (omega arith));
 }
-
--- row c of a block and the rows below it
-pub block_row : (side c : ℕ) → (side ≡ 4) ⊎ (side ≡ 8) → c % side < side
-block_row side c (inl is) = rw is (omega arith)
-block_row side c (inr is) = rw is (omega arith)
 
 -- what two interleaves of two registers hold
 AreInterleaved-both : {A : Type 0} (n : ℕ) (a b low high : List A) → length low ≡ 2 * n → AreInterleaved n 0 0 a b low → AreInterleaved n n n a b high
@@ -176,26 +166,3 @@ AreInterleaved-runs n i j list a b low high full of_a of_b front back =
       first = λ t h. let at : 0 + t ≡ t = omega arith in rw at at (both.first t h) ∙ of_a t h;
       second = λ t h. let at : 0 + t ≡ t = omega arith in rw at at (both.second t h) ∙ of_b t h;
     }
-
--- what holds for each number below 8
-pub eight_cases : (P : ℕ → Type 0) → P 0 → P 1 → P 2 → P 3 → P 4 → P 5 → P 6 → P 7 → (c : ℕ) → c < 8 → P c
-eight_cases P a b d e f g h i c below =
-    elim (cases_eq c 0) [
-      | inl is ↦ rw is a
-      | inr n0 ↦ elim (cases_eq c 1) [
-        | inl is ↦ rw is b
-        | inr n1 ↦ elim (cases_eq c 2) [
-          | inl is ↦ rw is d
-          | inr n2 ↦ elim (cases_eq c 3) [
-            | inl is ↦ rw is e
-            | inr n3 ↦ elim (cases_eq c 4) [
-              | inl is ↦ rw is f
-              | inr n4 ↦ elim (cases_eq c 5) [
-                | inl is ↦ rw is g
-                | inr n5 ↦ elim (cases_eq c 6) [ inl is ↦ rw is h | inr n6 ↦ let is : c ≡ 7 = omega arith in rw is i ]
-              ]
-            ]
-          ]
-        ]
-      ]
-    ]

@@ -1,5 +1,5 @@
 -- Tiles that are exchanged or transposed by squares.
-use Rattle.std.proofs.Common.{◌≡◌, ◌≢◌, ℕ, ◌+◌, ◌-◌, ◌%◌, ◌<◌, ◌≤◌, ◌⊎◌, List, slice_index, inl, inr, refl, sym, ap, ◌∙◌, arith}
+use Rattle.std.proofs.Common.{◌≡◌, ◌≢◌, ℕ, ◌+◌, ◌-◌, ◌%◌, ◌<◌, ◌≤◌, ◌⊎◌, List, length, slice_get, slice_index, inl, inr, refl, sym, ap, ◌∙◌, arith}
 use Rattle.std.proofs.lemmas.Bool.{cases_eq, cases_lt}
 use Rattle.p3_util_kernels.specs.Exchanged.{AreTiles, IsTile, TileTurned, TilesExchanged}
 use Rattle.p3_util_kernels.specs.Registers.{AreApart, AreColumns, AreInside, AreStored, IsSide, RowsExchanged, SquaresTurned, sum_of}
@@ -15,6 +15,9 @@ side_cases P a b d side (inl is) = rw is a
 side_cases P a b d side (inr (inl is)) = rw is b
 side_cases P a b d side (inr (inr is)) = rw is d
 
+pub side_most : (side : ℕ) → IsSide side → side ≤ 8
+side_most = side_cases (λ side. side ≤ 8) (omega arith) (omega arith) (omega arith)
+
 -- row c of some squares is row c % side of a square
 pub row_below : (side : ℕ) → IsSide side → (c : ℕ) → c % side < side
 row_below = side_cases (λ side. (c : ℕ) → c % side < side) (λ c. omega arith) (λ c. omega arith) (λ c. omega arith)
@@ -22,120 +25,162 @@ row_below = side_cases (λ side. (c : ℕ) → c % side < side) (λ c. omega ari
 pub row_most : (side : ℕ) → IsSide side → (c : ℕ) → c % side ≤ c
 row_most = side_cases (λ side. (c : ℕ) → c % side ≤ c) (λ c. omega arith) (λ c. omega arith) (λ c. omega arith)
 
--- the squares of 8 rows are whole
-pub square_up : (side : ℕ) → IsSide side → (c : ℕ) → c < 8 → c - c % side + side ≤ 8
-square_up = side_cases (λ side. (c : ℕ) → c < 8 → c - c % side + side ≤ 8) (λ c h. omega arith) (λ c h. omega arith) (λ c h. omega arith)
+-- the squares of all rows are whole
+pub square_up : (side : ℕ) → IsSide side → (n c : ℕ) → (n ≡ 4) ⊎ (n ≡ 8) → side ≤ n → c < n → c - c % side + side ≤ n
+square_up = side_cases (λ side. (n c : ℕ) → (n ≡ 4) ⊎ (n ≡ 8) → side ≤ n → c < n → c - c % side + side ≤ n)
+    (λ n c k m h. elim k [ inl u ↦ omega arith | inr u ↦ omega arith ]) (λ n c k m h. elim k [ inl u ↦ omega arith | inr u ↦ omega arith ])
+    (λ n c k m h. elim k [ inl u ↦ omega arith | inr u ↦ omega arith ])
 
 -- row l of the square of row c
 pub row_in_square : (side : ℕ) → IsSide side → (c l : ℕ) → l < side → (c - c % side + l) % side ≡ l
 row_in_square = side_cases (λ side. (c l : ℕ) → l < side → (c - c % side + l) % side ≡ l) (λ c l h. omega arith) (λ c l h. omega arith) (λ c l h. omega arith)
 
--- equal rows of two squares
-pub squares_apart : (side : ℕ) → IsSide side → (a b : ℕ) → a < b → a % side ≡ b % side → a - a % side + side ≤ b - b % side
-squares_apart = side_cases (λ side. (a b : ℕ) → a < b → a % side ≡ b % side → a - a % side + side ≤ b - b % side) (λ a b h e. omega arith) (λ a b h e. omega arith) (λ a b h e. omega arith)
+-- two rows are in the same square, or in squares side by side
+squares_apart : (side : ℕ) → IsSide side → (a b : ℕ) → a < b → (a - a % side ≡ b - b % side) ⊎ (a - a % side + side ≤ b - b % side)
+squares_apart = side_cases (λ side. (a b : ℕ) → a < b → (a - a % side ≡ b - b % side) ⊎ (a - a % side + side ≤ b - b % side))
+    (λ a b h. elim (cases_lt (a - a % 2) (b - b % 2)) [ inl u ↦ inr (omega arith) | inr u ↦ inl (omega arith) ])
+    (λ a b h. elim (cases_lt (a - a % 4) (b - b % 4)) [ inl u ↦ inr (omega arith) | inr u ↦ inl (omega arith) ])
+    (λ a b h. elim (cases_lt (a - a % 8) (b - b % 8)) [ inl u ↦ inr (omega arith) | inr u ↦ inl (omega arith) ])
+
+-- Some squares of the transpose are in n columns of a list. The square of column c begins in row
+-- `top` of its first column. Row r of the list begins at entry r of `x`, and row c of the input at
+-- entry c of `y`
+pub record SquaresMoved {A : Type 0} (n side : ℕ) (top : ℕ → ℕ) (x y : List ℕ) (input old new : List A) : Type 0 where
+  pub same_length : length new ≡ length old
+  pub places : (r c : ℕ) → c < n → top (c - c % side) ≤ r → r < top (c - c % side) + side → slice_get new (slice_index x r + c) ≡ slice_get input (slice_index y c + r)
+  pub others : (p : ℕ) → ((r c : ℕ) → c < n → top (c - c % side) ≤ r → r < top (c - c % side) + side → p ≢ slice_index x r + c) → slice_get new p ≡ slice_get old p
+
+module _ (n side : ℕ) (known : (n ≡ 4) ⊎ (n ≡ 8)) (is : IsSide side) (small : side ≤ n) (top : ℕ → ℕ) (x tops to : List ℕ)
+    (low : (c : ℕ) → c < n → top (c - c % side) + side ≤ n) (is_top : (c : ℕ) → c < n → slice_index tops c ≡ top (c - c % side))
+    (is_to : (c : ℕ) → c < n → slice_index to c ≡ slice_index x (slice_index tops c + c % side) + (c - c % side)) where
+  at : (c : ℕ) → c < n → slice_index to c ≡ slice_index x (top (c - c % side) + c % side) + (c - c % side)
+  at c h = rw (is_top c h) at (is_to c h)
+
+  pub AreInside-rows : (len : ℕ) → ((r : ℕ) → r < n → slice_index x r + n ≤ len) → AreInside n side to len
+  AreInside-rows len inside j h =
+      let row = row_below side is j in
+      let fits = low j h in
+      omega (arith, at j h, square_up side is n j known small h, inside (top (j - j % side) + j % side) (omega arith))
+
+  pub AreApart-rows : ((a b : ℕ) → a < b → b < n → (slice_index x a + n ≤ slice_index x b) ⊎ (slice_index x b + n ≤ slice_index x a)) → AreApart n side to
+  AreApart-rows apart a b h k =
+      let at_a = at a (omega arith) in
+      let at_b = at b k in
+      let up_a = square_up side is n a known small (omega arith) in
+      let up_b = square_up side is n b known small k in
+      let row_a = top (a - a % side) + a % side in
+      let row_b = top (b - b % side) + b % side in
+      let in_a : row_a < n = omega (arith, row_below side is a, low a (omega arith)) in
+      let in_b : row_b < n = omega (arith, row_below side is b, low b k) in
+      elim (cases_eq row_a row_b) [
+        | inl same ↦
+            let on : slice_index x row_a ≡ slice_index x row_b = ap (slice_index x) same in
+            elim (squares_apart side is a b h) [
+              | inl one ↦ let tops : top (a - a % side) ≡ top (b - b % side) = ap top one in absurd (omega (arith, row_most side is a, row_most side is b))
+              | inr next ↦ inl (omega arith)
+            ]
+        | inr other ↦
+            elim (cases_lt row_a row_b) [
+              | inl less ↦ elim (apart row_a row_b less in_b) [ inl u ↦ inl (omega arith) | inr u ↦ inr (omega arith) ]
+              | inr more ↦ elim (apart row_b row_a (omega arith) in_a) [ inl u ↦ inr (omega arith) | inr u ↦ inl (omega arith) ]
+            ]
+      ]
+
+  -- row r of the list and column c are in row `place` of the squares
+  abbrev pub place : ℕ → ℕ → ℕ
+  place r c = c - c % side + (r - top (c - c % side))
+
+  pub placed : (r c : ℕ) → c < n → top (c - c % side) ≤ r → r < top (c - c % side) + side
+      → (place r c < n) × ((place r c % side ≡ r - top (c - c % side)) × (slice_index to (place r c) ≡ slice_index x r + (c - c % side)))
+  placed r c h k l =
+      let row : place r c % side ≡ r - top (c - c % side) = row_in_square side is c (r - top (c - c % side)) (omega arith) in
+      let start : place r c - place r c % side ≡ c - c % side = omega (arith, row) in
+      let inside : place r c < n = omega (arith, square_up side is n c known small h) in
+      let on : top (c - c % side) + (r - top (c - c % side)) ≡ r = omega arith in
+      (inside, (row, rw (start, row, on) at (at (place r c) inside)))
+
+  -- the squares are read from rows of the input
+  pub SquaresMoved-rows : {A : Type 0} (y from : List ℕ) (columns : List (List A)) (input old new : List A) → ((c : ℕ) → c < n → slice_index from c ≡ slice_index y c + slice_index tops c)
+      → AreColumns side from input columns → AreStored n side to columns old new → SquaresMoved n side top x y input old new
+  SquaresMoved-rows y from columns input old new at_from of step = record {
+    same_length = step.same_length;
+    places = λ r c h k l.
+        let (inside, (row, start)) = placed r c h k l in
+        let most = row_most side is c in
+        let to_is : slice_index to (place r c) + c % side ≡ slice_index x r + c = omega (arith, start, most) in
+        let back : place r c - (r - top (c - c % side)) + c % side ≡ c = omega (arith, most) in
+        let from_is : slice_index from c + (r - top (c - c % side)) ≡ slice_index y c + r = omega (arith, at_from c h, is_top c h) in
+        let in_all : place r c < 8 = elim known [ inl u ↦ omega arith | inr u ↦ omega arith ] in
+        rw to_is at (step.rows (place r c) (c % side) inside (row_below side is c)) ∙ rw (row, back, from_is) at (of (place r c) (c % side) in_all (row_below side is c));
+    others = λ p out.
+        step.others p (λ j m.
+        let on = at j m in
+        let up = square_up side is n j known small m in
+        let most = row_most side is j in
+        outside p (slice_index to j) side (λ from within.
+        let t = p - slice_index to j in
+        let row = row_in_square side is j t (omega arith) in
+        let start : j - j % side + t - (j - j % side + t) % side ≡ j - j % side = omega (arith, row) in
+        let below = row_below side is j in
+        out (top (j - j % side) + j % side) (j - j % side + t) (omega arith) (rw start (omega arith)) (rw start (omega arith)) (omega arith)));
+  }
 
 module _ (x y : List ℕ) (len : ℕ) (tiles : AreTiles x y len) where
-  -- the rows of the squares in some rows of the one tile
-  module _ (side row : ℕ) (in_x : List ℕ) (is : IsSide side) (below : row + side ≤ 8)
-      (at_x : (c : ℕ) → c < 8 → slice_index in_x c ≡ slice_index x (row + c % side) + (c - c % side)) where
-    pub AreApart-rows : AreApart 8 side in_x
-    AreApart-rows a b h k =
-        let at_a = at_x a (omega arith) in
-        let at_b = at_x b k in
-        let up_a = square_up side is a (omega arith) in
-        let up_b = square_up side is b k in
-        let row_a = row_below side is a in
-        let row_b = row_below side is b in
-        elim (cases_eq (a % side) (b % side)) [
-          | inl same ↦
-              let on : slice_index x (row + a % side) ≡ slice_index x (row + b % side) = ap (λ r. slice_index x (row + r)) same in
-              inl (omega (arith, squares_apart side is a b h same))
-          | inr other ↦
-              elim (cases_lt (a % side) (b % side)) [
-                | inl less ↦ elim (tiles.first_apart (row + a % side) (row + b % side) (omega arith) (omega arith)) [ inl u ↦ inl (omega arith) | inr u ↦ inr (omega arith) ]
-                | inr more ↦ elim (tiles.first_apart (row + b % side) (row + a % side) (omega arith) (omega arith)) [ inl u ↦ inr (omega arith) | inr u ↦ inl (omega arith) ]
-              ]
-        ]
-
   -- both are read, and each is written over the other
-  pub RowsExchanged-band : {A : Type 0} (side row : ℕ) (in_x in_y : List ℕ) (to_x to_y : List (List A)) (old mid new : List A) → IsSide side → row + side ≤ 8
-      → ((c : ℕ) → c < 8 → slice_index in_x c ≡ slice_index x (row + c % side) + (c - c % side))
-      → ((c : ℕ) → c < 8 → slice_index in_y c ≡ slice_index y c + row)
+  pub RowsExchanged-band : {A : Type 0} (side row : ℕ) (tops in_x in_y : List ℕ) (to_x to_y : List (List A)) (old mid new : List A) → IsSide side → row + side ≤ 8
+      → ((c : ℕ) → c < 8 → slice_index tops c ≡ row) → ((c : ℕ) → c < 8 → slice_index in_x c ≡ slice_index x (slice_index tops c + c % side) + (c - c % side))
+      → ((c : ℕ) → c < 8 → slice_index in_y c ≡ slice_index y c + slice_index tops c)
       → AreColumns side in_x old to_y → AreColumns side in_y old to_x
       → AreStored 8 side in_y to_y old mid → AreStored 8 side in_x to_x mid new
       → RowsExchanged row (row + side) x y old new
-  RowsExchanged-band side row in_x in_y to_x to_y old mid new is below at_x at_y of_x of_y one two =
-      -- row r and column c of the one tile are in row `place` of its squares
-      let place : ℕ → ℕ → ℕ = λ r c. c - c % side + (r - row) in
-      let rows : (r c : ℕ) → row ≤ r → r < row + side → place r c % side ≡ r - row = λ r c h k. row_in_square side is c (r - row) (omega arith) in
-      let inside : (r c : ℕ) → row ≤ r → r < row + side → c < 8 → place r c < 8 = λ r c h k l. omega (arith, square_up side is c l) in
-      let placed : (r c : ℕ) → row ≤ r → r < row + side → c < 8 → slice_index in_x (place r c) + c % side ≡ slice_index x r + c =
-      λ r c h k l.
-      let on : row + (r - row) ≡ r = omega arith in
-      let at = rw (rows r c h k, on) at (at_x (place r c) (inside r c h k l)) in
-      omega (arith, at, row_most side is c) in
+  RowsExchanged-band side row tops in_x in_y to_x to_y old mid new is below is_top at_x at_y of_x of_y one two =
+      let small : side ≤ 8 = omega arith in
+      let moved = SquaresMoved-rows 8 side (inr refl) is small (λ s. row) x tops in_x (λ c h. below) is_top at_x y in_y to_x old mid new at_y of_y two in
       record {
-        same_length = two.same_length ∙ one.same_length;
-        first = λ r c h k l.
-            let of = of_y (place r c) (c % side) (inside r c h k l) (row_below side is c) in
-            let back : place r c - (r - row) + c % side ≡ c = omega (arith, row_most side is c) in
-            let at : slice_index in_y c + (r - row) ≡ slice_index y c + r = omega (arith, at_y c l) in
-            rw (placed r c h k l) at (two.rows (place r c) (c % side) (inside r c h k l) (row_below side is c)) ∙ rw (rows r c h k, back, at) at of;
+        same_length = moved.same_length ∙ one.same_length;
+        first = λ r c h k l. moved.places r c l h k;
         second = λ r c h k l.
-            let at : slice_index in_y c + (r - row) ≡ slice_index y c + r = omega (arith, at_y c l) in
-            let of = of_x c (r - row) l (omega arith) in
-            two.others (slice_index y c + r) (λ j m.
-            let on = at_x j m in
-            let up = square_up side is j m in
-            let j_below = row_below side is j in
-            elim (tiles.both_apart (row + j % side) c (omega arith) l) [ inl u ↦ inr (omega arith) | inr u ↦ inl (omega arith) ])
-            ∙ rw at at (one.rows c (r - row) l (omega arith)) ∙ rw (placed r c h k l) at of;
+            let (inside, (row_in, start)) = placed 8 side (inr refl) is small (λ s. row) x tops in_x (λ c h. below) is_top at_x r c l h k in
+            let to_is : slice_index in_y c + (r - row) ≡ slice_index y c + r = omega (arith, at_y c l, is_top c l) in
+            let from_is : slice_index in_x (c - c % side + (r - row)) + c % side ≡ slice_index x r + c = omega (arith, start, row_most side is c) in
+            moved.others (slice_index y c + r) (λ v w hw i j e. places-apart x y len tiles v w c r (omega arith) hw l (omega arith) (sym e))
+            ∙ rw to_is at (one.rows c (r - row) l (omega arith)) ∙ rw from_is at (of_x c (r - row) l (omega arith));
         others = λ p out.
-            two.others p (λ j m.
-            let on = at_x j m in
-            let up = square_up side is j m in
-            let j_below = row_below side is j in
-            outside p (slice_index in_x j) side (λ from within. (out (row + j % side) (p - slice_index x (row + j % side)) (omega arith) (omega arith) (omega arith)).0 (omega arith)))
+            moved.others p (λ r c h k l. (out r c k l h).0)
             ∙ one.others p (λ j m.
             let on = at_y j m in
+            let top = is_top j m in
             outside p (slice_index in_y j) side (λ from within. (out (p - slice_index y j) j (omega arith) (omega arith) m).1 (omega arith)));
       }
 
+  -- an item is in only one row of a tile, and in only one column
+  other_row : (r c v w : ℕ) → r ≢ v → r < 8 → c < 8 → v < 8 → w < 8
+      → ((slice_index x r + c ≢ slice_index x v + w) × (slice_index x r + c ≢ slice_index y w + v)) × ((slice_index y c + r ≢ slice_index x v + w) × (slice_index y c + r ≢ slice_index y w + v))
+  other_row r c v w differ hr hc hv hw = (
+    (λ e. differ (one_row x r c v w tiles.first_apart hr hc hv hw e).0, λ e. places-apart x y len tiles r c w v hr hc hw hv e),
+    (λ e. places-apart x y len tiles v w c r hv hw hc hr (sym e), λ e. differ (one_row y c r w v tiles.second_apart hc hr hw hv e).1),
+  )
+
   -- some rows are exchanged, and then those that follow them
   pub RowsExchanged-joined : {A : Type 0} (a b d : ℕ) (old mid new : List A) → a ≤ b → b ≤ d → d ≤ 8 → RowsExchanged a b x y old mid → RowsExchanged b d x y mid new → RowsExchanged a d x y old new
-  RowsExchanged-joined a b d old mid new up more most one two = record {
-    same_length = two.same_length ∙ one.same_length;
-    first = λ r c h k l.
-        elim (cases_lt r b) [
-          | inl early ↦
-              two.others (slice_index x r + c) (λ v w i j m. (
-                λ e. let at = one_row x r c v w tiles.first_apart (omega arith) l (omega arith) m e in omega (arith, at.0),
-                λ e. places-apart x y len tiles r c w v (omega arith) l m (omega arith) e,
-              )) ∙ one.first r c h early l
-          | inr late ↦
-              two.first r c late k l
-              ∙ one.others (slice_index y c + r) (λ v w i j m. (
-                λ e. places-apart x y len tiles v w c r (omega arith) m l (omega arith) (sym e),
-                λ e. let at = one_row y c r w v tiles.second_apart l (omega arith) m (omega arith) e in omega (arith, at.1),
-              ))
-        ];
-    second = λ r c h k l.
-        elim (cases_lt r b) [
-          | inl early ↦
-              two.others (slice_index y c + r) (λ v w i j m. (
-                λ e. places-apart x y len tiles v w c r (omega arith) m l (omega arith) (sym e),
-                λ e. let at = one_row y c r w v tiles.second_apart l (omega arith) m (omega arith) e in omega (arith, at.1),
-              )) ∙ one.second r c h early l
-          | inr late ↦
-              two.second r c late k l
-              ∙ one.others (slice_index x r + c) (λ v w i j m. (
-                λ e. let at = one_row x r c v w tiles.first_apart (omega arith) l (omega arith) m e in omega (arith, at.0),
-                λ e. places-apart x y len tiles r c w v (omega arith) l m (omega arith) e,
-              ))
-        ];
-    others = λ p out.
-        two.others p (λ r c h k l. out r c (omega arith) k l) ∙ one.others p (λ r c h k l. out r c h (omega arith) l);
-  }
+  RowsExchanged-joined a b d old mid new up more most one two =
+      let after : (r c : ℕ) → r < b → c < 8 → (v w : ℕ) → b ≤ v → v < d → w < 8 → _ = λ r c h k v w i j m. other_row r c v w (λ e. omega arith) (omega arith) k (omega arith) m in
+      let before : (r c : ℕ) → b ≤ r → r < d → c < 8 → (v w : ℕ) → a ≤ v → v < b → w < 8 → _ = λ r c h l k v w i j m. other_row r c v w (λ e. omega arith) (omega arith) k (omega arith) m in
+      record {
+        same_length = two.same_length ∙ one.same_length;
+        first = λ r c h k l.
+            elim (cases_lt r b) [
+              | inl early ↦ two.others _ (λ v w i j m. (after r c early l v w i j m).0) ∙ one.first r c h early l
+              | inr late ↦ two.first r c late k l ∙ one.others _ (λ v w i j m. (before r c late k l v w i j m).1)
+            ];
+        second = λ r c h k l.
+            elim (cases_lt r b) [
+              | inl early ↦ two.others _ (λ v w i j m. (after r c early l v w i j m).1) ∙ one.second r c h early l
+              | inr late ↦ two.second r c late k l ∙ one.others _ (λ v w i j m. (before r c late k l v w i j m).0)
+            ];
+        others = λ p out.
+            two.others p (λ r c h k l. out r c (omega arith) k l) ∙ one.others p (λ r c h k l. out r c h (omega arith) l);
+      }
 
   -- all rows are exchanged
   pub TilesExchanged-rows : {A : Type 0} (old new : List A) → RowsExchanged 0 8 x y old new → TilesExchanged 64 x y old new
@@ -146,79 +191,39 @@ module _ (x y : List ℕ) (len : ℕ) (tiles : AreTiles x y len) where
     others = λ p out. all.others p (λ r c h k l. out r c l (omega arith));
   }
 
--- the first row of the square that is exchanged with the square of column c, if their sum is s
-abbrev pub opposite : ℕ → ℕ → ℕ → ℕ
-opposite side s c = (8 + s - (c - c % side)) % 8
+-- the first row of the square that is exchanged with the square that begins in column q, if their sum is s
+abbrev pub opposite : ℕ → ℕ → ℕ
+opposite s q = (8 + s - q) % 8
 
-pub opposite_up : (side : ℕ) → IsSide side → (s c : ℕ) → s < 8 → s % side ≡ 0 → opposite side s c + side ≤ 8
-opposite_up = side_cases (λ side. (s c : ℕ) → s < 8 → s % side ≡ 0 → opposite side s c + side ≤ 8) (λ s c h e. omega arith) (λ s c h e. omega arith) (λ s c h e. omega arith)
+pub opposite_up : (side : ℕ) → IsSide side → (s c : ℕ) → s < 8 → s % side ≡ 0 → opposite s (c - c % side) + side ≤ 8
+opposite_up = side_cases (λ side. (s c : ℕ) → s < 8 → s % side ≡ 0 → opposite s (c - c % side) + side ≤ 8) (λ s c h e. omega arith) (λ s c h e. omega arith) (λ s c h e. omega arith)
 
 opposite_row : (side : ℕ) → IsSide side → (s r c : ℕ) → r < 8 → c < 8 → s < 8 → s % side ≡ 0 → s ≤ sum_of side r c → sum_of side r c < s + side
-    → opposite side s c + r % side ≡ r
-opposite_row = side_cases (λ side. (s r c : ℕ) → r < 8 → c < 8 → s < 8 → s % side ≡ 0 → s ≤ sum_of side r c → sum_of side r c < s + side → opposite side s c + r % side ≡ r)
+    → opposite s (c - c % side) + r % side ≡ r
+opposite_row = side_cases (λ side. (s r c : ℕ) → r < 8 → c < 8 → s < 8 → s % side ≡ 0 → s ≤ sum_of side r c → sum_of side r c < s + side → opposite s (c - c % side) + r % side ≡ r)
     (λ s r c hr hc hs e h k. omega arith) (λ s r c hr hc hs e h k. omega arith) (λ s r c hr hc hs e h k. omega arith)
 
-opposite_sum : (side : ℕ) → IsSide side → (s c t : ℕ) → c < 8 → t < side → s < 8 → s % side ≡ 0 → sum_of side (opposite side s c + c % side) (c - c % side + t) ≡ s
-opposite_sum = side_cases (λ side. (s c t : ℕ) → c < 8 → t < side → s < 8 → s % side ≡ 0 → sum_of side (opposite side s c + c % side) (c - c % side + t) ≡ s)
-    (λ s c t hc ht hs e. omega arith) (λ s c t hc ht hs e. omega arith) (λ s c t hc ht hs e. omega arith)
-
-opposite_apart : (side : ℕ) → IsSide side → (s a b : ℕ) → a < b → b < 8 → s < 8 → s % side ≡ 0 → opposite side s a + a % side ≢ opposite side s b + b % side
-opposite_apart = side_cases (λ side. (s a b : ℕ) → a < b → b < 8 → s < 8 → s % side ≡ 0 → opposite side s a + a % side ≢ opposite side s b + b % side)
-    (λ s a b h k hs e f. omega arith) (λ s a b h k hs e f. omega arith) (λ s a b h k hs e f. omega arith)
+opposite_sum : (side : ℕ) → IsSide side → (s r c : ℕ) → c < 8 → s < 8 → s % side ≡ 0 → opposite s (c - c % side) ≤ r → r < opposite s (c - c % side) + side → sum_of side r c ≡ s
+opposite_sum = side_cases (λ side. (s r c : ℕ) → c < 8 → s < 8 → s % side ≡ 0 → opposite s (c - c % side) ≤ r → r < opposite s (c - c % side) + side → sum_of side r c ≡ s)
+    (λ s r c hc hs e h k. omega arith) (λ s r c hc hs e h k. omega arith) (λ s r c hc hs e h k. omega arith)
 
 module _ (x : List ℕ) (len : ℕ) (tile : IsTile x len) where
-  -- the rows of the squares of one sum, and of their mirror images
-  module _ (side s : ℕ) (is : IsSide side) (below : s < 8) (whole : s % side ≡ 0) where
-    module _ (to : List ℕ) (at : (c : ℕ) → c < 8 → slice_index to c ≡ slice_index x (opposite side s c + c % side) + (c - c % side)) where
-      pub AreInside-turned_to : AreInside side to len
-      AreInside-turned_to j h =
-          let row = row_below side is j in
-          let up = opposite_up side is s j below whole in
-          omega (arith, at j h, square_up side is j h, tile.inside (opposite side s j + j % side) (omega arith))
-
-      pub AreApart-turned_to : AreApart 8 side to
-      AreApart-turned_to a b h k =
-          let at_a = at a (omega arith) in
-          let at_b = at b k in
-          let up_a = square_up side is a (omega arith) in
-          let up_b = square_up side is b k in
-          let row_a : opposite side s a + a % side < 8 = omega (arith, row_below side is a, opposite_up side is s a below whole) in
-          let row_b : opposite side s b + b % side < 8 = omega (arith, row_below side is b, opposite_up side is s b below whole) in
-          let apart = opposite_apart side is s a b h k below whole in
-          elim (cases_lt (opposite side s a + a % side) (opposite side s b + b % side)) [
-            | inl less ↦ elim (tile.apart _ _ less row_b) [ inl u ↦ inl (omega arith) | inr u ↦ inr (omega arith) ]
-            | inr more ↦ elim (tile.apart (opposite side s b + b % side) (opposite side s a + a % side) (omega arith) row_a) [ inl u ↦ inr (omega arith) | inr u ↦ inl (omega arith) ]
-          ]
-
-      pub SquaresTurned-step : {A : Type 0} (from : List ℕ) (columns : List (List A)) (old new : List A)
-          → ((c : ℕ) → c < 8 → slice_index from c ≡ slice_index x c + opposite side s c)
-          → AreColumns side from old columns → AreStored 8 side to columns old new → SquaresTurned s (s + side) side x old new
-      SquaresTurned-step from columns old new at_from of step = record {
-        same_length = step.same_length;
+  -- the squares of one sum are read, and each is written over its mirror image
+  pub SquaresTurned-step : {A : Type 0} (side s : ℕ) (tops from to : List ℕ) (columns : List (List A)) (old new : List A) → IsSide side → side ≤ 8 → s < 8 → s % side ≡ 0
+      → ((c : ℕ) → c < 8 → slice_index tops c ≡ opposite s (c - c % side)) → ((c : ℕ) → c < 8 → slice_index from c ≡ slice_index x c + slice_index tops c)
+      → ((c : ℕ) → c < 8 → slice_index to c ≡ slice_index x (slice_index tops c + c % side) + (c - c % side))
+      → AreColumns side from old columns → AreStored 8 side to columns old new → SquaresTurned s (s + side) side x old new
+  SquaresTurned-step side s tops from to columns old new is small below whole is_top at_from at of step =
+      let moved = SquaresMoved-rows 8 side (inr refl) is small (opposite s) x tops to (λ c h. opposite_up side is s c below whole) is_top at x from columns old old new at_from of step in
+      record {
+        same_length = moved.same_length;
         turned = λ r c hr hc h k.
-            let place = c - c % side + r % side in
-            let inside : place < 8 = omega (arith, square_up side is c hc, row_below side is r) in
-            let row : place % side ≡ r % side = row_in_square side is c (r % side) (row_below side is r) in
-            let start : place - place % side ≡ c - c % side = omega (arith, row) in
             let mirror = opposite_row side is s r c hr hc below whole h k in
-            let found : opposite side s place ≡ opposite side s c = rw start refl in
-            let to_is : slice_index to place + c % side ≡ slice_index x r + c =
-            let moved = rw (found, row, mirror) at (at place inside) in
-            omega (arith, moved, start, row_most side is c)
-            in
-            let back : place - place % side + c % side ≡ c = omega (arith, start, row_most side is c) in
-            let from_is : slice_index from c + r % side ≡ slice_index x c + r = omega (arith, at_from c hc, mirror) in
-            rw to_is at (step.rows place (c % side) inside (row_below side is c)) ∙ rw (back, row, from_is) at (of place (c % side) inside (row_below side is c));
+            moved.places r c hc (omega (arith, mirror)) (omega (arith, mirror, row_below side is r));
         others = λ p out.
-            step.others p (λ j m.
-            let on = at j m in
-            let up = square_up side is j m in
-            let row = row_below side is j in
-            let fits = opposite_up side is s j below whole in
-            outside p (slice_index to j) side (λ from within.
-            let t = p - slice_index to j in
-            let sum = opposite_sum side is s j t m (omega arith) below whole in
-            out (opposite side s j + j % side) (j - j % side + t) (omega arith) (omega arith) (omega arith) (omega arith) (omega arith)));
+            moved.others p (λ r c hc h k.
+            let sum = opposite_sum side is s r c hc below whole h k in
+            out r c (omega (arith, opposite_up side is s c below whole)) hc (omega arith) (omega (arith, row_below side is c)));
       }
 
   -- the squares of some sums are turned, and then those of the sums that follow

@@ -20,9 +20,9 @@ items_of_four items four = items four.a ∷ items four.b ∷ items four.c ∷ it
 abbrev pub IsSide : ℕ → Type 0
 IsSide n = (n ≡ 2) ⊎ ((n ≡ 4) ⊎ (n ≡ 8))
 
--- Each of 8 runs of `side` places is inside a list of this length. The runs begin at `from`
-abbrev pub AreInside : ℕ → List ℕ → ℕ → Type 0
-AreInside side from len = (j : ℕ) → j < 8 → slice_index from j + side ≤ len
+-- Each of the first n runs of `side` places is inside a list of this length. The runs begin at `from`
+abbrev pub AreInside : ℕ → ℕ → List ℕ → ℕ → Type 0
+AreInside n side from len = (j : ℕ) → j < n → slice_index from j + side ≤ len
 
 -- no two of the first n runs overlap
 abbrev pub AreApart : ℕ → ℕ → List ℕ → Type 0

@@ -3,9 +3,24 @@
 //!
 //! A *register* holds some items, one after another. The rows of a square, one after another, are one
 //! list, which is in some registers. A *stage* interleaves the first half of this list with the second
-//! half. After one stage for 2 rows, two stages for 4 rows and three for 8 rows, the list is the columns
-//! of the square, one after another. The same is true of several squares side by side, whose rows have
-//! 8 items together. So 8 rows of squares, in four registers of two rows each, are transposed at once.
+//! half, as a perfect shuffle of cards does. Two stages turn the rows of a square of 4 by 4 into its
+//! columns:
+//!
+//! ```text
+//!              first half                  second half
+//! the rows     a0 a1 a2 a3  b0 b1 b2 b3    c0 c1 c2 c3  d0 d1 d2 d3
+//! stage one    a0 c0 a1 c1  a2 c2 a3 c3    b0 d0 b1 d1  b2 d2 b3 d3
+//! stage two    a0 b0 c0 d0  a1 b1 c1 d1    a2 b2 c2 d2  a3 b3 c3 d3
+//! ```
+//!
+//! A square of 2 rows takes one stage, and a square of 8 rows takes three. The same is true of several
+//! squares side by side, whose rows have 8 items together. So 8 rows of squares, in four registers of
+//! two rows each, are transposed at once. `low` and `high` interleave the halves of two registers. They
+//! are one instruction each, which manuals name `unpack` (x86-64) or `zip` (aarch64).
+//!
+//! A stage here rotates the bits of an item's index by one, while a stage of
+//! [`butterfly_4x4`](crate::transpose::butterfly_4x4) exchanges one bit of the row number with the same
+//! bit of the column number: after two stages of either, the two numbers are exchanged.
 //!
 //! [`exchange_tiles`], [`turn_tile`] and [`put_block`] leave the list that the methods of these names in
 //! [`places`](crate::places) leave. A holder's own method may call them.
@@ -63,7 +78,7 @@ pub(crate) trait Runs<T, D: Register<T>> {
         requires { place + D.half ≤ length (items self.old) }
         ensures { IsRunStored D.half place (D.half_items run) (items self.old) (items self.new) };
 
-    ghost fits: { (a : Self) → length (items a) < 2 ^ 64 };
+    ghost fits: { (a : Self) → length (items a) < 2 ^ 63 };
 }
 
 /// Four registers.
@@ -102,7 +117,7 @@ fn load_two<T, D: Register<T>, S: Runs<T, D>>(list: &S, first: usize, second: us
 /// Reads 8 runs. Each register has two of them, interleaved: the first stage is made as they are read.
 #[inline(always)]
 fn load<T, D: Register<T>, S: Runs<T, D>>(list: &S, from: [usize; 8]) -> Four<D>
-    requires { AreInside D.half from (length (S.items list.now)) }
+    requires { AreInside 8 D.half from (length (S.items list.now)) }
     ensures { AreLoaded D.half from (S.items list.now) (items_of_four D.items result) }
 {
     Four {
@@ -143,7 +158,7 @@ fn load_columns<T, D: Register<T>, S: Runs<T, D>>(
 ) -> Four<D>
     requires some_side { IsSide D.half }
     requires side { side ≡ D.half }
-    requires inside { AreInside D.half places (length (S.items list.now)) }
+    requires inside { AreInside 8 D.half places (length (S.items list.now)) }
     ensures { AreColumns D.half places (S.items list.now) (items_of_four D.items result) }
 {
     let one = load(list, in_order(places, side));
@@ -170,68 +185,79 @@ fn store_two<T, D: Register<T>, M: Runs<T, D>>(list: &mut M, first: usize, secon
     list.store(second, b);
 }
 
-/// Stores the first two registers.
+/// Stores four registers, or the first two of them, by runs of `count` places.
 #[inline(always)]
-fn store_half<T, D: Register<T>, M: Runs<T, D>>(list: &mut M, to: [usize; 8], four: Four<D>)
-    requires inside { AreInside D.half to (length (M.items list.old)) }
-    requires apart { AreApart 4 D.half to }
-    ensures { AreStored 4 D.half to (items_of_four D.items four) (M.items list.old) (M.items list.new) }
+fn store<T, D: Register<T>, M: Runs<T, D>>(
+    list: &mut M,
+    count: usize,
+    to: [usize; 8],
+    four: Four<D>,
+)
+    requires known { (count ≡ 4) ⊎ (count ≡ 8) }
+    requires inside { AreInside count D.half to (length (M.items list.old)) }
+    requires apart { AreApart count D.half to }
+    ensures { AreStored count D.half to (items_of_four D.items four) (M.items list.old) (M.items list.new) }
 {
     store_two(list, to[0], to[1], four.a);
     store_two(list, to[2], to[3], four.b);
+    if count == 8 {
+        store_two(list, to[4], to[5], four.c);
+        store_two(list, to[6], to[7], four.d);
+    }
 }
 
-/// Stores four registers.
+/// For each row `c` of a tile, the place in column `tops[c]`.
 #[inline(always)]
-fn store<T, D: Register<T>, M: Runs<T, D>>(list: &mut M, to: [usize; 8], four: Four<D>)
-    requires inside { AreInside D.half to (length (M.items list.old)) }
-    requires apart { AreApart 8 D.half to }
-    ensures { AreStored 8 D.half to (items_of_four D.items four) (M.items list.old) (M.items list.new) }
-{
-    store_half(list, to, four);
-    store_two(list, to[4], to[5], four.c);
-    store_two(list, to[6], to[7], four.d);
-}
-
-/// The number of the row of a square that is row `c` of all squares, if these have `side` rows.
-#[inline(always)]
-fn row_of(c: usize, side: usize) -> usize
-    requires { IsSide side }
-    ensures is { result ≡ c % side }
-    ensures below { result < side }
-    ensures most { result ≤ c }
-{
-    c % side
-}
-
-/// The places of the squares in `side` rows of a tile, from row `row` on.
-#[inline(always)]
-fn in_rows(x: [usize; 8], side: usize, row: usize) -> [usize; 8]
-    requires some_side { IsSide side }
-    requires below { row + side ≤ 8 }
+fn in_columns(x: [usize; 8], tops: [usize; 8]) -> [usize; 8]
+    requires below { (c : ℕ) → c < 8 → slice_index tops c < 8 }
     requires fit { (j : ℕ) → j < 8 → slice_index x j + 8 < 2 ^ 64 }
-    ensures { (c : ℕ) → c < 8 → slice_index result c ≡ slice_index x (row + c % side) + (c - c % side) }
+    ensures { (c : ℕ) → c < 8 → slice_index result c ≡ slice_index x c + slice_index tops c }
 {
-    let mut places = x;
-    for c in 0..8 {
-        let r = row_of(c, side);
-        places[c] = x[row + r] + (c - r);
-    }
-    places
+    [
+        x[0] + tops[0],
+        x[1] + tops[1],
+        x[2] + tops[2],
+        x[3] + tops[3],
+        x[4] + tops[4],
+        x[5] + tops[5],
+        x[6] + tops[6],
+        x[7] + tops[7],
+    ]
 }
 
-/// The places of the squares in some columns of a tile, from column `col` on.
+/// The first place of row `c` of some squares side by side, if the first row of its square is row
+/// `top` of a tile.
 #[inline(always)]
-fn in_columns(y: [usize; 8], col: usize) -> [usize; 8]
-    requires below { col < 8 }
-    requires fit { (j : ℕ) → j < 8 → slice_index y j + 8 < 2 ^ 64 }
-    ensures { (c : ℕ) → c < 8 → slice_index result c ≡ slice_index y c + col }
+fn row_place(x: [usize; 8], side: usize, top: usize, c: usize) -> usize
+    requires some_side { IsSide side }
+    requires below { top + side ≤ 8 }
+    requires in_tile { c < 8 }
+    requires fit { (j : ℕ) → j < 8 → slice_index x j + 8 < 2 ^ 64 }
+    ensures { result ≡ slice_index x (top + c % side) + (c - c % side) }
 {
-    let mut places = y;
-    for c in 0..8 {
-        places[c] = y[c] + col;
-    }
-    places
+    x[top + c % side] + (c - c % side)
+}
+
+/// For each row `c` of some squares side by side, its first place, if the first row of its square is
+/// row `tops[c]` of a tile.
+#[inline(always)]
+fn in_rows(x: [usize; 8], side: usize, tops: [usize; 8]) -> [usize; 8]
+    requires some_side { IsSide side }
+    requires below { (c : ℕ) → c < 8 → slice_index tops c + side ≤ 8 }
+    requires fit { (j : ℕ) → j < 8 → slice_index x j + 8 < 2 ^ 64 }
+    ensures { (c : ℕ) → c < 8 → slice_index result c ≡ slice_index x (slice_index tops c + c % side) + (c - c % side) }
+{
+    // With a loop here, the compiler would move registers back and forth in the loop over the blocks.
+    [
+        row_place(x, side, tops[0], 0),
+        row_place(x, side, tops[1], 1),
+        row_place(x, side, tops[2], 2),
+        row_place(x, side, tops[3], 3),
+        row_place(x, side, tops[4], 4),
+        row_place(x, side, tops[5], 5),
+        row_place(x, side, tops[6], 6),
+        row_place(x, side, tops[7], 7),
+    ]
 }
 
 /// Exchanges `side` rows of a tile, from row `row` on, with as many columns of the other.
@@ -247,15 +273,15 @@ fn exchange_band<T, D: Register<T>, M: Runs<T, D>>(
     requires side { side ≡ D.half }
     requires below { row + side ≤ 8 }
     requires tiles { AreTiles x y (length (M.items list.old)) }
-    requires fits { length (M.items list.old) < 2 ^ 64 }
+    requires fits { length (M.items list.old) < 2 ^ 63 }
     ensures { RowsExchanged row (row + side) x y (M.items list.old) (M.items list.new) }
 {
-    let in_x = in_rows(x, side, row);
-    let in_y = in_columns(y, row);
+    let in_x = in_rows(x, side, [row; 8]);
+    let in_y = in_columns(y, [row; 8]);
     let to_y = load_columns(list, side, in_x);
     let to_x = load_columns(list, side, in_y);
-    store(list, in_y, to_y);
-    store(list, in_x, to_x);
+    store(list, 8, in_y, to_y);
+    store(list, 8, in_x, to_x);
 }
 
 /// Does what `Places::exchange_tiles` does, by squares of `side` rows.
@@ -294,39 +320,26 @@ fn opposite(side: usize, sum: usize, c: usize) -> usize
     requires below { c < 8 }
     ensures { result ≡ (8 + sum - (c - c % side)) % 8 }
 {
-    (8 + sum - (c - row_of(c, side))) % 8
+    (8 + sum - (c - c % side)) % 8
 }
 
-/// The places of some squares of a tile.
+/// The first column of the square whose mirror image is in row `c` of all squares, for each `c`.
 #[inline(always)]
-fn turned_from(x: [usize; 8], side: usize, sum: usize) -> [usize; 8]
+fn opposites(side: usize, sum: usize) -> [usize; 8]
     requires some_side { IsSide side }
     requires sum { sum < 8 }
-    requires fit { (j : ℕ) → j < 8 → slice_index x j + 8 < 2 ^ 64 }
-    ensures { (c : ℕ) → c < 8 → slice_index result c ≡ slice_index x c + (8 + sum - (c - c % side)) % 8 }
+    ensures { (c : ℕ) → c < 8 → slice_index result c ≡ (8 + sum - (c - c % side)) % 8 }
 {
-    let mut places = x;
-    for c in 0..8 {
-        places[c] = x[c] + opposite(side, sum, c);
-    }
-    places
-}
-
-/// The places of their mirror images.
-#[inline(always)]
-fn turned_to(x: [usize; 8], side: usize, sum: usize) -> [usize; 8]
-    requires some_side { IsSide side }
-    requires sum { sum < 8 }
-    requires whole { sum % side ≡ 0 }
-    requires fit { (j : ℕ) → j < 8 → slice_index x j + 8 < 2 ^ 64 }
-    ensures { (c : ℕ) → c < 8 → slice_index result c ≡ slice_index x ((8 + sum - (c - c % side)) % 8 + c % side) + (c - c % side) }
-{
-    let mut places = x;
-    for c in 0..8 {
-        let r = row_of(c, side);
-        places[c] = x[opposite(side, sum, c) + r] + (c - r);
-    }
-    places
+    [
+        opposite(side, sum, 0),
+        opposite(side, sum, 1),
+        opposite(side, sum, 2),
+        opposite(side, sum, 3),
+        opposite(side, sum, 4),
+        opposite(side, sum, 5),
+        opposite(side, sum, 6),
+        opposite(side, sum, 7),
+    ]
 }
 
 /// Transposes some squares of a tile, each into the place of its mirror image.
@@ -342,11 +355,12 @@ fn turn_squares<T, D: Register<T>, M: Runs<T, D>>(
     requires sum { sum < 8 }
     requires whole { sum % side ≡ 0 }
     requires tile { IsTile x (length (M.items list.old)) }
-    requires fits { length (M.items list.old) < 2 ^ 64 }
+    requires fits { length (M.items list.old) < 2 ^ 63 }
     ensures { SquaresTurned sum (sum + side) side x (M.items list.old) (M.items list.new) }
 {
-    let columns = load_columns(list, side, turned_from(x, side, sum));
-    store(list, turned_to(x, side, sum), columns);
+    let tops = opposites(side, sum);
+    let columns = load_columns(list, side, in_columns(x, tops));
+    store(list, 8, in_rows(x, side, tops), columns);
 }
 
 /// Does what `Places::turn_tile` does, by squares of `side` rows.
@@ -372,70 +386,34 @@ pub(crate) fn turn_tile<T, D: Register<T>, M: Runs<T, D>>(list: &mut M, side: us
     }
 }
 
-/// The place of row `c` of a block, from column `col` on. After the last row come the same rows again.
+/// Where row `c` of `count` rows begins. After the last row come the same rows again.
 #[inline(always)]
-fn block_row_place(block: Block, col: usize, c: usize) -> usize
-    requires known { (block.side ≡ 4) ⊎ (block.side ≡ 8) }
-    requires below { col < block.side }
-    requires fits { (r : ℕ) → r < block.side → block.from + r * block.width + col < 2 ^ 64 }
-    ensures { result ≡ block.from + c % block.side * block.width + col }
+fn start(first: usize, stride: usize, count: usize, c: usize) -> usize
+    requires known { (count ≡ 4) ⊎ (count ≡ 8) }
+    requires fits { (r : ℕ) → r < count → first + r * stride + 8 < 2 ^ 64 }
+    ensures is { result ≡ first + c % count * stride }
+    ensures fit { result + 8 < 2 ^ 64 }
 {
-    block.from + c % block.side * block.width + col
+    first + c % count * stride
 }
 
-/// The places of the rows of a block, from column `col` on.
+/// Where the rows of a block begin, or those of its transpose.
 #[inline(always)]
-fn block_from(block: Block, col: usize) -> [usize; 8]
-    requires known { (block.side ≡ 4) ⊎ (block.side ≡ 8) }
-    requires below { col < block.side }
-    requires fits { (r : ℕ) → r < block.side → block.from + r * block.width + col < 2 ^ 64 }
-    ensures { (c : ℕ) → c < 8 → slice_index result c ≡ block.from + c % block.side * block.width + col }
-{
-    // With a loop here, the compiler would move registers back and forth in the loop over the blocks.
-    [
-        block_row_place(block, col, 0),
-        block_row_place(block, col, 1),
-        block_row_place(block, col, 2),
-        block_row_place(block, col, 3),
-        block_row_place(block, col, 4),
-        block_row_place(block, col, 5),
-        block_row_place(block, col, 6),
-        block_row_place(block, col, 7),
-    ]
-}
-
-/// The cell of row `c` of the transposed squares of a block whose first column is `col`.
-#[inline(always)]
-fn block_cell(block: Block, side: usize, col: usize, c: usize) -> usize
-    requires some_side { IsSide side }
-    requires known { (block.side ≡ 4) ⊎ (block.side ≡ 8) }
-    requires below { col + side ≤ block.side }
-    requires fits { (r c : ℕ) → r < block.side → c < block.side → block.to + c * block.height + r < 2 ^ 64 }
-    ensures { result ≡ block.to + (col + c % block.side % side) * block.height + (c % block.side - c % block.side % side) }
-{
-    let row = c % block.side;
-    let r = row_of(row, side);
-    block.to + (col + r) * block.height + (row - r)
-}
-
-/// The cells into which the rows of the transposed squares are put.
-#[inline(always)]
-fn block_to(block: Block, side: usize, col: usize) -> [usize; 8]
-    requires some_side { IsSide side }
-    requires known { (block.side ≡ 4) ⊎ (block.side ≡ 8) }
-    requires below { col + side ≤ block.side }
-    requires fits { (r c : ℕ) → r < block.side → c < block.side → block.to + c * block.height + r < 2 ^ 64 }
-    ensures { (c : ℕ) → c < 8 → slice_index result c ≡ block.to + (col + c % block.side % side) * block.height + (c % block.side - c % block.side % side) }
+fn starts(first: usize, stride: usize, count: usize) -> [usize; 8]
+    requires known { (count ≡ 4) ⊎ (count ≡ 8) }
+    requires fits { (r : ℕ) → r < count → first + r * stride + 8 < 2 ^ 64 }
+    ensures are { (c : ℕ) → c < 8 → slice_index result c ≡ first + c % count * stride }
+    ensures fit { (c : ℕ) → c < 8 → slice_index result c + 8 < 2 ^ 64 }
 {
     [
-        block_cell(block, side, col, 0),
-        block_cell(block, side, col, 1),
-        block_cell(block, side, col, 2),
-        block_cell(block, side, col, 3),
-        block_cell(block, side, col, 4),
-        block_cell(block, side, col, 5),
-        block_cell(block, side, col, 6),
-        block_cell(block, side, col, 7),
+        start(first, stride, count, 0),
+        start(first, stride, count, 1),
+        start(first, stride, count, 2),
+        start(first, stride, count, 3),
+        start(first, stride, count, 4),
+        start(first, stride, count, 5),
+        start(first, stride, count, 6),
+        start(first, stride, count, 7),
     ]
 }
 
@@ -454,17 +432,14 @@ fn put_columns<T, D: Register<T>, S: Runs<T, D>, M: Runs<T, D>>(
     requires known { (block.side ≡ 4) ⊎ (block.side ≡ 8) }
     requires below { col + side ≤ block.side }
     requires block { BlockFits block (length (S.items source.now)) (length (M.items cells.old)) }
-    requires source_fits { length (S.items source.now) < 2 ^ 64 }
-    requires cells_fit { length (M.items cells.old) < 2 ^ 64 }
+    requires source_fits { length (S.items source.now) < 2 ^ 63 }
+    requires cells_fit { length (M.items cells.old) < 2 ^ 63 }
     ensures { ColumnsPut col (col + side) block (S.items source.now) (M.items cells.old) (M.items cells.new) }
 {
-    let columns = load_columns(source, side, block_from(block, col));
-    let to = block_to(block, side, col);
-    if block.side == 8 {
-        store(cells, to, columns);
-    } else {
-        store_half(cells, to, columns);
-    }
+    let from = in_columns(starts(block.from, block.width, block.side), [col; 8]);
+    let to = in_rows(starts(block.to, block.height, block.side), side, [col; 8]);
+    let columns = load_columns(source, side, from);
+    store(cells, block.side, to, columns);
 }
 
 /// Does what `Cells::put_block` does, by squares of `side` rows.
@@ -482,20 +457,16 @@ pub(crate) fn put_block<T, D: Register<T>, S: Runs<T, D>, M: Runs<T, D>>(
     requires block { BlockFits block (length (S.items source.now)) (length (M.items cells.old)) }
     ensures { IsBlockPut (block_items block) block (S.items source.now) (M.items cells.old) (M.items cells.new) }
 {
-    match (block.side, side) {
-        (8, 2) => {
+    match block.side / side {
+        4 => {
             put_columns(cells, source, side, block, 0);
             put_columns(cells, source, side, block, 2);
             put_columns(cells, source, side, block, 4);
             put_columns(cells, source, side, block, 6);
         }
-        (8, 4) => {
+        2 => {
             put_columns(cells, source, side, block, 0);
-            put_columns(cells, source, side, block, 4);
-        }
-        (4, 2) => {
-            put_columns(cells, source, side, block, 0);
-            put_columns(cells, source, side, block, 2);
+            put_columns(cells, source, side, block, side);
         }
         _ => put_columns(cells, source, side, block, 0),
     }
@@ -503,15 +474,12 @@ pub(crate) fn put_block<T, D: Register<T>, S: Runs<T, D>, M: Runs<T, D>>(
 
 /// Two registers, whose items follow each other.
 #[derive(Clone, Copy)]
-pub(crate) struct Pair<R> {
-    pub a: R,
-    pub b: R,
-}
+pub(crate) struct Pair<R>(R, R);
 
 impl<T, R: Register<T>> Register<T> for Pair<R> {
     type Half = R;
 
-    ghost items = { λ pair. R.items pair.a ++ R.items pair.b };
+    ghost items = { λ pair. R.items pair.0 ++ R.items pair.1 };
 
     ghost half_items = { λ r. R.items r };
 
@@ -519,29 +487,23 @@ impl<T, R: Register<T>> Register<T> for Pair<R> {
 
     #[inline(always)]
     fn low(self, other: Self) -> Self {
-        Pair {
-            a: self.a.low(other.a),
-            b: self.a.high(other.a),
-        }
+        Pair(self.0.low(other.0), self.0.high(other.0))
     }
 
     #[inline(always)]
     fn high(self, other: Self) -> Self {
-        Pair {
-            a: self.b.low(other.b),
-            b: self.b.high(other.b),
-        }
+        Pair(self.1.low(other.1), self.1.high(other.1))
     }
 
     #[inline(always)]
     fn from_half(first: R) -> Self {
-        Pair { a: first, b: first }
+        Pair(first, first)
     }
 
     #[inline(always)]
     fn halves(self) -> (R, R) {
-        (self.a, self.b)
+        (self.0, self.1)
     }
 
-    ghost full = { λ pair. length_of_pair (R.items pair.a) (R.items pair.b) R.half (R.full pair.a) (R.full pair.b) };
+    ghost full = { λ pair. length_of_pair (R.items pair.0) (R.items pair.1) R.half (R.full pair.0) (R.full pair.1) };
 }
