@@ -25,7 +25,7 @@ pub use Rattle.p3_util.proofs.Callers.Reverse.{reversed_place, place_moved, word
 pub use Rattle.p3_util.proofs.Callers.ReversedTables.{reversed_index, reversed_item, reversed_item_at, reversed_item_from, reversed_some, reversed_some_from, even_index, odd_index, reversed_read, even_read, odd_read}
 pub use Rattle.p3_util.proofs.Callers.Rows.{part_length, part_inside, part_before, part_after, part_read, part_there, part_apart, part_within, row_moved, first_row_stays}
 pub use Rattle.p3_util.proofs.Callers.Square.{square_back}
-pub use Rattle.p3_util.proofs.Callers.Transpose.{transposed_once, transposed_back, first_in_rows, first_row, transposed_first, one_column, one_row, one_line, column_alone, row_alone, line_alone, transposes_more, outside_stays, above_stays, below_stays, left_stays, right_stays, region_others, reversed_by_sides}
+pub use Rattle.p3_util.proofs.Callers.Transpose.{transposed_once, transposed_back, first_in_rows, first_row, transposed_first, one_column, one_row, one_line, column_alone, row_alone, line_alone, transposes_more, outside_stays, above_stays, below_stays, left_stays, right_stays, levels_enough, region_others, reversed_by_sides}
 pub use Rattle.p3_util.proofs.Callers.TransposeFromParts.{region_of_column, rows_from_top, rows_across, twice_half, swaps_of_quadrants, last_quadrant_room, quadrants_within, square_of_quadrants}
 pub use Rattle.p3_util.proofs.Callers.Views.{flat_place}
 pub use Rattle.p3_util.proofs.Callers.ZipEq.{zip_place, length_zip, zip_set, zip_swap, reduced_summed}
@@ -39,3 +39,5 @@ pub use Rattle.p3_util.proofs.ItemsAtLemmas.{from_end-swap as from_end_swapped, 
 -- two lists joined to one: an exchange in the first, in the second or across both
 pub use Rattle.p3_util.proofs.TwoLists.{in-front as joined_front, in-back as joined_back, swap-sym as swap_turned}
 pub use Rattle.p3_util.proofs.JoinedLists.{across as joined_across}
+-- the splits of a transpose nest at most 57 levels deep
+pub use Rattle.p3_util_kernels.proofs.LevelsLemmas.{lev_le as levels_most}

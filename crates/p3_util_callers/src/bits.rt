@@ -26,10 +26,14 @@ pub fn padded_len(len: usize) -> Option<usize>
     checked_pow2(log2_ceil_usize(len))
 }
 
-/// The same for a length that is stored in 64 bits. The new length is less than twice the old one.
+/// A power of two that is at least `len`, for a length that is stored in 64 bits. It is less than
+/// twice `len`, so there is no smaller one. `None`, if it does not fit in a `usize`.
 pub fn padded_twice(len: u64) -> Option<usize>
     requires { 0 < len }
-    ensures { IfSome result (λ n. n < 2 * len) }
+    ensures none { result ≡ None → (k : ℕ) → k < 64 → 2 ^ k < len }
+    ensures power { IfSome result (λ n. IsPowerOfTwo n) }
+    ensures enough { IfSome result (λ n. len ≤ n) }
+    ensures twice { IfSome result (λ n. n < 2 * len) }
 {
     checked_pow2(log2_ceil_u64(len) as usize)
 }

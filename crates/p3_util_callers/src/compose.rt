@@ -2,9 +2,9 @@
 //! gives access to a list only by index. It is proved from public contracts, with the exact number
 //! of its steps.
 
-ghost use Rattle.std.specs.Prelude.{◌≡◌, ◌+◌, ◌-◌, ◌*◌, ◌/◌, ◌^◌, ◌<◌, ◌≤◌, length};
+ghost use Rattle.std.specs.Prelude.{◌≡◌, ◌+◌, ◌-◌, ◌*◌, ◌/◌, ◌^◌, ◌<◌, ◌≤◌, List, length};
 ghost use Rattle.p3_util.specs.Levels.{clog};
-ghost use Rattle.p3_util.specs.Reversal.{FitsRows, IsReversal, IsReversible};
+ghost use Rattle.p3_util.specs.Reversal.{FitsRows, IsReversal, IsReversible, IsRowReversal};
 ghost use Rattle.p3_util.specs.SideBySide.{AreTransposed};
 ghost use Rattle.p3_util.specs.Steps.{counted};
 ghost use Rattle.p3_util.specs.SwapCounts.{long_swaps, reversal_swaps, row_swaps, square_swaps};
@@ -38,6 +38,8 @@ pub fn reverse_items_and_rows<S: Places>(places: &mut S, row_width: usize) -> u1
 pub fn reverse_and_count<S: Places>(places: S, row_width: usize) -> (S, u128)
     requires items { IsReversible (length (S.items places)) }
     requires rows { FitsRows (length (S.items places)) row_width }
+    ensures order { (items : List S.Item) × IsReversal (S.items places) items
+        × IsRowReversal row_width items (S.items result.0) }
     ensures count { let n = length (S.items places) in
         result.1 ≡ counted (counted 0 (reversal_swaps n)) (row_swaps n row_width) }
 {

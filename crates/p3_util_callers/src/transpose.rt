@@ -331,6 +331,7 @@ pub fn transpose_by_splits<C: Cells>(
 
 /// The same from any source, with 64 levels, which are enough for every region. Returns the number of
 /// writes.
+#[tactic(auto, using(p3_util::proofs::Callers::levels_enough))]
 pub fn transpose_source_by_splits<R, C>(
     input: &R,
     out: &mut C,
@@ -344,11 +345,12 @@ where
     requires input_fits { length (R.items input.now) ≡ width * height }
     requires output_fits { length (C.items out.old) ≡ width * height }
     requires inside { LiesInMatrix region width height }
-    requires enough { lev (rows_of region) (cols_of region) ≤ 64 }
     ensures transposed { IsRegionTransposed region width height (R.items input.now)
         (C.items out.old) (C.items out.new) }
     ensures count { result ≡ counted 0 (items_of region) }
 {
+    // The contract of `len` says that the length fits in a usize.
+    let _ = input.len();
     let mut out = Writes::new(out);
     transpose_source_split_on(input, &mut out, region, width, height, 64);
     out.writes()

@@ -1,7 +1,7 @@
 //! Callers of the views over rows whose length is a parameter or a literal, and of the functions
 //! that move the items of vectors.
 
-ghost use Rattle.std.specs.Prelude.{◌≡◌, ◌+◌, ◌*◌, ◌%◌, ◌^◌, ◌<◌, ◌↔◌, [], IfOk, IfSome, IsTrue, IsFalse, Some, length, slice_get, slice_index_or, slice_set, vec_len};
+ghost use Rattle.std.specs.Prelude.{◌≡◌, ◌+◌, ◌*◌, ◌%◌, ◌^◌, ◌<◌, ◌↔◌, [], IfOk, IfSome, IsTrue, IsFalse, MatchOption, Some, length, slice_get, slice_index_or, slice_set, vec_len};
 ghost use Rattle.p3_util.specs.Flat.{flat};
 ghost use Rattle.p3_util.specs.Reversal.{FitsRows, IsReversal, IsRowReversal, IsZeroOrPowerOfTwo};
 ghost use Rattle.p3_util.specs.Transpose.{IsTranspose};
@@ -121,14 +121,17 @@ pub fn reconstituted_and_back(alloc: Global, numbers: Vec<u64>) -> Result<Vec<u6
     Ok(again)
 }
 
-/// The items of `rows` after the order of the rows was reversed by index bits, or `None` if the number
-/// of rows is neither zero nor a power of two. The items are moved first, and then reversed as rows.
+/// The items of `rows` after the order of the rows was reversed by index bits. If they do not fill
+/// rows of `N` items whose number is zero or a power of two, `None`. Without items there is always a
+/// list, for `N = 0` too, whatever the number of `rows` is. The items are moved first, and then
+/// reversed as rows.
 pub fn items_of_reversed<T: Default + Drop, const N: usize>(
     alloc: Global,
     rows: Vec<[T; N]>,
 ) -> Result<Option<Vec<T>>, AllocError>
     requires { vec_len rows * N < 2 ^ 64 }
-    ensures { IfOk result (λ r. IfSome r (λ moved. IsRowReversal N (flat rows.items) moved.items)) }
+    ensures { IfOk result (λ r. MatchOption r (¬ FitsRows (vec_len rows * N) N)
+        (λ moved. IsRowReversal N (flat rows.items) moved.items)) }
 {
     let Ok(items) = flatten_to_base(alloc, rows) else {
         return Err(AllocError);

@@ -9,9 +9,11 @@ use Rattle.std.proofs.lemmas.Nat.{mod_below, pow-add, pow_pos, same_from_place}
 use Rattle.std.proofs.Math.Nat.{div-lt_iff_lt-mul, mod-add-div', mul-le-mul_right}
 use Rattle.p3_util_kernels.specs.Digits.{rev}
 use Rattle.p3_util_kernels.specs.declared.transpose.regions.Region.{Region}
-use Rattle.p3_util_kernels.specs.Region.{IsInRegion, IsRegionTransposed, LiesInMatrix}
+use Rattle.p3_util_kernels.specs.Levels.{lev}
+use Rattle.p3_util_kernels.specs.Region.{IsInRegion, IsRegionTransposed, LiesInMatrix, cols_of, rows_of}
 use Rattle.p3_util_kernels.specs.Reversal.{IsReversal, IsRowReversal}
 use Rattle.p3_util_kernels.proofs.DigitsLemmas.{rev-lt, rev-parts}
+use Rattle.p3_util_kernels.proofs.HalvesLemmas.{lev-of_region}
 use Rattle.p3_util_kernels.proofs.ReversalLemmas.{IsReversal-from_power}
 use Rattle.p3_util_kernels.proofs.SameList.{same_places}
 use Rattle.p3_util.proofs.Callers.Rows.{part_within}
@@ -85,10 +87,10 @@ transposes_more w h m input old new last before done r less = elim (cases_lt r m
 -- What a region leaves as it was: the items outside of it, by row and column. The place of row y and
 -- column x is `x * height + y`.
 module _ {A : Type 0} (region : Region) (width height x y : ℕ) (input old new : List A) where
-  pub outside_stays : IsRegionTransposed region width height input old new → LiesInMatrix region width height → (IsInRegion region x y → ⊥) → y < height
+  pub outside_stays : IsRegionTransposed region width height input old new → region.row_end ≤ height → (IsInRegion region x y → ⊥) → y < height
       → slice_get new (x * height + y) ≡ slice_get old (x * height + y)
-  outside_stays put inside out hy = put.others (x * height + y) (λ x' y' within e.
-      let same = same_from_place x y x' y' height hy (omega (arith, within.row_to, inside.rows_inside)) e in
+  outside_stays put rows out hy = put.others (x * height + y) (λ x' y' within e.
+      let same = same_from_place x y x' y' height hy (omega (arith, within.row_to, rows)) e in
       out (record {
         row_from = omega (arith, same.1, within.row_from);
         row_to = omega (arith, same.1, within.row_to);
@@ -96,21 +98,26 @@ module _ {A : Type 0} (region : Region) (width height x y : ℕ) (input old new 
         col_to = omega (arith, same.0, within.col_to);
       }))
 
-  pub above_stays : IsRegionTransposed region width height input old new → LiesInMatrix region width height → y < region.row_start → y < height
+  pub above_stays : IsRegionTransposed region width height input old new → region.row_end ≤ height → y < region.row_start → y < height
       → slice_get new (x * height + y) ≡ slice_get old (x * height + y)
-  above_stays put inside h hy = outside_stays put inside (λ within. omega (arith, within.row_from)) hy
+  above_stays put rows h hy = outside_stays put rows (λ within. omega (arith, within.row_from)) hy
 
-  pub below_stays : IsRegionTransposed region width height input old new → LiesInMatrix region width height → region.row_end ≤ y → y < height
+  pub below_stays : IsRegionTransposed region width height input old new → region.row_end ≤ height → region.row_end ≤ y → y < height
       → slice_get new (x * height + y) ≡ slice_get old (x * height + y)
-  below_stays put inside h hy = outside_stays put inside (λ within. omega (arith, within.row_to)) hy
+  below_stays put rows h hy = outside_stays put rows (λ within. omega (arith, within.row_to)) hy
 
-  pub left_stays : IsRegionTransposed region width height input old new → LiesInMatrix region width height → x < region.col_start → y < height
+  pub left_stays : IsRegionTransposed region width height input old new → region.row_end ≤ height → x < region.col_start → y < height
       → slice_get new (x * height + y) ≡ slice_get old (x * height + y)
-  left_stays put inside h hy = outside_stays put inside (λ within. omega (arith, within.col_from)) hy
+  left_stays put rows h hy = outside_stays put rows (λ within. omega (arith, within.col_from)) hy
 
-  pub right_stays : IsRegionTransposed region width height input old new → LiesInMatrix region width height → region.col_end ≤ x → y < height
+  pub right_stays : IsRegionTransposed region width height input old new → region.row_end ≤ height → region.col_end ≤ x → y < height
       → slice_get new (x * height + y) ≡ slice_get old (x * height + y)
-  right_stays put inside h hy = outside_stays put inside (λ within. omega (arith, within.col_to)) hy
+  right_stays put rows h hy = outside_stays put rows (λ within. omega (arith, within.col_to)) hy
+
+-- 64 levels are enough for a region of a matrix whose places fit in a usize. It needs at most 57.
+pub levels_enough : (region : Region) (width height : ℕ) → LiesInMatrix region width height → width < 2 ^ 64 → height < 2 ^ 64
+    → width * height < 2 ^ 64 → lev (rows_of region) (cols_of region) ≤ 64
+levels_enough region width height lies wide tall fits = omega (arith, lev-of_region region width height lies wide tall fits)
 
 -- `IsRegionTransposed` says of a place that it keeps its item if it differs from all places of the
 -- region. This lemma is what the search lacks to use that: two rows of the output are the same row, or
