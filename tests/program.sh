@@ -53,6 +53,10 @@ words() {
     is 'rows' 0 $'[0,1,4,5,2,3,6,7]\n' ''
     run revbits <<<'[1,2,3]'
     is 'a length that does not fit' 2 '' $'error: length 3 is neither zero nor a power of two\n'
+    run revrows 2 <<<'[1,2,3]'
+    is 'a length that does not fit the rows' 2 '' $'error: length 3 is not 2 times zero or a power of two\n'
+    run transpose 3 2 <<<"$list"
+    is 'a length that does not fit the sides' 2 '' $'error: 3 by 2 is not the length 4\n'
     run <<<"$list"
     is 'no words' 2 '' "$unknown"
     run '' <<<"$list"
