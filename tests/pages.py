@@ -1,7 +1,7 @@
-"""For tests/agree: compares the pages with the code. It checks the functions that blocks of Rust quote, the clauses
-that MODEL names, the numbers in ARCHITECTURE's table and in sentences, each link, file and name, and the cells of tables. It
-also compares the modules with the files, the heads of specs with the contracts that use them, and the files that
-comments of specs and proofs name with those that are there."""
+"""For tests/agree: compares the pages with the code. It checks the functions that blocks of Rust quote, the clauses that
+MODEL names, the numbers in ARCHITECTURE's table and in sentences, lists of sizes, the formulas for parts, each link,
+file and name, and the rows and cells of tables. It also compares the modules with the files, the heads of specs with the
+contracts that use them, and the files that comments of specs and proofs name with those that are there."""
 import functools
 import itertools
 import os
@@ -23,6 +23,18 @@ ELSEWHERE = {"CHANGELOG.md", "docs/TRIED.md", "docs/DIFFERENCES.md"}
 LIBRARIES = "crates/p3_util(_kernels|_c|_run)?/"
 TABLE_IS_ABOUT = "rust/|" + LIBRARIES
 TABLE_ROW = r"^\| (`[A-Z_`, ]+`) \| ([\d, ^+]+) \| `([^`]+)` \|.*$"
+# How many lines the tables of a page have. A row that is lost promises less, or hides a difference, and no other check
+# would notice. Whoever adds or removes a row changes the number.
+ROWS = {"docs/MODEL.md": 76, "docs/DIFFERENCES.md": 57, "rust/README.md": 33}
+# Sentences that list sizes in bytes, each with the file that has the sizes, and how they stand there.
+SIZES = {
+    "The kernels for items of {} bytes, and for rows": ("rust/src/unchecked/by_size.rs", r"by_size!\(\[([\d ]+)\]"),
+    "by itself if a row has {} bytes": ("rust/src/unchecked/by_size.rs", r"by_size!\(\[([\d ]+)\]"),
+    "is the size of an item in bytes: {}.": ("c/p3_util.h", r"\bp3_util_reverse_(\d+)\("),
+}
+# How many ranges a side of a reversal is cut into, and how many parts that makes, in the package and in words.
+PARTS = "rust/src/parts.rs"
+RANGES_IN_CODE, RANGES, PATCHES = "1 + parts.saturating_sub(1).saturating_mul(4).isqrt()", "1 + ⌊2√(N − 1)⌋", "P(P + 1) / 2"
 FILE = r"[\w.-]+(/[\w.-]+)+/?|[\w-]+\.(md|rt|antt|sh|py|rs|h|c|tsv|svg|txt|toml)"
 
 
@@ -196,6 +208,39 @@ def check_constants():
                 yield f"{path}:{texts[path].count(chr(10), 0, there.start()) + 1}: {said}"
 
 
+def check_sizes():
+    """The sizes of items that a page lists are those of the code."""
+    for sentence, (path, pattern) in SIZES.items():
+        wanted = re.findall(r"\d+", " ".join(re.findall(pattern, read(path))))
+        before, after = (re.escape(part).replace(r"\ ", r"\s+") for part in sentence.split("{}"))
+        listing = rf"{before}((?:\d+,?\s+)+(?:and|or)\s+\d+){after}"
+        found = [(page, there) for page, text in pages.items() for there in re.finditer(listing, text)]
+        if not found:
+            yield f"tests/pages.py: no page says '{sentence}' with a list of sizes"
+        for page, there in found:
+            if re.findall(r"\d+", there[1]) != wanted:
+                yield place(page, there.start(), f"{path} has the sizes {' '.join(wanted)}")
+
+
+def check_parts():
+    """The formulas for the number of parts of a reversal are those of the code."""
+    if f" {RANGES_IN_CODE}\n" not in read(PARTS):
+        yield f"{PARTS}: does not compute {RANGES_IN_CODE}, which tests/pages.py says in words"
+    for path in (PARTS, "docs/DECISIONS.md"):
+        text = " ".join(read(path).replace("//!", " ").replace("///", " ").split())
+        said = re.findall(r"\bP = (.*?) ranges", text) + re.findall(r"\bP ?\(P.*? / \d+", text)
+        for formula in set(said) ^ {RANGES, PATCHES}:
+            yield f"{path}: {'has' if formula in said else 'lacks'} the formula '{formula}': see tests/pages.py"
+
+
+def check_rows():
+    """The tables of the pages in ROWS have as many lines as it says."""
+    for page, wanted in ROWS.items():
+        found = len(re.findall(r"^\|", pages[page], re.M))
+        if found != wanted:
+            yield f"{page}: its tables have {found} lines, and tests/pages.py says {wanted}: if no row is lost, change it there"
+
+
 def anchors(page):
     """The anchors of a page's headings, made from the words of the headings. A heading that was there before gets a
     number."""
@@ -301,6 +346,6 @@ def check_paths_in_comments():
 
 def wrong():
     """A line for each thing that is wrong."""
-    for check in (check_quotations, check_edits, check_clauses, check_constants, check_links_and_names, check_tables, check_modules,
-                  check_specs, check_paths_in_comments):
+    for check in (check_quotations, check_edits, check_clauses, check_constants, check_sizes, check_parts, check_rows,
+                  check_links_and_names, check_tables, check_modules, check_specs, check_paths_in_comments):
         yield from check()
