@@ -28,8 +28,8 @@ TABLE_ROW = r"^\| (`[A-Z_`, ]+`) \| ([\d, ^+]+) \| `([^`]+)` \|.*$"
 ROWS = {"docs/MODEL.md": 76, "docs/DIFFERENCES.md": 57, "rust/README.md": 33}
 # Sentences that list sizes in bytes, each with the file that has the sizes, and how they stand there.
 SIZES = {
-    "The kernels for items of {} bytes, and for rows": ("rust/src/unchecked/by_size.rs", r"by_size!\(\[([\d ]+)\]"),
-    "by itself if a row has {} bytes": ("rust/src/unchecked/by_size.rs", r"by_size!\(\[([\d ]+)\]"),
+    "The kernels for items of {} bytes, and for rows": ("rust/src/unchecked/by_size.rs", r"\n +\[([\d ]+)\] \$size"),
+    "by itself if a row has {} bytes": ("rust/src/unchecked/by_size.rs", r"\n +\[([\d ]+)\] \$size"),
     "is the size of an item in bytes: {}.": ("c/p3_util.h", r"\bp3_util_reverse_(\d+)\("),
 }
 # How many ranges a side of a reversal is cut into, and how many parts that makes, in the package and in words.

@@ -128,12 +128,12 @@ pub const fn one_part_reversal<F>() -> usize {
 
 /// The remaining parts of a transpose, as an iterator of known length.
 #[must_use = "a part that is not run leaves its cells as they are"]
-pub struct TransposeParts<'a, T>(Parts<'a, T, Regions<&'a [T]>>);
+pub struct TransposeParts<'a, T>(Parts<'a, T, Regions<'a, T>>);
 
 /// A part of a transpose. It is `Send` if its items are `Send` and `Sync`. It is `Sync` if they are, and it cannot be
 /// cloned.
 #[must_use = "a part that is not run leaves its cells as they are"]
-pub struct TransposePart<'a, T>(Parts<'a, T, Regions<&'a [T]>>);
+pub struct TransposePart<'a, T>(Parts<'a, T, Regions<'a, T>>);
 
 /// The remaining parts of a reversal, as an iterator of known length.
 #[must_use = "a part that is not run leaves the list neither as it was nor reversed"]

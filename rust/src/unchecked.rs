@@ -79,7 +79,7 @@ pub(crate) fn transpose<T: Copy>(input: &[T], output: &mut [T], width: usize, he
             output.copy_from_slice(input);
         } else {
             let matrix = Matrix::new(SliceSource::new(input), width, height);
-            dispatch::transpose(SliceCells::new(output), matrix);
+            dispatch::transpose(SliceCells::new(output), matrix, None);
         }
     }
     fits
@@ -102,12 +102,11 @@ pub(crate) struct Parts<'a, T, P> {
     numbers: Range<usize>,
 }
 
+/// A part of a transpose: a plan, and the number of a region.
+type Part = (TransposePlan, usize);
+
 /// A matrix that is transposed in regions.
-#[derive(Clone, Copy)]
-pub(crate) struct Regions<R> {
-    matrix: Matrix<R>,
-    plan: TransposePlan,
-}
+pub(crate) type Regions<'a, T> = (Matrix<&'a [T]>, TransposePlan);
 
 /// The parts of [`transpose`], or `None` if one of the lists does not have `width * height` items.
 pub(crate) fn parts_of_transpose<'a, T: Copy>(
@@ -116,7 +115,7 @@ pub(crate) fn parts_of_transpose<'a, T: Copy>(
     width: usize,
     height: usize,
     parts: usize,
-) -> Option<Parts<'a, T, Regions<&'a [T]>>> {
+) -> Option<Parts<'a, T, Regions<'a, T>>> {
     if !fits_matrix(source.len(), output.len(), width, height) {
         return None;
     }
@@ -128,10 +127,7 @@ pub(crate) fn parts_of_transpose<'a, T: Copy>(
     let share = if count == 0 { 0 } else { plan.items(0) };
     Some(Parts {
         items: PartItems::in_shares(output, share),
-        plan: Regions {
-            matrix: Matrix::new(source, width, height),
-            plan,
-        },
+        plan: (Matrix::new(source, width, height), plan),
         numbers: 0..count,
     })
 }
@@ -198,16 +194,16 @@ impl<T, P: Copy> Parts<'_, T, P> {
     }
 }
 
-impl<T: Copy> Parts<'_, T, Regions<&[T]>> {
+impl<T: Copy> Parts<'_, T, Regions<'_, T>> {
     /// Puts the remaining regions.
     pub(crate) fn put(mut self) {
         // The clause `below` of `TransposePlan::put` holds because `numbers` are below the plan's count. `input_fits`
         // and `output_fits` hold because `source` and `items` are the lists that `parts_of_transpose` checked for this
         // plan.
-        let Regions { matrix, plan } = self.plan;
+        let (matrix, plan) = self.plan;
         let matrix = Matrix::new(SliceSource::new(matrix.source), matrix.width, matrix.height);
         self.numbers
-            .for_each(|number| dispatch::put(self.items.share(), matrix, plan, number));
+            .for_each(|number| dispatch::transpose(self.items.share(), matrix, Some((plan, number))));
     }
 }
 

@@ -7,25 +7,37 @@
 //!
 //! If the processor does not move unaligned bytes as fast as aligned ones, each type has kernels of its own.
 
-use super::holders::{Bytes, MOVES_BYTES, SliceItems, SliceSource};
-use super::{Reversal, by_type};
-use crate::kernels::parts::{ReversalPlan, TransposePlan};
+use super::by_type::{self, LONG_BYTES};
+use super::holders::{Bytes, InRegisters, MOVES_BYTES, SliceItems, SliceSource};
+use super::registers::{Items, USES_REGISTERS};
+use super::{Part, Reversal};
+use crate::kernels::parts::ReversalPlan;
+use crate::kernels::registers::Pair;
 use crate::kernels::transpose::Matrix;
 
-/// Items of at least this many bytes are exchanged as runs of bytes, which takes hardly longer.
-const LONG_BYTES: usize = 1024;
-
-/// `by_size!(size, N => call, _ => other)` is `call`, where `N` is the size, if the size is in this table. Otherwise it is
-/// `other`.
+/// `by_size!(size)` is whether the size is in this table. `by_size!(size, holder = list => call, _ => other)` is `call` if
+/// it is, and otherwise `other`. In `call`, `holder` is the holder of the list as items of this size.
 macro_rules! by_size {
-    ([$($bytes:literal)*] $size:expr, $n:ident => $call:expr, _ => $other:expr) => {
+    ($size:expr $(, $($form:tt)*)?) => {
+        by_size!(@ [1: Items<1>, 2: Pair<Items<2>>, 4: Pair<Items<4>>, 8: Pair<Items<8>>]
+            [1 2 4 8 12 16 20 24 32 40 64] $size $(, $($form)*)?)
+    };
+    (@ [$($short:literal: $rows:ty),*] [$($bytes:literal)*] $size:expr) => {
+        MOVES_BYTES && matches!($size, $($bytes)|*)
+    };
+    (@ [$($short:literal: $rows:ty),*] [$($bytes:literal)*]
+    $size:expr, $holder:ident = $list:expr => $call:expr, _ => $other:expr) => {
         match $size {
-            $($bytes if MOVES_BYTES => { const $n: usize = $bytes; $call })*
+            $($short if USES_REGISTERS => {
+                let $holder = InRegisters::<_, $rows>::new($list.in_bytes::<$short>());
+                $call
+            })*
+            $($bytes if MOVES_BYTES => {
+                let $holder = $list.in_bytes::<$bytes>();
+                $call
+            })*
             _ => $other,
         }
-    };
-    ($size:expr, $n:ident => $call:expr, _ => $other:expr) => {
-        by_size!([1 2 4 8 12 16 20 32 64] $size, $n => $call, _ => $other)
     };
 }
 
@@ -37,7 +49,7 @@ pub(super) fn reverse<F>(items: SliceItems<F>) {
     }
     by_size!(
         const { size_of::<F>() },
-        N => by_type::reverse(items.in_bytes::<N>()),
+        holder = items => by_type::reverse(holder),
         _ => by_type::reverse(items)
     );
 }
@@ -52,45 +64,40 @@ pub(super) fn reverse_rows<F>(items: SliceItems<F>, row_width: usize) {
     }
 }
 
-/// Transposes a matrix into `cells`. A matrix of few items is transposed in place of this call, since a call of another
-/// crate would take as long as that.
+/// Transposes a matrix, or puts the region of `part`. A matrix of few items is transposed in place of this call, since a
+/// call of another crate would take as long as that.
 #[inline(always)]
-pub(super) fn transpose<T: Copy>(cells: SliceItems<T>, matrix: Matrix<SliceSource<T>>) {
-    by_size!(
-        const { size_of::<T>() },
-        N => by_type::transpose::<Bytes<N>>(cells.in_bytes(), in_bytes(matrix)),
-        _ => by_type::transpose(cells, matrix)
-    );
+pub(super) fn transpose<T: Copy>(cells: SliceItems<T>, matrix: Matrix<SliceSource<T>>, part: Option<Part>) {
+    match part {
+        Some(part) if const { by_size!(size_of::<T>()) } => {
+            put_part(cells.in_bytes(), in_bytes(matrix), size_of::<T>(), part);
+        }
+        _ => by_size!(
+            const { size_of::<T>() },
+            holder = cells => by_type::transpose(holder, in_bytes(matrix), None),
+            _ => by_type::transpose(cells, matrix, part)
+        ),
+    }
 }
 
 /// How many bytes a place has in a reversal of rows of `row` bytes each. If the table has this size, a row is a place.
-/// Otherwise an item is one if a row has only this item, and a byte if it has more, so that rows are runs of bytes.
+/// Otherwise an item is one if a row has only this item and the item is not long. All other rows are runs of bytes.
 pub(super) fn place(size: usize, row: usize) -> usize {
-    by_size!(row, N => N, _ => if row == size || !MOVES_BYTES { size.max(1) } else { 1 })
+    match row {
+        _ if by_size!(row) => row,
+        _ if !MOVES_BYTES || row == size && size < LONG_BYTES => size.max(1),
+        _ => 1,
+    }
 }
 
 /// Makes the exchanges of part `number`.
 #[inline(always)]
 pub(super) fn exchange<F>(items: SliceItems<F>, reversal: Reversal, number: usize) {
-    by_size!(
-        const { size_of::<F>() },
-        _N => exchange_part(items.in_bytes(), reversal, number),
-        _ => if reversal.place == size_of::<F>() {
-            by_type::exchange(items, reversal, number);
-        } else {
-            exchange_part(items.in_bytes(), reversal, number);
-        }
-    );
-}
-
-/// Puts region `number` of a matrix.
-#[inline(always)]
-pub(super) fn put<T: Copy>(cells: SliceItems<T>, matrix: Matrix<SliceSource<T>>, plan: TransposePlan, number: usize) {
-    by_size!(
-        const { size_of::<T>() },
-        _N => put_part(cells.in_bytes(), in_bytes(matrix), size_of::<T>(), plan, number),
-        _ => by_type::put(cells, matrix, plan, number)
-    );
+    if const { by_size!(size_of::<F>()) } || reversal.place != size_of::<F>() {
+        exchange_part(items.in_bytes(), reversal, number);
+    } else {
+        by_type::exchange(items, reversal, number);
+    }
 }
 
 /// The same matrix, with its items as bytes.
@@ -104,7 +111,7 @@ fn in_bytes<T: Copy, const N: usize>(matrix: Matrix<SliceSource<T>>) -> Matrix<S
 fn reverse_places(list: SliceItems<Bytes<1>>, bytes: usize) {
     by_size!(
         bytes,
-        N => by_type::reverse(list.in_bytes::<N>()),
+        holder = list => by_type::reverse(holder),
         _ => by_type::reverse_rows(list, bytes)
     );
 }
@@ -116,7 +123,7 @@ fn exchange_part(list: SliceItems<Bytes<1>>, Reversal { plan, place }: Reversal,
         ReversalPlan::OnePart(rows) => reverse_places(list, rows.width * place),
         ReversalPlan::ByPairs(pairs) => by_size!(
             place,
-            N => _ = pairs.exchange(list.in_bytes::<N>(), number),
+            holder = list => _ = pairs.exchange(holder, number),
             _ => unreachable!("these items have kernels of their type")
         ),
     }
@@ -124,20 +131,11 @@ fn exchange_part(list: SliceItems<Bytes<1>>, Reversal { plan, place }: Reversal,
 
 /// Puts a region, for items of a size in the table. If it is the whole matrix, this is the call.
 #[inline(never)]
-fn put_part(
-    cells: SliceItems<Bytes<1>>,
-    matrix: Matrix<SliceSource<Bytes<1>>>,
-    size: usize,
-    plan: TransposePlan,
-    number: usize,
-) {
+fn put_part(cells: SliceItems<Bytes<1>>, matrix: Matrix<SliceSource<Bytes<1>>>, size: usize, part: Part) {
+    let part = (part.0.count() > 1).then_some(part);
     by_size!(
         size,
-        N => if plan.count() == 1 {
-            by_type::transpose::<Bytes<N>>(cells.in_bytes(), in_bytes(matrix));
-        } else {
-            by_type::put::<Bytes<N>>(cells.in_bytes(), in_bytes(matrix), plan, number);
-        },
+        holder = cells => by_type::transpose(holder, in_bytes(matrix), part),
         _ => unreachable!("this size has no kernels here")
     );
 }

@@ -2,16 +2,15 @@
 //! a step of `Places`, `Cells` or `Source` says. It trusts that each call of a step meets the step's precondition. The
 //! kernels are proved to do so. Only this folder can make a holder.
 
-use core::array::from_fn;
 use core::marker::PhantomData;
 use core::mem::MaybeUninit;
 use core::ptr;
 use core::slice::from_raw_parts;
 use core::sync::atomic::{Ordering, compiler_fence};
 
-use super::registers::{self, Items};
+use super::registers;
 use crate::kernels::places::{Block, Cells, Places, Source};
-use crate::kernels::registers::{self as squares, Pair, Register, Runs};
+use crate::kernels::registers::{self as squares, Register, Runs};
 
 /// Whether this processor moves unaligned bytes as fast as aligned ones. Otherwise each item is moved as its type says.
 pub(super) const MOVES_BYTES: bool = cfg!(any(target_arch = "x86_64", target_arch = "aarch64"));
@@ -37,15 +36,19 @@ unsafe impl<T: Send> Send for SliceItems<'_, T> {}
 unsafe impl<T: Sync> Sync for SliceItems<'_, T> {}
 
 impl<'a, T> SliceItems<'a, T> {
+    /// The `len` items from `first` on. Whoever uses the holder has borrowed them.
+    #[inline(always)]
+    fn of(first: *mut T, len: usize) -> Self {
+        let slice = PhantomData;
+        SliceItems { first, len, slice }
+    }
+
     #[inline(always)]
     pub(super) fn new(slice: &'a mut [T]) -> Self {
-        // The length is read first: reading it through the reference after `first` was taken from it would end what
-        // `first` may do.
-        SliceItems {
-            len: slice.len(),
-            first: slice.as_mut_ptr(),
-            slice: PhantomData,
-        }
+        // The length is read first: reading it through the reference after the pointer was taken from it would end what
+        // the pointer may do.
+        let len = slice.len();
+        SliceItems::of(slice.as_mut_ptr(), len)
     }
 
     /// The items, for several parts. Each part gets a share, and every share is the whole list.
@@ -62,11 +65,7 @@ impl<'a, T> SliceItems<'a, T> {
     #[inline(always)]
     pub(super) fn in_bytes<const N: usize>(self) -> SliceItems<'a, Bytes<N>> {
         // This many groups of `N` bytes are within the slice. `SliceItems` borrows it for as long as it is borrowed.
-        SliceItems {
-            first: self.first.cast(),
-            len: self.len * size_of::<T>() / N,
-            slice: PhantomData,
-        }
+        SliceItems::of(self.first.cast(), self.len * size_of::<T>() / N)
     }
 }
 
@@ -217,45 +216,15 @@ impl<F> Places for SliceItems<'_, F> {
     }
 
     /// Stands for 64 calls of `exchange_apart`, one for each row `r` and column `c`, which exchange `x[r] + c` and
-    /// `y[c] + r`. Items of 1, 2, 4 and 8 bytes are exchanged in registers. Others are exchanged one by one, in
-    /// squares of 4 by 4.
+    /// `y[c] + r`. They are made in squares of 4 by 4.
     #[inline(always)]
     #[allow(clippy::needless_range_loop, reason = "a tile is reached by row and column")]
     fn exchange_tiles(&mut self, x: [usize; 8], y: [usize; 8]) {
-        debug_assert!(are_tiles(x, y, self.len));
-        match const { size_of::<F>() } {
-            1 if registers::USES_REGISTERS => squares::exchange_tiles::<F, Items<1>, _>(self, 8, x, y),
-            2 if registers::USES_REGISTERS => squares::exchange_tiles::<F, Pair<Items<2>>, _>(self, 8, x, y),
-            4 if registers::USES_REGISTERS => squares::exchange_tiles::<F, Pair<Items<4>>, _>(self, 4, x, y),
-            8 if registers::USES_REGISTERS => squares::exchange_tiles::<F, Pair<Items<8>>, _>(self, 2, x, y),
-            _ => {
-                for row in (0..8).step_by(4) {
-                    for col in (0..8).step_by(4) {
-                        for r in row..row + 4 {
-                            for c in col..col + 4 {
-                                self.exchange_apart(x[r] + c, y[c] + r);
-                            }
-                        }
-                    }
-                }
-            }
-        }
-    }
-
-    /// Stands for 28 calls of `exchange_apart`, one for each row `r` and column `c` with `r < c`, which exchange
-    /// `x[r] + c` and `x[c] + r`. Items of 1, 2, 4 and 8 bytes are exchanged in registers, and others one by one.
-    #[inline(always)]
-    fn turn_tile(&mut self, x: [usize; 8]) {
-        debug_assert!(are_rows(x, self.len));
-        match const { size_of::<F>() } {
-            1 if registers::USES_REGISTERS => squares::turn_tile::<F, Items<1>, _>(self, 8, x),
-            2 if registers::USES_REGISTERS => squares::turn_tile::<F, Pair<Items<2>>, _>(self, 8, x),
-            4 if registers::USES_REGISTERS => squares::turn_tile::<F, Pair<Items<4>>, _>(self, 4, x),
-            8 if registers::USES_REGISTERS => squares::turn_tile::<F, Pair<Items<8>>, _>(self, 2, x),
-            _ => {
-                for row in 0..8 {
-                    for col in row + 1..8 {
-                        self.exchange_apart(x[row] + col, x[col] + row);
+        for row in (0..8).step_by(4) {
+            for col in (0..8).step_by(4) {
+                for r in row..row + 4 {
+                    for c in col..col + 4 {
+                        self.exchange_apart(x[r] + c, y[c] + r);
                     }
                 }
             }
@@ -286,17 +255,6 @@ impl<F> Places for SliceItems<'_, F> {
 /// A list of at least this many bytes does not fit in a cache.
 const FAR_BYTES: usize = 1 << 23;
 
-/// Whether the rows of tiles, of 8 items each, are within `len` places, and no two of them overlap.
-fn are_rows<const N: usize>(mut starts: [usize; N], len: usize) -> bool {
-    starts.sort_unstable();
-    len >= 8 && starts[N - 1] <= len - 8 && starts.is_sorted_by(|start, next| *next - *start >= 8)
-}
-
-/// Whether the rows of two tiles are within `len` places, and no two of them overlap.
-fn are_tiles(x: [usize; 8], y: [usize; 8], len: usize) -> bool {
-    are_rows::<16>(from_fn(|row| [x, y][row / 8][row % 8]), len)
-}
-
 impl<T: Copy> Cells for SliceItems<'_, T> {
     type Item = T;
 
@@ -319,40 +277,6 @@ impl<T: Copy> Cells for SliceItems<'_, T> {
             compiler_fence(Ordering::SeqCst);
         }
     }
-
-    /// Stands for single puts, column after column. Items of 1, 2, 4 and 8 bytes that are read from a slice are
-    /// transposed in registers, by squares of 8 by 8, 4 by 4 or 2 by 2.
-    #[inline(always)]
-    fn put_block<R: Source<Item = T>>(&mut self, source: &R, block: Block) {
-        let side = match const { size_of::<T>() } {
-            1 | 2 => 8,
-            4 => 4,
-            8 => 2,
-            _ => 0,
-        };
-        let items = match source.as_slice() {
-            Some(items)
-                if registers::USES_REGISTERS && side > 0 && matches!(block.side, 4 | 8) && block.side >= side =>
-            {
-                items
-            }
-            _ => return Singly(self).put_block(source, block),
-        };
-        debug_assert!(block_fits(block, items.len(), self.len));
-        // These items are only read: `squares::put_block` has a shared reference to them.
-        let items = &SliceItems {
-            first: items.as_ptr().cast_mut(),
-            len: items.len(),
-            slice: PhantomData,
-        };
-        match const { size_of::<T>() } {
-            1 => squares::put_block::<T, Items<1>, _, _>(self, items, 8, block),
-            2 => squares::put_block::<T, Pair<Items<2>>, _, _>(self, items, 8, block),
-            4 => squares::put_block::<T, Pair<Items<4>>, _, _>(self, items, 4, block),
-            8 => squares::put_block::<T, Pair<Items<8>>, _, _>(self, items, 2, block),
-            _ => unreachable!(),
-        }
-    }
 }
 
 /// Runs of the items, which fill half a register `D`. The functions of `kernels/registers.rs` are proved to read and
@@ -373,30 +297,87 @@ impl<T, D: Register<T>> Runs<T, D> for SliceItems<'_, T> {
     }
 }
 
-/// Whether a block is within `input_len` items and `output_len` cells, and none of its columns overlap. It panics if a
-/// sum overflows.
-fn block_fits(block: Block, input_len: usize, output_len: usize) -> bool {
-    let side = block.side;
-    let end = |start: usize, stride: usize| start + (side - 1) * stride + side;
-    side == 0
-        || end(block.from, block.width) <= input_len
-            && end(block.to, block.height) <= output_len
-            && side <= block.height
+/// The same holder for items whose squares are transposed in registers. `D` is two rows of a square.
+pub(super) struct InRegisters<'a, T, D> {
+    items: SliceItems<'a, T>,
+    rows: PhantomData<D>,
 }
 
-/// The same cells, which put a block item by item.
-struct Singly<'a, C>(&'a mut C);
+impl<'a, T, D: Register<T>> InRegisters<'a, T, D> {
+    /// The number of rows of a square. A row is half of a `D`.
+    const SIDE: usize = size_of::<D::Half>() / size_of::<T>();
 
-impl<C: Cells> Cells for Singly<'_, C> {
-    type Item = C::Item;
+    #[inline(always)]
+    pub(super) fn new(items: SliceItems<'a, T>) -> Self {
+        InRegisters {
+            items,
+            rows: PhantomData,
+        }
+    }
+}
 
+impl<T, D: Register<T>> Places for InRegisters<'_, T, D> {
+    type Item = T;
+
+    #[inline(always)]
     fn len(&self) -> usize {
-        C::len(self.0)
+        self.items.len
     }
 
     #[inline(always)]
-    fn put(&mut self, i: usize, v: C::Item) {
-        self.0.put(i, v);
+    fn exchange(&mut self, i: usize, j: usize) {
+        self.items.exchange(i, j);
+    }
+
+    #[inline(always)]
+    fn exchange_apart(&mut self, i: usize, j: usize) {
+        self.items.exchange_apart(i, j);
+    }
+
+    #[inline(always)]
+    fn exchange_runs(&mut self, i: usize, j: usize, len: usize) {
+        self.items.exchange_runs(i, j, len);
+    }
+
+    #[inline(always)]
+    fn exchange_tiles(&mut self, x: [usize; 8], y: [usize; 8]) {
+        squares::exchange_tiles::<T, D, _>(&mut self.items, Self::SIDE, x, y);
+    }
+
+    #[inline(always)]
+    fn turn_tile(&mut self, x: [usize; 8]) {
+        squares::turn_tile::<T, D, _>(&mut self.items, Self::SIDE, x);
+    }
+
+    #[inline(always)]
+    fn expect_tiles(&self, x: [usize; 8], y: [usize; 8]) {
+        self.items.expect_tiles(x, y);
+    }
+}
+
+impl<T: Copy, D: Register<T>> Cells for InRegisters<'_, T, D> {
+    type Item = T;
+
+    #[inline(always)]
+    fn len(&self) -> usize {
+        self.items.len
+    }
+
+    #[inline(always)]
+    fn put(&mut self, i: usize, v: T) {
+        self.items.put(i, v);
+    }
+
+    #[inline(always)]
+    fn put_block<R: Source<Item = T>>(&mut self, source: &R, block: Block) {
+        match source.as_slice() {
+            Some(items) if matches!(block.side, 4 | 8) && block.side >= Self::SIDE => {
+                // These items are only read: `squares::put_block` has a shared reference to them.
+                let items = SliceItems::of(items.as_ptr().cast_mut(), items.len());
+                squares::put_block::<T, D, _, _>(&mut self.items, &items, Self::SIDE, block);
+            }
+            _ => self.items.put_block(source, block),
+        }
     }
 }
 
@@ -418,8 +399,7 @@ impl<'a, T: Copy> SliceSource<'a, T> {
     pub(super) fn in_bytes<const N: usize>(self) -> SliceSource<'a, Bytes<N>> {
         // SAFETY: this many groups of `N` bytes are within the slice. No item changes as long as the slice is
         // borrowed, because a `Copy` type has no `UnsafeCell`.
-        let items = unsafe { from_raw_parts(self.items.as_ptr().cast(), size_of_val(self.items) / N) };
-        SliceSource { items }
+        SliceSource::new(unsafe { from_raw_parts(self.items.as_ptr().cast(), size_of_val(self.items) / N) })
     }
 }
 

@@ -113,7 +113,7 @@ fn overlapping_regions() {
     let parts = parts_of_transpose(&input, &mut output, 64, 64, 1).unwrap();
     let cuts = [(2, 0), (4, 1)].map(|(count, part)| {
         let plan = TransposePlan::new(64, 64, count, true);
-        (Regions { plan, ..parts.plan }, part)
+        ((parts.plan.0, plan), part)
     });
     run_both(parts, cuts, Parts::put);
 }

@@ -8,9 +8,91 @@ use std::fmt::Debug;
 use std::num::NonZero;
 use std::vec::Vec;
 
+#[cfg(not(feature = "checked"))]
+use super::holders::InRegisters;
+#[cfg(not(feature = "checked"))]
+use super::registers::Items;
 use super::{SliceCells, SlicePlaces, SliceSource};
 use crate::kernels::places::{Block, Cells, Places, Source};
+#[cfg(not(feature = "checked"))]
+use crate::kernels::registers::{Pair, Register};
 use crate::kernels::transpose::{Matrix, Strips, transpose_matrix, transpose_square};
+
+/// Makes the holder of a list that is tested.
+trait Hold<'a, T> {
+    type Holder: Places<Item = T>;
+
+    fn hold(list: &'a mut [T]) -> Self::Holder;
+}
+
+/// The holder that makes single steps.
+struct Singly;
+
+impl<'a, T: 'a> Hold<'a, T> for Singly {
+    type Holder = SlicePlaces<'a, T>;
+
+    fn hold(list: &'a mut [T]) -> SlicePlaces<'a, T> {
+        SlicePlaces::new(list)
+    }
+}
+
+/// The holder that transposes squares in registers.
+#[cfg(not(feature = "checked"))]
+struct ByRegisters<D>(D);
+
+#[cfg(not(feature = "checked"))]
+impl<'a, T: 'a, D: Register<T>> Hold<'a, T> for ByRegisters<D> {
+    type Holder = InRegisters<'a, T, D>;
+
+    fn hold(list: &'a mut [T]) -> InRegisters<'a, T, D> {
+        InRegisters::new(SlicePlaces::new(list))
+    }
+}
+
+/// A statement about each holder of such items: that of single steps, and that of registers if there is one.
+macro_rules! of_each_holder {
+    ($item:ty, $hold:ident => $statement:expr) => {{
+        {
+            type $hold = Singly;
+            $statement;
+        }
+        #[cfg(not(feature = "checked"))]
+        of_each_holder!(@ $item, $hold => $statement, 1: Items<1>, 2: Pair<Items<2>>, 4: Pair<Items<4>>, 8: Pair<Items<8>>);
+    }};
+    (@ $item:ty, $hold:ident => $statement:expr, $($bytes:literal: $rows:ty),*) => {
+        match size_of::<$item>() {
+            $($bytes if crate::unchecked::USES_REGISTERS => {
+                type $hold = ByRegisters<$rows>;
+                $statement;
+            })*
+            _ => {}
+        }
+    };
+}
+
+/// Makes the holder of cells that is tested.
+trait HoldCells<'a, T> {
+    type Holder: Cells<Item = T>;
+
+    fn hold_cells(list: &'a mut [T]) -> Self::Holder;
+}
+
+impl<'a, T: Copy + 'a> HoldCells<'a, T> for Singly {
+    type Holder = SliceCells<'a, T>;
+
+    fn hold_cells(list: &'a mut [T]) -> SliceCells<'a, T> {
+        SliceCells::new(list)
+    }
+}
+
+#[cfg(not(feature = "checked"))]
+impl<'a, T: Copy + 'a, D: Register<T>> HoldCells<'a, T> for ByRegisters<D> {
+    type Holder = InRegisters<'a, T, D>;
+
+    fn hold_cells(list: &'a mut [T]) -> InRegisters<'a, T, D> {
+        Self::hold(list)
+    }
+}
 
 /// The result of a call on the numbers below 6, each as an item of five bytes. For items of this size, std tests that
 /// no place is borrowed twice if debug assertions are on.
@@ -66,21 +148,21 @@ fn exchanges_of_runs() {
 
 /// Compares the result of a call on a list of `len` items, of which number `i` is `item(i)`. Each place has to hold
 /// item number `wanted(place)`.
-fn leaves<T: Debug + PartialEq>(
+fn leaves<T: Debug + PartialEq, H: for<'a> Hold<'a, T>>(
     len: usize,
     item: impl Fn(usize) -> T,
-    call: impl FnOnce(SlicePlaces<T>),
+    call: impl for<'a> FnOnce(<H as Hold<'a, T>>::Holder),
     wanted: impl Fn(usize) -> usize,
 ) {
     let mut list: Vec<T> = (0..len).map(&item).collect();
-    call(SlicePlaces::new(&mut list));
+    call(H::hold(&mut list));
     for (place, got) in list.iter().enumerate() {
         assert_eq!(*got, item(wanted(place)), "place {place} of {len}");
     }
 }
 
 /// Exchanges and transposes tiles, and transposes squares of the items that `item` makes.
-fn turns<T: Debug + PartialEq>(item: impl Fn(usize) -> T) {
+fn turns_of<T: Debug + PartialEq, H: for<'a> Hold<'a, T>>(item: impl Fn(usize) -> T) {
     // Row `number` of the 16 rows begins at `gap * number` places and 8 for each earlier row. They lie in a mixed order.
     for gap in 0..3 {
         let start = |number: usize| (number * 7 % 16) * (8 + gap) + gap;
@@ -90,7 +172,7 @@ fn turns<T: Debug + PartialEq>(item: impl Fn(usize) -> T) {
             Some((row, place - tile[row]))
         };
         let len = 16 * (8 + gap) + gap;
-        leaves(
+        leaves::<T, H>(
             len,
             &item,
             |mut places| places.exchange_tiles(x, y),
@@ -101,7 +183,7 @@ fn turns<T: Debug + PartialEq>(item: impl Fn(usize) -> T) {
             },
         );
         for tile in [x, y] {
-            leaves(
+            leaves::<T, H>(
                 len,
                 &item,
                 |mut places| places.turn_tile(tile),
@@ -110,7 +192,7 @@ fn turns<T: Debug + PartialEq>(item: impl Fn(usize) -> T) {
         }
         // A hint changes nothing, and may name any places.
         let far = from_fn(|row| usize::MAX - row);
-        leaves(
+        leaves::<T, H>(
             len,
             &item,
             |places| {
@@ -122,7 +204,7 @@ fn turns<T: Debug + PartialEq>(item: impl Fn(usize) -> T) {
     }
     for (log_size, log_stride) in (0..=6).flat_map(|size| (size..=7).map(move |stride| (size, stride))) {
         let (base, size, stride) = (log_size + log_stride, 1 << log_size, 1 << log_stride);
-        leaves(
+        leaves::<T, H>(
             base + size * stride + 1,
             &item,
             |places| _ = transpose_square(places, base, log_stride, log_size),
@@ -132,6 +214,10 @@ fn turns<T: Debug + PartialEq>(item: impl Fn(usize) -> T) {
             },
         );
     }
+}
+
+fn turns<T: Debug + PartialEq + 'static>(item: impl Fn(usize) -> T) {
+    of_each_holder!(T, Holder => turns_of::<T, Holder>(&item));
 }
 
 /// Reverses the order of rows of the items that `item` makes, of widths up to and beyond those of narrow rows.
@@ -257,7 +343,7 @@ fn puts_and_reads() {
 
 /// Puts a block with this number of rows, of items that `item` makes, and checks every cell. The rows of the block are
 /// three items apart in the source, and its columns two cells apart in the list.
-fn puts_block<T: Copy + PartialEq>(side: usize, item: impl Fn(u8) -> T) {
+fn puts_block_of<T: Copy + PartialEq, H: for<'a> HoldCells<'a, T>>(side: usize, item: impl Fn(u8) -> T) {
     let block = Block {
         side,
         from: 5,
@@ -267,7 +353,7 @@ fn puts_block<T: Copy + PartialEq>(side: usize, item: impl Fn(u8) -> T) {
     };
     let source: Vec<T> = (1..=100).map(&item).collect();
     let mut cells = std::vec![item(0); 100];
-    SliceCells::new(&mut cells).put_block(&SliceSource::new(&source), block);
+    H::hold_cells(&mut cells).put_block(&SliceSource::new(&source), block);
     let mut wanted = std::vec![item(0); 100];
     for (r, c) in (0..side).flat_map(|r| (0..side).map(move |c| (r, c))) {
         wanted[7 + c * (side + 2) + r] = source[5 + r * (side + 3) + c];
@@ -275,9 +361,21 @@ fn puts_block<T: Copy + PartialEq>(side: usize, item: impl Fn(u8) -> T) {
     assert!(cells == wanted, "a side of {side}");
 }
 
+fn puts_block<T: Copy + PartialEq + 'static>(side: usize, item: impl Fn(u8) -> T) {
+    of_each_holder!(T, Holder => puts_block_of::<T, Holder>(side, &item));
+}
+
 #[test]
 fn blocks() {
-    let names: Vec<_> = (0..=100).map(|number| std::format!("{number}")).collect();
+    static NUMBERS: [u8; 101] = {
+        let mut numbers = [0; 101];
+        let mut i = 0;
+        while i < numbers.len() {
+            numbers[i] = i as u8;
+            i += 1;
+        }
+        numbers
+    };
     for side in 0..=8 {
         puts_block(side, |i| i);
         puts_block(side, |i| [i, 255 - i]);
@@ -287,29 +385,26 @@ fn blocks() {
         // Some of these items have bytes that are never written, and some are references.
         puts_block(side, |i| (i, u16::from(i) << 4));
         puts_block(side, |i| (i, u32::from(i) << 9));
-        puts_block(side, |i| &names[usize::from(i)]);
+        puts_block(side, |i| &NUMBERS[usize::from(i)]);
     }
 }
 
 /// Whether a matrix of the items that `item` makes is transposed as defined, both by blocks and by the strips that a
 /// call chooses.
-fn is_transposed<T: Copy + PartialEq>(width: usize, height: usize, item: impl Fn(usize) -> T) -> bool {
+fn is_transposed<T: Copy + PartialEq + 'static>(width: usize, height: usize, item: impl Fn(usize) -> T) -> bool {
     let input: Vec<T> = (0..width * height).map(&item).collect();
     let expected: Vec<T> = (0..width * height)
         .map(|place| item(place % height * width + place / height))
         .collect();
     let blank = std::vec![item(usize::MAX); width * height];
-    let by_blocks = |strips| {
+    of_each_holder!(T, Holder => for side in [4, 8] {
         let mut output = blank.clone();
         let matrix = Matrix::new(SliceSource::new(&input), width, height);
-        let _ = transpose_matrix(SliceCells::new(&mut output), matrix, strips);
-        output == expected
-    };
+        let _ = transpose_matrix(Holder::hold_cells(&mut output), matrix, Strips::high(side));
+        assert!(output == expected, "{width} by {height}, by blocks of {side} by {side}");
+    });
     let mut by_call = blank.clone();
-    super::transpose(&input, &mut by_call, width, height)
-        && by_call == expected
-        && by_blocks(Strips::high(4))
-        && by_blocks(Strips::high(8))
+    super::transpose(&input, &mut by_call, width, height) && by_call == expected
 }
 
 #[test]
@@ -460,47 +555,28 @@ mod refused {
     #[test]
     fn exchanges_of_tiles() {
         let rows = |first: usize| from_fn(|row| first.wrapping_add(8 * row));
-        let tiles = |x, y| panics(|| SlicePlaces::new(&mut [0u32; 130]).exchange_tiles(x, y));
-        assert!(!tiles(rows(0), rows(64)) && !tiles(rows(66), rows(2)));
-        for (x, y) in [(0, 67), (67, 0), (0, usize::MAX - 60), (usize::MAX - 60, 0)] {
-            assert!(tiles(rows(x), rows(y)), "{x} {y}");
-        }
-        // Tiles that overlap are refused, except with the feature `checked`, which exchanges them item by item.
-        #[cfg(not(feature = "checked"))]
-        for (x, y) in [(0, 63), (1, 64), (0, 0), (64, 57)] {
-            assert!(tiles(rows(x), rows(y)), "{x} {y}");
-        }
-        #[cfg(not(feature = "checked"))]
-        for (row, start) in [(0, 1), (0, 8), (3, 31), (7, 49)] {
-            let mut overlapping = rows(0);
-            overlapping[row] = start;
-            assert!(
-                tiles(overlapping, rows(64)) && tiles(rows(64), overlapping),
-                "{row} {start}"
-            );
-        }
+        of_each_holder!(u32, Holder => {
+            let tiles = |x, y| panics(|| Holder::hold(&mut [0u32; 130]).exchange_tiles(x, y));
+            assert!(!tiles(rows(0), rows(64)) && !tiles(rows(66), rows(2)));
+            for (x, y) in [(0, 67), (67, 0), (0, usize::MAX - 60), (usize::MAX - 60, 0)] {
+                assert!(tiles(rows(x), rows(y)), "{x} {y}");
+            }
+        });
     }
 
     #[test]
     fn turns_of_tiles() {
         let rows = |first: usize| from_fn(|row| first.wrapping_add(8 * row));
-        let turn = |x| panics(|| SlicePlaces::new(&mut [0u32; 66]).turn_tile(x));
-        assert!(!turn(rows(0)) && !turn(rows(2)));
-        for x in [4, usize::MAX - 60] {
-            assert!(turn(rows(x)), "{x}");
-        }
-        // Rows that overlap, and a tile of which only the last item is outside, are refused too, except with the feature
-        // `checked`: this item stays where it is.
-        #[cfg(not(feature = "checked"))]
-        for (row, start) in [(0, 1), (0, 8), (3, 31), (7, 49), (7, 59)] {
-            let mut tile = rows(0);
-            tile[row] = start;
-            assert!(turn(tile), "{row} {start}");
-        }
+        of_each_holder!(u32, Holder => {
+            let turn = |x| panics(|| Holder::hold(&mut [0u32; 66]).turn_tile(x));
+            assert!(!turn(rows(0)) && !turn(rows(2)));
+            for x in [4, usize::MAX - 60] {
+                assert!(turn(rows(x)), "{x}");
+            }
+        });
     }
 
-    #[test]
-    fn blocks() {
+    fn refuses_blocks<H: for<'a> HoldCells<'a, u32>>() {
         let refused = |change: fn(&mut Block)| {
             let mut block = Block {
                 side: 4,
@@ -510,7 +586,7 @@ mod refused {
                 height: 5,
             };
             change(&mut block);
-            panics(|| SliceCells::new(&mut [0u32; 21]).put_block(&SliceSource::new(&[0; 23]), block))
+            panics(|| H::hold_cells(&mut [0u32; 21]).put_block(&SliceSource::new(&[0; 23]), block))
         };
         assert!(!refused(|_| ()));
         assert!(refused(|block| block.from += 1) && refused(|block| block.from = usize::MAX));
@@ -518,39 +594,11 @@ mod refused {
         assert!(refused(|block| block.width += 1) && refused(|block| block.width = usize::MAX));
         assert!(refused(|block| block.height += 1) && refused(|block| block.height = usize::MAX));
         assert!(refused(|block| block.side += 1));
-        // Columns that overlap are refused, except with the feature `checked`, which puts them item by item.
-        #[cfg(not(feature = "checked"))]
-        assert!(refused(|block| block.height = 3) || !super::super::USES_REGISTERS);
     }
 
-    /// Runs of the first 20 items of a longer list, by registers of two rows or of four.
-    #[cfg(not(feature = "checked"))]
     #[test]
-    fn runs() {
-        use super::super::registers::Items;
-        use crate::kernels::registers::{Pair, Register, Runs};
-
-        fn check<T: Copy + Default, D: Register<T>>() {
-            let len = size_of::<D::Half>() / size_of::<T>();
-            let mut list = [T::default(); 40];
-            let mut places = SlicePlaces::new(&mut list[..20]);
-            let first = Runs::<T, D>::load(&places, 0);
-            for place in 0..=20 {
-                let is_outside = place + len > 20;
-                let call = |places: &mut _| Runs::<T, D>::store(places, place, first);
-                assert_eq!(
-                    panics(|| call(&mut places)),
-                    is_outside,
-                    "a store of {len} items at {place}"
-                );
-                let call = |places: &_| _ = Runs::<T, D>::load(places, place);
-                assert_eq!(panics(|| call(&places)), is_outside, "a load of {len} items at {place}");
-            }
-        }
-        check::<u8, Items<1>>();
-        check::<u16, Pair<Items<2>>>();
-        check::<u32, Pair<Items<4>>>();
-        check::<u64, Pair<Items<8>>>();
+    fn blocks() {
+        of_each_holder!(u32, Holder => refuses_blocks::<Holder>());
     }
 
     #[test]

@@ -1,5 +1,5 @@
-//! How much stack the calls need. In a build without optimization, each item that is passed on is on the stack, so such a
-//! build gets as much as a thread has by default. A release build gets as little as a thread can have.
+//! How much stack the calls and their parts need. In a build without optimization, an item that is passed on is on the
+//! stack, so such a build gets room for three copies of an item. A release build gets as little as a thread can have.
 
 #[path = "../package/common.rs"]
 mod common;
@@ -7,15 +7,20 @@ mod common;
 use std::thread::{Builder, scope};
 
 use common::transposed;
+use p3_util_proved::parts;
 use p3_util_proved::transpose::transpose;
 
-/// The stack of a thread in a debug build, in bytes: what std gives a thread.
-#[cfg(debug_assertions)]
-const STACK: usize = 2 << 20;
-
 /// The least stack that a thread can have, in bytes. It has no room for an item of 64 KiB.
-#[cfg(not(debug_assertions))]
-const STACK: usize = 1 << 16;
+const LEAST: usize = 1 << 16;
+
+/// The stack for a call on items of this many bytes.
+const fn stack_for(size: usize) -> usize {
+    if cfg!(debug_assertions) {
+        LEAST + 3 * size
+    } else {
+        LEAST
+    }
+}
 
 /// This many items of `SIZE` bytes, each with its number in its first bytes. They are filled in place.
 fn numbered<const SIZE: usize>(len: usize) -> Vec<[u8; SIZE]> {
@@ -33,9 +38,9 @@ fn numbers<const SIZE: usize>(items: &[[u8; SIZE]]) -> Vec<usize> {
 }
 
 /// Makes a call on a thread with a small stack. If it needs more, the test program is aborted.
-fn on_a_small_stack(call: impl FnOnce() + Send) {
+fn on_a_small_stack<const SIZE: usize>(call: impl FnOnce() + Send) {
     scope(|threads| {
-        let thread = Builder::new().stack_size(STACK).spawn_scoped(threads, call);
+        let thread = Builder::new().stack_size(stack_for(SIZE)).spawn_scoped(threads, call);
         thread.unwrap().join().unwrap();
     });
 }
@@ -44,23 +49,27 @@ fn check_transposes<const SIZE: usize>() {
     for (width, height) in [(2, 3), (5, 1), (1, 5), (8, 8), (16, 16), (20, 17)] {
         let input = numbered::<SIZE>(width * height);
         let mut output = numbered::<SIZE>(width * height);
-        on_a_small_stack(|| transpose(&input, &mut output, width, height));
+        on_a_small_stack::<SIZE>(|| transpose(&input, &mut output, width, height));
         let wanted = (0..width * height).map(|place| transposed(width, height, place));
-        assert!(numbers(&output).into_iter().eq(wanted), "{width} by {height}");
+        assert!(numbers(&output).into_iter().eq(wanted.clone()), "{width} by {height}");
+        output.reverse();
+        on_a_small_stack::<SIZE>(|| {
+            parts::transpose(&input, &mut output, width, height, 3).for_each(|part| part.run())
+        });
+        assert!(numbers(&output).into_iter().eq(wanted), "{width} by {height}, in parts");
     }
 }
 
 #[test]
 fn transposes_of_large_items() {
     check_transposes::<{ 1 << 10 }>();
-    #[cfg(not(debug_assertions))]
     check_transposes::<{ 1 << 16 }>();
 }
 
 /// With the feature `checked` in a release build, std's `swap` makes the exchanges, and it does need room for one item.
 #[cfg(any(debug_assertions, not(feature = "checked")))]
 mod reversals {
-    use p3_util_proved::{reverse_slice_index_bits, reverse_slice_row_index_bits};
+    use p3_util_proved::{parts, reverse_slice_index_bits, reverse_slice_row_index_bits};
 
     use super::common::reversed;
     use super::{numbered, numbers, on_a_small_stack};
@@ -68,22 +77,29 @@ mod reversals {
     fn check_reversals<const SIZE: usize>() {
         for bits in [1, 4, 7, 8] {
             let mut items = numbered::<SIZE>(1 << bits);
-            on_a_small_stack(|| reverse_slice_index_bits(&mut items));
+            on_a_small_stack::<SIZE>(|| reverse_slice_index_bits(&mut items));
             let wanted = (0..1 << bits).map(|place| reversed(bits, place));
             assert!(numbers(&items).into_iter().eq(wanted), "2^{bits} items of {SIZE} bytes");
+            on_a_small_stack::<SIZE>(|| parts::reversal(&mut items, 3).for_each(|part| part.run()));
+            assert!(
+                numbers(&items).into_iter().eq(0..1 << bits),
+                "2^{bits} items of {SIZE} bytes, in parts"
+            );
         }
     }
 
     /// Reverses empty lists too. A call may need stack for a kernel that it does not run.
     fn check_rows<const SIZE: usize>() {
         for width in [1, 2, 3, 4, 8, 16, 32] {
-            on_a_small_stack(|| reverse_slice_row_index_bits::<[u8; SIZE]>(&mut [], width));
+            on_a_small_stack::<SIZE>(|| reverse_slice_row_index_bits::<[u8; SIZE]>(&mut [], width));
             for bits in [1, 3] {
                 let mut items = numbered::<SIZE>(width << bits);
-                on_a_small_stack(|| reverse_slice_row_index_bits(&mut items, width));
+                on_a_small_stack::<SIZE>(|| reverse_slice_row_index_bits(&mut items, width));
                 let wanted = (0..width << bits).map(|place| reversed(bits, place / width) * width + place % width);
                 let name = format!("2^{bits} rows of {width} items of {SIZE} bytes");
                 assert!(numbers(&items).into_iter().eq(wanted), "{name}");
+                on_a_small_stack::<SIZE>(|| parts::row_reversal(&mut items, width, 3).for_each(|part| part.run()));
+                assert!(numbers(&items).into_iter().eq(0..width << bits), "{name}, in parts");
             }
         }
     }

@@ -5,7 +5,7 @@
 use std::array::from_fn;
 use std::ptr::null_mut;
 
-use super::{Block, Cells, Places, SliceCells, SlicePlaces, SliceSource, Source};
+use super::*;
 
 unsafe extern "C" {
     fn mmap(address: *mut u8, len: usize, protection: i32, flags: i32, file: i32, offset: i64) -> *mut u8;
@@ -120,33 +120,41 @@ fn steps<const N: usize>() {
             runs.check(|run, k| (run, k));
         }
 
-        let mut tiles = Runs::<N>::new(16, 8, ends_with_page);
-        let row = |number: usize| number * 7 % 16;
-        let (x, y) = (from_fn(|r| GAP * row(r)), from_fn(|r| GAP * row(8 + r)));
-        SlicePlaces::new(tiles.list()).exchange_tiles(x, y);
-        tiles.check(|run, k| match (0..16).find(|number| row(*number) == run) {
-            Some(number) if number < 8 => (row(8 + k), number),
-            number => (row(k), number.unwrap() - 8),
-        });
-        let mut tile = Runs::<N>::new(8, 8, ends_with_page);
-        SlicePlaces::new(tile.list()).turn_tile(from_fn(|r| GAP * r));
-        tile.check(|run, k| (k, run));
+        of_each_holder!([u8; N], Holder => squares::<N, Holder>(ends_with_page));
+    }
+}
 
-        for side in [1, 2, 3, 4, 5, 8, 16] {
-            let mut source = Runs::<N>::new(side, side, ends_with_page);
-            let mut cells = Runs::<N>::new(side, side, ends_with_page);
-            let (from, width, to, height) = (0, GAP, 0, GAP);
-            let block = Block {
-                side,
-                from,
-                width,
-                to,
-                height,
-            };
-            SliceCells::new(cells.list()).put_block(&SliceSource::new(source.list()), block);
-            cells.check(|run, k| (k, run));
-            source.check(|run, k| (run, k));
-        }
+/// Exchanges and transposes tiles, and puts blocks.
+fn squares<const N: usize, H>(ends_with_page: bool)
+where
+    H: for<'a> Hold<'a, [u8; N]> + for<'a> HoldCells<'a, [u8; N]>,
+{
+    let mut tiles = Runs::<N>::new(16, 8, ends_with_page);
+    let row = |number: usize| number * 7 % 16;
+    let (x, y) = (from_fn(|r| GAP * row(r)), from_fn(|r| GAP * row(8 + r)));
+    H::hold(tiles.list()).exchange_tiles(x, y);
+    tiles.check(|run, k| match (0..16).find(|number| row(*number) == run) {
+        Some(number) if number < 8 => (row(8 + k), number),
+        number => (row(k), number.unwrap() - 8),
+    });
+    let mut tile = Runs::<N>::new(8, 8, ends_with_page);
+    H::hold(tile.list()).turn_tile(from_fn(|r| GAP * r));
+    tile.check(|run, k| (k, run));
+
+    for side in [1, 2, 3, 4, 5, 8, 16] {
+        let mut source = Runs::<N>::new(side, side, ends_with_page);
+        let mut cells = Runs::<N>::new(side, side, ends_with_page);
+        let (from, width, to, height) = (0, GAP, 0, GAP);
+        let block = Block {
+            side,
+            from,
+            width,
+            to,
+            height,
+        };
+        H::hold_cells(cells.list()).put_block(&SliceSource::new(source.list()), block);
+        cells.check(|run, k| (k, run));
+        source.check(|run, k| (run, k));
     }
 }
 
