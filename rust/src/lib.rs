@@ -67,12 +67,12 @@ use core::any::type_name;
 mod bits;
 #[cfg(feature = "checked")]
 mod checked;
-/// The proved sources themselves, with their contracts as documentation.
+/// All of the proved code, the map and the iterators included, with its contracts as documentation.
 ///
 /// Here a reversal or a transpose also takes a list of your own, by a *holder*: a value that gives access to a list by
-/// index. Calls that count tell you how many swaps or writes they make, and their contracts give the exact number.
-/// [`places`](kernels::places) has the traits for holders. [`contracts`](kernels::contracts) says what the names in a
-/// contract mean.
+/// index. A *kernel* is a private function that does the work of such a call on any holder. Calls that count tell you how
+/// many swaps or writes they make, and their contracts give the exact number. [`places`](kernels::places) has the traits
+/// for holders. [`contracts`](kernels::contracts) says what the names in a contract mean.
 ///
 /// No function here checks its precondition. If the precondition does not hold, a call may leave the list in another
 /// order, panic or never end, but it never touches memory outside the lists. Check the precondition before you call. In

@@ -42,11 +42,10 @@ part_of_matrix width height by_rows len step k =
 abbrev pub pairs_of : ℕ → ℕ
 pairs_of n = n * (n + 1) / 2
 
--- The number of the pair of parts i and j, for i ≤ j. Imagine the n parts in a circle, in which
--- each part is followed by the next one, and the last part by part 0. Go only in this direction, and
--- take the shorter of the ways from i to j and from j to i, or that from i to j if both are equally
--- long. The pairs are sorted by n times the number of steps on this way, plus the number of the part
--- at which it begins. They are numbered from the last one to the first one. So different pairs have
--- different numbers, and the pairs of a part with itself have the greatest numbers.
+-- The number of the pair of parts i and j of n parts, for i ≤ j. Let the parts be numbered in a
+-- circle, so that part 0 follows part n - 1. If part j is s steps after part i, part i is n - s steps
+-- after part j. The pair is called (i, s) if 2 s ≤ n, and (j, n - s) otherwise. The number of the pair
+-- (p, s) is s n + p less than that of the last pair. So the pairs of a part with itself, which are
+-- called (p, 0), have the greatest numbers.
 abbrev pub number_of_pair : (n i j : ℕ) → ℕ
 number_of_pair n i j = pairs_of n - 1 - (if nat_le (2 * (j - i)) n then (j - i) * n + i else (n - (j - i)) * n + j)

@@ -140,8 +140,8 @@ pub const fn checked_log_size_sum(a: usize, b: usize) -> Option<(usize, usize)>
     }
 }
 
-/// The logarithm to base 2 of `n`, which must be a power of two. std's `is_power_of_two` checks
-/// that.
+/// The logarithm to base 2 of `n`, which must be a power of two. This call does not check that, and
+/// std's `is_power_of_two` does.
 #[inline]
 pub const fn log2_strict_usize(n: usize) -> usize
     requires { HasLog2 n }
@@ -152,8 +152,8 @@ pub const fn log2_strict_usize(n: usize) -> usize
     n.trailing_zeros() as usize
 }
 
-/// The logarithm to base 3 of `n`, which must be a power of three. [`is_power_of_three`] checks
-/// that.
+/// The logarithm to base 3 of `n`, which must be a power of three. This call does not check that,
+/// and [`is_power_of_three`] does.
 #[inline]
 pub const fn log3_strict_usize(n: usize) -> usize
     requires { HasLog3 n }

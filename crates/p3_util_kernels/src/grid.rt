@@ -271,7 +271,7 @@ fn upper_half(size: usize) -> usize
 /// `grid`: the one with the `size` rows and the `size` columns from `start` on. This is done row
 /// after row.
 #[inline(always)]
-fn exchange_corner<M: Places>(m: M, grid: Grid, start: usize, size: usize) -> M
+fn exchange_on_diagonal<M: Places>(m: M, grid: Grid, start: usize, size: usize) -> M
     requires within { start + size ≤ 2 ^ grid.digits }
     requires ready { HoldsGrid grid (M.items m) }
     ensures exchanged { SwapsInGrid grid (record {
@@ -296,9 +296,9 @@ fn exchange_corner<M: Places>(m: M, grid: Grid, start: usize, size: usize) -> M
     m
 }
 
-/// Does the same as [`exchange_corner`], for a tile.
+/// Does the same as [`exchange_on_diagonal`], for a tile.
 #[inline(always)]
-fn exchange_corner_tile<M: Places>(m: M, grid: Grid, start: usize) -> M
+fn exchange_diagonal_tile<M: Places>(m: M, grid: Grid, start: usize) -> M
     requires whole { start % 8 ≡ 0 }
     requires within { start + 8 ≤ 2 ^ grid.digits }
     requires ready { HoldsGrid grid (M.items m) }
@@ -324,7 +324,7 @@ fn exchange_corner_tile<M: Places>(m: M, grid: Grid, start: usize) -> M
     m
 }
 
-/// Does the same as [`exchange_corner`], by quadrants. The calls nest at most as deep as `size` can
+/// Does the same as [`exchange_on_diagonal`], by quadrants. The calls nest at most as deep as `size` can
 /// be halved until it is at most 8. The proof that the calls end counts these levels.
 pub(crate) fn exchange_quadrants<M: Places>(m: M, grid: Grid, start: usize, size: usize) -> M
     requires within { start + size ≤ 2 ^ grid.digits }
@@ -338,10 +338,10 @@ pub(crate) fn exchange_quadrants<M: Places>(m: M, grid: Grid, start: usize, size
     ensures holder { M.same_holder (grid.width * square_swaps size) m result }
 {
     if size == TILE && start % TILE == 0 {
-        return exchange_corner_tile(m, grid, start);
+        return exchange_diagonal_tile(m, grid, start);
     }
     if size <= TILE {
-        return exchange_corner(m, grid, start, size);
+        return exchange_on_diagonal(m, grid, start, size);
     }
     let half = upper_half(size);
     let upper_right = Region {
@@ -370,7 +370,7 @@ pub(crate) fn exchange_square<M: Places>(m: M, grid: Grid) -> M
 {
     let size = pow2(grid.digits);
     if grid.digits < 3 {
-        exchange_corner(m, grid, 0, size)
+        exchange_on_diagonal(m, grid, 0, size)
     } else {
         exchange_quadrants(m, grid, 0, size)
     }

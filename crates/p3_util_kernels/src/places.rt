@@ -61,6 +61,9 @@ pub struct Block {
 /// holder a after n exchanges. What that means depends on the holder. If the holder counts, the
 /// count of b is n more than the count of a. If it does not count, it ignores n. If it borrows its
 /// items, b borrows the same slice as a, so a change to the holder is a change to that slice.
+///
+/// A holder of your own defines `len` and `exchange`. The methods after these are only for speed.
+/// Their bodies here do the same by calls of `exchange`.
 pub trait Places {
     /// The type of the items.
     type Item;
@@ -80,8 +83,8 @@ pub trait Places {
         ensures exchanged { items self.new ≡ swap (items self.old) i j }
         ensures holder { same_holder 1 self.old self.new };
 
-    /// Does the same as `exchange`, for two different places. A holder need not check here whether
-    /// the two places are the same.
+    /// Only for speed: does the same as `exchange`, for two different places. A holder need not
+    /// check here whether the two places are the same.
     #[inline(always)]
     fn exchange_apart(&mut self, i: usize, j: usize)
         requires apart { (i < j) ⊎ (j < i) }
@@ -93,11 +96,11 @@ pub trait Places {
         self.exchange(i, j);
     }
 
-    /// Exchanges two tiles of 8 by 8 items, each with the mirror image of the other: the item in
-    /// row r and column c of a tile goes to row c and column r of the other tile. Row r of the one
-    /// tile is the 8 places from `x[r]` on, and row r of the other the 8 places from `y[r]` on. No
-    /// two of these 16 rows may overlap. A holder may have a faster way to do this than 64 calls of
-    /// `exchange`.
+    /// Only for speed: exchanges two tiles of 8 by 8 items, each with the mirror image of the
+    /// other. The item in row r and column c of a tile goes to row c and column r of the other
+    /// tile. Row r of the one tile is the 8 places from `x[r]` on, and row r of the other the 8
+    /// places from `y[r]` on. No two of these 16 rows may overlap. A holder may have a faster way
+    /// to do this than 64 calls of `exchange`.
     #[inline(always)]
     fn exchange_tiles(&mut self, x: [usize; 8], y: [usize; 8])
         requires { AreTiles x y (length (items self.old)) }
@@ -112,10 +115,10 @@ pub trait Places {
         }
     }
 
-    /// Transposes a tile of 8 by 8 items in place: for all r < c, the item in row r and column c is
-    /// exchanged with the item in row c and column r. Row r is the 8 places from `x[r]` on. No two
-    /// of the 8 rows may overlap. A holder may have a faster way to do this than 28 calls of
-    /// `exchange`.
+    /// Only for speed: transposes a tile of 8 by 8 items in place. For all r < c, the item in row r
+    /// and column c is exchanged with the item in row c and column r. Row r is the 8 places from
+    /// `x[r]` on. No two of the 8 rows may overlap. A holder may have a faster way to do this than
+    /// 28 calls of `exchange`.
     #[inline(always)]
     fn turn_tile(&mut self, x: [usize; 8])
         requires { IsTile x (length (items self.old)) }
@@ -130,15 +133,15 @@ pub trait Places {
         }
     }
 
-    /// A hint that a call of `exchange_tiles` with the same arguments may come soon. Nothing has to
-    /// follow from it, and the list stays as it is. A holder may fetch the tiles into a cache. The
-    /// arguments may be any numbers.
+    /// Only for speed: a hint that a call of `exchange_tiles` with the same arguments may come soon.
+    /// Nothing has to follow from it, and the list stays as it is. A holder may fetch the tiles into
+    /// a cache. The arguments may be any numbers.
     #[inline(always)]
     fn expect_tiles(&self, _x: [usize; 8], _y: [usize; 8]) {}
 
-    /// Exchanges two runs of `len` consecutive items: those from place `i` on and those from place
-    /// `j` on. Each run keeps its order. The runs must not overlap. A holder may have a faster way
-    /// to do this than `len` calls of `exchange`.
+    /// Only for speed: exchanges two runs of `len` consecutive items, those from place `i` on and
+    /// those from place `j` on. Each run keeps its order. The runs must not overlap. A holder may
+    /// have a faster way to do this than `len` calls of `exchange`.
     #[inline(always)]
     fn exchange_runs(&mut self, i: usize, j: usize, len: usize)
         requires apart { (i + len ≤ j) ⊎ (j + len ≤ i) }
@@ -162,7 +165,8 @@ pub trait Places {
 /// A list into which items can be put, and from which none can be read.
 ///
 /// In a contract, `items` is the list of the holder's items. `same_holder n a b` says that b is the
-/// holder a after n puts. The rest is the same as for [`Places`].
+/// holder a after n puts. The rest is the same as for [`Places`]. A holder of your own defines `len`
+/// and `put`.
 pub trait Cells {
     /// The type of the items.
     type Item: Copy;
@@ -181,10 +185,10 @@ pub trait Cells {
         ensures written { items self.new ≡ slice_set (items self.old) i v }
         ensures holder { same_holder 1 self.old self.new };
 
-    /// Puts the transpose of a block: for each row r and column c of the block, the item at index
-    /// `from + r * width + c` of `source` is put into cell `to + c * height + r`. All other cells
-    /// keep their items. The columns of the block must not overlap in the cells. A holder may have
-    /// a faster way to do this than one call of `put` for each item.
+    /// Only for speed: puts the transpose of a block. For each row r and column c of the block, the
+    /// item at index `from + r * width + c` of `source` is put into cell `to + c * height + r`. All
+    /// other cells keep their items. The columns of the block must not overlap in the cells. A
+    /// holder may have a faster way to do this than one call of `put` for each item.
     #[inline(always)]
     fn put_block<R: Source<Item = Self::Item>>(&mut self, source: &R, block: Block)
     where
@@ -218,7 +222,8 @@ pub trait Cells {
 
 /// A list whose items can be read but not changed.
 ///
-/// In a contract, `items` is the list of the source's items.
+/// In a contract, `items` is the list of the source's items. A source of your own defines `len` and
+/// `at`.
 pub trait Source {
     /// The type of the items.
     type Item: Copy;
@@ -234,8 +239,8 @@ pub trait Source {
         requires { i < length (items self.now) }
         ensures { slice_get (items self.now) i ≡ Some result };
 
-    /// The items as a slice, if they are next to each other in memory in this order. A holder of
-    /// cells can then read more than one of them at once.
+    /// Only for speed: the items as a slice, if they are next to each other in memory in this
+    /// order. A holder of cells can then read more than one of them at once.
     #[inline(always)]
     fn as_slice(&self) -> Option<&[Self::Item]>
         ensures { IfSome result (λ slice. slice.now ≡ items self.now) }

@@ -52,12 +52,11 @@ pub const fn fits_rows(len: usize, row_width: usize) -> bool
     len == 0 || (len % row_width == 0 && (len / row_width).is_power_of_two())
 }
 
-/// Reverses the order of `vals` by index bits. The length must be zero or a power of two, which
-/// this call does not check.
+/// Reverses the order of `vals` by index bits, and does not check the length: it must be zero or a
+/// power of two, which `fits_rows(vals.len(), 1)` or std's `is_power_of_two` checks.
 ///
 /// With 2^k items, index `i` gets the item from the index that has the k bits of `i` in reversed
-/// order. A second call restores the original order. No item is cloned or dropped. To check the
-/// length, use `fits_rows(vals.len(), 1)` or std's `is_power_of_two`.
+/// order. A second call restores the original order. No item is cloned or dropped.
 pub fn reverse_slice_index_bits<F>(vals: &mut [F])
     requires { IsReversible (length vals.old) }
     ensures order { IsReversal vals.old vals.new }
@@ -84,14 +83,12 @@ pub fn reverse_counted<S: Places>(places: &mut S) -> u128
     reverse_index_bits(Swaps::new(places)).swaps()
 }
 
-/// Reverses the order of the rows of `vals` by index bits.
-///
-/// Each row has `row_width` items. The number of rows must be zero or a power of two, which this
-/// call does not check.
+/// Reverses the order of the rows of `vals` by index bits, and does not check the length: the rows
+/// must have `row_width` items each, and their number must be zero or a power of two, which
+/// `fits_rows(vals.len(), row_width)` checks.
 ///
 /// With 2^k rows, the row at index `r` comes from the index that has the k bits of `r` in reversed
-/// order. A second call restores the original order. No item is cloned or dropped. [`fits_rows`]
-/// checks the length.
+/// order. A second call restores the original order. No item is cloned or dropped.
 pub fn reverse_slice_row_index_bits<F>(vals: &mut [F], row_width: usize)
     requires { FitsRows (length vals.old) row_width }
     ensures order { IsRowReversal row_width vals.old vals.new }

@@ -65,12 +65,12 @@ pub const fn fits_matrix(input_len: usize, output_len: usize, width: usize, heig
     }
 }
 
-/// Transposes `input`, a matrix of `height` rows of `width` items, into `output`. Both lengths must
-/// be `width * height`, which this call does not check.
+/// Transposes `input`, a matrix of `height` rows of `width` items, into `output`, and does not check
+/// the lengths: both must be `width * height`, which [`fits_matrix`] checks.
 ///
 /// The item at `y * width + x` of `input` is put at `x * height + y` of `output`. If you transpose
 /// `output`, as a matrix of `width` rows of `height` items, you get `input` again. [`transpose_on`]
-/// writes the items in the same order. [`fits_matrix`] checks both lengths.
+/// writes the items in the same order.
 #[tactic(auto, using(crate::proofs::Matrix::transpose_turned))]
 pub fn transpose<T: Copy>(input: &[T], output: &mut [T], width: usize, height: usize)
     requires input_fits { length input.now ≡ width * height }

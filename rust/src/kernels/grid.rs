@@ -318,7 +318,7 @@ fn upper_half(size: usize) -> usize {
 /// ensures holder { M.same_holder (grid.width * square_swaps size) m result }
 /// ```
 #[inline(always)]
-fn exchange_corner<M: Places>(m: M, grid: Grid, start: usize, size: usize) -> M {
+fn exchange_on_diagonal<M: Places>(m: M, grid: Grid, start: usize, size: usize) -> M {
     let end = start + size;
     let mut m = m;
     for row in start..end {
@@ -333,7 +333,7 @@ fn exchange_corner<M: Places>(m: M, grid: Grid, start: usize, size: usize) -> M 
     m
 }
 
-/// Does the same as [`exchange_corner`], for a tile.
+/// Does the same as [`exchange_on_diagonal`], for a tile.
 ///
 /// # Contract
 ///
@@ -350,7 +350,7 @@ fn exchange_corner<M: Places>(m: M, grid: Grid, start: usize, size: usize) -> M 
 /// ensures holder { M.same_holder (grid.width * square_swaps 8) m result }
 /// ```
 #[inline(always)]
-fn exchange_corner_tile<M: Places>(m: M, grid: Grid, start: usize) -> M {
+fn exchange_diagonal_tile<M: Places>(m: M, grid: Grid, start: usize) -> M {
     let places = grid.tile_column(grid.start(start) + start);
     let mut m = m;
     if grid.width == 1 {
@@ -365,7 +365,7 @@ fn exchange_corner_tile<M: Places>(m: M, grid: Grid, start: usize) -> M {
     m
 }
 
-/// Does the same as [`exchange_corner`], by quadrants. The calls nest at most as deep as `size` can
+/// Does the same as [`exchange_on_diagonal`], by quadrants. The calls nest at most as deep as `size` can
 /// be halved until it is at most 8. The proof that the calls end counts these levels.
 ///
 /// # Contract
@@ -383,10 +383,10 @@ fn exchange_corner_tile<M: Places>(m: M, grid: Grid, start: usize) -> M {
 /// ```
 pub(crate) fn exchange_quadrants<M: Places>(m: M, grid: Grid, start: usize, size: usize) -> M {
     if size == TILE && start % TILE == 0 {
-        return exchange_corner_tile(m, grid, start);
+        return exchange_diagonal_tile(m, grid, start);
     }
     if size <= TILE {
-        return exchange_corner(m, grid, start, size);
+        return exchange_on_diagonal(m, grid, start, size);
     }
     let half = upper_half(size);
     let upper_right = Region {
@@ -419,7 +419,7 @@ pub(crate) fn exchange_quadrants<M: Places>(m: M, grid: Grid, start: usize, size
 pub(crate) fn exchange_square<M: Places>(m: M, grid: Grid) -> M {
     let size = pow2(grid.digits);
     if grid.digits < 3 {
-        exchange_corner(m, grid, 0, size)
+        exchange_on_diagonal(m, grid, 0, size)
     } else {
         exchange_quadrants(m, grid, 0, size)
     }

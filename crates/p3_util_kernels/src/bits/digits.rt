@@ -9,10 +9,10 @@ ghost use Rattle.std.specs.Prelude.{◌≡◌, ℕ, ◌^◌, ◌<◌, ◌≤◌,
 ghost use Rattle.p3_util_kernels.specs.Digits.{rev, rev_word};
 ghost use Rattle.p3_util_kernels.specs.Powers.{HasLog2};
 
-/// Reverses the k low binary digits of `x`, where `n` is 2^k.
+/// Reverses the k low binary digits of `x`, where `n` is 2^k. This call does not check that `n` is a
+/// power of two, and std's `is_power_of_two` does.
 ///
-/// This is `reverse_bits_len(x, k)`. `n` must be a power of two, which std's `is_power_of_two`
-/// checks.
+/// This is `reverse_bits_len(x, k)`.
 #[inline]
 pub const fn reverse_bits(x: usize, n: usize) -> usize
     requires { HasLog2 n }
@@ -23,8 +23,8 @@ pub const fn reverse_bits(x: usize, n: usize) -> usize
     reverse_bits_len(x, n.trailing_zeros() as usize)
 }
 
-/// Reverses the `bit_len` low binary digits of `x` and drops the others. A `bit_len` of 0 reverses
-/// all 64 digits. `bit_len` must be at most 64.
+/// Reverses the `bit_len` low binary digits of `x` and drops the others. `bit_len` must be at most
+/// 64, which this call does not check. A `bit_len` of 0 reverses all 64 digits.
 #[inline]
 pub const fn reverse_bits_len(x: usize, bit_len: usize) -> usize
     requires { bit_len ≤ 64 }

@@ -185,17 +185,17 @@ pub(crate) fn reverse_rows<M: Places>(m: M, rows: RowDigits) -> M
     // Each further case would be one more copy of these exchanges. With too many copies, Rattle's
     // compiler no longer inlines this function.
     match rows.digits {
-        2 => exchange_all(m, RowDigits { digits: 2, ..rows }),
-        3 => exchange_all(m, RowDigits { digits: 3, ..rows }),
-        4 => exchange_all(m, RowDigits { digits: 4, ..rows }),
-        5 => exchange_all(m, RowDigits { digits: 5, ..rows }),
-        _ => exchange_many(m, rows),
+        2 => exchange_pairs(m, RowDigits { digits: 2, ..rows }),
+        3 => exchange_pairs(m, RowDigits { digits: 3, ..rows }),
+        4 => exchange_pairs(m, RowDigits { digits: 4, ..rows }),
+        5 => exchange_pairs(m, RowDigits { digits: 5, ..rows }),
+        _ => exchange_pairs_outlined(m, rows),
     }
 }
 
 /// Exchanges all pairs of rows whose indices are each other's reverse.
 #[inline(always)]
-pub(crate) fn exchange_all<M: Places>(m: M, rows: RowDigits) -> M
+pub(crate) fn exchange_pairs<M: Places>(m: M, rows: RowDigits) -> M
     requires fits { FitsRows (length (M.items m)) rows.width }
     requires digits { rows.digits ≡ clog (length (M.items m) / rows.width) }
     requires len_fits { length (M.items m) < 2 ^ 64 }
@@ -213,15 +213,15 @@ pub(crate) fn exchange_all<M: Places>(m: M, rows: RowDigits) -> M
     m
 }
 
-/// Does the same as [`exchange_all`], in a function of its own. So a call with few rows needs no
+/// Does the same as [`exchange_pairs`], in a function of its own. So a call with few rows needs no
 /// stack frame, which would take longer than its exchanges.
 #[inline(never)]
-pub(crate) fn exchange_many<M: Places>(m: M, rows: RowDigits) -> M
+pub(crate) fn exchange_pairs_outlined<M: Places>(m: M, rows: RowDigits) -> M
     requires fits { FitsRows (length (M.items m)) rows.width }
     requires digits { rows.digits ≡ clog (length (M.items m) / rows.width) }
     requires len_fits { length (M.items m) < 2 ^ 64 }
     ensures order { IsRowReversal rows.width (M.items m) (M.items result) }
     ensures holder { M.same_holder (rows.width * short_swaps rows.digits) m result }
 {
-    exchange_all(m, rows)
+    exchange_pairs(m, rows)
 }

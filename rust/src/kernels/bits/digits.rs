@@ -5,10 +5,10 @@
 //! shifts on x86-64. For std's `reverse_bits`, Rattle's compilers make a loop over single digits
 //! instead, which takes about 20 ns for each call.
 
-/// Reverses the k low binary digits of `x`, where `n` is 2^k.
+/// Reverses the k low binary digits of `x`, where `n` is 2^k. This call does not check that `n` is a
+/// power of two, and std's `is_power_of_two` does.
 ///
-/// This is `reverse_bits_len(x, k)`. `n` must be a power of two, which std's `is_power_of_two`
-/// checks.
+/// This is `reverse_bits_len(x, k)`.
 ///
 /// # Contract
 ///
@@ -28,8 +28,8 @@ pub const fn reverse_bits(x: usize, n: usize) -> usize {
     reverse_bits_len(x, n.trailing_zeros() as usize)
 }
 
-/// Reverses the `bit_len` low binary digits of `x` and drops the others. A `bit_len` of 0 reverses
-/// all 64 digits. `bit_len` must be at most 64.
+/// Reverses the `bit_len` low binary digits of `x` and drops the others. `bit_len` must be at most
+/// 64, which this call does not check. A `bit_len` of 0 reverses all 64 digits.
 ///
 /// # Contract
 ///

@@ -231,11 +231,11 @@ pub(crate) fn reverse_rows<M: Places>(m: M, rows: RowDigits) -> M {
     // Each further case would be one more copy of these exchanges. With too many copies, Rattle's
     // compiler no longer inlines this function.
     match rows.digits {
-        2 => exchange_all(m, RowDigits { digits: 2, ..rows }),
-        3 => exchange_all(m, RowDigits { digits: 3, ..rows }),
-        4 => exchange_all(m, RowDigits { digits: 4, ..rows }),
-        5 => exchange_all(m, RowDigits { digits: 5, ..rows }),
-        _ => exchange_many(m, rows),
+        2 => exchange_pairs(m, RowDigits { digits: 2, ..rows }),
+        3 => exchange_pairs(m, RowDigits { digits: 3, ..rows }),
+        4 => exchange_pairs(m, RowDigits { digits: 4, ..rows }),
+        5 => exchange_pairs(m, RowDigits { digits: 5, ..rows }),
+        _ => exchange_pairs_outlined(m, rows),
     }
 }
 
@@ -251,7 +251,7 @@ pub(crate) fn reverse_rows<M: Places>(m: M, rows: RowDigits) -> M {
 /// ensures holder { M.same_holder (rows.width * short_swaps rows.digits) m result }
 /// ```
 #[inline(always)]
-pub(crate) fn exchange_all<M: Places>(m: M, rows: RowDigits) -> M {
+pub(crate) fn exchange_pairs<M: Places>(m: M, rows: RowDigits) -> M {
     if rows.digits < 2 {
         return m;
     }
@@ -263,7 +263,7 @@ pub(crate) fn exchange_all<M: Places>(m: M, rows: RowDigits) -> M {
     m
 }
 
-/// Does the same as [`exchange_all`], in a function of its own. So a call with few rows needs no
+/// Does the same as [`exchange_pairs`], in a function of its own. So a call with few rows needs no
 /// stack frame, which would take longer than its exchanges.
 ///
 /// # Contract
@@ -276,6 +276,6 @@ pub(crate) fn exchange_all<M: Places>(m: M, rows: RowDigits) -> M {
 /// ensures holder { M.same_holder (rows.width * short_swaps rows.digits) m result }
 /// ```
 #[inline(never)]
-pub(crate) fn exchange_many<M: Places>(m: M, rows: RowDigits) -> M {
-    exchange_all(m, rows)
+pub(crate) fn exchange_pairs_outlined<M: Places>(m: M, rows: RowDigits) -> M {
+    exchange_pairs(m, rows)
 }

@@ -6,7 +6,7 @@ use Rattle.p3_util_kernels.specs.Grid.{row_place}
 use Rattle.p3_util_kernels.specs.SwapCounts.{square_swaps}
 use Rattle.p3_util_kernels.proofs.GridLemmas.{IsTile-grid, SwapsInGrid-corner, SwapsInGrid-item, SwapsInGrid-none, SwapsInGrid-turned, grid_fits, grid_room, one_place}
 use Rattle.p3_util_kernels.proofs.Pairs.{square_swaps-next}
-use Rattle.p3_util_kernels.proofs.grid.exchange_corner_tile.Goals as goal
+use Rattle.p3_util_kernels.proofs.grid.exchange_diagonal_tile.Goals as goal
 
 -- single items
 pub turn_tile-requires : goal.turn_tile-requires

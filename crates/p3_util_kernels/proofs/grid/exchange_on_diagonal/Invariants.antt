@@ -1,7 +1,7 @@
 use Rattle.std.proofs.Common.{◌≡◌, ℕ, ◌+◌, ◌-◌, ◌*◌}
 use Rattle.p3_util_kernels.specs.Grid.{SwapsInGrid}
 use Rattle.p3_util_kernels.specs.SwapCounts.{square_swaps}
-use Rattle.p3_util_kernels.proofs.grid.exchange_corner.Given as goal
+use Rattle.p3_util_kernels.proofs.grid.exchange_on_diagonal.Given as goal
 
 -- the rows before this one are exchanged, and the others still have the exchanges of a smaller
 -- square

@@ -10,7 +10,7 @@ use Rattle.p3_util_kernels.proofs.GridRows.{AreCrossed-more, HoldsGrid-rows}
 use Rattle.p3_util_kernels.proofs.Lengths.{IsDigitsOfRows-from, no_digits}
 use Rattle.p3_util_kernels.proofs.ReversalLemmas.{IsRowReversal-none}
 use Rattle.p3_util_kernels.proofs.SquareCounts.{squares-short}
-use Rattle.p3_util_kernels.proofs.reverse.rows.exchange_all.Goals as goal
+use Rattle.p3_util_kernels.proofs.reverse.rows.exchange_pairs.Goals as goal
 
 -- a list whose row indices have two digits or more has rows
 ready : {A : Type 0} (row_width digits : ℕ) (xs : List A) → FitsRows (length xs) row_width → digits ≡ clog (length xs / row_width)

@@ -1,7 +1,7 @@
 use Rattle.std.proofs.Common.{◌-◌, ◌*◌, ◌^◌}
 use Rattle.p3_util_kernels.specs.SwapCounts.{square_swaps}
 use Rattle.p3_util_kernels.proofs.CrossingLemmas.{AreCrossed}
-use Rattle.p3_util_kernels.proofs.reverse.rows.exchange_all.Given as goal
+use Rattle.p3_util_kernels.proofs.reverse.rows.exchange_pairs.Given as goal
 
 -- the pairs of the grids before this one are exchanged
 abbrev pub invariant-loop-middle : goal.invariant-loop-middle

@@ -3,7 +3,7 @@ use Rattle.std.proofs.Common.{◌≡◌, ◌+◌, ◌-◌, ◌*◌, suc, arith}
 use Rattle.p3_util_kernels.specs.SwapCounts.{square_swaps}
 use Rattle.p3_util_kernels.proofs.GridLemmas.{SwapsInGrid-corner, SwapsInGrid-none}
 use Rattle.p3_util_kernels.proofs.Pairs.{square_swaps-next}
-use Rattle.p3_util_kernels.proofs.grid.exchange_corner.Goals as goal
+use Rattle.p3_util_kernels.proofs.grid.exchange_on_diagonal.Goals as goal
 
 pub loop-row-init : goal.loop-row-init
 loop-row-init g c =
