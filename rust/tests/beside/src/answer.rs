@@ -30,20 +30,26 @@ impl Answer {
     }
 }
 
-/// The answers of both crates to one call.
+/// Which of the two crates.
+#[derive(Clone, Copy)]
+pub enum Side {
+    Package,
+    Original,
+}
+
+/// A call, and the answer of each crate to it.
 pub struct Compared {
     pub call: String,
-    pub package: Answer,
-    pub original: Answer,
+    pub answer: Box<dyn Fn(Side) -> Answer>,
     /// Where a list begins in the bytes, and the number of bytes of an item.
     pub list: (usize, usize),
 }
 
 impl Compared {
-    /// The call, and the first difference of the answers, if there is one. The text of a panic of the package begins with
-    /// the original's, and may say more.
+    /// Makes the call by both crates. Returns the call and the first difference of the answers, if there is one. The text
+    /// of a panic of the package begins with the original's, and may say more.
     pub fn difference(&self) -> Option<String> {
-        let differs = match (&self.package, &self.original) {
+        let differs = match (&(self.answer)(Side::Package), &(self.answer)(Side::Original)) {
             (Answer::Bytes(a), Answer::Bytes(b)) => (a != b).then(|| self.of_bytes(a, b)),
             (Answer::Text(a), Answer::Text(b)) => (a != b).then(|| both(a, b)),
             (Answer::Panic(a), Answer::Panic(b)) => (!a.starts_with(b)).then(|| both(a, b)),

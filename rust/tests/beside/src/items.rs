@@ -4,6 +4,7 @@ use std::fmt;
 
 use p3_util_proved::parts::{self, ReversalPart, TransposePart};
 
+use crate::answer::Side;
 use crate::choices::Choices;
 
 /// Whose call it is. The package's is also made in parts, of which the last one runs first.
@@ -21,6 +22,14 @@ impl By {
             By::Parts(choices.up_to(64))
         } else {
             By::Package
+        }
+    }
+
+    /// The original's call, or the package's as it was chosen.
+    pub fn on(self, side: Side) -> Self {
+        match side {
+            Side::Original => By::Original,
+            Side::Package => self,
         }
     }
 }

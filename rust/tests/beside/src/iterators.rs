@@ -1,6 +1,6 @@
 //! Chunks and pairs of iterators.
 
-use crate::answer::{Answer, Compared, caught};
+use crate::answer::{Answer, Compared, Side, caught};
 use crate::choices::Choices;
 
 /// The calls of one crate. The number chooses the length of a chunk. Results are texts.
@@ -67,19 +67,23 @@ pub fn iterator(choices: &mut Choices) -> Compared {
         0 => choices.bytes(200),
         _ => bytes.iter().map(|byte| byte ^ 1).collect(),
     };
-    let called = |calls: Calls| match call {
-        0 => Answer::text(|| (calls.apply_to_chunks)(number, last, &bytes)),
-        1 => Answer::text(|| (calls.iter_array_chunks_padded)(number, &bytes)),
-        _ => Answer::text(|| (calls.zip_eq)(&bytes, &others)),
-    };
     Compared {
         call: match call {
             0 => format!("apply_to_chunks number {number} of {bytes:?}, which panics at chunk {last}"),
             1 => format!("iter_array_chunks_padded number {number} of {bytes:?}"),
             _ => format!("zip_eq of {bytes:?} and {others:?}"),
         },
-        package: called(PACKAGE),
-        original: called(ORIGINAL),
+        answer: Box::new(move |side| {
+            let calls = match side {
+                Side::Package => PACKAGE,
+                Side::Original => ORIGINAL,
+            };
+            Answer::text(|| match call {
+                0 => (calls.apply_to_chunks)(number, last, &bytes),
+                1 => (calls.iter_array_chunks_padded)(number, &bytes),
+                _ => (calls.zip_eq)(&bytes, &others),
+            })
+        }),
         list: (0, 1),
     }
 }

@@ -14,7 +14,7 @@ use std::process::ExitCode;
 use answer::Compared;
 use choices::{Choices, shrunk};
 
-/// Makes an input from the choices, and gives it to both crates.
+/// Makes an input from the choices.
 type Kind = fn(&mut Choices) -> Compared;
 
 /// The kinds of inputs, each with how many of 16 inputs it has.
@@ -28,14 +28,20 @@ const KINDS: [(usize, Kind); 6] = [
 ];
 
 fn main() -> ExitCode {
-    let numbers: Result<Vec<u64>, _> = std::env::args().skip(1).map(|word| word.parse()).collect();
+    let words: Vec<String> = std::env::args().skip(1).collect();
+    let numbers: Result<Vec<u64>, _> = words.iter().take(2).map(|word| word.parse()).collect();
     let Ok(&[inputs, seed]) = numbers.as_deref() else {
         eprintln!("INPUTS and SEED are numbers: see rust/beside");
         return ExitCode::from(2);
     };
     for input in 0..inputs {
         let mut choices = Choices::random(seed, input);
-        if compared(&mut choices).difference().is_some() {
+        let compared = compared(&mut choices);
+        // Before a call that may end the process.
+        if words.len() > 2 {
+            println!("  input {input} of seed {seed}: {}", compared.call);
+        }
+        if compared.difference().is_some() {
             println!(
                 "Input {input} of seed {seed} differs. Of the inputs that were tried instead, this is the smallest that does:"
             );

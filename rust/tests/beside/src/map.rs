@@ -2,7 +2,7 @@
 
 use std::fmt;
 
-use crate::answer::{Answer, Compared, caught};
+use crate::answer::{Answer, Compared, Side, caught};
 use crate::choices::Choices;
 
 /// A key that is equal to keys of other spellings. The map keeps the first spelling.
@@ -107,8 +107,10 @@ pub fn map(choices: &mut Choices) -> Compared {
     let calls: Vec<Call> = (0..choices.up_to(60)).map(|_| call(choices)).collect();
     Compared {
         call: format!("a map, {made:?}, then {calls:?}"),
-        package: Answer::text(|| answer_of!(p3_util_proved, made, &calls)),
-        original: Answer::text(|| answer_of!(p3_util, made, &calls)),
+        answer: Box::new(move |side| match side {
+            Side::Package => Answer::text(|| answer_of!(p3_util_proved, made, &calls)),
+            Side::Original => Answer::text(|| answer_of!(p3_util, made, &calls)),
+        }),
         list: (0, 1),
     }
 }

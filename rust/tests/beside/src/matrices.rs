@@ -1,6 +1,6 @@
 //! Reversals of items and of rows, and transposes, of lists that fit and of some that do not.
 
-use crate::answer::{Answer, Compared};
+use crate::answer::{Answer, Compared, Side};
 use crate::choices::Choices;
 use crate::items::{self, By};
 use crate::lists::List;
@@ -36,9 +36,8 @@ pub fn reversal(choices: &mut Choices) -> Compared {
             item.name,
             list.offset()
         ),
-        package: list.after(|bytes| (item.reverse)(by, bytes)),
-        original: list.after(|bytes| (item.reverse)(By::Original, bytes)),
         list: list.place(),
+        answer: Box::new(move |side| list.after(|bytes| (item.reverse)(by.on(side), bytes))),
     }
 }
 
@@ -56,13 +55,15 @@ pub fn reversal_of_rows(choices: &mut Choices) -> Compared {
             item.name,
             list.offset()
         ),
-        package: list.after(|bytes| (item.reverse_rows)(by, bytes, width)),
-        // What panics with a text of its own has another one in the package.
-        original: match list.after(|bytes| (item.reverse_rows)(By::Original, bytes, width)) {
-            Answer::Panic(_) => Answer::Panic(String::new()),
-            answer => answer,
-        },
         list: list.place(),
+        // What panics with a text of its own has another one in the package.
+        answer: Box::new(move |side| {
+            let answer = list.after(|bytes| (item.reverse_rows)(by.on(side), bytes, width));
+            match (side, answer) {
+                (Side::Original, Answer::Panic(_)) => Answer::Panic(String::new()),
+                (_, answer) => answer,
+            }
+        }),
     }
 }
 
@@ -89,9 +90,10 @@ pub fn transpose(choices: &mut Choices) -> Compared {
             lens[1],
             output.offset()
         ),
-        package: output.after(|bytes| (item.transpose)(by, input.bytes(), bytes, width, height)),
-        original: output.after(|bytes| (item.transpose)(By::Original, input.bytes(), bytes, width, height)),
         list: output.place(),
+        answer: Box::new(move |side| {
+            output.after(|bytes| (item.transpose)(by.on(side), input.bytes(), bytes, width, height))
+        }),
     }
 }
 

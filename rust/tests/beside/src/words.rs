@@ -2,7 +2,7 @@
 
 use std::fmt::Debug;
 
-use crate::answer::{Answer, Compared};
+use crate::answer::{Answer, Compared, Side};
 use crate::choices::Choices;
 
 /// A call on two integers, of which it may use one. Its result is a text.
@@ -55,8 +55,13 @@ pub fn word(choices: &mut Choices) -> Compared {
     let (name, [x, y]) = (PACKAGE[call].0, [(); 2].map(|()| number(choices)));
     Compared {
         call: format!("{name} of {x}, or of {x} and {y}"),
-        package: Answer::text(|| (PACKAGE[call].1)(x, y)),
-        original: Answer::text(|| (ORIGINAL[call].1)(x, y)),
+        answer: Box::new(move |side| {
+            let calls = match side {
+                Side::Package => PACKAGE,
+                Side::Original => ORIGINAL,
+            };
+            Answer::text(|| (calls[call].1)(x, y))
+        }),
         list: (0, 1),
     }
 }
