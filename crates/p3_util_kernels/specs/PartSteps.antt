@@ -1,6 +1,6 @@
 -- Steps from one list to another, and the places of the parts of a call. These definitions serve
--- private contracts: those of `src/parts/laws.rt`. With the lemmas a holder can state that steps
--- exist.
+-- private contracts: those of `src/parts/laws.rt`. The lemmas at the end show two holders there that
+-- steps exist. They are not in proofs/, because an `impl` can only name what stands in specs/.
 -- Source: new.
 use Rattle.std.proofs.Common.{◌≡◌, ◌≢◌, ℕ, ◌+◌, ◌-◌, ◌*◌, ◌/◌, ◌<◌, min, max, List, [], ◌∷◌, ◌++◌, length, slice_get, slice_set, length-append, refl, sym, ◌∙◌, ap, arith}
 use Rattle.std.specs.Prelude.{swap}
