@@ -15,14 +15,14 @@ pub mod Transpose
 pub mod TransposeFromParts
 pub mod Views
 pub mod ZipEq
-pub use Rattle.p3_util.proofs.Callers.Bits.{rev_below, rev_twice, rev_in_parts, rev_even, rev_odd, rev_first, rev_last, rev_high, log_reversible, pair_below, power_of_two_test, half, half_length, rev_longer, power_up, exponent_most, power_in_parts, log_of_power, large_power, below_large_power, power_too_large, exponent_below, power_over, power_step, row_of_place, column_of_place}
+pub use Rattle.p3_util.proofs.Callers.Bits.{rev_below, rev_twice, rev_in_parts, rev_even, rev_odd, rev_first, rev_last, rev_high, log_some, log_reversible, pair_below, power_of_two_test, half, half_length, rev_longer, power_up, exponent_most, power_in_parts, log_of_power, large_power, below_large_power, power_too_large, exponent_below, power_over, power_step, row_of_place, column_of_place}
 pub use Rattle.p3_util.proofs.Callers.Chunks.{folded_sum, padded_sum, padded_index, padded_inside, padded_beyond, padded_read, lane_item, lane_index, item_of_lane}
 pub use Rattle.p3_util.proofs.Callers.Columns.{column_inside, column_length, column_place, column_read, column_swapped, column_others}
 pub use Rattle.p3_util.proofs.Callers.Compose.{region_of_rows, region_of_cols, square_inside, square_more, one_square, reversed_by_squares, swaps_around, rows_in_two, cols_in_two}
 pub use Rattle.p3_util.proofs.Callers.Kept.{permuted_by_places, reversed_permuted, permuted_reversal, rows_permuted, transposed_permuted, permuted, kept, kept_different, reversed_sum, kept_sum, reversed_alike}
 pub use Rattle.p3_util.proofs.Callers.LinearMap.{key_found, key_others, number_found, number_others, put_found, put_others, put_put, key_summed, key_within_sum, key_or_zero, text_eq, text_summed, text_within_sum, text_or_zero, number_summed, number_within_sum, number_or_zero, values_summed, value_within_sum, equal_pairs, pairs_compared, maps_equal}
-pub use Rattle.p3_util.proofs.Callers.Reverse.{reversed_place, place_moved, word_moved, bits_moved, item_moved, first_stays, last_stays, ends_stay, equal_stay, reversed_by_index, reversed_even, reversed_odd, reversed_once, reversed_twice, rows_reversed_twice, reversed_by_places, reversed_longer, short_reversed, short_stays, short_same}
-pub use Rattle.p3_util.proofs.Callers.ReversedTables.{reversed_index, reversed_item, reversed_item_at, reversed_item_from, reversed_some, reversed_some_from, even_index, odd_index, reversed_read, even_read, odd_read}
+pub use Rattle.p3_util.proofs.Callers.Reverse.{reversed_place, place_moved, word_moved, word_below, bits_moved, first_stays, last_stays, equal_stay, reversed_by_index, reversed_even, reversed_odd, reversed_once, reversed_twice, rows_reversed_twice, reversed_by_places, reversed_longer, short_reversed, short_stays, short_same}
+pub use Rattle.p3_util.proofs.Callers.ReversedTables.{reversed_index, reversed_item, reversed_item_at, reversed_item_from, reversed_some, reversed_some_from, moved_some, moved_read, bits_some, bits_read, item_moved, first_some, last_some, first_read, last_read, ends_stay, even_index, odd_index, reversed_read, even_read, odd_read}
 pub use Rattle.p3_util.proofs.Callers.Rows.{part_length, part_inside, part_before, part_after, part_read, part_there, part_apart, part_within, row_moved, first_row_stays}
 pub use Rattle.p3_util.proofs.Callers.Square.{square_back}
 pub use Rattle.p3_util.proofs.Callers.Transpose.{transposed_once, transposed_back, first_in_rows, first_row, transposed_first, one_column, one_row, one_line, column_alone, row_alone, line_alone, transposes_more, outside_stays, above_stays, below_stays, left_stays, right_stays, levels_enough, region_others, reversed_by_sides}

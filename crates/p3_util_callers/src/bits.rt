@@ -1,7 +1,7 @@
 //! Callers of the logarithms and powers. A test before the call of a strict logarithm is enough to
 //! meet its precondition.
 
-ghost use Rattle.std.specs.Prelude.{◌≡◌, ℕ, ◌+◌, ◌-◌, ◌*◌, ◌/◌, ◌%◌, ◌^◌, ◌<◌, ◌≤◌, ◌↔◌, IsFalse, IsTrue, IfOk, IfSome, MatchOption, None, Some, length, string_bytes};
+ghost use Rattle.std.specs.Prelude.{◌≡◌, ℕ, ◌+◌, ◌-◌, ◌*◌, ◌/◌, ◌%◌, ◌^◌, ◌<◌, ◌≤◌, ◌↔◌, [], ◌∷◌, IsFalse, IsTrue, IfOk, IfSome, MatchOption, None, Some, length, string_bytes};
 ghost use Rattle.std.specs.Int.{IsPowerOfTwo, is_power_of_two};
 ghost use Rattle.p3_util.specs.Digits.{rev};
 ghost use Rattle.p3_util.specs.Names.{short_name};
@@ -220,6 +220,14 @@ pub fn reverse_in_longer(i: usize, k: usize, s: usize) -> usize
     ensures { result ≡ rev k i * 2 ^ s }
 {
     reverse_bits_len(i, k + s)
+}
+
+/// `Vec`, as the short name of a literal. The checker computes it if it may unfold the definitions.
+#[tactic(auto, unfolding(p3_util_kernels::specs::Names::short_name, p3_util_kernels::specs::Names::name_pieces, p3_util_kernels::specs::Names::in_front, p3_util_kernels::specs::Names::after_colons))]
+pub fn name_of_vec(alloc: Global) -> Result<String, AllocError>
+    ensures { IfOk result (λ name. string_bytes name ≡ 86 ∷ 101 ∷ 99 ∷ []) }
+{
+    pretty_name(alloc, "std::vec::Vec")
 }
 
 /// The short names of two types, such as those of a value and of an error.

@@ -1,7 +1,7 @@
 //! Callers of bit reversal. None of them has a proof by hand: a test before the call is enough, or
 //! a lemma that the function names.
 
-ghost use Rattle.std.specs.Prelude.{◌≡◌, ℕ, ◌+◌, ◌-◌, ◌*◌, ◌^◌, ◌<◌, ◌≤◌, ◌↔◌, [], ◌∷◌, IsTrue, IsFalse, IfOk, drop, length, replicate, slice_get, slice_index, take};
+ghost use Rattle.std.specs.Prelude.{◌≡◌, ℕ, ◌+◌, ◌-◌, ◌*◌, ◌^◌, ◌<◌, ◌≤◌, ◌↔◌, [], ◌∷◌, IsTrue, IsFalse, IfOk, Some, drop, length, replicate, slice_get, slice_index, take};
 ghost use Rattle.std.specs.Int.{is_power_of_two};
 ghost use Rattle.p3_util.specs.Digits.{rev};
 ghost use Rattle.p3_util.specs.Reversal.{FitsRows, IsReversal, IsReversible, IsRowReversal, IsZeroOrPowerOfTwo};
@@ -27,8 +27,7 @@ pub fn reverse_where_it_fits<F>(vals: &mut [F]) -> bool
     fits
 }
 
-/// Reverses `vals` by index bits if the length passes std's test for a power of two, and otherwise
-/// leaves it as it was.
+/// Reverses `vals` by index bits if the length is a power of two.
 pub fn reverse_power_of_two<F>(vals: &mut [F])
     ensures done { IsTrue (is_power_of_two (length vals.old)) → IsReversal vals.old vals.new }
     ensures left { IsFalse (is_power_of_two (length vals.old)) → vals.new ≡ vals.old }
@@ -47,8 +46,7 @@ pub fn reversed_literal() -> [u32; 4]
     items
 }
 
-/// Reverses `vals` by index bits twice, as a transform and its inverse do. This leaves `vals` as it
-/// was.
+/// Reverses `vals` by index bits twice, which leaves it as it was.
 #[tactic(auto, using(p3_util::proofs::Callers::reversed_twice))]
 pub fn reverse_twice<F>(vals: &mut [F])
     requires { IsReversible (length vals.old) }
@@ -79,6 +77,17 @@ pub fn reverse_between_ends<F>(vals: &mut [F])
         ≡ slice_get vals.old (length vals.old - 1) }
 {
     reverse_slice_index_bits(vals);
+}
+
+/// Reverses `vals` by index bits, and returns the item that is then the last one.
+#[tactic(auto, using(p3_util::proofs::Callers::ends_stay))]
+pub fn last_after<F: Copy>(vals: &mut [F]) -> F
+    requires power { IsReversible (length vals.old) }
+    requires some { 0 < length vals.old }
+    ensures { slice_get vals.old (length vals.old - 1) ≡ Some result }
+{
+    reverse_slice_index_bits(vals);
+    vals[vals.len() - 1]
 }
 
 /// Reverses the order of the rows of `vals`, of `row_width` items each. The first row stays.

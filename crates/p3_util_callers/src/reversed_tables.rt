@@ -75,6 +75,18 @@ pub fn place_by_log<T>(table: &mut [T], i: usize) -> usize
     reverse_bits_len(i, k)
 }
 
+/// Reorders the table, and returns the item that was at `i`. The number of bits follows from the
+/// length.
+#[tactic(auto, using(p3_util::proofs::Callers::item_moved))]
+pub fn item_moved<T: Copy>(table: &mut [T], i: usize) -> T
+    requires power { HasLog2 (length table.old) }
+    requires inside { i < length table.old }
+    ensures { slice_get table.old i ≡ Some result }
+{
+    reverse_slice_index_bits(table);
+    table[reverse_bits(i, table.len())]
+}
+
 /// Item `i` of a table that was reordered before the call: the item was at the reversed index.
 #[tactic(auto, using(p3_util::proofs::Callers::reversed_read))]
 pub fn item_of_reordered<T: Copy>(table: &[T], k: usize, i: usize) -> T

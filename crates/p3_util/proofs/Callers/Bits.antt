@@ -76,6 +76,11 @@ pair_below k i h =
 pub power_of_two_test : (n : ℕ) → is_power_of_two n ≡ true → HasLog2 n
 power_of_two_test n tested = inl ((power_test n).0 tested)
 
+-- a list of more than one item has indices of at least one digit
+pub log_some : (n k : ℕ) → n ≡ 2 ^ k → 1 < n → 1 ≤ k
+log_some n zero e some = absurd (omega arith)
+log_some n (suc k) e some = omega arith
+
 -- a length with a logarithm meets the precondition of a reversal
 pub log_reversible : (n : ℕ) → HasLog2 n → IsReversible n
 log_reversible n has = inl (inr (power_of_two n has))

@@ -30,6 +30,9 @@ word_same zero i h =
     rw none (rev-of-zero 64 ∙ sym (rev-of-zero 0))
 word_same (suc k) i h = refl
 
+pub word_below : (k i p n : ℕ) → n ≡ 2 ^ k → i < n → p ≡ rev_word k i → p < n
+word_below k i p n len h e = rw (e, word_same k i (omega arith)) (omega (arith, rev-lt k i))
+
 module _ {A : Type 0} where
   -- place i of a reversal of 2 ^ k items
   pub reversed_place : (k i : ℕ) (old new : List A) → IsReversal old new → length old ≡ 2 ^ k → i < 2 ^ k → slice_get new i ≡ slice_get old (rev k i)
@@ -149,10 +152,6 @@ module _ {A : Type 0} where
   ]
 
 pub ruleset short_same = (short_reversed, short_stays)
-
-pub ruleset item_moved = (bits_moved, word_moved, place_moved, log_reversible)
-
-pub ruleset ends_stay = (first_stays, last_stays)
 
 -- a list of numbers that has at each place the number at the reverse of the place
 pub reversed_by_index : (k : ℕ) (old new : List ℕ) → length new ≡ length old → length old ≡ 2 ^ k
