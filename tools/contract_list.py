@@ -34,6 +34,8 @@ ONLY_TESTS = {"p3_util_vectors"}
 PARTS = r"crates/p3_util_kernels/src/parts\b"
 # A file with this name, in a crate's proofs/, names the crate's lemmas for callers.
 LEMMAS = "Callers.antt"
+# The rows of marks and names of std that are too rare for docs/CALLING.md.
+MARKS = "tools/marks.txt"
 IMPORT = re.compile(r"^ *(?:ghost )?use ([\w.-]+)\.\{([^}]*)\};?(?: *--.*)?\n", re.M)
 EXPORT = re.compile(r"^pub use Rattle\.([\w.-]+)\.\{([^}]*)\}", re.M)
 
@@ -122,9 +124,17 @@ def sections(crate):
         yield from ((path, *listed(path, named)) for path, named in sorted(files.items()))
 
 
+def marks():
+    """The marks and names that docs/CALLING.md leaves out, each with its meaning."""
+    with open(MARKS, encoding="utf-8") as text:
+        rows = re.findall(r"^\| (.*) \| (.*) \|$", text.read(), re.M)
+    return "\n".join(["Marks, and names of Rust and its std, that the table in docs/CALLING.md does not have",
+                      *(line(2, f"{name}: {meaning}") for name, meaning in rows)])
+
+
 def page():
     """The text of the list."""
-    text = [HEAD]
+    text = [HEAD, marks()]
     for crate in CRATES:
         imports = {}
         for path, lines, names in sections(crate):

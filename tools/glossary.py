@@ -2,8 +2,8 @@
 package's documentation mean.
 
 The names of this project are explained by the comments above their definitions in crates/*/specs/, and each has an anchor
-there. The marks and the names of std are explained by the table of docs/CALLING.md, and one contract clause by clause, as
-on that page."""
+there. The marks and the names of std are explained by the table of docs/CALLING.md and by the rarer rows of tools/marks.txt,
+and one contract clause by clause, as on that page."""
 import re
 from dataclasses import dataclass
 
@@ -25,6 +25,8 @@ above](super) explains the marks.
 NAMES = "Names of this package"
 # The page and its headings of the marks, and of the section that explains a contract clause by clause.
 PAGE, READ, READ_ALOUD = "docs/CALLING.md", "How a clause is read", "A contract, word by word"
+# Further rows of marks and names of std, which are too rare for that page.
+RARER = "tools/marks.txt"
 # The crates whose definitions the contracts of the package use.
 CRATES = ["p3_util_kernels", "p3_util"]
 # The definition that each holder gives for itself, and the file in which the comments on its traits explain it.
@@ -61,8 +63,8 @@ def section(page, heading):
 
 
 def marks(text):
-    """The rows of the tables of a section."""
-    for name, meaning in re.findall(r"^\|([^|\n]*)\|([^|\n]*)\|", text, re.M)[2:]:
+    """The rows of a table, without its head."""
+    for name, meaning in re.findall(r"^\| (?!In a clause)([^|\n]*)\|([^|\n]*)\|", text, re.M):
         words = {word for code in re.findall(r"`([^`]*)`", name) for word in defined(code)}
         yield Row(name.strip(), unlinked(meaning.strip()), words)
 
@@ -184,10 +186,10 @@ def read_aloud(text):
     return unlinked(parts).split("\n")
 
 
-def page(written, calling, known):
-    """The text of the page for the files that `erase` wrote. `calling` is the text of PAGE, and `known` has the rows of the
-    definitions. A name without a row is an error."""
-    tables = [list(marks(section(calling, READ))), list(known.values())]
+def page(written, calling, known, rarer=""):
+    """The text of the page for the files that `erase` wrote. `calling` is the text of PAGE, `known` has the rows of the
+    definitions, and `rarer` is the text of RARER. A name without a row is an error."""
+    tables = [[*marks(section(calling, READ)), *marks(rarer)], list(known.values())]
     for line in undefined(written, tables):
         raise Undefined(line)
     lines = [HEAD, "", *section(calling, READ).strip().split("\n\n")[0].split("\n"), "", *END.split("\n")]

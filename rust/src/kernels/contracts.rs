@@ -3,76 +3,60 @@
 //!
 //! A `requires` is what the caller has to prove, and an `ensures` is what the call promises. The word after `requires` or
 //! `ensures` is the clause's name. A function stands before its arguments, without brackets or commas: `rev k i` is the function
-//! `rev` of k and i. A clause sees a number as a whole number. It sees a slice or an array as the list of its items, a text as
-//! the list of its bytes, a map as the list of its pairs, and an iterator of a map as the list of what it has not yet returned.
+//! `rev` of k and i. A clause sees a number as a whole number, a slice or an array as the list of its items, a text as the list
+//! of its bytes, a map as the list of its pairs, and an iterator of a map as the list of what it has not yet returned.
 //!
 //! No function of `kernels` tests its `requires`. The repository has each definition as the checker reads it, in
 //! `docs/contracts.txt`.
 //!
 //! # A contract, word by word
 //!
-//! This call reverses a list by index bits and counts the swaps. It takes any *holder*, which is explained below:
+//! This call reverses a list by index bits:
 //!
 //! ```text
-//! pub fn reverse_counted<S: Places>(places: &mut S) -> u128
-//!     requires { IsReversible (length (S.items places.old)) }
-//!     ensures order { IsReversal (S.items places.old) (S.items places.new) }
-//!     ensures inverse { IsReversal (S.items places.new) (S.items places.old) }
-//!     ensures count { result ≡ reversal_swaps (length (S.items places.old)) }
-//!     ensures bound { result ≤ 3 * length (S.items places.old) / 2 }
-//!     ensures holder { S.same_holder result places.old places.new }
+//! pub fn reverse_slice_index_bits<F>(vals: &mut [F])
+//!     requires { IsReversible (length vals.old) }
+//!     ensures order { IsReversal vals.old vals.new }
+//!     ensures inverse { IsReversal vals.new vals.old }
 //! ```
 //!
-//! - `S` is the type of a *holder*, a value that gives access to a list by index. `S.items` is that
-//!   list. For a slice, the holder is `SlicePlaces::new(values)`.
 //! - `requires`: the length is zero or a power of two. The call does not test that.
-//! - `order`: the new list is the old one in the order of reversed index bits. `inverse`: the same call again restores the old
-//!   list.
-//! - `count` and `bound`: the result is `reversal_swaps` of the length, which is the exact number of swaps. It is at most 3n/2
-//!   for n items.
-//! - `holder`: the holder made exactly as many exchanges as the result says. (A swap is an exchange that is counted.) If the
-//!   holder borrows a slice, it still borrows the same slice, so the new list is in that slice.
+//! - `order`: the new list is the old one in the order of reversed index bits. `inverse`: the same call restores the old list.
 //!
 //! # Marks, and names of Rust and its std
 //!
 //! | In a clause | Meaning |
 //! |---|---|
 //! | `result` | what the call returns |
-//! | `x.now` | what is behind the `&` x |
-//! | `x.old`, `x.new` | what is behind the `&mut` x before the call, and after it |
+//! | `x.now`; `x.old`, `x.new` | what is behind the `&` x; what is behind the `&mut` x before the call, and after it |
 //! | `x.entry` | x itself, as it was passed to the call |
-//! | `x.0`, `x.1`, `x.2`, `x.3`, `(x, y)` | the parts of a tuple, and a pair |
-//! | `x.items`, `x.slice`, `x.values`, `x.holder`, `x.count`, `x.given` | the field of that name, even a private one |
 //! | `S.items x` | the list of a holder or a source x of the type S; in a trait this is written `items x` |
-//! | `A ≡ B` | A and B are equal |
-//! | `A → B`, `A ↔ B` | B holds if A holds; B holds exactly if A holds |
+//! | `A ≡ B`, `A → B`, `A ↔ B` | A and B are equal; B holds if A holds; B holds exactly if A holds |
 //! | `A × B`, `A ⊎ B`, `¬ A` | both hold; one of them holds; A does not hold |
-//! | `(x : T) → A`, `(x : T) × A` | A holds for every x of the type T; for some x |
-//! | `λ x. A` | the function that takes x to A |
-//! | `let x = A`, `in B` | B, in which x stands for A |
-//! | `f {x = A}` | f with A as its argument x, which is usually left out |
+//! | `(x : T) → A`, `(x : T) × A`, `λ x. A` | A holds for every x of the type T; for some x; the function that takes x to A |
 //! | `ℕ`, `List T`, `K × V` | the whole numbers from 0 on; the lists of items of T; the pairs of a K and a V |
 //! | `+`, `-`, `*`, `/`, `%`, `^` | of whole numbers without an upper limit: sum, difference (0 if it would be negative), product, quotient rounded down, remainder, power |
 //! | `<`, `≤`, `A == B` | A is less than B; at most B; the `bool` that says whether two numbers are equal |
 //! | `IsTrue b`, `IsFalse b` | b is `true`; b is `false` |
+//! | `[]`, `x ∷ xs`, `length xs` | the empty list; the list of x and then the items of xs; how many items a list has |
+//! | `slice_get xs i`, `slice_index xs i` | `Some` of item i of a list, or `None`; item i of a list of numbers, or 0 |
+//! | `IfOk r P`, `IfErr r P`, `IfSome r P`; `OnOk r A`, `OnErr r A` | P holds for the value in r, if r is an `Ok`; an `Err`; a `Some`; A holds, if r is an `Ok`; an `Err` |
+//! | `x.0`, `x.1`, `x.2`, `x.3`, `(x, y)` | the parts of a tuple, and a pair |
+//! | `x.items`, `x.slice`, `x.values`, `x.holder`, `x.count`, `x.given` | the field of that name, even a private one |
+//! | `K.eq` | the `==` of the type K |
 //! | `Some`, `None`, `true`, `false` | as in Rust |
-//! | `[]`, `x ∷ xs` | the empty list; the list of x and then the items of xs |
-//! | `length xs` | how many items a list has |
-//! | `slice_get xs i` | `Some` of item i of a list, or `None` |
-//! | `slice_index xs i` | item i of a list of numbers, or 0 |
+//! | `IsOk r`, `IsSome r` | r is an `Ok`; a `Some` |
+//! | `F.pre f x`, `F.post f x y` | `f(x)` may be called; `f(x)` may return y |
+//! | `let x = A`, `in B` | B, in which x stands for A |
+//! | `f {x = A}` | f with A as its argument x, which is usually left out |
 //! | `slice_set xs i v` | the list xs with v at place i |
 //! | `swap xs i j` | the list xs with the items at places i and j exchanged |
 //! | `string_bytes s` | the bytes of the text s |
 //! | `keys_of xs`, `values_of xs` | the first, or the second, of each pair of a list |
-//! | `IsOk r`, `IsSome r` | r is an `Ok`; a `Some` |
-//! | `IfOk r P`, `IfErr r P`, `IfSome r P` | P holds for the value in r, if r is an `Ok`; an `Err`; a `Some` |
-//! | `OnOk r A`, `OnErr r A` | A holds, if r is an `Ok`; if it is an `Err` |
 //! | `MatchResult r P Q` | P holds for the value in `Ok`, or Q for the error in `Err` |
 //! | `SomeIff r A v` | r is `Some` of v if A holds, and otherwise `None` |
 //! | `UnwrapsOrElse r P v` | v is the value in r, or, if r is `None`, a value for which P holds |
 //! | `option_copied r`, `option_copied_mut r`, `deref x` | `Some` of what is behind the reference in r, or `None`; what is behind the reference x |
-//! | `K.eq` | the `==` of the type K |
-//! | `F.pre f x`, `F.post f x y` | `f(x)` may be called; `f(x)` may return y |
 //! | `H.IsAlwaysCallable h`, `H.FnMut` | h may be called with every argument, again and again; what calls of a closure of type H do |
 //! | `ensures*`, `sem 𝓛 A` | a clause on memory: A holds for the borrow that the call returns, and for what this borrow leaves when it ends |
 //! | `K.row` | how memory holds a K |
