@@ -44,7 +44,7 @@ def main():
     for name, text in functions(mir):
         arguments = text.partition(") -> ")[0]
         lines.update(f"{name} has the number {number}" for number in numbers(text))
-        if re.search(r"SliceItems<|Parts<|\{closure@", arguments):
+        if re.search(r"unchecked::(holders::(?!SliceSource)\w+|Parts)<|\{closure@", arguments):
             lines.update(f"{name} has the slice {it}" for it in slices(text))
         lines.update(f"{name} calls {it}" for it in re.findall(r"\w*from_raw_parts\w*", text))
     print(*sorted(lines), sep="\n")

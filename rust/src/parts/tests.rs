@@ -466,5 +466,5 @@ fn each_part_alone() {
             puts_alone::<$bytes>();
         )* };
     }
-    sizes!(1 2 3 4 8 12 16 20 32 48 64);
+    sizes!(1 2 3 4 8 12 16 20 24 32 40 48 64);
 }

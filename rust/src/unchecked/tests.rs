@@ -601,6 +601,35 @@ mod refused {
         of_each_holder!(u32, Holder => refuses_blocks::<Holder>());
     }
 
+    /// Runs of the first 20 items of a longer list, by registers of two rows or of four.
+    #[cfg(not(feature = "checked"))]
+    #[test]
+    fn runs() {
+        use crate::kernels::registers::Runs;
+
+        fn check<T: Copy + Default, D: Register<T>>() {
+            let len = size_of::<D::Half>() / size_of::<T>();
+            let mut list = [T::default(); 40];
+            let mut places = SlicePlaces::new(&mut list[..20]);
+            let first = Runs::<T, D>::load(&places, 0);
+            for place in 0..=20 {
+                let is_outside = place + len > 20;
+                let call = |places: &mut _| Runs::<T, D>::store(places, place, first);
+                assert_eq!(
+                    panics(|| call(&mut places)),
+                    is_outside,
+                    "a store of {len} items at {place}"
+                );
+                let call = |places: &_| _ = Runs::<T, D>::load(places, place);
+                assert_eq!(panics(|| call(&places)), is_outside, "a load of {len} items at {place}");
+            }
+        }
+        check::<u8, Items<1>>();
+        check::<u16, Pair<Items<2>>>();
+        check::<u32, Pair<Items<4>>>();
+        check::<u64, Pair<Items<8>>>();
+    }
+
     #[test]
     fn puts_and_reads() {
         for i in [3, usize::MAX] {
