@@ -76,8 +76,8 @@ macro_rules! registers {
 
             #[inline(always)]
             fn from_half(first: Half) -> Self {
-                // SAFETY: a register is two halves, whose bytes may be unwritten.
-                Items(unsafe { transmute::<[Half; 2], Register>([first, MaybeUninit::uninit()]) })
+                // SAFETY: a register is two halves.
+                Items(unsafe { transmute::<[Half; 2], Register>([first, Half::zeroed()]) })
             }
 
             #[inline(always)]
