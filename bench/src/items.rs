@@ -10,10 +10,6 @@ use over_library::{reverse, reverse_rows, transpose};
 use overlay::{
     proved::reverse_slice_row_index_bits as reverse_rows, reverse_slice_index_bits as reverse, transpose::transpose,
 };
-#[cfg(not(any(library, parallel)))]
-use p3_util_proved::{
-    reverse_slice_index_bits as reverse, reverse_slice_row_index_bits as reverse_rows, transpose::transpose,
-};
 
 /// The calls of the static library. Their conditions hold for each case.
 #[cfg(library)]
@@ -177,11 +173,30 @@ impl<T: Item> Lists<T> {
                 )
             };
         }
+        /// The call of the case by the package with this name, in parts if there is a number of them.
+        macro_rules! call_by {
+            ($package:ident, $parts:expr) => {
+                match $parts {
+                    Some(parts) => parts_of!($package, parts),
+                    None => call_of!(
+                        $package::reverse_slice_index_bits,
+                        $package::reverse_slice_row_index_bits,
+                        $package::transpose::transpose,
+                    ),
+                }
+            };
+        }
+        // The package's calls are here once. If there were two arms for them, the compiler would merge these, and would not
+        // inline short calls any more.
         match contender {
-            Contender::Proved => match self.case.parts {
-                Some(parts) => parts_of!(p3_util_proved, parts),
-                None => call_of!(reverse, reverse_rows, transpose),
-            },
+            #[cfg(any(library, parallel))]
+            Contender::Proved => call_of!(reverse, reverse_rows, transpose),
+            Contender::Proved | Contender::Call => {
+                call_by!(
+                    p3_util_proved,
+                    self.case.parts.filter(|_| contender == Contender::Proved)
+                )
+            }
             #[cfg(original)]
             Contender::Original => call_of!(
                 p3_util::reverse_slice_index_bits,
@@ -190,20 +205,8 @@ impl<T: Item> Lists<T> {
             ),
             #[cfg(parallel)]
             Contender::Pairs => repeat(times, to, row_width, crate::pairs::reverse_rows),
-            Contender::Call => call_of!(
-                p3_util_proved::reverse_slice_index_bits,
-                p3_util_proved::reverse_slice_row_index_bits,
-                p3_util_proved::transpose::transpose,
-            ),
             #[cfg(before)]
-            Contender::Before => match self.case.parts {
-                Some(parts) => parts_of!(p3_util_before, parts),
-                None => call_of!(
-                    p3_util_before::reverse_slice_index_bits,
-                    p3_util_before::reverse_slice_row_index_bits,
-                    p3_util_before::transpose::transpose,
-                ),
-            },
+            Contender::Before => call_by!(p3_util_before, self.case.parts),
             Contender::Copy => repeat(times, to, from, copy),
             #[cfg(not(all(original, parallel, before)))]
             _ => unreachable!("the benchmark was built without this contender"),
