@@ -51,19 +51,8 @@ pub fn evaluation_kept<T: Copy>(evals: &mut [T], k: usize, i: usize) -> T
     evals[reverse_bits_len(i, k)]
 }
 
-/// Reorders the table, and returns the place to which the item at `i` goes. The number of bits
-/// follows from the length.
-#[tactic(auto, using(p3_util::proofs::Callers::item_moved))]
-pub fn place_after<T>(table: &mut [T], i: usize) -> usize
-    requires power { HasLog2 (length table.old) }
-    requires inside { i < length table.old }
-    ensures { slice_get table.new result ≡ slice_get table.old i }
-{
-    reverse_slice_index_bits(table);
-    reverse_bits(i, table.len())
-}
-
-/// The same with the logarithm of the length.
+/// Reorders the table, and returns the place to which the item at `i` goes. The number of bits is
+/// the logarithm of the length.
 #[tactic(auto, using(p3_util::proofs::Callers::item_moved))]
 pub fn place_by_log<T>(table: &mut [T], i: usize) -> usize
     requires power { HasLog2 (length table.old) }
