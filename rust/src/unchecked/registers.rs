@@ -76,8 +76,10 @@ macro_rules! registers {
 
             #[inline(always)]
             fn from_half(first: Half) -> Self {
-                // SAFETY: a register is two halves.
-                Items(unsafe { transmute::<[Half; 2], Register>([first, Half::zeroed()]) })
+                let mut register = Register::uninit();
+                // SAFETY: a register is two halves, whose bytes may be unwritten.
+                unsafe { register.as_mut_ptr().cast::<Half>().write_unaligned(first) }
+                Items(register)
             }
 
             #[inline(always)]
