@@ -21,7 +21,8 @@ HEAD = """\
 # Below the name of a source are its contracts. All structs are listed, with their private fields, since a clause or a
 # definition may name them. The lines below an implementation of a trait say what a clause sees of that type. Sources on the
 # parts of a call are listed with the contracts that only their crate sees, because what is proved of parts stands in these.
-# The crate p3_util_vectors has only tests, so it is listed with its definitions alone.
+# The crate p3_util_vectors has only tests, so it is listed with its definitions alone. What the root of a crate re-exports,
+# such as `p3_util::NoRoom`, is below its src/lib.rt.
 #
 # The contracts of a crate are followed by its definitions and, in p3_util, by the lemmas for callers without their proofs.
 # Below these are the crate's imports: the modules that the names in its contracts, definitions and lemmas come from. Your
@@ -92,7 +93,9 @@ def listed(path, named=None):
     with open(path, encoding="utf-8") as text:
         source = read(path) if path.endswith(".rt") else text.read()
     if path.endswith(".rt"):
-        lines = list(contracts(source, ("pub", "pub(crate)") if re.match(PARTS, path) else ("pub",)))
+        exported = re.findall(r"^pub use [^;]*;", source, re.M) if path.endswith("/src/lib.rt") else []
+        lines = [line(2, re.sub(r"(?<={)\s+|,?\s+(?=})", "", said)) for said in exported]
+        lines += contracts(source, ("pub", "pub(crate)") if re.match(PARTS, path) else ("pub",))
     elif "/proofs/" in path:
         lines = [f"  {said}" for said in statements(source, named)]
     else:
