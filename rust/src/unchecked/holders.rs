@@ -236,8 +236,8 @@ impl<F> Places for SliceItems<'_, F> {
     #[inline(always)]
     fn expect_tiles(&self, x: [usize; 8], y: [usize; 8]) {
         let size = size_of::<F>();
-        // Items of 1 byte take no less time if they are fetched early.
-        if size == 1 || self.len * size < FAR_BYTES {
+        // Items of 1 byte take no less time if they are fetched early. Tiles of large items fill a cache.
+        if !(2..=128).contains(&size) || self.len * size < FAR_BYTES {
             return;
         }
         for row in x.into_iter().chain(y) {

@@ -137,6 +137,14 @@ where
         Some(number) if number < 8 => (row(8 + k), number),
         number => (row(k), number.unwrap() - 8),
     });
+    // In a list that does not fit in a cache, tiles are fetched early. That may read no place, since these cannot be read.
+    let mut far = Runs::<N>::new(1 + (1_usize << 23).div_ceil(GAP * N), 1, ends_with_page);
+    let list = far.list();
+    let outside = [1, list.len(), list.len() - GAP / 2, usize::MAX / N - 7];
+    for first in outside {
+        H::hold(list).expect_tiles(from_fn(|row| first + row), from_fn(|row| first.wrapping_sub(row)));
+    }
+
     let mut tile = Runs::<N>::new(8, 8, ends_with_page);
     H::hold(tile.list()).turn_tile(from_fn(|r| GAP * r));
     tile.check(|run, k| (k, run));
