@@ -161,14 +161,8 @@ mod checked;
 #[allow(clippy::len_without_is_empty, reason = "a kernel asks a holder for its length alone")]
 #[allow(clippy::manual_is_multiple_of, reason = "the proofs are of `%`")]
 #[allow(clippy::needless_range_loop, reason = "a tile is reached by row and column")]
-#[allow(
-    clippy::only_used_in_recursion,
-    reason = "the bound of a recursion, by which it is proved to end"
-)]
-#[cfg_attr(
-    feature = "checked",
-    allow(dead_code, reason = "its holders have no registers")
-)]
+#[allow(clippy::only_used_in_recursion, reason = "by the bound, a recursion ends")]
+#[cfg_attr(feature = "checked", allow(dead_code, reason = "no registers"))]
 #[rustfmt::skip]
 pub mod kernels;
 pub mod linear_map;

@@ -224,65 +224,40 @@ impl<F> ReversalPart<'_, F> {
     }
 }
 
-impl<'a, T> Iterator for TransposeParts<'a, T> {
-    type Item = TransposePart<'a, T>;
+/// What the parts of both calls have in common.
+macro_rules! iterators {
+    ($($parts:ident $part:ident)*) => {$(
+        impl<'a, T> Iterator for $parts<'a, T> {
+            type Item = $part<'a, T>;
 
-    fn next(&mut self) -> Option<TransposePart<'a, T>> {
-        self.0.split_first().map(TransposePart)
-    }
+            fn next(&mut self) -> Option<$part<'a, T>> {
+                self.0.split_first().map($part)
+            }
 
-    fn size_hint(&self) -> (usize, Option<usize>) {
-        self.0.numbers().size_hint()
-    }
+            fn size_hint(&self) -> (usize, Option<usize>) {
+                self.0.numbers().size_hint()
+            }
+        }
+
+        impl<T> ExactSizeIterator for $parts<'_, T> {}
+
+        impl<T> FusedIterator for $parts<'_, T> {}
+
+        impl<T> fmt::Debug for $parts<'_, T> {
+            fn fmt(&self, f: &mut fmt::Formatter<'_>) -> fmt::Result {
+                f.debug_struct(stringify!($parts)).field("left", &self.len()).finish()
+            }
+        }
+
+        impl<T> fmt::Debug for $part<'_, T> {
+            fn fmt(&self, f: &mut fmt::Formatter<'_>) -> fmt::Result {
+                f.debug_struct(stringify!($part)).field("number", &self.0.numbers().start).finish()
+            }
+        }
+    )*};
 }
 
-impl<'a, F> Iterator for ReversalParts<'a, F> {
-    type Item = ReversalPart<'a, F>;
-
-    fn next(&mut self) -> Option<ReversalPart<'a, F>> {
-        self.0.split_first().map(ReversalPart)
-    }
-
-    fn size_hint(&self) -> (usize, Option<usize>) {
-        self.0.numbers().size_hint()
-    }
-}
-
-impl<T> ExactSizeIterator for TransposeParts<'_, T> {}
-
-impl<F> ExactSizeIterator for ReversalParts<'_, F> {}
-
-impl<T> FusedIterator for TransposeParts<'_, T> {}
-
-impl<F> FusedIterator for ReversalParts<'_, F> {}
-
-impl<T> fmt::Debug for TransposeParts<'_, T> {
-    fn fmt(&self, f: &mut fmt::Formatter<'_>) -> fmt::Result {
-        f.debug_struct("TransposeParts").field("left", &self.len()).finish()
-    }
-}
-
-impl<T> fmt::Debug for TransposePart<'_, T> {
-    fn fmt(&self, f: &mut fmt::Formatter<'_>) -> fmt::Result {
-        f.debug_struct("TransposePart")
-            .field("number", &self.0.numbers().start)
-            .finish()
-    }
-}
-
-impl<F> fmt::Debug for ReversalParts<'_, F> {
-    fn fmt(&self, f: &mut fmt::Formatter<'_>) -> fmt::Result {
-        f.debug_struct("ReversalParts").field("left", &self.len()).finish()
-    }
-}
-
-impl<F> fmt::Debug for ReversalPart<'_, F> {
-    fn fmt(&self, f: &mut fmt::Formatter<'_>) -> fmt::Result {
-        f.debug_struct("ReversalPart")
-            .field("number", &self.0.numbers().start)
-            .finish()
-    }
-}
+iterators! { TransposeParts TransposePart ReversalParts ReversalPart }
 
 #[cfg(test)]
 mod tests;

@@ -79,7 +79,7 @@ pub(crate) fn transpose<T: Copy>(input: &[T], output: &mut [T], width: usize, he
             output.copy_from_slice(input);
         } else {
             let matrix = Matrix::new(SliceSource::new(input), width, height);
-            dispatch::transpose(SliceCells::new(output), matrix, None);
+            dispatch::transpose(SliceCells::new(output), matrix);
         }
     }
     fits
@@ -125,11 +125,9 @@ pub(crate) fn parts_of_transpose<'a, T: Copy>(
     let count = if size_of::<T>() == 0 { 0 } else { plan.count() };
     // If the columns are cut, each region fills a run of this many cells. The last region may fill fewer.
     let share = if count == 0 { 0 } else { plan.items(0) };
-    Some(Parts {
-        items: PartItems::in_shares(output, share),
-        plan: (Matrix::new(source, width, height), plan),
-        numbers: 0..count,
-    })
+    let (items, numbers) = (PartItems::in_shares(output, share), 0..count);
+    let plan = (Matrix::new(source, width, height), plan);
+    Some(Parts { items, plan, numbers })
 }
 
 /// A reversal that is cut into parts. The plan is one of places of `place` bytes each: of items, of whole rows, or of bytes.
@@ -168,11 +166,8 @@ pub(crate) fn parts_of_reversal<F>(
     let len = vals.len();
     // The plan is made for as many places as `vals` has. This is the clause `plan` of `ReversalPlan::exchange`.
     let (plan, count) = Reversal::new(len, size_of::<F>(), row_width, parts, one_part)?;
-    Some(Parts {
-        items: PartItems::in_shares(vals, len),
-        plan,
-        numbers: 0..count,
-    })
+    let (items, numbers) = (PartItems::in_shares(vals, len), 0..count);
+    Some(Parts { items, plan, numbers })
 }
 
 impl<T, P: Copy> Parts<'_, T, P> {
@@ -181,11 +176,8 @@ impl<T, P: Copy> Parts<'_, T, P> {
         // `Range::next` yields each number once, so no two parts have the same number, and parts with different numbers
         // have no place in common. Therefore the part may have a share of `items` while other parts have theirs.
         let number = self.numbers.next()?;
-        Some(Parts {
-            items: self.items.share(),
-            plan: self.plan,
-            numbers: number..number + 1,
-        })
+        let (items, plan, numbers) = (self.items.share(), self.plan, number..number + 1);
+        Some(Parts { items, plan, numbers })
     }
 
     /// The numbers of the remaining parts.
@@ -203,7 +195,7 @@ impl<T: Copy> Parts<'_, T, Regions<'_, T>> {
         let (matrix, plan) = self.plan;
         let matrix = Matrix::new(SliceSource::new(matrix.source), matrix.width, matrix.height);
         self.numbers
-            .for_each(|number| dispatch::transpose(self.items.share(), matrix, Some((plan, number))));
+            .for_each(|number| dispatch::put(self.items.share(), matrix, (plan, number)));
     }
 }
 

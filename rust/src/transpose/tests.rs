@@ -60,7 +60,11 @@ fn blocks_of_small_items() {
             turns,
             "{width} by {height}"
         );
-        assert_eq!(strips::<u64>(width, height) == LONG_ITEMS, turns, "{width} by {height}");
+        assert_eq!(
+            strips::<u64>(width, height) == Strips::high(LONG_ITEMS_SIDE),
+            turns,
+            "{width} by {height}"
+        );
     }
     for (width, height) in [(1, 32_769), (182, 181), (512, 512), (1025, 1024), (262_144, 12)] {
         assert_eq!(

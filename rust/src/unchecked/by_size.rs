@@ -64,19 +64,24 @@ pub(super) fn reverse_rows<F>(items: SliceItems<F>, row_width: usize) {
     }
 }
 
-/// Transposes a matrix, or puts the region of `part`. A matrix of few items is transposed in place of this call, since a
-/// call of another crate would take as long as that.
+/// Transposes a matrix. A matrix of few items is transposed in place of this call, since a call of another crate would take
+/// as long as that.
 #[inline(always)]
-pub(super) fn transpose<T: Copy>(cells: SliceItems<T>, matrix: Matrix<SliceSource<T>>, part: Option<Part>) {
-    match part {
-        Some(part) if const { by_size!(size_of::<T>()) } => {
-            put_part(cells.in_bytes(), in_bytes(matrix), size_of::<T>(), part);
-        }
-        _ => by_size!(
-            const { size_of::<T>() },
-            holder = cells => by_type::transpose(holder, in_bytes(matrix), None),
-            _ => by_type::transpose(cells, matrix, part)
-        ),
+pub(super) fn transpose<T: Copy>(cells: SliceItems<T>, matrix: Matrix<SliceSource<T>>) {
+    by_size!(
+        const { size_of::<T>() },
+        holder = cells => by_type::transpose(holder, in_bytes(matrix)),
+        _ => by_type::transpose(cells, matrix)
+    );
+}
+
+/// Puts a region of a matrix.
+#[inline(always)]
+pub(super) fn put<T: Copy>(cells: SliceItems<T>, matrix: Matrix<SliceSource<T>>, part: Part) {
+    if const { by_size!(size_of::<T>()) } {
+        put_part(cells.in_bytes(), in_bytes(matrix), size_of::<T>(), part);
+    } else {
+        by_type::put(cells, matrix, part);
     }
 }
 
@@ -132,10 +137,13 @@ fn exchange_part(list: SliceItems<Bytes<1>>, Reversal { plan, place }: Reversal,
 /// Puts a region, for items of a size in the table. If it is the whole matrix, this is the call.
 #[inline(never)]
 fn put_part(cells: SliceItems<Bytes<1>>, matrix: Matrix<SliceSource<Bytes<1>>>, size: usize, part: Part) {
-    let part = (part.0.count() > 1).then_some(part);
     by_size!(
         size,
-        holder = cells => by_type::transpose(holder, in_bytes(matrix), part),
+        holder = cells => if part.0.count() == 1 {
+            by_type::transpose(holder, in_bytes(matrix));
+        } else {
+            by_type::put(holder, in_bytes(matrix), part);
+        },
         _ => unreachable!("this size has no kernels here")
     );
 }

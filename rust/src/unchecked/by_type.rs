@@ -1,16 +1,14 @@
 //! Kernels on holders of slices, compiled for each type of item. This file calls kernels, and trusts that the precondition
 //! of each was checked.
 
-use core::marker::PhantomData;
-
 use super::{Part, PartItems, Reversal};
 use crate::kernels::places::{Cells, Places, Source};
 use crate::kernels::reverse::{self, RowDigits, reverse_short};
-use crate::kernels::transpose::{Matrix, Strips, transpose_matrix};
+use crate::kernels::transpose::{Matrix, transpose_matrix};
 use crate::transpose::strips_by_size;
 
 /// An item of at least this many bytes is long. It is exchanged as a run of bytes, which takes hardly longer, and is put
-/// from a reference.
+/// by its index.
 pub(super) const LONG_BYTES: usize = 1024;
 
 /// Reverses items by index bits. Their number is zero or a power of two.
@@ -25,25 +23,26 @@ pub(super) fn reverse_rows(items: impl Places, row_width: usize) {
     let _ = reverse::reverse_rows(items, rows);
 }
 
-/// Transposes a matrix, or puts the region of `part` by the strips of the whole matrix. The source has a slice. A long item
-/// is put from a reference to it.
+/// Transposes a matrix. Long items are put by their indices.
 #[inline(always)]
-pub(super) fn transpose<R: Source + Copy>(cells: impl Cells<Item = R::Item>, matrix: Matrix<R>, part: Option<Part>) {
+pub(super) fn transpose<R: Source + Copy>(cells: impl Cells<Item = R::Item>, matrix: Matrix<R>) {
     let strips = strips_by_size(matrix);
     if const { size_of::<R::Item>() < LONG_BYTES } {
-        return put(cells, matrix, part, strips);
+        let _ = transpose_matrix(cells, matrix, strips);
+    } else {
+        let indices = Matrix::new(Indices(matrix.source.len()), matrix.width, matrix.height);
+        let _ = transpose_matrix(ByIndex(cells, matrix.source), indices, strips);
     }
-    let source = References(matrix.source.as_slice().expect("no slice"));
-    let matrix = Matrix::new(source, matrix.width, matrix.height);
-    put(Pointees(cells, PhantomData), matrix, part, strips);
 }
 
-/// Runs the kernel.
+/// Puts a region in the same way, by the strips of the whole matrix.
 #[inline(always)]
-fn put<R: Source + Copy>(cells: impl Cells<Item = R::Item>, matrix: Matrix<R>, part: Option<Part>, strips: Strips) {
-    match part {
-        Some((plan, number)) => _ = plan.put(cells, matrix.source, number, strips),
-        None => _ = transpose_matrix(cells, matrix, strips),
+pub(super) fn put<R: Source + Copy>(cells: impl Cells<Item = R::Item>, matrix: Matrix<R>, (plan, number): Part) {
+    let (strips, source) = (strips_by_size(matrix), matrix.source);
+    if const { size_of::<R::Item>() < LONG_BYTES } {
+        let _ = plan.put(cells, source, number, strips);
+    } else {
+        let _ = plan.put(ByIndex(cells, source), Indices(source.len()), number, strips);
     }
 }
 
@@ -59,35 +58,36 @@ pub(super) fn exchange<F>(items: PartItems<F>, reversal: Reversal, number: usize
     let _ = reversal.plan.exchange(items, number);
 }
 
-/// The items of a slice, each as a reference to it. A build without optimization has copies of an item on the stack in each
-/// function that the item goes through. A large item would fill the stack.
+/// A list of this length, of which each item is its own index. A build without optimization has copies of an item on the
+/// stack in each function that the item goes through. Large items would fill the stack, and their indices do not.
 #[derive(Clone, Copy)]
-struct References<'a, T>(&'a [T]);
+struct Indices(usize);
 
-impl<'a, T> Source for References<'a, T> {
-    type Item = &'a T;
+impl Source for Indices {
+    type Item = usize;
 
     fn len(&self) -> usize {
-        self.0.len()
+        self.0
     }
 
-    fn at(&self, i: usize) -> &'a T {
-        &self.0[i]
+    fn at(&self, i: usize) -> usize {
+        i
     }
 }
 
-/// Cells that are given references, and put copies of the items.
-struct Pointees<'a, C>(C, PhantomData<&'a ()>);
+/// Cells that are given the index of an item in a source, and put the item. A kernel puts each cell once, and what it puts is
+/// an item of [`Indices`]. So each index is below the length of the source.
+struct ByIndex<C, R>(C, R);
 
-impl<'a, C: Cells<Item: 'a>> Cells for Pointees<'a, C> {
-    type Item = &'a C::Item;
+impl<R: Source, C: Cells<Item = R::Item>> Cells for ByIndex<C, R> {
+    type Item = usize;
 
     fn len(&self) -> usize {
         self.0.len()
     }
 
     #[inline(never)]
-    fn put(&mut self, i: usize, v: &'a C::Item) {
-        self.0.put(i, *v);
+    fn put(&mut self, i: usize, from: usize) {
+        self.0.put(i, self.1.at(from));
     }
 }

@@ -12,8 +12,16 @@ use super::registers;
 use crate::kernels::places::{Block, Cells, Places, Source};
 use crate::kernels::registers::{self as squares, Register, Runs};
 
-/// Whether this processor moves unaligned bytes as fast as aligned ones. Otherwise each item is moved as its type says.
-pub(super) const MOVES_BYTES: bool = cfg!(any(target_arch = "x86_64", target_arch = "aarch64"));
+/// Whether this processor moves unaligned bytes as fast as aligned ones. Otherwise each item is moved as its type says. On
+/// some systems, rustc moves unaligned bytes of aarch64 one by one.
+pub(super) const MOVES_BYTES: bool = cfg!(target_arch = "x86_64")
+    || cfg!(target_arch = "aarch64")
+        && !cfg!(any(
+            target_os = "none",
+            target_os = "hermit",
+            target_os = "nuttx",
+            target_os = "teeos"
+        ));
 
 /// The items of a slice, as places or as cells, for one kernel or for one part.
 ///
@@ -128,34 +136,26 @@ unsafe fn move_bytes<const BACK: bool>(from: *mut u8, to: *mut u8, len: usize) {
     // SAFETY: each part is within the `len` bytes.
     unsafe {
         while len - done >= 16 {
-            move_part::<registers::Register, BACK>(from.add(done), to.add(done));
-            done += 16;
+            done += move_part::<registers::Register, BACK>(from.add(done), to.add(done), 16);
             // Without the fence, the compiler would join two parts of an item. With AVX, two registers are one.
             if !BACK && len >= 32 && (done % 32 == 0 || cfg!(not(target_feature = "avx"))) {
                 compiler_fence(Ordering::SeqCst);
             }
         }
-        if len & 8 != 0 {
-            move_part::<registers::Half, BACK>(from.add(done), to.add(done));
-            done += 8;
-        }
-        if len & 4 != 0 {
-            move_part::<MaybeUninit<u32>, BACK>(from.add(done), to.add(done));
-            done += 4;
-        }
-        if len & 2 != 0 {
-            move_part::<MaybeUninit<u16>, BACK>(from.add(done), to.add(done));
-            done += 2;
-        }
-        if len & 1 != 0 {
-            move_part::<MaybeUninit<u8>, BACK>(from.add(done), to.add(done));
-        }
+        done += move_part::<registers::Half, BACK>(from.add(done), to.add(done), len);
+        done += move_part::<MaybeUninit<u32>, BACK>(from.add(done), to.add(done), len);
+        done += move_part::<MaybeUninit<u16>, BACK>(from.add(done), to.add(done), len);
+        move_part::<MaybeUninit<u8>, BACK>(from.add(done), to.add(done), len);
     }
 }
 
-/// Does the same as [`move_bytes`] for one part, which may have bytes that were never written.
+/// Does the same as [`move_bytes`] for one part, if its size is a digit of `len` that is set. Returns how many bytes it moved.
+/// Some of them may never have been written.
 #[inline(always)]
-unsafe fn move_part<P, const BACK: bool>(from: *mut u8, to: *mut u8) {
+unsafe fn move_part<P, const BACK: bool>(from: *mut u8, to: *mut u8, len: usize) -> usize {
+    if len & size_of::<P>() == 0 {
+        return 0;
+    }
     let (from, to) = (from.cast::<P>(), to.cast::<P>());
     // SAFETY: this is what the caller promises.
     unsafe {
@@ -165,12 +165,12 @@ unsafe fn move_part<P, const BACK: bool>(from: *mut u8, to: *mut u8) {
         }
         to.write_unaligned(part);
     }
+    size_of::<P>()
 }
 
 impl<F> Places for SliceItems<'_, F> {
     type Item = F;
 
-    #[inline(always)]
     fn len(&self) -> usize {
         self.len
     }
@@ -258,7 +258,6 @@ const FAR_BYTES: usize = 1 << 23;
 impl<T: Copy> Cells for SliceItems<'_, T> {
     type Item = T;
 
-    #[inline(always)]
     fn len(&self) -> usize {
         self.len
     }
@@ -309,17 +308,14 @@ impl<'a, T, D: Register<T>> InRegisters<'a, T, D> {
 
     #[inline(always)]
     pub(super) fn new(items: SliceItems<'a, T>) -> Self {
-        InRegisters {
-            items,
-            rows: PhantomData,
-        }
+        let rows = PhantomData;
+        InRegisters { items, rows }
     }
 }
 
 impl<T, D: Register<T>> Places for InRegisters<'_, T, D> {
     type Item = T;
 
-    #[inline(always)]
     fn len(&self) -> usize {
         self.items.len
     }
@@ -334,7 +330,6 @@ impl<T, D: Register<T>> Places for InRegisters<'_, T, D> {
         self.items.exchange_apart(i, j);
     }
 
-    #[inline(always)]
     fn exchange_runs(&mut self, i: usize, j: usize, len: usize) {
         self.items.exchange_runs(i, j, len);
     }
@@ -358,7 +353,6 @@ impl<T, D: Register<T>> Places for InRegisters<'_, T, D> {
 impl<T: Copy, D: Register<T>> Cells for InRegisters<'_, T, D> {
     type Item = T;
 
-    #[inline(always)]
     fn len(&self) -> usize {
         self.items.len
     }
@@ -387,13 +381,11 @@ pub(super) struct SliceSource<'a, T> {
     items: &'a [T],
 }
 
-impl<'a, T> SliceSource<'a, T> {
+impl<'a, T: Copy> SliceSource<'a, T> {
     pub(super) fn new(items: &'a [T]) -> Self {
         SliceSource { items }
     }
-}
 
-impl<'a, T: Copy> SliceSource<'a, T> {
     /// The bytes of the same items, `N` at a time.
     #[inline(always)]
     pub(super) fn in_bytes<const N: usize>(self) -> SliceSource<'a, Bytes<N>> {
@@ -406,7 +398,6 @@ impl<'a, T: Copy> SliceSource<'a, T> {
 impl<T: Copy> Source for SliceSource<'_, T> {
     type Item = T;
 
-    #[inline(always)]
     fn len(&self) -> usize {
         self.items.len()
     }

@@ -48,7 +48,7 @@ fn put_from<T: Copy>(mut parts: Parts<T, Regions<T>>, source: impl Source<Item =
     let matrix = Matrix::new(source, matrix.width, matrix.height);
     parts
         .numbers
-        .for_each(|number| by_type::transpose(parts.items.share(), matrix, Some((plan, number))));
+        .for_each(|number| by_type::put(parts.items.share(), matrix, (plan, number)));
 }
 
 #[test]
@@ -104,7 +104,7 @@ fn strips_of_the_parts() {
 fn strips_of_calls_on_slices() {
     fn check<T: Copy + Default>(width: usize, height: usize) {
         let by_call = reads::<T>(width * height, |_, output, source| {
-            by_type::transpose(SliceCells::new(output), Matrix::new(source, width, height), None);
+            by_type::transpose(SliceCells::new(output), Matrix::new(source, width, height));
         });
         let by_strips = reads::<T>(width * height, |_, output, source| {
             let matrix = Matrix::new(source, width, height);

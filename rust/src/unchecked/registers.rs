@@ -11,37 +11,44 @@
 
 use core::mem::{MaybeUninit, transmute};
 
+use super::holders::MOVES_BYTES;
 use crate::kernels::registers;
 
 #[cfg(all(target_arch = "aarch64", target_feature = "neon", target_endian = "little"))]
-use core::arch::aarch64::uint8x16_t as Vector;
+mod processor {
+    pub(super) use core::arch::aarch64::uint8x16_t as Vector;
+    pub(super) type Half = f64;
+    pub(super) const HAS_REGISTERS: bool = true;
+}
+
+/// As a float, a half stays in a vector register.
 #[cfg(all(target_arch = "x86_64", target_feature = "sse2"))]
-use core::arch::x86_64::__m128i as Vector;
-/// On other targets a register is only a name for 16 bytes.
+mod processor {
+    pub(super) use core::arch::x86_64::__m128i as Vector;
+    pub(super) type Half = f64;
+    pub(super) const HAS_REGISTERS: bool = true;
+}
+
+/// On other targets a register is only a name for 16 bytes. A half is an integer: where floats are not in vector registers,
+/// a move may change the bits of one that is no number.
 #[cfg(not(any(
     all(target_arch = "aarch64", target_feature = "neon", target_endian = "little"),
     all(target_arch = "x86_64", target_feature = "sse2")
 )))]
-type Vector = u128;
+mod processor {
+    pub(super) type Vector = u128;
+    pub(super) type Half = u64;
+    pub(super) const HAS_REGISTERS: bool = false;
+}
 
 /// Whether items are transposed in registers here. Miri does not support assembly.
-pub(crate) const USES_REGISTERS: bool = cfg!(all(
-    not(miri),
-    any(
-        all(
-            target_arch = "aarch64",
-            target_feature = "neon",
-            target_endian = "little"
-        ),
-        all(target_arch = "x86_64", target_feature = "sse2")
-    )
-));
+pub(crate) const USES_REGISTERS: bool = processor::HAS_REGISTERS && MOVES_BYTES && cfg!(not(miri));
 
 /// 16 bytes.
-pub(super) type Register = MaybeUninit<Vector>;
+pub(super) type Register = MaybeUninit<processor::Vector>;
 
-/// 8 bytes. As a float they stay in a vector register.
-pub(super) type Half = MaybeUninit<f64>;
+/// 8 bytes.
+pub(super) type Half = MaybeUninit<processor::Half>;
 
 /// A register of items of `N` bytes.
 #[derive(Clone, Copy)]
