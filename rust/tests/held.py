@@ -4,8 +4,8 @@ compares the output with what is right.
     held.py FILE    FILE is the package's MIR, as rustc writes it with full paths
 
 - Bytes of an item may be unwritten, or part of a pointer. So they are read and written as `MaybeUninit`, never as a
-  number. Each function is printed that has a value of another numeric type than `usize`, or a pointer to numbers. A
-  pointer to bytes is left out, since it only says where they are.
+  number. Each function is printed that has a value of another numeric type than `usize`, or a pointer to a `usize`. A
+  pointer to another number is left out, since what is read through it is a value of that type.
 - The parts of a call share a list. So a function that has a holder of the list, or a part, makes no slice of it. Each
   such function is printed that has a slice at all, and each function that makes a slice from a pointer."""
 import re
@@ -22,10 +22,10 @@ def functions(mir):
 
 
 def numbers(text):
-    """The numeric types of a text, without those of `MaybeUninit` and those of pointers to bytes. For `usize`, only where
-    memory is read as one."""
+    """The numeric types of a text, without those of `MaybeUninit` and those of pointers. For `usize`, only where memory is
+    read as one."""
     text = re.sub(rf"MaybeUninit(::)?<{NUMBER}>", "MaybeUninit", text)
-    text = re.sub(r"\*(mut|const) [iu]8\b|>::cast::<[iu]8>", "pointer", text)
+    text = re.sub(rf"\*(mut|const) {NUMBER}|>::cast::<{NUMBER}>", "pointer", text)
     return re.findall(rf"(?<![\w:]){NUMBER}|\*(?:mut|const) usize|(?:cast|move_part)::<usize", text)
 
 
