@@ -6,7 +6,7 @@
 //! | this one | check a precondition, make a holder, and give out each part once | the contracts of the kernels |
 //! | `by_size.rs`, `by_type.rs` | choose the instance of a kernel | that the precondition was checked |
 //! | `holders.rs` | unsafe code: move items by index, without a check | that each index meets the contract of its step |
-//! | `registers.rs` | unsafe code: read, write and interleave registers | the same |
+//! | `registers.rs` | unsafe code: interleave and halve registers | nothing: each of its functions is defined for all registers |
 //!
 //! It is proved that a kernel whose own precondition holds meets the preconditions of `exchange`, `put` and `at`, for
 //! every holder. So the holders check no index. `reverse`, `reverse_rows`, `transpose`, `parts_of_transpose` and

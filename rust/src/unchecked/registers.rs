@@ -1,7 +1,6 @@
 //! The vector registers of x86-64 and of aarch64, in which tiles and blocks of items of 1, 2, 4 and 8 bytes are
-//! transposed. This file says how a register is interleaved with another, and how it is halved. Proved code
-//! (`kernels/registers.rs`) decides which registers, and at which places they are read and written. Only `holders.rs` uses
-//! this file.
+//! transposed. This file says how a register is interleaved with another, and how it is halved. `holders.rs` reads and
+//! writes halves. Proved code (`kernels/registers.rs`) decides which ones, and at which places.
 //!
 //! A register holds whole items. Items may be pointers, or have bytes that were never written, so a register must never
 //! be read as a number. It is a [`MaybeUninit`]: a copy of it keeps each byte as it is, and keeps the provenance of
