@@ -191,6 +191,7 @@ impl<T: Item> Lists<T> {
         match contender {
             #[cfg(any(library, parallel))]
             Contender::Proved => call_of!(reverse, reverse_rows, transpose),
+            #[allow(unreachable_patterns, reason = "the arm above may have the first")]
             Contender::Proved | Contender::Call => {
                 call_by!(
                     p3_util_proved,
