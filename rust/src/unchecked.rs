@@ -26,6 +26,7 @@ use core::ops::Range;
 use crate::kernels::parts::{ReversalPlan, TransposePlan};
 use crate::kernels::reverse::fits_rows;
 use crate::kernels::transpose::{Matrix, fits_matrix};
+use crate::transpose::strips_by_size;
 
 #[cfg(feature = "checked")]
 use crate::checked::{PartItems, SliceCells, SlicePlaces, SliceSource};
@@ -79,7 +80,7 @@ pub(crate) fn transpose<T: Copy>(input: &[T], output: &mut [T], width: usize, he
             output.copy_from_slice(input);
         } else {
             let matrix = Matrix::new(SliceSource::new(input), width, height);
-            dispatch::transpose(SliceCells::new(output), matrix);
+            dispatch::transpose(strips_by_size(matrix), SliceCells::new(output), matrix);
         }
     }
     fits
@@ -102,8 +103,8 @@ pub(crate) struct Parts<'a, T, P> {
     numbers: Range<usize>,
 }
 
-/// A part of a transpose: a plan, and the number of a region.
-type Part = (TransposePlan, usize);
+/// A part of a transpose: a plan, the number of a region, and the order in which the region is put.
+type Part<O> = (TransposePlan, usize, O);
 
 /// A matrix that is transposed in regions.
 pub(crate) type Regions<'a, T> = (Matrix<&'a [T]>, TransposePlan);
@@ -195,7 +196,7 @@ impl<T: Copy> Parts<'_, T, Regions<'_, T>> {
         let (matrix, plan) = self.plan;
         let matrix = Matrix::new(SliceSource::new(matrix.source), matrix.width, matrix.height);
         self.numbers
-            .for_each(|number| dispatch::put(self.items.share(), matrix, (plan, number)));
+            .for_each(|number| dispatch::put((plan, number, strips_by_size(matrix)), self.items.share(), matrix));
     }
 }
 

@@ -16,6 +16,7 @@ pub mod Patches
 pub mod Plans
 pub mod Powers
 pub mod Region
+pub mod RegisterLines
 pub mod Registers
 pub mod Reversal
 pub mod SideBySide

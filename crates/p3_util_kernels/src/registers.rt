@@ -30,6 +30,8 @@ ghost use Rattle.p3_util_kernels.specs.BlockPut.{BlockFits, IsBlockPut, block_it
 ghost use Rattle.p3_util_kernels.specs.Registers.{AreApart, AreColumns, AreInside, AreInterleaved, AreLoaded, AreStored, ColumnsPut, IsNextStage, IsSide, IsRunStored, IsStored, RowsExchanged, SquaresTurned, items_of_four, length_of_pair};
 ghost use Rattle.p3_util_kernels.specs.Exchanged.{AreTiles, IsTile, TileTurned, TilesExchanged};
 
+pub(crate) mod lines;
+
 use crate::places::Block;
 
 /// Some items, one after another, as many for each register of a type.
@@ -77,6 +79,14 @@ pub(crate) trait Runs<T, D: Register<T>> {
     fn store(&mut self, place: usize, run: D::Half)
         requires { place + D.half ≤ length (items self.old) }
         ensures { IsRunStored D.half place (D.half_items run) (items self.old) (items self.new) };
+
+    /// Does the same as `store`, for a run that is read or written again only after the call of the kernel.
+    fn store_last(&mut self, place: usize, run: D::Half)
+        requires { place + D.half ≤ length (items self.old) }
+        ensures { IsRunStored D.half place (D.half_items run) (items self.old) (items self.new) }
+    {
+        self.store(place, run);
+    }
 
     ghost fits: { (a : Self) → length (items a) < 2 ^ 63 };
 }

@@ -25,6 +25,8 @@
 //! [`exchange_tiles`], [`turn_tile`] and [`put_block`] leave the list that the methods of these names in
 //! [`places`](crate::kernels::places) leave. A holder's own method may call them.
 
+pub(crate) mod lines;
+
 use crate::kernels::places::Block;
 
 /// Some items, one after another, as many for each register of a type.
@@ -91,6 +93,18 @@ pub(crate) trait Runs<T, D: Register<T>> {
     /// ensures { IsRunStored D.half place (D.half_items run) (items self.old) (items self.new) }
     /// ```
     fn store(&mut self, place: usize, run: D::Half);
+
+    /// Does the same as `store`, for a run that is read or written again only after the call of the kernel.
+    ///
+    /// # Contract
+    ///
+    /// ```text
+    /// requires { place + D.half ≤ length (items self.old) }
+    /// ensures { IsRunStored D.half place (D.half_items run) (items self.old) (items self.new) }
+    /// ```
+    fn store_last(&mut self, place: usize, run: D::Half) {
+        self.store(place, run);
+    }
 }
 
 /// Four registers.

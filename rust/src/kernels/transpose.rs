@@ -16,10 +16,13 @@
 //! only tested.
 
 // `regions` defines matrices and regions. `strips` puts a region strip by strip: begin at
-// `Strips::by_shape` if you want to change the strips. `split` halves a large region until its parts
-// are small or narrow. `square` transposes a square in place, for the long path of a bit reversal.
+// `Strips::by_shape` if you want to change the strips. `order` is what the caller of a kernel chooses:
+// a large region is put as `split` does, which halves it until its parts are small or narrow, or as
+// `lines` does, which only the plain Rust package chooses. `square` transposes a square in place, for the long path of a bit reversal.
 // No kernel uses `butterfly`.
 mod butterfly;
+pub(crate) mod lines;
+mod order;
 mod regions;
 mod split;
 mod square;
@@ -27,9 +30,9 @@ mod strips;
 
 use crate::kernels::places::{Cells, SliceCells, SliceSource, Source, Writes};
 pub use butterfly::{butterfly_4x4, butterfly_stage1, butterfly_stage2};
+pub(crate) use order::Order;
 pub(crate) use regions::Matrix;
 pub use regions::Region;
-pub(crate) use split::put_split;
 pub use split::{transpose_source_split_on, transpose_split_on};
 pub(crate) use square::transpose_square;
 pub use square::{fits_square, transpose_square_on};
@@ -43,7 +46,7 @@ const TINY_MATRIX: usize = 128;
 const LARGE_MATRIX: usize = 1_048_576;
 
 /// How many levels of splits a transpose is given. No matrix needs as many.
-pub(crate) const ENOUGH_LEVELS: u32 = 64;
+const ENOUGH_LEVELS: u32 = 64;
 
 /// Whether an input and an output of these lengths both have `width * height` items.
 ///
@@ -359,7 +362,7 @@ fn transpose_items<T: Copy, R: Source<Item = T> + Copy>(
     values
 }
 
-/// The kernel of [`transpose_source_on`], with the given strips. The source is passed by value,
+/// The kernel of [`transpose_source_on`], in the given order. The source is passed by value,
 /// here and in the functions that this one calls. Behind a reference, the address of the items
 /// would be read from memory again for each item.
 ///
@@ -373,17 +376,17 @@ fn transpose_items<T: Copy, R: Source<Item = T> + Copy>(
 /// ensures holder { M.same_holder (matrix.width * matrix.height) out result }
 /// ```
 #[inline(always)]
-pub(crate) fn transpose_matrix<M: Cells, R: Source<Item = M::Item> + Copy>(
+pub(crate) fn transpose_matrix<M: Cells, R: Source<Item = M::Item> + Copy, O: Order<M>>(
     out: M,
     matrix: Matrix<R>,
-    strips: Strips,
+    order: O,
 ) -> M {
     let items = out.len();
     // A matrix without items may have very many columns, which have no rows.
     if 0 < items && items < TINY_MATRIX {
         return put_columns(out, matrix, matrix.whole());
     }
-    transpose_in_strips(out, matrix, strips)
+    transpose_in_strips(out, matrix, order)
 }
 
 /// Does the same as [`transpose_matrix`], always in strips. It is not inlined, so that calls for
@@ -399,15 +402,14 @@ pub(crate) fn transpose_matrix<M: Cells, R: Source<Item = M::Item> + Copy>(
 /// ensures holder { M.same_holder (matrix.width * matrix.height) out result }
 /// ```
 #[inline(never)]
-fn transpose_in_strips<M: Cells, R: Source<Item = M::Item> + Copy>(
+fn transpose_in_strips<M: Cells, R: Source<Item = M::Item> + Copy, O: Order<M>>(
     out: M,
     matrix: Matrix<R>,
-    strips: Strips,
+    order: O,
 ) -> M {
     let whole = matrix.whole();
     if out.len() > LARGE_MATRIX {
-        let (out, _) = put_split(out, matrix, whole, ENOUGH_LEVELS, strips);
-        return out;
+        return order.put(out, matrix, whole);
     }
-    put_strips(out, matrix, whole, strips)
+    put_strips(out, matrix, whole, order.strips())
 }

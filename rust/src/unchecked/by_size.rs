@@ -13,7 +13,7 @@ use super::registers::{Items, USES_REGISTERS};
 use super::{Part, Reversal};
 use crate::kernels::parts::ReversalPlan;
 use crate::kernels::registers::Pair;
-use crate::kernels::transpose::Matrix;
+use crate::kernels::transpose::{Matrix, Strips};
 
 /// `by_size!(size)` is whether the size is in this table. `by_size!(size, holder = list => call, _ => other)` is `call` if
 /// it is, and otherwise `other`. In `call`, `holder` is the holder of the list as items of this size.
@@ -67,21 +67,21 @@ pub(super) fn reverse_rows<F>(items: SliceItems<F>, row_width: usize) {
 /// Transposes a matrix. A matrix of few items is transposed in place of this call, since a call of another crate would take
 /// as long as that.
 #[inline(always)]
-pub(super) fn transpose<T: Copy>(cells: SliceItems<T>, matrix: Matrix<SliceSource<T>>) {
+pub(super) fn transpose<T: Copy>(strips: Strips, cells: SliceItems<T>, matrix: Matrix<SliceSource<T>>) {
     by_size!(
         const { size_of::<T>() },
-        holder = cells => by_type::transpose(holder, in_bytes(matrix)),
-        _ => by_type::transpose(cells, matrix)
+        holder = cells => by_type::transpose(holder.order(strips), holder, in_bytes(matrix)),
+        _ => by_type::transpose(strips, cells, matrix)
     );
 }
 
 /// Puts a region of a matrix.
 #[inline(always)]
-pub(super) fn put<T: Copy>(cells: SliceItems<T>, matrix: Matrix<SliceSource<T>>, part: Part) {
+pub(super) fn put<T: Copy>(part: Part<Strips>, cells: SliceItems<T>, matrix: Matrix<SliceSource<T>>) {
     if const { by_size!(size_of::<T>()) } {
-        put_part(cells.in_bytes(), in_bytes(matrix), size_of::<T>(), part);
+        put_part(part, cells.in_bytes(), in_bytes(matrix), size_of::<T>());
     } else {
-        by_type::put(cells, matrix, part);
+        by_type::put(part, cells, matrix);
     }
 }
 
@@ -136,13 +136,13 @@ fn exchange_part(list: SliceItems<Bytes<1>>, Reversal { plan, place }: Reversal,
 
 /// Puts a region, for items of a size in the table. If it is the whole matrix, this is the call.
 #[inline(never)]
-fn put_part(cells: SliceItems<Bytes<1>>, matrix: Matrix<SliceSource<Bytes<1>>>, size: usize, part: Part) {
+fn put_part(part: Part<Strips>, cells: SliceItems<Bytes<1>>, matrix: Matrix<SliceSource<Bytes<1>>>, size: usize) {
     by_size!(
         size,
         holder = cells => if part.0.count() == 1 {
-            by_type::transpose(holder, in_bytes(matrix));
+            by_type::transpose(holder.order(part.2), holder, in_bytes(matrix));
         } else {
-            by_type::put(holder, in_bytes(matrix), part);
+            by_type::put((part.0, part.1, holder.order(part.2)), holder, in_bytes(matrix));
         },
         _ => unreachable!("this size has no kernels here")
     );

@@ -4,8 +4,7 @@
 use super::{Part, PartItems, Reversal};
 use crate::kernels::places::{Cells, Places, Source};
 use crate::kernels::reverse::{self, RowDigits, reverse_short};
-use crate::kernels::transpose::{Matrix, transpose_matrix};
-use crate::transpose::strips_by_size;
+use crate::kernels::transpose::{Matrix, Order, transpose_matrix};
 
 /// An item of at least this many bytes is long. It is exchanged as a run of bytes, which takes hardly longer, and is put
 /// by its index.
@@ -25,24 +24,23 @@ pub(super) fn reverse_rows(items: impl Places, row_width: usize) {
 
 /// Transposes a matrix. Long items are put by their indices.
 #[inline(always)]
-pub(super) fn transpose<R: Source + Copy>(cells: impl Cells<Item = R::Item>, matrix: Matrix<R>) {
-    let strips = strips_by_size(matrix);
-    if const { size_of::<R::Item>() < LONG_BYTES } {
-        let _ = transpose_matrix(cells, matrix, strips);
+pub(super) fn transpose<M: Cells, R: Source<Item = M::Item> + Copy>(order: impl Order<M>, cells: M, matrix: Matrix<R>) {
+    if const { size_of::<M::Item>() < LONG_BYTES } {
+        let _ = transpose_matrix(cells, matrix, order);
     } else {
         let indices = Matrix::new(Indices(matrix.source.len()), matrix.width, matrix.height);
-        let _ = transpose_matrix(ByIndex(cells, matrix.source), indices, strips);
+        let _ = transpose_matrix(ByIndex(cells, matrix.source), indices, order.strips());
     }
 }
 
-/// Puts a region in the same way, by the strips of the whole matrix.
+/// Puts a region in the same way.
 #[inline(always)]
-pub(super) fn put<R: Source + Copy>(cells: impl Cells<Item = R::Item>, matrix: Matrix<R>, (plan, number): Part) {
-    let (strips, source) = (strips_by_size(matrix), matrix.source);
-    if const { size_of::<R::Item>() < LONG_BYTES } {
-        let _ = plan.put(cells, source, number, strips);
+pub(super) fn put<M: Cells, R: Source<Item = M::Item> + Copy>(part: Part<impl Order<M>>, cells: M, matrix: Matrix<R>) {
+    let ((plan, number, order), source) = (part, matrix.source);
+    if const { size_of::<M::Item>() < LONG_BYTES } {
+        let _ = plan.put(cells, source, number, order);
     } else {
-        let _ = plan.put(ByIndex(cells, source), Indices(source.len()), number, strips);
+        let _ = plan.put(ByIndex(cells, source), Indices(source.len()), number, order.strips());
     }
 }
 

@@ -3,14 +3,15 @@
 //! kernels are proved to do so. Only this folder can make a holder.
 
 use core::marker::PhantomData;
-use core::mem::MaybeUninit;
+use core::mem::{MaybeUninit, transmute_copy};
 use core::ptr;
 use core::slice::from_raw_parts;
 use core::sync::atomic::{Ordering, compiler_fence};
 
-use super::registers;
+use super::registers::{self, HAS_LINES, LINE};
 use crate::kernels::places::{Block, Cells, Places, Source};
 use crate::kernels::registers::{self as squares, Register, Runs};
+use crate::kernels::transpose::{Matrix, Order, Region, Strips, lines::Lines};
 
 /// Whether this processor moves unaligned bytes as fast as aligned ones. Otherwise each item is moved as its type says. On
 /// some systems, rustc moves unaligned bytes of aarch64 one by one.
@@ -67,6 +68,11 @@ impl<'a, T> SliceItems<'a, T> {
     /// The same items, for one part. No two parts of a call change the same place.
     pub(super) fn share(&mut self) -> Self {
         SliceItems { ..*self }
+    }
+
+    /// The order in which a matrix is put into these cells.
+    pub(super) fn order(&self, strips: Strips) -> Strips {
+        strips
     }
 
     /// The bytes of the items, `N` at a time.
@@ -294,6 +300,19 @@ impl<T, D: Register<T>> Runs<T, D> for SliceItems<'_, T> {
         // SAFETY: the items are within the list, by the `requires` of `Runs::store`.
         unsafe { self.first.add(place).cast::<D::Half>().write_unaligned(run) }
     }
+
+    /// Writes a register past the caches: the cache line that it is in is not read first. Like a shuffle this is one
+    /// instruction, because the function of `core::arch` takes a number. No race detector sees it, so `rust/test` makes
+    /// ordinary stores for that (`ordinary_stores`). It changes no register, so it needs no other form with AVX.
+    #[cfg(all(target_arch = "x86_64", target_feature = "sse2", not(ordinary_stores)))]
+    #[inline(always)]
+    fn store_last(&mut self, place: usize, run: D::Half) {
+        debug_assert!(place + 16 / size_of::<T>() <= self.len && size_of::<D::Half>() == 16);
+        // SAFETY (of both): a run is a register here. Its items are within the list, by the `requires` of
+        // `Runs::store_last`, and begin at a multiple of 16 bytes: `put_block` tests that its columns are whole lines.
+        let (to, run): (_, registers::Register) = (self.first.wrapping_add(place), unsafe { transmute_copy(&run) });
+        unsafe { core::arch::asm!("movntdq [{}], {}", in(reg) to, in(xmm_reg) run, options(nostack, preserves_flags)) }
+    }
 }
 
 /// The same holder for items whose squares are transposed in registers. `D` is two rows of a square.
@@ -310,6 +329,11 @@ impl<'a, T, D: Register<T>> InRegisters<'a, T, D> {
     pub(super) fn new(items: SliceItems<'a, T>) -> Self {
         let rows = PhantomData;
         InRegisters { items, rows }
+    }
+
+    /// The order in which a matrix is put into these cells.
+    pub(super) fn order(&self, strips: Strips) -> Large {
+        Large(strips)
     }
 }
 
@@ -364,14 +388,50 @@ impl<T: Copy, D: Register<T>> Cells for InRegisters<'_, T, D> {
 
     #[inline(always)]
     fn put_block<R: Source<Item = T>>(&mut self, source: &R, block: Block) {
+        // Whether each column of the block is a whole cache line.
+        let first = self.items.first.wrapping_add(block.to).addr();
+        let in_line = block.side == 4 * Self::SIDE && (first | (block.height * size_of::<T>())) % LINE == 0;
         match source.as_slice() {
+            // These items are only read: the functions of `squares` have a shared reference to them.
+            Some(items) if const { HAS_LINES && Self::SIDE < 8 } && in_line => {
+                let items = SliceItems::of(items.as_ptr().cast_mut(), items.len());
+                squares::lines::put_lines::<T, D, _, _>(&mut self.items, &items, Self::SIDE, block);
+            }
             Some(items) if matches!(block.side, 4 | 8) && block.side >= Self::SIDE => {
-                // These items are only read: `squares::put_block` has a shared reference to them.
                 let items = SliceItems::of(items.as_ptr().cast_mut(), items.len());
                 squares::put_block::<T, D, _, _>(&mut self.items, &items, Self::SIDE, block);
             }
             _ => self.items.put_block(source, block),
         }
+    }
+}
+
+/// A list of at least this many bytes is put by lines. Tests use short lists.
+const PAST_CACHES: usize = 1 << if cfg!(test) { 10 } else { 24 };
+
+/// The order of a matrix of items in registers. If it is large and its columns are whole cache lines, they are put by lines,
+/// past the caches. This is done for items of 4 and 8 bytes. All others are put by these strips.
+#[derive(Clone, Copy)]
+pub(super) struct Large(Strips);
+
+impl<'a, T: Copy, D: Register<T>> Order<InRegisters<'a, T, D>> for Large {
+    fn strips(self) -> Strips {
+        self.0
+    }
+
+    #[inline(always)]
+    fn put<R>(self, out: InRegisters<'a, T, D>, matrix: Matrix<R>, region: Region) -> InRegisters<'a, T, D>
+    where
+        R: Source<Item = T> + Copy,
+    {
+        let (size, first) = (size_of::<T>(), out.items.first.addr());
+        let whole = (first % size, matrix.height * size % LINE) == (0, 0);
+        if const { HAS_LINES && InRegisters::<T, D>::SIDE < 8 } && whole && out.items.len * size >= PAST_CACHES {
+            let out = Lines::new(LINE / size, first % LINE / size).put(out, matrix, region);
+            registers::fence();
+            return out;
+        }
+        self.0.put(out, matrix, region)
     }
 }
 

@@ -72,6 +72,8 @@ fn parts_on_threads() {
         let (parts, threads) = (1 + round % 11, 2 + round % 7);
         transposes::<u32>(1 + round * 7 % 97, 1 + round * 13 % 89, parts, threads);
         transposes::<usize>(1 + round * 13 % 89, 1 + round * 7 % 97, parts, threads);
+        // These are put by cache lines.
+        transposes::<u32>(1 + round * 7 % 97, 16 + round % 5 * 16, parts, threads);
         reverses::<u32>(round as u32 % 13, 1, parts, threads);
         reverses::<usize>(round as u32 % 12, 1, parts, threads);
         reverses::<usize>(round as u32 % 8, 2 + round % 3, parts, threads);

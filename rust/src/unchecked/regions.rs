@@ -7,7 +7,6 @@ use std::vec::Vec;
 use super::*;
 use crate::kernels::places::Source;
 use crate::kernels::transpose::{Strips, transpose_matrix};
-use crate::transpose::strips_by_size;
 
 /// A slice that notes the index of each read.
 #[derive(Clone, Copy)]
@@ -48,7 +47,7 @@ fn put_from<T: Copy>(mut parts: Parts<T, Regions<T>>, source: impl Source<Item =
     let matrix = Matrix::new(source, matrix.width, matrix.height);
     parts
         .numbers
-        .for_each(|number| by_type::put(parts.items.share(), matrix, (plan, number)));
+        .for_each(|number| by_type::put((plan, number, strips_by_size(matrix)), parts.items.share(), matrix));
 }
 
 #[test]
@@ -104,7 +103,8 @@ fn strips_of_the_parts() {
 fn strips_of_calls_on_slices() {
     fn check<T: Copy + Default>(width: usize, height: usize) {
         let by_call = reads::<T>(width * height, |_, output, source| {
-            by_type::transpose(SliceCells::new(output), Matrix::new(source, width, height));
+            let matrix = Matrix::new(source, width, height);
+            by_type::transpose(strips_by_size(matrix), SliceCells::new(output), matrix);
         });
         let by_strips = reads::<T>(width * height, |_, output, source| {
             let matrix = Matrix::new(source, width, height);

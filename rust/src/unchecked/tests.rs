@@ -510,6 +510,9 @@ fn shuffles() {
 #[cfg(all(target_os = "linux", not(miri), not(feature = "checked")))]
 mod guarded;
 
+#[cfg(not(feature = "checked"))]
+mod lines;
+
 #[cfg(any(debug_assertions, feature = "checked"))]
 mod refused {
     use std::panic::{AssertUnwindSafe, catch_unwind};

@@ -39,7 +39,7 @@ ghost use Rattle.p3_util_kernels.specs.Transpose.{IsTranspose};
 
 use crate::parts::{ReversalPlan, TransposePlan};
 use crate::places::{Cells, Places, Source};
-use crate::transpose::Strips;
+use crate::transpose::Order;
 
 /// A holder whose `same_holder n a b` says that some n puts turn the items of `a` into those of
 /// `b`.
@@ -97,14 +97,14 @@ impl<S: Places> Places for ExchangeSteps<S> {
         (S.items b.places) (S.items c.places) };
 }
 
-/// Each part of a plan for a transpose has steps, by any strips: some puts that put its region, one
+/// Each part of a plan for a transpose has steps, in any order: some puts that put its region, one
 /// for each item of the region.
-pub(crate) fn puts_of_part<C: Cells, R: Source<Item = C::Item> + Copy>(
+pub(crate) fn puts_of_part<C: Cells, R: Source<Item = C::Item> + Copy, O: Order<PutSteps<C>>>(
     out: C,
     source: R,
     plan: TransposePlan,
     number: usize,
-    strips: Strips,
+    order: O,
 ) -> C
     requires below { number < parts_in plan.cut.len plan.cut.step }
     requires input_fits { length (R.items source) ≡ plan.width * plan.height }
@@ -112,7 +112,7 @@ pub(crate) fn puts_of_part<C: Cells, R: Source<Item = C::Item> + Copy>(
     ensures { (steps : List (ℕ × C.Item)) × (C.items result ≡ after_puts (C.items out) steps)
         × IsPutAlone plan number (R.items source) (C.items out) steps }
 {
-    plan.put(PutSteps { cells: out }, source, number, strips)
+    plan.put(PutSteps { cells: out }, source, number, order)
         .cells
 }
 
@@ -175,11 +175,11 @@ pub(crate) fn reversal_in_parts<T>(plan: ReversalPlan)
 
 /// Puts all parts of a plan for a transpose, in the order of their numbers, as one thread may do. In
 /// any holder this is the transpose, by as many puts as there are items.
-pub(crate) fn put_all_parts<C: Cells, R: Source<Item = C::Item> + Copy>(
+pub(crate) fn put_all_parts<C: Cells, R: Source<Item = C::Item> + Copy, O: Order<C>>(
     out: C,
     source: R,
     plan: TransposePlan,
-    strips: Strips,
+    order: O,
 ) -> C
     requires input_fits { length (R.items source) ≡ plan.width * plan.height }
     requires output_fits { length (C.items out) ≡ plan.width * plan.height }
@@ -188,7 +188,7 @@ pub(crate) fn put_all_parts<C: Cells, R: Source<Item = C::Item> + Copy>(
 {
     let mut out = out;
     for number in 0..plan.count() {
-        out = plan.put(out, source, number, strips);
+        out = plan.put(out, source, number, order);
     }
     out
 }

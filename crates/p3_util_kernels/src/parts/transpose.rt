@@ -6,7 +6,7 @@ ghost use Rattle.p3_util_kernels.specs.Region.{IsRegionTransposed, items_of};
 
 use crate::parts::Cut;
 use crate::places::{Cells, Source};
-use crate::transpose::{ENOUGH_LEVELS, Matrix, Strips, UNIT, put_split};
+use crate::transpose::{Matrix, Order, UNIT};
 
 /// The transpose of a matrix of `height` rows of `width` items, cut into regions of neighbouring
 /// rows or of neighbouring columns.
@@ -79,14 +79,14 @@ impl TransposePlan {
         region.rows() * region.cols()
     }
 
-    /// Puts region `number` of the matrix in `source`, by the given strips. The list `out` has the
+    /// Puts region `number` of the matrix in `source`, in the given order. The list `out` has the
     /// cells of the whole transpose.
-    pub(crate) fn put<C: Cells, R: Source<Item = C::Item> + Copy>(
+    pub(crate) fn put<C: Cells, R: Source<Item = C::Item> + Copy, O: Order<C>>(
         self,
         out: C,
         source: R,
         number: usize,
-        strips: Strips,
+        order: O,
     ) -> C
         requires below { number < parts_in self.cut.len self.cut.step }
         requires input_fits { length (R.items source) ≡ self.width * self.height }
@@ -100,7 +100,6 @@ impl TransposePlan {
     {
         let matrix = Matrix::new(source, self.width, self.height);
         let region = self.cut.region(&matrix, self.by_rows, number);
-        let (out, _) = put_split(out, matrix, region, ENOUGH_LEVELS, strips);
-        out
+        order.put(out, matrix, region)
     }
 }

@@ -196,7 +196,7 @@ fn put_strip<M: Cells, R: Source<Item = M::Item> + Copy>(
 
 /// Puts a strip stack after stack, from left to right.
 #[inline(always)]
-fn put_stacks<M: Cells, R: Source<Item = M::Item> + Copy>(
+pub(crate) fn put_stacks<M: Cells, R: Source<Item = M::Item> + Copy>(
     out: M,
     matrix: Matrix<R>,
     region: Region,

@@ -2,7 +2,7 @@
 
 use crate::kernels::parts::Cut;
 use crate::kernels::places::{Cells, Source};
-use crate::kernels::transpose::{ENOUGH_LEVELS, Matrix, Strips, UNIT, put_split};
+use crate::kernels::transpose::{Matrix, Order, UNIT};
 
 /// The transpose of a matrix of `height` rows of `width` items, cut into regions of neighbouring
 /// rows or of neighbouring columns.
@@ -84,7 +84,7 @@ impl TransposePlan {
         region.rows() * region.cols()
     }
 
-    /// Puts region `number` of the matrix in `source`, by the given strips. The list `out` has the
+    /// Puts region `number` of the matrix in `source`, in the given order. The list `out` has the
     /// cells of the whole transpose.
     ///
     /// # Contract
@@ -100,16 +100,15 @@ impl TransposePlan {
     ///     (part_of_matrix self.width self.height self.by_rows self.cut.len self.cut.step number))
     ///     out result }
     /// ```
-    pub(crate) fn put<C: Cells, R: Source<Item = C::Item> + Copy>(
+    pub(crate) fn put<C: Cells, R: Source<Item = C::Item> + Copy, O: Order<C>>(
         self,
         out: C,
         source: R,
         number: usize,
-        strips: Strips,
+        order: O,
     ) -> C {
         let matrix = Matrix::new(source, self.width, self.height);
         let region = self.cut.region(&matrix, self.by_rows, number);
-        let (out, _) = put_split(out, matrix, region, ENOUGH_LEVELS, strips);
-        out
+        order.put(out, matrix, region)
     }
 }

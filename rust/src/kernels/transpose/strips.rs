@@ -230,7 +230,7 @@ fn put_strip<M: Cells, R: Source<Item = M::Item> + Copy>(
 /// ensures holder { M.same_holder (items_of region) out result }
 /// ```
 #[inline(always)]
-fn put_stacks<M: Cells, R: Source<Item = M::Item> + Copy>(
+pub(crate) fn put_stacks<M: Cells, R: Source<Item = M::Item> + Copy>(
     out: M,
     matrix: Matrix<R>,
     region: Region,

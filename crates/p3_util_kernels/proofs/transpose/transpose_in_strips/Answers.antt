@@ -1,13 +1,9 @@
--- 64 levels are enough for the splits of the whole matrix.
+-- The whole matrix has width * height items.
 use Rattle.std.proofs.Common.{◌≡◌, ℕ, ◌-◌, ◌*◌, arith}
 use Rattle.std.proofs.Math.Nat.{mul_comm}
 use Rattle.p3_util_kernels.specs.declared.transpose.regions.Region.{Region}
 use Rattle.p3_util_kernels.specs.Region.{items_of}
-use Rattle.p3_util_kernels.proofs.HalvesLemmas.{lev-of_whole}
 use Rattle.p3_util_kernels.proofs.transpose.transpose_in_strips.Goals as goal
-
-pub put_split-out-requires-clause-enough : goal.put_split-out-requires-clause-enough
-put_split-out-requires-clause-enough g c = lev-of_whole c.whole-whole.result c.args.matrix.width c.args.matrix.height c.whole-whole.ensures (omega arith) (omega arith) (omega arith)
 
 items-of_whole : (whole : Region) (width height : ℕ) → whole ≡ record { row_start = 0; row_end = height; col_start = 0; col_end = width }
     → items_of whole ≡ width * height
@@ -18,4 +14,4 @@ items-of_whole whole width height is =
 
 pub returns-then-len-gt-LARGE_MATRIX-clause-holder : goal.returns-then-len-gt-LARGE_MATRIX-clause-holder
 returns-then-len-gt-LARGE_MATRIX-clause-holder g c =
-    rw (items-of_whole c.whole-whole.result c.args.matrix.width c.args.matrix.height c.whole-whole.ensures) at c.put_split-out.ensures.holder
+    rw (items-of_whole c.whole-whole.result c.args.matrix.width c.args.matrix.height c.whole-whole.ensures) at c.put.ensures.holder

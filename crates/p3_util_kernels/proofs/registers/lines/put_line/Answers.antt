@@ -1,0 +1,15 @@
+-- The runs of both registers follow each other.
+use Rattle.std.proofs.Common.{arith}
+use Rattle.p3_util_kernels.proofs.RegistersLines.{IsRunStored-two}
+use Rattle.p3_util_kernels.proofs.registers.lines.put_line.Goals as goal
+
+pub overflow_mul-to : goal.overflow_mul-to
+overflow_mul-to g c = omega (arith, c.requires.list_fits, c.requires.room 0 (omega arith))
+
+pub overflow_add-to : goal.overflow_add-to
+overflow_add-to g c = omega (arith, c.requires.list_fits, c.requires.room 0 (omega arith))
+
+pub returns : goal.returns
+returns g c =
+    rw (c.requires.line, c.requires.side)
+    (IsRunStored-two g.D.Register.half _ _ _ _ _ _ (g.met.D.Register.full c.args.a) (rw c.requires.side at c.store_last.ensures) (rw c.requires.side at c.store_last-2.ensures))

@@ -1,0 +1,112 @@
+//! Blocks whose columns are whole cache lines: each column is stored from its first cell to its last, one right
+//! after the other.
+
+ghost use Rattle.std.specs.Prelude.{◌≡◌, ℕ, ◌+◌, ◌*◌, ◌^◌, ◌<◌, ◌≤◌, ◌⊎◌, ◌++◌, length};
+ghost use Rattle.p3_util_kernels.specs.BlockPut.{BlockFits, IsBlockPut, block_items};
+ghost use Rattle.p3_util_kernels.specs.Registers.{ColumnsPut, IsRunStored, IsStored, items_of_four};
+ghost use Rattle.p3_util_kernels.specs.RegisterLines.{AreLines};
+
+use crate::places::Block;
+use crate::registers::{Four, Register, Runs, load, next_stage, starts};
+
+/// Reads 8 rows, from place `from` on, and transposes them. The registers hold the columns, of 8 items
+/// each, one after another.
+#[inline(always)]
+fn load_lines<T, D: Register<T>, S: Runs<T, D>>(list: &S, from: usize, width: usize) -> Four<D>
+    requires side { (D.half ≡ 2) ⊎ (D.half ≡ 4) }
+    requires inside { (r : ℕ) → r < 8 → from + r * width + D.half ≤ length (S.items list.now) }
+    requires list_fits { length (S.items list.now) < 2 ^ 63 }
+    ensures { AreLines D.half from width (S.items list.now) (items_of_four D.items result) }
+{
+    let one = load(list, starts(from, width, 8));
+    let two = next_stage(one);
+    next_stage(two)
+}
+
+/// Writes the first half of a register from place `first` on, and then the second half from place `second` on.
+#[inline(always)]
+fn store_last<T, D: Register<T>, M: Runs<T, D>>(list: &mut M, first: usize, second: usize, rows: D)
+    requires apart { (first + D.half ≤ second) ⊎ (second + D.half ≤ first) }
+    requires first { first + D.half ≤ length (M.items list.old) }
+    requires second { second + D.half ≤ length (M.items list.old) }
+    ensures { IsStored D.half first second (D.items rows) (M.items list.old) (M.items list.new) }
+{
+    let (a, b) = rows.halves();
+    list.store_last(first, a);
+    list.store_last(second, b);
+}
+
+/// Stores two registers, one after the other, where column `col` of a block is put.
+#[inline(always)]
+fn put_line<T, D: Register<T>, M: Runs<T, D>>(
+    list: &mut M,
+    side: usize,
+    block: Block,
+    col: usize,
+    a: D,
+    b: D,
+)
+    requires side { side ≡ D.half }
+    requires some_side { 0 < side }
+    requires line { block.side ≡ 4 * side }
+    requires room { (r : ℕ) → r < block.side → block.to + col * block.height + r < length (M.items list.old) }
+    requires list_fits { length (M.items list.old) < 2 ^ 63 }
+    ensures { IsRunStored block.side (block.to + col * block.height) (D.items a ++ D.items b)
+        (M.items list.old) (M.items list.new) }
+{
+    let to = block.to + col * block.height;
+    store_last(list, to, to + side, a);
+    store_last(list, to + 2 * side, to + 3 * side, b);
+}
+
+/// Puts `side` columns of a block, from column `col` on. Each is stored from its first cell to its last.
+#[inline(never)]
+fn put_some_lines<T, D: Register<T>, S: Runs<T, D>, M: Runs<T, D>>(
+    cells: &mut M,
+    source: &S,
+    side: usize,
+    block: Block,
+    col: usize,
+)
+    requires some_side { (D.half ≡ 2) ⊎ (D.half ≡ 4) }
+    requires side { side ≡ D.half }
+    requires lines { block.side ≡ 4 * side }
+    requires below { col + side ≤ block.side }
+    requires block { BlockFits block (length (S.items source.now)) (length (M.items cells.old)) }
+    requires source_fits { length (S.items source.now) < 2 ^ 63 }
+    requires cells_fit { length (M.items cells.old) < 2 ^ 63 }
+    ensures { ColumnsPut col (col + side) block (S.items source.now) (M.items cells.old) (M.items cells.new) }
+{
+    let from = block.from + col;
+    let top = load_lines(source, from, block.width);
+    if side == 2 {
+        put_line(cells, side, block, col, top.a, top.b);
+        put_line(cells, side, block, col + 1, top.c, top.d);
+        return;
+    }
+    let bottom = load_lines(source, from + 8 * block.width, block.width);
+    put_line(cells, side, block, col, top.a, bottom.a);
+    put_line(cells, side, block, col + 1, top.b, bottom.b);
+    put_line(cells, side, block, col + 2, top.c, bottom.c);
+    put_line(cells, side, block, col + 3, top.d, bottom.d);
+}
+
+/// Does what `Cells::put_block` does, for blocks of 4 * `side` rows, column after column.
+#[inline(always)]
+pub(crate) fn put_lines<T, D: Register<T>, S: Runs<T, D>, M: Runs<T, D>>(
+    cells: &mut M,
+    source: &S,
+    side: usize,
+    block: Block,
+)
+    requires some_side { (D.half ≡ 2) ⊎ (D.half ≡ 4) }
+    requires side { side ≡ D.half }
+    requires lines { block.side ≡ 4 * side }
+    requires block { BlockFits block (length (S.items source.now)) (length (M.items cells.old)) }
+    ensures { IsBlockPut (block_items block) block (S.items source.now) (M.items cells.old) (M.items cells.new) }
+{
+    put_some_lines(cells, source, side, block, 0);
+    put_some_lines(cells, source, side, block, side);
+    put_some_lines(cells, source, side, block, 2 * side);
+    put_some_lines(cells, source, side, block, 3 * side);
+}

@@ -1,0 +1,132 @@
+//! Tests of transposes by cache lines, in two parts and more. In these tests a list of 1024 bytes is long enough for that.
+
+use std::boxed::Box;
+use std::fmt::Debug;
+use std::vec::Vec;
+
+use crate::unchecked::parts_of_transpose;
+
+/// Transposes a matrix in some parts, and compares each item of the output with that of the definition. `input` and
+/// `output` are the numbers of items before the lists. The items around the output have to stay.
+fn transposes<T: Copy + Debug + PartialEq>(
+    [width, height]: [usize; 2],
+    [input, output]: [usize; 2],
+    parts: usize,
+    item: impl Fn(usize) -> T,
+) {
+    let len = width * height;
+    let list: Vec<T> = (0..input + len).map(&item).collect();
+    let beside = item(len + 1000);
+    let mut cells = std::vec![beside; output + len + 40];
+    parts_of_transpose(&list[input..], &mut cells[output..output + len], width, height, parts)
+        .unwrap()
+        .put();
+    let wanted = |place: usize| match place.checked_sub(output) {
+        Some(place) if place < len => list[input + place % height * width + place / height],
+        _ => beside,
+    };
+    assert!(
+        cells.iter().enumerate().all(|(place, got)| *got == wanted(place)),
+        "{width} by {height} from {input} to {output}"
+    );
+}
+
+/// Every offset of both lists within a cache line, for items of 4 and 8 bytes.
+#[test]
+fn all_offsets() {
+    for (input, output) in (0..16).flat_map(|input| (0..16).map(move |output| (input, output))) {
+        transposes([19, 32], [input, output], 2, |number| number as u32);
+        transposes([18, 24], [input % 8, output % 8], 2, |number| number);
+    }
+}
+
+/// Some bytes, and then the items of a list.
+#[repr(C)]
+struct After<const BYTES: usize> {
+    before: [u8; BYTES],
+    items: [[u8; 4]; 33 * 48],
+}
+
+/// Items that may begin at any address.
+#[test]
+fn all_addresses() {
+    fn transposes<const BYTES: usize>() {
+        let mut list = Box::new(After {
+            before: [9; BYTES],
+            items: [[0; 4]; 33 * 48],
+        });
+        let input: Vec<[u8; 4]> = (0..33 * 48u32).map(u32::to_le_bytes).collect();
+        parts_of_transpose(&input, &mut list.items, 33, 48, 3).unwrap().put();
+        let wanted = |place: usize| input[place % 48 * 33 + place / 48];
+        assert!(list.items.iter().enumerate().all(|(place, got)| *got == wanted(place)));
+        assert_eq!(list.before, [9; BYTES]);
+    }
+    macro_rules! after {
+        ($($bytes:literal)*) => { $(transposes::<$bytes>();)* };
+    }
+    after!(0 1 2 3 4 5 6 7 8 12 15 16 17 20 31 32 33 47 48 60 61 62 63 64);
+}
+
+#[test]
+fn all_heights() {
+    for height in 16..=80 {
+        for (width, parts) in [(15, 2), (16, 2), (33, 3), (100, 5), (1100, 2)] {
+            transposes([width, height], [3, 5], parts, |number| number as u32);
+            transposes([width, height], [2, 7], parts, |number| number);
+            transposes([width, height], [0, 0], parts, |number| number as f64);
+        }
+    }
+}
+
+/// A whole call, of more items than a matrix has that is not split.
+#[test]
+#[cfg_attr(miri, ignore = "too long")]
+fn whole_calls() {
+    for (width, height) in [(1030, 1040), (16400, 64), (64, 16400), (1025, 1025)] {
+        let input: Vec<u32> = (0..width as u32 * height as u32).collect();
+        let mut output = std::vec![0; input.len()];
+        assert!(crate::unchecked::transpose(&input, &mut output, width, height));
+        let wanted = |place: usize| input[place % height * width + place / height];
+        assert!(output.iter().enumerate().all(|(place, got)| *got == wanted(place)));
+    }
+}
+
+/// Items with unwritten bytes and pointers are moved as they are.
+#[test]
+fn padding_and_pointers() {
+    static TEXT: [u8; 128] = [7; 128];
+    transposes([40, 64], [1, 3], 3, |number| &TEXT[number % 128..]);
+    transposes([40, 64], [1, 3], 3, |number| &TEXT[number % 128]);
+    transposes([40, 64], [1, 3], 3, |number| (number as u8, number as u32));
+    transposes([40, 64], [1, 3], 3, |number| (number % 3 > 0).then_some(number as u16));
+}
+
+/// A part that runs on a thread is seen as a whole after the thread was joined.
+#[test]
+fn parts_are_seen_after_a_join() {
+    for round in 0..if cfg!(miri) { 2 } else { 100 } {
+        let (width, height) = (64 + round, 64);
+        let input: Vec<u64> = (0..width * height).map(|number| number as u64 + round as u64).collect();
+        let mut output = std::vec![0; input.len()];
+        let mut parts = parts_of_transpose(&input, &mut output, width, height, 4).unwrap();
+        std::thread::scope(|scope| {
+            while let Some(part) = parts.split_first() {
+                scope.spawn(|| part.put());
+            }
+        });
+        let wanted = |place: usize| input[place % height * width + place / height];
+        let pieces = output.chunks(output.len() / 3).enumerate();
+        std::thread::scope(|scope| {
+            for (piece, items) in pieces {
+                let first = piece * (width * height / 3);
+                scope.spawn(move || {
+                    let wanted = items
+                        .iter()
+                        .enumerate()
+                        .all(|(place, got)| *got == wanted(first + place));
+                    assert!(wanted, "{width} by {height}");
+                });
+            }
+        });
+    }
+}
