@@ -65,7 +65,7 @@ fi
 
 # package NAME FOLDER: builds the package of the checkout in this folder as a crate with this name.
 package() {
-    "${rust[@]}" "${package_level[@]}" --crate-type lib --crate-name "$1" --check-cfg 'cfg(test)' --cap-lints warn \
+    "${rust[@]}" "${package_level[@]}" --crate-type lib --crate-name "$1" --check-cfg 'cfg(test, ordinary_stores)' --cap-lints warn \
         --check-cfg 'cfg(feature, values("checked"))' ${checked:+--cfg 'feature="checked"'} \
         -o "$out/lib$1.rlib" "$2/rust/src/lib.rs"
 }
