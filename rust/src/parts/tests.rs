@@ -410,7 +410,7 @@ fn exchange_by_plan<const N: usize, const WIDTH: usize>(rows: &mut [[[u8; N]; WI
     };
     let plan = |places, width| ReversalPlan::new(places, width, parts_of_side(asked), one_part);
     let moves_rows = cfg!(any(target_arch = "x86_64", target_arch = "aarch64"));
-    if moves_rows && matches!(N * WIDTH, 1 | 2 | 4 | 8 | 12 | 16 | 20 | 24 | 32 | 40 | 64) {
+    if moves_rows && matches!(N * WIDTH, 1 | 2 | 4 | 8 | 12 | 16 | 20 | 32 | 64) {
         let _ = plan(rows.len(), 1).exchange(SlicePlaces::new(rows), number);
     } else {
         let _ = plan(len, WIDTH).exchange(SlicePlaces::new(rows.as_flattened_mut()), number);

@@ -20,7 +20,7 @@ use crate::kernels::transpose::{Matrix, Strips};
 macro_rules! by_size {
     ($size:expr $(, $($form:tt)*)?) => {
         by_size!(@ [1: Items<1>, 2: Pair<Items<2>>, 4: Pair<Items<4>>, 8: Pair<Items<8>>]
-            [1 2 4 8 12 16 20 24 32 40 64] $size $(, $($form)*)?)
+            [1 2 4 8 12 16 20 32 64] $size $(, $($form)*)?)
     };
     (@ [$($short:literal: $rows:ty),*] [$($bytes:literal)*] $size:expr) => {
         MOVES_BYTES && matches!($size, $($bytes)|*)

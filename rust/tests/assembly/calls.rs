@@ -49,8 +49,8 @@ macro_rules! calls {
 }
 
 calls! {
-    first: one 1 two 2 four 4 eight 8 twelve 12 sixteen 16 twenty 20 twenty_four 24 thirty_two 32 forty 40
+    first: one 1 two 2 four 4 eight 8 twelve 12 sixteen 16 twenty 20 thirty_two 32
         sixty_four 64;
-    second: one 1 two 2 four 4 eight 8 twelve 12 sixteen 16 twenty 20 twenty_four 24 thirty_two 32 forty 40
+    second: one 1 two 2 four 4 eight 8 twelve 12 sixteen 16 twenty 20 thirty_two 32
         sixty_four 64;
 }
