@@ -3,7 +3,8 @@
 //! A kernel moves items and never looks at one. So all that an instance of a kernel has to know of the type is how many
 //! bytes an item has. The instances for the sizes in the table of `by_size!`, and for rows, are compiled in this package:
 //! those of `reverse_places`, `exchange_part` and `put_part` name every size, and are not generic. A crate that uses the
-//! package calls them. It compiles kernels of its own only for items of other sizes.
+//! package calls them. It compiles kernels of its own only for items of other sizes: rustc, from 1.85 on, does not compile a
+//! generic function again that is not inlined and that the package has compiled for the same types.
 //!
 //! If the processor does not move unaligned bytes as fast as aligned ones, each type has kernels of its own.
 
