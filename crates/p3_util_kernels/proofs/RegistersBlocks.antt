@@ -4,8 +4,8 @@ use Rattle.std.proofs.Math.Nat.{mul-le-mul_right}
 use Rattle.std.proofs.lemmas.Bool.{cases_lt}
 use Rattle.p3_util_kernels.specs.declared.places.Block.{Block}
 use Rattle.p3_util_kernels.specs.BlockPut.{BlockFits, IsBlockPut}
-use Rattle.p3_util_kernels.specs.Registers.{AreApart, AreColumns, AreInside, AreStored, ColumnsPut, IsSide}
-use Rattle.p3_util_kernels.proofs.RegistersTiles.{AreApart-rows, AreInside-rows, SquaresMoved-rows, row_below}
+use Rattle.p3_util_kernels.specs.Registers.{AreApart, AreColumns, AreReached, AreStored, ColumnsPut, IsSide, RowsReached}
+use Rattle.p3_util_kernels.proofs.RegistersTiles.{AreApart-rows, AreReached-rows, SquaresMoved-rows}
 
 -- what is in one column is before the next one
 column_before : (a b height : ℕ) → a < b → a * height + height ≤ b * height
@@ -26,15 +26,8 @@ module _ (side : ℕ) (block : Block) (col input_len len : ℕ) (is : IsSide sid
   in_all : (c : ℕ) → c < block.side → c < 8
   in_all c h = elim known [ inl u ↦ omega arith | inr u ↦ omega arith ]
 
-  pub AreInside-block_from : (from : List ℕ) → ((c : ℕ) → c < 8 → slice_index from c ≡ slice_index rows c + slice_index tops c) → AreInside 8 side from input_len
-  AreInside-block_from from at j h =
-      let some : 0 < side = omega (arith, row_below side is 0) in
-      omega (arith, at j h, is_top j h, at_rows j h, some, fits.inside (j % block.side) (col + side - 1) (row_in_block block.side j known).0 (omega (arith, some)))
-
-  inside : (r : ℕ) → r < block.side → slice_index cols r + block.side ≤ len
-  inside r h =
-      let row = (row_in_block block.side r known).1 h in
-      omega (arith, rw row at (at_cols r (in_all r h)), fits.room (block.side - 1) r (omega arith) h)
+  pub AreReached-block_from : (may : ℕ → Type 0) → RowsReached block.side side (λ r. block.from + r * block.width) may → (from : List ℕ) → ((c : ℕ) → c < 8 → slice_index from c ≡ slice_index rows c + slice_index tops c) → AreReached 8 from may
+  AreReached-block_from may all from at j h = rw (at j h, is_top j h, at_rows j h) (all (j % block.side) col (row_in_block block.side j known).0 below)
 
   apart : (a b : ℕ) → a < b → b < block.side → (slice_index cols a + block.side ≤ slice_index cols b) ⊎ (slice_index cols b + block.side ≤ slice_index cols a)
   apart a b h k =
@@ -46,8 +39,10 @@ module _ (side : ℕ) (block : Block) (col input_len len : ℕ) (is : IsSide sid
     at_row : (c : ℕ) → c < block.side → slice_index to c ≡ slice_index cols (slice_index tops c + c % side) + (c - c % side)
     at_row c h = at c (in_all c h)
 
-    pub AreInside-block_to : AreInside block.side side to len
-    AreInside-block_to = AreInside-rows block.side side known is (omega arith) (λ s. col) cols tops to (λ c h. below) (λ c h. is_top c (in_all c h)) at_row len inside
+    pub AreReached-block_to : (may : ℕ → Type 0) → RowsReached block.side side (λ c. block.to + c * block.height) may → AreReached block.side to may
+    AreReached-block_to may all =
+        AreReached-rows block.side side known is (omega arith) (λ s. col) cols tops to (λ c h. below) (λ c h. is_top c (in_all c h)) at_row may
+        (λ r c h k. rw (at_cols r (in_all r h), (row_in_block block.side r known).1 h) (all r c h k))
 
     pub AreApart-block_to : AreApart block.side side to
     AreApart-block_to = AreApart-rows block.side side known is (omega arith) (λ s. col) cols tops to (λ c h. below) (λ c h. is_top c (in_all c h)) at_row apart

@@ -3,7 +3,7 @@ use Rattle.std.proofs.Common.{◌≡◌, ◌≢◌, ℕ, ◌+◌, ◌-◌, ◌*�
 use Rattle.std.proofs.lemmas.Bool.{cases_eq, cases_lt}
 use Rattle.p3_util_kernels.specs.Stages.{item_at}
 use Rattle.p3_util_kernels.proofs.ListParts.{slice_get-append_left, slice_get-append_right}
-use Rattle.p3_util_kernels.specs.Registers.{AreInterleaved, AreColumns, AreInside, AreLoaded, AreStored, IsNextStage, IsSide, IsStored}
+use Rattle.p3_util_kernels.specs.Registers.{AreInterleaved, AreColumns, AreLoaded, AreReached, AreStored, IsNextStage, IsSide, IsStored}
 
 -- the places `from` are those of `places`, in the order of a stage
 abbrev pub AreInOrder : ℕ → List ℕ → List ℕ → Type 0
@@ -57,16 +57,16 @@ AreColumns-eight side places from list a b d (inr (inl is)) _ not_four order one
 AreColumns-eight side places from list a b d (inr (inr is)) _ _ order one next last = rw is (eight places from list a b d (rw is at order) (rw is at one) (rw is at next) (rw is at last))
 
 -- each place is one of those
-pub AreInside-in_order : (side len : ℕ) (places from : List ℕ) → IsSide side → AreInOrder side places from → AreInside 8 side places len → AreInside 8 side from len
-AreInside-in_order side len places from (inl is) order inside j h =
+pub AreReached-in_order : (side : ℕ) (may : ℕ → Type 0) (places from : List ℕ) → IsSide side → AreInOrder side places from → AreReached 8 places may → AreReached 8 from may
+AreReached-in_order side may places from (inl is) order inside j h =
     let of : 4 * (j / 4) + j % 4 ≡ j = omega arith in
     let at : slice_index from j ≡ slice_index places (2 * (j % 4) + j / 4) = rw of at (rw is at order (j % 4) (j / 4) (omega arith) (omega arith)) in
     rw at (inside (2 * (j % 4) + j / 4) (omega arith))
-AreInside-in_order side len places from (inr (inl is)) order inside j h =
+AreReached-in_order side may places from (inr (inl is)) order inside j h =
     let of : 2 * (j / 2) + j % 2 ≡ j = omega arith in
     let at : slice_index from j ≡ slice_index places (4 * (j % 2) + j / 2) = rw of at (rw is at order (j % 2) (j / 2) (omega arith) (omega arith)) in
     rw at (inside (4 * (j % 2) + j / 2) (omega arith))
-AreInside-in_order side len places from (inr (inr is)) order inside j h =
+AreReached-in_order side may places from (inr (inr is)) order inside j h =
     let of : 1 * j + 0 ≡ j = omega arith in
     let at : slice_index from j ≡ slice_index places (8 * 0 + j) = rw of at (rw is at order 0 j h (omega arith)) in
     rw at (inside (8 * 0 + j) (omega arith))

@@ -2,7 +2,7 @@
 use Rattle.std.proofs.Common.{◌≡◌, ◌≢◌, ℕ, ◌+◌, ◌-◌, ◌%◌, ◌<◌, ◌≤◌, ◌⊎◌, List, length, slice_get, slice_index, inl, inr, refl, sym, ap, ◌∙◌, arith}
 use Rattle.std.proofs.lemmas.Bool.{cases_eq, cases_lt}
 use Rattle.p3_util_kernels.specs.Exchanged.{AreTiles, IsTile, TileTurned, TilesExchanged}
-use Rattle.p3_util_kernels.specs.Registers.{AreApart, AreColumns, AreInside, AreStored, IsSide, RowsExchanged, SquaresTurned, sum_of}
+use Rattle.p3_util_kernels.specs.Registers.{AreApart, AreColumns, AreReached, AreStored, IsSide, RowsExchanged, RowsReached, SquaresTurned, sum_of}
 use Rattle.p3_util_kernels.proofs.ExchangedTiles.{one_row, places-apart}
 
 -- a place is outside a run if it is not in it
@@ -56,11 +56,8 @@ module _ (n side : ℕ) (known : (n ≡ 4) ⊎ (n ≡ 8)) (is : IsSide side) (sm
   at : (c : ℕ) → c < n → slice_index to c ≡ slice_index x (top (c - c % side) + c % side) + (c - c % side)
   at c h = rw (is_top c h) at (is_to c h)
 
-  pub AreInside-rows : (len : ℕ) → ((r : ℕ) → r < n → slice_index x r + n ≤ len) → AreInside n side to len
-  AreInside-rows len inside j h =
-      let row = row_below side is j in
-      let fits = low j h in
-      omega (arith, at j h, square_up side is n j known small h, inside (top (j - j % side) + j % side) (omega arith))
+  pub AreReached-rows : (may : ℕ → Type 0) → RowsReached n side (slice_index x) may → AreReached n to may
+  AreReached-rows may all j h = rw (at j h) (all (top (j - j % side) + j % side) (j - j % side) (omega (arith, row_below side is j, low j h)) (square_up side is n j known small h))
 
   pub AreApart-rows : ((a b : ℕ) → a < b → b < n → (slice_index x a + n ≤ slice_index x b) ⊎ (slice_index x b + n ≤ slice_index x a)) → AreApart n side to
   AreApart-rows apart a b h k =

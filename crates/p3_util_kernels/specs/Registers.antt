@@ -20,9 +20,13 @@ items_of_four items four = items four.a ∷ items four.b ∷ items four.c ∷ it
 abbrev pub IsSide : ℕ → Type 0
 IsSide n = (n ≡ 2) ⊎ ((n ≡ 4) ⊎ (n ≡ 8))
 
--- Each of the first n runs of `side` places is inside a list of this length. The runs begin at `from`
-abbrev pub AreInside : ℕ → ℕ → List ℕ → ℕ → Type 0
-AreInside n side from len = (j : ℕ) → j < n → slice_index from j + side ≤ len
+-- A holder may touch each of the first n runs, which begin at these places
+abbrev pub AreReached : ℕ → List ℕ → (ℕ → Type 0) → Type 0
+AreReached n places may = (j : ℕ) → j < n → may (slice_index places j)
+
+-- A holder may touch each run of `side` items in n rows of n items. Row r begins at place `row r`
+abbrev pub RowsReached : ℕ → ℕ → (ℕ → ℕ) → (ℕ → Type 0) → Type 0
+RowsReached n side row may = (r c : ℕ) → r < n → c + side ≤ n → may (row r + c)
 
 -- no two of the first n runs overlap
 abbrev pub AreApart : ℕ → ℕ → List ℕ → Type 0

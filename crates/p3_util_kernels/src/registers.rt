@@ -27,7 +27,7 @@
 
 ghost use Rattle.std.specs.Prelude.{◌≡◌, ℕ, ◌+◌, ◌-◌, ◌*◌, ◌/◌, ◌%◌, ◌^◌, ◌<◌, ◌≤◌, ◌⊎◌, List, ◌++◌, length, slice_get, slice_index};
 ghost use Rattle.p3_util_kernels.specs.BlockPut.{BlockFits, IsBlockPut, block_items};
-ghost use Rattle.p3_util_kernels.specs.Registers.{AreApart, AreColumns, AreInside, AreInterleaved, AreLoaded, AreStored, ColumnsPut, IsNextStage, IsSide, IsRunStored, IsStored, RowsExchanged, SquaresTurned, items_of_four, length_of_pair};
+ghost use Rattle.p3_util_kernels.specs.Registers.{AreApart, AreColumns, AreInterleaved, AreLoaded, AreReached, AreStored, ColumnsPut, IsNextStage, IsSide, IsRunStored, IsStored, RowsExchanged, RowsReached, SquaresTurned, items_of_four, length_of_pair};
 ghost use Rattle.p3_util_kernels.specs.Exchanged.{AreTiles, IsTile, TileTurned, TilesExchanged};
 
 pub(crate) mod lines;
@@ -67,26 +67,42 @@ pub(crate) trait Register<T>: Copy {
 }
 
 /// A list in which a run of items, half a register, can be read or written at once.
+///
+/// A holder also says where runs `may` be read and written, and where they `may_last` be written by
+/// `store_last`. Both depend on its `reach` alone, which no store changes. Code that is generic over
+/// this trait cannot know them, so it touches no run but those that its own `requires` names.
 pub(crate) trait Runs<T, D: Register<T>> {
     ghost items: { Self → List T };
 
+    ghost Reach: { Type 0 };
+
+    ghost reach: { Self → Reach };
+
+    ghost may: { Reach → ℕ → Type 0 };
+
+    ghost may_last: { Reach → ℕ → Type 0 };
+
     /// Reads the run from `place` on.
     fn load(&self, place: usize) -> D::Half
-        requires { place + D.half ≤ length (items self.now) }
+        requires { may (reach self.now) place }
         ensures { (t : ℕ) → t < D.half → slice_get (D.half_items result) t ≡ slice_get (items self.now) (place + t) };
 
     /// Writes the run from `place` on.
     fn store(&mut self, place: usize, run: D::Half)
-        requires { place + D.half ≤ length (items self.old) }
-        ensures { IsRunStored D.half place (D.half_items run) (items self.old) (items self.new) };
+        requires { may (reach self.old) place }
+        ensures stored { IsRunStored D.half place (D.half_items run) (items self.old) (items self.new) }
+        ensures holder { reach self.new ≡ reach self.old };
 
     /// Does the same as `store`, for a run that is read or written again only after the call of the kernel.
     fn store_last(&mut self, place: usize, run: D::Half)
-        requires { place + D.half ≤ length (items self.old) }
-        ensures { IsRunStored D.half place (D.half_items run) (items self.old) (items self.new) }
+        requires { may_last (reach self.old) place }
+        ensures stored { IsRunStored D.half place (D.half_items run) (items self.old) (items self.new) }
+        ensures holder { reach self.new ≡ reach self.old }
     {
         self.store(place, run);
     }
+
+    ghost may_both: { (r : Reach) (p : ℕ) → may_last r p → may r p };
 
     ghost fits: { (a : Self) → length (items a) < 2 ^ 63 };
 }
@@ -117,8 +133,8 @@ fn next_stage<T, D: Register<T>>(four: Four<D>) -> Four<D>
 /// Reads two runs and interleaves them.
 #[inline(always)]
 fn load_two<T, D: Register<T>, S: Runs<T, D>>(list: &S, first: usize, second: usize) -> D
-    requires first { first + D.half ≤ length (S.items list.now) }
-    requires second { second + D.half ≤ length (S.items list.now) }
+    requires first { S.may (S.reach list.now) first }
+    requires second { S.may (S.reach list.now) second }
     ensures { AreInterleaved D.half first second (S.items list.now) (S.items list.now) (D.items result) }
 {
     D::from_half(list.load(first)).low(D::from_half(list.load(second)))
@@ -127,7 +143,7 @@ fn load_two<T, D: Register<T>, S: Runs<T, D>>(list: &S, first: usize, second: us
 /// Reads 8 runs. Each register has two of them, interleaved: the first stage is made as they are read.
 #[inline(always)]
 fn load<T, D: Register<T>, S: Runs<T, D>>(list: &S, from: [usize; 8]) -> Four<D>
-    requires { AreInside 8 D.half from (length (S.items list.now)) }
+    requires { AreReached 8 from (S.may (S.reach list.now)) }
     ensures { AreLoaded D.half from (S.items list.now) (items_of_four D.items result) }
 {
     Four {
@@ -168,7 +184,7 @@ fn load_columns<T, D: Register<T>, S: Runs<T, D>>(
 ) -> Four<D>
     requires some_side { IsSide D.half }
     requires side { side ≡ D.half }
-    requires inside { AreInside 8 D.half places (length (S.items list.now)) }
+    requires reached { AreReached 8 places (S.may (S.reach list.now)) }
     ensures { AreColumns D.half places (S.items list.now) (items_of_four D.items result) }
 {
     let one = load(list, in_order(places, side));
@@ -186,9 +202,10 @@ fn load_columns<T, D: Register<T>, S: Runs<T, D>>(
 #[inline(always)]
 fn store_two<T, D: Register<T>, M: Runs<T, D>>(list: &mut M, first: usize, second: usize, rows: D)
     requires apart { (first + D.half ≤ second) ⊎ (second + D.half ≤ first) }
-    requires first { first + D.half ≤ length (M.items list.old) }
-    requires second { second + D.half ≤ length (M.items list.old) }
-    ensures { IsStored D.half first second (D.items rows) (M.items list.old) (M.items list.new) }
+    requires first { M.may (M.reach list.old) first }
+    requires second { M.may (M.reach list.old) second }
+    ensures stored { IsStored D.half first second (D.items rows) (M.items list.old) (M.items list.new) }
+    ensures holder { M.reach list.new ≡ M.reach list.old }
 {
     let (a, b) = rows.halves();
     list.store(first, a);
@@ -204,9 +221,10 @@ fn store<T, D: Register<T>, M: Runs<T, D>>(
     four: Four<D>,
 )
     requires known { (count ≡ 4) ⊎ (count ≡ 8) }
-    requires inside { AreInside count D.half to (length (M.items list.old)) }
+    requires reached { AreReached count to (M.may (M.reach list.old)) }
     requires apart { AreApart count D.half to }
-    ensures { AreStored count D.half to (items_of_four D.items four) (M.items list.old) (M.items list.new) }
+    ensures stored { AreStored count D.half to (items_of_four D.items four) (M.items list.old) (M.items list.new) }
+    ensures holder { M.reach list.new ≡ M.reach list.old }
 {
     store_two(list, to[0], to[1], four.a);
     store_two(list, to[2], to[3], four.b);
@@ -283,8 +301,11 @@ fn exchange_band<T, D: Register<T>, M: Runs<T, D>>(
     requires side { side ≡ D.half }
     requires below { row + side ≤ 8 }
     requires tiles { AreTiles x y (length (M.items list.old)) }
+    requires reached_x { RowsReached 8 D.half (slice_index x) (M.may (M.reach list.old)) }
+    requires reached_y { RowsReached 8 D.half (slice_index y) (M.may (M.reach list.old)) }
     requires fits { length (M.items list.old) < 2 ^ 63 }
-    ensures { RowsExchanged row (row + side) x y (M.items list.old) (M.items list.new) }
+    ensures exchanged { RowsExchanged row (row + side) x y (M.items list.old) (M.items list.new) }
+    ensures holder { M.reach list.new ≡ M.reach list.old }
 {
     let in_x = in_rows(x, side, [row; 8]);
     let in_y = in_columns(y, [row; 8]);
@@ -305,7 +326,10 @@ pub(crate) fn exchange_tiles<T, D: Register<T>, M: Runs<T, D>>(
     requires some_side { IsSide D.half }
     requires side { side ≡ D.half }
     requires tiles { AreTiles x y (length (M.items list.old)) }
-    ensures { TilesExchanged 64 x y (M.items list.old) (M.items list.new) }
+    requires reached_x { RowsReached 8 D.half (slice_index x) (M.may (M.reach list.old)) }
+    requires reached_y { RowsReached 8 D.half (slice_index y) (M.may (M.reach list.old)) }
+    ensures exchanged { TilesExchanged 64 x y (M.items list.old) (M.items list.new) }
+    ensures holder { M.reach list.new ≡ M.reach list.old }
 {
     match side {
         2 => {
@@ -365,8 +389,10 @@ fn turn_squares<T, D: Register<T>, M: Runs<T, D>>(
     requires sum { sum < 8 }
     requires whole { sum % side ≡ 0 }
     requires tile { IsTile x (length (M.items list.old)) }
+    requires reached { RowsReached 8 D.half (slice_index x) (M.may (M.reach list.old)) }
     requires fits { length (M.items list.old) < 2 ^ 63 }
-    ensures { SquaresTurned sum (sum + side) side x (M.items list.old) (M.items list.new) }
+    ensures turned { SquaresTurned sum (sum + side) side x (M.items list.old) (M.items list.new) }
+    ensures holder { M.reach list.new ≡ M.reach list.old }
 {
     let tops = opposites(side, sum);
     let columns = load_columns(list, side, in_columns(x, tops));
@@ -379,7 +405,9 @@ pub(crate) fn turn_tile<T, D: Register<T>, M: Runs<T, D>>(list: &mut M, side: us
     requires some_side { IsSide D.half }
     requires side { side ≡ D.half }
     requires tile { IsTile x (length (M.items list.old)) }
-    ensures { TileTurned 64 x (M.items list.old) (M.items list.new) }
+    requires reached { RowsReached 8 D.half (slice_index x) (M.may (M.reach list.old)) }
+    ensures turned { TileTurned 64 x (M.items list.old) (M.items list.new) }
+    ensures holder { M.reach list.new ≡ M.reach list.old }
 {
     match side {
         2 => {
@@ -442,9 +470,12 @@ fn put_columns<T, D: Register<T>, S: Runs<T, D>, M: Runs<T, D>>(
     requires known { (block.side ≡ 4) ⊎ (block.side ≡ 8) }
     requires below { col + side ≤ block.side }
     requires block { BlockFits block (length (S.items source.now)) (length (M.items cells.old)) }
+    requires reads { RowsReached block.side D.half (λ r. block.from + r * block.width) (S.may (S.reach source.now)) }
+    requires writes { RowsReached block.side D.half (λ c. block.to + c * block.height) (M.may (M.reach cells.old)) }
     requires source_fits { length (S.items source.now) < 2 ^ 63 }
     requires cells_fit { length (M.items cells.old) < 2 ^ 63 }
-    ensures { ColumnsPut col (col + side) block (S.items source.now) (M.items cells.old) (M.items cells.new) }
+    ensures put { ColumnsPut col (col + side) block (S.items source.now) (M.items cells.old) (M.items cells.new) }
+    ensures holder { M.reach cells.new ≡ M.reach cells.old }
 {
     let from = in_columns(starts(block.from, block.width, block.side), [col; 8]);
     let to = in_rows(starts(block.to, block.height, block.side), side, [col; 8]);
@@ -465,7 +496,10 @@ pub(crate) fn put_block<T, D: Register<T>, S: Runs<T, D>, M: Runs<T, D>>(
     requires known { (block.side ≡ 4) ⊎ (block.side ≡ 8) }
     requires below { side ≤ block.side }
     requires block { BlockFits block (length (S.items source.now)) (length (M.items cells.old)) }
-    ensures { IsBlockPut (block_items block) block (S.items source.now) (M.items cells.old) (M.items cells.new) }
+    requires reads { RowsReached block.side D.half (λ r. block.from + r * block.width) (S.may (S.reach source.now)) }
+    requires writes { RowsReached block.side D.half (λ c. block.to + c * block.height) (M.may (M.reach cells.old)) }
+    ensures put { IsBlockPut (block_items block) block (S.items source.now) (M.items cells.old) (M.items cells.new) }
+    ensures holder { M.reach cells.new ≡ M.reach cells.old }
 {
     match block.side / side {
         4 => {

@@ -73,13 +73,17 @@ pub(crate) trait Register<T>: Copy {
 }
 
 /// A list in which a run of items, half a register, can be read or written at once.
+///
+/// A holder also says where runs `may` be read and written, and where they `may_last` be written by
+/// `store_last`. Both depend on its `reach` alone, which no store changes. Code that is generic over
+/// this trait cannot know them, so it touches no run but those that its own `requires` names.
 pub(crate) trait Runs<T, D: Register<T>> {
     /// Reads the run from `place` on.
     ///
     /// # Contract
     ///
     /// ```text
-    /// requires { place + D.half ≤ length (items self.now) }
+    /// requires { may (reach self.now) place }
     /// ensures { (t : ℕ) → t < D.half → slice_get (D.half_items result) t ≡ slice_get (items self.now) (place + t) }
     /// ```
     fn load(&self, place: usize) -> D::Half;
@@ -89,8 +93,9 @@ pub(crate) trait Runs<T, D: Register<T>> {
     /// # Contract
     ///
     /// ```text
-    /// requires { place + D.half ≤ length (items self.old) }
-    /// ensures { IsRunStored D.half place (D.half_items run) (items self.old) (items self.new) }
+    /// requires { may (reach self.old) place }
+    /// ensures stored { IsRunStored D.half place (D.half_items run) (items self.old) (items self.new) }
+    /// ensures holder { reach self.new ≡ reach self.old }
     /// ```
     fn store(&mut self, place: usize, run: D::Half);
 
@@ -99,8 +104,9 @@ pub(crate) trait Runs<T, D: Register<T>> {
     /// # Contract
     ///
     /// ```text
-    /// requires { place + D.half ≤ length (items self.old) }
-    /// ensures { IsRunStored D.half place (D.half_items run) (items self.old) (items self.new) }
+    /// requires { may_last (reach self.old) place }
+    /// ensures stored { IsRunStored D.half place (D.half_items run) (items self.old) (items self.new) }
+    /// ensures holder { reach self.new ≡ reach self.old }
     /// ```
     fn store_last(&mut self, place: usize, run: D::Half) {
         self.store(place, run);
@@ -139,8 +145,8 @@ fn next_stage<T, D: Register<T>>(four: Four<D>) -> Four<D> {
 /// # Contract
 ///
 /// ```text
-/// requires first { first + D.half ≤ length (S.items list.now) }
-/// requires second { second + D.half ≤ length (S.items list.now) }
+/// requires first { S.may (S.reach list.now) first }
+/// requires second { S.may (S.reach list.now) second }
 /// ensures { AreInterleaved D.half first second (S.items list.now) (S.items list.now) (D.items result) }
 /// ```
 #[inline(always)]
@@ -153,7 +159,7 @@ fn load_two<T, D: Register<T>, S: Runs<T, D>>(list: &S, first: usize, second: us
 /// # Contract
 ///
 /// ```text
-/// requires { AreInside 8 D.half from (length (S.items list.now)) }
+/// requires { AreReached 8 from (S.may (S.reach list.now)) }
 /// ensures { AreLoaded D.half from (S.items list.now) (items_of_four D.items result) }
 /// ```
 #[inline(always)]
@@ -198,7 +204,7 @@ fn in_order(places: [usize; 8], side: usize) -> [usize; 8] {
 /// ```text
 /// requires some_side { IsSide D.half }
 /// requires side { side ≡ D.half }
-/// requires inside { AreInside 8 D.half places (length (S.items list.now)) }
+/// requires reached { AreReached 8 places (S.may (S.reach list.now)) }
 /// ensures { AreColumns D.half places (S.items list.now) (items_of_four D.items result) }
 /// ```
 #[inline(always)]
@@ -224,9 +230,10 @@ fn load_columns<T, D: Register<T>, S: Runs<T, D>>(
 ///
 /// ```text
 /// requires apart { (first + D.half ≤ second) ⊎ (second + D.half ≤ first) }
-/// requires first { first + D.half ≤ length (M.items list.old) }
-/// requires second { second + D.half ≤ length (M.items list.old) }
-/// ensures { IsStored D.half first second (D.items rows) (M.items list.old) (M.items list.new) }
+/// requires first { M.may (M.reach list.old) first }
+/// requires second { M.may (M.reach list.old) second }
+/// ensures stored { IsStored D.half first second (D.items rows) (M.items list.old) (M.items list.new) }
+/// ensures holder { M.reach list.new ≡ M.reach list.old }
 /// ```
 #[inline(always)]
 fn store_two<T, D: Register<T>, M: Runs<T, D>>(list: &mut M, first: usize, second: usize, rows: D) {
@@ -241,9 +248,10 @@ fn store_two<T, D: Register<T>, M: Runs<T, D>>(list: &mut M, first: usize, secon
 ///
 /// ```text
 /// requires known { (count ≡ 4) ⊎ (count ≡ 8) }
-/// requires inside { AreInside count D.half to (length (M.items list.old)) }
+/// requires reached { AreReached count to (M.may (M.reach list.old)) }
 /// requires apart { AreApart count D.half to }
-/// ensures { AreStored count D.half to (items_of_four D.items four) (M.items list.old) (M.items list.new) }
+/// ensures stored { AreStored count D.half to (items_of_four D.items four) (M.items list.old) (M.items list.new) }
+/// ensures holder { M.reach list.new ≡ M.reach list.old }
 /// ```
 #[inline(always)]
 fn store<T, D: Register<T>, M: Runs<T, D>>(
@@ -335,8 +343,11 @@ fn in_rows(x: [usize; 8], side: usize, tops: [usize; 8]) -> [usize; 8] {
 /// requires side { side ≡ D.half }
 /// requires below { row + side ≤ 8 }
 /// requires tiles { AreTiles x y (length (M.items list.old)) }
+/// requires reached_x { RowsReached 8 D.half (slice_index x) (M.may (M.reach list.old)) }
+/// requires reached_y { RowsReached 8 D.half (slice_index y) (M.may (M.reach list.old)) }
 /// requires fits { length (M.items list.old) < 2 ^ 63 }
-/// ensures { RowsExchanged row (row + side) x y (M.items list.old) (M.items list.new) }
+/// ensures exchanged { RowsExchanged row (row + side) x y (M.items list.old) (M.items list.new) }
+/// ensures holder { M.reach list.new ≡ M.reach list.old }
 /// ```
 #[inline(always)]
 fn exchange_band<T, D: Register<T>, M: Runs<T, D>>(
@@ -362,7 +373,10 @@ fn exchange_band<T, D: Register<T>, M: Runs<T, D>>(
 /// requires some_side { IsSide D.half }
 /// requires side { side ≡ D.half }
 /// requires tiles { AreTiles x y (length (M.items list.old)) }
-/// ensures { TilesExchanged 64 x y (M.items list.old) (M.items list.new) }
+/// requires reached_x { RowsReached 8 D.half (slice_index x) (M.may (M.reach list.old)) }
+/// requires reached_y { RowsReached 8 D.half (slice_index y) (M.may (M.reach list.old)) }
+/// ensures exchanged { TilesExchanged 64 x y (M.items list.old) (M.items list.new) }
+/// ensures holder { M.reach list.new ≡ M.reach list.old }
 /// ```
 #[inline(always)]
 pub(crate) fn exchange_tiles<T, D: Register<T>, M: Runs<T, D>>(
@@ -434,8 +448,10 @@ fn opposites(side: usize, sum: usize) -> [usize; 8] {
 /// requires sum { sum < 8 }
 /// requires whole { sum % side ≡ 0 }
 /// requires tile { IsTile x (length (M.items list.old)) }
+/// requires reached { RowsReached 8 D.half (slice_index x) (M.may (M.reach list.old)) }
 /// requires fits { length (M.items list.old) < 2 ^ 63 }
-/// ensures { SquaresTurned sum (sum + side) side x (M.items list.old) (M.items list.new) }
+/// ensures turned { SquaresTurned sum (sum + side) side x (M.items list.old) (M.items list.new) }
+/// ensures holder { M.reach list.new ≡ M.reach list.old }
 /// ```
 #[inline(always)]
 fn turn_squares<T, D: Register<T>, M: Runs<T, D>>(
@@ -457,7 +473,9 @@ fn turn_squares<T, D: Register<T>, M: Runs<T, D>>(
 /// requires some_side { IsSide D.half }
 /// requires side { side ≡ D.half }
 /// requires tile { IsTile x (length (M.items list.old)) }
-/// ensures { TileTurned 64 x (M.items list.old) (M.items list.new) }
+/// requires reached { RowsReached 8 D.half (slice_index x) (M.may (M.reach list.old)) }
+/// ensures turned { TileTurned 64 x (M.items list.old) (M.items list.new) }
+/// ensures holder { M.reach list.new ≡ M.reach list.old }
 /// ```
 #[inline(always)]
 pub(crate) fn turn_tile<T, D: Register<T>, M: Runs<T, D>>(list: &mut M, side: usize, x: [usize; 8]) {
@@ -526,9 +544,12 @@ fn starts(first: usize, stride: usize, count: usize) -> [usize; 8] {
 /// requires known { (block.side ≡ 4) ⊎ (block.side ≡ 8) }
 /// requires below { col + side ≤ block.side }
 /// requires block { BlockFits block (length (S.items source.now)) (length (M.items cells.old)) }
+/// requires reads { RowsReached block.side D.half (λ r. block.from + r * block.width) (S.may (S.reach source.now)) }
+/// requires writes { RowsReached block.side D.half (λ c. block.to + c * block.height) (M.may (M.reach cells.old)) }
 /// requires source_fits { length (S.items source.now) < 2 ^ 63 }
 /// requires cells_fit { length (M.items cells.old) < 2 ^ 63 }
-/// ensures { ColumnsPut col (col + side) block (S.items source.now) (M.items cells.old) (M.items cells.new) }
+/// ensures put { ColumnsPut col (col + side) block (S.items source.now) (M.items cells.old) (M.items cells.new) }
+/// ensures holder { M.reach cells.new ≡ M.reach cells.old }
 /// ```
 #[inline(always)]
 fn put_columns<T, D: Register<T>, S: Runs<T, D>, M: Runs<T, D>>(
@@ -554,7 +575,10 @@ fn put_columns<T, D: Register<T>, S: Runs<T, D>, M: Runs<T, D>>(
 /// requires known { (block.side ≡ 4) ⊎ (block.side ≡ 8) }
 /// requires below { side ≤ block.side }
 /// requires block { BlockFits block (length (S.items source.now)) (length (M.items cells.old)) }
-/// ensures { IsBlockPut (block_items block) block (S.items source.now) (M.items cells.old) (M.items cells.new) }
+/// requires reads { RowsReached block.side D.half (λ r. block.from + r * block.width) (S.may (S.reach source.now)) }
+/// requires writes { RowsReached block.side D.half (λ c. block.to + c * block.height) (M.may (M.reach cells.old)) }
+/// ensures put { IsBlockPut (block_items block) block (S.items source.now) (M.items cells.old) (M.items cells.new) }
+/// ensures holder { M.reach cells.new ≡ M.reach cells.old }
 /// ```
 #[inline(always)]
 pub(crate) fn put_block<T, D: Register<T>, S: Runs<T, D>, M: Runs<T, D>>(

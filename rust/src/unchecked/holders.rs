@@ -284,20 +284,22 @@ impl<T: Copy> Cells for SliceItems<'_, T> {
     }
 }
 
-/// Runs of the items, which fill half a register `D`. The functions of `kernels/registers.rs` are proved to read and
-/// write within the list alone, if their own precondition holds. It is that of the method which calls them.
+/// Runs of the items, which fill half a register `D`. Here a run `may` be read and written if all of it is among the places
+/// of the step that is made, which are within the list by the precondition of the step's method. It `may_last` be written
+/// if it also begins at a multiple of 16 bytes. The functions of `kernels/registers.rs` are proved to touch no other run,
+/// whatever these words mean. So that method may call them if it names no place but those of its step.
 impl<T, D: Register<T>> Runs<T, D> for SliceItems<'_, T> {
     #[inline(always)]
     fn load(&self, place: usize) -> D::Half {
         debug_assert!(place + size_of::<D::Half>() / size_of::<T>() <= self.len);
-        // SAFETY: the items are within the list, by the `requires` of `Runs::load`.
+        // SAFETY: the run `may` be read, by the `requires` of `Runs::load`.
         unsafe { self.first.add(place).cast::<D::Half>().read_unaligned() }
     }
 
     #[inline(always)]
     fn store(&mut self, place: usize, run: D::Half) {
         debug_assert!(place + size_of::<D::Half>() / size_of::<T>() <= self.len);
-        // SAFETY: the items are within the list, by the `requires` of `Runs::store`.
+        // SAFETY: the run `may` be written, by the `requires` of `Runs::store`.
         unsafe { self.first.add(place).cast::<D::Half>().write_unaligned(run) }
     }
 
@@ -308,8 +310,8 @@ impl<T, D: Register<T>> Runs<T, D> for SliceItems<'_, T> {
     #[inline(always)]
     fn store_last(&mut self, place: usize, run: D::Half) {
         debug_assert!(place + 16 / size_of::<T>() <= self.len && size_of::<D::Half>() == 16);
-        // SAFETY (of both): a run is a register here. Its items are within the list, by the `requires` of
-        // `Runs::store_last`, and begin at a multiple of 16 bytes: `put_block` tests that its columns are whole lines.
+        // SAFETY (of both): a run is a register here. It `may_last` be written, by the `requires` of `Runs::store_last`:
+        // `put_block` calls `put_lines` only if its columns are whole lines.
         let (to, run): (_, registers::Register) = (self.first.wrapping_add(place), unsafe { transmute_copy(&run) });
         unsafe { core::arch::asm!("movntdq [{}], {}", in(reg) to, in(xmm_reg) run, options(nostack, preserves_flags)) }
     }

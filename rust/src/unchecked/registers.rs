@@ -10,7 +10,7 @@
 
 use core::mem::{MaybeUninit, transmute};
 
-use super::holders::MOVES_BYTES;
+use super::holders::{Bytes, MOVES_BYTES};
 use crate::kernels::registers;
 
 #[cfg(all(target_arch = "aarch64", target_feature = "neon", target_endian = "little"))]
@@ -58,7 +58,7 @@ pub(super) struct Items<const N: usize>(Register);
 /// aarch64.
 macro_rules! registers {
     ($($bytes:literal $parts:literal $($name:ident $x86:literal $arm:literal)*;)*) => {$(
-        impl<T> registers::Register<T> for Items<$bytes> {
+        impl registers::Register<Bytes<$bytes>> for Items<$bytes> {
             type Half = Half;
 
             $(#[inline(always)]

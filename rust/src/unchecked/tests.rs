@@ -9,7 +9,7 @@ use std::num::NonZero;
 use std::vec::Vec;
 
 #[cfg(not(feature = "checked"))]
-use super::holders::InRegisters;
+use super::holders::{Bytes, InRegisters};
 #[cfg(not(feature = "checked"))]
 use super::registers::Items;
 use super::{SliceCells, SlicePlaces, SliceSource};
@@ -36,6 +36,35 @@ impl<'a, T: 'a> Hold<'a, T> for Singly {
     }
 }
 
+/// The registers of items of `N` bytes, for items of any type of this size.
+#[cfg(not(feature = "checked"))]
+#[derive(Clone, Copy)]
+struct Of<const N: usize>(Items<N>);
+
+#[cfg(not(feature = "checked"))]
+impl<T, const N: usize> Register<T> for Of<N>
+where
+    Items<N>: Register<Bytes<N>>,
+{
+    type Half = <Items<N> as Register<Bytes<N>>>::Half;
+
+    fn low(self, other: Self) -> Self {
+        Of(self.0.low(other.0))
+    }
+
+    fn high(self, other: Self) -> Self {
+        Of(self.0.high(other.0))
+    }
+
+    fn from_half(first: Self::Half) -> Self {
+        Of(Items::from_half(first))
+    }
+
+    fn halves(self) -> (Self::Half, Self::Half) {
+        self.0.halves()
+    }
+}
+
 /// The holder that transposes squares in registers.
 #[cfg(not(feature = "checked"))]
 struct ByRegisters<D>(D);
@@ -57,7 +86,7 @@ macro_rules! of_each_holder {
             $statement;
         }
         #[cfg(not(feature = "checked"))]
-        of_each_holder!(@ $item, $hold => $statement, 1: Items<1>, 2: Pair<Items<2>>, 4: Pair<Items<4>>, 8: Pair<Items<8>>);
+        of_each_holder!(@ $item, $hold => $statement, 1: Of<1>, 2: Pair<Of<2>>, 4: Pair<Of<4>>, 8: Pair<Of<8>>);
     }};
     (@ $item:ty, $hold:ident => $statement:expr, $($bytes:literal: $rows:ty),*) => {
         match size_of::<$item>() {
@@ -468,12 +497,11 @@ fn blocks_of_parts() {
 fn shuffles() {
     use super::USES_REGISTERS;
     use super::holders::SliceItems;
-    use super::registers::Items;
     use crate::kernels::registers::{Pair, Register, Runs};
 
     fn compare<const N: usize>()
     where
-        Items<N>: Register<[u8; N]>,
+        Of<N>: Register<[u8; N]>,
     {
         let lists: [Vec<[u8; N]>; 2] = [0, 16].map(|first| {
             (0..16 / N)
@@ -482,17 +510,17 @@ fn shuffles() {
         });
         let mut list = lists.concat();
         let mut runs = SliceItems::new(&mut list);
-        let [a, b] = [0, 16 / N].map(|place| Runs::<_, Pair<Items<N>>>::load(&runs, place));
-        Runs::<_, Pair<Items<N>>>::store(&mut runs, 0, a.low(b));
-        Runs::<_, Pair<Items<N>>>::store(&mut runs, 16 / N, a.high(b));
+        let [a, b] = [0, 16 / N].map(|place| Runs::<_, Pair<Of<N>>>::load(&runs, place));
+        Runs::<_, Pair<Of<N>>>::store(&mut runs, 0, a.low(b));
+        Runs::<_, Pair<Of<N>>>::store(&mut runs, 16 / N, a.high(b));
         let interleaved: Vec<[u8; N]> = lists[0].iter().zip(&lists[1]).flat_map(|(a, b)| [*a, *b]).collect();
         assert_eq!(list, interleaved);
 
         let mut list = lists[0].clone();
         let mut runs = SliceItems::new(&mut list);
         let (first, second) = a.halves();
-        Runs::<_, Items<N>>::store(&mut runs, 0, second);
-        Runs::<_, Items<N>>::store(&mut runs, 8 / N, Items::<N>::from_half(first).halves().0);
+        Runs::<_, Of<N>>::store(&mut runs, 0, second);
+        Runs::<_, Of<N>>::store(&mut runs, 8 / N, Of::<N>::from_half(first).halves().0);
         let (first, second) = lists[0].split_at(8 / N);
         assert_eq!(list, [second, first].concat());
     }
@@ -627,10 +655,10 @@ mod refused {
                 assert_eq!(panics(|| call(&places)), is_outside, "a load of {len} items at {place}");
             }
         }
-        check::<u8, Items<1>>();
-        check::<u16, Pair<Items<2>>>();
-        check::<u32, Pair<Items<4>>>();
-        check::<u64, Pair<Items<8>>>();
+        check::<u8, Of<1>>();
+        check::<u16, Pair<Of<2>>>();
+        check::<u32, Pair<Of<4>>>();
+        check::<u64, Pair<Of<8>>>();
     }
 
     #[test]

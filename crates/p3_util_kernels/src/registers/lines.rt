@@ -3,8 +3,8 @@
 
 ghost use Rattle.std.specs.Prelude.{◌≡◌, ℕ, ◌+◌, ◌*◌, ◌^◌, ◌<◌, ◌≤◌, ◌⊎◌, ◌++◌, length};
 ghost use Rattle.p3_util_kernels.specs.BlockPut.{BlockFits, IsBlockPut, block_items};
-ghost use Rattle.p3_util_kernels.specs.Registers.{ColumnsPut, IsRunStored, IsStored, items_of_four};
-ghost use Rattle.p3_util_kernels.specs.RegisterLines.{AreLines};
+ghost use Rattle.p3_util_kernels.specs.Registers.{ColumnsPut, IsRunStored, IsStored, RowsReached, items_of_four};
+ghost use Rattle.p3_util_kernels.specs.RegisterLines.{AreLines, LinesReached};
 
 use crate::places::Block;
 use crate::registers::{Four, Register, Runs, load, next_stage, starts};
@@ -16,6 +16,7 @@ fn load_lines<T, D: Register<T>, S: Runs<T, D>>(list: &S, from: usize, width: us
     requires side { (D.half ≡ 2) ⊎ (D.half ≡ 4) }
     requires inside { (r : ℕ) → r < 8 → from + r * width + D.half ≤ length (S.items list.now) }
     requires list_fits { length (S.items list.now) < 2 ^ 63 }
+    requires reached { (r : ℕ) → r < 8 → S.may (S.reach list.now) (from + r * width) }
     ensures { AreLines D.half from width (S.items list.now) (items_of_four D.items result) }
 {
     let one = load(list, starts(from, width, 8));
@@ -27,9 +28,10 @@ fn load_lines<T, D: Register<T>, S: Runs<T, D>>(list: &S, from: usize, width: us
 #[inline(always)]
 fn store_last<T, D: Register<T>, M: Runs<T, D>>(list: &mut M, first: usize, second: usize, rows: D)
     requires apart { (first + D.half ≤ second) ⊎ (second + D.half ≤ first) }
-    requires first { first + D.half ≤ length (M.items list.old) }
-    requires second { second + D.half ≤ length (M.items list.old) }
-    ensures { IsStored D.half first second (D.items rows) (M.items list.old) (M.items list.new) }
+    requires first { M.may_last (M.reach list.old) first }
+    requires second { M.may_last (M.reach list.old) second }
+    ensures stored { IsStored D.half first second (D.items rows) (M.items list.old) (M.items list.new) }
+    ensures holder { M.reach list.new ≡ M.reach list.old }
 {
     let (a, b) = rows.halves();
     list.store_last(first, a);
@@ -51,8 +53,10 @@ fn put_line<T, D: Register<T>, M: Runs<T, D>>(
     requires line { block.side ≡ 4 * side }
     requires room { (r : ℕ) → r < block.side → block.to + col * block.height + r < length (M.items list.old) }
     requires list_fits { length (M.items list.old) < 2 ^ 63 }
-    ensures { IsRunStored block.side (block.to + col * block.height) (D.items a ++ D.items b)
+    requires reached { (k : ℕ) → k < 4 → M.may_last (M.reach list.old) (block.to + col * block.height + k * side) }
+    ensures stored { IsRunStored block.side (block.to + col * block.height) (D.items a ++ D.items b)
         (M.items list.old) (M.items list.new) }
+    ensures holder { M.reach list.new ≡ M.reach list.old }
 {
     let to = block.to + col * block.height;
     store_last(list, to, to + side, a);
@@ -73,9 +77,12 @@ fn put_some_lines<T, D: Register<T>, S: Runs<T, D>, M: Runs<T, D>>(
     requires lines { block.side ≡ 4 * side }
     requires below { col + side ≤ block.side }
     requires block { BlockFits block (length (S.items source.now)) (length (M.items cells.old)) }
+    requires reads { RowsReached block.side D.half (λ r. block.from + r * block.width) (S.may (S.reach source.now)) }
+    requires writes { LinesReached side block (M.may_last (M.reach cells.old)) }
     requires source_fits { length (S.items source.now) < 2 ^ 63 }
     requires cells_fit { length (M.items cells.old) < 2 ^ 63 }
-    ensures { ColumnsPut col (col + side) block (S.items source.now) (M.items cells.old) (M.items cells.new) }
+    ensures put { ColumnsPut col (col + side) block (S.items source.now) (M.items cells.old) (M.items cells.new) }
+    ensures holder { M.reach cells.new ≡ M.reach cells.old }
 {
     let from = block.from + col;
     let top = load_lines(source, from, block.width);
@@ -103,7 +110,10 @@ pub(crate) fn put_lines<T, D: Register<T>, S: Runs<T, D>, M: Runs<T, D>>(
     requires side { side ≡ D.half }
     requires lines { block.side ≡ 4 * side }
     requires block { BlockFits block (length (S.items source.now)) (length (M.items cells.old)) }
-    ensures { IsBlockPut (block_items block) block (S.items source.now) (M.items cells.old) (M.items cells.new) }
+    requires reads { RowsReached block.side D.half (λ r. block.from + r * block.width) (S.may (S.reach source.now)) }
+    requires writes { LinesReached side block (M.may_last (M.reach cells.old)) }
+    ensures put { IsBlockPut (block_items block) block (S.items source.now) (M.items cells.old) (M.items cells.new) }
+    ensures holder { M.reach cells.new ≡ M.reach cells.old }
 {
     put_some_lines(cells, source, side, block, 0);
     put_some_lines(cells, source, side, block, side);

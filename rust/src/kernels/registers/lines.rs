@@ -13,6 +13,7 @@ use crate::kernels::registers::{Four, Register, Runs, load, next_stage, starts};
 /// requires side { (D.half ≡ 2) ⊎ (D.half ≡ 4) }
 /// requires inside { (r : ℕ) → r < 8 → from + r * width + D.half ≤ length (S.items list.now) }
 /// requires list_fits { length (S.items list.now) < 2 ^ 63 }
+/// requires reached { (r : ℕ) → r < 8 → S.may (S.reach list.now) (from + r * width) }
 /// ensures { AreLines D.half from width (S.items list.now) (items_of_four D.items result) }
 /// ```
 #[inline(always)]
@@ -28,9 +29,10 @@ fn load_lines<T, D: Register<T>, S: Runs<T, D>>(list: &S, from: usize, width: us
 ///
 /// ```text
 /// requires apart { (first + D.half ≤ second) ⊎ (second + D.half ≤ first) }
-/// requires first { first + D.half ≤ length (M.items list.old) }
-/// requires second { second + D.half ≤ length (M.items list.old) }
-/// ensures { IsStored D.half first second (D.items rows) (M.items list.old) (M.items list.new) }
+/// requires first { M.may_last (M.reach list.old) first }
+/// requires second { M.may_last (M.reach list.old) second }
+/// ensures stored { IsStored D.half first second (D.items rows) (M.items list.old) (M.items list.new) }
+/// ensures holder { M.reach list.new ≡ M.reach list.old }
 /// ```
 #[inline(always)]
 fn store_last<T, D: Register<T>, M: Runs<T, D>>(list: &mut M, first: usize, second: usize, rows: D) {
@@ -49,8 +51,10 @@ fn store_last<T, D: Register<T>, M: Runs<T, D>>(list: &mut M, first: usize, seco
 /// requires line { block.side ≡ 4 * side }
 /// requires room { (r : ℕ) → r < block.side → block.to + col * block.height + r < length (M.items list.old) }
 /// requires list_fits { length (M.items list.old) < 2 ^ 63 }
-/// ensures { IsRunStored block.side (block.to + col * block.height) (D.items a ++ D.items b)
+/// requires reached { (k : ℕ) → k < 4 → M.may_last (M.reach list.old) (block.to + col * block.height + k * side) }
+/// ensures stored { IsRunStored block.side (block.to + col * block.height) (D.items a ++ D.items b)
 ///     (M.items list.old) (M.items list.new) }
+/// ensures holder { M.reach list.new ≡ M.reach list.old }
 /// ```
 #[inline(always)]
 fn put_line<T, D: Register<T>, M: Runs<T, D>>(
@@ -76,9 +80,12 @@ fn put_line<T, D: Register<T>, M: Runs<T, D>>(
 /// requires lines { block.side ≡ 4 * side }
 /// requires below { col + side ≤ block.side }
 /// requires block { BlockFits block (length (S.items source.now)) (length (M.items cells.old)) }
+/// requires reads { RowsReached block.side D.half (λ r. block.from + r * block.width) (S.may (S.reach source.now)) }
+/// requires writes { LinesReached side block (M.may_last (M.reach cells.old)) }
 /// requires source_fits { length (S.items source.now) < 2 ^ 63 }
 /// requires cells_fit { length (M.items cells.old) < 2 ^ 63 }
-/// ensures { ColumnsPut col (col + side) block (S.items source.now) (M.items cells.old) (M.items cells.new) }
+/// ensures put { ColumnsPut col (col + side) block (S.items source.now) (M.items cells.old) (M.items cells.new) }
+/// ensures holder { M.reach cells.new ≡ M.reach cells.old }
 /// ```
 #[inline(never)]
 fn put_some_lines<T, D: Register<T>, S: Runs<T, D>, M: Runs<T, D>>(
@@ -111,7 +118,10 @@ fn put_some_lines<T, D: Register<T>, S: Runs<T, D>, M: Runs<T, D>>(
 /// requires side { side ≡ D.half }
 /// requires lines { block.side ≡ 4 * side }
 /// requires block { BlockFits block (length (S.items source.now)) (length (M.items cells.old)) }
-/// ensures { IsBlockPut (block_items block) block (S.items source.now) (M.items cells.old) (M.items cells.new) }
+/// requires reads { RowsReached block.side D.half (λ r. block.from + r * block.width) (S.may (S.reach source.now)) }
+/// requires writes { LinesReached side block (M.may_last (M.reach cells.old)) }
+/// ensures put { IsBlockPut (block_items block) block (S.items source.now) (M.items cells.old) (M.items cells.new) }
+/// ensures holder { M.reach cells.new ≡ M.reach cells.old }
 /// ```
 #[inline(always)]
 pub(crate) fn put_lines<T, D: Register<T>, S: Runs<T, D>, M: Runs<T, D>>(

@@ -3,16 +3,16 @@ use Rattle.std.proofs.Common.{arith}
 use Rattle.p3_util_kernels.proofs.RegistersTiles.{RowsExchanged-joined, TilesExchanged-rows}
 use Rattle.p3_util_kernels.proofs.registers.exchange_tiles.Goals as goal
 
-pub returns-in-2 : goal.returns-in-2
-returns-in-2 g c =
+pub returns-in-2-clause-exchanged : goal.returns-in-2-clause-exchanged
+returns-in-2-clause-exchanged g c =
     let join = RowsExchanged-joined _ _ _ c.requires.tiles in
     TilesExchanged-rows _ _ _ c.requires.tiles _ _
     (join 0 6 8 _ _ _ (omega arith) (omega arith) (omega arith)
     (join 0 4 6 _ _ _ (omega arith) (omega arith) (omega arith)
-    (join 0 2 4 _ _ _ (omega arith) (omega arith) (omega arith) (rw c.in-2.is at c.exchange_band.ensures) (rw c.in-2.is at c.exchange_band-in-2.ensures))
-    (rw c.in-2.is at c.exchange_band-in-2-2.ensures)) (rw c.in-2.is at c.exchange_band-in-2-3.ensures))
+    (join 0 2 4 _ _ _ (omega arith) (omega arith) (omega arith) (rw c.in-2.is at c.exchange_band.ensures.exchanged) (rw c.in-2.is at c.exchange_band-in-2.ensures.exchanged))
+    (rw c.in-2.is at c.exchange_band-in-2-2.ensures.exchanged)) (rw c.in-2.is at c.exchange_band-in-2-3.ensures.exchanged))
 
-pub returns-in-4 : goal.returns-in-4
-returns-in-4 g c =
+pub returns-in-4-clause-exchanged : goal.returns-in-4-clause-exchanged
+returns-in-4-clause-exchanged g c =
     TilesExchanged-rows _ _ _ c.requires.tiles _ _
-    (RowsExchanged-joined _ _ _ c.requires.tiles 0 4 8 _ _ _ (omega arith) (omega arith) (omega arith) (rw c.in-4.is at c.exchange_band-in-4.ensures) (rw c.in-4.is at c.exchange_band-in-4-2.ensures))
+    (RowsExchanged-joined _ _ _ c.requires.tiles 0 4 8 _ _ _ (omega arith) (omega arith) (omega arith) (rw c.in-4.is at c.exchange_band-in-4.ensures.exchanged) (rw c.in-4.is at c.exchange_band-in-4-2.ensures.exchanged))

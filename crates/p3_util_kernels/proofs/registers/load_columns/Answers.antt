@@ -1,11 +1,11 @@
 -- As many stages as a side has binary digits make columns of rows.
 use Rattle.std.proofs.Common.{arith}
 use Rattle.p3_util_kernels.specs.Registers.{items_of_four}
-use Rattle.p3_util_kernels.proofs.RegistersLemmas.{AreColumns-two, AreColumns-four, AreColumns-eight, AreInside-in_order}
+use Rattle.p3_util_kernels.proofs.RegistersLemmas.{AreColumns-two, AreColumns-four, AreColumns-eight, AreReached-in_order}
 use Rattle.p3_util_kernels.proofs.registers.load_columns.Goals as goal
 
 pub load-one-requires : goal.load-one-requires
-load-one-requires g c = AreInside-in_order _ _ _ _ c.requires.some_side (rw c.requires.side at c.in_order.ensures) c.requires.inside
+load-one-requires g c = AreReached-in_order _ (g.S.Runs.may (g.S.Runs.reach c.args.list.now)) _ _ c.requires.some_side (rw c.requires.side at c.in_order.ensures) c.requires.reached
 
 pub returns-then-side-eq2 : goal.returns-then-side-eq2
 returns-then-side-eq2 g c =

@@ -3,21 +3,21 @@ use Rattle.std.proofs.Common.{◌≡◌, arith}
 use Rattle.p3_util_kernels.proofs.RegistersTiles.{SquaresTurned-joined, TileTurned-squares}
 use Rattle.p3_util_kernels.proofs.registers.turn_tile.Goals as goal
 
-pub returns-in-2 : goal.returns-in-2
-returns-in-2 g c =
+pub returns-in-2-clause-turned : goal.returns-in-2-clause-turned
+returns-in-2-clause-turned g c =
     let join = SquaresTurned-joined _ _ c.requires.tile 2 in
     TileTurned-squares _ _ c.requires.tile 2 _ _
     (join 0 6 8 _ _ _ (omega arith) (omega arith)
     (join 0 4 6 _ _ _ (omega arith) (omega arith)
-    (join 0 2 4 _ _ _ (omega arith) (omega arith) (rw c.in-2.is at c.turn_squares.ensures) (rw c.in-2.is at c.turn_squares-in-2.ensures))
-    (rw c.in-2.is at c.turn_squares-in-2-2.ensures)) (rw c.in-2.is at c.turn_squares-in-2-3.ensures))
+    (join 0 2 4 _ _ _ (omega arith) (omega arith) (rw c.in-2.is at c.turn_squares.ensures.turned) (rw c.in-2.is at c.turn_squares-in-2.ensures.turned))
+    (rw c.in-2.is at c.turn_squares-in-2-2.ensures.turned)) (rw c.in-2.is at c.turn_squares-in-2-3.ensures.turned))
 
-pub returns-in-4 : goal.returns-in-4
-returns-in-4 g c =
+pub returns-in-4-clause-turned : goal.returns-in-4-clause-turned
+returns-in-4-clause-turned g c =
     TileTurned-squares _ _ c.requires.tile 4 _ _
-    (SquaresTurned-joined _ _ c.requires.tile 4 0 4 8 _ _ _ (omega arith) (omega arith) (rw c.in-4.is at c.turn_squares-in-4.ensures) (rw c.in-4.is at c.turn_squares-in-4-2.ensures))
+    (SquaresTurned-joined _ _ c.requires.tile 4 0 4 8 _ _ _ (omega arith) (omega arith) (rw c.in-4.is at c.turn_squares-in-4.ensures.turned) (rw c.in-4.is at c.turn_squares-in-4-2.ensures.turned))
 
-pub returns-in_default : goal.returns-in_default
-returns-in_default g c =
+pub returns-in_default-clause-turned : goal.returns-in_default-clause-turned
+returns-in_default-clause-turned g c =
     let is : c.args.side ≡ 8 = grind (arith, c.requires.some_side, c.requires.side, c.in_default) in
-    TileTurned-squares _ _ c.requires.tile 8 _ _ (rw is at c.turn_squares-in_default.ensures)
+    TileTurned-squares _ _ c.requires.tile 8 _ _ (rw is at c.turn_squares-in_default.ensures.turned)

@@ -7,7 +7,7 @@ use Rattle.p3_util_kernels.proofs.registers.lines.load_lines.Goals as goal
 pub load-one-requires : goal.load-one-requires
 load-one-requires g c j h =
     let same : j % 8 ≡ j = omega arith in
-    rw (rw same at (c.starts.ensures.are j h)) (c.requires.inside j h)
+    rw (rw same at (c.starts.ensures.are j h)) (c.requires.reached j h)
 
 pub returns : goal.returns
 returns g c =

@@ -9,7 +9,7 @@ overflow_mul-to g c = omega (arith, c.requires.list_fits, c.requires.room 0 (ome
 pub overflow_add-to : goal.overflow_add-to
 overflow_add-to g c = omega (arith, c.requires.list_fits, c.requires.room 0 (omega arith))
 
-pub returns : goal.returns
-returns g c =
+pub returns-clause-stored : goal.returns-clause-stored
+returns-clause-stored g c =
     rw (c.requires.line, c.requires.side)
-    (IsRunStored-two g.D.Register.half _ _ _ _ _ _ (g.met.D.Register.full c.args.a) (rw c.requires.side at c.store_last.ensures) (rw c.requires.side at c.store_last-2.ensures))
+    (IsRunStored-two g.D.Register.half _ _ _ _ _ _ (g.met.D.Register.full c.args.a) (rw c.requires.side at c.store_last.ensures.stored) (rw c.requires.side at c.store_last-2.ensures.stored))

@@ -4,8 +4,8 @@ use Rattle.p3_util_kernels.proofs.RegistersBlocks.{ColumnsPut-joined}
 use Rattle.p3_util_kernels.proofs.RegistersLines.{IsBlockPut-whole}
 use Rattle.p3_util_kernels.proofs.registers.lines.put_lines.Goals as goal
 
-pub returns : goal.returns
-returns g c =
+pub returns-clause-put : goal.returns-clause-put
+returns-clause-put g c =
     let side = c.args.side in
     let join = ColumnsPut-joined c.args.block _ _ c.requires.block in
     let one : 0 + side ≡ side = omega arith in
@@ -15,5 +15,5 @@ returns g c =
     IsBlockPut-whole c.args.block _ _ _
     (join 0 (3 * side) c.args.block.side _ _ _ _ (omega arith) (omega (arith, c.requires.lines))
     (join 0 (2 * side) (3 * side) _ _ _ _ (omega arith) (omega arith)
-    (join 0 side (2 * side) _ _ _ _ (omega arith) (omega arith) (rw one at c.put_some_lines.ensures) (rw two at c.put_some_lines-2.ensures))
-    (rw three at c.put_some_lines-3.ensures)) (rw four at c.put_some_lines-4.ensures))
+    (join 0 side (2 * side) _ _ _ _ (omega arith) (omega arith) (rw one at c.put_some_lines.ensures.put) (rw two at c.put_some_lines-2.ensures.put))
+    (rw three at c.put_some_lines-3.ensures.put)) (rw four at c.put_some_lines-4.ensures.put))
