@@ -24,6 +24,9 @@
 //!
 //! [`exchange_tiles`], [`turn_tile`] and [`put_block`] leave the list that the methods of these names in
 //! [`places`](crate::places) leave. A holder's own method may call them.
+//!
+//! The module `witness`, which only the Rattle sources have, is an example for whoever writes a holder: a
+//! register, and lists that meet [`Runs`].
 
 ghost use Rattle.std.specs.Prelude.{◌≡◌, ℕ, ◌+◌, ◌-◌, ◌*◌, ◌/◌, ◌%◌, ◌^◌, ◌<◌, ◌≤◌, ◌⊎◌, List, ◌++◌, length, slice_get, slice_index};
 ghost use Rattle.p3_util_kernels.specs.BlockPut.{BlockFits, IsBlockPut, block_items};
@@ -31,6 +34,7 @@ ghost use Rattle.p3_util_kernels.specs.Registers.{AreApart, AreColumns, AreInter
 ghost use Rattle.p3_util_kernels.specs.Exchanged.{AreTiles, IsTile, TileTurned, TilesExchanged};
 
 pub(crate) mod lines;
+mod witness;
 
 use crate::places::Block;
 
@@ -68,18 +72,21 @@ pub(crate) trait Register<T>: Copy {
 
 /// A list in which a run of items, half a register, can be read or written at once.
 ///
-/// A holder also says where runs `may` be read and written, and where they `may_last` be written by
-/// `store_last`. Both depend on its `reach` alone, which no store changes. Code that is generic over
-/// this trait cannot know them, so it touches no run but those that its own `requires` names.
+/// A holder also says which runs may be touched, by `may` and `may_last`. A function that is generic
+/// over this trait is proved for whatever these say, so it touches no run but those for which its own
+/// `requires` asks.
 pub(crate) trait Runs<T, D: Register<T>> {
     ghost items: { Self → List T };
 
     ghost Reach: { Type 0 };
 
+    /// What `may` and `may_last` depend on, such as the length of the list. No store changes it.
     ghost reach: { Self → Reach };
 
+    /// The run from this place on may be read and written.
     ghost may: { Reach → ℕ → Type 0 };
 
+    /// It may also be written by `store_last`, which may need an aligned place and a fence later on.
     ghost may_last: { Reach → ℕ → Type 0 };
 
     /// Reads the run from `place` on.

@@ -24,6 +24,9 @@
 //!
 //! [`exchange_tiles`], [`turn_tile`] and [`put_block`] leave the list that the methods of these names in
 //! [`places`](crate::kernels::places) leave. A holder's own method may call them.
+//!
+//! The module `witness`, which only the Rattle sources have, is an example for whoever writes a holder: a
+//! register, and lists that meet [`Runs`].
 
 pub(crate) mod lines;
 
@@ -74,9 +77,9 @@ pub(crate) trait Register<T>: Copy {
 
 /// A list in which a run of items, half a register, can be read or written at once.
 ///
-/// A holder also says where runs `may` be read and written, and where they `may_last` be written by
-/// `store_last`. Both depend on its `reach` alone, which no store changes. Code that is generic over
-/// this trait cannot know them, so it touches no run but those that its own `requires` names.
+/// A holder also says which runs may be touched, by `may` and `may_last`. A function that is generic
+/// over this trait is proved for whatever these say, so it touches no run but those for which its own
+/// `requires` asks.
 pub(crate) trait Runs<T, D: Register<T>> {
     /// Reads the run from `place` on.
     ///

@@ -1,0 +1,157 @@
+//! A register and two lists that meet the traits of [`registers`](crate::registers), as an example for the author of
+//! a holder, and as a proof that this can be done. No other code uses them, and the package is made without them.
+//!
+//! [`OneTile`] allows what one tile needs and nothing else. [`turn_tile`] is proved for it all the same, so it touches
+//! no place outside the tile, whatever list it is given.
+
+ghost use Rattle.std.specs.Prelude.{◌≡◌, ℕ, ◌+◌, ◌%◌, ◌<◌, ◌≤◌, ◌^◌, ◌⊎◌, List, [], ◌∷◌, length, slice_index};
+ghost use Rattle.std.proofs.Common.{refl, rules};
+ghost use Rattle.p3_util_kernels.specs.BlockPut.{BlockFits, IsBlockPut, block_items};
+ghost use Rattle.p3_util_kernels.specs.Exchanged.{IsTile, TileTurned};
+
+use crate::places::{Block, Places};
+use crate::registers::{Pair, Register, Runs, exchange_tiles, put_block, turn_tile};
+
+/// A register of two items.
+#[derive(Clone, Copy)]
+struct Duo<T>(T, T);
+
+impl<T: Copy> Register<T> for Duo<T> {
+    type Half = T;
+
+    ghost items = { λ d. d.0 ∷ d.1 ∷ [] };
+
+    ghost half_items = { λ t. t ∷ [] };
+
+    ghost half = { 1 };
+
+    fn low(self, other: Self) -> Self {
+        Duo(self.0, other.0)
+    }
+
+    fn high(self, other: Self) -> Self {
+        Duo(self.1, other.1)
+    }
+
+    fn from_half(first: T) -> Self {
+        Duo(first, first)
+    }
+
+    fn halves(self) -> (T, T) {
+        (self.0, self.1)
+    }
+
+    ghost full = { λ d. refl };
+}
+
+/// A borrowed list of fewer than 2^63 items. Each run within it may be touched. `store_last` may write those that
+/// begin at an even place.
+struct Short<'a, T> {
+    items: &'a mut [T],
+    ghost fits: { length items.now < 2 ^ 63 },
+}
+
+impl<'a, T: Copy> Runs<T, Pair<Duo<T>>> for Short<'a, T> {
+    ghost items = { λ s. s.items.now };
+
+    ghost Reach = { ℕ × ℕ };
+
+    ghost reach = { λ s. (s.items.ghost_name, length s.items.now) };
+
+    ghost may = { λ reach place. place + 2 ≤ reach.1 };
+
+    ghost may_last = { λ reach place. (place + 2 ≤ reach.1) × (place % 2 ≡ 0) };
+
+    fn load(&self, place: usize) -> Duo<T> {
+        Duo(self.items[place], self.items[place + 1])
+    }
+
+    fn store(&mut self, place: usize, run: Duo<T>) {
+        self.items[place] = run.0;
+        self.items[place + 1] = run.1;
+    }
+
+    ghost may_both = { λ reach place both. both.0 };
+
+    ghost fits = { λ s. s.fits };
+}
+
+impl<'a, T: Copy> Places for Short<'a, T> {
+    type Item = T;
+
+    ghost items = { λ s. s.items.now };
+
+    ghost same_holder = { λ n a b. a.items.ghost_name ≡ b.items.ghost_name };
+
+    fn len(&self) -> usize {
+        self.items.len()
+    }
+
+    fn exchange(&mut self, i: usize, j: usize) {
+        self.items.swap(i, j);
+    }
+
+    fn exchange_tiles(&mut self, x: [usize; 8], y: [usize; 8]) {
+        exchange_tiles::<T, Pair<Duo<T>>, _>(self, 2, x, y);
+    }
+
+    fn turn_tile(&mut self, x: [usize; 8]) {
+        turn_tile::<T, Pair<Duo<T>>, _>(self, 2, x);
+    }
+
+    ghost same_holder_refl = { Prim.search rules };
+
+    ghost same_holder_trans = { Prim.search rules };
+}
+
+/// Puts a block, as a holder's `put_block` does.
+fn block_put<T: Copy>(cells: &mut Short<T>, source: &Short<T>, block: Block)
+    requires side { (block.side ≡ 4) ⊎ (block.side ≡ 8) }
+    requires block { BlockFits block (length source.now.items.now) (length cells.old.items.now) }
+    ensures put { IsBlockPut (block_items block) block source.now.items.now cells.old.items.now cells.new.items.now }
+    ensures holder { cells.old.items.ghost_name ≡ cells.new.items.ghost_name }
+{
+    put_block::<T, Pair<Duo<T>>, _, _>(cells, source, 2, block);
+}
+
+/// One tile of a borrowed list of fewer than 2^63 items: 8 items from each place of `rows` on. Only runs within these
+/// may be touched, and `store_last` may write none.
+struct OneTile<'a, T> {
+    items: &'a mut [T],
+    rows: [usize; 8],
+    ghost fits: { length items.now < 2 ^ 63 },
+}
+
+impl<'a, T: Copy> Runs<T, Pair<Duo<T>>> for OneTile<'a, T> {
+    ghost items = { λ s. s.items.now };
+
+    ghost Reach = { ℕ × (ℕ × List ℕ) };
+
+    ghost reach = { λ s. (s.items.ghost_name, (length s.items.now, s.rows)) };
+
+    ghost may = { λ reach p. (p + 2 ≤ reach.1.0) × ((r : ℕ) × ((c : ℕ) × ((r < 8) × ((c + 2 ≤ 8) × (p ≡ slice_index reach.1.1 r + c))))) };
+
+    ghost may_last = { λ reach p. ⊥ };
+
+    fn load(&self, place: usize) -> Duo<T> {
+        Duo(self.items[place], self.items[place + 1])
+    }
+
+    fn store(&mut self, place: usize, run: Duo<T>) {
+        self.items[place] = run.0;
+        self.items[place + 1] = run.1;
+    }
+
+    ghost may_both = { λ reach p never. absurd never };
+
+    ghost fits = { λ s. s.fits };
+}
+
+/// Turns the tile.
+fn turned_alone<T: Copy>(tile: &mut OneTile<T>)
+    requires { IsTile tile.old.rows (length tile.old.items.now) }
+    ensures turned { TileTurned 64 tile.old.rows tile.old.items.now tile.new.items.now }
+    ensures holder { tile.old.items.ghost_name ≡ tile.new.items.ghost_name }
+{
+    turn_tile::<T, Pair<Duo<T>>, _>(tile, 2, tile.rows);
+}
