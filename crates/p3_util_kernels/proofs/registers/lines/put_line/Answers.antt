@@ -13,3 +13,14 @@ pub returns-clause-stored : goal.returns-clause-stored
 returns-clause-stored g c =
     rw (c.requires.line, c.requires.side)
     (IsRunStored-two g.D.Register.half _ _ _ _ _ _ (g.met.D.Register.full c.args.a) (rw c.requires.side at c.store_last.ensures.stored) (rw c.requires.side at c.store_last-2.ensures.stored))
+
+-- edit 0
+-- edit 1
+-- edit 2
+-- edit 3
+-- edit 4
+-- edit 5
+-- edit 6
+-- edit 7
+-- edit 8
+-- edit 9
