@@ -73,8 +73,8 @@ impl Source for Indices {
     }
 }
 
-/// Cells that are given the index of an item in a source, and put the item. A kernel puts each cell once, and what it puts is
-/// an item of [`Indices`]. So each index is below the length of the source.
+/// Cells that are given the index of an item in a source, and put the item. A kernel puts items of [`Indices`] alone, which are
+/// below the length of the source. No contract says so of a single put, so each index is tested. Long items hide the time.
 struct ByIndex<C, R>(C, R);
 
 impl<R: Source, C: Cells<Item = R::Item>> Cells for ByIndex<C, R> {
@@ -86,6 +86,7 @@ impl<R: Source, C: Cells<Item = R::Item>> Cells for ByIndex<C, R> {
 
     #[inline(never)]
     fn put(&mut self, i: usize, from: usize) {
+        assert!(from < self.1.len());
         self.0.put(i, self.1.at(from));
     }
 }

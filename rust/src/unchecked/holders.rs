@@ -310,6 +310,7 @@ impl<T, D: Register<T>> Runs<T, D> for SliceItems<'_, T> {
     #[inline(always)]
     fn store_last(&mut self, place: usize, run: D::Half) {
         debug_assert!(place + 16 / size_of::<T>() <= self.len && size_of::<D::Half>() == 16);
+        debug_assert!(self.first.wrapping_add(place).addr() % 16 == 0);
         // SAFETY (of both): a run is a register here. It `may_last` be written, by the `requires` of `Runs::store_last`:
         // `put_block` calls `put_lines` only if its columns are whole lines.
         let (to, run): (_, registers::Register) = (self.first.wrapping_add(place), unsafe { transmute_copy(&run) });

@@ -661,6 +661,25 @@ mod refused {
         check::<u64, Pair<Of<8>>>();
     }
 
+    /// A store past the caches has to be inside the list, and aligned to 16 bytes.
+    #[cfg(all(not(feature = "checked"), target_arch = "x86_64", not(ordinary_stores), not(miri)))]
+    #[test]
+    fn stores_past_the_caches() {
+        use crate::kernels::registers::Runs;
+
+        #[repr(align(16))]
+        struct Aligned([u32; 24]);
+
+        let mut list = Aligned([0; 24]);
+        let mut places = SlicePlaces::new(&mut list.0[..20]);
+        let run = Runs::<u32, Pair<Of<4>>>::load(&places, 0);
+        for place in 0..=20 {
+            let is_wrong = place + 4 > 20 || place % 4 != 0;
+            let call = |places: &mut _| Runs::<u32, Pair<Of<4>>>::store_last(places, place, run);
+            assert_eq!(panics(|| call(&mut places)), is_wrong, "a store at {place}");
+        }
+    }
+
     #[test]
     fn puts_and_reads() {
         for i in [3, usize::MAX] {
