@@ -286,8 +286,9 @@ impl<T: Copy> Cells for SliceItems<'_, T> {
 
 /// Runs of the items, which fill half a register `D`. Here a run `may` be read and written if all of it is among the places
 /// of the step that is made, which are within the list by the precondition of the step's method. It `may_last` be written
-/// if it also begins at a multiple of 16 bytes. The functions of `kernels/registers.rs` are proved to touch no other run,
-/// whatever these words mean. So that method may call them if it names no place but those of its step.
+/// if it also begins at a multiple of 16 bytes, and a fence follows before the call or the part ends. The functions of
+/// `kernels/registers.rs` are proved to touch no other run, whatever `may` and `may_last` are. So that method may call them
+/// if it names no place but those of its step.
 impl<T, D: Register<T>> Runs<T, D> for SliceItems<'_, T> {
     #[inline(always)]
     fn load(&self, place: usize) -> D::Half {

@@ -5,8 +5,8 @@
 //! A register holds whole items. Items may be pointers, or have bytes that were never written, so a register must never
 //! be read as a number. It is a [`MaybeUninit`]: a copy of it keeps each byte as it is, and keeps the provenance of
 //! each pointer. The shuffles of `core::arch` take numbers. Therefore a shuffle here is one assembly instruction. It
-//! has the same effect as Rust code that moves such bytes one by one, and touches no memory. All items are read and
-//! written by Rust code, so a race detector sees these accesses.
+//! has the same effect as Rust code that moves such bytes one by one, and touches no memory. Items are read and written by
+//! Rust code, so a race detector sees these accesses. Only a store past the caches is assembly too.
 
 use core::mem::{MaybeUninit, transmute};
 
