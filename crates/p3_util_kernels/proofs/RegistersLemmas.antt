@@ -4,6 +4,7 @@ use Rattle.std.proofs.lemmas.Bool.{cases_eq, cases_lt}
 use Rattle.p3_util_kernels.specs.Stages.{item_at}
 use Rattle.p3_util_kernels.proofs.ListParts.{slice_get-append_left, slice_get-append_right}
 use Rattle.p3_util_kernels.specs.Registers.{AreInterleaved, AreColumns, AreLoaded, AreReached, AreStored, IsNextStage, IsSide, IsStored}
+
 -- edit 1
 
 -- the places `from` are those of `places`, in the order of a stage
