@@ -216,8 +216,8 @@ impl Cells for ByBlocks {
     }
 
     fn put_block<R: Source<Item = usize>>(&mut self, source: &R, block: Block) {
-        assert_eq!(block.side, self.side);
-        for (r, c) in (0..block.side).flat_map(|r| (0..block.side).map(move |c| (r, c))) {
+        assert_eq!((block.rows, block.cols), (self.side, self.side));
+        for (r, c) in (0..block.rows).flat_map(|r| (0..block.cols).map(move |c| (r, c))) {
             self.items[block.to + c * block.height + r] = source.at(block.from + r * block.width + c);
         }
         if self.changed {

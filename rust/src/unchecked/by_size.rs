@@ -10,17 +10,17 @@
 
 use super::by_type::{self, LONG_BYTES};
 use super::holders::{Bytes, InRegisters, MOVES_BYTES, SliceItems, SliceSource};
-use super::registers::{Items, USES_REGISTERS};
+use super::registers::{Items, Register, USES_REGISTERS};
 use super::{Part, Reversal};
 use crate::kernels::parts::ReversalPlan;
-use crate::kernels::registers::Pair;
+use crate::kernels::registers::{Pair, Two};
 use crate::kernels::transpose::{Matrix, Strips};
 
 /// `by_size!(size)` is whether the size is in this table. `by_size!(size, holder = list => call, _ => other)` is `call` if
 /// it is, and otherwise `other`. In `call`, `holder` is the holder of the list as items of this size.
 macro_rules! by_size {
     ($size:expr $(, $($form:tt)*)?) => {
-        by_size!(@ [1: Items<1>, 2: Pair<Items<2>>, 4: Pair<Items<4>>, 8: Pair<Items<8>>]
+        by_size!(@ [1: Items<1>, 2: Pair<Items<2>>, 4: Pair<Items<4>>, 8: Pair<Items<8>>, 16: Two<Register>]
             [1 2 4 8 12 16 20 32 64] $size $(, $($form)*)?)
     };
     (@ [$($short:literal: $rows:ty),*] [$($bytes:literal)*] $size:expr) => {

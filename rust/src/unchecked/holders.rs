@@ -286,8 +286,9 @@ impl<T: Copy> Cells for SliceItems<'_, T> {
 
 /// Runs of the items, which fill half a register `D`. Here a run `may` be read and written if all of it is among the places
 /// of the step that is made, which are within the list by the precondition of the step's method. It `may_last` be written
-/// if it also begins at a multiple of 16 bytes. The functions of `kernels/registers.rs` are proved to touch no other run,
-/// whatever these words mean. So that method may call them if it names no place but those of its step.
+/// if it also begins at a multiple of 16 bytes. A run of a source, which is only read, `may` be anywhere in the list. The
+/// functions of `kernels/registers.rs` are proved to touch no other run, whatever these words mean. So that method may call
+/// them if it names no place but those of its step, and no run that ends after the source.
 impl<T, D: Register<T>> Runs<T, D> for SliceItems<'_, T> {
     #[inline(always)]
     fn load(&self, place: usize) -> D::Half {
@@ -362,12 +363,18 @@ impl<T, D: Register<T>> Places for InRegisters<'_, T, D> {
 
     #[inline(always)]
     fn exchange_tiles(&mut self, x: [usize; 8], y: [usize; 8]) {
-        squares::exchange_tiles::<T, D, _>(&mut self.items, Self::SIDE, x, y);
+        match Self::SIDE {
+            1 => self.items.exchange_tiles(x, y),
+            side => squares::exchange_tiles::<T, D, _>(&mut self.items, side, x, y),
+        }
     }
 
     #[inline(always)]
     fn turn_tile(&mut self, x: [usize; 8]) {
-        squares::turn_tile::<T, D, _>(&mut self.items, Self::SIDE, x);
+        match Self::SIDE {
+            1 => self.items.turn_tile(x),
+            side => squares::turn_tile::<T, D, _>(&mut self.items, side, x),
+        }
     }
 
     #[inline(always)]
@@ -390,16 +397,20 @@ impl<T: Copy, D: Register<T>> Cells for InRegisters<'_, T, D> {
 
     #[inline(always)]
     fn put_block<R: Source<Item = T>>(&mut self, source: &R, block: Block) {
+        let (rows, cols) = (block.rows, block.cols);
         // Whether each column of the block is a whole cache line.
         let first = self.items.first.wrapping_add(block.to).addr();
-        let in_line = block.side == 4 * Self::SIDE && (first | (block.height * size_of::<T>())) % LINE == 0;
+        let distance = if cols == 1 { 0 } else { block.height * size_of::<T>() };
+        let in_line = rows == 4 * Self::SIDE && (first | distance) % LINE == 0;
+        // Whether the list has `SIDE` items of each row, from the block's first column on.
+        let inside = |len| cols == rows || cols == 1 && block.from + (rows - 1) * block.width + Self::SIDE <= len;
         match source.as_slice() {
             // These items are only read: the functions of `squares` have a shared reference to them.
-            Some(items) if const { HAS_LINES && Self::SIDE < 8 } && in_line => {
+            Some(items) if const { HAS_LINES && Self::SIDE < 8 } && in_line && inside(items.len()) => {
                 let items = SliceItems::of(items.as_ptr().cast_mut(), items.len());
                 squares::lines::put_lines::<T, D, _, _>(&mut self.items, &items, Self::SIDE, block);
             }
-            Some(items) if matches!(block.side, 4 | 8) && block.side >= Self::SIDE => {
+            Some(items) if const { Self::SIDE > 1 } && matches!(rows, 4 | 8) && rows >= Self::SIDE && cols == rows => {
                 let items = SliceItems::of(items.as_ptr().cast_mut(), items.len());
                 squares::put_block::<T, D, _, _>(&mut self.items, &items, Self::SIDE, block);
             }
@@ -411,8 +422,12 @@ impl<T: Copy, D: Register<T>> Cells for InRegisters<'_, T, D> {
 /// A list of at least this many bytes is put by lines. Tests use short lists.
 const PAST_CACHES: usize = 1 << if cfg!(test) { 10 } else { 24 };
 
-/// The order of a matrix of items in registers. If it is large and its columns are whole cache lines, they are put by lines,
-/// past the caches. This is done for items of 4 and 8 bytes. All others are put by these strips.
+/// A column of fewer bytes is put by lines only if it is whole lines. The parts of lines at its ends would take longer. Tests
+/// use short columns.
+const LONG_COLUMN: usize = if cfg!(test) { 1 } else { 16 * LINE };
+
+/// The order of a matrix of items in registers. If it is large and its columns are long or whole cache lines, they are put by
+/// lines, past the caches. This is done for items of 4, 8 and 16 bytes. All others are put by these strips.
 #[derive(Clone, Copy)]
 pub(super) struct Large(Strips);
 
@@ -427,8 +442,9 @@ impl<'a, T: Copy, D: Register<T>> Order<InRegisters<'a, T, D>> for Large {
         R: Source<Item = T> + Copy,
     {
         let (size, first) = (size_of::<T>(), out.items.first.addr());
-        let whole = (first % size, matrix.height * size % LINE) == (0, 0);
-        if const { HAS_LINES && InRegisters::<T, D>::SIDE < 8 } && whole && out.items.len * size >= PAST_CACHES {
+        let column = matrix.height * size;
+        let lines = first % size == 0 && (column % LINE == 0 || column >= LONG_COLUMN);
+        if const { HAS_LINES && InRegisters::<T, D>::SIDE < 8 } && lines && out.items.len * size >= PAST_CACHES {
             let out = Lines::new(LINE / size, first % LINE / size).put(out, matrix, region);
             registers::fence();
             return out;
@@ -474,5 +490,11 @@ impl<T: Copy> Source for SliceSource<'_, T> {
     #[inline(always)]
     fn as_slice(&self) -> Option<&[T]> {
         Some(self.items)
+    }
+
+    /// Prefetches the cache line of the item. No reference is made to it.
+    #[inline(always)]
+    fn expect(&self, i: usize) {
+        registers::prefetch(self.items.as_ptr().wrapping_add(i).cast());
     }
 }

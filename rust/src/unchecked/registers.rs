@@ -105,6 +105,9 @@ registers! {
     8 "2d" low "punpcklqdq" "zip1" high "punpckhqdq" "zip2";
 }
 
+/// A register is an item of 16 bytes.
+impl registers::Single<Bytes<16>> for Register {}
+
 /// Asks the processor to read a cache line. Any address may be given.
 #[inline(always)]
 pub(super) fn prefetch(address: *const u8) {

@@ -374,7 +374,8 @@ fn puts_and_reads() {
 /// three items apart in the source, and its columns two cells apart in the list.
 fn puts_block_of<T: Copy + PartialEq, H: for<'a> HoldCells<'a, T>>(side: usize, item: impl Fn(u8) -> T) {
     let block = Block {
-        side,
+        rows: side,
+        cols: side,
         from: 5,
         width: side + 3,
         to: 7,
@@ -610,7 +611,8 @@ mod refused {
     fn refuses_blocks<H: for<'a> HoldCells<'a, u32>>() {
         let refused = |change: fn(&mut Block)| {
             let mut block = Block {
-                side: 4,
+                rows: 4,
+                cols: 4,
                 from: 1,
                 width: 6,
                 to: 2,
@@ -624,7 +626,7 @@ mod refused {
         assert!(refused(|block| block.to += 1) && refused(|block| block.to = usize::MAX));
         assert!(refused(|block| block.width += 1) && refused(|block| block.width = usize::MAX));
         assert!(refused(|block| block.height += 1) && refused(|block| block.height = usize::MAX));
-        assert!(refused(|block| block.side += 1));
+        assert!(refused(|block| block.rows += 1) && refused(|block| block.cols += 1));
     }
 
     #[test]

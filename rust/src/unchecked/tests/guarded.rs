@@ -154,7 +154,8 @@ where
         let mut cells = Runs::<N>::new(side, side, ends_with_page);
         let (from, width, to, height) = (0, GAP, 0, GAP);
         let block = Block {
-            side,
+            rows: side,
+            cols: side,
             from,
             width,
             to,
