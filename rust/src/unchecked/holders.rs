@@ -8,10 +8,10 @@ use core::ptr;
 use core::slice::from_raw_parts;
 use core::sync::atomic::{Ordering, compiler_fence};
 
-use super::registers::{self, HAS_LINES, LINE};
+use super::order::LINE;
+use super::registers;
 use crate::kernels::places::{Block, Cells, Places, Source};
 use crate::kernels::registers::{self as squares, Register, Runs};
-use crate::kernels::transpose::{Matrix, Order, Region, Strips, lines::Lines};
 
 /// Whether this processor moves unaligned bytes as fast as aligned ones. Otherwise each item is moved as its type says. On
 /// some systems, rustc moves unaligned bytes of aarch64 one by one.
@@ -70,9 +70,9 @@ impl<'a, T> SliceItems<'a, T> {
         SliceItems { ..*self }
     }
 
-    /// The order in which a matrix is put into these cells.
-    pub(super) fn order(&self, strips: Strips) -> Strips {
-        strips
+    /// The address of the first item.
+    pub(super) fn address(&self) -> usize {
+        self.first.addr()
     }
 
     /// The bytes of the items, `N` at a time.
@@ -312,31 +312,47 @@ impl<T, D: Register<T>> Runs<T, D> for SliceItems<'_, T> {
     fn store_last(&mut self, place: usize, run: D::Half) {
         debug_assert!(place + 16 / size_of::<T>() <= self.len && size_of::<D::Half>() == 16);
         // SAFETY (of both): a run is a register here. It `may_last` be written, by the `requires` of `Runs::store_last`:
-        // `put_block` calls `put_lines` only if its columns are whole lines.
+        // `InRegisters::may_last` tests that.
         let (to, run): (_, registers::Register) = (self.first.wrapping_add(place), unsafe { transmute_copy(&run) });
         unsafe { core::arch::asm!("movntdq [{}], {}", in(reg) to, in(xmm_reg) run, options(nostack, preserves_flags)) }
     }
 }
 
-/// The same holder for items whose squares are transposed in registers. `D` is two rows of a square.
-pub(super) struct InRegisters<'a, T, D> {
+/// The same holder for items whose squares are transposed in registers. `D` is two rows of a square. If `LAST` is true, it
+/// stores whole cache lines past the caches.
+pub(super) struct InRegisters<'a, T, D, const LAST: bool = false> {
     items: SliceItems<'a, T>,
     rows: PhantomData<D>,
 }
 
 impl<'a, T, D: Register<T>> InRegisters<'a, T, D> {
-    /// The number of rows of a square. A row is half of a `D`.
-    const SIDE: usize = size_of::<D::Half>() / size_of::<T>();
-
     #[inline(always)]
     pub(super) fn new(items: SliceItems<'a, T>) -> Self {
         let rows = PhantomData;
         InRegisters { items, rows }
     }
 
-    /// The order in which a matrix is put into these cells.
-    pub(super) fn order(&self, strips: Strips) -> Large {
-        Large(strips)
+    /// Runs a kernel that puts a call or a part by lines. Only this function makes a holder that stores past the caches.
+    #[inline(always)]
+    pub(super) fn past_caches(self, kernel: impl FnOnce(InRegisters<'a, T, D, true>)) {
+        let (items, rows) = (self.items, PhantomData);
+        kernel(InRegisters { items, rows });
+        // Such stores are not ordered with other stores. Without the fence, another thread could learn that the part is
+        // done, and then read what was there before.
+        registers::fence();
+    }
+}
+
+impl<T, D: Register<T>, const LAST: bool> InRegisters<'_, T, D, LAST> {
+    /// The number of rows of a square. A row is half of a `D`.
+    const SIDE: usize = size_of::<D::Half>() / size_of::<T>();
+
+    /// Whether the cells of a block `may_last` be written: each column is a line of the output, and a fence follows.
+    #[inline(always)]
+    fn may_last(&self, block: Block) -> bool {
+        let first = self.items.first.wrapping_add(block.to).addr();
+        let distance = block.height * size_of::<T>() * usize::from(block.cols > 1);
+        LAST && block.rows * size_of::<T>() == LINE && (first | distance) % LINE == 0
     }
 }
 
@@ -383,7 +399,7 @@ impl<T, D: Register<T>> Places for InRegisters<'_, T, D> {
     }
 }
 
-impl<T: Copy, D: Register<T>> Cells for InRegisters<'_, T, D> {
+impl<T: Copy, D: Register<T>, const LAST: bool> Cells for InRegisters<'_, T, D, LAST> {
     type Item = T;
 
     fn len(&self) -> usize {
@@ -397,16 +413,12 @@ impl<T: Copy, D: Register<T>> Cells for InRegisters<'_, T, D> {
 
     #[inline(always)]
     fn put_block<R: Source<Item = T>>(&mut self, source: &R, block: Block) {
-        let (rows, cols) = (block.rows, block.cols);
-        // Whether each column of the block is a whole cache line.
-        let first = self.items.first.wrapping_add(block.to).addr();
-        let distance = if cols == 1 { 0 } else { block.height * size_of::<T>() };
-        let in_line = rows == 4 * Self::SIDE && (first | distance) % LINE == 0;
+        let Block { rows, cols, .. } = block;
         // Whether the list has `SIDE` items of each row, from the block's first column on.
         let inside = |len| cols == rows || cols == 1 && block.from + (rows - 1) * block.width + Self::SIDE <= len;
         match source.as_slice() {
             // These items are only read: the functions of `squares` have a shared reference to them.
-            Some(items) if const { HAS_LINES && Self::SIDE < 8 } && in_line && inside(items.len()) => {
+            Some(items) if LAST && self.may_last(block) && inside(items.len()) => {
                 let items = SliceItems::of(items.as_ptr().cast_mut(), items.len());
                 squares::lines::put_lines::<T, D, _, _>(&mut self.items, &items, Self::SIDE, block);
             }
@@ -416,40 +428,6 @@ impl<T: Copy, D: Register<T>> Cells for InRegisters<'_, T, D> {
             }
             _ => self.items.put_block(source, block),
         }
-    }
-}
-
-/// A list of at least this many bytes is put by lines. Tests use short lists.
-const PAST_CACHES: usize = 1 << if cfg!(test) { 10 } else { 24 };
-
-/// A column of fewer bytes is put by lines only if it is whole lines. The parts of lines at its ends would take longer. Tests
-/// use short columns.
-const LONG_COLUMN: usize = if cfg!(test) { 1 } else { 16 * LINE };
-
-/// The order of a matrix of items in registers. If it is large and its columns are long or whole cache lines, they are put by
-/// lines, past the caches. This is done for items of 4, 8 and 16 bytes. All others are put by these strips.
-#[derive(Clone, Copy)]
-pub(super) struct Large(Strips);
-
-impl<'a, T: Copy, D: Register<T>> Order<InRegisters<'a, T, D>> for Large {
-    fn strips(self) -> Strips {
-        self.0
-    }
-
-    #[inline(always)]
-    fn put<R>(self, out: InRegisters<'a, T, D>, matrix: Matrix<R>, region: Region) -> InRegisters<'a, T, D>
-    where
-        R: Source<Item = T> + Copy,
-    {
-        let (size, first) = (size_of::<T>(), out.items.first.addr());
-        let column = matrix.height * size;
-        let lines = first % size == 0 && (column % LINE == 0 || column >= LONG_COLUMN);
-        if const { HAS_LINES && InRegisters::<T, D>::SIDE < 8 } && lines && out.items.len * size >= PAST_CACHES {
-            let out = Lines::new(LINE / size, first % LINE / size).put(out, matrix, region);
-            registers::fence();
-            return out;
-        }
-        self.0.put(out, matrix, region)
     }
 }
 

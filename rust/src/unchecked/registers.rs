@@ -121,12 +121,6 @@ pub(super) fn prefetch(address: *const u8) {
     let _ = address;
 }
 
-/// The bytes of a cache line.
-pub(super) const LINE: usize = 64;
-
-/// Whether large matrices are put by cache lines. On aarch64 that was not tried.
-pub(super) const HAS_LINES: bool = USES_REGISTERS && cfg!(target_arch = "x86_64");
-
 /// Waits until the stores past the caches are done. They are not ordered with other stores (Intel's manual, volume 2,
 /// "MOVNTDQ"): without this, another thread could learn that a part is done, and then read what was there before.
 pub(super) fn fence() {

@@ -9,9 +9,8 @@ ghost use Rattle.p3_util_kernels.specs.Lines.{limit};
 ghost use Rattle.p3_util_kernels.specs.Region.{IsReady, IsRegionTransposed, items_of};
 
 use crate::places::{Cells, Source};
-use crate::transpose::order::Order;
 use crate::transpose::regions::{Matrix, Region};
-use crate::transpose::strips::{Strips, put_block, put_strips};
+use crate::transpose::strips::{put_block, put_rest};
 
 /// Lines are put in so many columns at a time. The memory pages that these columns are on are few
 /// enough for the processor to keep all of their addresses.
@@ -98,26 +97,28 @@ impl Lines {
             matrix.source.expect(down.wrapping_add(right));
         }
     }
-}
 
-/// A large region is put by lines. A matrix that is not large is put in high strips.
-impl<M: Cells> Order<M> for Lines {
-    #[inline(always)]
-    fn strips(self) -> Strips {
-        Strips::high(1)
-    }
-
-    #[inline(always)]
-    fn put<R: Source<Item = M::Item> + Copy>(self, out: M, matrix: Matrix<R>, region: Region) -> M {
+    /// Puts `region` by these lines.
+    pub(crate) fn put<M: Cells, R: Source<Item = M::Item> + Copy>(
+        self,
+        out: M,
+        matrix: Matrix<R>,
+        region: Region,
+    ) -> M
+        requires ready { IsReady region matrix.width matrix.height
+            (R.items matrix.source) (M.items out) }
+        ensures transposed { IsRegionTransposed region matrix.width matrix.height
+            (R.items matrix.source) (M.items out) (M.items result) }
+        ensures holder { M.same_holder (items_of region) out result }
+    {
         if region.row_end > MOST_ROWS {
-            return put_strips(out, matrix, region, Strips::high(1));
+            return put_rest(out, matrix, region);
         }
         put_lines(out, matrix, region, self)
     }
 }
 
 /// Puts `region` by lines, some columns after the other.
-#[inline(never)]
 fn put_lines<M: Cells, R: Source<Item = M::Item> + Copy>(
     out: M,
     matrix: Matrix<R>,

@@ -265,7 +265,7 @@ fn put_stack<M: Cells, R: Source<Item = M::Item> + Copy>(
 
 /// Puts a region column after column. It may have no rows.
 #[inline(always)]
-fn put_rest<M: Cells, R: Source<Item = M::Item> + Copy>(
+pub(crate) fn put_rest<M: Cells, R: Source<Item = M::Item> + Copy>(
     out: M,
     matrix: Matrix<R>,
     region: Region,

@@ -5,9 +5,8 @@
 //! first and the last strip have the parts of lines at the ends of the columns.
 
 use crate::kernels::places::{Cells, Source};
-use crate::kernels::transpose::order::Order;
 use crate::kernels::transpose::regions::{Matrix, Region};
-use crate::kernels::transpose::strips::{Strips, put_block, put_strips};
+use crate::kernels::transpose::strips::{put_block, put_rest};
 
 /// Lines are put in so many columns at a time. The memory pages that these columns are on are few
 /// enough for the processor to keep all of their addresses.
@@ -108,19 +107,26 @@ impl Lines {
             matrix.source.expect(down.wrapping_add(right));
         }
     }
-}
 
-/// A large region is put by lines. A matrix that is not large is put in high strips.
-impl<M: Cells> Order<M> for Lines {
-    #[inline(always)]
-    fn strips(self) -> Strips {
-        Strips::high(1)
-    }
-
-    #[inline(always)]
-    fn put<R: Source<Item = M::Item> + Copy>(self, out: M, matrix: Matrix<R>, region: Region) -> M {
+    /// Puts `region` by these lines.
+    ///
+    /// # Contract
+    ///
+    /// ```text
+    /// requires ready { IsReady region matrix.width matrix.height
+    ///     (R.items matrix.source) (M.items out) }
+    /// ensures transposed { IsRegionTransposed region matrix.width matrix.height
+    ///     (R.items matrix.source) (M.items out) (M.items result) }
+    /// ensures holder { M.same_holder (items_of region) out result }
+    /// ```
+    pub(crate) fn put<M: Cells, R: Source<Item = M::Item> + Copy>(
+        self,
+        out: M,
+        matrix: Matrix<R>,
+        region: Region,
+    ) -> M {
         if region.row_end > MOST_ROWS {
-            return put_strips(out, matrix, region, Strips::high(1));
+            return put_rest(out, matrix, region);
         }
         put_lines(out, matrix, region, self)
     }
@@ -138,7 +144,6 @@ impl<M: Cells> Order<M> for Lines {
 ///     (R.items matrix.source) (M.items out) (M.items result) }
 /// ensures holder { M.same_holder (items_of region) out result }
 /// ```
-#[inline(never)]
 fn put_lines<M: Cells, R: Source<Item = M::Item> + Copy>(
     out: M,
     matrix: Matrix<R>,

@@ -310,7 +310,7 @@ fn put_stack<M: Cells, R: Source<Item = M::Item> + Copy>(
 /// ensures holder { M.same_holder (items_of region) out result }
 /// ```
 #[inline(always)]
-fn put_rest<M: Cells, R: Source<Item = M::Item> + Copy>(
+pub(crate) fn put_rest<M: Cells, R: Source<Item = M::Item> + Copy>(
     out: M,
     matrix: Matrix<R>,
     region: Region,

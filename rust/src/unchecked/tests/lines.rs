@@ -18,9 +18,12 @@ fn transposes<T: Copy + Debug + PartialEq>(
     let list: Vec<T> = (0..input + len).map(&item).collect();
     let beside = item(len + 1000);
     let mut cells = std::vec![beside; output + len + 40];
-    parts_of_transpose(&list[input..], &mut cells[output..output + len], width, height, parts)
-        .unwrap()
-        .put();
+    let mut rest = parts_of_transpose(&list[input..], &mut cells[output..output + len], width, height, parts).unwrap();
+    let mut all: Vec<_> = std::iter::from_fn(|| rest.split_first()).collect();
+    // Another order for each shape.
+    while !all.is_empty() {
+        all.swap_remove((7 * width + 3 * height) % all.len()).put();
+    }
     let wanted = |place: usize| match place.checked_sub(output) {
         Some(place) if place < len => list[input + place % height * width + place / height],
         _ => beside,
@@ -77,6 +80,17 @@ fn all_heights() {
             transposes([width, height], [3, 5], parts, |number| number as u32);
             transposes([width, height], [2, 7], parts, |number| number);
             transposes([width, height], [0, 0], parts, |number| number as f64);
+            transposes([width, height], [1, 3], parts, |number| [number, 7]);
+        }
+    }
+}
+
+#[test]
+fn all_widths() {
+    for (width, height) in (1..=40).flat_map(|width| [15, 16, 37, 64, 131].map(|height| (width, height))) {
+        for parts in [1, 2, 4] {
+            transposes([width, height], [3, 5], parts, |number| number as u32);
+            transposes([width, height], [2, 7], parts, |number| number);
             transposes([width, height], [1, 3], parts, |number| [number, 7]);
         }
     }
