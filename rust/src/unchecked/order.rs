@@ -7,9 +7,9 @@
 //! |---|---|---|
 //! | a call on a slice, one row or one column | copied by `unchecked::transpose` | its items keep their order |
 //! | a whole call, fewer than 128 items: `TINY_MATRIX` | `Columns`, in code that is inlined | a call would take as long |
+//! | a whole call, up to 1048576 items: `LARGE_MATRIX` | `Strips` | the lines and pages in use stay in the caches |
 //! | 16 MiB and more: `PAST_CACHES`, items of 4 or 8 bytes, 16 columns and more of the matrix or part: `LINE_COLS`, a column of whole cache lines or of 1 KiB and more: `LONG_COLUMN` | `Lines` | what is stored past the caches is not read first, but whole lines have to be stored. A part of a line, which a column may have at both of its ends, takes longer |
 //! | the same, items of 16 bytes, a column of 1 KiB and more | `Lines` | in a shorter column the stores of single items are as fast |
-//! | a whole call, up to 1048576 items: `LARGE_MATRIX` | `Strips` | the lines and pages in use stay in the caches |
 //! | all others | `Leaves`, with the same strips | a leaf stays in the caches |
 //!
 //! | Items | Strips | Why |
@@ -69,11 +69,13 @@ pub(super) fn order_of<R>(size: usize, matrix: Matrix<R>, part: Part, first: Opt
         8 if USES_REGISTERS && items <= BLOCKS_LONG_ITEMS => Strips::high(LONG_ITEMS_SIDE),
         _ => Strips::by_width(matrix.width),
     };
-    match first {
-        Some(first) if HAS_LINES && is_large && matches!(size, 4 | 8 | 16) && is_long && first % size == 0 => {
+    match (Order::in_strips(strips, items, part.is_none()), first) {
+        (Order::Leaves(_), Some(first))
+            if HAS_LINES && is_large && matches!(size, 4 | 8 | 16) && is_long && first % size == 0 =>
+        {
             Order::Lines(Lines::new(LINE / size, first % LINE / size))
         }
-        _ => Order::in_strips(strips, items, part.is_none()),
+        (order, _) => order,
     }
 }
 

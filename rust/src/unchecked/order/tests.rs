@@ -125,22 +125,24 @@ fn columns_of_other_items() {
     check::<[u64; 8]>();
 }
 
-/// In these tests a list of 1024 bytes is long, and so is every column. Items that are not aligned are put as others.
+/// In these tests a list of 1024 bytes is long, and so is every column. Items that are not aligned are put as others. A whole
+/// call goes by lines only if its matrix would be split otherwise.
 #[test]
 fn lines_of_long_lists() {
     fn check<T: Copy>(can: bool) {
         let size = size_of::<T>();
         for (width, height) in [(16, 16), (1, 1024), (1024, 1), (19, 37), (5, 30), (2000, 2000)] {
             for first in [0, size, 64 - size, 4096 + 2 * size, 1, size / 2] {
-                let chosen = order_of(size, matrix::<T>(width, height), None, Some(first));
+                let plan = TransposePlan::new(width, height, 2, true);
                 let lines = Order::Lines(Lines::new(LINE / size, first % LINE / size));
-                let is_long = width * height * size >= 1024 && first % size == 0;
-                assert_eq!(
-                    chosen == lines,
-                    can && HAS_LINES && is_long,
-                    "{width} by {height} at {first}"
-                );
-                assert!(chosen == lines || chosen == order_of(size, matrix::<T>(width, height), None, None));
+                for part in [None, Some((&plan, 0))] {
+                    let order = |first| order_of(size, matrix::<T>(width, height), part, first);
+                    let is_split = part.is_some() || width * height > 1 << 20;
+                    let is_long = width * height * size >= 1024 && first % size == 0;
+                    let has_lines = can && HAS_LINES && is_split && is_long;
+                    let wanted = if has_lines { lines } else { order(None) };
+                    assert!(order(Some(first)) == wanted, "{width} by {height} at {first}");
+                }
             }
         }
     }
