@@ -58,7 +58,8 @@ const LONG_ITEMS_SIDE: usize = if cfg!(target_arch = "aarch64") { 8 } else { 4 }
 /// The order in which a part is put. `first` is the address of the first cell of the output. Without it, lines are not taken.
 #[inline(always)]
 pub(super) fn order_of<R>(size: usize, matrix: Matrix<R>, part: Part, first: Option<usize>) -> Order {
-    let (items, column) = (matrix.width * matrix.height, matrix.height * size);
+    // A matrix without items may be so high that the second product wraps. It is not large.
+    let (items, column) = (matrix.width * matrix.height, matrix.height.wrapping_mul(size));
     let cols = part.map_or(matrix.width, |(plan, number)| plan.region(number).cols());
     let [bytes, least_cols, long_column] = LIMITS;
     let is_large = items * size >= bytes && cols >= least_cols;
