@@ -5,6 +5,7 @@
 //! |---|---|---|
 //! | this one | check a precondition, make a holder, and give out each part once | the contracts of the kernels |
 //! | `by_size.rs`, `by_type.rs` | choose the instance of a kernel | that the precondition was checked |
+//! | `order.rs` | decide how a matrix is put | nothing: each order is right for every matrix |
 //! | `holders.rs` | unsafe code: move items by index, without a check | that each index meets the contract of its step |
 //! | `registers.rs` | unsafe code: interleave and halve registers | nothing: each of its functions is defined for all registers |
 //!
@@ -25,8 +26,7 @@ use core::ops::Range;
 
 use crate::kernels::parts::{ReversalPlan, TransposePlan};
 use crate::kernels::reverse::fits_rows;
-use crate::kernels::transpose::{Matrix, fits_matrix};
-use crate::transpose::strips_by_size;
+use crate::kernels::transpose::{Matrix, Order, fits_matrix};
 
 #[cfg(feature = "checked")]
 use crate::checked::{PartItems, SliceCells, SlicePlaces, SliceSource};
@@ -39,6 +39,7 @@ mod by_type;
 #[cfg(not(feature = "checked"))]
 #[allow(unsafe_code)]
 mod holders;
+mod order;
 #[cfg(not(feature = "checked"))]
 #[allow(unsafe_code)]
 mod registers;
@@ -80,7 +81,11 @@ pub(crate) fn transpose<T: Copy>(input: &[T], output: &mut [T], width: usize, he
             output.copy_from_slice(input);
         } else {
             let matrix = Matrix::new(SliceSource::new(input), width, height);
-            dispatch::transpose(strips_by_size(matrix), SliceCells::new(output), matrix);
+            let cells = SliceCells::new(output);
+            match order::order_of(size_of::<T>(), matrix, None, None) {
+                order @ (Order::Columns | Order::Strips(_)) => dispatch::transpose(order, cells, matrix),
+                _ => dispatch::put(None, cells, matrix),
+            }
         }
     }
     fits
@@ -103,8 +108,8 @@ pub(crate) struct Parts<'a, T, P> {
     numbers: Range<usize>,
 }
 
-/// A part of a transpose: a plan, the number of a region, and the order in which the region is put.
-type Part<O> = (TransposePlan, usize, O);
+/// A part of a transpose: a plan and the number of a region. Without these it is the whole matrix.
+type Part<'a> = Option<(&'a TransposePlan, usize)>;
 
 /// A matrix that is transposed in regions.
 pub(crate) type Regions<'a, T> = (Matrix<&'a [T]>, TransposePlan);
@@ -195,8 +200,9 @@ impl<T: Copy> Parts<'_, T, Regions<'_, T>> {
         // plan.
         let (matrix, plan) = self.plan;
         let matrix = Matrix::new(SliceSource::new(matrix.source), matrix.width, matrix.height);
+        let is_cut = plan.count() > 1;
         self.numbers
-            .for_each(|number| dispatch::put((plan, number, strips_by_size(matrix)), self.items.share(), matrix));
+            .for_each(|number| dispatch::put(is_cut.then_some((&plan, number)), self.items.share(), matrix));
     }
 }
 

@@ -1,10 +1,11 @@
 -- Blocks whose columns are put by squares.
 use Rattle.std.proofs.Common.{◌≡◌, ◌≢◌, ℕ, ◌+◌, ◌-◌, ◌*◌, ◌%◌, ◌<◌, ◌≤◌, ◌⊎◌, List, slice_index, inl, inr, ◌∙◌, arith}
-use Rattle.std.proofs.Math.Nat.{mul-le-mul_right}
+use Rattle.std.proofs.Math.Nat.{lt_of_mul-lt-mul_left, mul-le-mul_right}
 use Rattle.std.proofs.lemmas.Bool.{cases_lt}
 use Rattle.p3_util_kernels.specs.declared.places.Block.{Block}
 use Rattle.p3_util_kernels.specs.BlockPut.{BlockFits, IsBlockPut}
 use Rattle.p3_util_kernels.specs.Registers.{AreApart, AreColumns, AreReached, AreStored, ColumnsPut, IsSide, RowsReached}
+use Rattle.p3_util_kernels.proofs.BlockPutLemmas.{in_block}
 use Rattle.p3_util_kernels.proofs.RegistersTiles.{AreApart-rows, AreReached-rows, SquaresMoved-rows}
 
 -- what is in one column is before the next one
@@ -18,41 +19,41 @@ row_in_block : (side c : ℕ) → (side ≡ 4) ⊎ (side ≡ 8) → (c % side < 
 row_in_block side c (inl is) = rw is (omega arith, λ h. omega arith)
 row_in_block side c (inr is) = rw is (omega arith, λ h. omega arith)
 
-module _ (side : ℕ) (block : Block) (col input_len len : ℕ) (is : IsSide side) (known : (block.side ≡ 4) ⊎ (block.side ≡ 8))
-    (below : col + side ≤ block.side) (fits : BlockFits block input_len len) (rows cols tops : List ℕ)
+module _ (side : ℕ) (block : Block) (col input_len len : ℕ) (is : IsSide side) (known : (block.rows ≡ 4) ⊎ (block.rows ≡ 8))
+    (below : col + side ≤ block.rows) (square : block.cols ≡ block.rows) (fits : BlockFits block input_len len) (rows cols tops : List ℕ)
     (is_top : (c : ℕ) → c < 8 → slice_index tops c ≡ col)
-    (at_rows : (c : ℕ) → c < 8 → slice_index rows c ≡ block.from + c % block.side * block.width)
-    (at_cols : (c : ℕ) → c < 8 → slice_index cols c ≡ block.to + c % block.side * block.height) where
-  in_all : (c : ℕ) → c < block.side → c < 8
+    (at_rows : (c : ℕ) → c < 8 → slice_index rows c ≡ block.from + c % block.rows * block.width)
+    (at_cols : (c : ℕ) → c < 8 → slice_index cols c ≡ block.to + c % block.rows * block.height) where
+  in_all : (c : ℕ) → c < block.rows → c < 8
   in_all c h = elim known [ inl u ↦ omega arith | inr u ↦ omega arith ]
 
-  pub AreReached-block_from : (may : ℕ → Type 0) → RowsReached block.side side (λ r. block.from + r * block.width) may → (from : List ℕ) → ((c : ℕ) → c < 8 → slice_index from c ≡ slice_index rows c + slice_index tops c) → AreReached 8 from may
-  AreReached-block_from may all from at j h = rw (at j h, is_top j h, at_rows j h) (all (j % block.side) col (row_in_block block.side j known).0 below)
+  pub AreReached-block_from : (may : ℕ → Type 0) → RowsReached block.rows side (λ r. block.from + r * block.width) may → (from : List ℕ) → ((c : ℕ) → c < 8 → slice_index from c ≡ slice_index rows c + slice_index tops c) → AreReached 8 from may
+  AreReached-block_from may all from at j h = rw (at j h, is_top j h, at_rows j h) (all (j % block.rows) col (row_in_block block.rows j known).0 below)
 
-  apart : (a b : ℕ) → a < b → b < block.side → (slice_index cols a + block.side ≤ slice_index cols b) ⊎ (slice_index cols b + block.side ≤ slice_index cols a)
+  apart : (a b : ℕ) → a < b → b < block.rows → (slice_index cols a + block.rows ≤ slice_index cols b) ⊎ (slice_index cols b + block.rows ≤ slice_index cols a)
   apart a b h k =
-      let row_a = (row_in_block block.side a known).1 (omega arith) in
-      let row_b = (row_in_block block.side b known).1 k in
+      let row_a = (row_in_block block.rows a known).1 (omega arith) in
+      let row_b = (row_in_block block.rows b known).1 k in
       inl (omega (arith, rw row_a at (at_cols a (in_all a (omega arith))), rw row_b at (at_cols b (in_all b k)), fits.apart, column_before a b block.height h))
 
   module _ (to : List ℕ) (at : (c : ℕ) → c < 8 → slice_index to c ≡ slice_index cols (slice_index tops c + c % side) + (c - c % side)) where
-    at_row : (c : ℕ) → c < block.side → slice_index to c ≡ slice_index cols (slice_index tops c + c % side) + (c - c % side)
+    at_row : (c : ℕ) → c < block.rows → slice_index to c ≡ slice_index cols (slice_index tops c + c % side) + (c - c % side)
     at_row c h = at c (in_all c h)
 
-    pub AreReached-block_to : (may : ℕ → Type 0) → RowsReached block.side side (λ c. block.to + c * block.height) may → AreReached block.side to may
+    pub AreReached-block_to : (may : ℕ → Type 0) → RowsReached block.rows side (λ c. block.to + c * block.height) may → AreReached block.rows to may
     AreReached-block_to may all =
-        AreReached-rows block.side side known is (omega arith) (λ s. col) cols tops to (λ c h. below) (λ c h. is_top c (in_all c h)) at_row may
-        (λ r c h k. rw (at_cols r (in_all r h), (row_in_block block.side r known).1 h) (all r c h k))
+        AreReached-rows block.rows side known is (omega arith) (λ s. col) cols tops to (λ c h. below) (λ c h. is_top c (in_all c h)) at_row may
+        (λ r c h k. rw (at_cols r (in_all r h), (row_in_block block.rows r known).1 h) (all r c h k))
 
-    pub AreApart-block_to : AreApart block.side side to
-    AreApart-block_to = AreApart-rows block.side side known is (omega arith) (λ s. col) cols tops to (λ c h. below) (λ c h. is_top c (in_all c h)) at_row apart
+    pub AreApart-block_to : AreApart block.rows side to
+    AreApart-block_to = AreApart-rows block.rows side known is (omega arith) (λ s. col) cols tops to (λ c h. below) (λ c h. is_top c (in_all c h)) at_row apart
 
     pub ColumnsPut-step : {A : Type 0} (from : List ℕ) (columns : List (List A)) (input old new : List A) → ((c : ℕ) → c < 8 → slice_index from c ≡ slice_index rows c + slice_index tops c)
-        → AreColumns side from input columns → AreStored block.side side to columns old new → ColumnsPut col (col + side) block input old new
+        → AreColumns side from input columns → AreStored block.rows side to columns old new → ColumnsPut col (col + side) block input old new
     ColumnsPut-step from columns input old new at_from of stored =
-        let moved = SquaresMoved-rows block.side side known is (omega arith) (λ s. col) cols tops to (λ c h. below) (λ c h. is_top c (in_all c h)) at_row rows from columns input old new (λ c h. at_from c (in_all c h)) of stored in
-        let to_is : (c : ℕ) → c < block.side → slice_index cols c ≡ block.to + c * block.height = λ c h. rw ((row_in_block block.side c known).1 h) at (at_cols c (in_all c h)) in
-        let from_is : (r : ℕ) → r < block.side → slice_index rows r ≡ block.from + r * block.width = λ r h. rw ((row_in_block block.side r known).1 h) at (at_rows r (in_all r h)) in
+        let moved = SquaresMoved-rows block.rows side known is (omega arith) (λ s. col) cols tops to (λ c h. below) (λ c h. is_top c (in_all c h)) at_row rows from columns input old new (λ c h. at_from c (in_all c h)) of stored in
+        let to_is : (c : ℕ) → c < block.rows → slice_index cols c ≡ block.to + c * block.height = λ c h. rw ((row_in_block block.rows c known).1 h) at (at_cols c (in_all c h)) in
+        let from_is : (r : ℕ) → r < block.rows → slice_index rows r ≡ block.from + r * block.width = λ r h. rw ((row_in_block block.rows r known).1 h) at (at_rows r (in_all r h)) in
         record {
           same_length = moved.same_length;
           places = λ r c hr h k. rw (to_is c (omega arith), from_is r hr) at (moved.places c r hr h k);
@@ -61,7 +62,7 @@ module _ (side : ℕ) (block : Block) (col input_len len : ℕ) (is : IsSide sid
 
 module _ (block : Block) (input_len len : ℕ) (fits : BlockFits block input_len len) where
   -- a cell belongs to only one column
-  one_column : (r c v w : ℕ) → r < block.side → v < block.side → c ≢ w → block.to + c * block.height + r ≢ block.to + w * block.height + v
+  one_column : (r c v w : ℕ) → r < block.rows → v < block.rows → c ≢ w → block.to + c * block.height + r ≢ block.to + w * block.height + v
   one_column r c v w hr hv other e =
       elim (cases_lt c w) [
         | inl less ↦ omega (arith, fits.apart, column_before c w block.height less)
@@ -81,17 +82,9 @@ module _ (block : Block) (input_len len : ℕ) (fits : BlockFits block input_len
   }
 
 -- all columns are put
-pub IsBlockPut-columns : {A : Type 0} (side : ℕ) (block : Block) (input old new : List A) → block.side ≡ side → (block.side ≡ 4) ⊎ (block.side ≡ 8) → ColumnsPut 0 side block input old new
-    → IsBlockPut (block.side * block.side) block input old new
-IsBlockPut-columns side block input old new whole known all =
-    let cols : (r c : ℕ) → block.side * c + r < block.side * block.side → c < side =
-    λ r c h. elim known [ inl u ↦ omega (arith, u, whole, rw u at h) | inr u ↦ omega (arith, u, whole, rw u at h) ]
-    in
-    let in_all : (r c : ℕ) → r < block.side → c < side → block.side * c + r < block.side * block.side =
-    λ r c h k. elim known [ inl u ↦ rw u (omega (arith, u, whole)) | inr u ↦ rw u (omega (arith, u, whole)) ]
-    in
-    record {
-      same_length = all.same_length;
-      places = λ r c hr h. all.places r c hr (omega arith) (cols r c h);
-      others = λ p out. all.others p (λ r c hr h k. out r c hr (in_all r c hr k));
-    }
+pub IsBlockPut-whole : {A : Type 0} (block : Block) (input old new : List A) → ColumnsPut 0 block.cols block input old new → IsBlockPut (block.rows * block.cols) block input old new
+IsBlockPut-whole block input old new all = record {
+  same_length = all.same_length;
+  places = λ r c hr h. all.places r c hr (omega arith) (lt_of_mul-lt-mul_left block.rows (let column : block.rows * c < block.rows * block.cols = omega (arith, h) in column));
+  others = λ p out. all.others p (λ r c hr h k. out r c hr (in_block block.rows block.cols r c hr k));
+}

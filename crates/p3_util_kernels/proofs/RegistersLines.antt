@@ -1,13 +1,10 @@
 -- Blocks whose columns are put one after another.
-use Rattle.std.proofs.Common.{◌≡◌, ℕ, ◌+◌, ◌-◌, ◌*◌, ◌/◌, ◌%◌, ◌<◌, ◌⊎◌, List, ◌++◌, length, slice_get, slice_index, inl, inr, refl, sym, ◌∙◌, arith}
-use Rattle.std.proofs.Math.Nat.{lt_of_mul-lt-mul_left}
+use Rattle.std.proofs.Common.{◌≡◌, ◌≢◌, ℕ, ◌+◌, ◌-◌, ◌*◌, ◌/◌, ◌%◌, ◌<◌, ◌≤◌, ◌⊎◌, List, ◌++◌, length, slice_get, slice_index, inl, inr, refl, sym, ◌∙◌, arith}
 use Rattle.std.proofs.lemmas.Bool.{cases_lt}
 use Rattle.p3_util_kernels.specs.Stages.{item_at}
 use Rattle.p3_util_kernels.specs.declared.places.Block.{Block}
 use Rattle.p3_util_kernels.specs.RegisterLines.{AreLines}
-use Rattle.p3_util_kernels.specs.Registers.{AreLoaded, ColumnsPut, IsNextStage, IsRunStored, IsStored}
-use Rattle.p3_util_kernels.specs.BlockPut.{IsBlockPut}
-use Rattle.p3_util_kernels.proofs.BlockPutLemmas.{in_block}
+use Rattle.p3_util_kernels.specs.Registers.{AreInterleaved, AreLoaded, ColumnsPut, IsNextStage, IsRunStored, IsStored}
 use Rattle.p3_util_kernels.proofs.ListParts.{slice_get-append_left, slice_get-append_right}
 use Rattle.p3_util_kernels.proofs.RegistersTiles.{outside}
 
@@ -93,7 +90,7 @@ column_of_two n base width input a b full of_a of_b r h =
     ]
 
 -- a column of a block is stored
-pub ColumnsPut-line : {A : Type 0} (block : Block) (n to base col : ℕ) (input items old new : List A) → n ≡ block.side → to ≡ block.to + col * block.height → base ≡ block.from + col
+pub ColumnsPut-line : {A : Type 0} (block : Block) (n to base col : ℕ) (input items old new : List A) → n ≡ block.rows → to ≡ block.to + col * block.height → base ≡ block.from + col
     → IsRunStored n to items old new → ((r : ℕ) → r < n → slice_get items r ≡ slice_get input (base + r * block.width)) → ColumnsPut col (col + 1) block input old new
 ColumnsPut-line block n to base col input items old new whole there here stored of = record {
   same_length = stored.same_length;
@@ -120,8 +117,8 @@ module _ {A : Type 0} (side from width : ℕ) (list : List A) (regs : List (List
       rw (x, y) at (rw is at lines c (4 * h + r) hc (omega arith))
 
 -- one of the columns that are in registers is stored
-module _ {A : Type 0} (side col this next : ℕ) (block : Block) (input a b old new : List A) (whole : block.side ≡ 4 * side) (full : length a ≡ 2 * side) (after : next ≡ this + 1)
-    (stored : IsRunStored block.side (block.to + this * block.height) (a ++ b) old new) where
+module _ {A : Type 0} (side col this next : ℕ) (block : Block) (input a b old new : List A) (whole : block.rows ≡ 4 * side) (full : length a ≡ 2 * side) (after : next ≡ this + 1)
+    (stored : IsRunStored block.rows (block.to + this * block.height) (a ++ b) old new) where
   abbrev base : ℕ
   base = block.from + col
 
@@ -129,7 +126,7 @@ module _ {A : Type 0} (side col this next : ℕ) (block : Block) (input a b old 
       → (c : ℕ) → c < 4 → this ≡ col + c → ((r : ℕ) → item_at top c r ≡ slice_get a r) → ((r : ℕ) → item_at bottom c r ≡ slice_get b r) → ColumnsPut this next block input old new
   ColumnsPut-of_16 is top bottom above below c hc column of_a of_b =
       rw after
-      (ColumnsPut-line block block.side _ (base + c) this input (a ++ b) old new refl refl (omega (arith, column)) stored
+      (ColumnsPut-line block block.rows _ (base + c) this input (a ++ b) old new refl refl (omega (arith, column)) stored
       (λ r h. column_of_two 8 (base + c) block.width input a b (omega (arith, full, is))
       (λ r h. let at : base + r * block.width + c ≡ base + c + r * block.width = omega arith in sym (of_a r) ∙ rw at at (at_four side _ _ _ _ above is c r hc h))
       (λ r h.
@@ -141,7 +138,7 @@ module _ {A : Type 0} (side col this next : ℕ) (block : Block) (input a b old 
       → (c : ℕ) → c < 2 → this ≡ col + c → ((r : ℕ) → item_at lines (2 * c + 0) r ≡ slice_get a r) → ((r : ℕ) → item_at lines (2 * c + 1) r ≡ slice_get b r) → ColumnsPut this next block input old new
   ColumnsPut-of_8 is lines of c hc column of_a of_b =
       rw after
-      (ColumnsPut-line block block.side _ (base + c) this input (a ++ b) old new refl refl (omega (arith, column)) stored
+      (ColumnsPut-line block block.rows _ (base + c) this input (a ++ b) old new refl refl (omega (arith, column)) stored
       (λ r h. column_of_two 4 (base + c) block.width input a b (omega (arith, full, is))
       (λ r h. let at : base + (4 * 0 + r) * block.width + c ≡ base + c + r * block.width = omega arith in sym (of_a r) ∙ rw at at (at_two side _ _ _ _ of is c 0 r hc (omega arith) h))
       (λ r h.
@@ -149,9 +146,26 @@ module _ {A : Type 0} (side col this next : ℕ) (block : Block) (input a b old 
       sym (of_b r) ∙ rw at at (at_two side _ _ _ _ of is c 1 r hc (omega arith) h))
       r (omega (arith, whole, is))))
 
-pub IsBlockPut-whole : {A : Type 0} (block : Block) (input old new : List A) → ColumnsPut 0 block.side block input old new → IsBlockPut (block.side * block.side) block input old new
-IsBlockPut-whole block input old new all = record {
-  same_length = all.same_length;
-  places = λ r c hr h. all.places r c hr (omega arith) (lt_of_mul-lt-mul_left block.side (let column : block.side * c < block.side * block.side = omega (arith, h) in column));
-  others = λ p out. all.others p (λ r c hr h k. out r c hr (in_block block.side r c hr k));
-}
+-- a register has half of 2 or of 4 items
+pub some : {n : ℕ} → (n ≡ 2) ⊎ (n ≡ 4) → 2 ≤ n
+some (inl is) = omega (arith, is)
+some (inr is) = omega (arith, is)
+
+pub other : {n m : ℕ} → (n ≡ 2) ⊎ (n ≡ 4) → m ≡ n → m ≢ 2 → n ≡ 4
+other (inl is) same not = absurd (not (same ∙ is))
+other (inr is) same not = is
+
+-- a register of two items of a column
+pub of_pair : {A : Type 0} (base second width : ℕ) (list a : List A) → second ≡ base + width → AreInterleaved 1 base second list list a
+    → (r : ℕ) → r < 2 → slice_get a r ≡ slice_get list (base + r * width)
+of_pair base second width list a next both r h =
+    elim (cases_lt r 1) [
+      | inl first ↦
+          let zero : r ≡ 0 = omega (arith, first) in
+          let at : base + 0 ≡ base + 0 * width = omega arith in
+          rw zero (rw at at (both.first 0 (omega arith)))
+      | inr last ↦
+          let one : r ≡ 1 = omega (arith, h, last) in
+          let at : second + 0 ≡ base + 1 * width = omega (arith, next) in
+          rw one (rw at at (both.second 0 (omega arith)))
+    ]

@@ -8,6 +8,7 @@ pub mod Halves
 pub mod Interleaved
 pub mod Least
 pub mod Levels
+pub mod Lines
 pub mod Mirrored
 pub mod Names
 pub mod PartSteps

@@ -91,8 +91,8 @@ pub record SquaresTurned {A : Type 0} (from to side : ℕ) (x : List ℕ) (old n
 -- the block has them. Every other cell holds what it held before
 pub record ColumnsPut {A : Type 0} (from to : ℕ) (block : Block) (input old new : List A) : Type 0 where
   pub same_length : length new ≡ length old
-  pub places : (r c : ℕ) → r < block.side → from ≤ c → c < to → slice_get new (block.to + c * block.height + r) ≡ slice_get input (block.from + r * block.width + c)
-  pub others : (p : ℕ) → ((r c : ℕ) → r < block.side → from ≤ c → c < to → p ≢ block.to + c * block.height + r) → slice_get new p ≡ slice_get old p
+  pub places : (r c : ℕ) → r < block.rows → from ≤ c → c < to → slice_get new (block.to + c * block.height + r) ≡ slice_get input (block.from + r * block.width + c)
+  pub others : (p : ℕ) → ((r c : ℕ) → r < block.rows → from ≤ c → c < to → p ≢ block.to + c * block.height + r) → slice_get new p ≡ slice_get old p
 
 -- two registers of 2 * half items have twice as many items
 pub length_of_pair : {A : Type 0} (a b : List A) (half : ℕ) → length a ≡ 2 * half → length b ≡ 2 * half → length (a ++ b) ≡ 2 * (2 * half)

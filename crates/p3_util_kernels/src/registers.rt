@@ -28,7 +28,7 @@
 //! The module `witness`, which only the Rattle sources have, is an example for whoever writes a holder: a
 //! register, and lists that meet [`Runs`].
 
-ghost use Rattle.std.specs.Prelude.{◌≡◌, ℕ, ◌+◌, ◌-◌, ◌*◌, ◌/◌, ◌%◌, ◌^◌, ◌<◌, ◌≤◌, ◌⊎◌, List, ◌++◌, length, slice_get, slice_index};
+ghost use Rattle.std.specs.Prelude.{◌≡◌, ℕ, ◌+◌, ◌-◌, ◌*◌, ◌/◌, ◌%◌, ◌^◌, ◌<◌, ◌≤◌, ◌⊎◌, List, [], ◌∷◌, ◌++◌, length, refl, slice_get, slice_index};
 ghost use Rattle.p3_util_kernels.specs.BlockPut.{BlockFits, IsBlockPut, block_items};
 ghost use Rattle.p3_util_kernels.specs.Registers.{AreApart, AreColumns, AreInterleaved, AreLoaded, AreReached, AreStored, ColumnsPut, IsNextStage, IsSide, IsRunStored, IsStored, RowsExchanged, RowsReached, SquaresTurned, items_of_four, length_of_pair};
 ghost use Rattle.p3_util_kernels.specs.Exchanged.{AreTiles, IsTile, TileTurned, TilesExchanged};
@@ -474,20 +474,21 @@ fn put_columns<T, D: Register<T>, S: Runs<T, D>, M: Runs<T, D>>(
 )
     requires some_side { IsSide D.half }
     requires side { side ≡ D.half }
-    requires known { (block.side ≡ 4) ⊎ (block.side ≡ 8) }
-    requires below { col + side ≤ block.side }
+    requires known { (block.rows ≡ 4) ⊎ (block.rows ≡ 8) }
+    requires below { col + side ≤ block.rows }
+    requires square { block.cols ≡ block.rows }
     requires block { BlockFits block (length (S.items source.now)) (length (M.items cells.old)) }
-    requires reads { RowsReached block.side D.half (λ r. block.from + r * block.width) (S.may (S.reach source.now)) }
-    requires writes { RowsReached block.side D.half (λ c. block.to + c * block.height) (M.may (M.reach cells.old)) }
+    requires reads { RowsReached block.rows D.half (λ r. block.from + r * block.width) (S.may (S.reach source.now)) }
+    requires writes { RowsReached block.rows D.half (λ c. block.to + c * block.height) (M.may (M.reach cells.old)) }
     requires source_fits { length (S.items source.now) < 2 ^ 63 }
     requires cells_fit { length (M.items cells.old) < 2 ^ 63 }
     ensures put { ColumnsPut col (col + side) block (S.items source.now) (M.items cells.old) (M.items cells.new) }
     ensures holder { M.reach cells.new ≡ M.reach cells.old }
 {
-    let from = in_columns(starts(block.from, block.width, block.side), [col; 8]);
-    let to = in_rows(starts(block.to, block.height, block.side), side, [col; 8]);
+    let from = in_columns(starts(block.from, block.width, block.rows), [col; 8]);
+    let to = in_rows(starts(block.to, block.height, block.rows), side, [col; 8]);
     let columns = load_columns(source, side, from);
-    store(cells, block.side, to, columns);
+    store(cells, block.rows, to, columns);
 }
 
 /// Does what `Cells::put_block` does, by squares of `side` rows.
@@ -500,15 +501,16 @@ pub(crate) fn put_block<T, D: Register<T>, S: Runs<T, D>, M: Runs<T, D>>(
 )
     requires some_side { IsSide D.half }
     requires side { side ≡ D.half }
-    requires known { (block.side ≡ 4) ⊎ (block.side ≡ 8) }
-    requires below { side ≤ block.side }
+    requires known { (block.rows ≡ 4) ⊎ (block.rows ≡ 8) }
+    requires square { block.cols ≡ block.rows }
+    requires below { side ≤ block.rows }
     requires block { BlockFits block (length (S.items source.now)) (length (M.items cells.old)) }
-    requires reads { RowsReached block.side D.half (λ r. block.from + r * block.width) (S.may (S.reach source.now)) }
-    requires writes { RowsReached block.side D.half (λ c. block.to + c * block.height) (M.may (M.reach cells.old)) }
+    requires reads { RowsReached block.rows D.half (λ r. block.from + r * block.width) (S.may (S.reach source.now)) }
+    requires writes { RowsReached block.rows D.half (λ c. block.to + c * block.height) (M.may (M.reach cells.old)) }
     ensures put { IsBlockPut (block_items block) block (S.items source.now) (M.items cells.old) (M.items cells.new) }
     ensures holder { M.reach cells.new ≡ M.reach cells.old }
 {
-    match block.side / side {
+    match block.rows / side {
         4 => {
             put_columns(cells, source, side, block, 0);
             put_columns(cells, source, side, block, 2);
@@ -521,6 +523,47 @@ pub(crate) fn put_block<T, D: Register<T>, S: Runs<T, D>, M: Runs<T, D>>(
         }
         _ => put_columns(cells, source, side, block, 0),
     }
+}
+
+/// What holds one item.
+pub(crate) trait Single<T>: Copy {
+    ghost item: { Self → T };
+}
+
+/// Two items, one after the other.
+#[derive(Clone, Copy)]
+pub(crate) struct Two<H>(H, H);
+
+impl<T, H: Single<T>> Register<T> for Two<H> {
+    type Half = H;
+
+    ghost items = { λ two. H.item two.0 ∷ H.item two.1 ∷ [] };
+
+    ghost half_items = { λ h. H.item h ∷ [] };
+
+    ghost half = { 1 };
+
+    #[inline(always)]
+    fn low(self, other: Self) -> Self {
+        Two(self.0, other.0)
+    }
+
+    #[inline(always)]
+    fn high(self, other: Self) -> Self {
+        Two(self.1, other.1)
+    }
+
+    #[inline(always)]
+    fn from_half(first: H) -> Self {
+        Two(first, first)
+    }
+
+    #[inline(always)]
+    fn halves(self) -> (H, H) {
+        (self.0, self.1)
+    }
+
+    ghost full = { λ two. refl };
 }
 
 /// Two registers, whose items follow each other.

@@ -41,14 +41,8 @@ pub use regions::Region;
 pub use split::{transpose_source_split_on, transpose_split_on};
 pub(crate) use square::transpose_square;
 pub use square::{fits_square, transpose_square_on};
-pub(crate) use strips::{Strips, UNIT};
-use strips::{put_columns, put_strips};
-
-/// A matrix of fewer items is put column after column.
-const TINY_MATRIX: usize = 128;
-
-/// The greatest number of items of a matrix that is not split.
-const LARGE_MATRIX: usize = 1_048_576;
+use strips::put_strips;
+pub(crate) use strips::{Strips, UNIT, put_rest};
 
 /// How many levels of splits a transpose is given. No matrix needs as many.
 const ENOUGH_LEVELS: u32 = 64;
@@ -119,7 +113,7 @@ where
     ensures holder { C.same_holder result cells.old cells.new }
 {
     let matrix = Matrix::new(input, width, height);
-    transpose_matrix(Writes::new(cells), matrix, Strips::by_shape(matrix)).writes()
+    transpose_by_shape(Writes::new(cells), matrix).writes()
 }
 
 /// Writes the transpose of `input` to `out`, as [`transpose`] does, in exactly `width * height`
@@ -154,7 +148,7 @@ where
 {
     let matrix = Matrix::new(input, width, height);
     let counter = Writes::resumed(&mut out.holder, out.count);
-    out.count = transpose_matrix(counter, matrix, Strips::by_shape(matrix)).writes();
+    out.count = transpose_by_shape(counter, matrix).writes();
 }
 
 /// Writes the transpose of `region` to `out`, with one write for each item.
@@ -267,50 +261,54 @@ fn transpose_items<T: Copy, R: Source<Item = T> + Copy>(
     ensures slice { result.ghost_name ≡ output.entry.ghost_name }
 {
     let out = SliceCells::new(output);
-    let SliceCells { values } = transpose_matrix(out, matrix, Strips::by_shape(matrix));
+    let SliceCells { values } = transpose_by_shape(out, matrix);
     values
 }
 
-/// The kernel of [`transpose_source_on`], in the given order. The source is passed by value,
-/// here and in the functions that this one calls. Behind a reference, the address of the items
-/// would be read from memory again for each item.
+/// The kernel of [`transpose_source_on`]. The source is passed by value, here and in the functions
+/// that this one calls. Behind a reference, the address of the items would be read from memory
+/// again for each item.
 #[inline(always)]
-pub(crate) fn transpose_matrix<M: Cells, R: Source<Item = M::Item> + Copy, O: Order<M>>(
-    out: M,
-    matrix: Matrix<R>,
-    order: O,
-) -> M
+fn transpose_by_shape<M: Cells, R: Source<Item = M::Item> + Copy>(out: M, matrix: Matrix<R>) -> M
     requires input_fits { length (R.items matrix.source) ≡ matrix.width * matrix.height }
     requires output_fits { length (M.items out) ≡ matrix.width * matrix.height }
     ensures order { IsTranspose matrix.width matrix.height (R.items matrix.source)
         (M.items result) }
     ensures holder { M.same_holder (matrix.width * matrix.height) out result }
 {
-    let items = out.len();
-    // A matrix without items may have very many columns, which have no rows.
-    if 0 < items && items < TINY_MATRIX {
-        return put_columns(out, matrix, matrix.whole());
+    match Order::by_shape(matrix) {
+        Order::Columns => transpose_matrix(out, matrix, Order::Columns),
+        _ => transpose_longer(out, matrix),
     }
-    transpose_in_strips(out, matrix, order)
 }
 
-/// Does the same as [`transpose_matrix`], always in strips. It is not inlined, so that calls for
-/// tiny matrices stay short.
+/// Does the same as [`transpose_by_shape`]. It is not inlined, so that calls for tiny matrices stay
+/// short.
 #[inline(never)]
-fn transpose_in_strips<M: Cells, R: Source<Item = M::Item> + Copy, O: Order<M>>(
+fn transpose_longer<M: Cells, R: Source<Item = M::Item> + Copy>(out: M, matrix: Matrix<R>) -> M
+    requires input_fits { length (R.items matrix.source) ≡ matrix.width * matrix.height }
+    requires output_fits { length (M.items out) ≡ matrix.width * matrix.height }
+    ensures order { IsTranspose matrix.width matrix.height (R.items matrix.source)
+        (M.items result) }
+    ensures holder { M.same_holder (matrix.width * matrix.height) out result }
+{
+    transpose_matrix(out, matrix, Order::by_shape(matrix))
+}
+
+/// Transposes a matrix in the given order.
+#[inline(always)]
+pub(crate) fn transpose_matrix<M: Cells, R: Source<Item = M::Item> + Copy>(
     out: M,
     matrix: Matrix<R>,
-    order: O,
+    order: Order,
 ) -> M
     requires input_fits { length (R.items matrix.source) ≡ matrix.width * matrix.height }
     requires output_fits { length (M.items out) ≡ matrix.width * matrix.height }
+    requires length_fits { length (R.items matrix.source) < 2 ^ 64 }
     ensures order { IsTranspose matrix.width matrix.height (R.items matrix.source)
         (M.items result) }
     ensures holder { M.same_holder (matrix.width * matrix.height) out result }
 {
     let whole = matrix.whole();
-    if out.len() > LARGE_MATRIX {
-        return order.put(out, matrix, whole);
-    }
-    put_strips(out, matrix, whole, order.strips())
+    order.put(out, matrix, whole)
 }

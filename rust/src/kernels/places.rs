@@ -32,14 +32,16 @@ mod slices;
 pub use counters::{Swaps, Writes};
 pub use slices::{SliceCells, SlicePlaces, SliceSource};
 
-/// A square block of a matrix, and where its transpose goes.
+/// A block of a matrix, and where its transpose goes.
 ///
 /// The item in row r and column c of the block is at index `from + r * width + c` of a source. In
 /// the transpose, it belongs into cell `to + c * height + r`.
 #[derive(Clone, Copy, Debug, PartialEq, Eq)]
 pub struct Block {
-    /// The number of rows of the block, which is also the number of its columns.
-    pub side: usize,
+    /// The number of rows of the block.
+    pub rows: usize,
+    /// The number of its columns.
+    pub cols: usize,
     /// The index of the block's first item.
     pub from: usize,
     /// The distance of two rows of the block in the source.
@@ -256,7 +258,8 @@ pub trait Cells {
         Self: Sized,
     {
         let Block {
-            side,
+            rows,
+            cols,
             from,
             width,
             to,
@@ -264,8 +267,8 @@ pub trait Cells {
         } = block;
         length_fits(source.len());
         length_fits(Self::len(self));
-        for c in 0..side {
-            for r in 0..side {
+        for c in 0..cols {
+            for r in 0..rows {
                 self.put(to + c * height + r, source.at(from + r * width + c));
             }
         }
@@ -302,6 +305,11 @@ pub trait Source {
     /// ensures { slice_get (items self.now) i ≡ Some result }
     /// ```
     fn at(&self, i: usize) -> Self::Item;
+
+    /// Only for speed: a hint that the item at index `i` may be read soon. Nothing has to follow from it. A holder may fetch
+    /// the item into a cache. The index may be any number.
+    #[inline(always)]
+    fn expect(&self, _i: usize) {}
 
     /// Only for speed: the items as a slice, if they are next to each other in memory in this
     /// order. A holder of cells can then read more than one of them at once.

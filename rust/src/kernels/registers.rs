@@ -544,11 +544,12 @@ fn starts(first: usize, stride: usize, count: usize) -> [usize; 8] {
 /// ```text
 /// requires some_side { IsSide D.half }
 /// requires side { side ≡ D.half }
-/// requires known { (block.side ≡ 4) ⊎ (block.side ≡ 8) }
-/// requires below { col + side ≤ block.side }
+/// requires known { (block.rows ≡ 4) ⊎ (block.rows ≡ 8) }
+/// requires below { col + side ≤ block.rows }
+/// requires square { block.cols ≡ block.rows }
 /// requires block { BlockFits block (length (S.items source.now)) (length (M.items cells.old)) }
-/// requires reads { RowsReached block.side D.half (λ r. block.from + r * block.width) (S.may (S.reach source.now)) }
-/// requires writes { RowsReached block.side D.half (λ c. block.to + c * block.height) (M.may (M.reach cells.old)) }
+/// requires reads { RowsReached block.rows D.half (λ r. block.from + r * block.width) (S.may (S.reach source.now)) }
+/// requires writes { RowsReached block.rows D.half (λ c. block.to + c * block.height) (M.may (M.reach cells.old)) }
 /// requires source_fits { length (S.items source.now) < 2 ^ 63 }
 /// requires cells_fit { length (M.items cells.old) < 2 ^ 63 }
 /// ensures put { ColumnsPut col (col + side) block (S.items source.now) (M.items cells.old) (M.items cells.new) }
@@ -562,10 +563,10 @@ fn put_columns<T, D: Register<T>, S: Runs<T, D>, M: Runs<T, D>>(
     block: Block,
     col: usize,
 ) {
-    let from = in_columns(starts(block.from, block.width, block.side), [col; 8]);
-    let to = in_rows(starts(block.to, block.height, block.side), side, [col; 8]);
+    let from = in_columns(starts(block.from, block.width, block.rows), [col; 8]);
+    let to = in_rows(starts(block.to, block.height, block.rows), side, [col; 8]);
     let columns = load_columns(source, side, from);
-    store(cells, block.side, to, columns);
+    store(cells, block.rows, to, columns);
 }
 
 /// Does what `Cells::put_block` does, by squares of `side` rows.
@@ -575,11 +576,12 @@ fn put_columns<T, D: Register<T>, S: Runs<T, D>, M: Runs<T, D>>(
 /// ```text
 /// requires some_side { IsSide D.half }
 /// requires side { side ≡ D.half }
-/// requires known { (block.side ≡ 4) ⊎ (block.side ≡ 8) }
-/// requires below { side ≤ block.side }
+/// requires known { (block.rows ≡ 4) ⊎ (block.rows ≡ 8) }
+/// requires square { block.cols ≡ block.rows }
+/// requires below { side ≤ block.rows }
 /// requires block { BlockFits block (length (S.items source.now)) (length (M.items cells.old)) }
-/// requires reads { RowsReached block.side D.half (λ r. block.from + r * block.width) (S.may (S.reach source.now)) }
-/// requires writes { RowsReached block.side D.half (λ c. block.to + c * block.height) (M.may (M.reach cells.old)) }
+/// requires reads { RowsReached block.rows D.half (λ r. block.from + r * block.width) (S.may (S.reach source.now)) }
+/// requires writes { RowsReached block.rows D.half (λ c. block.to + c * block.height) (M.may (M.reach cells.old)) }
 /// ensures put { IsBlockPut (block_items block) block (S.items source.now) (M.items cells.old) (M.items cells.new) }
 /// ensures holder { M.reach cells.new ≡ M.reach cells.old }
 /// ```
@@ -590,7 +592,7 @@ pub(crate) fn put_block<T, D: Register<T>, S: Runs<T, D>, M: Runs<T, D>>(
     side: usize,
     block: Block,
 ) {
-    match block.side / side {
+    match block.rows / side {
         4 => {
             put_columns(cells, source, side, block, 0);
             put_columns(cells, source, side, block, 2);
@@ -602,6 +604,37 @@ pub(crate) fn put_block<T, D: Register<T>, S: Runs<T, D>, M: Runs<T, D>>(
             put_columns(cells, source, side, block, side);
         }
         _ => put_columns(cells, source, side, block, 0),
+    }
+}
+
+/// What holds one item.
+pub(crate) trait Single<T>: Copy {}
+
+/// Two items, one after the other.
+#[derive(Clone, Copy)]
+pub(crate) struct Two<H>(H, H);
+
+impl<T, H: Single<T>> Register<T> for Two<H> {
+    type Half = H;
+
+    #[inline(always)]
+    fn low(self, other: Self) -> Self {
+        Two(self.0, other.0)
+    }
+
+    #[inline(always)]
+    fn high(self, other: Self) -> Self {
+        Two(self.1, other.1)
+    }
+
+    #[inline(always)]
+    fn from_half(first: H) -> Self {
+        Two(first, first)
+    }
+
+    #[inline(always)]
+    fn halves(self) -> (H, H) {
+        (self.0, self.1)
     }
 }
 

@@ -9,7 +9,8 @@ use super::{one_part_reversal, parts_of_side, row_reversal, transpose};
 use crate::kernels::parts::{Cut, ReversalPlan, RowPairs, TransposePlan};
 use crate::kernels::places::{Cells, Places, SliceCells, SlicePlaces, SliceSource, Source};
 use crate::kernels::reverse::RowDigits;
-use crate::kernels::transpose::{Matrix, Strips};
+use crate::kernels::transpose::lines::Lines;
+use crate::kernels::transpose::{Matrix, Order, Strips};
 
 /// A list of numbers that notes each place that a step changes.
 #[derive(Debug)]
@@ -75,7 +76,8 @@ fn check(len: usize, count: usize, run: impl Fn(&mut Noted, usize), wanted: impl
 }
 
 /// Checks the parts of the transpose of a matrix. Its items are the numbers from `len` on, so that each put changes its
-/// cell. The matrix is cut along its longer side, or always along its columns if `may_cut_rows` is false.
+/// cell. The matrix is cut along its longer side, or always along its columns if `may_cut_rows` is false. It is put in every
+/// order.
 fn check_matrix(width: usize, height: usize, parts: usize, may_cut_rows: bool) {
     let len = width * height;
     let input: Vec<usize> = (len..2 * len).collect();
@@ -90,9 +92,12 @@ fn check_matrix(width: usize, height: usize, parts: usize, may_cut_rows: bool) {
         let is_inside = (from..to).contains(if by_rows { &y } else { &x });
         if is_inside { input[y * width + x] } else { place }
     };
-    let put = |noted: &mut Noted, number| _ = plan.put(noted, source, number, strips);
-    let puts = check(len, plan.count(), put, wanted);
-    assert_eq!(puts, len, "{width} by {height} in {parts} parts");
+    let lines = Order::Lines(Lines::new(8, width % 8));
+    for order in [Order::Columns, Order::Strips(strips), Order::Leaves(strips), lines] {
+        let put = |noted: &mut Noted, number| _ = plan.put(noted, source, number, order);
+        let puts = check(len, plan.count(), put, wanted);
+        assert_eq!(puts, len, "{width} by {height} in {parts} parts");
+    }
     assert_eq!((0..plan.count()).map(|number| plan.items(number)).sum::<usize>(), len);
 }
 
@@ -164,7 +169,7 @@ fn regions_of_long_matrices() {
                     &mut far,
                     source,
                     last,
-                    Strips::by_shape(Matrix::new(source, width, height)),
+                    Order::Leaves(Strips::by_shape(Matrix::new(source, width, height))),
                 );
                 assert!(far.puts.into_iter().eq((last * plan.items(0)..len).map(|i| (i, i))));
             }
@@ -448,7 +453,7 @@ fn puts_alone<const N: usize>() {
             let (mut output, mut wanted) = (blank.clone(), blank.clone());
             let part = transpose(&input, &mut output, width, height, asked).nth(number);
             part.unwrap().run();
-            let _ = plan.put(SliceCells::new(&mut wanted), source, number, strips);
+            let _ = plan.put(SliceCells::new(&mut wanted), source, number, Order::Leaves(strips));
             let is_wanted = output.as_flattened() == wanted.as_flattened();
             assert!(is_wanted, "part {number} of {width} by {height}, items of {N} bytes");
         }

@@ -10,17 +10,18 @@
 
 use super::by_type::{self, LONG_BYTES};
 use super::holders::{Bytes, InRegisters, MOVES_BYTES, SliceItems, SliceSource};
-use super::registers::{Items, USES_REGISTERS};
+use super::order::order_of;
+use super::registers::{Items, Register, USES_REGISTERS};
 use super::{Part, Reversal};
 use crate::kernels::parts::ReversalPlan;
-use crate::kernels::registers::Pair;
-use crate::kernels::transpose::{Matrix, Strips};
+use crate::kernels::registers::{Pair, Two};
+use crate::kernels::transpose::{Matrix, Order};
 
 /// `by_size!(size)` is whether the size is in this table. `by_size!(size, holder = list => call, _ => other)` is `call` if
 /// it is, and otherwise `other`. In `call`, `holder` is the holder of the list as items of this size.
 macro_rules! by_size {
     ($size:expr $(, $($form:tt)*)?) => {
-        by_size!(@ [1: Items<1>, 2: Pair<Items<2>>, 4: Pair<Items<4>>, 8: Pair<Items<8>>]
+        by_size!(@ [1: Items<1>, 2: Pair<Items<2>>, 4: Pair<Items<4>>, 8: Pair<Items<8>>, 16: Two<Register>]
             [1 2 4 8 12 16 20 32 64] $size $(, $($form)*)?)
     };
     (@ [$($short:literal: $rows:ty),*] [$($bytes:literal)*] $size:expr) => {
@@ -65,20 +66,19 @@ pub(super) fn reverse_rows<F>(items: SliceItems<F>, row_width: usize) {
     }
 }
 
-/// Transposes a matrix. A matrix of few items is transposed in place of this call, since a call of another crate would take
-/// as long as that.
+/// Transposes a matrix of few items, in this order.
 #[inline(always)]
-pub(super) fn transpose<T: Copy>(strips: Strips, cells: SliceItems<T>, matrix: Matrix<SliceSource<T>>) {
+pub(super) fn transpose<T: Copy>(order: Order, cells: SliceItems<T>, matrix: Matrix<SliceSource<T>>) {
     by_size!(
         const { size_of::<T>() },
-        holder = cells => by_type::transpose(holder.order(strips), holder, in_bytes(matrix)),
-        _ => by_type::transpose(strips, cells, matrix)
+        holder = cells => by_type::transpose(order, holder, in_bytes(matrix)),
+        _ => by_type::transpose(order, cells, matrix)
     );
 }
 
-/// Puts a region of a matrix.
+/// Puts a part of a matrix.
 #[inline(always)]
-pub(super) fn put<T: Copy>(part: Part<Strips>, cells: SliceItems<T>, matrix: Matrix<SliceSource<T>>) {
+pub(super) fn put<T: Copy>(part: Part, cells: SliceItems<T>, matrix: Matrix<SliceSource<T>>) {
     if const { by_size!(size_of::<T>()) } {
         put_part(part, cells.in_bytes(), in_bytes(matrix), size_of::<T>());
     } else {
@@ -135,16 +135,19 @@ fn exchange_part(list: SliceItems<Bytes<1>>, Reversal { plan, place }: Reversal,
     }
 }
 
-/// Puts a region, for items of a size in the table. If it is the whole matrix, this is the call.
+/// Puts a part, for items of a size in the table.
 #[inline(never)]
-fn put_part(part: Part<Strips>, cells: SliceItems<Bytes<1>>, matrix: Matrix<SliceSource<Bytes<1>>>, size: usize) {
+fn put_part(part: Part, cells: SliceItems<Bytes<1>>, matrix: Matrix<SliceSource<Bytes<1>>>, size: usize) {
+    if let order @ Order::Lines(_) = order_of(size, matrix, part, Some(cells.address())) {
+        return by_size!(
+            @ [4: Pair<Items<4>>, 8: Pair<Items<8>>, 16: Two<Register>] [] size,
+            holder = cells => holder.past_caches(|cells| by_type::put_in(order, part, cells, in_bytes(matrix))),
+            _ => unreachable!("this size has no lines")
+        );
+    }
     by_size!(
         size,
-        holder = cells => if part.0.count() == 1 {
-            by_type::transpose(holder.order(part.2), holder, in_bytes(matrix));
-        } else {
-            by_type::put((part.0, part.1, holder.order(part.2)), holder, in_bytes(matrix));
-        },
+        holder = cells => by_type::put(part, holder, in_bytes(matrix)),
         _ => unreachable!("this size has no kernels here")
     );
 }

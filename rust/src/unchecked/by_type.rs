@@ -1,10 +1,11 @@
 //! Kernels on holders of slices, compiled for each type of item. This file calls kernels, and trusts that the precondition
 //! of each was checked.
 
+use super::order::order_of;
 use super::{Part, PartItems, Reversal};
 use crate::kernels::places::{Cells, Places, Source};
 use crate::kernels::reverse::{self, RowDigits, reverse_short};
-use crate::kernels::transpose::{Matrix, Order, transpose_matrix};
+use crate::kernels::transpose::{Matrix, Order, put_rest, transpose_matrix};
 
 /// An item of at least this many bytes is long. It is exchanged as a run of bytes, which takes hardly longer, and is put
 /// by its index.
@@ -22,25 +23,41 @@ pub(super) fn reverse_rows(items: impl Places, row_width: usize) {
     let _ = reverse::reverse_rows(items, rows);
 }
 
-/// Transposes a matrix. Long items are put by their indices.
+/// Transposes a matrix in this order. A matrix of very few items is put in place of this call, since a call of another crate
+/// would take as long as that.
 #[inline(always)]
-pub(super) fn transpose<M: Cells, R: Source<Item = M::Item> + Copy>(order: impl Order<M>, cells: M, matrix: Matrix<R>) {
-    if const { size_of::<M::Item>() < LONG_BYTES } {
-        let _ = transpose_matrix(cells, matrix, order);
-    } else {
-        let indices = Matrix::new(Indices(matrix.source.len()), matrix.width, matrix.height);
-        let _ = transpose_matrix(ByIndex(cells, matrix.source), indices, order.strips());
+pub(super) fn transpose<M: Cells, R: Source<Item = M::Item> + Copy>(order: Order, cells: M, matrix: Matrix<R>) {
+    match order {
+        // This names no other order, so that a crate of the user compiles none.
+        Order::Columns if const { size_of::<M::Item>() < LONG_BYTES } => _ = put_rest(cells, matrix, matrix.whole()),
+        _ => put(None, cells, matrix),
     }
 }
 
-/// Puts a region in the same way.
+/// Puts a part, not by lines.
+#[inline(never)]
+pub(super) fn put<M: Cells, R: Source<Item = M::Item> + Copy>(part: Part, cells: M, matrix: Matrix<R>) {
+    let order = order_of(size_of::<M::Item>(), matrix, part, None);
+    put_in(order, part, cells, matrix);
+}
+
+/// Puts a part in this order. Long items are put by their indices.
 #[inline(always)]
-pub(super) fn put<M: Cells, R: Source<Item = M::Item> + Copy>(part: Part<impl Order<M>>, cells: M, matrix: Matrix<R>) {
-    let ((plan, number, order), source) = (part, matrix.source);
+pub(super) fn put_in<M: Cells, R: Source<Item = M::Item> + Copy>(order: Order, part: Part, cells: M, from: Matrix<R>) {
     if const { size_of::<M::Item>() < LONG_BYTES } {
-        let _ = plan.put(cells, source, number, order);
+        run(order, part, cells, from);
     } else {
-        let _ = plan.put(ByIndex(cells, source), Indices(source.len()), number, order.strips());
+        let indices = Matrix::new(Indices(from.source.len()), from.width, from.height);
+        run(order, part, ByIndex(cells, from.source), indices);
+    }
+}
+
+/// Runs the kernel of a part.
+#[inline(always)]
+fn run<M: Cells, R: Source<Item = M::Item> + Copy>(order: Order, part: Part, cells: M, matrix: Matrix<R>) {
+    match part {
+        None => _ = transpose_matrix(cells, matrix, order),
+        Some((plan, number)) => _ = plan.put(cells, matrix.source, number, order),
     }
 }
 

@@ -3,26 +3,15 @@
 //! kernels are proved to do so. Only this folder can make a holder.
 
 use core::marker::PhantomData;
-use core::mem::{MaybeUninit, transmute_copy};
 use core::ptr;
 use core::slice::from_raw_parts;
 use core::sync::atomic::{Ordering, compiler_fence};
 
-use super::registers::{self, HAS_LINES, LINE};
+use super::bytes::{Bytes, swap_runs, write_item};
+use super::order::LINE;
+use super::{cache, registers};
 use crate::kernels::places::{Block, Cells, Places, Source};
 use crate::kernels::registers::{self as squares, Register, Runs};
-use crate::kernels::transpose::{Matrix, Order, Region, Strips, lines::Lines};
-
-/// Whether this processor moves unaligned bytes as fast as aligned ones. Otherwise each item is moved as its type says. On
-/// some systems, rustc moves unaligned bytes of aarch64 one by one.
-pub(super) const MOVES_BYTES: bool = cfg!(target_arch = "x86_64")
-    || cfg!(target_arch = "aarch64")
-        && !cfg!(any(
-            target_os = "none",
-            target_os = "hermit",
-            target_os = "nuttx",
-            target_os = "teeos"
-        ));
 
 /// The items of a slice, as places or as cells, for one kernel or for one part.
 ///
@@ -70,9 +59,9 @@ impl<'a, T> SliceItems<'a, T> {
         SliceItems { ..*self }
     }
 
-    /// The order in which a matrix is put into these cells.
-    pub(super) fn order(&self, strips: Strips) -> Strips {
-        strips
+    /// The address of the first item.
+    pub(super) fn address(&self) -> usize {
+        self.first.addr()
     }
 
     /// The bytes of the items, `N` at a time.
@@ -81,97 +70,6 @@ impl<'a, T> SliceItems<'a, T> {
         // This many groups of `N` bytes are within the slice. `SliceItems` borrows it for as long as it is borrowed.
         SliceItems::of(self.first.cast(), self.len * size_of::<T>() / N)
     }
-}
-
-/// An item of `N` bytes, of which only the size is known, or a row of such items.
-///
-/// A copy of a `MaybeUninit` keeps each byte as it is, also if it was never written, and keeps the provenance of each
-/// pointer. That is true of the parts in which an item is copied too: each of them is a `MaybeUninit`. Its alignment
-/// is 1, which is weaker than that of any item, so a reference to these bytes is aligned wherever the item is. What
-/// moves here is always the bytes of whole items, within the list of these items. So each place has an item
-/// afterwards.
-pub(super) type Bytes<const N: usize> = [MaybeUninit<u8>; N];
-
-/// Writes an item. Its bytes are written from the lowest address on, see [`move_bytes`]. The compiler would write the
-/// upper part first, or parts that overlap. That takes longer, most of all if the item lies in two cache lines.
-///
-/// # Safety
-///
-/// `to` is valid for writes of an item.
-#[inline(always)]
-unsafe fn write_item<T>(to: *mut T, item: T) {
-    // SAFETY: this is what the caller promises, and a copy of the item is only read.
-    unsafe {
-        if const { MOVES_BYTES && size_of::<T>() <= 64 } {
-            let item = MaybeUninit::new(item);
-            move_bytes::<false>(item.as_ptr().cast_mut().cast(), to.cast(), size_of::<T>());
-        } else {
-            to.write(item);
-        }
-    }
-}
-
-/// Exchanges two runs of `len` items.
-///
-/// # Safety
-///
-/// Both runs are valid for reads and writes, and do not overlap.
-#[inline(never)]
-unsafe fn swap_runs<T>(x: *mut T, y: *mut T, len: usize) {
-    // SAFETY: this is what the caller promises.
-    unsafe {
-        if MOVES_BYTES {
-            move_bytes::<true>(x.cast(), y.cast(), len * size_of::<T>());
-        } else {
-            ptr::swap_nonoverlapping(x, y, len);
-        }
-    }
-}
-
-/// Copies the `len` bytes at `from` to `to`. If `BACK` is true, it also copies those at `to` to `from`. It moves parts
-/// of 16 bytes, and then one of 8, 4, 2 and 1 bytes for each digit of `len` that is set, from the lowest address on.
-/// Parts of single bytes would take longer: there may be up to 15 at the end.
-///
-/// # Safety
-///
-/// The bytes at `from` are valid for reads and those at `to` for writes, and if `BACK` is true, both for both. They do
-/// not overlap.
-#[inline(always)]
-unsafe fn move_bytes<const BACK: bool>(from: *mut u8, to: *mut u8, len: usize) {
-    let mut done = 0;
-    // SAFETY: each part is within the `len` bytes.
-    unsafe {
-        while len - done >= 16 {
-            done += move_part::<registers::Register, BACK>(from.add(done), to.add(done), 16);
-            // Without the fence, the compiler would join two parts of an item. With AVX, two registers are one.
-            if !BACK && len >= 32 && (done % 32 == 0 || cfg!(not(target_feature = "avx"))) {
-                compiler_fence(Ordering::SeqCst);
-            }
-        }
-        done += move_part::<registers::Half, BACK>(from.add(done), to.add(done), len);
-        done += move_part::<MaybeUninit<u32>, BACK>(from.add(done), to.add(done), len);
-        done += move_part::<MaybeUninit<u16>, BACK>(from.add(done), to.add(done), len);
-        move_part::<MaybeUninit<u8>, BACK>(from.add(done), to.add(done), len);
-    }
-}
-
-/// Does the same as [`move_bytes`] for one part, if its size is a digit of `len` that is set. Returns how many bytes it moved.
-/// Some of them may never have been written.
-#[inline(always)]
-unsafe fn move_part<P, const BACK: bool>(from: *mut u8, to: *mut u8, len: usize) -> usize {
-    if len & size_of::<P>() == 0 {
-        return 0;
-    }
-    let (from, to) = (from.cast::<P>(), to.cast::<P>());
-    // SAFETY: this is what the caller promises.
-    unsafe {
-        let part = from.read_unaligned();
-        if BACK {
-            from.write_unaligned(to.read_unaligned());
-        }
-        to.write_unaligned(part);
-    }
-    size_of::<P>()
 }
 
 impl<F> Places for SliceItems<'_, F> {
@@ -249,11 +147,11 @@ impl<F> Places for SliceItems<'_, F> {
         for row in x.into_iter().chain(y) {
             let row = self.first.wrapping_add(row).cast::<u8>();
             for byte in (0..8 * size).step_by(64) {
-                registers::prefetch(row.wrapping_add(byte));
+                cache::prefetch(row.wrapping_add(byte));
             }
             // A row seldom begins at the start of a line, so its end is in one line more. Without that line, items
             // of 4 bytes would take longer than without any prefetch.
-            registers::prefetch(row.wrapping_add(8 * size - 1));
+            cache::prefetch(row.wrapping_add(8 * size - 1));
         }
     }
 }
@@ -286,9 +184,10 @@ impl<T: Copy> Cells for SliceItems<'_, T> {
 
 /// Runs of the items, which fill half a register `D`. Here a run `may` be read and written if all of it is among the places
 /// of the step that is made, which are within the list by the precondition of the step's method. It `may_last` be written
-/// if it also begins at a multiple of 16 bytes, and a fence follows before the call or the part ends. The functions of
-/// `kernels/registers.rs` are proved to touch no other run, whatever `may` and `may_last` are. So that method may call them
-/// if it names no place but those of its step.
+/// if it also begins at a multiple of 16 bytes, and a fence follows before the call or the part ends. A run of a source, which
+/// is only read, `may` be anywhere in the list. The functions of `kernels/registers.rs` are proved to touch no other run,
+/// whatever `may` and `may_last` are. So that method may call them if it names no place but those of its step, and no run
+/// that ends after the source.
 impl<T, D: Register<T>> Runs<T, D> for SliceItems<'_, T> {
     #[inline(always)]
     fn load(&self, place: usize) -> D::Half {
@@ -313,34 +212,54 @@ impl<T, D: Register<T>> Runs<T, D> for SliceItems<'_, T> {
         debug_assert!(place + 16 / size_of::<T>() <= self.len && size_of::<D::Half>() == 16);
         debug_assert!(self.first.wrapping_add(place).addr() % 16 == 0);
         // SAFETY (of both): a run is a register here. It `may_last` be written, by the `requires` of `Runs::store_last`:
-        // `put_block` calls `put_lines` only if its columns are whole lines.
-        let (to, run): (_, registers::Register) = (self.first.wrapping_add(place), unsafe { transmute_copy(&run) });
+        // `InRegisters::may_last` tests that.
+        let (to, run): (_, registers::Register) = (self.first.wrapping_add(place), unsafe {
+            core::mem::transmute_copy(&run)
+        });
         unsafe { core::arch::asm!("movntdq [{}], {}", in(reg) to, in(xmm_reg) run, options(nostack, preserves_flags)) }
     }
 }
 
-/// The same holder for items whose squares are transposed in registers. `D` is two rows of a square.
-pub(super) struct InRegisters<'a, T, D> {
+/// The same holder for items whose squares are transposed in registers. `D` is two rows of a square. If `LAST` is true, it
+/// stores whole cache lines past the caches.
+pub(super) struct InRegisters<'a, T, D, const LAST: bool = false> {
     items: SliceItems<'a, T>,
     rows: PhantomData<D>,
 }
 
 impl<'a, T, D: Register<T>> InRegisters<'a, T, D> {
-    /// The number of rows of a square. A row is half of a `D`.
-    const SIDE: usize = size_of::<D::Half>() / size_of::<T>();
-
     #[inline(always)]
     pub(super) fn new(items: SliceItems<'a, T>) -> Self {
         let rows = PhantomData;
         InRegisters { items, rows }
     }
 
-    /// The order in which a matrix is put into these cells.
-    pub(super) fn order(&self, strips: Strips) -> Large {
-        Large(strips)
+    /// Runs a kernel that puts a call or a part by lines. Only this function makes a holder that stores past the caches.
+    #[inline(always)]
+    pub(super) fn past_caches(self, kernel: impl FnOnce(InRegisters<'a, T, D, true>)) {
+        let (items, rows) = (self.items, PhantomData);
+        kernel(InRegisters { items, rows });
+        // Such stores are not ordered with other stores. Without the fence, another thread could learn that the part is
+        // done, and then read what was there before.
+        cache::fence();
     }
 }
 
+impl<T, D: Register<T>, const LAST: bool> InRegisters<'_, T, D, LAST> {
+    /// The number of rows of a square. A row is half of a `D`.
+    const SIDE: usize = size_of::<D::Half>() / size_of::<T>();
+
+    /// Whether the cells of a block `may_last` be written: each column is a line of the output, and a fence follows.
+    #[inline(always)]
+    fn may_last(&self, block: Block) -> bool {
+        let first = self.items.first.wrapping_add(block.to).addr();
+        let distance = block.height * size_of::<T>() * usize::from(block.cols > 1);
+        LAST && block.rows * size_of::<T>() == LINE && (first | distance) % LINE == 0
+    }
+}
+
+/// Without optimization, a register is on the stack in each function that it goes through. So with debug assertions, those
+/// that use registers have frames of their own.
 impl<T, D: Register<T>> Places for InRegisters<'_, T, D> {
     type Item = T;
 
@@ -362,14 +281,22 @@ impl<T, D: Register<T>> Places for InRegisters<'_, T, D> {
         self.items.exchange_runs(i, j, len);
     }
 
-    #[inline(always)]
+    #[cfg_attr(debug_assertions, inline(never))]
+    #[cfg_attr(not(debug_assertions), inline(always))]
     fn exchange_tiles(&mut self, x: [usize; 8], y: [usize; 8]) {
-        squares::exchange_tiles::<T, D, _>(&mut self.items, Self::SIDE, x, y);
+        match Self::SIDE {
+            1 => self.items.exchange_tiles(x, y),
+            side => squares::exchange_tiles::<T, D, _>(&mut self.items, side, x, y),
+        }
     }
 
-    #[inline(always)]
+    #[cfg_attr(debug_assertions, inline(never))]
+    #[cfg_attr(not(debug_assertions), inline(always))]
     fn turn_tile(&mut self, x: [usize; 8]) {
-        squares::turn_tile::<T, D, _>(&mut self.items, Self::SIDE, x);
+        match Self::SIDE {
+            1 => self.items.turn_tile(x),
+            side => squares::turn_tile::<T, D, _>(&mut self.items, side, x),
+        }
     }
 
     #[inline(always)]
@@ -378,7 +305,7 @@ impl<T, D: Register<T>> Places for InRegisters<'_, T, D> {
     }
 }
 
-impl<T: Copy, D: Register<T>> Cells for InRegisters<'_, T, D> {
+impl<T: Copy, D: Register<T>, const LAST: bool> Cells for InRegisters<'_, T, D, LAST> {
     type Item = T;
 
     fn len(&self) -> usize {
@@ -390,52 +317,28 @@ impl<T: Copy, D: Register<T>> Cells for InRegisters<'_, T, D> {
         self.items.put(i, v);
     }
 
-    #[inline(always)]
+    #[cfg_attr(debug_assertions, inline(never))]
+    #[cfg_attr(not(debug_assertions), inline(always))]
     fn put_block<R: Source<Item = T>>(&mut self, source: &R, block: Block) {
-        // Whether each column of the block is a whole cache line.
-        let first = self.items.first.wrapping_add(block.to).addr();
-        let in_line = block.side == 4 * Self::SIDE && (first | (block.height * size_of::<T>())) % LINE == 0;
+        let Block { rows, cols, .. } = block;
+        // Whether the list has `SIDE` items of each row, from the block's first column on.
+        let inside = |len| cols == rows || cols == 1 && block.from + (rows - 1) * block.width + Self::SIDE <= len;
+        // Whether the block is a square that is put in registers. On x86-64, which has 16 vector registers without AVX-512,
+        // those of a block of 8 by 8 items would go through memory, except for items of 1 and of 2 bytes.
+        let is_small = rows == 4 || rows == 8 && const { Self::SIDE == 8 || cfg!(not(target_arch = "x86_64")) };
+        let is_turned = cols == rows && Self::SIDE <= rows && is_small;
         match source.as_slice() {
             // These items are only read: the functions of `squares` have a shared reference to them.
-            Some(items) if const { HAS_LINES && Self::SIDE < 8 } && in_line => {
+            Some(items) if LAST && self.may_last(block) && inside(items.len()) => {
                 let items = SliceItems::of(items.as_ptr().cast_mut(), items.len());
                 squares::lines::put_lines::<T, D, _, _>(&mut self.items, &items, Self::SIDE, block);
             }
-            Some(items) if matches!(block.side, 4 | 8) && block.side >= Self::SIDE => {
+            Some(items) if const { Self::SIDE > 1 } && is_turned => {
                 let items = SliceItems::of(items.as_ptr().cast_mut(), items.len());
                 squares::put_block::<T, D, _, _>(&mut self.items, &items, Self::SIDE, block);
             }
             _ => self.items.put_block(source, block),
         }
-    }
-}
-
-/// A list of at least this many bytes is put by lines. Tests use short lists.
-const PAST_CACHES: usize = 1 << if cfg!(test) { 10 } else { 24 };
-
-/// The order of a matrix of items in registers. If it is large and its columns are whole cache lines, they are put by lines,
-/// past the caches. This is done for items of 4 and 8 bytes. All others are put by these strips.
-#[derive(Clone, Copy)]
-pub(super) struct Large(Strips);
-
-impl<'a, T: Copy, D: Register<T>> Order<InRegisters<'a, T, D>> for Large {
-    fn strips(self) -> Strips {
-        self.0
-    }
-
-    #[inline(always)]
-    fn put<R>(self, out: InRegisters<'a, T, D>, matrix: Matrix<R>, region: Region) -> InRegisters<'a, T, D>
-    where
-        R: Source<Item = T> + Copy,
-    {
-        let (size, first) = (size_of::<T>(), out.items.first.addr());
-        let whole = (first % size, matrix.height * size % LINE) == (0, 0);
-        if const { HAS_LINES && InRegisters::<T, D>::SIDE < 8 } && whole && out.items.len * size >= PAST_CACHES {
-            let out = Lines::new(LINE / size, first % LINE / size).put(out, matrix, region);
-            registers::fence();
-            return out;
-        }
-        self.0.put(out, matrix, region)
     }
 }
 
@@ -476,5 +379,11 @@ impl<T: Copy> Source for SliceSource<'_, T> {
     #[inline(always)]
     fn as_slice(&self) -> Option<&[T]> {
         Some(self.items)
+    }
+
+    /// Prefetches the cache line of the item. No reference is made to it.
+    #[inline(always)]
+    fn expect(&self, i: usize) {
+        cache::prefetch(self.items.as_ptr().wrapping_add(i).cast());
     }
 }

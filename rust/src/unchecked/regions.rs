@@ -4,9 +4,10 @@
 use core::cell::RefCell;
 use std::vec::Vec;
 
+use super::order::order_of;
 use super::*;
 use crate::kernels::places::Source;
-use crate::kernels::transpose::{Strips, transpose_matrix};
+use crate::kernels::transpose::{Order, transpose_matrix};
 
 /// A slice that notes the index of each read.
 #[derive(Clone, Copy)]
@@ -45,9 +46,10 @@ fn reads<T: Copy + Default>(len: usize, call: impl FnOnce(&[T], &mut [T], Noted<
 fn put_from<T: Copy>(mut parts: Parts<T, Regions<T>>, source: impl Source<Item = T> + Copy) {
     let (matrix, plan) = parts.plan;
     let matrix = Matrix::new(source, matrix.width, matrix.height);
+    let is_cut = plan.count() > 1;
     parts
         .numbers
-        .for_each(|number| by_type::put((plan, number, strips_by_size(matrix)), parts.items.share(), matrix));
+        .for_each(|number| by_type::put(is_cut.then_some((&plan, number)), parts.items.share(), matrix));
 }
 
 #[test]
@@ -76,12 +78,12 @@ fn strips_of_the_parts() {
         let by_strips = |by_size: bool| {
             reads::<T>(width * height, |_, output, source| {
                 let matrix = Matrix::new(source, width, height);
-                let strips = if by_size {
-                    strips_by_size(matrix)
+                let order = if by_size {
+                    order_of(size_of::<T>(), matrix, None, None)
                 } else {
-                    Strips::by_shape(matrix)
+                    Order::by_shape(matrix)
                 };
-                let _ = transpose_matrix(SliceCells::new(output), matrix, strips);
+                let _ = transpose_matrix(SliceCells::new(output), matrix, order);
             })
         };
         assert!(by_parts == by_strips(true), "{width} by {height}");
@@ -104,11 +106,15 @@ fn strips_of_calls_on_slices() {
     fn check<T: Copy + Default>(width: usize, height: usize) {
         let by_call = reads::<T>(width * height, |_, output, source| {
             let matrix = Matrix::new(source, width, height);
-            by_type::transpose(strips_by_size(matrix), SliceCells::new(output), matrix);
+            by_type::put(None, SliceCells::new(output), matrix);
         });
         let by_strips = reads::<T>(width * height, |_, output, source| {
             let matrix = Matrix::new(source, width, height);
-            let _ = transpose_matrix(SliceCells::new(output), matrix, strips_by_size(matrix));
+            let _ = transpose_matrix(
+                SliceCells::new(output),
+                matrix,
+                order_of(size_of::<T>(), matrix, None, None),
+            );
         });
         assert!(by_call == by_strips, "{width} by {height}");
     }

@@ -105,6 +105,9 @@ registers! {
     8 "2d" low "punpcklqdq" "zip1" high "punpckhqdq" "zip2";
 }
 
+/// A register is an item of 16 bytes.
+impl registers::Single<Bytes<16>> for Register {}
+
 /// Asks the processor to read a cache line. Any address may be given.
 #[inline(always)]
 pub(super) fn prefetch(address: *const u8) {
@@ -117,12 +120,6 @@ pub(super) fn prefetch(address: *const u8) {
     #[cfg(not(all(target_arch = "x86_64", target_feature = "sse2")))]
     let _ = address;
 }
-
-/// The bytes of a cache line.
-pub(super) const LINE: usize = 64;
-
-/// Whether large matrices are put by cache lines. On aarch64 that was not tried.
-pub(super) const HAS_LINES: bool = USES_REGISTERS && cfg!(target_arch = "x86_64");
 
 /// Waits until the stores past the caches are done. They are not ordered with other stores (Intel's manual, volume 2,
 /// "MOVNTDQ"): without this, another thread could learn that a part is done, and then read what was there before.

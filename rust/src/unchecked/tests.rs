@@ -11,12 +11,12 @@ use std::vec::Vec;
 #[cfg(not(feature = "checked"))]
 use super::holders::{Bytes, InRegisters};
 #[cfg(not(feature = "checked"))]
-use super::registers::Items;
+use super::registers::{self, Items};
 use super::{SliceCells, SlicePlaces, SliceSource};
 use crate::kernels::places::{Block, Cells, Places, Source};
 #[cfg(not(feature = "checked"))]
-use crate::kernels::registers::{Pair, Register};
-use crate::kernels::transpose::{Matrix, Strips, transpose_matrix, transpose_square};
+use crate::kernels::registers::{Pair, Register, Single, Two};
+use crate::kernels::transpose::{Matrix, Order, Strips, transpose_matrix, transpose_square};
 
 /// Makes the holder of a list that is tested.
 trait Hold<'a, T> {
@@ -64,6 +64,14 @@ where
         self.0.halves()
     }
 }
+
+/// A register that is an item of 16 bytes, of any type of this size.
+#[cfg(not(feature = "checked"))]
+#[derive(Clone, Copy)]
+struct Whole(#[allow(dead_code, reason = "it is only copied")] registers::Register);
+
+#[cfg(not(feature = "checked"))]
+impl<T> Single<T> for Whole {}
 
 /// The holder that transposes squares in registers.
 #[cfg(not(feature = "checked"))]
@@ -374,7 +382,8 @@ fn puts_and_reads() {
 /// three items apart in the source, and its columns two cells apart in the list.
 fn puts_block_of<T: Copy + PartialEq, H: for<'a> HoldCells<'a, T>>(side: usize, item: impl Fn(u8) -> T) {
     let block = Block {
-        side,
+        rows: side,
+        cols: side,
         from: 5,
         width: side + 3,
         to: 7,
@@ -429,7 +438,7 @@ fn is_transposed<T: Copy + PartialEq + 'static>(width: usize, height: usize, ite
     of_each_holder!(T, Holder => for side in [4, 8] {
         let mut output = blank.clone();
         let matrix = Matrix::new(SliceSource::new(&input), width, height);
-        let _ = transpose_matrix(Holder::hold_cells(&mut output), matrix, Strips::high(side));
+        let _ = transpose_matrix(Holder::hold_cells(&mut output), matrix, Order::Strips(Strips::high(side)));
         assert!(output == expected, "{width} by {height}, by blocks of {side} by {side}");
     });
     let mut by_call = blank.clone();
@@ -610,7 +619,8 @@ mod refused {
     fn refuses_blocks<H: for<'a> HoldCells<'a, u32>>() {
         let refused = |change: fn(&mut Block)| {
             let mut block = Block {
-                side: 4,
+                rows: 4,
+                cols: 4,
                 from: 1,
                 width: 6,
                 to: 2,
@@ -624,7 +634,7 @@ mod refused {
         assert!(refused(|block| block.to += 1) && refused(|block| block.to = usize::MAX));
         assert!(refused(|block| block.width += 1) && refused(|block| block.width = usize::MAX));
         assert!(refused(|block| block.height += 1) && refused(|block| block.height = usize::MAX));
-        assert!(refused(|block| block.side += 1));
+        assert!(refused(|block| block.rows += 1) && refused(|block| block.cols += 1));
     }
 
     #[test]

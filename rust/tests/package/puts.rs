@@ -181,7 +181,7 @@ impl Cells for ByBlocks {
     fn put_block<R: Source<Item = u64>>(&mut self, source: &R, block: Block) {
         let items = source.as_slice().expect("the items are in a slice");
         let rows = self.rows;
-        for (c, r) in (0..block.side).flat_map(|c| (0..rows).map(move |r| (c, r))) {
+        for (c, r) in (0..block.cols).flat_map(|c| (0..rows).map(move |r| (c, r))) {
             self.put(block.to + c * block.height + r, items[block.from + r * block.width + c]);
         }
         self.blocks += 1;

@@ -99,12 +99,12 @@ impl<S: Places> Places for ExchangeSteps<S> {
 
 /// Each part of a plan for a transpose has steps, in any order: some puts that put its region, one
 /// for each item of the region.
-pub(crate) fn puts_of_part<C: Cells, R: Source<Item = C::Item> + Copy, O: Order<PutSteps<C>>>(
+pub(crate) fn puts_of_part<C: Cells, R: Source<Item = C::Item> + Copy>(
     out: C,
     source: R,
     plan: TransposePlan,
     number: usize,
-    order: O,
+    order: Order,
 ) -> C
     requires below { number < parts_in plan.cut.len plan.cut.step }
     requires input_fits { length (R.items source) ≡ plan.width * plan.height }
@@ -175,11 +175,11 @@ pub(crate) fn reversal_in_parts<T>(plan: ReversalPlan)
 
 /// Puts all parts of a plan for a transpose, in the order of their numbers, as one thread may do. In
 /// any holder this is the transpose, by as many puts as there are items.
-pub(crate) fn put_all_parts<C: Cells, R: Source<Item = C::Item> + Copy, O: Order<C>>(
+pub(crate) fn put_all_parts<C: Cells, R: Source<Item = C::Item> + Copy>(
     out: C,
     source: R,
     plan: TransposePlan,
-    order: O,
+    order: Order,
 ) -> C
     requires input_fits { length (R.items source) ≡ plan.width * plan.height }
     requires output_fits { length (C.items out) ≡ plan.width * plan.height }

@@ -2,11 +2,11 @@
 
 ghost use Rattle.std.specs.Prelude.{◌≡◌, ℕ, ◌+◌, ◌*◌, ◌%◌, ◌^◌, ◌<◌, ◌≤◌, ◌↔◌, IsTrue, if◌then◌else◌, length, max};
 ghost use Rattle.p3_util_kernels.specs.Parts.{IsLeastStep, part_of_matrix, parts_in, start_of};
-ghost use Rattle.p3_util_kernels.specs.Region.{IsRegionTransposed, items_of};
+ghost use Rattle.p3_util_kernels.specs.Region.{IsRegionTransposed, LiesInMatrix, items_of};
 
 use crate::parts::Cut;
 use crate::places::{Cells, Source};
-use crate::transpose::{Matrix, Order, UNIT};
+use crate::transpose::{Matrix, Order, Region, UNIT};
 
 /// The transpose of a matrix of `height` rows of `width` items, cut into regions of neighbouring
 /// rows or of neighbouring columns.
@@ -64,6 +64,17 @@ impl TransposePlan {
         self.cut.count()
     }
 
+    /// Region `number`.
+    pub(crate) fn region(self, number: usize) -> Region
+        requires { number < parts_in self.cut.len self.cut.step }
+        ensures region { result ≡ part_of_matrix self.width self.height self.by_rows self.cut.len
+            self.cut.step number }
+        ensures inside { LiesInMatrix result self.width self.height }
+    {
+        let matrix = Matrix::new((), self.width, self.height);
+        self.cut.region(&matrix, self.by_rows, number)
+    }
+
     /// The number of items of region `number`. If the columns are cut, the items of a region fill
     /// consecutive cells, right after the cells of the region before it.
     pub(crate) fn items(self, number: usize) -> usize
@@ -71,22 +82,19 @@ impl TransposePlan {
         ensures { result ≡ items_of (part_of_matrix self.width self.height self.by_rows self.cut.len
             self.cut.step number) }
     {
-        let region = self.cut.region(
-            &Matrix::new((), self.width, self.height),
-            self.by_rows,
-            number,
-        );
+        let region = self.region(number);
         region.rows() * region.cols()
     }
 
     /// Puts region `number` of the matrix in `source`, in the given order. The list `out` has the
     /// cells of the whole transpose.
-    pub(crate) fn put<C: Cells, R: Source<Item = C::Item> + Copy, O: Order<C>>(
+    #[inline(always)]
+    pub(crate) fn put<C: Cells, R: Source<Item = C::Item> + Copy>(
         self,
         out: C,
         source: R,
         number: usize,
-        order: O,
+        order: Order,
     ) -> C
         requires below { number < parts_in self.cut.len self.cut.step }
         requires input_fits { length (R.items source) ≡ self.width * self.height }
@@ -99,7 +107,6 @@ impl TransposePlan {
             out result }
     {
         let matrix = Matrix::new(source, self.width, self.height);
-        let region = self.cut.region(&matrix, self.by_rows, number);
-        order.put(out, matrix, region)
+        order.put(out, matrix, self.region(number))
     }
 }

@@ -215,8 +215,8 @@ impl<C: Cells> Cells for Writes<C> {
     #[inline(always)]
     fn put_block<R: Source<Item = Self::Item>>(&mut self, source: &R, block: Block) {
         self.holder.put_block(source, block);
-        let side = block.side as u128;
-        self.count = self.count.saturating_add(side * side);
+        let items = block.rows as u128 * block.cols as u128;
+        self.count = self.count.saturating_add(items);
     }
 
     ghost same_holder_refl = { Prim.search rules };

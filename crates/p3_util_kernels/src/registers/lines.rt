@@ -3,11 +3,11 @@
 
 ghost use Rattle.std.specs.Prelude.{◌≡◌, ℕ, ◌+◌, ◌*◌, ◌^◌, ◌<◌, ◌≤◌, ◌⊎◌, ◌++◌, length};
 ghost use Rattle.p3_util_kernels.specs.BlockPut.{BlockFits, IsBlockPut, block_items};
-ghost use Rattle.p3_util_kernels.specs.Registers.{ColumnsPut, IsRunStored, IsStored, RowsReached, items_of_four};
-ghost use Rattle.p3_util_kernels.specs.RegisterLines.{AreLines, LinesReached};
+ghost use Rattle.p3_util_kernels.specs.Registers.{ColumnsPut, IsRunStored, IsStored, items_of_four};
+ghost use Rattle.p3_util_kernels.specs.RegisterLines.{AreLines, ColumnsReached, LinesReached};
 
 use crate::places::Block;
-use crate::registers::{Four, Register, Runs, load, next_stage, starts};
+use crate::registers::{Four, Register, Runs, load, load_two, next_stage, starts};
 
 /// Reads 8 rows, from place `from` on, and transposes them. The registers hold the columns, of 8 items
 /// each, one after another.
@@ -50,11 +50,11 @@ fn put_line<T, D: Register<T>, M: Runs<T, D>>(
 )
     requires side { side ≡ D.half }
     requires some_side { 0 < side }
-    requires line { block.side ≡ 4 * side }
-    requires room { (r : ℕ) → r < block.side → block.to + col * block.height + r < length (M.items list.old) }
+    requires line { block.rows ≡ 4 * side }
+    requires room { (r : ℕ) → r < block.rows → block.to + col * block.height + r < length (M.items list.old) }
     requires list_fits { length (M.items list.old) < 2 ^ 63 }
     requires reached { (k : ℕ) → k < 4 → M.may_last (M.reach list.old) (block.to + col * block.height + k * side) }
-    ensures stored { IsRunStored block.side (block.to + col * block.height) (D.items a ++ D.items b)
+    ensures stored { IsRunStored block.rows (block.to + col * block.height) (D.items a ++ D.items b)
         (M.items list.old) (M.items list.new) }
     ensures holder { M.reach list.new ≡ M.reach list.old }
 {
@@ -74,10 +74,10 @@ fn put_some_lines<T, D: Register<T>, S: Runs<T, D>, M: Runs<T, D>>(
 )
     requires some_side { (D.half ≡ 2) ⊎ (D.half ≡ 4) }
     requires side { side ≡ D.half }
-    requires lines { block.side ≡ 4 * side }
-    requires below { col + side ≤ block.side }
+    requires lines { block.rows ≡ 4 * side }
+    requires below { col + side ≤ block.cols }
     requires block { BlockFits block (length (S.items source.now)) (length (M.items cells.old)) }
-    requires reads { RowsReached block.side D.half (λ r. block.from + r * block.width) (S.may (S.reach source.now)) }
+    requires reads { ColumnsReached side block (S.may (S.reach source.now)) }
     requires writes { LinesReached side block (M.may_last (M.reach cells.old)) }
     requires source_fits { length (S.items source.now) < 2 ^ 63 }
     requires cells_fit { length (M.items cells.old) < 2 ^ 63 }
@@ -98,9 +98,9 @@ fn put_some_lines<T, D: Register<T>, S: Runs<T, D>, M: Runs<T, D>>(
     put_line(cells, side, block, col + 3, top.d, bottom.d);
 }
 
-/// Does what `Cells::put_block` does, for blocks of 4 * `side` rows, column after column.
+/// Puts a block of one column. Of each row, the registers have some items to the right of this column too.
 #[inline(always)]
-pub(crate) fn put_lines<T, D: Register<T>, S: Runs<T, D>, M: Runs<T, D>>(
+fn put_one_line<T, D: Register<T>, S: Runs<T, D>, M: Runs<T, D>>(
     cells: &mut M,
     source: &S,
     side: usize,
@@ -108,13 +108,84 @@ pub(crate) fn put_lines<T, D: Register<T>, S: Runs<T, D>, M: Runs<T, D>>(
 )
     requires some_side { (D.half ≡ 2) ⊎ (D.half ≡ 4) }
     requires side { side ≡ D.half }
-    requires lines { block.side ≡ 4 * side }
+    requires lines { block.rows ≡ 4 * side }
+    requires one { block.cols ≡ 1 }
+    requires inside { (r : ℕ) → r < block.rows → block.from + r * block.width + side ≤ length (S.items source.now) }
+    requires room { block.to + block.rows ≤ length (M.items cells.old) }
+    requires reads { ColumnsReached side block (S.may (S.reach source.now)) }
+    requires writes { LinesReached side block (M.may_last (M.reach cells.old)) }
+    requires source_fits { length (S.items source.now) < 2 ^ 63 }
+    requires cells_fit { length (M.items cells.old) < 2 ^ 63 }
+    ensures put { ColumnsPut 0 block.cols block (S.items source.now) (M.items cells.old) (M.items cells.new) }
+    ensures holder { M.reach cells.new ≡ M.reach cells.old }
+{
+    let top = load_lines(source, block.from, block.width);
+    if side == 2 {
+        put_line(cells, side, block, 0, top.a, top.b);
+        return;
+    }
+    let bottom = load_lines(source, block.from + 8 * block.width, block.width);
+    put_line(cells, side, block, 0, top.a, bottom.a);
+}
+
+/// Puts a column of a block of 4 rows.
+#[inline(always)]
+fn put_four<T, D: Register<T>, S: Runs<T, D>, M: Runs<T, D>>(
+    cells: &mut M,
+    source: &S,
+    block: Block,
+    col: usize,
+)
+    requires side { D.half ≡ 1 }
+    requires lines { block.rows ≡ 4 }
+    requires below { col < block.cols }
     requires block { BlockFits block (length (S.items source.now)) (length (M.items cells.old)) }
-    requires reads { RowsReached block.side D.half (λ r. block.from + r * block.width) (S.may (S.reach source.now)) }
+    requires reads { ColumnsReached 1 block (S.may (S.reach source.now)) }
+    requires writes { LinesReached 1 block (M.may_last (M.reach cells.old)) }
+    requires source_fits { length (S.items source.now) < 2 ^ 63 }
+    requires cells_fit { length (M.items cells.old) < 2 ^ 63 }
+    ensures put { ColumnsPut col (col + 1) block (S.items source.now) (M.items cells.old) (M.items cells.new) }
+    ensures holder { M.reach cells.new ≡ M.reach cells.old }
+{
+    let from = block.from + col;
+    let a = load_two(source, from, from + block.width);
+    let b = load_two(source, from + 2 * block.width, from + 3 * block.width);
+    put_line(cells, 1, block, col, a, b);
+}
+
+/// Does what `Cells::put_block` does, for blocks of 4 * `side` rows and as many columns, or of one column, column after
+/// column.
+#[inline(always)]
+pub(crate) fn put_lines<T, D: Register<T>, S: Runs<T, D>, M: Runs<T, D>>(
+    cells: &mut M,
+    source: &S,
+    side: usize,
+    block: Block,
+)
+    requires some_side { (D.half ≡ 1) ⊎ ((D.half ≡ 2) ⊎ (D.half ≡ 4)) }
+    requires side { side ≡ D.half }
+    requires lines { block.rows ≡ 4 * side }
+    requires cols { (block.cols ≡ 1) ⊎ (block.cols ≡ block.rows) }
+    requires inside { (r : ℕ) → r < block.rows → block.from + r * block.width + side ≤ length (S.items source.now) }
+    requires block { BlockFits block (length (S.items source.now)) (length (M.items cells.old)) }
+    requires reads { ColumnsReached side block (S.may (S.reach source.now)) }
     requires writes { LinesReached side block (M.may_last (M.reach cells.old)) }
     ensures put { IsBlockPut (block_items block) block (S.items source.now) (M.items cells.old) (M.items cells.new) }
     ensures holder { M.reach cells.new ≡ M.reach cells.old }
 {
+    if side == 1 {
+        put_four(cells, source, block, 0);
+        if block.cols > 1 {
+            put_four(cells, source, block, 1);
+            put_four(cells, source, block, 2);
+            put_four(cells, source, block, 3);
+        }
+        return;
+    }
+    if block.cols == 1 {
+        put_one_line(cells, source, side, block);
+        return;
+    }
     put_some_lines(cells, source, side, block, 0);
     put_some_lines(cells, source, side, block, side);
     put_some_lines(cells, source, side, block, 2 * side);

@@ -1,75 +1,131 @@
-//! Puts a region by *lines*: strips with as many rows as a cache line has cells, which begin where a
-//! line begins. So each column of a whole strip is one cache line of the output.
+//! Puts a region by *lines*: by the cache lines of the output, from the first cell of a line to its last.
 //!
-//! The strips of 1024 columns are put from top to bottom, and then those of the next columns. There
-//! are no leaves, because a split would cut lines.
+//! The strips of 1024 columns are put from top to bottom, and then those of the next columns. A *strip* here has one line of
+//! each column. If the height of the matrix is no multiple of a line, the columns of a strip begin in different rows. The
+//! first and the last strip have the parts of lines at the ends of the columns.
 
-ghost use Rattle.std.specs.Prelude.{◌≡◌, ◌+◌, ◌-◌, ◌*◌, ◌<◌, ◌≤◌};
+ghost use Rattle.std.specs.Prelude.{◌≡◌, ◌+◌, ◌^◌, ◌<◌, ◌≤◌, ◌⊎◌};
+ghost use Rattle.p3_util_kernels.specs.Lines.{limit};
 ghost use Rattle.p3_util_kernels.specs.Region.{IsReady, IsRegionTransposed, items_of};
 
 use crate::places::{Cells, Source};
-use crate::transpose::order::Order;
 use crate::transpose::regions::{Matrix, Region};
-use crate::transpose::strips::{Strips, put_stacks};
+use crate::transpose::strips::{put_block, put_rest};
 
 /// Lines are put in so many columns at a time. The memory pages that these columns are on are few
 /// enough for the processor to keep all of their addresses.
 const LINE_COLUMNS: usize = 1024;
 
-/// Which rows of a matrix share the lines of its output.
+/// A row of so many lines is long.
+const LONG_ROW: usize = 32;
+
+/// A region with more rows is not put by lines.
+const MOST_ROWS: usize = 1 << 62;
+
+/// The cache lines of an output.
 #[derive(Clone, Copy, PartialEq, Eq)]
 pub(crate) struct Lines {
-    /// The number of cells of a line. It is the number of rows of a strip, and the side of a block.
+    /// The number of cells of a line, a power of two.
     cells: usize,
     /// The first cell of the output is the one after so many others of its line.
     before: usize,
     ghost some_cells: { 0 < cells },
+    ghost few_cells: { cells < 2 ^ 32 },
 }
 
 impl Lines {
     /// Lines of `cells` cells. The first cell of the output is the one after `before` others of its
-    /// line. Columns are whole lines only if `cells` divides the height of the matrix.
+    /// line.
     #[inline(always)]
     pub(crate) fn new(cells: usize, before: usize) -> Lines
-        requires { 0 < cells }
+        requires some_cells { 0 < cells }
+        requires few_cells { cells < 2 ^ 32 }
     {
         Lines { cells, before }
     }
 
-    /// The row after the last one of the first strip of `region`. This strip is shorter than the
-    /// others if the region does not begin where a line begins.
+    /// The row to which column `col` of `region` is put, if each column is put as far as `rows` rows after the line of its
+    /// first cell begins. `skew` is the number of cells by which the next column begins later in its line.
     #[inline(always)]
-    fn end(self, region: Region) -> usize
-        requires { region.row_start < region.row_end }
-        ensures from { region.row_start < result }
-        ensures to { result ≤ region.row_end }
+    fn limit(self, region: Region, skew: usize, col: usize, rows: usize) -> usize
+        requires { region.row_start ≤ region.row_end }
+        ensures { result ≡ limit region self.cells self.before skew rows col }
     {
-        let rows = self.cells - region.row_start.wrapping_add(self.before) % self.cells;
-        region.row_start + rows.min(region.rows())
-    }
-}
-
-/// A large region is put by lines. A matrix that is not large is put in high strips.
-impl<M: Cells> Order<M> for Lines {
-    #[inline(always)]
-    fn strips(self) -> Strips {
-        Strips::high(1)
+        let first = self.before.wrapping_add(region.row_start);
+        let before = first.wrapping_add(col.wrapping_mul(skew)) & (self.cells - 1);
+        region.row_start + region.rows().min(rows.saturating_sub(before))
     }
 
+    /// The column after those that are put together with column `col` of `region`. Where all columns begin at the same cell of
+    /// a line, these are as many as a line has cells.
     #[inline(always)]
-    fn put<R: Source<Item = M::Item> + Copy>(self, out: M, matrix: Matrix<R>, region: Region) -> M {
+    fn end(self, region: Region, skew: usize, col: usize) -> usize
+        requires { col < region.col_end }
+        ensures from { col < result }
+        ensures to { result ≤ region.col_end }
+        ensures alike { (skew ≡ 0) ⊎ (result ≡ col + 1) }
+    {
+        if skew == 0 && self.cells <= region.col_end - col {
+            return col + self.cells;
+        }
+        col + 1
+    }
+
+    /// Tells the source that rows of the next strip, from `row` on, may be read soon. Of as many neighbouring columns as a
+    /// line has cells, each asks for an item of another row, to the right of these columns. Where long rows are read by
+    /// blocks, the processor reads ahead by itself.
+    #[inline(always)]
+    fn expect_rows<R: Source + Copy>(
+        self,
+        matrix: Matrix<R>,
+        region: Region,
+        row: usize,
+        col: usize,
+        end: usize,
+    )
+        requires cols_in_order { region.col_start ≤ region.col_end }
+        requires some_cols { col < end }
+    {
+        let is_long = col + 1 < end && LONG_ROW * self.cells <= region.cols();
+        if region.row_end <= row || is_long {
+            return;
+        }
+        for x in col..end {
+            let below = x.wrapping_sub(region.col_start) & (self.cells - 1);
+            let right = x.wrapping_sub(below).wrapping_add(self.cells);
+            let down = row.wrapping_add(below).wrapping_mul(matrix.width);
+            matrix.source.expect(down.wrapping_add(right));
+        }
+    }
+
+    /// Puts `region` by these lines.
+    pub(crate) fn put<M: Cells, R: Source<Item = M::Item> + Copy>(
+        self,
+        out: M,
+        matrix: Matrix<R>,
+        region: Region,
+    ) -> M
+        requires ready { IsReady region matrix.width matrix.height
+            (R.items matrix.source) (M.items out) }
+        ensures transposed { IsRegionTransposed region matrix.width matrix.height
+            (R.items matrix.source) (M.items out) (M.items result) }
+        ensures holder { M.same_holder (items_of region) out result }
+    {
+        if region.row_end > MOST_ROWS {
+            return put_rest(out, matrix, region);
+        }
         put_lines(out, matrix, region, self)
     }
 }
 
 /// Puts `region` by lines, some columns after the other.
-#[inline(never)]
 fn put_lines<M: Cells, R: Source<Item = M::Item> + Copy>(
     out: M,
     matrix: Matrix<R>,
     region: Region,
     lines: Lines,
 ) -> M
+    requires few_rows { region.row_end ≤ MOST_ROWS }
     requires ready { IsReady region matrix.width matrix.height
         (R.items matrix.source) (M.items out) }
     ensures transposed { IsRegionTransposed region matrix.width matrix.height
@@ -86,7 +142,7 @@ fn put_lines<M: Cells, R: Source<Item = M::Item> + Copy>(
     out
 }
 
-/// Puts the strips of `region` from top to bottom. A block of a whole strip is as high as the strip.
+/// Puts the strips of `region` from top to bottom, each from left to right.
 #[inline(always)]
 fn put_chunk<M: Cells, R: Source<Item = M::Item> + Copy>(
     out: M,
@@ -94,18 +150,30 @@ fn put_chunk<M: Cells, R: Source<Item = M::Item> + Copy>(
     region: Region,
     lines: Lines,
 ) -> M
+    requires few_rows { region.row_end ≤ MOST_ROWS }
     requires ready { IsReady region matrix.width matrix.height
         (R.items matrix.source) (M.items out) }
     ensures transposed { IsRegionTransposed region matrix.width matrix.height
         (R.items matrix.source) (M.items out) (M.items result) }
     ensures holder { M.same_holder (items_of region) out result }
 {
+    let skew = matrix.height & (lines.cells - 1);
     let mut out = out;
-    let mut row = region.row_start;
-    while row < region.row_end {
-        let end = lines.end(region.with_rows(row, region.row_end));
-        out = put_stacks(out, matrix, region.with_rows(row, end), lines.cells);
-        row = end;
+    let mut done = 0;
+    while done < region.rows() + lines.cells {
+        let next = done + lines.cells;
+        let mut col = region.col_start;
+        while col < region.col_end {
+            let end = lines.end(region, skew, col);
+            lines.expect_rows(matrix, region, region.row_start + next, col, end);
+            let from = lines.limit(region, skew, col, done);
+            let to = lines.limit(region, skew, col, next);
+            if from < to {
+                out = put_block(out, matrix, region.with_rows(from, to).with_cols(col, end));
+            }
+            col = end;
+        }
+        done = next;
     }
     out
 }

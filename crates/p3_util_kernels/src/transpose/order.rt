@@ -1,39 +1,81 @@
 //! The orders in which a matrix may be put.
 
-ghost use Rattle.std.specs.Prelude.{◌≡◌, ◌*◌};
+ghost use Rattle.std.specs.Prelude.{◌≡◌, ◌*◌, ◌^◌, ◌<◌, length};
 ghost use Rattle.p3_util_kernels.specs.Region.{IsReady, IsRegionTransposed, items_of};
 
 use crate::places::{Cells, Source};
 use crate::transpose::ENOUGH_LEVELS;
+use crate::transpose::lines::Lines;
 use crate::transpose::regions::{Matrix, Region};
 use crate::transpose::split::put_split;
-use crate::transpose::strips::Strips;
+use crate::transpose::strips::{Strips, put_rest, put_strips};
 
-/// An order in which a matrix is put into the cells of a holder `M`. The caller of a kernel chooses
-/// it. The contract is the same for all orders.
-pub(crate) trait Order<M: Cells>: Copy {
-    /// The strips of a matrix that is not large.
-    fn strips(self) -> Strips;
+/// A matrix of fewer items is put column after column.
+const TINY_MATRIX: usize = 128;
 
-    /// Puts a region of a large matrix, or a part of a call.
-    fn put<R: Source<Item = M::Item> + Copy>(self, out: M, matrix: Matrix<R>, region: Region) -> M
+/// The greatest number of items of a matrix that is not split.
+const LARGE_MATRIX: usize = 1_048_576;
+
+/// An order in which a matrix or a region of it is put. The caller of a kernel chooses it. The
+/// contract is the same for all orders.
+#[derive(Clone, Copy, PartialEq, Eq)]
+pub(crate) enum Order {
+    /// Column after column, each from its first row to its last.
+    Columns,
+    /// Strip by strip.
+    Strips(Strips),
+    /// Leaf by leaf, as the region is split, and each leaf strip by strip.
+    Leaves(Strips),
+    /// By the cache lines of the output.
+    Lines(Lines),
+}
+
+impl Order {
+    /// The order for a whole matrix, chosen by its shape alone. Every call in Rattle uses this
+    /// choice. The plain Rust package knows the size of an item and has a choice of its own.
+    #[inline(always)]
+    pub(crate) fn by_shape<R: Source + Copy>(matrix: Matrix<R>) -> Order
+        ensures length_fits { length (R.items matrix.source) < 2 ^ 64 }
+    {
+        Order::in_strips(Strips::by_shape(matrix), matrix.source.len(), true)
+    }
+
+    /// The order by these strips for a matrix of `items` items, or for a part of it if `is_whole`
+    /// is false.
+    #[inline(always)]
+    pub(crate) fn in_strips(strips: Strips, items: usize, is_whole: bool) -> Order {
+        // A matrix without items may have very many columns, which have no rows.
+        if is_whole && 0 < items && items < TINY_MATRIX {
+            Order::Columns
+        } else if is_whole && items <= LARGE_MATRIX {
+            Order::Strips(strips)
+        } else {
+            Order::Leaves(strips)
+        }
+    }
+
+    /// Puts `region` in this order.
+    #[inline(always)]
+    pub(crate) fn put<M: Cells, R: Source<Item = M::Item> + Copy>(
+        self,
+        out: M,
+        matrix: Matrix<R>,
+        region: Region,
+    ) -> M
         requires ready { IsReady region matrix.width matrix.height
             (R.items matrix.source) (M.items out) }
         ensures transposed { IsRegionTransposed region matrix.width matrix.height
             (R.items matrix.source) (M.items out) (M.items result) }
-        ensures holder { M.same_holder (items_of region) out result };
-}
-
-/// The leaves of a large matrix are put by the same strips.
-impl<M: Cells> Order<M> for Strips {
-    #[inline(always)]
-    fn strips(self) -> Strips {
-        self
-    }
-
-    #[inline(always)]
-    fn put<R: Source<Item = M::Item> + Copy>(self, out: M, matrix: Matrix<R>, region: Region) -> M {
-        let (out, _) = put_split(out, matrix, region, ENOUGH_LEVELS, self);
-        out
+        ensures holder { M.same_holder (items_of region) out result }
+    {
+        match self {
+            Order::Columns => put_rest(out, matrix, region),
+            Order::Strips(strips) => put_strips(out, matrix, region, strips),
+            Order::Leaves(strips) => {
+                let (out, _) = put_split(out, matrix, region, ENOUGH_LEVELS, strips);
+                out
+            }
+            Order::Lines(lines) => lines.put(out, matrix, region),
+        }
     }
 }

@@ -2,7 +2,7 @@
 
 use crate::kernels::parts::Cut;
 use crate::kernels::places::{Cells, Source};
-use crate::kernels::transpose::{Matrix, Order, UNIT};
+use crate::kernels::transpose::{Matrix, Order, Region, UNIT};
 
 /// The transpose of a matrix of `height` rows of `width` items, cut into regions of neighbouring
 /// rows or of neighbouring columns.
@@ -65,6 +65,21 @@ impl TransposePlan {
         self.cut.count()
     }
 
+    /// Region `number`.
+    ///
+    /// # Contract
+    ///
+    /// ```text
+    /// requires { number < parts_in self.cut.len self.cut.step }
+    /// ensures region { result ≡ part_of_matrix self.width self.height self.by_rows self.cut.len
+    ///     self.cut.step number }
+    /// ensures inside { LiesInMatrix result self.width self.height }
+    /// ```
+    pub(crate) fn region(self, number: usize) -> Region {
+        let matrix = Matrix::new((), self.width, self.height);
+        self.cut.region(&matrix, self.by_rows, number)
+    }
+
     /// The number of items of region `number`. If the columns are cut, the items of a region fill
     /// consecutive cells, right after the cells of the region before it.
     ///
@@ -76,11 +91,7 @@ impl TransposePlan {
     ///     self.cut.step number) }
     /// ```
     pub(crate) fn items(self, number: usize) -> usize {
-        let region = self.cut.region(
-            &Matrix::new((), self.width, self.height),
-            self.by_rows,
-            number,
-        );
+        let region = self.region(number);
         region.rows() * region.cols()
     }
 
@@ -100,15 +111,15 @@ impl TransposePlan {
     ///     (part_of_matrix self.width self.height self.by_rows self.cut.len self.cut.step number))
     ///     out result }
     /// ```
-    pub(crate) fn put<C: Cells, R: Source<Item = C::Item> + Copy, O: Order<C>>(
+    #[inline(always)]
+    pub(crate) fn put<C: Cells, R: Source<Item = C::Item> + Copy>(
         self,
         out: C,
         source: R,
         number: usize,
-        order: O,
+        order: Order,
     ) -> C {
         let matrix = Matrix::new(source, self.width, self.height);
-        let region = self.cut.region(&matrix, self.by_rows, number);
-        order.put(out, matrix, region)
+        order.put(out, matrix, self.region(number))
     }
 }

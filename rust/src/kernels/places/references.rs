@@ -78,4 +78,9 @@ impl<R: Source> Source for &R {
     fn as_slice(&self) -> Option<&[Self::Item]> {
         R::as_slice(self)
     }
+
+    #[inline(always)]
+    fn expect(&self, i: usize) {
+        R::expect(self, i);
+    }
 }

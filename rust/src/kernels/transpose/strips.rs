@@ -310,7 +310,7 @@ fn put_stack<M: Cells, R: Source<Item = M::Item> + Copy>(
 /// ensures holder { M.same_holder (items_of region) out result }
 /// ```
 #[inline(always)]
-fn put_rest<M: Cells, R: Source<Item = M::Item> + Copy>(
+pub(crate) fn put_rest<M: Cells, R: Source<Item = M::Item> + Copy>(
     out: M,
     matrix: Matrix<R>,
     region: Region,
@@ -327,7 +327,7 @@ fn put_rest<M: Cells, R: Source<Item = M::Item> + Copy>(
 ///
 /// ```text
 /// requires some_rows { region.row_start < region.row_end }
-/// requires square { rows_of region ≡ cols_of region }
+/// requires some_cols { region.col_start < region.col_end }
 /// requires ready { IsReady region matrix.width matrix.height
 ///     (R.items matrix.source) (M.items out) }
 /// ensures transposed { IsRegionTransposed region matrix.width matrix.height
@@ -335,7 +335,7 @@ fn put_rest<M: Cells, R: Source<Item = M::Item> + Copy>(
 /// ensures holder { M.same_holder (items_of region) out result }
 /// ```
 #[inline(always)]
-fn put_block<M: Cells, R: Source<Item = M::Item> + Copy>(
+pub(crate) fn put_block<M: Cells, R: Source<Item = M::Item> + Copy>(
     out: M,
     matrix: Matrix<R>,
     region: Region,
@@ -346,7 +346,8 @@ fn put_block<M: Cells, R: Source<Item = M::Item> + Copy>(
         height,
     } = matrix;
     let block = Block {
-        side: region.rows(),
+        rows: region.rows(),
+        cols: region.cols(),
         from: region.row_start * width + region.col_start,
         width,
         to: region.col_start * height + region.row_start,

@@ -154,7 +154,8 @@ where
         let mut cells = Runs::<N>::new(side, side, ends_with_page);
         let (from, width, to, height) = (0, GAP, 0, GAP);
         let block = Block {
-            side,
+            rows: side,
+            cols: side,
             from,
             width,
             to,
@@ -164,6 +165,60 @@ where
         cells.check(|run, k| (k, run));
         source.check(|run, k| (run, k));
     }
+}
+
+/// Puts a block of whole cache lines past the caches, and a single column of it, of which each row is read from the column on.
+#[cfg(not(feature = "checked"))]
+fn lines<const N: usize, D: Register<[u8; N]>>(ends_with_page: bool) {
+    let rows = 64 / N;
+    for cols in [1, rows] {
+        let mut source = Runs::<N>::new(rows, cols.max(16 / N), ends_with_page);
+        let mut cells = Runs::<N>::new(cols, rows, ends_with_page);
+        let (from, width, to, height) = (0, GAP, 0, GAP);
+        let block = Block {
+            rows,
+            cols,
+            from,
+            width,
+            to,
+            height,
+        };
+        let holder = InRegisters::<_, D>::new(SlicePlaces::new(cells.list()));
+        holder.past_caches(|mut cells| cells.put_block(&SliceSource::new(source.list()), block));
+        cells.check(|run, k| (k, run));
+        source.check(|run, k| (run, k));
+    }
+}
+
+#[cfg(not(feature = "checked"))]
+#[test]
+fn lines_touch_their_places_alone() {
+    for ends_with_page in [false, true].into_iter().filter(|_| crate::unchecked::USES_REGISTERS) {
+        lines::<4, Pair<Of<4>>>(ends_with_page);
+        lines::<8, Pair<Of<8>>>(ends_with_page);
+        lines::<16, Two<Whole>>(ends_with_page);
+    }
+}
+
+/// Transposes whole matrices, all of whose items can be read or written, but nothing beside them. In these tests a list of 1024
+/// bytes is put by lines.
+#[test]
+fn transposes_touch_their_lists_alone() {
+    fn transposes<const N: usize>() {
+        let shapes = [(19, 37), (16, 64), (40, 17), (3, 131), (17, 32)];
+        for ((width, height), ends_with_page) in shapes.iter().flat_map(|shape| [(shape, false), (shape, true)]) {
+            let len = width * height;
+            let (mut source, mut cells) = (
+                Runs::<N>::new(1, len, ends_with_page),
+                Runs::<N>::new(1, len, ends_with_page),
+            );
+            assert!(super::super::transpose(source.list(), cells.list(), *width, *height));
+            cells.check(|_, k| (0, k % height * width + k / height));
+        }
+    }
+    transposes::<4>();
+    transposes::<8>();
+    transposes::<16>();
 }
 
 #[test]

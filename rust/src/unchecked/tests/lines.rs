@@ -18,9 +18,12 @@ fn transposes<T: Copy + Debug + PartialEq>(
     let list: Vec<T> = (0..input + len).map(&item).collect();
     let beside = item(len + 1000);
     let mut cells = std::vec![beside; output + len + 40];
-    parts_of_transpose(&list[input..], &mut cells[output..output + len], width, height, parts)
-        .unwrap()
-        .put();
+    let mut rest = parts_of_transpose(&list[input..], &mut cells[output..output + len], width, height, parts).unwrap();
+    let mut all: Vec<_> = std::iter::from_fn(|| rest.split_first()).collect();
+    // Another order for each shape.
+    while !all.is_empty() {
+        all.swap_remove((7 * width + 3 * height) % all.len()).put();
+    }
     let wanted = |place: usize| match place.checked_sub(output) {
         Some(place) if place < len => list[input + place % height * width + place / height],
         _ => beside,
@@ -31,12 +34,15 @@ fn transposes<T: Copy + Debug + PartialEq>(
     );
 }
 
-/// Every offset of both lists within a cache line, for items of 4 and 8 bytes.
+/// Every offset of both lists within a cache line, for items of 4, 8 and 16 bytes, and columns that are whole lines or not.
 #[test]
 fn all_offsets() {
     for (input, output) in (0..16).flat_map(|input| (0..16).map(move |output| (input, output))) {
         transposes([19, 32], [input, output], 2, |number| number as u32);
         transposes([18, 24], [input % 8, output % 8], 2, |number| number);
+        transposes([21, 37], [input, output], 2, |number| number as u32);
+        transposes([21, 37], [input % 8, output % 8], 2, |number| number);
+        transposes([21, 16 + input % 2], [input % 4, output % 4], 2, |number| [number, 7]);
     }
 }
 
@@ -69,11 +75,23 @@ fn all_addresses() {
 
 #[test]
 fn all_heights() {
-    for height in 16..=80 {
+    for height in 1..=80 {
         for (width, parts) in [(15, 2), (16, 2), (33, 3), (100, 5), (1100, 2)] {
             transposes([width, height], [3, 5], parts, |number| number as u32);
             transposes([width, height], [2, 7], parts, |number| number);
             transposes([width, height], [0, 0], parts, |number| number as f64);
+            transposes([width, height], [1, 3], parts, |number| [number, 7]);
+        }
+    }
+}
+
+#[test]
+fn all_widths() {
+    for (width, height) in (1..=40).flat_map(|width| [15, 16, 37, 64, 131].map(|height| (width, height))) {
+        for parts in [1, 2, 4] {
+            transposes([width, height], [3, 5], parts, |number| number as u32);
+            transposes([width, height], [2, 7], parts, |number| number);
+            transposes([width, height], [1, 3], parts, |number| [number, 7]);
         }
     }
 }
@@ -82,7 +100,7 @@ fn all_heights() {
 #[test]
 #[cfg_attr(miri, ignore = "too long")]
 fn whole_calls() {
-    for (width, height) in [(1030, 1040), (16400, 64), (64, 16400), (1025, 1025)] {
+    for (width, height) in [(1030, 1040), (16400, 64), (64, 16400), (1025, 1025), (1031, 1029)] {
         let input: Vec<u32> = (0..width as u32 * height as u32).collect();
         let mut output = std::vec![0; input.len()];
         assert!(crate::unchecked::transpose(&input, &mut output, width, height));

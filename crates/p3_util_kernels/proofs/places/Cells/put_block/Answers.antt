@@ -5,7 +5,7 @@ use Rattle.p3_util_kernels.proofs.places.Cells.put_block.Goals as goal
 
 pub loop-r-init : goal.loop-r-init
 loop-r-init g c =
-    let none : c.args.block.side * c.loop-c.c + 0 ≡ c.args.block.side * c.loop-c.c = omega arith in
+    let none : c.args.block.rows * c.loop-c.c + 0 ≡ c.args.block.rows * c.loop-c.c = omega arith in
     rw none c.loop-c.invariant
 
 pub overflow_mul-c : goal.overflow_mul-c
@@ -34,10 +34,10 @@ loop-r-preserved g c = record {
 
 pub loop-c-preserved : goal.loop-c-preserved
 loop-c-preserved g c =
-    let column : c.args.block.side * (c.loop-c.c + 1) ≡ c.args.block.side * c.loop-c.c + c.loop-r.r = omega arith in
+    let column : c.args.block.rows * (c.loop-c.c + 1) ≡ c.args.block.rows * c.loop-c.c + c.loop-r.r = omega arith in
     rw column c.loop-r.invariant
 
 pub returns-clause-put : goal.returns-clause-put
 returns-clause-put g c =
-    let end : c.loop-c.c ≡ c.args.block.side = omega arith in
+    let end : c.loop-c.c ≡ c.args.block.cols = omega arith in
     rw end at c.loop-c.invariant.put

@@ -1,17 +1,9 @@
 -- The columns that are in registers are put from the first to the last.
-use Rattle.std.proofs.Common.{◌≡◌, ℕ, ◌+◌, ◌-◌, ◌*◌, ◌≤◌, ◌⊎◌, ◌≢◌, inl, inr, refl, ◌∙◌, arith}
+use Rattle.std.proofs.Common.{◌≡◌, ◌+◌, ◌-◌, ◌*◌, inr, refl, ◌∙◌, arith}
 use Rattle.p3_util_kernels.specs.Registers.{items_of_four}
 use Rattle.p3_util_kernels.proofs.RegistersBlocks.{ColumnsPut-joined}
-use Rattle.p3_util_kernels.proofs.RegistersLines.{ColumnsPut-of_8, ColumnsPut-of_16}
+use Rattle.p3_util_kernels.proofs.RegistersLines.{ColumnsPut-of_8, ColumnsPut-of_16, other, some}
 use Rattle.p3_util_kernels.proofs.registers.lines.put_some_lines.Goals as goal
-
-some : {n : ℕ} → (n ≡ 2) ⊎ (n ≡ 4) → 2 ≤ n
-some (inl is) = omega (arith, is)
-some (inr is) = omega (arith, is)
-
-other : {n m : ℕ} → (n ≡ 2) ⊎ (n ≡ 4) → m ≡ n → m ≢ 2 → n ≡ 4
-other (inl is) same not = absurd (not (same ∙ is))
-other (inr is) same not = is
 
 pub load_lines-top-requires-clause-inside : goal.load_lines-top-requires-clause-inside
 load_lines-top-requires-clause-inside g c r h =
@@ -22,12 +14,12 @@ pub load_lines-top-requires-clause-reached : goal.load_lines-top-requires-clause
 load_lines-top-requires-clause-reached g c r h =
     let at : c.args.block.from + r * c.args.block.width + c.args.col ≡ c.args.block.from + c.args.col + r * c.args.block.width = omega arith in
     let at_least = some c.requires.some_side in
-    rw at at (c.requires.reads r c.args.col (omega (arith, c.requires.side, c.requires.lines, at_least)) (omega (arith, c.requires.side, c.requires.below)))
+    rw at at (c.requires.reads r c.args.col (omega (arith, c.requires.side, c.requires.lines, at_least)) (inr c.requires.below))
 
 pub overflow_mul-block : goal.overflow_mul-block
 overflow_mul-block g c =
     let half = other c.requires.some_side c.requires.side c.if-side-eq2.false in
-    omega (arith, c.requires.source_fits, c.requires.block.inside 8 0 (omega (arith, half, c.requires.side, c.requires.lines)) (omega (arith, half, c.requires.side, c.requires.lines)))
+    omega (arith, c.requires.source_fits, c.requires.block.inside 8 0 (omega (arith, half, c.requires.side, c.requires.lines)) (omega (arith, half, c.requires.side, c.requires.below)))
 
 pub overflow_add-from-2 : goal.overflow_add-from-2
 overflow_add-from-2 g c =
@@ -43,7 +35,7 @@ pub load_lines-bottom-requires-clause-reached : goal.load_lines-bottom-requires-
 load_lines-bottom-requires-clause-reached g c r h =
     let half = other c.requires.some_side c.requires.side c.if-side-eq2.false in
     let at : c.args.block.from + (8 + r) * c.args.block.width + c.args.col ≡ c.args.block.from + c.args.col + 8 * c.args.block.width + r * c.args.block.width = omega arith in
-    rw at at (c.requires.reads (8 + r) c.args.col (omega (arith, half, c.requires.side, c.requires.lines)) (omega (arith, c.requires.side, c.requires.below)))
+    rw at at (c.requires.reads (8 + r) c.args.col (omega (arith, half, c.requires.side, c.requires.lines)) (inr c.requires.below))
 
 pub put_line-requires-then-side-eq2-clause-room : goal.put_line-requires-then-side-eq2-clause-room
 put_line-requires-then-side-eq2-clause-room g c r h = omega (arith, c.requires.block.room r (c.args.col + 1) h (omega (arith, c.requires.side, c.requires.below, some c.requires.some_side, c.if-side-eq2.true)), c.put_line.ensures.stored.same_length)

@@ -1,16 +1,30 @@
-use Rattle.std.proofs.Common.{◌-◌, ◌*◌, ◌≤◌}
-use Rattle.p3_util_kernels.specs.Region.{IsRegionTransposed, cols_of}
+use Rattle.std.proofs.Common.{◌+◌, ◌-◌, ◌≤◌}
+use Rattle.p3_util_kernels.specs.Lines.{limit}
+use Rattle.p3_util_kernels.specs.Region.{rows_of}
+use Rattle.p3_util_kernels.proofs.LinesLemmas.{IsPutTo, ahead, items_to}
 use Rattle.p3_util_kernels.proofs.transpose.lines.put_chunk.Given as goal
 
--- the rows before `row` are put
-abbrev pub invariant-loop-row : goal.invariant-loop-row
-invariant-loop-row g l = record {
-  from : l.region.row_start ≤ l.row;
-  to : l.row ≤ l.region.row_end;
-  transposed : IsRegionTransposed (record l.region { row_end = l.row }) l.matrix.width l.matrix.height (g.R.Source.items l.matrix.source)
+-- each column is put as far as `done` rows after the line of its first cell begins
+abbrev pub invariant-loop-done : goal.invariant-loop-done
+invariant-loop-done g l = record {
+  put : IsPutTo l.region (λ x. limit l.region l.lines.cells l.lines.before l.skew l.done x) l.matrix.width l.matrix.height (g.R.Source.items l.matrix.source)
       (g.M.Cells.items l.fn.out) (g.M.Cells.items l.out);
-  holder : g.M.Cells.same_holder ((l.row - l.region.row_start) * cols_of l.region) l.fn.out l.out;
+  holder : g.M.Cells.same_holder (items_to l.region (λ x. limit l.region l.lines.cells l.lines.before l.skew l.done x)) l.fn.out l.out;
 }
 
-abbrev pub decreases-loop-row : goal.decreases-loop-row
-decreases-loop-row g l = l.region.row_end - l.row
+abbrev pub decreases-loop-done : goal.decreases-loop-done
+decreases-loop-done g l = rows_of l.region + l.lines.cells - l.done
+
+-- the columns before `col` are put one line further
+abbrev pub invariant-loop-col : goal.invariant-loop-col
+invariant-loop-col g l = record {
+  from : l.region.col_start ≤ l.col;
+  to : l.col ≤ l.region.col_end;
+  put : IsPutTo l.region (ahead l.col (λ x. limit l.region l.lines.cells l.lines.before l.skew l.done x) (λ x. limit l.region l.lines.cells l.lines.before l.skew l.next x))
+      l.matrix.width l.matrix.height (g.R.Source.items l.matrix.source) (g.M.Cells.items l.fn.out) (g.M.Cells.items l.out);
+  holder : g.M.Cells.same_holder
+      (items_to l.region (ahead l.col (λ x. limit l.region l.lines.cells l.lines.before l.skew l.done x) (λ x. limit l.region l.lines.cells l.lines.before l.skew l.next x))) l.fn.out l.out;
+}
+
+abbrev pub decreases-loop-col : goal.decreases-loop-col
+decreases-loop-col g l = l.region.col_end - l.col

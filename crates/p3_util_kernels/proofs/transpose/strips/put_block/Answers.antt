@@ -9,7 +9,6 @@ overflow_add-block g c =
     let ready = c.requires.ready in
     omega (
       arith,
-      c.requires.square,
       ready.length_fits,
       ready.inside.rows_inside,
       ready.inside.cols_inside,
@@ -21,7 +20,6 @@ overflow_add-block-2 g c =
     let ready = c.requires.ready in
     omega (
       arith,
-      c.requires.square,
       ready.length_fits,
       ready.inside.rows_inside,
       ready.inside.cols_inside,
@@ -29,8 +27,8 @@ overflow_add-block-2 g c =
     )
 
 pub put_block-requires : goal.put_block-requires
-put_block-requires g c = rw c.rows.ensures (BlockFits-region c.args.region c.args.matrix.width c.args.matrix.height _ c.requires.square _ c.requires.ready)
+put_block-requires g c = rw (c.rows.ensures, c.cols.ensures) (BlockFits-region c.args.region c.args.matrix.width c.args.matrix.height _ _ c.requires.ready)
 
 pub returns-clause-transposed : goal.returns-clause-transposed
 returns-clause-transposed g c =
-    IsRegionTransposed-block c.args.region c.args.matrix.width c.args.matrix.height _ c.requires.square _ _ (rw c.rows.ensures at c.put_block.ensures.put)
+    IsRegionTransposed-block c.args.region c.args.matrix.width c.args.matrix.height _ _ _ (rw (c.rows.ensures, c.cols.ensures) at c.put_block.ensures.put)

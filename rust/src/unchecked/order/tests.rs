@@ -1,11 +1,12 @@
-//! Tests by which strips a matrix is put, and the order of the puts for the strips that only this package chooses.
+//! Tests in which order a matrix is put, and the order of the puts for the strips that only this package chooses.
 
 use core::marker::PhantomData;
 use std::vec::Vec;
 
 use super::*;
-use crate::kernels::places::{Block, Cells, SliceSource};
-use crate::kernels::transpose::transpose_matrix;
+use crate::kernels::parts::TransposePlan;
+use crate::kernels::places::{Block, Cells, SliceSource, Source};
+use crate::kernels::transpose::{Strips, transpose_matrix};
 
 /// A source of this many items, which are never read.
 struct Unread<T>(usize, PhantomData<T>);
@@ -30,55 +31,67 @@ impl<T: Copy> Source for Unread<T> {
     }
 }
 
-/// The strips of a matrix of items of type `T`.
-fn strips<T: Copy>(width: usize, height: usize) -> Strips {
-    strips_by_size(Matrix::new(Unread(width * height, PhantomData::<T>), width, height))
+/// A matrix of items of type `T`.
+fn matrix<T: Copy>(width: usize, height: usize) -> Matrix<Unread<T>> {
+    Matrix::new(Unread(width * height, PhantomData), width, height)
+}
+
+/// Whether a matrix of items of type `T`, and a part of it, is put in these strips, without lines.
+fn is_in<T: Copy>(strips: Strips, width: usize, height: usize) -> bool {
+    let plan = TransposePlan::new(width, height, 1, true);
+    let order = |part| order_of(size_of::<T>(), matrix::<T>(width, height), part, None);
+    let whole = match width * height {
+        0 | 128..=1_048_576 => Order::Strips(strips),
+        1..128 => Order::Columns,
+        _ => Order::Leaves(strips),
+    };
+    order(None) == whole && order(Some((&plan, 0))) == Order::Leaves(strips)
 }
 
 /// Whether a matrix of items of type `T` is put in the same way as by the calls in Rattle.
 fn is_by_shape<T: Copy>(width: usize, height: usize) -> bool {
-    let matrix = Matrix::new(Unread(width * height, PhantomData::<T>), width, height);
-    strips_by_size(matrix) == Strips::by_shape(matrix)
+    let matrix = matrix::<T>(width, height);
+    order_of(size_of::<T>(), matrix, None, None) == Order::by_shape(matrix)
 }
 
 #[test]
 fn blocks_of_small_items() {
-    let turns = unchecked::USES_REGISTERS;
+    let turns = USES_REGISTERS;
     for (width, height) in [(7, 1000), (8, 17), (12, 11), (64, 64), (181, 181)] {
         assert_eq!(
-            strips::<u8>(width, height) == Strips::high(8),
+            is_in::<u8>(Strips::high(8), width, height),
             turns,
             "{width} by {height}"
         );
         assert_eq!(
-            strips::<u16>(width, height) == Strips::high(8),
+            is_in::<u16>(Strips::high(8), width, height),
             turns,
             "{width} by {height}"
         );
         assert_eq!(
-            strips::<u32>(width, height) == Strips::high(4),
+            is_in::<u32>(Strips::high(4), width, height),
             turns,
             "{width} by {height}"
         );
         assert_eq!(
-            strips::<u64>(width, height) == Strips::high(LONG_ITEMS_SIDE),
+            is_in::<u64>(Strips::high(LONG_ITEMS_SIDE), width, height),
             turns,
             "{width} by {height}"
         );
     }
     for (width, height) in [(1, 32_769), (182, 181), (512, 512), (1025, 1024), (262_144, 12)] {
         assert_eq!(
-            strips::<u8>(width, height) == Strips::high(8),
+            is_in::<u8>(Strips::high(8), width, height),
             turns,
             "{width} by {height}"
         );
         assert_eq!(
-            strips::<u16>(width, height) == Strips::high(8),
+            is_in::<u16>(Strips::high(8), width, height),
             turns,
             "{width} by {height}"
         );
         assert_eq!(
-            strips::<u32>(width, height) == Strips::high(4),
+            is_in::<u32>(Strips::high(4), width, height),
             turns,
             "{width} by {height}"
         );
@@ -91,7 +104,7 @@ fn blocks_of_small_items() {
 fn columns_of_other_items() {
     fn check<T: Copy>() {
         for (width, height) in [(16, 8), (16, 64), (32, 32), (48, 17)] {
-            assert!(strips::<T>(width, height) == Strips::low(), "{width} by {height}");
+            assert!(is_in::<T>(Strips::low(), width, height), "{width} by {height}");
         }
         for (width, height) in [
             (16, 65),
@@ -110,6 +123,36 @@ fn columns_of_other_items() {
     check::<u128>();
     check::<[u64; 4]>();
     check::<[u64; 8]>();
+}
+
+/// In these tests a list of 1024 bytes is long, and so is every column. Items that are not aligned are put as others. A whole
+/// call goes by lines only if its matrix would be split otherwise.
+#[test]
+fn lines_of_long_lists() {
+    fn check<T: Copy>(can: bool) {
+        let size = size_of::<T>();
+        for (width, height) in [(16, 16), (1, 1024), (1024, 1), (19, 37), (5, 30), (2000, 2000)] {
+            for first in [0, size, 64 - size, 4096 + 2 * size, 1, size / 2] {
+                let plan = TransposePlan::new(width, height, 2, true);
+                let lines = Order::Lines(Lines::new(LINE / size, first % LINE / size));
+                for part in [None, Some((&plan, 0))] {
+                    let order = |first| order_of(size, matrix::<T>(width, height), part, first);
+                    let is_split = part.is_some() || width * height > 1 << 20;
+                    let is_long = width * height * size >= 1024 && first % size == 0;
+                    let has_lines = can && HAS_LINES && is_split && is_long;
+                    let wanted = if has_lines { lines } else { order(None) };
+                    assert!(order(Some(first)) == wanted, "{width} by {height} at {first}");
+                }
+            }
+        }
+    }
+    check::<u8>(false);
+    check::<u16>(false);
+    check::<u32>(true);
+    check::<u64>(true);
+    check::<[u32; 3]>(false);
+    check::<u128>(true);
+    check::<[u64; 4]>(false);
 }
 
 /// The cells of a transpose, which note the order of the puts.
@@ -133,17 +176,15 @@ impl Cells for Noted {
 
 /// The column and the row of each item, in the order of strips by blocks of `side` rows and columns. At most 128 rows
 /// are put at a time. Of such a strip, `side` columns are put at a time: blocks as long as so many rows are left, each of
-/// them column after column, and then the rest column after column. So are the columns that fill no block, and a matrix
-/// of fewer than 128 items.
+/// them column after column, and then the rest column after column. So are the columns that fill no block.
 fn by_strips_of_blocks(width: usize, height: usize, side: usize) -> Vec<(usize, usize)> {
     let mut places = Vec::new();
-    let is_tiny = width * height < 128;
     for (top, left) in (0..height)
         .step_by(128)
         .flat_map(|top| (0..width).step_by(side).map(move |left| (top, left)))
     {
         let (rows, cols) = (top..height.min(top + 128), left..width.min(left + side));
-        let most = if cols.len() == side && !is_tiny { side } else { 128 };
+        let most = if cols.len() == side { side } else { 128 };
         for top in rows.clone().step_by(most) {
             let rows = top..rows.end.min(top + most);
             places.extend(cols.clone().flat_map(|x| rows.clone().map(move |y| (x, y))));
@@ -160,7 +201,7 @@ fn check_order(strips: Strips, (width, height): (usize, usize), order: Vec<(usiz
         puts: Vec::new(),
     };
     let matrix = Matrix::new(SliceSource::new(&input), width, height);
-    let Noted { items, puts } = transpose_matrix(blank, matrix, strips);
+    let Noted { items, puts } = transpose_matrix(blank, matrix, Order::Strips(strips));
     let places = puts.iter().map(|place| (place / height, place % height));
     assert!(places.eq(order), "{width} by {height}");
     let transposed = |place: usize| place % height * width + place / height;
@@ -189,8 +230,7 @@ fn strips_of_blocks_in_order() {
     }
 }
 
-/// The cells of a transpose, which put blocks in their own way and count them. No item of a whole block may be put alone,
-/// except in a matrix of fewer than 128 items.
+/// The cells of a transpose, which put blocks in their own way and count them. No item of a whole block may be put alone.
 /// If `changed` is true, the first two items of each block are exchanged.
 struct ByBlocks {
     items: Vec<usize>,
@@ -211,13 +251,13 @@ impl Cells for ByBlocks {
     fn put(&mut self, i: usize, v: usize) {
         let whole = |place: usize, len: usize| place < len / self.side * self.side;
         let is_whole = whole(i / self.height, self.width) && whole(i % self.height, self.height);
-        assert!(!is_whole || self.items.len() < 128);
+        assert!(!is_whole);
         self.items[i] = v;
     }
 
     fn put_block<R: Source<Item = usize>>(&mut self, source: &R, block: Block) {
-        assert_eq!(block.side, self.side);
-        for (r, c) in (0..block.side).flat_map(|r| (0..block.side).map(move |c| (r, c))) {
+        assert_eq!((block.rows, block.cols), (self.side, self.side));
+        for (r, c) in (0..block.rows).flat_map(|r| (0..block.cols).map(move |c| (r, c))) {
             self.items[block.to + c * block.height + r] = source.at(block.from + r * block.width + c);
         }
         if self.changed {
@@ -239,7 +279,7 @@ fn put_by_blocks(width: usize, height: usize, side: usize, changed: bool) -> ByB
         blocks: 0,
     };
     let matrix = Matrix::new(SliceSource::new(&input), width, height);
-    transpose_matrix(blank, matrix, Strips::high(side))
+    transpose_matrix(blank, matrix, Order::Strips(Strips::high(side)))
 }
 
 #[test]
@@ -250,12 +290,7 @@ fn blocks_by_a_holder_of_ones_own() {
         for side in [4, 8] {
             let right = put_by_blocks(width, height, side, false);
             assert!(right.items.into_iter().eq((0..width * height).map(transposed)));
-            let blocks = if width * height < 128 {
-                0
-            } else {
-                width / side * (height / side)
-            };
-            assert_eq!(right.blocks, blocks, "{width} by {height}");
+            assert_eq!(right.blocks, width / side * (height / side), "{width} by {height}");
             // So this test notices if the items of a block are put into wrong cells.
             let wrong = put_by_blocks(width, height, side, true);
             let is_transposed = wrong.items.into_iter().eq((0..width * height).map(transposed));

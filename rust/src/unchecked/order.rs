@@ -1,0 +1,84 @@
+//! Decides how a matrix is put: [`order_of`] says it for each call and for each part of a call, and nothing else does. The
+//! kernels put a matrix in any [`Order`], and their contracts are the same for all of them.
+//!
+//! The first line that fits a matrix says how it is put. A *whole call* puts the whole matrix, and so does a single part.
+//!
+//! | Matrix | How it is put | Why |
+//! |---|---|---|
+//! | a call on a slice, one row or one column | copied by `unchecked::transpose` | its items keep their order |
+//! | a whole call, fewer than 128 items: `TINY_MATRIX` | `Columns`, in code that is inlined | a call would take as long |
+//! | a whole call, up to 1048576 items: `LARGE_MATRIX` | `Strips` | the lines and pages in use stay in the caches |
+//! | 16 MiB and more: `PAST_CACHES`, items of 4 or 8 bytes, 16 columns and more of the matrix or part: `LINE_COLS`, a column of whole cache lines or of 1 KiB and more: `LONG_COLUMN` | `Lines` | what is stored past the caches is not read first, but whole lines have to be stored. A part of a line, which a column may have at both of its ends, takes longer |
+//! | the same, items of 16 bytes, a column of 1 KiB and more | `Lines` | in a shorter column the stores of single items are as fast |
+//! | all others | `Leaves`, with the same strips | a leaf stays in the caches |
+//!
+//! | Items | Strips | Why |
+//! |---|---|---|
+//! | 1 or 2 bytes | high, by blocks of 8 by 8 | a register holds one or two rows of such a block |
+//! | 4 bytes | high, by blocks of 4 by 4 | a register holds a row |
+//! | up to 32768 items of 8 bytes: `BLOCKS_LONG_ITEMS` | high, by blocks of `LONG_ITEMS_SIDE` | in a larger matrix the blocks gain nothing |
+//! | all others | low if 16 divides the width, otherwise high, column after column | see `Strips::by_width` |
+//!
+//! Lines are put on x86-64, and blocks where items are transposed in registers. Elsewhere the lines of the tables that speak
+//! of them fit no matrix.
+
+use super::{Part, USES_REGISTERS};
+use crate::kernels::transpose::lines::Lines;
+use crate::kernels::transpose::{Matrix, Order, Strips};
+
+/// The bytes of a cache line.
+pub(super) const LINE: usize = 64;
+
+/// Whether large matrices are put by cache lines. On aarch64 that was not tried.
+const HAS_LINES: bool = USES_REGISTERS && cfg!(target_arch = "x86_64");
+
+/// A list of at least this many bytes is put by lines.
+const PAST_CACHES: usize = 1 << 24;
+
+/// Fewer columns are not put by lines.
+const LINE_COLS: usize = 16;
+
+/// A column of so many bytes is put by lines even if it is not whole lines.
+const LONG_COLUMN: usize = 1024;
+
+/// These limits. The tests of this package take lower ones, so that short lists are put by lines.
+const LIMITS: [usize; 3] = if cfg!(test) {
+    [1 << 10, 1, 1]
+} else {
+    [PAST_CACHES, LINE_COLS, LONG_COLUMN]
+};
+
+/// A matrix of more items of 8 bytes is not put by blocks in registers.
+const BLOCKS_LONG_ITEMS: usize = 1 << 15;
+
+/// The side of the blocks of at most that many items of 8 bytes. On aarch64, which has 32 vector registers, a block of 8 by
+/// 8 items takes fewer instructions than four of 4 by 4. On x86-64 it takes more.
+const LONG_ITEMS_SIDE: usize = if cfg!(target_arch = "aarch64") { 8 } else { 4 };
+
+/// The order in which a part is put. `first` is the address of the first cell of the output. Without it, lines are not taken.
+#[inline(always)]
+pub(super) fn order_of<R>(size: usize, matrix: Matrix<R>, part: Part, first: Option<usize>) -> Order {
+    // A matrix without items may be so high that the second product wraps. It is not large.
+    let (items, column) = (matrix.width * matrix.height, matrix.height.wrapping_mul(size));
+    let cols = part.map_or(matrix.width, |(plan, number)| plan.region(number).cols());
+    let [bytes, least_cols, long_column] = LIMITS;
+    let is_large = items * size >= bytes && cols >= least_cols;
+    let is_long = column >= long_column || size < 16 && column % LINE == 0;
+    let strips = match size {
+        1 | 2 if USES_REGISTERS => Strips::high(8),
+        4 if USES_REGISTERS => Strips::high(4),
+        8 if USES_REGISTERS && items <= BLOCKS_LONG_ITEMS => Strips::high(LONG_ITEMS_SIDE),
+        _ => Strips::by_width(matrix.width),
+    };
+    match (Order::in_strips(strips, items, part.is_none()), first) {
+        (Order::Leaves(_), Some(first))
+            if HAS_LINES && is_large && matches!(size, 4 | 8 | 16) && is_long && first % size == 0 =>
+        {
+            Order::Lines(Lines::new(LINE / size, first % LINE / size))
+        }
+        (order, _) => order,
+    }
+}
+
+#[cfg(test)]
+mod tests;
