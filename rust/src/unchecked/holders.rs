@@ -328,6 +328,14 @@ impl<'a, T, D: Register<T>> InRegisters<'a, T, D> {
     /// The number of rows of a square. A row is half of a `D`.
     const SIDE: usize = size_of::<D::Half>() / size_of::<T>();
 
+    /// The most rows of a block that is put in registers. On x86-64, which has 16 vector registers without AVX-512, those of
+    /// a block of 8 by 8 items would go through memory, except for items of 1 and of 2 bytes.
+    const BLOCK_ROWS: usize = if Self::SIDE < 8 && cfg!(target_arch = "x86_64") {
+        4
+    } else {
+        8
+    };
+
     #[inline(always)]
     pub(super) fn new(items: SliceItems<'a, T>) -> Self {
         let rows = PhantomData;
@@ -404,13 +412,15 @@ impl<T: Copy, D: Register<T>> Cells for InRegisters<'_, T, D> {
         let in_line = rows == 4 * Self::SIDE && (first | distance) % LINE == 0;
         // Whether the list has `SIDE` items of each row, from the block's first column on.
         let inside = |len| cols == rows || cols == 1 && block.from + (rows - 1) * block.width + Self::SIDE <= len;
+        // Whether the block is a square that is put in registers.
+        let is_turned = cols == rows && matches!(rows, 4 | 8) && (Self::SIDE..=Self::BLOCK_ROWS).contains(&rows);
         match source.as_slice() {
             // These items are only read: the functions of `squares` have a shared reference to them.
             Some(items) if const { HAS_LINES && Self::SIDE < 8 } && in_line && inside(items.len()) => {
                 let items = SliceItems::of(items.as_ptr().cast_mut(), items.len());
                 squares::lines::put_lines::<T, D, _, _>(&mut self.items, &items, Self::SIDE, block);
             }
-            Some(items) if const { Self::SIDE > 1 } && matches!(rows, 4 | 8) && rows >= Self::SIDE && cols == rows => {
+            Some(items) if const { Self::SIDE > 1 } && is_turned => {
                 let items = SliceItems::of(items.as_ptr().cast_mut(), items.len());
                 squares::put_block::<T, D, _, _>(&mut self.items, &items, Self::SIDE, block);
             }
