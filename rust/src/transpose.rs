@@ -53,22 +53,26 @@ pub(crate) fn refuse(input: usize, output: usize, width: usize, height: usize) -
     unreachable!("lengths that fit are not refused");
 }
 
-/// A matrix of more items of 8 bytes is not put by blocks in registers.
+/// On x86-64, a matrix of more items of 8 bytes is not put by blocks in registers.
 const BLOCKS_LONG_ITEMS: usize = 1 << 15;
 
-/// The side of the blocks of at most that many items of 8 bytes. On aarch64, which has 32 vector registers, a block of 8 by
-/// 8 items takes fewer instructions than four of 4 by 4. On x86-64 it takes more.
-const LONG_ITEMS_SIDE: usize = if cfg!(target_arch = "aarch64") { 8 } else { 4 };
+/// On aarch64, which has 32 vector registers, a block of 8 by 8 items of 4 or 8 bytes takes fewer instructions than four
+/// blocks of 4 by 4, and than columns, at every size. On x86-64 it takes more than four blocks of 4 by 4.
+const IS_AARCH64: bool = cfg!(target_arch = "aarch64");
+
+/// The side of the blocks of items of 4 and 8 bytes.
+const SIDE: usize = if IS_AARCH64 { 8 } else { 4 };
 
 /// The strips by which a matrix is put, as a whole or in parts. They only determine the order of the puts. Items of 1, 2
-/// and 4 bytes, and up to 32768 items of 8 bytes, are put by blocks that are transposed in registers. All others are put
-/// column after column, in strips that are low or high by the width.
+/// and 4 bytes, and on x86-64 up to 32768 items of 8 bytes, are put by blocks that are transposed in registers. On aarch64,
+/// all items of 8 bytes are. All others are put column after column, in strips that are low or high by the width.
 #[inline(always)]
 pub(crate) fn strips_by_size<R: Source + Copy>(matrix: Matrix<R>) -> Strips {
+    let is_short = IS_AARCH64 || matrix.source.len() <= BLOCKS_LONG_ITEMS;
     match size_of::<R::Item>() {
         1 | 2 if unchecked::USES_REGISTERS => Strips::high(8),
-        4 if unchecked::USES_REGISTERS => Strips::high(4),
-        8 if unchecked::USES_REGISTERS && matrix.source.len() <= BLOCKS_LONG_ITEMS => Strips::high(LONG_ITEMS_SIDE),
+        4 if unchecked::USES_REGISTERS => Strips::high(SIDE),
+        8 if unchecked::USES_REGISTERS && is_short => Strips::high(SIDE),
         _ => Strips::by_width(matrix.width),
     }
 }
