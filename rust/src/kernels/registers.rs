@@ -569,6 +569,100 @@ fn put_columns<T, D: Register<T>, S: Runs<T, D>, M: Runs<T, D>>(
     store(cells, block.rows, to, columns);
 }
 
+/// Does what [`store`] does, for squares of 2 or 4 rows, in another order: the runs of a column are
+/// stored one right after the other.
+///
+/// # Contract
+///
+/// ```text
+/// requires some_side { (side ≡ 2) ⊎ (side ≡ 4) }
+/// requires known { (count ≡ 4) ⊎ (count ≡ 8) }
+/// requires squares { 2 * side ≤ count }
+/// requires reached { AreReached count to (M.may (M.reach list.old)) }
+/// requires apart { AreApart count D.half to }
+/// ensures stored { AreStored count D.half to (items_of_four D.items four) (M.items list.old) (M.items list.new) }
+/// ensures holder { M.reach list.new ≡ M.reach list.old }
+/// ```
+#[inline(always)]
+fn store_columns<T, D: Register<T>, M: Runs<T, D>>(
+    list: &mut M,
+    side: usize,
+    count: usize,
+    to: [usize; 8],
+    four: Four<D>,
+) {
+    let (a, b) = (four.a.halves(), four.b.halves());
+    let (c, d) = (four.c.halves(), four.d.halves());
+    if side == 4 {
+        list.store(to[0], a.0);
+        list.store(to[4], c.0);
+        list.store(to[1], a.1);
+        list.store(to[5], c.1);
+        list.store(to[2], b.0);
+        list.store(to[6], d.0);
+        list.store(to[3], b.1);
+        list.store(to[7], d.1);
+        return;
+    }
+    if count == 4 {
+        list.store(to[0], a.0);
+        list.store(to[2], b.0);
+        list.store(to[1], a.1);
+        list.store(to[3], b.1);
+        return;
+    }
+    list.store(to[0], a.0);
+    list.store(to[2], b.0);
+    list.store(to[4], c.0);
+    list.store(to[6], d.0);
+    list.store(to[1], a.1);
+    list.store(to[3], b.1);
+    list.store(to[5], c.1);
+    list.store(to[7], d.1);
+}
+
+/// Puts twice `side` columns of a block, from column `col` on. All of them are read before one is put.
+/// So two neighbouring runs of a row are read, and two of a column written, one right after the other.
+/// On aarch64 that is one instruction for both (`ldp`, `stp`).
+///
+/// # Contract
+///
+/// ```text
+/// requires some_side { IsSide D.half }
+/// requires side { side ≡ D.half }
+/// requires known { (block.rows ≡ 4) ⊎ (block.rows ≡ 8) }
+/// requires below { col + 2 * side ≤ block.rows }
+/// requires square { block.cols ≡ block.rows }
+/// requires block { BlockFits block (length (S.items source.now)) (length (M.items cells.old)) }
+/// requires reads { RowsReached block.rows D.half (λ r. block.from + r * block.width) (S.may (S.reach source.now)) }
+/// requires writes { RowsReached block.rows D.half (λ c. block.to + c * block.height) (M.may (M.reach cells.old)) }
+/// requires source_fits { length (S.items source.now) < 2 ^ 63 }
+/// requires cells_fit { length (M.items cells.old) < 2 ^ 63 }
+/// ensures put { ColumnsPut col (col + 2 * side) block (S.items source.now) (M.items cells.old) (M.items cells.new) }
+/// ensures holder { M.reach cells.new ≡ M.reach cells.old }
+/// ```
+#[inline(always)]
+fn put_twice<T, D: Register<T>, S: Runs<T, D>, M: Runs<T, D>>(
+    cells: &mut M,
+    source: &S,
+    side: usize,
+    block: Block,
+    col: usize,
+) {
+    let from = starts(block.from, block.width, block.rows);
+    let to = starts(block.to, block.height, block.rows);
+    let left = load_columns(source, side, in_columns(from, [col; 8]));
+    let right = load_columns(source, side, in_columns(from, [col + side; 8]));
+    store_columns(cells, side, block.rows, in_rows(to, side, [col; 8]), left);
+    store_columns(
+        cells,
+        side,
+        block.rows,
+        in_rows(to, side, [col + side; 8]),
+        right,
+    );
+}
+
 /// Does what `Cells::put_block` does, by squares of `side` rows.
 ///
 /// # Contract
@@ -594,15 +688,10 @@ pub(crate) fn put_block<T, D: Register<T>, S: Runs<T, D>, M: Runs<T, D>>(
 ) {
     match block.rows / side {
         4 => {
-            put_columns(cells, source, side, block, 0);
-            put_columns(cells, source, side, block, 2);
-            put_columns(cells, source, side, block, 4);
-            put_columns(cells, source, side, block, 6);
+            put_twice(cells, source, side, block, 0);
+            put_twice(cells, source, side, block, 4);
         }
-        2 => {
-            put_columns(cells, source, side, block, 0);
-            put_columns(cells, source, side, block, side);
-        }
+        2 => put_twice(cells, source, side, block, 0),
         _ => put_columns(cells, source, side, block, 0),
     }
 }

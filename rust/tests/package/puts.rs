@@ -87,12 +87,16 @@ fn by_strips(rows: Range<usize>, cols: Range<usize>, most: usize) -> impl Iterat
     })
 }
 
-/// The columns and rows of a matrix by strips of 16 rows. In a strip, four columns are put together, in blocks of four
-/// rows. At the bottom fewer rows may be left.
+/// The columns and rows of a matrix by strips of 16 rows. A strip goes by blocks of four rows: those in the first four
+/// columns, those in the next four, and so on. Then follow the rows below all blocks, fewer than four.
 fn by_blocks(width: usize, height: usize) -> impl Iterator<Item = (usize, usize)> {
     let strips = (0..height).step_by(16).map(move |top| top..height.min(top + 16));
-    let stacks = strips.flat_map(move |rows| (0..width).step_by(4).map(move |x| (rows.clone(), x..x + 4)));
-    stacks.flat_map(|(rows, cols)| by_strips(rows, cols, 4))
+    strips.flat_map(move |rows| {
+        let below = rows.start + rows.len() / 4 * 4;
+        let stacks = (0..width).step_by(4).map(|x| x..x + 4);
+        let blocks = stacks.flat_map(move |cols| by_strips(rows.start..below, cols, 4));
+        blocks.chain(by_strips(below..rows.end, 0..width, 4))
+    })
 }
 
 /// The columns and rows of a matrix by the parts of its split. Each part goes by strips of at most `most` rows.
@@ -144,7 +148,8 @@ const ORDERS: [(usize, usize, Order); 22] = [
 /// - a matrix that is never split, or that is split from another size on;
 /// - a split that puts by strips and computes its answer, or whose leaves take another path if 16 divides the width;
 /// - blocks everywhere, or columns everywhere, also for regions and for sources;
-/// - a stack whose blocks are not put one after another, and blocks beyond 1024 items;
+/// - a stack whose blocks are not put one after another, rows below a stack before the next stack, and blocks beyond 1024
+///   items;
 /// - high strips chosen by another test of the shape;
 /// - columns from right to left, and strips from the last to the first.
 #[test]

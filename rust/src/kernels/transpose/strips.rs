@@ -7,14 +7,13 @@
 //!   into its cell.
 //! - A *strip* is some neighbouring rows of a region. A region is cut into strips, which are put
 //!   from top to bottom.
-//! - A *block* is a square of 4 by 4 or of 8 by 8 items of a strip. A *stack* is as many
-//!   neighbouring columns of a strip as a block has: its blocks, one below the other, and the rows
-//!   below them.
+//! - A *block* is a square of 4 by 4 or of 8 by 8 items of a strip. A *stack* is blocks of a strip
+//!   that lie one below the other. It has as many columns as a block.
 //!
-//! [`Strips`] says how many rows a strip has, and whether it is put column after column or stack
-//! after stack. [`Strips::by_shape`] chooses by the shape of the matrix. That choice only changes
-//! the order of the puts: the contracts of the functions below are the same for all strips. For
-//! blocks of another side, handle that side in `put_strip`.
+//! [`Strips`] says how many rows a strip has, and whether it is put column after column or by
+//! blocks. [`Strips::by_shape`] chooses by the shape of the matrix. That choice only changes the
+//! order of the puts: the contracts of the functions below are the same for all strips. For blocks
+//! of another side, handle that side in `put_strips`.
 //!
 //! Each function takes the holder by value and returns it. This keeps the holder in registers in
 //! the loops.
@@ -133,7 +132,8 @@ impl Strips {
         }
     }
 
-    /// The row after the last one of the first strip of `region`.
+    /// The row after the last one of the first strip of `region`, if it is put by blocks of `side` by
+    /// `side` items, or column after column if `side` is 1.
     ///
     /// # Contract
     ///
@@ -144,8 +144,8 @@ impl Strips {
     /// ensures to { result ≤ region.row_end }
     /// ```
     #[inline(always)]
-    fn end(self, region: Region) -> usize {
-        if region.cols() == 1 {
+    fn end(self, region: Region, side: usize) -> usize {
+        if side == 1 && region.cols() == 1 {
             // The items of one column go to consecutive cells, whatever the strips are.
             region.row_end
         } else {
@@ -175,11 +175,40 @@ pub(crate) fn put_strips<M: Cells, R: Source<Item = M::Item> + Copy>(
         // A region without columns has no item, however many rows it has.
         return out;
     }
+    // Here the compiler knows the side of a block, and so the lengths of the loops.
+    match strips.side {
+        4 => put_strips_of(out, matrix, region, strips, 4),
+        8 => put_strips_of(out, matrix, region, strips, 8),
+        _ => put_strips_of(out, matrix, region, strips, 1),
+    }
+}
+
+/// Puts `region` strip by strip, each by blocks of `side` by `side` items, or column after column if
+/// `side` is 1.
+///
+/// # Contract
+///
+/// ```text
+/// requires some_side { 0 < side }
+/// requires ready { IsReady region matrix.width matrix.height
+///     (R.items matrix.source) (M.items out) }
+/// ensures transposed { IsRegionTransposed region matrix.width matrix.height
+///     (R.items matrix.source) (M.items out) (M.items result) }
+/// ensures holder { M.same_holder (items_of region) out result }
+/// ```
+#[inline(always)]
+fn put_strips_of<M: Cells, R: Source<Item = M::Item> + Copy>(
+    out: M,
+    matrix: Matrix<R>,
+    region: Region,
+    strips: Strips,
+    side: usize,
+) -> M {
     let mut out = out;
     let mut row = region.row_start;
     while row < region.row_end {
-        let end = strips.end(region.with_rows(row, region.row_end));
-        out = put_strip(out, matrix, region.with_rows(row, end), strips);
+        let end = strips.end(region.with_rows(row, region.row_end), side);
+        out = put_strip(out, matrix, region.with_rows(row, end), side);
         row = end;
     }
     out
@@ -190,6 +219,7 @@ pub(crate) fn put_strips<M: Cells, R: Source<Item = M::Item> + Copy>(
 /// # Contract
 ///
 /// ```text
+/// requires some_side { 0 < side }
 /// requires some_rows { region.row_start < region.row_end }
 /// requires ready { IsReady region matrix.width matrix.height
 ///     (R.items matrix.source) (M.items out) }
@@ -202,22 +232,21 @@ fn put_strip<M: Cells, R: Source<Item = M::Item> + Copy>(
     out: M,
     matrix: Matrix<R>,
     region: Region,
-    strips: Strips,
+    side: usize,
 ) -> M {
-    match strips.side {
-        // Here the compiler knows the side of a block, and so the lengths of the loops.
-        4 => put_stacks(out, matrix, region, 4),
-        8 => put_stacks(out, matrix, region, 8),
-        // Most low strips have `LOW_ROWS` rows. Here the compiler knows that number.
-        _ if region.rows() == LOW_ROWS => {
-            let known = region.with_known_sides(LOW_ROWS, region.cols());
-            put_columns(out, matrix, known)
-        }
-        _ => put_columns(out, matrix, region),
+    if side > 1 {
+        return put_stacks(out, matrix, region, side);
     }
+    if region.rows() == LOW_ROWS {
+        // Most low strips have `LOW_ROWS` rows. Here the compiler knows that number.
+        let known = region.with_known_sides(LOW_ROWS, region.cols());
+        return put_columns(out, matrix, known);
+    }
+    put_columns(out, matrix, region)
 }
 
-/// Puts a strip stack after stack, from left to right.
+/// Puts a strip: its blocks, stack after stack, then the columns to the right of the last stack, and
+/// then the rows below all blocks.
 ///
 /// # Contract
 ///
@@ -236,44 +265,67 @@ pub(crate) fn put_stacks<M: Cells, R: Source<Item = M::Item> + Copy>(
     region: Region,
     side: usize,
 ) -> M {
+    let row = region.row_start + in_blocks(region.rows(), side);
+    let col = region.col_start + in_blocks(region.cols(), side);
+    let (top, below) = region.cut_rows(row);
+    let (blocks, right) = top.cut_cols(col);
+    let out = put_blocks(out, matrix, blocks, side);
+    let out = put_rest(out, matrix, right);
+    put_rest(out, matrix, below)
+}
+
+/// The number of rows or columns in whole blocks, if there are `all` rows or columns.
+///
+/// # Contract
+///
+/// ```text
+/// requires some_side { 0 < side }
+/// ensures whole { result % side ≡ 0 }
+/// ensures inside { result ≤ all }
+/// ensures all { all < result + side }
+/// ```
+#[inline(always)]
+fn in_blocks(all: usize, side: usize) -> usize {
+    all / side * side
+}
+
+/// Puts a region of whole blocks stack after stack, from left to right.
+///
+/// # Contract
+///
+/// ```text
+/// requires some_side { 0 < side }
+/// requires whole_rows { rows_of region % side ≡ 0 }
+/// requires whole_cols { cols_of region % side ≡ 0 }
+/// requires ready { IsReady region matrix.width matrix.height
+///     (R.items matrix.source) (M.items out) }
+/// ensures transposed { IsRegionTransposed region matrix.width matrix.height
+///     (R.items matrix.source) (M.items out) (M.items result) }
+/// ensures holder { M.same_holder (items_of region) out result }
+/// ```
+#[inline(always)]
+fn put_blocks<M: Cells, R: Source<Item = M::Item> + Copy>(
+    out: M,
+    matrix: Matrix<R>,
+    region: Region,
+    side: usize,
+) -> M {
     let mut out = out;
-    let mut col = region.col_start;
-    while col < region.col_end {
-        let end = region.col_end.min(col.saturating_add(side));
-        out = put_stack(out, matrix, region.with_cols(col, end), side);
-        col = end;
+    for k in 0..region.cols() / side {
+        let col = region.col_start + k * side;
+        out = put_stack(out, matrix, region.with_cols(col, col + side), side);
     }
     out
 }
 
-/// The number of blocks of a stack: as many as fit below each other. If the last stack of a strip
-/// has fewer columns than a block, it has none.
+/// Puts a stack block after block, from top to bottom.
 ///
 /// # Contract
 ///
 /// ```text
 /// requires some_side { 0 < side }
-/// requires rows_in_order { region.row_start ≤ region.row_end }
-/// requires cols_in_order { region.col_start ≤ region.col_end }
-/// ensures rows { result * side ≤ rows_of region }
-/// ensures cols { 0 < result → cols_of region ≡ side }
-/// ensures all { cols_of region ≡ side → rows_of region < (result + 1) * side }
-/// ```
-#[inline(always)]
-fn blocks_of(region: Region, side: usize) -> usize {
-    if region.cols() == side {
-        region.rows() / side
-    } else {
-        0
-    }
-}
-
-/// Puts a stack: its blocks from top to bottom, and then the rows below them column after column.
-///
-/// # Contract
-///
-/// ```text
-/// requires some_side { 0 < side }
+/// requires whole_rows { rows_of region % side ≡ 0 }
+/// requires cols { cols_of region ≡ side }
 /// requires ready { IsReady region matrix.width matrix.height
 ///     (R.items matrix.source) (M.items out) }
 /// ensures transposed { IsRegionTransposed region matrix.width matrix.height
@@ -287,18 +339,16 @@ fn put_stack<M: Cells, R: Source<Item = M::Item> + Copy>(
     region: Region,
     side: usize,
 ) -> M {
-    let blocks = blocks_of(region, side);
     let mut out = out;
-    for k in 0..blocks {
+    for k in 0..region.rows() / side {
         let row = region.row_start + k * side;
         let block = region.with_rows(row, row + side);
         out = put_block(out, matrix, block.with_known_sides(side, side));
     }
-    let row = region.row_start + blocks * side;
-    put_rest(out, matrix, region.with_rows(row, region.row_end))
+    out
 }
 
-/// Puts a region column after column. It may have no rows.
+/// Puts a region column after column. It may have no items.
 ///
 /// # Contract
 ///
@@ -315,10 +365,32 @@ pub(crate) fn put_rest<M: Cells, R: Source<Item = M::Item> + Copy>(
     matrix: Matrix<R>,
     region: Region,
 ) -> M {
-    if region.row_start < region.row_end {
-        return put_columns(out, matrix, region);
+    if region.row_start < region.row_end && region.col_start < region.col_end {
+        return put_columns_apart(out, matrix, region);
     }
     out
+}
+
+/// Does the same as [`put_columns`]. It is not inlined, so that its loops take no registers from those
+/// over blocks.
+///
+/// # Contract
+///
+/// ```text
+/// requires some_rows { region.row_start < region.row_end }
+/// requires ready { IsReady region matrix.width matrix.height
+///     (R.items matrix.source) (M.items out) }
+/// ensures transposed { IsRegionTransposed region matrix.width matrix.height
+///     (R.items matrix.source) (M.items out) (M.items result) }
+/// ensures holder { M.same_holder (items_of region) out result }
+/// ```
+#[inline(never)]
+fn put_columns_apart<M: Cells, R: Source<Item = M::Item> + Copy>(
+    out: M,
+    matrix: Matrix<R>,
+    region: Region,
+) -> M {
+    put_columns(out, matrix, region)
 }
 
 /// Puts a block in the holder's own way.

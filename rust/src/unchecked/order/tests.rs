@@ -1,6 +1,7 @@
 //! Tests in which order a matrix is put, and the order of the puts for the strips that only this package chooses.
 
 use core::marker::PhantomData;
+use core::ops::Range;
 use std::vec::Vec;
 
 use super::*;
@@ -69,12 +70,12 @@ fn blocks_of_small_items() {
             "{width} by {height}"
         );
         assert_eq!(
-            is_in::<u32>(Strips::high(4), width, height),
+            is_in::<u32>(Strips::high(SIDE), width, height),
             turns,
             "{width} by {height}"
         );
         assert_eq!(
-            is_in::<u64>(Strips::high(LONG_ITEMS_SIDE), width, height),
+            is_in::<u64>(Strips::high(SIDE), width, height),
             turns,
             "{width} by {height}"
         );
@@ -91,11 +92,13 @@ fn blocks_of_small_items() {
             "{width} by {height}"
         );
         assert_eq!(
-            is_in::<u32>(Strips::high(4), width, height),
+            is_in::<u32>(Strips::high(SIDE), width, height),
             turns,
             "{width} by {height}"
         );
-        assert!(is_by_shape::<u64>(width, height), "{width} by {height}");
+        // On aarch64, all matrices of items of 8 bytes are put by blocks.
+        let by_shape = !(IS_AARCH64 && turns);
+        assert_eq!(is_by_shape::<u64>(width, height), by_shape, "{width} by {height}");
     }
 }
 
@@ -174,21 +177,26 @@ impl Cells for Noted {
     }
 }
 
-/// The column and the row of each item, in the order of strips by blocks of `side` rows and columns. At most 128 rows
-/// are put at a time. Of such a strip, `side` columns are put at a time: blocks as long as so many rows are left, each of
-/// them column after column, and then the rest column after column. So are the columns that fill no block.
+/// The column and the row of each item of a region, column after column.
+fn by_columns(rows: Range<usize>, cols: Range<usize>) -> impl Iterator<Item = (usize, usize)> {
+    cols.flat_map(move |x| rows.clone().map(move |y| (x, y)))
+}
+
+/// The column and the row of each item, in the order of strips by blocks of `side` rows and columns. At most 128 rows are
+/// put at a time: the whole blocks of such a strip, stack after stack and each of them column after column, then the
+/// columns to their right, and then the rows below them.
 fn by_strips_of_blocks(width: usize, height: usize, side: usize) -> Vec<(usize, usize)> {
     let mut places = Vec::new();
-    for (top, left) in (0..height)
-        .step_by(128)
-        .flat_map(|top| (0..width).step_by(side).map(move |left| (top, left)))
-    {
-        let (rows, cols) = (top..height.min(top + 128), left..width.min(left + side));
-        let most = if cols.len() == side { side } else { 128 };
-        for top in rows.clone().step_by(most) {
-            let rows = top..rows.end.min(top + most);
-            places.extend(cols.clone().flat_map(|x| rows.clone().map(move |y| (x, y))));
+    let right = width / side * side;
+    for top in (0..height).step_by(128) {
+        let end = height.min(top + 128);
+        let below = top + (end - top) / side * side;
+        for left in (0..right).step_by(side) {
+            let tops = (top..below).step_by(side);
+            places.extend(tops.flat_map(|top| by_columns(top..top + side, left..left + side)));
         }
+        places.extend(by_columns(top..below, right..width));
+        places.extend(by_columns(below..end, 0..width));
     }
     places
 }

@@ -1,27 +1,21 @@
 -- The columns of the block are put from the first to the last.
-use Rattle.std.proofs.Common.{◌≡◌, ◌+◌, arith}
+use Rattle.std.proofs.Common.{◌≡◌, ◌+◌, ◌*◌, arith}
 use Rattle.p3_util_kernels.proofs.RegistersBlocks.{ColumnsPut-joined, IsBlockPut-whole}
 use Rattle.p3_util_kernels.proofs.registers.put_block.Goals as goal
 
 pub returns-in-4-clause-put : goal.returns-in-4-clause-put
 returns-in-4-clause-put g c =
     let two : c.args.side ≡ 2 = grind (arith, c.requires.known, c.requires.some_side, c.requires.side, c.in-4.is) in
-    let all : 6 + c.args.side ≡ c.args.block.cols = grind (arith, c.requires.known, c.requires.square, two, c.in-4.is) in
-    let join = ColumnsPut-joined c.args.block _ _ c.requires.block in
+    let all : 4 + 2 * c.args.side ≡ c.args.block.cols = grind (arith, c.requires.known, c.requires.square, two, c.in-4.is) in
     IsBlockPut-whole c.args.block _ _ _
-    (join 0 6 c.args.block.cols _ _ _ _ (omega arith) (omega (arith, all))
-    (join 0 4 6 _ _ _ _ (omega arith) (omega arith)
-    (join 0 2 4 _ _ _ _ (omega arith) (omega arith) (rw two at c.put_columns.ensures.put) (rw two at c.put_columns-in-4.ensures.put))
-    (rw two at c.put_columns-in-4-2.ensures.put)) (rw all at c.put_columns-in-4-3.ensures.put))
+    (ColumnsPut-joined c.args.block _ _ c.requires.block 0 4 c.args.block.cols _ _ _ _ (omega arith) (omega (arith, all)) (rw two at c.put_twice.ensures.put) (rw all at c.put_twice-in-4.ensures.put))
 
 pub returns-in-2-clause-put : goal.returns-in-2-clause-put
 returns-in-2-clause-put g c =
-    let all : c.args.side + c.args.side ≡ c.args.block.cols = grind (arith, c.requires.known, c.requires.square, c.requires.some_side, c.requires.side, c.in-2.is) in
-    let first : 0 + c.args.side ≡ c.args.side = omega arith in
-    IsBlockPut-whole c.args.block _ _ _
-    (ColumnsPut-joined c.args.block _ _ c.requires.block 0 c.args.side c.args.block.cols _ _ _ _ (omega arith) (omega (arith, all)) (rw first at c.put_columns-in-2.ensures.put) (rw all at c.put_columns-in-2-2.ensures.put))
+    let all : 0 + 2 * c.args.side ≡ c.args.block.cols = grind (arith, c.requires.known, c.requires.square, c.requires.some_side, c.requires.side, c.in-2.is) in
+    IsBlockPut-whole c.args.block _ _ _ (rw all at c.put_twice-in-2.ensures.put)
 
 pub returns-in_default-clause-put : goal.returns-in_default-clause-put
 returns-in_default-clause-put g c =
     let all : 0 + c.args.side ≡ c.args.block.cols = grind (arith, c.requires.known, c.requires.square, c.requires.some_side, c.requires.side, c.requires.below, c.in_default) in
-    IsBlockPut-whole c.args.block _ _ _ (rw all at c.put_columns-in_default.ensures.put)
+    IsBlockPut-whole c.args.block _ _ _ (rw all at c.put_columns.ensures.put)

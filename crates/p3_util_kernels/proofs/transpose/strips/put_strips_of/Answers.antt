@@ -2,7 +2,7 @@
 use Rattle.std.proofs.Common.{◌≡◌, arith}
 use Rattle.p3_util_kernels.specs.Region.{items_of}
 use Rattle.p3_util_kernels.proofs.RegionLemmas.{IsCut-rows, IsRegionTransposed-cut}
-use Rattle.p3_util_kernels.proofs.transpose.strips.put_strips.Goals as goal
+use Rattle.p3_util_kernels.proofs.transpose.strips.put_strips_of.Goals as goal
 
 pub loop-row-preserved : goal.loop-row-preserved
 loop-row-preserved g c =
