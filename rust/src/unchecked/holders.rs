@@ -14,15 +14,16 @@ use crate::kernels::registers::{self as squares, Register, Runs};
 use crate::kernels::transpose::{Matrix, Order, Region, Strips, lines::Lines};
 
 /// Whether this processor moves unaligned bytes as fast as aligned ones. Otherwise each item is moved as its type says. On
-/// some systems, rustc moves unaligned bytes of aarch64 one by one.
-pub(super) const MOVES_BYTES: bool = cfg!(target_arch = "x86_64")
-    || cfg!(target_arch = "aarch64")
-        && !cfg!(any(
-            target_os = "none",
-            target_os = "hermit",
-            target_os = "nuttx",
-            target_os = "teeos"
-        ));
+/// some systems, rustc moves unaligned bytes of aarch64 one by one. `rust/test` makes a build in which it is false.
+pub(super) const MOVES_BYTES: bool = cfg!(not(unaligned_is_slow))
+    && (cfg!(target_arch = "x86_64")
+        || cfg!(target_arch = "aarch64")
+            && !cfg!(any(
+                target_os = "none",
+                target_os = "hermit",
+                target_os = "nuttx",
+                target_os = "teeos"
+            )));
 
 /// The items of a slice, as places or as cells, for one kernel or for one part.
 ///
