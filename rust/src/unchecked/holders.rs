@@ -341,6 +341,8 @@ impl<'a, T, D: Register<T>> InRegisters<'a, T, D> {
     }
 }
 
+/// Without optimization, a register is on the stack in each function that it goes through. So with debug assertions, those
+/// that use registers have frames of their own.
 impl<T, D: Register<T>> Places for InRegisters<'_, T, D> {
     type Item = T;
 
@@ -362,7 +364,8 @@ impl<T, D: Register<T>> Places for InRegisters<'_, T, D> {
         self.items.exchange_runs(i, j, len);
     }
 
-    #[inline(always)]
+    #[cfg_attr(debug_assertions, inline(never))]
+    #[cfg_attr(not(debug_assertions), inline(always))]
     fn exchange_tiles(&mut self, x: [usize; 8], y: [usize; 8]) {
         match Self::SIDE {
             1 => self.items.exchange_tiles(x, y),
@@ -370,7 +373,8 @@ impl<T, D: Register<T>> Places for InRegisters<'_, T, D> {
         }
     }
 
-    #[inline(always)]
+    #[cfg_attr(debug_assertions, inline(never))]
+    #[cfg_attr(not(debug_assertions), inline(always))]
     fn turn_tile(&mut self, x: [usize; 8]) {
         match Self::SIDE {
             1 => self.items.turn_tile(x),
@@ -396,7 +400,8 @@ impl<T: Copy, D: Register<T>> Cells for InRegisters<'_, T, D> {
         self.items.put(i, v);
     }
 
-    #[inline(always)]
+    #[cfg_attr(debug_assertions, inline(never))]
+    #[cfg_attr(not(debug_assertions), inline(always))]
     fn put_block<R: Source<Item = T>>(&mut self, source: &R, block: Block) {
         let (rows, cols) = (block.rows, block.cols);
         // Whether each column of the block is a whole cache line.
