@@ -147,6 +147,7 @@ fn moves_unwritten<const N: usize>() {
 
 /// Items of each size that has kernels in the package, and of two others.
 #[test]
+#[cfg_attr(debug_assertions, ignore = "only valgrind sees anything here")]
 fn whole_items() {
     macro_rules! of {
         ($($bytes:literal)*) => { $(moves_unwritten::<$bytes>();)* };
