@@ -58,7 +58,8 @@ def references(text):
     types = types_of(text)
     for to, value in re.findall(r"^ +(_\d+) = (.*?)(?: -> .*)?;$", text, re.M):
         of = re.match(r"&(?:mut )?\W*(_\d+)", value)
-        is_made = types.get(of[1], "").startswith("*") if of else not re.match(r"(?:move|copy|const) (?!.*\(Transmute\)$)|[(&]|.*::Some\(", value)
+        is_other = not re.match(r"(?:move|copy|const) (?!.*\(Transmute\)$)|[(&]|.*::Some\(", value)
+        is_made = types.get(of[1], "").startswith("*") if of else is_other
         if is_made and re.match(r"(?:core::option::Option<|\()*&", types.get(to, "")):
             yield re.sub(r"core::(?:option|mem)::", "", types[to])
 
