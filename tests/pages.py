@@ -1,7 +1,8 @@
 """For tests/agree: compares the pages with the code. It checks the functions that blocks of Rust quote, the clauses that
 MODEL names, the numbers in ARCHITECTURE's table and in sentences, lists of sizes, the formulas for parts, each link,
-file and name, and the rows and cells of tables. It also compares the modules with the files, the heads of specs with the
-contracts that use them, and the files that comments of specs and proofs name with those that are there."""
+file and name, and the rows and cells of tables. It also looks for each public function in the tests, in MODEL and in the
+callers. And it compares the modules with the files, the heads of specs with the contracts that use them, and the files that
+comments of specs and proofs name with those that are there."""
 import functools
 import itertools
 import os
@@ -9,7 +10,7 @@ import re
 import subprocess
 
 from contract_list import contracts
-from rattle_source import DEFINITION, comment_above, definition_texts, functions, stood_on
+from rattle_source import DEFINITION, comment_above, declarations, definition_texts, functions, stood_on
 from rattle_source import read as read_source
 
 # Names from std, the original, the kit and the system that pages mention and that no source has.
@@ -25,7 +26,7 @@ TABLE_IS_ABOUT = "rust/|" + LIBRARIES
 TABLE_ROW = r"^\| (`[A-Z_`, ]+`) \| ([\d, ^+]+) \| `([^`]+)` \|.*$"
 # How many lines the tables of a page have. A row that is lost promises less, or hides a difference, and no other check
 # would notice. Whoever adds or removes a row changes the number.
-ROWS = {"docs/MODEL.md": 76, "docs/DIFFERENCES.md": 51, "rust/README.md": 33}
+ROWS = {"docs/MODEL.md": 77, "docs/DIFFERENCES.md": 51, "rust/README.md": 33}
 # Sentences that list sizes in bytes, each with the file that has the sizes, and how they stand there.
 SIZES = {
     "The kernels for items of {} bytes, and for rows": ("rust/src/unchecked/by_size.rs", r"\n +\[([\d ]+)\] \$size"),
@@ -127,16 +128,23 @@ def number(text):
     """The value of a number, or of an expression, in Rust, on a page or in a comment, or None if the text is
     neither."""
     text = {"two": "2", "three": "3", "four": "4", "eight": "8", "sixteen": "16"}.get(text, text).replace("_", "").replace("^", "**")
+    text = re.sub(r"\s([KMG])iB$", lambda unit: f" * 2 ** {10 * ' KMG'.index(unit[1])}", text)
     return eval(text) if re.fullmatch(r"[\d ()<*+-]+", text) else None
 
 
 def constants():
-    """For each constant of the sources, the package and its overlay: its name, file and value."""
+    """For each constant of the sources, the package and its overlay: its name, file and value, or None if the value is not
+    known. Where it depends on `cfg!`, this is the one without that, so not the one for tests or for aarch64. Constants that
+    are not numbers, and those that depend on a type, are left out."""
+    found = []
     for path in tracked:
         if path in sources or re.fullmatch(r"rust/(overlay/)?src/(unchecked/)?\w+\.rs", path):
-            for name, value in re.findall(r"^ *(?:pub(?:\(\w+\))? )?const ([A-Z_]+): \w+ = ([^;]+);", read(path), re.M):
-                if number(value) is not None:
-                    yield name, path, number(value)
+            for name, value in re.findall(r"^ *(?:pub(?:\(\w+\))? )?const ([A-Z_]+): (?!bool)\w+ = ([^;]+);", read(path), re.M):
+                if "size_of" not in value:
+                    found.append((name, path, re.sub(r"if cfg!\(.*?\) \{.*?\} else \{(.*?)\}", r"(\1)", value)))
+    values = {name: value for name, _, value in found}
+    for name, path, value in found:
+        yield name, path, number(re.sub(r"[A-Z_]{2,}", lambda other: values.get(other[0], other[0]), value))
 
 
 def check_table_of_constants(known):
@@ -152,6 +160,8 @@ def check_table_of_constants(known):
                 yield place(page, row.start(), f"{name} is {value} in {row.group(3)}, and the code has "
                             + (", ".join(f"{there} in {path}" for path, there in found) or "no such constant there"))
     for name, path, value in known:
+        if value is None:
+            yield f"{path}: tests/pages.py does not know the value of {name}"
         if re.match(TABLE_IS_ABOUT, path) and (name, path) not in listed:
             yield f"{page}: its table has no row for {name}, which is {value} in {path}"
 
@@ -194,7 +204,7 @@ def check_constants():
     for line in (line for line in read("tests/constants.txt").splitlines() if line and not line.startswith("#")):
         parts, clauses = re.split(r"\{([^}]*)\}", line), {}
         literal = (re.escape(part).replace(r"\ \.\.\ ", r"[^|]{0,60}?\s").replace(r"\ ", r"\s+") for part in parts[::2])
-        pattern = r"(\d[\d_]*(?:\^\d+)?|\w+)".join(literal)
+        pattern = r"(\d[\d_]*(?:\^\d+)?(?:\s[KMG]iB)?|\w+)".join(literal)
         answers = [wanted_number(part, known, clauses) for part in parts[1::2]]
         for name in (name for _, unknown in answers for name in unknown):
             yield f"tests/constants.txt: {name} has no value, or more than one"
@@ -312,6 +322,35 @@ def check_modules():
             yield f"{path}: no file above it has it as a module"
 
 
+def public_functions():
+    """The public functions of the libraries and the public methods of their types: the path, the type or None, and the
+    function. Those of laws.rt say what holds, and do nothing."""
+    for path in (path for path in sources if re.match(r"crates/p3_util(_kernels)?/", path) and not path.endswith("/laws.rt")):
+        for outer in declarations(read_source(path), 0):
+            inner = declarations(outer.body, 4) if outer.kind == "impl" and " for " not in outer.head else []
+            yield from ((path, outer.name(), found) for found in inner if found.kind == "fn" and found.seen_by == "pub")
+            if outer.kind == "fn" and outer.seen_by == "pub":
+                yield path, None, outer
+
+
+def check_functions():
+    """Each public function is in a test of p3_util_vectors or of the package. If it promises anything, MODEL has it, or the
+    type that it is a method of. If it has a precondition, a proved caller has it."""
+    def words(pattern):
+        return {word for path in tracked if re.match(pattern, path) for word in re.findall(r"\w+", read(path))}
+
+    tests = words(r"crates/p3_util_vectors/src/|rust/(tests|src/.*tests)|tests/unproved/")
+    callers, model = words(r"crates/p3_util_callers/src/"), words(r"docs/MODEL\.md")
+    for path, owner, function in public_functions():
+        kinds, name = {title.split(" ")[0] for title, _ in function.clauses}, function.name()
+        if name not in tests:
+            yield f"{path}: no test of crates/p3_util_vectors or of rust/ has {name}"
+        if "ensures" in kinds and not {name, owner} & model:
+            yield f"{path}: docs/MODEL.md does not say what {name} promises"
+        if "requires" in kinds and name not in callers:
+            yield f"{path}: no caller in crates/p3_util_callers has {name}, which has a precondition"
+
+
 def check_specs():
     """If no public contract uses a file of specs/, its first lines say that it serves private ones. Otherwise they do
     not say so. Each definition has a comment above it. In a library, this comment or the file's first lines name the source
@@ -347,5 +386,5 @@ def check_paths_in_comments():
 def wrong():
     """A line for each thing that is wrong."""
     for check in (check_quotations, check_edits, check_clauses, check_constants, check_sizes, check_parts, check_rows,
-                  check_links_and_names, check_tables, check_modules, check_specs, check_paths_in_comments):
+                  check_links_and_names, check_tables, check_modules, check_functions, check_specs, check_paths_in_comments):
         yield from check()

@@ -5,6 +5,7 @@
 tests/agree compares the list with the sources, so each clause, definition or lemma for callers that is removed, that
 promises less or that requires more is a changed line of the list. An axiom or a hole in a proof is not: `rt check` refuses
 both, in any file of specs/ or proofs/."""
+import functools
 import glob
 import re
 import sys
@@ -21,6 +22,7 @@ HEAD = """\
 # Below the name of a source are its contracts. All structs are listed, with their private fields, since a clause or a
 # definition may name them. The lines below an implementation of a trait say what a clause sees of that type. Sources on the
 # parts of a call are listed with the contracts that only their crate sees, because what is proved of parts stands in these.
+# So is whatever the code of the package that is written by hand may name, such as the traits that its holders implement.
 # The crate p3_util_vectors has only tests, so it is listed with its definitions alone. What the root of a crate re-exports,
 # such as `p3_util::NoRoom`, is below its src/lib.rt.
 #
@@ -33,6 +35,8 @@ CRATES = ["p3_util_kernels", "p3_util", "p3_util_run", "p3_util_c", "p3_util_tra
 ONLY_TESTS = {"p3_util_vectors"}
 # In these sources, what only the crate itself sees is listed too.
 PARTS = r"crates/p3_util_kernels/src/parts\b"
+# In this crate, that which these files of the package name is listed too. They are written by hand, and trust its clauses.
+KERNELS, BY_HAND = "crates/p3_util_kernels/", ("rust/src/*.rs", "rust/src/unchecked/*.rs")
 # A file with this name, in a crate's proofs/, names the crate's lemmas for callers.
 LEMMAS = "Callers.antt"
 # The rows of marks and names of std that are too rare for docs/CALLING.md.
@@ -54,30 +58,42 @@ def function(indent, owner, declared):
 def members(outer):
     """What a trait or an implementation of a trait says, without the proofs of its laws."""
     for inner in declarations(outer.body, 4):
-        proves = outer.kind == "impl" and re.match(r"ghost (laws|\w+_(refl|trans)) =", inner.head)
+        proves = outer.kind == "impl" and re.match(r"ghost (laws|full|\w+_(refl|trans)) =", inner.head)
         if inner.kind == "fn" and (inner.clauses or outer.kind == "trait"):
             yield from function(4, "", inner)
         elif inner.kind == "ghost" and not proves or inner.kind == "type" and "=" not in inner.head:
             yield line(4, f"{inner.head} {inner.body}")
 
 
-def is_private(head, text):
-    """Whether a trait is implemented for a type of this file that other crates do not see."""
+@functools.cache
+def named_by_hand():
+    """The names in the package's code that is written by hand, without its tests and comments."""
+    texts = [open(path, encoding="utf-8").read() for pattern in BY_HAND for path in glob.glob(pattern)]
+    return set(re.findall(r"\w+", re.sub(r"//.*", "", "\n".join(texts))))
+
+
+def is_private(head, text, named):
+    """Whether a trait is implemented for a type of this file that other crates do not see, and that is not one of these."""
     name = re.search(r" for (?:&mut |&)?(\w+)", head)
-    return bool(name and re.search(rf"^(?:pub\(crate\) )?(?:struct|enum) {name[1]}\b", text, re.M))
+    return bool(name and re.search(rf"^(?:pub\(crate\) )?(?:struct|enum) {name[1]}\b", text, re.M)) and name[1] not in named
 
 
-def contracts(text, seen_by=("pub",)):
-    """The contracts of a source that these see, and all its structs and enums, since a definition may use any of them."""
+def contracts(text, seen_by=("pub",), named=frozenset()):
+    """The contracts of a source that these see, or that have one of these names and are not private. Also all its structs and
+    enums, since a definition may use any of them."""
+
+    def is_listed(found):
+        return found.seen_by in seen_by or found.seen_by == "pub(crate)" and found.name() in named
+
     for outer in declarations(text, 0):
         if outer.kind == "impl" and " for " not in outer.head:
             for inner in declarations(outer.body, 4):
-                if inner.kind == "fn" and inner.seen_by in seen_by:
+                if inner.kind == "fn" and is_listed(inner):
                     yield from function(2, f"{outer.name()}::", inner)
         elif outer.kind == "impl":
-            if not is_private(outer.head, text) and (said := list(members(outer))):
+            if not is_private(outer.head, text, named) and (said := list(members(outer))):
                 yield from [line(2, outer.head), *said]
-        elif outer.seen_by not in seen_by and outer.kind not in ("struct", "enum"):
+        elif not is_listed(outer) and outer.kind not in ("struct", "enum"):
             continue
         elif outer.kind == "fn":
             yield from function(2, "", outer)
@@ -95,7 +111,8 @@ def listed(path, named=None):
     if path.endswith(".rt"):
         exported = re.findall(r"^pub use [^;]*;", source, re.M) if path.endswith("/src/lib.rt") else []
         lines = [line(2, re.sub(r"(?<={)\s+|,?\s+(?=})", "", said)) for said in exported]
-        lines += contracts(source, ("pub", "pub(crate)") if re.match(PARTS, path) else ("pub",))
+        seen_by = ("pub", "pub(crate)") if re.match(PARTS, path) else ("pub",)
+        lines += contracts(source, seen_by, named_by_hand() if path.startswith(KERNELS) else frozenset())
     elif "/proofs/" in path:
         lines = [f"  {said}" for said in statements(source, named)]
     else:

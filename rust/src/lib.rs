@@ -264,7 +264,7 @@ pub fn reverse_slice_row_index_bits<F>(vals: &mut [F], row_width: usize) {
 fn refuse_rows(len: usize, row_width: usize) -> ! {
     match row_width {
         0 => panic!("length {len} is not zero, and a row has no items"),
-        1 => panic!("length {len} is neither zero nor a power of two"),
+        1 => refuse_items(len),
         _ => panic!("length {len} is not {row_width} times zero or a power of two"),
     }
 }

@@ -414,7 +414,10 @@ fn exchange_by_plan<const N: usize, const WIDTH: usize>(rows: &mut [[[u8; N]; WI
         0
     };
     let plan = |places, width| ReversalPlan::new(places, width, parts_of_side(asked), one_part);
-    let moves_rows = cfg!(any(target_arch = "x86_64", target_arch = "aarch64"));
+    let moves_rows = cfg!(all(
+        any(target_arch = "x86_64", target_arch = "aarch64"),
+        not(unaligned_is_slow)
+    ));
     if moves_rows && matches!(N * WIDTH, 1 | 2 | 4 | 8 | 12 | 16 | 20 | 32 | 64) {
         let _ = plan(rows.len(), 1).exchange(SlicePlaces::new(rows), number);
     } else {

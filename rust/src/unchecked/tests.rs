@@ -9,7 +9,9 @@ use std::num::NonZero;
 use std::vec::Vec;
 
 #[cfg(not(feature = "checked"))]
-use super::holders::{Bytes, InRegisters};
+use super::bytes::Bytes;
+#[cfg(not(feature = "checked"))]
+use super::holders::InRegisters;
 #[cfg(not(feature = "checked"))]
 use super::registers::{self, Items};
 use super::{SliceCells, SlicePlaces, SliceSource};
@@ -94,7 +96,8 @@ macro_rules! of_each_holder {
             $statement;
         }
         #[cfg(not(feature = "checked"))]
-        of_each_holder!(@ $item, $hold => $statement, 1: Of<1>, 2: Pair<Of<2>>, 4: Pair<Of<4>>, 8: Pair<Of<8>>);
+        of_each_holder!(@ $item, $hold => $statement,
+            1: Of<1>, 2: Pair<Of<2>>, 4: Pair<Of<4>>, 8: Pair<Of<8>>, 16: Two<Whole>);
     }};
     (@ $item:ty, $hold:ident => $statement:expr, $($bytes:literal: $rows:ty),*) => {
         match size_of::<$item>() {
@@ -427,6 +430,47 @@ fn blocks() {
     }
 }
 
+/// A list that begins where a cache line does.
+#[repr(align(64))]
+struct Aligned<T>([T; 600]);
+
+/// Puts blocks of whole cache lines, and blocks that differ from those by an item or two: in the first cell, in the distance of
+/// two columns, or in the number of rows.
+fn puts_near_lines<T: Copy + PartialEq, H: for<'a> HoldCells<'a, T>>(item: impl Fn(usize) -> T) {
+    let line = 64 / size_of::<T>();
+    let source: Vec<T> = (0..600).map(&item).collect();
+    for (to, height) in (0..=line + 1).flat_map(|to| (2 * line - 2..=2 * line + 2).map(move |height| (to, height))) {
+        for (rows, cols) in [line, line - 1, line + 1]
+            .into_iter()
+            .flat_map(|rows| [(rows, rows), (rows, 1), (rows, 2)])
+        {
+            let (from, width) = (3, line + 3);
+            let mut cells = Aligned([item(999); 600]);
+            let block = Block {
+                rows,
+                cols,
+                from,
+                width,
+                to,
+                height,
+            };
+            H::hold_cells(&mut cells.0).put_block(&SliceSource::new(&source), block);
+            let mut wanted = [item(999); 600];
+            for (r, c) in (0..rows).flat_map(|r| (0..cols).map(move |c| (r, c))) {
+                wanted[to + c * height + r] = source[from + r * width + c];
+            }
+            assert!(cells.0 == wanted, "{rows} by {cols} to {to}, {height} apart");
+        }
+    }
+}
+
+#[test]
+fn blocks_near_lines() {
+    of_each_holder!(u32, Holder => puts_near_lines::<u32, Holder>(|i| i as u32));
+    of_each_holder!(u64, Holder => puts_near_lines::<u64, Holder>(|i| i as u64));
+    of_each_holder!(u128, Holder => puts_near_lines::<u128, Holder>(|i| i as u128));
+}
+
 /// Whether a matrix of the items that `item` makes is transposed as defined, both by blocks and by the strips that a
 /// call chooses.
 fn is_transposed<T: Copy + PartialEq + 'static>(width: usize, height: usize, item: impl Fn(usize) -> T) -> bool {
@@ -534,7 +578,8 @@ fn shuffles() {
         assert_eq!(list, [second, first].concat());
     }
 
-    let has_registers = cfg!(target_arch = "x86_64") || cfg!(all(target_arch = "aarch64", target_endian = "little"));
+    let has_registers = cfg!(not(unaligned_is_slow))
+        && (cfg!(target_arch = "x86_64") || cfg!(all(target_arch = "aarch64", target_endian = "little")));
     assert_eq!(USES_REGISTERS, has_registers && cfg!(not(miri)));
     if USES_REGISTERS {
         compare::<1>();
@@ -546,6 +591,9 @@ fn shuffles() {
 
 #[cfg(all(target_os = "linux", not(miri), not(feature = "checked")))]
 mod guarded;
+
+#[cfg(not(any(miri, feature = "checked")))]
+mod handed_over;
 
 #[cfg(not(feature = "checked"))]
 mod lines;
@@ -743,7 +791,11 @@ fn places_of_parts() {
         let mut list = [[0u8; N]; 64];
         super::parts_of_reversal(&mut list, row_width, 1, 0).unwrap().plan.place
     }
-    if cfg!(feature = "checked") || cfg!(not(any(target_arch = "x86_64", target_arch = "aarch64"))) {
+    let moves_bytes = cfg!(all(
+        any(target_arch = "x86_64", target_arch = "aarch64"),
+        not(unaligned_is_slow)
+    ));
+    if cfg!(feature = "checked") || !moves_bytes {
         assert_eq!([place::<0>(2), place::<3>(4), place::<4>(4)], [1, 3, 4]);
         return;
     }

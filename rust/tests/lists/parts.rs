@@ -274,6 +274,26 @@ fn debug_shows_numbers() {
     assert_eq!(format!("{:?}", parts.next().unwrap()), "ReversalPart { number: 0 }");
 }
 
+/// Asserts what `Debug` shows of parts and of each of them, while one after the other is taken.
+fn check_debug<P: Debug>(name: &str, mut parts: impl ExactSizeIterator<Item = P> + Debug) {
+    let count = parts.len();
+    for number in 0..count {
+        assert_eq!(format!("{parts:?}"), format!("{name}s {{ left: {} }}", count - number));
+        let part = parts.next().unwrap();
+        assert_eq!(format!("{part:?}"), format!("{name} {{ number: {number} }}"));
+        assert_eq!(format!("{part:#?}"), format!("{name} {{\n    number: {number},\n}}"));
+    }
+    assert_eq!(format!("{parts:?}"), format!("{name}s {{ left: 0 }}"));
+}
+
+#[test]
+fn debug_of_parts_that_are_partly_taken() {
+    let (input, mut output) = ([3u8; 96], [0; 96]);
+    check_debug("TransposePart", transpose(&input, &mut output, 96, 1, 4));
+    let mut list = vec![7u8; 1 << 17];
+    check_debug("ReversalPart", reversal(&mut list, 3));
+}
+
 /// A call that gives parts, and each part, must not be dropped silently. The compiler warns of each statement, as the
 /// attribute above the statement expects.
 #[test]

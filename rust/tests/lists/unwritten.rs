@@ -1,8 +1,10 @@
-//! Items that have bytes which were never written: padding, the payload of `None`, and half of a `MaybeUninit`.
-//! `rust/test` also runs these tests under valgrind, which reports a result that depends on such a byte.
+//! Items that have bytes which were never written: padding, the payload of `None`, half of a `MaybeUninit`, and all bytes.
+//! `rust/test` also runs these tests under valgrind, which reports each branch, each address and each result that depends on
+//! such a byte.
 
 use std::mem::MaybeUninit;
 
+use p3_util_proved::parts::{self, ReversalPart, TransposePart};
 use p3_util_proved::transpose::transpose;
 use p3_util_proved::{reverse_slice_index_bits, reverse_slice_row_index_bits};
 
@@ -99,4 +101,56 @@ fn halves() {
         );)* };
     }
     of!(u16, u8; u32, u16; u64, u32; u128, u64);
+}
+
+/// Calls `call` with `len` items of `N` bytes, of which none was ever written.
+fn with_unwritten<const N: usize>(len: usize, call: impl FnOnce(&mut [MaybeUninit<[u8; N]>])) {
+    call(&mut Vec::with_capacity(len).spare_capacity_mut()[..len]);
+}
+
+/// Reverses and transposes unwritten items, as a whole and in parts. Nothing that these calls do depends on an item, so
+/// valgrind reports nothing.
+fn moves_unwritten<const N: usize>() {
+    for (bits, width) in [(0, 1), (1, 1), (6, 1), (9, 1), (17, 1), (3, 2), (5, 8), (4, 3), (15, 5)] {
+        with_unwritten::<N>(width << bits, |items| {
+            reverse_slice_row_index_bits(items, width);
+            parts::row_reversal(items, width, 2).for_each(ReversalPart::run);
+            if width == 1 {
+                reverse_slice_index_bits(items);
+                parts::reversal(items, 2).for_each(ReversalPart::run);
+            }
+        });
+    }
+    let small = [
+        (1, 9),
+        (2, 3),
+        (8, 8),
+        (16, 16),
+        (17, 19),
+        (40, 64),
+        (64, 130),
+        (300, 180),
+    ];
+    // Lists of 16 MiB are put past the caches.
+    let large = matches!(N, 4 | 8 | 16)
+        .then_some((1 << 24) / N / 1024)
+        .map(|width| (width, 1024));
+    for (width, height) in small.into_iter().chain(large) {
+        with_unwritten::<N>(width * height, |input| {
+            with_unwritten::<N>(width * height, |output| {
+                transpose(input, output, width, height);
+                parts::transpose(input, output, width, height, 3).for_each(TransposePart::run);
+            });
+        });
+    }
+}
+
+/// Items of each size that has kernels in the package, and of two others.
+#[test]
+#[cfg_attr(debug_assertions, ignore = "only valgrind sees anything here")]
+fn whole_items() {
+    macro_rules! of {
+        ($($bytes:literal)*) => { $(moves_unwritten::<$bytes>();)* };
+    }
+    of!(1 2 3 4 8 12 16 20 32 40 64);
 }

@@ -6,14 +6,11 @@ use p3_util_proved::*;
 
 use crate::refusal::{Refusal, panics, refusal, text_of_transpose};
 
-/// Asserts that a call panics with the original's full text, as a build of the original with debug assertions prints
-/// it. The panic names the caller's file.
-fn check_text(call: fn(), original: &str) {
+/// Asserts that a call panics with this full text, which begins with that of a build of the original with debug
+/// assertions. The panic names the caller's file.
+fn check_text(call: fn(), original: &str, and_more: &str) {
     let refused = refusal(call).unwrap();
-    assert!(
-        refused.text.contains(original),
-        "{refused:?} does not contain {original:?}"
-    );
+    assert_eq!(refused.text, format!("{original}{and_more}"));
     assert_eq!(refused.file, file!(), "{original:?}");
 }
 
@@ -27,8 +24,6 @@ fn texts_of_the_original() {
             || _ = log3_strict_usize(6),
             "log3_strict_usize: input is not a power of 3",
         ),
-        (|| reverse_slice_index_bits(&mut [0u8; 6]), "Not a power of two"),
-        (|| reverse_slice_index_bits(&mut [(); 6]), "Not a power of two"),
         (
             || transpose(&[0u8; 5], &mut [0; 6], 3, 2),
             "assertion `left == right` failed: Input length 5 doesn't match width*height = 6\n  left: 5\n right: 6",
@@ -51,16 +46,38 @@ fn texts_of_the_original() {
         ),
     ];
     for (call, original) in cases {
-        check_text(*call, original);
+        check_text(*call, original, "");
+    }
+    let reversals: [fn(); 3] = [
+        || reverse_slice_index_bits(&mut [0u8; 6]),
+        || reverse_slice_index_bits(&mut [(); 6]),
+        || reverse_slice_row_index_bits(&mut [0u8; 6], 1),
+    ];
+    for call in reversals {
+        check_text(call, "Not a power of two", ": 6 items");
     }
 }
 
-/// The panic texts of the call for rows, which the original does not have.
+/// The text names the length of the list. Rows of one item are refused as the items are.
+#[test]
+fn texts_of_all_lengths() {
+    for len in 0..70 {
+        let fits = len == 0 || usize::is_power_of_two(len);
+        let wanted = (!fits).then(|| format!("Not a power of two: {len} items"));
+        let (mut list, mut rows) = (vec![0u16; len], vec![0u32; len]);
+        let refused = refusal(|| reverse_slice_index_bits(&mut list));
+        assert_eq!(refused.map(|it| it.text), wanted);
+        let refused = refusal(|| reverse_slice_row_index_bits(&mut rows, 1));
+        assert_eq!(refused.map(|it| it.text), wanted);
+    }
+}
+
+/// The panic texts of the call for longer rows, which the original does not have.
 #[test]
 fn texts_of_rows() {
     let cases: &[(usize, &str)] = &[
         (2, "length 6 is not 2 times zero or a power of two"),
-        (1, "length 6 is neither zero nor a power of two"),
+        (4, "length 6 is not 4 times zero or a power of two"),
         (0, "length 6 is not zero, and a row has no items"),
     ];
     for (row_width, wanted) in cases {
@@ -73,10 +90,11 @@ fn texts_of_rows() {
 #[test]
 fn digits_by_other_numbers() {
     if cfg!(debug_assertions) {
-        check_text(|| _ = reverse_bits(1, 6), "assertion failed: n.is_power_of_two()");
+        check_text(|| _ = reverse_bits(1, 6), "assertion failed: n.is_power_of_two()", "");
         check_text(
             || _ = reverse_bits_len(1, 65),
             "assertion failed: bit_len <= usize::BITS as usize",
+            "",
         );
     } else {
         let by_len =

@@ -1,5 +1,6 @@
-//! How much stack the calls and their parts need. In a build without optimization, an item that is passed on is on the
-//! stack, so such a build gets room for three copies of an item. A release build gets as little as a thread can have.
+//! How much stack the calls and their parts need. A release build gets as little as a thread can have. In a build without
+//! optimization, an item that is passed on is on the stack, so such a build gets room for three copies of an item. Small
+//! items go through vector registers, of which it has many copies, so for these it gets more.
 
 #[path = "../package/common.rs"]
 mod common;
@@ -15,26 +16,31 @@ const LEAST: usize = 1 << 16;
 
 /// The stack for a call on items of this many bytes.
 const fn stack_for(size: usize) -> usize {
-    if cfg!(debug_assertions) {
-        LEAST + 3 * size
-    } else {
-        LEAST
+    match size {
+        _ if cfg!(not(debug_assertions)) => LEAST,
+        ..=64 => SMALL,
+        _ => LEAST + 3 * size,
     }
 }
 
-/// This many items of `SIZE` bytes, each with its number in its first bytes. They are filled in place.
+/// The stack for small items in a build without optimization.
+const SMALL: usize = 2 * LEAST;
+
+/// An item of `SIZE` bytes with this number in its first bytes, as far as it has room.
+fn item<const SIZE: usize>(number: usize) -> [u8; SIZE] {
+    let (mut item, len) = ([0; SIZE], SIZE.min(8));
+    item[..len].copy_from_slice(&number.to_le_bytes()[..len]);
+    item
+}
+
+/// This many items of `SIZE` bytes, each with its number.
 fn numbered<const SIZE: usize>(len: usize) -> Vec<[u8; SIZE]> {
-    let mut items = vec![[0; SIZE]; len];
-    for (number, item) in items.iter_mut().enumerate() {
-        item[..8].copy_from_slice(&number.to_le_bytes());
-    }
-    items
+    (0..len).map(item).collect()
 }
 
-/// The numbers of these items.
-fn numbers<const SIZE: usize>(items: &[[u8; SIZE]]) -> Vec<usize> {
-    let number = |item: &[u8; SIZE]| usize::from_le_bytes(item[..8].try_into().unwrap());
-    items.iter().map(number).collect()
+/// Whether these items have these numbers.
+fn have<const SIZE: usize>(items: &[[u8; SIZE]], numbers: impl IntoIterator<Item = usize>) -> bool {
+    items.iter().copied().eq(numbers.into_iter().map(item))
 }
 
 /// Makes a call on a thread with a small stack. If it needs more, the test program is aborted.
@@ -45,25 +51,38 @@ fn on_a_small_stack<const SIZE: usize>(call: impl FnOnce() + Send) {
     });
 }
 
-fn check_transposes<const SIZE: usize>() {
-    for (width, height) in [(2, 3), (5, 1), (1, 5), (8, 8), (16, 16), (20, 17)] {
+fn check_transposes<const SIZE: usize>(more: &[(usize, usize)]) {
+    let shapes = [(2, 3), (5, 1), (1, 5), (8, 8), (16, 16), (20, 17)];
+    for (width, height) in shapes.into_iter().chain(more.iter().copied()) {
         let input = numbered::<SIZE>(width * height);
         let mut output = numbered::<SIZE>(width * height);
         on_a_small_stack::<SIZE>(|| transpose(&input, &mut output, width, height));
         let wanted = (0..width * height).map(|place| transposed(width, height, place));
-        assert!(numbers(&output).into_iter().eq(wanted.clone()), "{width} by {height}");
+        assert!(have(&output, wanted.clone()), "{width} by {height}");
         output.reverse();
         on_a_small_stack::<SIZE>(|| {
             parts::transpose(&input, &mut output, width, height, 3).for_each(|part| part.run())
         });
-        assert!(numbers(&output).into_iter().eq(wanted), "{width} by {height}, in parts");
+        assert!(have(&output, wanted), "{width} by {height}, in parts");
     }
 }
 
 #[test]
 fn transposes_of_large_items() {
-    check_transposes::<{ 1 << 10 }>();
-    check_transposes::<{ 1 << 16 }>();
+    check_transposes::<{ 1 << 10 }>(&[]);
+    check_transposes::<{ 1 << 16 }>(&[]);
+}
+
+/// The last of the lists of 4, 8 and 16 bytes has 16 MiB, and is put past the caches.
+#[test]
+fn transposes_of_small_items() {
+    let more = [(64, 64), (100, 130), (300, 180)];
+    check_transposes::<1>(&more);
+    check_transposes::<2>(&more);
+    check_transposes::<4>(&[more.as_slice(), &[(4096, 1024)]].concat());
+    check_transposes::<8>(&[more.as_slice(), &[(2048, 1024)]].concat());
+    check_transposes::<16>(&[more.as_slice(), &[(1024, 1024)]].concat());
+    check_transposes::<32>(&more);
 }
 
 /// With the feature `checked` in a release build, std's `swap` makes the exchanges, and it does need room for one item.
@@ -72,19 +91,16 @@ mod reversals {
     use p3_util_proved::{parts, reverse_slice_index_bits, reverse_slice_row_index_bits};
 
     use super::common::reversed;
-    use super::{numbered, numbers, on_a_small_stack};
+    use super::{have, numbered, on_a_small_stack};
 
-    fn check_reversals<const SIZE: usize>() {
-        for bits in [1, 4, 7, 8] {
+    fn check_reversals<const SIZE: usize>(more: &[u32]) {
+        for bits in [1, 4, 7, 8].into_iter().chain(more.iter().copied()) {
             let mut items = numbered::<SIZE>(1 << bits);
             on_a_small_stack::<SIZE>(|| reverse_slice_index_bits(&mut items));
             let wanted = (0..1 << bits).map(|place| reversed(bits, place));
-            assert!(numbers(&items).into_iter().eq(wanted), "2^{bits} items of {SIZE} bytes");
+            assert!(have(&items, wanted), "2^{bits} items of {SIZE} bytes");
             on_a_small_stack::<SIZE>(|| parts::reversal(&mut items, 3).for_each(|part| part.run()));
-            assert!(
-                numbers(&items).into_iter().eq(0..1 << bits),
-                "2^{bits} items of {SIZE} bytes, in parts"
-            );
+            assert!(have(&items, 0..1 << bits), "2^{bits} items of {SIZE} bytes, in parts");
         }
     }
 
@@ -97,9 +113,9 @@ mod reversals {
                 on_a_small_stack::<SIZE>(|| reverse_slice_row_index_bits(&mut items, width));
                 let wanted = (0..width << bits).map(|place| reversed(bits, place / width) * width + place % width);
                 let name = format!("2^{bits} rows of {width} items of {SIZE} bytes");
-                assert!(numbers(&items).into_iter().eq(wanted), "{name}");
+                assert!(have(&items, wanted), "{name}");
                 on_a_small_stack::<SIZE>(|| parts::row_reversal(&mut items, width, 3).for_each(|part| part.run()));
-                assert!(numbers(&items).into_iter().eq(0..width << bits), "{name}, in parts");
+                assert!(have(&items, 0..width << bits), "{name}, in parts");
             }
         }
     }
@@ -108,11 +124,23 @@ mod reversals {
     fn reversals_of_large_items() {
         #[cfg(debug_assertions)]
         {
-            check_reversals::<{ 1 << 10 }>();
-            check_reversals::<{ 1 << 12 }>();
-            check_reversals::<{ 1 << 14 }>();
+            check_reversals::<{ 1 << 10 }>(&[]);
+            check_reversals::<{ 1 << 12 }>(&[]);
+            check_reversals::<{ 1 << 14 }>(&[]);
         }
-        check_reversals::<{ 1 << 16 }>();
+        check_reversals::<{ 1 << 16 }>(&[]);
+    }
+
+    /// Parts are cut from 2^17 items on.
+    #[test]
+    fn reversals_and_rows_of_small_items() {
+        macro_rules! check {
+            ($($bytes:literal)*) => { $(
+                check_reversals::<$bytes>(&[12, 17]);
+                check_rows::<$bytes>();
+            )* };
+        }
+        check!(1 2 4 8 16 32);
     }
 
     #[test]

@@ -165,6 +165,32 @@ where
         cells.check(|run, k| (k, run));
         source.check(|run, k| (run, k));
     }
+    if let 4 | 8 | 16 = N {
+        columns_off_a_line::<N, H>(ends_with_page);
+    }
+}
+
+/// Puts single columns that are no whole cache line. They are put item by item, so no item to the right of one is read.
+fn columns_off_a_line<const N: usize, H: for<'a> HoldCells<'a, [u8; N]>>(ends_with_page: bool) {
+    let line = 64 / N;
+    for (rows, to) in (1..line).map(|to| (line, to)).chain([(line - 1, 0), (line + 1, 0)]) {
+        let mut source = Runs::<N>::new(rows + 1, 1, ends_with_page);
+        let mut cells = Runs::<N>::new(1, 2 * line, false);
+        let (cols, from, width, height) = (1, 0, GAP, 2 * line);
+        let block = Block {
+            rows,
+            cols,
+            from,
+            width,
+            to,
+            height,
+        };
+        H::hold_cells(cells.list()).put_block(&SliceSource::new(source.list()), block);
+        cells.check(|_, k| match k.checked_sub(to) {
+            Some(row) if row < rows => (row, 0),
+            _ => (0, k),
+        });
+    }
 }
 
 /// Puts a block of whole cache lines past the caches, and a single column of it, of which each row is read from the column on.

@@ -118,33 +118,3 @@ fn padding_and_pointers() {
     transposes([40, 64], [1, 3], 3, |number| (number as u8, number as u32));
     transposes([40, 64], [1, 3], 3, |number| (number % 3 > 0).then_some(number as u16));
 }
-
-/// A part that runs on a thread is seen as a whole after the thread was joined.
-#[test]
-fn parts_are_seen_after_a_join() {
-    for round in 0..if cfg!(miri) { 2 } else { 100 } {
-        let (width, height) = (64 + round, 64);
-        let input: Vec<u64> = (0..width * height).map(|number| number as u64 + round as u64).collect();
-        let mut output = std::vec![0; input.len()];
-        let mut parts = parts_of_transpose(&input, &mut output, width, height, 4).unwrap();
-        std::thread::scope(|scope| {
-            while let Some(part) = parts.split_first() {
-                scope.spawn(|| part.put());
-            }
-        });
-        let wanted = |place: usize| input[place % height * width + place / height];
-        let pieces = output.chunks(output.len() / 3).enumerate();
-        std::thread::scope(|scope| {
-            for (piece, items) in pieces {
-                let first = piece * (width * height / 3);
-                scope.spawn(move || {
-                    let wanted = items
-                        .iter()
-                        .enumerate()
-                        .all(|(place, got)| *got == wanted(first + place));
-                    assert!(wanted, "{width} by {height}");
-                });
-            }
-        });
-    }
-}
