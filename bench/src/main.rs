@@ -6,6 +6,7 @@ mod call;
 mod cases;
 mod counts;
 mod items;
+mod iterators;
 #[cfg(library)]
 mod library;
 mod measure;
@@ -45,6 +46,9 @@ fn run(options: &Options) -> Result<(), String> {
     let _busy = Busy::start(options.busy)?;
     if options.words {
         return words::run(options);
+    }
+    if options.iterators {
+        return iterators::run(options);
     }
     let cases = cases::chosen(options);
     let Some(took) = measured(&cases, options)? else {
