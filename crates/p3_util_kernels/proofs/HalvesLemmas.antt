@@ -17,13 +17,6 @@ lev-of_region region width height lies wide tall fits =
     let items = mul-le (rows_of region) (cols_of region) height width (omega (arith, lies)) (omega (arith, lies)) in
     lev_le (rows_of region) (cols_of region) (omega (arith, lies)) (omega (arith, lies)) (omega (arith, items, mul_comm width height))
 
--- 64 levels are enough for a whole matrix
-pub lev-of_whole : (whole : Region) (width height : ℕ) → whole ≡ record { row_start = 0; row_end = height; col_start = 0; col_end = width }
-    → width < 2 ^ 64 → height < 2 ^ 64 → width * height < 2 ^ 64 → lev (rows_of whole) (cols_of whole) ≤ 64
-lev-of_whole whole width height is wide tall fits =
-    let lies : LiesInMatrix whole width height = rw is (grind arith) in
-    omega (arith, lev-of_region whole width height lies wide tall fits)
-
 -- A side above 128 in two parts: its half, rounded down, and the rest of it.
 halves : (side half rest : ℕ) → 128 < side → half ≡ side / 2 → rest ≡ side - side / 2
     → (7 < clog side) × (clog rest + 1 ≡ clog side) × (clog half ≤ clog rest)

@@ -160,14 +160,3 @@ AreInterleaved-high n x y a b low high full full_x full_y front back =
       first = λ t h. both.first t h ∙ sym (slice_get-append_right x a (2 * n + t) (0 + t) (omega arith));
       second = λ t h. both.second t h ∙ sym (slice_get-append_right y b (2 * n + t) (0 + t) (omega arith));
     }
-
--- two runs of a list are interleaved
-pub AreInterleaved-runs : {A : Type 0} (n i j : ℕ) (list a b low high : List A) → length low ≡ 2 * n
-    → ((t : ℕ) → t < 2 * n → slice_get a t ≡ slice_get list (i + t)) → ((t : ℕ) → t < 2 * n → slice_get b t ≡ slice_get list (j + t))
-    → AreInterleaved n 0 0 a b low → AreInterleaved n n n a b high → AreInterleaved (2 * n) i j list list (low ++ high)
-AreInterleaved-runs n i j list a b low high full of_a of_b front back =
-    let both = AreInterleaved-both n a b low high full front back in
-    record {
-      first = λ t h. let at : 0 + t ≡ t = omega arith in rw at at (both.first t h) ∙ of_a t h;
-      second = λ t h. let at : 0 + t ≡ t = omega arith in rw at at (both.second t h) ∙ of_b t h;
-    }

@@ -11,19 +11,11 @@ use Rattle.p3_util_kernels.proofs.transpose.split.+put_split.Goals as goal
 -- The splits of a region that is halved nest at least one level deep, so there is a level to
 -- subtract. The splits of each half nest at least one level less deep, so the levels that remain
 -- are enough.
-pub overflow_sub-levels : goal.overflow_sub-levels
-overflow_sub-levels g t c =
-    omega (arith, c.halves.ensures.first_levels, c.requires.enough)
-
 pub put_split-out-requires : goal.put_split-out-requires
 put_split-out-requires g t c =
     let some = c.halves.ensures.first_levels in
     let inside = c.halves.ensures.cut.first_inside in
     λ κs k. (omega (arith, c.decreases, c.requires.enough), grind (arith, rules, c.requires.ready, c.requires.enough, inside))
-
-pub overflow_sub-levels-2 : goal.overflow_sub-levels-2
-overflow_sub-levels-2 g t c =
-    omega (arith, c.halves.ensures.first_levels, c.requires.enough)
 
 pub put_split-out-requires-2 : goal.put_split-out-requires-2
 put_split-out-requires-2 g t c =
@@ -44,10 +36,6 @@ returns-clause-holder g t c =
 
 -- One split, and then the splits of the half that nests deeper, give the depth of the region. It is
 -- at most 57 if the places of the matrix fit in a usize.
-pub returns-clause-nested : goal.returns-clause-nested
-returns-clause-nested g t c =
-    omega (arith, c.halves.ensures.nested)
-
 pub returns-clause-bound : goal.returns-clause-bound
 returns-clause-bound g t c =
     omega (
