@@ -1,2 +1,3 @@
 pub mod EachRow
 pub mod MapCalls
+pub mod Stages

@@ -5,7 +5,7 @@ ghost use Rattle.std.specs.Prelude.{◌≡◌, ℕ, ◌+◌, ◌-◌, ◌*◌, �
 ghost use Rattle.std.specs.Int.{IsPowerOfTwo, is_power_of_two};
 ghost use Rattle.p3_util.specs.Digits.{rev};
 ghost use Rattle.p3_util.specs.Names.{short_name};
-ghost use Rattle.p3_util.specs.Powers.{IsPowerOfThree};
+ghost use Rattle.p3_util.specs.Powers.{HasLog2, IsPowerOfThree};
 
 use p3_util::bits::{
     checked_log_size_sum, checked_pow2, is_power_of_three, log2_ceil_u64, log2_ceil_usize,
@@ -238,4 +238,24 @@ pub fn names_of(alloc: Global, one: &str, other: &str) -> Result<(String, String
     let first = pretty_name(alloc, one)?;
     let second = pretty_name(alloc, other)?;
     Ok((first, second))
+}
+
+/// The logarithm of the number of items of a matrix whose sides are powers of two, or `None` if the
+/// number does not fit a `usize`.
+#[tactic(auto, using(p3_util::proofs::Callers::power_in_parts, p3_util::proofs::Callers::product_large))]
+pub fn log_of_product(rows: usize, cols: usize) -> Option<usize>
+    requires rows { HasLog2 rows }
+    requires cols { HasLog2 cols }
+    ensures { MatchOption result (2 ^ 64 ≤ rows * cols) (λ k. rows * cols ≡ 2 ^ k) }
+{
+    let all = log2_strict_usize(rows) + log2_strict_usize(cols);
+    checked_pow2(all).map(|_| all)
+}
+
+/// `2^k`. As a function of its own it has no remainder in its contract, which a shift has.
+pub fn power_of(k: usize) -> usize
+    requires { k < 64 }
+    ensures { result ≡ 2 ^ k }
+{
+    1 << k
 }

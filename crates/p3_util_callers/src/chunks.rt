@@ -6,8 +6,9 @@ ghost use Rattle.std.specs.List.{FoldsTo};
 ghost use Rattle.p3_util.specs.Digits.{rev};
 ghost use Rattle.p3_util.specs.Flat.{flat};
 ghost use Rattle.p3_util.specs.Pieces.{padded, padded_pieces, pieces};
-ghost use Rattle.p3_util.specs.Reversal.{FitsRows};
+ghost use Rattle.p3_util.specs.Reversal.{FitsRows, IsReversible};
 
+use crate::reverse::reverse_twice;
 use p3_util::reverse::reverse_slice_row_index_bits;
 use p3_util::{apply_to_chunks, iter_array_chunks_padded};
 use std::alloc::{AllocError, Global};
@@ -202,4 +203,40 @@ pub fn hashes_of_rows<H: HashRow>(
         .chunks_exact(width)
         .map(|row| hasher.hash(row))
         .collect(alloc)
+}
+
+/// Reverses a vector by index bits twice, which leaves it as it was.
+fn there_and_back<T>(mut items: Vec<T>) -> Vec<T>
+    requires { IsReversible (length items.items) }
+    ensures { result.items ≡ items.items }
+{
+    reverse_twice(&mut items);
+    items
+}
+
+/// The first `len` items.
+fn cut_back(mut items: Vec<u64>, len: usize) -> Vec<u64>
+    requires { len ≤ length items.items }
+    ensures { result.items ≡ take len items.items }
+{
+    items.truncate(len);
+    items
+}
+
+/// Pads `items` with zeros to `len` items, reverses them twice by index bits and cuts off the zeros,
+/// which leaves `items`.
+#[tactic(auto, using(p3_util::proofs::Callers::cut_of_padded))]
+pub fn padded_there_and_back(
+    alloc: Global,
+    items: &[u64],
+    len: usize,
+) -> Result<Vec<u64>, AllocError>
+    requires room { length items.now ≤ len }
+    requires power { IsReversible len }
+    ensures { IfOk result (λ v. v.items ≡ items.now) }
+{
+    let padded = padded_to(alloc, items, len)?;
+    let back = there_and_back(padded);
+    let out = cut_back(back, items.len());
+    Ok(out)
 }

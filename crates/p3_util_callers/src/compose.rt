@@ -8,9 +8,12 @@ ghost use Rattle.p3_util.specs.Reversal.{FitsRows, IsReversal, IsReversible, IsR
 ghost use Rattle.p3_util.specs.SideBySide.{AreTransposed};
 ghost use Rattle.p3_util.specs.Steps.{counted};
 ghost use Rattle.p3_util.specs.SwapCounts.{long_swaps, reversal_swaps, row_swaps, square_swaps};
+ghost use Rattle.p3_util.specs.Transpose.{IsTranspose};
 
-use p3_util::places::{Places, Swaps};
-use p3_util::transpose::transpose_square_on;
+use p3_util::places::{Cells, Places, Swaps, Writes};
+use p3_util::transpose::{
+    Region, transpose_region_counted, transpose_region_on, transpose_square_on,
+};
 use p3_util::{
     log2_strict_usize, reverse_chunks_on, reverse_counted, reverse_index_bits_on,
     reverse_row_index_bits_on, reverse_rows_counted,
@@ -86,4 +89,69 @@ fn transpose_squares<S: Places>(m: &mut Swaps<S>, log_stride: usize, log_size: u
     if log_size < log_stride {
         transpose_square_on(m, 1 << log_size, log_stride, log_size);
     }
+}
+
+/// Transposes the columns before `middle` and then the others, which transposes the whole matrix.
+#[tactic(auto, using(p3_util::proofs::Callers::counted_in_two))]
+pub fn transpose_left_then_right<C: Cells>(
+    input: &[C::Item],
+    cells: &mut C,
+    width: usize,
+    height: usize,
+    middle: usize,
+) -> u128
+    requires input_fits { length input.now ≡ width * height }
+    requires output_fits { length (C.items cells.old) ≡ width * height }
+    requires inside { middle ≤ width }
+    ensures order { IsTranspose width height input.now (C.items cells.new) }
+    ensures count { result ≡ width * height }
+    ensures holder { C.same_holder result cells.old cells.new }
+{
+    let left = Region {
+        row_start: 0,
+        row_end: height,
+        col_start: 0,
+        col_end: middle,
+    };
+    let right = Region {
+        row_start: 0,
+        row_end: height,
+        col_start: middle,
+        col_end: width,
+    };
+    let first = transpose_region_counted(input, cells, left, width, height);
+    let second = transpose_region_counted(input, cells, right, width, height);
+    first + second
+}
+
+/// Transposes the rows before `middle` and then the others, with one counter.
+#[tactic(auto, using(p3_util::proofs::Callers::counted_in_two))]
+pub fn transpose_top_then_bottom<C: Cells>(
+    input: &[C::Item],
+    out: &mut Writes<C>,
+    width: usize,
+    height: usize,
+    middle: usize,
+)
+    requires input_fits { length input.now ≡ width * height }
+    requires output_fits { length (C.items out.old.holder) ≡ width * height }
+    requires inside { middle ≤ height }
+    ensures order { IsTranspose width height input.now (C.items out.new.holder) }
+    ensures count { out.new.count ≡ counted out.old.count (width * height) }
+    ensures holder { C.same_holder (width * height) out.old.holder out.new.holder }
+{
+    let top = Region {
+        row_start: 0,
+        row_end: middle,
+        col_start: 0,
+        col_end: width,
+    };
+    let bottom = Region {
+        row_start: middle,
+        row_end: height,
+        col_start: 0,
+        col_end: width,
+    };
+    transpose_region_on(input, out, top, width, height);
+    transpose_region_on(input, out, bottom, width, height);
 }

@@ -3,12 +3,14 @@
 //! the same way. A function whose contract says `IsPermutation` needs a lemma. Its callers need
 //! none.
 
-ghost use Rattle.std.specs.Prelude.{◌≡◌, ℕ, ◌*◌, ◌<◌, ◌≤◌, ◌==◌, All, Contains, IfOk, IsPermutation, count_by, length, map, sum, zip};
+ghost use Rattle.std.specs.Prelude.{◌≡◌, ℕ, ◌+◌, ◌*◌, ◌^◌, ◌<◌, ◌≤◌, ◌==◌, All, Contains, IfOk, IfSome, IsPermutation, None, count_by, length, map, slice_get, sum, zip};
+ghost use Rattle.p3_util.specs.Digits.{rev};
 ghost use Rattle.p3_util.specs.Least.{AllDiffer};
-ghost use Rattle.p3_util.specs.Reversal.{IsReversible};
+ghost use Rattle.p3_util.specs.Reversal.{FitsRows, IsReversible};
 
+use crate::bits::power_of;
 use crate::chunks::padded_to;
-use p3_util::reverse::reverse_slice_index_bits;
+use p3_util::reverse::{reverse_slice_index_bits, reverse_slice_row_index_bits};
 use p3_util::transpose::transpose;
 use std::alloc::{AllocError, Global};
 
@@ -106,4 +108,89 @@ pub fn reorder_both(xs: &mut [u32], ys: &mut [u32])
 {
     reverse_slice_index_bits(xs);
     reverse_slice_index_bits(ys);
+}
+
+/// Reverses the order of rows. The list before has the items of the list afterwards.
+#[tactic(auto, using(p3_util::proofs::Callers::permuted))]
+fn reordered_rows<T>(vals: &mut [T], width: usize)
+    requires { FitsRows (length vals.old) width }
+    ensures { IsPermutation vals.new vals.old }
+{
+    reverse_slice_row_index_bits(vals, width);
+}
+
+/// The same. An item or a bound of the list afterwards is one of the list before.
+fn reorder_rows_and_keep(vals: &mut [u64], width: usize)
+    requires { FitsRows (length vals.old) width }
+    ensures greatest { (m : ℕ) → All (λ x. x ≤ m) vals.new → All (λ x. x ≤ m) vals.old }
+    ensures none_new { (x : ℕ) → Contains vals.new x → Contains vals.old x }
+{
+    reordered_rows(vals, width);
+}
+
+/// The greatest item.
+fn greatest(vals: &[u64]) -> Option<u64>
+    ensures none { result ≡ None → length vals.now ≡ 0 }
+    ensures most { IfSome result (λ m. All (λ x. x ≤ m) vals.now) }
+    ensures one { IfSome result (λ m. Contains vals.now m) }
+{
+    vals.iter().copied().max()
+}
+
+/// Reverses the order of rows, and returns the greatest item, which is the greatest one of the list
+/// before. The `?` takes it out of its `Option`, so that the proof knows what holds for it.
+pub fn greatest_after_rows(vals: &mut [u64], width: usize) -> Option<u64>
+    requires { FitsRows (length vals.old) width }
+    ensures most { IfSome result (λ m. All (λ x. x ≤ m) vals.old) }
+    ensures one { IfSome result (λ m. Contains vals.old m) }
+{
+    reorder_rows_and_keep(vals, width);
+    let most = greatest(vals)?;
+    Some(most)
+}
+
+/// Writes the transpose of `input` to `output`. If no two items are equal in `input`, none are in
+/// `output`.
+#[tactic(auto, using(p3_util::proofs::Callers::kept_different))]
+fn transpose_different<T: Copy>(input: &[T], output: &mut [T], width: usize, height: usize)
+    requires input_fits { length input.now ≡ width * height }
+    requires output_fits { length output.old ≡ width * height }
+    requires different { AllDiffer input.now }
+    ensures { AllDiffer output.new }
+{
+    transpose(input, output, width, height);
+}
+
+/// Reverses, transposes and reverses again, with one function for each call. Different items stay
+/// different.
+pub fn reverse_transpose_reverse<T: Copy>(
+    input: &mut [T],
+    output: &mut [T],
+    width: usize,
+    height: usize,
+)
+    requires input_fits { length input.old ≡ width * height }
+    requires output_fits { length output.old ≡ width * height }
+    requires power { IsReversible (width * height) }
+    requires different { AllDiffer input.old }
+    ensures { AllDiffer output.new }
+{
+    reorder_different(input);
+    transpose_different(input, output, width, height);
+    reorder_different(output);
+}
+
+/// Writes the transpose of a matrix of `2^b` rows of `2^a` items to `output`, and reverses it by
+/// index bits. The contract says which item is at a place then.
+#[tactic(auto, using(p3_util::proofs::Callers::reversed_place, p3_util::proofs::Callers::product_of_powers))]
+pub fn transpose_then_reverse<T: Copy>(input: &[T], output: &mut [T], a: usize, b: usize)
+    requires few { a + b < 64 }
+    requires input_fits { length input.now ≡ 2 ^ a * 2 ^ b }
+    requires output_fits { length output.old ≡ 2 ^ a * 2 ^ b }
+    ensures { (p x y : ℕ) → p < 2 ^ (a + b) → x < 2 ^ a → y < 2 ^ b
+        → rev (a + b) p ≡ x * 2 ^ b + y
+        → slice_get output.new p ≡ slice_get input.now (y * 2 ^ a + x) }
+{
+    transpose(input, output, power_of(a), power_of(b));
+    reverse_slice_index_bits(output);
 }

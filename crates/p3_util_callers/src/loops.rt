@@ -1,9 +1,10 @@
 //! Loops in the callers' own code, each with its invariant in a proof file: a loop that changes
 //! numbers in place, a stage of a transform, a loop that takes one item after another into a state,
 //! and a merge of maps. Then loops that fill an array, write to a holder, count rounds, go over a
-//! view, compare two lists, and transpose one matrix after another.
+//! view, compare two lists, transpose one matrix after another, halve a number until 1 is left, and
+//! fill a table of powers and a row of a matrix.
 
-ghost use Rattle.std.specs.Prelude.{◌≡◌, ℕ, ◌+◌, ◌-◌, ◌*◌, ◌/◌, ◌%◌, ◌^◌, ◌<◌, ◌≤◌, All, IsTrue, OnOk, Some, drop, fold, length, map, nat_eq, slice_get, slice_index, take};
+ghost use Rattle.std.specs.Prelude.{◌≡◌, ◌≢◌, ℕ, ◌+◌, ◌-◌, ◌*◌, ◌/◌, ◌%◌, ◌^◌, ◌<◌, ◌≤◌, All, IsTrue, OnOk, Some, drop, fold, length, map, nat_eq, slice_get, slice_index, take};
 ghost use Rattle.p3_util.specs.Digits.{rev};
 ghost use Rattle.p3_util.specs.Flat.{flat};
 ghost use Rattle.p3_util.specs.LinearMap.{put_all};
@@ -224,4 +225,68 @@ pub fn transpose_each<T: Copy>(
     for m in 0..count {
         transpose_at(input, output, width, height, m * (width * height));
     }
+}
+
+/// How often `n` can be halved until 1 is left, with a `while`. The proof file also has its measure,
+/// which is smaller after each round.
+pub fn halvings_to_one(n: usize) -> usize
+    requires { 0 < n }
+    ensures within { 2 ^ result ≤ n }
+    ensures below { n < 2 ^ (result + 1) }
+{
+    let mut left = n;
+    let mut count = 0;
+    while left > 1 {
+        left /= 2;
+        count += 1;
+    }
+    count
+}
+
+/// Fills a table with the powers of two.
+pub fn powers_of_two(out: &mut [u64])
+    requires { length out.old ≤ 64 }
+    ensures { (i : ℕ) → i < length out.old → slice_index out.new i ≡ 2 ^ i }
+{
+    let mut power = 1u64;
+    for i in 0..out.len() {
+        out[i] = power;
+        power = power.wrapping_mul(2);
+    }
+}
+
+/// Writes `item` to each cell of row `row` of a matrix. The contract says that the rest stays by row
+/// and column, as a transpose says where an item goes.
+#[tactic(auto, using(p3_util::proofs::Callers::column_inside))]
+pub fn fill_row<T: Copy>(values: &mut [T], row: usize, width: usize, height: usize, item: T)
+    requires fits { length values.old ≡ height * width }
+    requires inside { row < height }
+    ensures there { (c : ℕ) → c < width → slice_get values.new (row * width + c) ≡ Some item }
+    ensures others { (r c : ℕ) → c < width → r ≢ row
+        → slice_get values.new (r * width + c) ≡ slice_get values.old (r * width + c) }
+{
+    for c in 0..width {
+        values[row * width + c] = item;
+    }
+}
+
+/// Writes `item` to each cell of column `column`, by way of a transpose. All other columns stay.
+pub fn fill_column<T: Copy>(
+    matrix: &mut [T],
+    scratch: &mut [T],
+    width: usize,
+    height: usize,
+    column: usize,
+    item: T,
+)
+    requires matrix_fits { length matrix.old ≡ width * height }
+    requires scratch_fits { length scratch.old ≡ width * height }
+    requires inside { column < width }
+    ensures there { (r : ℕ) → r < height → slice_get matrix.new (r * width + column) ≡ Some item }
+    ensures others { (r c : ℕ) → r < height → c < width → c ≢ column
+        → slice_get matrix.new (r * width + c) ≡ slice_get matrix.old (r * width + c) }
+{
+    transpose(matrix, scratch, width, height);
+    fill_row(scratch, column, height, width, item);
+    transpose(scratch, matrix, height, width);
 }

@@ -1,11 +1,13 @@
-//! Callers of the counters, and of the steps of a holder on some places of a list. A holder is a
-//! value that gives access to a list only by index.
+//! Callers of the counters, and of the steps of a holder on some places of a list, and a counter
+//! that a caller defines. A holder is a value that gives access to a list only by index.
 
-ghost use Rattle.std.specs.Prelude.{◌≡◌, ◌+◌, ◌*◌, ◌/◌, ◌<◌, length, swap};
+ghost use Rattle.std.specs.Prelude.{◌≡◌, ◌+◌, ◌*◌, ◌/◌, ◌^◌, ◌<◌, length, swap};
+ghost use Rattle.std.proofs.Common.{rules};
 ghost use Rattle.p3_util.specs.ItemsAt.{items_at};
 ghost use Rattle.p3_util.specs.Steps.{counted};
 
-use p3_util::places::{Places, Swaps};
+use p3_util::places::{Cells, Places, Swaps, Writes};
+use p3_util::transpose::transpose_on;
 
 /// Moves the item at place `i` to `k`, the one at `k` to `j` and the one at `j` to `i`, with two
 /// swaps.
@@ -31,4 +33,56 @@ pub fn exchange_even<F>(items: &mut [F], i: usize, j: usize)
         even items.new ≡ swap (even items.old) i j }
 {
     items.swap(2 * i, 2 * j);
+}
+
+/// Cells that count the puts which they take. A count of `2^128 - 1` stays as it is. The ghost field
+/// says that the count fits a `u128`. A law of the holder ranges over all counters, and without the
+/// field it would also range over counts that do not fit.
+#[derive(Drop)]
+pub struct Tally<C> {
+    cells: C,
+    count: u128,
+    pub ghost count_fits: { count < 2 ^ 128 },
+}
+
+impl<C: Cells> Cells for Tally<C> {
+    type Item = C::Item;
+
+    ghost items = { λ s. C.items s.cells };
+
+    ghost same_holder = { λ n a b. (b.count ≡ counted a.count n) × C.same_holder n a.cells b.cells };
+
+    fn len(&self) -> usize {
+        self.cells.len()
+    }
+
+    fn put(&mut self, i: usize, v: C::Item) {
+        self.cells.put(i, v);
+        self.count = self.count.saturating_add(1);
+    }
+
+    ghost same_holder_refl = { Prim.search rules };
+
+    ghost same_holder_trans = { Prim.search rules };
+}
+
+/// Transposes to cells that two counters count, one of the library and a `Tally` inside it, and
+/// returns both counts.
+pub fn counted_by_both<C: Cells>(
+    input: &[C::Item],
+    cells: C,
+    width: usize,
+    height: usize,
+) -> (u128, u128)
+where
+    C: Drop,
+    requires input_fits { length input.now ≡ width * height }
+    requires output_fits { length (C.items cells) ≡ width * height }
+    ensures outer { result.0 ≡ width * height }
+    ensures inner { result.1 ≡ width * height }
+{
+    let mut out = Writes::new(Tally { cells, count: 0 });
+    transpose_on(input, &mut out, width, height);
+    let outer = out.writes();
+    (outer, out.into_inner().count)
 }

@@ -1,7 +1,7 @@
 //! Callers that read a table in the order of reversed index bits, or reorder a table: reads, folds
 //! and sums.
 
-ghost use Rattle.std.specs.Prelude.{◌≡◌, ℕ, ◌+◌, ◌*◌, ◌/◌, ◌^◌, ◌<◌, ◌≤◌, IfOk, List, Some, length, map, slice_get, slice_index, sum};
+ghost use Rattle.std.specs.Prelude.{◌≡◌, ℕ, ◌+◌, ◌*◌, ◌/◌, ◌^◌, ◌<◌, ◌≤◌, IfOk, IfSome, List, Some, length, map, slice_get, slice_index, sum};
 ghost use Rattle.std.specs.Int.{IsPowerOfTwo};
 ghost use Rattle.std.specs.List.{range_with_len};
 ghost use Rattle.p3_util.specs.Digits.{rev};
@@ -295,4 +295,24 @@ pub fn reversed_indices<const N: usize>() -> [usize; N]
     let mut indices = indices_arr::<N>();
     reorder_places(&mut indices);
     indices
+}
+
+/// The first place of `x`.
+fn find(vals: &[u64], x: u64) -> Option<usize>
+    ensures { IfSome result (λ i. slice_get vals.now i ≡ Some x) }
+{
+    vals.iter().position(|v| *v == x)
+}
+
+/// Reorders the list, searches it for `x`, and returns a place that had `x` before.
+#[tactic(auto, using(p3_util::proofs::Callers::found_before))]
+pub fn find_in_reversed(vals: &mut [u64], x: u64, k: usize) -> Option<usize>
+    requires some { 1 ≤ k }
+    requires few { k < 64 }
+    requires len { length vals.old ≡ 2 ^ k }
+    ensures { IfSome result (λ i. slice_get vals.old i ≡ Some x) }
+{
+    reverse_slice_index_bits(vals);
+    let place = find(vals, x)?;
+    Some(reverse_bits_len(place, k))
 }

@@ -410,3 +410,39 @@ pub fn transposed_copy<T: Copy + Default>(
     transpose(matrix, &mut scratch, width, height);
     Ok(scratch)
 }
+
+/// Transposes the columns before `middle`, and those after it. Afterwards the output has what both
+/// calls put, and its row `middle` is as it was.
+pub fn transpose_two_regions<C: Cells>(
+    input: &[C::Item],
+    cells: &mut C,
+    width: usize,
+    height: usize,
+    middle: usize,
+)
+    requires input_fits { length input.now ≡ width * height }
+    requires output_fits { length (C.items cells.old) ≡ width * height }
+    requires inside { middle < width }
+    ensures first { (x y : ℕ) → x < middle → y < height
+        → slice_get (C.items cells.new) (x * height + y) ≡ slice_get input.now (y * width + x) }
+    ensures left { (y : ℕ) → y < height
+        → slice_get (C.items cells.new) (middle * height + y)
+        ≡ slice_get (C.items cells.old) (middle * height + y) }
+    ensures last { (x y : ℕ) → middle < x → x < width → y < height
+        → slice_get (C.items cells.new) (x * height + y) ≡ slice_get input.now (y * width + x) }
+{
+    let before = Region {
+        row_start: 0,
+        row_end: height,
+        col_start: 0,
+        col_end: middle,
+    };
+    let after = Region {
+        row_start: 0,
+        row_end: height,
+        col_start: middle + 1,
+        col_end: width,
+    };
+    transpose_region_counted(input, cells, before, width, height);
+    transpose_region_counted(input, cells, after, width, height);
+}

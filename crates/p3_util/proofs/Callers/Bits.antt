@@ -1,9 +1,9 @@
 -- Reversed digits: in two parts, twice, of even and odd numbers, of the first and the last number, of
--- half a number and of a number of more digits; std's test for a power of two; exponents and powers; and the row and the column of a
--- place.
-use Rattle.std.proofs.Common.{◌≡◌, ℕ, zero, suc, ◌+◌, ◌-◌, ◌*◌, ◌/◌, ◌%◌, ◌^◌, ◌<◌, ◌≤◌, inl, inr, true, refl, sym, ap, ◌∙◌, add-one, arith}
-use Rattle.std.proofs.lemmas.Nat.{pow-add, pow_pos, mod-mul-add, mul-mod_first}
-use Rattle.std.proofs.Math.Nat.{pow-suc}
+-- half a number and of a number of more digits; std's test for a power of two; exponents, powers and
+-- products of powers; bits of a number; and the row and the column of a place.
+use Rattle.std.proofs.Common.{◌≡◌, ℕ, zero, suc, ◌+◌, ◌-◌, ◌*◌, ◌/◌, ◌%◌, ◌^◌, ◌<◌, ◌≤◌, ◌≢◌, inl, inr, true, refl, sym, ap, ◌∙◌, add-one, arith}
+use Rattle.std.proofs.lemmas.Nat.{div-add-mod', div-mul-add, mod_below, pow-add, pow_pos, mod-mul-add, mul-mod_first}
+use Rattle.std.proofs.Math.Nat.{mod-eq_of_lt, mul-le-mul_right, pow-suc}
 use Rattle.std.proofs.Math.Pow.{pow_mono}
 use Rattle.std.specs.Int.{is_power_of_two}
 use Rattle.p3_util_kernels.specs.Digits.{rev}
@@ -159,3 +159,57 @@ row_of_place i rows cols h = (row_and_column i rows cols h).0
 
 pub column_of_place : (i rows cols : ℕ) → i < rows * cols → i % cols < cols
 column_of_place i rows cols h = (row_and_column i rows cols h).1
+
+-- a product of two powers of two: it is a length that can be reversed, it is a power of two, and it
+-- is at least 2 ^ 64 if the exponents add up to 64 or more
+pub product_reversible : (a b n : ℕ) → n ≡ 2 ^ a * 2 ^ b → IsReversible n
+product_reversible a b n e = inl (inr (a + b, e ∙ sym (pow-add 2 a b)))
+
+pub product_length : (a b n : ℕ) → n ≡ 2 ^ a * 2 ^ b → n ≡ 2 ^ (a + b)
+product_length a b n e = e ∙ sym (pow-add 2 a b)
+
+pub ruleset product_of_powers = (product_reversible, product_length)
+
+pub product_large : (a b rows cols : ℕ) → rows ≡ 2 ^ a → cols ≡ 2 ^ b → 64 ≤ a + b → 2 ^ 64 ≤ rows * cols
+product_large a b rows cols er ec large =
+    rw (er, ec) (omega (arith, large_power (a + b) large, pow-add 2 a b))
+
+-- a power of two below 2 ^ 64 is not wrapped
+pub small_power : (i : ℕ) → i < 64 → 2 ^ i % 2 ^ 64 ≡ 2 ^ i
+small_power i h =
+    let below : i + 1 ≤ 64 = omega arith in
+    let up : 2 ^ (i + 1) ≤ 2 ^ 64 = pow_mono below in
+    let next : 2 ^ (i + 1) ≡ 2 ^ i * 2 = rw add-one (pow-suc 2 i) in
+    mod-eq_of_lt (omega (arith, up, next, pow_pos i))
+
+-- Bounds of n by a multiple of a power of two, after the factor is halved and the exponent is one more
+pub halved_within : (n m c : ℕ) → m * 2 ^ c ≤ n → m / 2 * 2 ^ (c + 1) ≤ n
+halved_within n m c h =
+    let next : 2 ^ (c + 1) ≡ 2 ^ c * 2 = rw add-one (pow-suc 2 c) in
+    let down : m / 2 * 2 * 2 ^ c ≤ m * 2 ^ c = mul-le-mul_right (2 ^ c) (omega arith) in
+    rw next (omega (arith, down))
+
+pub halved_below : (n m c : ℕ) → n < (m + 1) * 2 ^ c → n < (m / 2 + 1) * 2 ^ (c + 1)
+halved_below n m c h =
+    let next : 2 ^ (c + 1) ≡ 2 ^ c * 2 = rw add-one (pow-suc 2 c) in
+    let up : (m + 1) * 2 ^ c ≤ (m / 2 + 1) * 2 * 2 ^ c = mul-le-mul_right (2 ^ c) (omega arith) in
+    rw next (omega (arith, up))
+
+-- a number whose quotient by h is odd, and the number that is h less
+odd_quotient : (h i : ℕ) → 0 < h → i / h % 2 ≡ 1 → (h ≤ i) × ((i - h) / h % 2 ≡ 0)
+odd_quotient h i some odd =
+    let whole : i / h * h + i % h ≡ i = div-add-mod' i h in
+    let q : i / h ≡ (i / h - 1) + 1 = omega (arith, odd) in
+    let m : i / h * h ≡ (i / h - 1) * h + h = grind (arith, q) in
+    let e : i - h ≡ (i / h - 1) * h + i % h = omega (arith, whole, m) in
+    let d : (i - h) / h ≡ i / h - 1 = ap (λ n. n / h) e ∙ div-mul-add (i / h - 1) h (i % h) (mod_below i h some) in
+    (omega (arith, whole, m), omega (arith, d, odd, q))
+
+-- a number whose bit s is set is at least 2 ^ s, and bit s of the number that is 2 ^ s less is not set
+pub bit_within : (s i : ℕ) → i / 2 ^ s % 2 ≡ 1 → 2 ^ s ≤ i
+bit_within s i odd = (odd_quotient (2 ^ s) i (pow_pos s) odd).0
+
+pub bit_cleared : (s i : ℕ) → i / 2 ^ s % 2 ≡ 1 → (i - 2 ^ s) / 2 ^ s % 2 ≢ 1
+bit_cleared s i odd one = omega (arith, (odd_quotient (2 ^ s) i (pow_pos s) odd).1, one)
+
+pub ruleset bit_set = (bit_within, bit_cleared)

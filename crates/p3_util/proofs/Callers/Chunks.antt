@@ -1,8 +1,8 @@
--- What calls on chunks add up to, what padded lanes add up to, and which item a padded list has at
--- a place.
-use Rattle.std.proofs.Common.{◌≡◌, ℕ, zero, suc, ◌+◌, ◌-◌, ◌*◌, ◌/◌, ◌%◌, ◌<◌, ◌≤◌, inl, inr, Some, List, [], ◌∷◌, ◌++◌, length, get_or, map, slice_get, sum, refl, sym, ap, ◌∙◌, arith}
+-- What calls on chunks add up to, what padded lanes add up to, which item a padded list has at a place,
+-- and a padded list that is cut back.
+use Rattle.std.proofs.Common.{◌≡◌, ℕ, zero, suc, ◌+◌, ◌-◌, ◌*◌, ◌/◌, ◌%◌, ◌<◌, ◌≤◌, inl, inr, Some, List, [], ◌∷◌, ◌++◌, length, take, get_or, map, slice_get, sum, refl, sym, ap, ◌∙◌, arith}
 use Rattle.std.proofs.Math.Nat.{lt_of_mul-lt-mul_left}
-use Rattle.std.proofs.lemmas.List.{get_or-map, length-map}
+use Rattle.std.proofs.lemmas.List.{get_or-map, length-map, take_at}
 use Rattle.std.proofs.lemmas.List.Folds.{sum_by-replicate}
 use Rattle.std.proofs.lemmas.List.Sums.{sum-map, sum_by-append, sum_by-cons}
 use Rattle.std.proofs.lemmas.Nat.{div-mul-add, mod-mul-add}
@@ -107,3 +107,7 @@ module _ {A : Type 0} (n : ℕ) (fill : A) (xs : List A) (lanes : List (List A))
       get_or_from_slice_get (get_or lanes p []) j (get_or xs (p * n + j) d) d (lane_item ∙ some)
 
 pub ruleset item_of_lane = (lane_item, lane_index)
+
+-- the list from which a list was padded
+pub cut_of_padded : {A : Type 0} (xs : List A) (n : ℕ) (fill : A) → take (length xs) (xs ++ replicate n fill) ≡ xs
+cut_of_padded xs n fill = take_at xs (replicate n fill) (length xs) refl

@@ -1,7 +1,8 @@
--- What an index reads from a reversed list: at a place, at the reverse of a place, and at the ends.
+-- What an index reads from a reversed list: at a place, at the reverse of a place, and at the ends; and
+-- where an item was that a search found.
 use Rattle.std.proofs.Common.{◌≡◌, ℕ, ◌+◌, ◌*◌, ◌^◌, ◌<◌, ◌-◌, Some, List, length, get_or, slice_get, sym, ap, ◌∙◌, arith}
 use Rattle.std.proofs.lemmas.List.{get_or_default}
-use Rattle.std.proofs.lemmas.Option.{slice_get-get_or}
+use Rattle.std.proofs.lemmas.Option.{slice_get-get_or, slice_get_within}
 use Rattle.p3_util_kernels.specs.Digits.{rev, rev_word}
 use Rattle.p3_util_kernels.specs.Powers.{HasLog2}
 use Rattle.p3_util_kernels.specs.Reversal.{IsReversal, IsReversible}
@@ -82,6 +83,12 @@ module _ {A : Type 0} where
   pub last_read : (item : A) (old new : List A) → IsReversal old new → IsReversible (length old) → 0 < length old
       → item ≡ get_or new (length new - 1) item → slice_get old (length old - 1) ≡ Some item
   last_read item old new reversal fits some read = last_some item old new reversal fits some ∙ ap Some (sym read)
+
+  -- an item that a search found after the reversal
+  pub found_before : (k i : ℕ) (x : A) (old new : List A) → IsReversal old new → length old ≡ 2 ^ k → slice_get new i ≡ Some x
+      → slice_get old (rev k i) ≡ Some x
+  found_before k i x old new reversal len at =
+      sym (reversed_place k i old new reversal len (omega (arith, slice_get_within new i x at, reversal.same_length))) ∙ at
 
   -- the items at even and odd places, as an index reads them
   pub even_index : (k i : ℕ) (d : A) (old new : List A) → IsReversal old new → length old ≡ 2 ^ (k + 1) → i < 2 ^ k
