@@ -1,3 +1,4 @@
+// rust/erase writes this file from crates/p3_util_kernels/src/transpose/lines.rt. Make changes there.
 //! Puts a region by *lines*: strips with as many rows as a cache line has cells, which begin where a
 //! line begins. So each column of a whole strip is one cache line of the output.
 //!
