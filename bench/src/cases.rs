@@ -175,6 +175,7 @@ pub fn chosen(options: &Options) -> Vec<Case> {
     let of_size = |item_size| works.iter().map(move |&work| Case { work, item_size, parts });
     let sizes = distinct(options.items.iter().flatten().copied());
     let mut cases: Vec<Case> = sizes.into_iter().flat_map(of_size).filter(Case::is_whole).collect();
+    cases.retain(|case| case.items() * case.item_size <= options.largest);
     cases.sort_by_key(|case| case.work.call());
     cases
 }
