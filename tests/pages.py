@@ -19,7 +19,7 @@ OUTSIDE = set("""
     axioms backend contains_key holes incremental Invariants LEMMA libraries statements tidy TURNED
 """.split())
 # These pages mention names that the repository does not have, or no longer has, so their names are not looked up.
-ELSEWHERE = {"CHANGELOG.md", "docs/TRIED.md", "docs/DIFFERENCES.md"}
+ELSEWHERE = {"rust/CHANGELOG.md", "docs/TRIED.md", "docs/DIFFERENCES.md"}
 LIBRARIES = "crates/p3_util(_kernels|_c|_run)?/"
 TABLE_IS_ABOUT = "rust/|" + LIBRARIES
 TABLE_ROW = r"^\| (`[A-Z_`, ]+`) \| ([\d, ^+]+) \| `([^`]+)` \|.*$"
@@ -190,7 +190,7 @@ def check_constants():
     yield from check_table_of_constants(known)
     # The texts, with blanks in place of comment marks.
     texts = {path: re.sub(r"(?<=\s)(?://[/!]?|--)(?=\s)", lambda sign: " " * len(sign[0]), read(path)) for path in tracked
-             if re.fullmatch(r".*\.(md|rt|antt|rs|h)", path) and not re.match("rust/src/kernels/|bench/|CHANGELOG|docs/PERF", path)}
+             if re.fullmatch(r".*\.(md|rt|antt|rs|h)", path) and not re.match("rust/src/kernels/|bench/|(rust/)?CHANGELOG|docs/PERF", path)}
     for line in (line for line in read("tests/constants.txt").splitlines() if line and not line.startswith("#")):
         parts, clauses = re.split(r"\{([^}]*)\}", line), {}
         literal = (re.escape(part).replace(r"\ \.\.\ ", r"[^|]{0,60}?\s").replace(r"\ ", r"\s+") for part in parts[::2])
