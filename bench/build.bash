@@ -67,20 +67,27 @@ if [ -n "$debug" ]; then
     [ -z "$lines" ] || package_level=(-C codegen-units=256 -C opt-level=3)
 fi
 
+# building WHAT: says on standard error what is built now.
+building() {
+    echo "building $1" >&2
+}
+
 # package NAME FOLDER: builds the package of the checkout in this folder as a crate with this name.
 package() {
+    building "the package in $2"
     "${rust[@]}" "${package_level[@]}" --crate-type lib --crate-name "$1" --check-cfg 'cfg(test, ordinary_stores)' --cap-lints warn \
         --check-cfg 'cfg(feature, values("checked"))' ${checked:+--cfg 'feature="checked"'} \
         -o "$out/lib$1.rlib" "$2/rust/src/lib.rs"
 }
 
-package p3_util_proved "$here/.."
+package p3_util_proved "$(dirname "$here")"
 "${rust[@]}" -C opt-level=3 --crate-type lib --crate-name other -o "$out/libother.rlib" "$here/src/other.rs"
 if [ -n "$before" ]; then
     package p3_util_before "$before"
     link+=(--extern "p3_util_before=$out/libp3_util_before.rlib" --cfg before)
 fi
 if [ -n "$library" ]; then
+    building "the static library"
     crate=$here/../crates/p3_util_c
     (cd "$crate" && rt lib ${cpu:+--cpu "$cpu"}) >"$out/rt.log" 2>&1 || {
         tail -n 40 "$out/rt.log" >&2
@@ -94,12 +101,14 @@ if [ -n "$original" ]; then
 fi
 if [ -n "$parallel" ]; then
     # The overlay over the package and the original, as cargo builds it with the feature.
+    building "the overlay"
     "${rust[@]}" "${level[@]}" --crate-type lib --crate-name p3_util_overlay --cfg 'feature="parallel"' "${link[@]}" \
         --extern "original=$original" --extern "p3_maybe_rayon=$(echo "$parallel"/libp3_maybe_rayon-*.rlib)" \
         -L "dependency=$parallel" -o "$out/libp3_util_overlay.rlib" "$here/../rust/overlay/src/lib.rs"
     link+=(--extern "overlay=$out/libp3_util_overlay.rlib" --extern "rayon=$(echo "$parallel"/librayon-*.rlib)" \
         -L "dependency=$parallel" -L "dependency=$out" --cfg parallel)
 fi
+building "the benchmark"
 "${rust[@]}" "${level[@]}" --check-cfg 'cfg(original, library, parallel, before, few)' ${few:+--cfg few} --crate-name bench \
     "${link[@]}" -o "$out/bench" "$here/src/main.rs"
 [ -z "$build" ] || exit 0

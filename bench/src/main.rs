@@ -6,6 +6,7 @@ mod call;
 mod cases;
 mod counts;
 mod items;
+mod iterators;
 #[cfg(library)]
 mod library;
 mod measure;
@@ -43,8 +44,9 @@ fn main() -> ExitCode {
 
 fn run(options: &Options) -> Result<(), String> {
     let _busy = Busy::start(options.busy)?;
-    if options.words {
-        words::run(options)?;
+    if options.words || options.iterators {
+        let run = if options.words { words::run } else { iterators::run };
+        run(options)?;
         print_call(options);
         return Ok(());
     }

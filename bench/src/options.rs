@@ -19,6 +19,7 @@ pub enum Mode {
 pub struct Options {
     pub mode: Mode,
     pub words: bool,
+    pub iterators: bool,
     pub calls: Vec<String>,
     /// Sets of sizes, each of which is summarized on its own.
     pub items: Vec<Vec<usize>>,
@@ -76,6 +77,7 @@ impl Options {
         Ok(Options {
             mode: Mode::Time,
             words: false,
+            iterators: false,
             calls: CALLS.map(String::from).into(),
             items: Vec::new(),
             sizes: (2..=22).collect(),
@@ -101,6 +103,7 @@ impl Options {
             let mut value = || words.next().ok_or_else(|| format!("{word} wants a value"));
             match word.as_str() {
                 "--words" => options.words = true,
+                "--iterators" => options.iterators = true,
                 "--calls" => options.calls = list(&value()?, call)?,
                 "--items" => options.items.push(list(&value()?, item)?),
                 "--sizes" => options.sizes = sizes(&value()?)?,

@@ -1,0 +1,176 @@
+//! The calls on maps and iterators. They are generic, so the compiler may inline them in this crate.
+
+use std::hint::black_box;
+
+use crate::measure::{Runner, Task, measured};
+use crate::options::Options;
+
+/// Makes a call on data that it owns, and returns a number that depends on the results.
+type Pass = Box<dyn Fn() -> u64>;
+
+/// A call on a map or an iterator, for each crate that has it.
+struct Iterated {
+    name: &'static str,
+    /// How many items one pass goes over.
+    items: u64,
+    /// Takes a list of that many distinct numbers.
+    passes: &'static [fn(Vec<u64>) -> Pass],
+}
+
+/// An `Iterated` with this name. Its pass over `$list` is written once. In it, `$library` is the package or the original.
+macro_rules! iterated {
+    ($name:literal, $items:literal, |$library:ident, $list:ident| $pass:expr) => {
+        Iterated {
+            name: $name,
+            items: $items,
+            passes: &[
+                |$list| {
+                    use p3_util_proved as $library;
+                    $pass
+                },
+                #[cfg(original)]
+                |$list| {
+                    use p3_util as $library;
+                    $pass
+                },
+            ],
+        }
+    };
+}
+
+/// `get` of each key of a map with this many keys.
+macro_rules! gets {
+    ($name:literal, $items:literal) => {
+        iterated!($name, $items, |library, keys| {
+            let map: library::linear_map::LinearMap<u64, u64> = keys.iter().map(|&key| (key, !key)).collect();
+            Box::new(move || total(keys.iter().map(|key| *map.get(black_box(key)).unwrap())))
+        })
+    };
+}
+
+/// `insert` of this many new keys into an empty map.
+macro_rules! inserts {
+    ($name:literal, $items:literal) => {
+        iterated!($name, $items, |library, keys| {
+            Box::new(move || {
+                let mut map = library::linear_map::LinearMap::new();
+                keys.iter().for_each(|&key| assert!(map.insert(key, !key).is_none()));
+                *black_box(&map).get(&keys[0]).unwrap()
+            })
+        })
+    };
+}
+
+/// `iter` over a map with this many keys.
+macro_rules! iters {
+    ($name:literal, $items:literal) => {
+        iterated!($name, $items, |library, keys| {
+            let map: library::linear_map::LinearMap<u64, u64> = keys.iter().map(|&key| (key, !key)).collect();
+            Box::new(move || total(black_box(&map).iter().map(|(key, value)| key ^ (value >> 1))))
+        })
+    };
+}
+
+/// A use of the pairs of a list of this length with itself, as a function of the iterator over the pairs.
+macro_rules! pairs {
+    ($name:literal, $items:literal, |$pairs:ident| $used:expr) => {
+        iterated!($name, $items, |library, list| {
+            Box::new(move || {
+                let (a, b) = (black_box(&list), black_box(&list));
+                let $pairs = library::zip_eq::zip_eq(a, b, ()).unwrap();
+                $used
+            })
+        })
+    };
+}
+
+const ITERATED: [Iterated; 17] = [
+    gets!("LinearMap::get of 1 key", 1),
+    gets!("LinearMap::get of 8 keys", 8),
+    gets!("LinearMap::get of 64 keys", 64),
+    inserts!("LinearMap::insert of 1 key", 1),
+    inserts!("LinearMap::insert of 8 keys", 8),
+    inserts!("LinearMap::insert of 64 keys", 64),
+    iters!("LinearMap::iter of 1 key", 1),
+    iters!("LinearMap::iter of 8 keys", 8),
+    iters!("LinearMap::iter of 64 keys", 64),
+    iterated!("apply_to_chunks of 64 bytes", 4090, |library, list| {
+        let bytes: Vec<u8> = list.iter().map(|&item| item as u8).collect();
+        Box::new(move || {
+            let mut sum = 0;
+            let add = |chunk: &[u8]| sum += u64::from(chunk[0]) + chunk.len() as u64;
+            library::apply_to_chunks::<64, _, _>(black_box(&bytes).iter().copied(), add);
+            sum
+        })
+    }),
+    iterated!("iter_array_chunks_padded of 8", 4090, |library, list| {
+        Box::new(move || {
+            let chunks = library::iter_array_chunks_padded::<_, 8>(black_box(&list).iter().copied(), 0);
+            total(chunks.map(|chunk| chunk[0] ^ chunk[7]))
+        })
+    }),
+    pairs!("zip_eq, map and collect", 4096, |pairs| {
+        black_box(pairs.map(|(x, y)| x.wrapping_add(*y)).collect::<Vec<_>>())[0]
+    }),
+    pairs!("zip_eq and a for loop", 4096, |pairs| {
+        let mut sum = 0u64;
+        for (x, y) in pairs {
+            sum = sum.rotate_left(1) ^ x.wrapping_mul(*y);
+        }
+        sum
+    }),
+    pairs!("zip_eq, map and sum", 4096, |pairs| pairs
+        .map(|(x, y)| (x ^ (y >> 1)) >> 32)
+        .sum()),
+    pairs!("zip_eq and fold", 4096, |pairs| pairs
+        .fold(0, |sum: u64, (x, y)| sum.wrapping_add(x.wrapping_mul(*y)))),
+    pairs!("zip_eq and for_each", 4096, |pairs| {
+        let mut sum = 0;
+        pairs.for_each(|(x, y)| sum ^= x.wrapping_add(*y));
+        sum
+    }),
+    pairs!("zip_eq and all", 4096, |pairs| {
+        let (mut pairs, last) = (pairs, black_box(0));
+        u64::from(pairs.all(|(x, y)| x ^ y == last))
+    }),
+];
+
+fn total(numbers: impl Iterator<Item = u64>) -> u64 {
+    numbers.fold(0, u64::wrapping_add)
+}
+
+impl Task for Iterated {
+    fn contenders(&self) -> usize {
+        self.passes.len()
+    }
+
+    fn prepare(&self) -> Runner {
+        // The factor is odd, so the numbers are distinct.
+        let list: Vec<u64> = (1..=self.items)
+            .map(|i| i.wrapping_mul(0x9e37_79b9_7f4a_7c15))
+            .collect();
+        let passes: Vec<Pass> = self.passes.iter().map(|pass| pass(list.clone())).collect();
+        let result = passes[0]();
+        assert!(passes.iter().all(|pass| pass() == result), "{}: not equal", self.name);
+        Box::new(move |contender, times| (0..times).for_each(|_| _ = black_box(passes[contender]())))
+    }
+}
+
+/// Measures all calls and prints a line for each.
+pub fn run(options: &Options) -> Result<(), String> {
+    let Some(took) = measured(&ITERATED, options)? else {
+        return Ok(());
+    };
+    println!(
+        "| call | {} an item | to the original |\n|---|---|---|",
+        options.unit().name()
+    );
+    for (call, took) in ITERATED.iter().zip(&took) {
+        let an_item = took[0] / call.items as f64;
+        let ratio = took
+            .get(1)
+            .map_or(String::new(), |original| format!("{:.2}", took[0] / original));
+        println!("| {} | {an_item:.2} | {ratio} |", call.name);
+    }
+    Ok(())
+}
