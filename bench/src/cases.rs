@@ -35,7 +35,7 @@ const GROUPS_ON_THREADS: &[Group] = &[
     ("transposes of fewer than 2^18 items", |it| {
         it.is("transpose", ..1 << 18)
     }),
-    ("transposes of fewer than 2^22 items", |it| {
+    ("transposes of 2^18 items and more, but fewer than 2^22", |it| {
         it.is("transpose", 1 << 18..1 << 22)
     }),
     ("transposes of 2^22 items and more", |it| it.is("transpose", 1 << 22..)),
