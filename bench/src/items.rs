@@ -136,7 +136,8 @@ fn other_runner(size: usize, case: &Case) -> Runner {
 fn runner<T: Item>(case: &Case) -> Runner {
     let contenders = contenders(case);
     let mut lists = Lists::<T>::new(case);
-    contenders.iter().for_each(|&contender| lists.check(contender));
+    let wanted: Vec<T> = (0..lists.from.len()).map(|i| lists.from[case.source(i)]).collect();
+    contenders.iter().for_each(|&contender| lists.check(contender, &wanted));
     Box::new(move |contender, times| lists.run(contenders[contender], times))
 }
 
@@ -227,20 +228,21 @@ impl<T: Item> Lists<T> {
         }
     }
 
-    /// Makes one call from the same start and compares the list with the definition, item by item.
-    fn check(&mut self, contender: Contender) {
+    /// Makes one call from the same start and compares the list with the one that the definition says.
+    fn check(&mut self, contender: Contender, wanted: &[T]) {
         self.to.copy_from_slice(&self.from);
         self.run(contender, 1);
-        let is_copy = contender == Contender::Copy;
-        for (i, item) in self.to.iter().enumerate() {
-            let source = if is_copy { i } else { self.case.source(i) };
-            assert!(
-                *item == self.from[source],
-                "{} of {}: wrong at {i}",
-                self.case.work.call(),
-                self.case.work.shape()
-            );
-        }
+        let wanted = if contender == Contender::Copy {
+            self.from.as_slice()
+        } else {
+            wanted
+        };
+        assert!(
+            self.to == wanted,
+            "wrong: {} of {}",
+            self.case.work.call(),
+            self.case.work.shape()
+        );
     }
 }
 
