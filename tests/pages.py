@@ -25,7 +25,7 @@ TABLE_IS_ABOUT = "rust/|" + LIBRARIES
 TABLE_ROW = r"^\| (`[A-Z_`, ]+`) \| ([\d, ^+]+) \| `([^`]+)` \|.*$"
 # How many lines the tables of a page have. A row that is lost promises less, or hides a difference, and no other check
 # would notice. Whoever adds or removes a row changes the number.
-ROWS = {"docs/MODEL.md": 76, "docs/DIFFERENCES.md": 57, "rust/README.md": 33}
+ROWS = {"docs/MODEL.md": 76, "docs/DIFFERENCES.md": 58, "rust/README.md": 33}
 # Sentences that list sizes in bytes, each with the file that has the sizes, and how they stand there.
 SIZES = {
     "The kernels for items of {} bytes, and for rows": ("rust/src/unchecked/by_size.rs", r"\n +\[([\d ]+)\] \$size"),

@@ -103,7 +103,7 @@ const ITERATED: [Iterated; 17] = [
             sum
         })
     }),
-    iterated!("iter_array_chunks_padded of 8", 4090, |library, list| {
+    iterated!("iter_array_chunks_padded, 8 items", 4090, |library, list| {
         Box::new(move || {
             let chunks = library::iter_array_chunks_padded::<_, 8>(black_box(&list).iter().copied(), 0);
             total(chunks.map(|chunk| chunk[0] ^ chunk[7]))

@@ -1,11 +1,14 @@
 //! Two iterators of one length as one iterator of pairs.
 
-#[doc(inline)]
-pub use crate::kernels::zip_eq::ZipEq;
+use core::fmt::{self, Debug, Formatter};
+use core::iter::FusedIterator;
+
+use crate::kernels::zip_eq as proved;
 
 /// Pairs the items of `a` and `b` in order, or returns `err` if their lengths differ.
 ///
-/// This is the proved [`kernels::zip_eq::zip_eq`](crate::kernels::zip_eq::zip_eq), with the original's type parameters.
+/// This is the proved [`kernels::zip_eq::zip_eq`](proved::zip_eq), with the original's type parameters, and with the
+/// original's panic in [`ZipEq`].
 ///
 /// ```
 /// use p3_util_proved::zip_eq::zip_eq;
@@ -23,5 +26,50 @@ where
     B: IntoIterator<IntoIter = BIter>,
     BIter: ExactSizeIterator,
 {
-    crate::kernels::zip_eq::zip_eq(a, b, err)
+    proved::zip_eq(a, b, err).map(ZipEq)
+}
+
+/// The iterator that [`zip_eq`] returns.
+///
+/// Each call of `next` calls the proved `next_of_each`, which calls `next` of both iterators. The proved
+/// [`kernels::zip_eq::ZipEq`](proved::ZipEq) does the same, and ends with the shorter side.
+///
+/// # Panics
+///
+/// If one of the two iterators ends before the other, so that one of them stated a false length. Since a loop does not go
+/// on after that, the compiler makes faster loops than with the proved iterator. The panic is reported at the line of a
+/// `for` loop, or at a line of std if a method such as `collect` calls `next`.
+#[derive(Clone)]
+#[must_use = "iterators are lazy and do nothing unless consumed"]
+pub struct ZipEq<A, B>(proved::ZipEq<A, B>);
+
+impl<A: ExactSizeIterator, B: ExactSizeIterator> Iterator for ZipEq<A, B> {
+    type Item = (A::Item, B::Item);
+
+    #[track_caller]
+    fn next(&mut self) -> Option<Self::Item> {
+        match self.0.next_of_each() {
+            (Some(x), Some(y)) => Some((x, y)),
+            (None, None) => None,
+            _ => panic!("one of two iterators that stated the same length is shorter"),
+        }
+    }
+
+    fn size_hint(&self) -> (usize, Option<usize>) {
+        self.0.size_hint()
+    }
+}
+
+impl<A: ExactSizeIterator, B: ExactSizeIterator> ExactSizeIterator for ZipEq<A, B> {
+    fn len(&self) -> usize {
+        self.0.len()
+    }
+}
+
+impl<A: ExactSizeIterator + FusedIterator, B: ExactSizeIterator + FusedIterator> FusedIterator for ZipEq<A, B> {}
+
+impl<A: Debug, B: Debug> Debug for ZipEq<A, B> {
+    fn fmt(&self, f: &mut Formatter<'_>) -> fmt::Result {
+        self.0.fmt(f)
+    }
 }

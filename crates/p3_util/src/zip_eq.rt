@@ -1,6 +1,6 @@
 //! Two iterators of one length as one iterator of pairs.
 ghost use Rattle.std.specs.Prelude.{◌≡◌, MatchResult, IfOk, IfSome, Some};
-ghost use Rattle.std.specs.Iterator.{size, UpTo};
+ghost use Rattle.std.specs.Iterator.{size, MakesProgress, UpTo};
 ghost use Rattle.std.specs.Iterator.SizeHint.{IsWithinCount};
 ghost use Rattle.p3_util.specs.ZipEq.{HasTrueLength, zip_eq_first, zip_eq_second, zip_eq_left, zip_eq_steps, AskedRuns, PairsRuns};
 
@@ -51,6 +51,26 @@ pub struct ZipEq<A, B> {
     second: B,
 }
 
+impl<A: ExactSizeIterator, B: ExactSizeIterator> ZipEq<A, B>
+where
+    A::Item: Drop,
+    B::Item: Drop,
+{
+    /// Calls `next` of the first iterator, and then `next` of the second one.
+    pub(crate) fn next_of_each(&mut self) -> (Option<A::Item>, Option<B::Item>)
+        requires first_can { A.can_next (zip_eq_first self.old) }
+        requires second_can { B.can_next (zip_eq_second self.old) }
+        ensures first { A.next_gives (zip_eq_first self.old) result.0 (zip_eq_first self.new) }
+        ensures first_goes { MakesProgress A.can_next A.remaining (zip_eq_first self.old) result.0 (zip_eq_first self.new) }
+        ensures second { B.next_gives (zip_eq_second self.old) result.1 (zip_eq_second self.new) }
+        ensures second_goes { MakesProgress B.can_next B.remaining (zip_eq_second self.old) result.1 (zip_eq_second self.new) }
+    {
+        let x = self.first.next();
+        let y = self.second.next();
+        (x, y)
+    }
+}
+
 impl<A: ExactSizeIterator, B: ExactSizeIterator> Iterator for ZipEq<A, B>
 where
     A::Item: Drop,
@@ -65,7 +85,8 @@ where
     ghost remaining = { zip_eq_left A.remaining };
 
     fn next(&mut self) -> Option<(A::Item, B::Item)> {
-        match (self.first.next(), self.second.next()) {
+        let (x, y) = self.next_of_each();
+        match (x, y) {
             (Some(x), Some(y)) => Some((x, y)),
             _ => None,
         }

@@ -59,11 +59,32 @@ pub struct ZipEq<A, B> {
     second: B,
 }
 
+impl<A: ExactSizeIterator, B: ExactSizeIterator> ZipEq<A, B> {
+    /// Calls `next` of the first iterator, and then `next` of the second one.
+    ///
+    /// # Contract
+    ///
+    /// ```text
+    /// requires first_can { A.can_next (zip_eq_first self.old) }
+    /// requires second_can { B.can_next (zip_eq_second self.old) }
+    /// ensures first { A.next_gives (zip_eq_first self.old) result.0 (zip_eq_first self.new) }
+    /// ensures first_goes { MakesProgress A.can_next A.remaining (zip_eq_first self.old) result.0 (zip_eq_first self.new) }
+    /// ensures second { B.next_gives (zip_eq_second self.old) result.1 (zip_eq_second self.new) }
+    /// ensures second_goes { MakesProgress B.can_next B.remaining (zip_eq_second self.old) result.1 (zip_eq_second self.new) }
+    /// ```
+    pub(crate) fn next_of_each(&mut self) -> (Option<A::Item>, Option<B::Item>) {
+        let x = self.first.next();
+        let y = self.second.next();
+        (x, y)
+    }
+}
+
 impl<A: ExactSizeIterator, B: ExactSizeIterator> Iterator for ZipEq<A, B> {
     type Item = (A::Item, B::Item);
 
     fn next(&mut self) -> Option<(A::Item, B::Item)> {
-        match (self.first.next(), self.second.next()) {
+        let (x, y) = self.next_of_each();
+        match (x, y) {
             (Some(x), Some(y)) => Some((x, y)),
             _ => None,
         }

@@ -10,6 +10,7 @@ use p3_util_proved::zip_eq::zip_eq;
 use p3_util_proved::{apply_to_chunks, iter_array_chunks_padded, kernels};
 
 use crate::common::Owner;
+use crate::refusal::panics;
 
 /// Returns the answers one after another and then `None`, and counts the calls of `next`.
 struct Asked<'a> {
@@ -216,8 +217,8 @@ impl ExactSizeIterator for Stating<'_> {
     }
 }
 
-/// Both bounds of the size hint are the length that the first side states. If a stated length is false, the pairs end
-/// with the shorter side.
+/// Both bounds of the size hint are the length that the first side states. If a stated length is false, the proved pairs
+/// end with the shorter side. There, the package's pairs panic, as the original's do.
 #[test]
 fn pairs_under_stated_lengths() {
     let cases: [(&[u8], &[u8], &[(u8, u8)]); 4] = [
@@ -227,9 +228,23 @@ fn pairs_under_stated_lengths() {
         (&[], &[3], &[]),
     ];
     for (first, second, wanted) in cases {
-        let mut pairs = zip_eq::<_, _, _, _, ()>(Stating(first, 2), Stating(second, 2), ()).unwrap();
+        let sides = || (Stating(first, 2), Stating(second, 2));
+        let (left, right) = sides();
+        let proved = kernels::zip_eq::zip_eq(left, right, ()).unwrap();
+        assert_eq!((proved.size_hint(), proved.len()), ((2, Some(2)), 2));
+        assert!(proved.eq(wanted.iter().copied()), "{first:?} {second:?}");
+
+        let (left, right) = sides();
+        let mut pairs = zip_eq(left, right, ()).unwrap();
         assert_eq!((pairs.size_hint(), pairs.len()), ((2, Some(2)), 2));
-        assert!(pairs.by_ref().eq(wanted.iter().copied()), "{first:?} {second:?}");
+        let mut given = vec![];
+        let differ = first.len() != second.len();
+        assert_eq!(
+            panics(|| pairs.by_ref().for_each(|pair| given.push(pair))),
+            differ,
+            "{first:?} {second:?}"
+        );
+        assert_eq!(given, wanted);
     }
 }
 
