@@ -8,6 +8,8 @@ instructions=
 parallel=
 before=
 built=
+build=
+few=
 debug=
 lines=
 while [ $# -gt 0 ]; do
@@ -40,6 +42,8 @@ while [ $# -gt 0 ]; do
         ;;
     --lines) lines=yes ;;
     --built) built=yes ;;
+    --build) build=yes ;;
+    --few) few=yes ;;
     --library) library=yes ;;
     --checked) checked=yes ;;
     --instructions) instructions=yes ;;
@@ -105,4 +109,6 @@ if [ -n "$parallel" ]; then
         -L "dependency=$parallel" -L "dependency=$out" --cfg parallel)
 fi
 building "the benchmark"
-"${rust[@]}" "${level[@]}" --check-cfg 'cfg(original, library, parallel, before)' --crate-name bench "${link[@]}" -o "$out/bench" "$here/src/main.rs"
+"${rust[@]}" "${level[@]}" --check-cfg 'cfg(original, library, parallel, before, few)' ${few:+--cfg few} --crate-name bench \
+    "${link[@]}" -o "$out/bench" "$here/src/main.rs"
+[ -z "$build" ] || exit 0

@@ -23,6 +23,15 @@
 #include <stdbool.h>
 #include <stddef.h>
 
+/* Before the calls with a condition: the compiler warns if a program does not look at what such a call returns. */
+#if defined(__cplusplus) && __cplusplus >= 201703L
+#define P3_UTIL_CHECK [[nodiscard]]
+#elif defined(__GNUC__)
+#define P3_UTIL_CHECK __attribute__((warn_unused_result))
+#else
+#define P3_UTIL_CHECK
+#endif
+
 #ifdef __cplusplus
 extern "C" {
 #endif
@@ -31,22 +40,22 @@ extern "C" {
  * Reverses the order of len items by index bits: with 2^k items, index i gets the item from the index that has the k
  * bits of i in reversed order. The condition is that len is zero or a power of two.
  */
-bool p3_util_reverse_1(void *vals, size_t len);
-bool p3_util_reverse_2(void *vals, size_t len);
-bool p3_util_reverse_4(void *vals, size_t len);
-bool p3_util_reverse_8(void *vals, size_t len);
-bool p3_util_reverse_12(void *vals, size_t len);
-bool p3_util_reverse_16(void *vals, size_t len);
-bool p3_util_reverse_20(void *vals, size_t len);
-bool p3_util_reverse_24(void *vals, size_t len);
-bool p3_util_reverse_32(void *vals, size_t len);
-bool p3_util_reverse_40(void *vals, size_t len);
-bool p3_util_reverse_48(void *vals, size_t len);
-bool p3_util_reverse_64(void *vals, size_t len);
-bool p3_util_reverse_96(void *vals, size_t len);
-bool p3_util_reverse_128(void *vals, size_t len);
-bool p3_util_reverse_160(void *vals, size_t len);
-bool p3_util_reverse_256(void *vals, size_t len);
+P3_UTIL_CHECK bool p3_util_reverse_1(void *vals, size_t len);
+P3_UTIL_CHECK bool p3_util_reverse_2(void *vals, size_t len);
+P3_UTIL_CHECK bool p3_util_reverse_4(void *vals, size_t len);
+P3_UTIL_CHECK bool p3_util_reverse_8(void *vals, size_t len);
+P3_UTIL_CHECK bool p3_util_reverse_12(void *vals, size_t len);
+P3_UTIL_CHECK bool p3_util_reverse_16(void *vals, size_t len);
+P3_UTIL_CHECK bool p3_util_reverse_20(void *vals, size_t len);
+P3_UTIL_CHECK bool p3_util_reverse_24(void *vals, size_t len);
+P3_UTIL_CHECK bool p3_util_reverse_32(void *vals, size_t len);
+P3_UTIL_CHECK bool p3_util_reverse_40(void *vals, size_t len);
+P3_UTIL_CHECK bool p3_util_reverse_48(void *vals, size_t len);
+P3_UTIL_CHECK bool p3_util_reverse_64(void *vals, size_t len);
+P3_UTIL_CHECK bool p3_util_reverse_96(void *vals, size_t len);
+P3_UTIL_CHECK bool p3_util_reverse_128(void *vals, size_t len);
+P3_UTIL_CHECK bool p3_util_reverse_160(void *vals, size_t len);
+P3_UTIL_CHECK bool p3_util_reverse_256(void *vals, size_t len);
 
 /*
  * Reverses the order of rows of row_width items by index bits, and moves each row as one item. The condition is that
@@ -54,60 +63,60 @@ bool p3_util_reverse_256(void *vals, size_t len);
  * moved as rows of smaller items: an item of 36 bytes is a row of three items of 12 bytes. If a call above has the size
  * of a row, that call is faster: for rows of 64 bytes use p3_util_reverse_64.
  */
-bool p3_util_reverse_rows_1(void *vals, size_t len, size_t row_width);
-bool p3_util_reverse_rows_2(void *vals, size_t len, size_t row_width);
-bool p3_util_reverse_rows_4(void *vals, size_t len, size_t row_width);
-bool p3_util_reverse_rows_8(void *vals, size_t len, size_t row_width);
-bool p3_util_reverse_rows_12(void *vals, size_t len, size_t row_width);
-bool p3_util_reverse_rows_16(void *vals, size_t len, size_t row_width);
-bool p3_util_reverse_rows_20(void *vals, size_t len, size_t row_width);
-bool p3_util_reverse_rows_24(void *vals, size_t len, size_t row_width);
-bool p3_util_reverse_rows_32(void *vals, size_t len, size_t row_width);
-bool p3_util_reverse_rows_40(void *vals, size_t len, size_t row_width);
-bool p3_util_reverse_rows_48(void *vals, size_t len, size_t row_width);
-bool p3_util_reverse_rows_64(void *vals, size_t len, size_t row_width);
-bool p3_util_reverse_rows_96(void *vals, size_t len, size_t row_width);
-bool p3_util_reverse_rows_128(void *vals, size_t len, size_t row_width);
-bool p3_util_reverse_rows_160(void *vals, size_t len, size_t row_width);
-bool p3_util_reverse_rows_256(void *vals, size_t len, size_t row_width);
+P3_UTIL_CHECK bool p3_util_reverse_rows_1(void *vals, size_t len, size_t row_width);
+P3_UTIL_CHECK bool p3_util_reverse_rows_2(void *vals, size_t len, size_t row_width);
+P3_UTIL_CHECK bool p3_util_reverse_rows_4(void *vals, size_t len, size_t row_width);
+P3_UTIL_CHECK bool p3_util_reverse_rows_8(void *vals, size_t len, size_t row_width);
+P3_UTIL_CHECK bool p3_util_reverse_rows_12(void *vals, size_t len, size_t row_width);
+P3_UTIL_CHECK bool p3_util_reverse_rows_16(void *vals, size_t len, size_t row_width);
+P3_UTIL_CHECK bool p3_util_reverse_rows_20(void *vals, size_t len, size_t row_width);
+P3_UTIL_CHECK bool p3_util_reverse_rows_24(void *vals, size_t len, size_t row_width);
+P3_UTIL_CHECK bool p3_util_reverse_rows_32(void *vals, size_t len, size_t row_width);
+P3_UTIL_CHECK bool p3_util_reverse_rows_40(void *vals, size_t len, size_t row_width);
+P3_UTIL_CHECK bool p3_util_reverse_rows_48(void *vals, size_t len, size_t row_width);
+P3_UTIL_CHECK bool p3_util_reverse_rows_64(void *vals, size_t len, size_t row_width);
+P3_UTIL_CHECK bool p3_util_reverse_rows_96(void *vals, size_t len, size_t row_width);
+P3_UTIL_CHECK bool p3_util_reverse_rows_128(void *vals, size_t len, size_t row_width);
+P3_UTIL_CHECK bool p3_util_reverse_rows_160(void *vals, size_t len, size_t row_width);
+P3_UTIL_CHECK bool p3_util_reverse_rows_256(void *vals, size_t len, size_t row_width);
 
 /*
  * Writes to output the transpose of input, a matrix of height rows of width items, stored row after row: item
  * y * width + x of the input becomes item x * height + y of the output. The condition is that both lengths are width
  * times height, and that this product does not wrap.
  */
-bool p3_util_transpose_1(const void *input, size_t input_len, void *output, size_t output_len, size_t width,
-    size_t height);
-bool p3_util_transpose_2(const void *input, size_t input_len, void *output, size_t output_len, size_t width,
-    size_t height);
-bool p3_util_transpose_4(const void *input, size_t input_len, void *output, size_t output_len, size_t width,
-    size_t height);
-bool p3_util_transpose_8(const void *input, size_t input_len, void *output, size_t output_len, size_t width,
-    size_t height);
-bool p3_util_transpose_12(const void *input, size_t input_len, void *output, size_t output_len, size_t width,
-    size_t height);
-bool p3_util_transpose_16(const void *input, size_t input_len, void *output, size_t output_len, size_t width,
-    size_t height);
-bool p3_util_transpose_20(const void *input, size_t input_len, void *output, size_t output_len, size_t width,
-    size_t height);
-bool p3_util_transpose_24(const void *input, size_t input_len, void *output, size_t output_len, size_t width,
-    size_t height);
-bool p3_util_transpose_32(const void *input, size_t input_len, void *output, size_t output_len, size_t width,
-    size_t height);
-bool p3_util_transpose_40(const void *input, size_t input_len, void *output, size_t output_len, size_t width,
-    size_t height);
-bool p3_util_transpose_48(const void *input, size_t input_len, void *output, size_t output_len, size_t width,
-    size_t height);
-bool p3_util_transpose_64(const void *input, size_t input_len, void *output, size_t output_len, size_t width,
-    size_t height);
-bool p3_util_transpose_96(const void *input, size_t input_len, void *output, size_t output_len, size_t width,
-    size_t height);
-bool p3_util_transpose_128(const void *input, size_t input_len, void *output, size_t output_len, size_t width,
-    size_t height);
-bool p3_util_transpose_160(const void *input, size_t input_len, void *output, size_t output_len, size_t width,
-    size_t height);
-bool p3_util_transpose_256(const void *input, size_t input_len, void *output, size_t output_len, size_t width,
-    size_t height);
+P3_UTIL_CHECK bool p3_util_transpose_1(const void *input, size_t input_len, void *output, size_t output_len,
+    size_t width, size_t height);
+P3_UTIL_CHECK bool p3_util_transpose_2(const void *input, size_t input_len, void *output, size_t output_len,
+    size_t width, size_t height);
+P3_UTIL_CHECK bool p3_util_transpose_4(const void *input, size_t input_len, void *output, size_t output_len,
+    size_t width, size_t height);
+P3_UTIL_CHECK bool p3_util_transpose_8(const void *input, size_t input_len, void *output, size_t output_len,
+    size_t width, size_t height);
+P3_UTIL_CHECK bool p3_util_transpose_12(const void *input, size_t input_len, void *output, size_t output_len,
+    size_t width, size_t height);
+P3_UTIL_CHECK bool p3_util_transpose_16(const void *input, size_t input_len, void *output, size_t output_len,
+    size_t width, size_t height);
+P3_UTIL_CHECK bool p3_util_transpose_20(const void *input, size_t input_len, void *output, size_t output_len,
+    size_t width, size_t height);
+P3_UTIL_CHECK bool p3_util_transpose_24(const void *input, size_t input_len, void *output, size_t output_len,
+    size_t width, size_t height);
+P3_UTIL_CHECK bool p3_util_transpose_32(const void *input, size_t input_len, void *output, size_t output_len,
+    size_t width, size_t height);
+P3_UTIL_CHECK bool p3_util_transpose_40(const void *input, size_t input_len, void *output, size_t output_len,
+    size_t width, size_t height);
+P3_UTIL_CHECK bool p3_util_transpose_48(const void *input, size_t input_len, void *output, size_t output_len,
+    size_t width, size_t height);
+P3_UTIL_CHECK bool p3_util_transpose_64(const void *input, size_t input_len, void *output, size_t output_len,
+    size_t width, size_t height);
+P3_UTIL_CHECK bool p3_util_transpose_96(const void *input, size_t input_len, void *output, size_t output_len,
+    size_t width, size_t height);
+P3_UTIL_CHECK bool p3_util_transpose_128(const void *input, size_t input_len, void *output, size_t output_len,
+    size_t width, size_t height);
+P3_UTIL_CHECK bool p3_util_transpose_160(const void *input, size_t input_len, void *output, size_t output_len,
+    size_t width, size_t height);
+P3_UTIL_CHECK bool p3_util_transpose_256(const void *input, size_t input_len, void *output, size_t output_len,
+    size_t width, size_t height);
 
 /* Returns the least e with n <= 2^e. For n = 0 and n = 1 it returns 0. */
 size_t p3_util_log2_ceil(size_t n);
@@ -116,14 +125,14 @@ size_t p3_util_log2_ceil(size_t n);
 size_t p3_util_log2_floor(size_t n);
 
 /* Writes to exponent the logarithm of n, to base 2 or to base 3. The condition is that n is a power of that base. */
-bool p3_util_log2_strict(size_t n, size_t *exponent);
-bool p3_util_log3_strict(size_t n, size_t *exponent);
+P3_UTIL_CHECK bool p3_util_log2_strict(size_t n, size_t *exponent);
+P3_UTIL_CHECK bool p3_util_log3_strict(size_t n, size_t *exponent);
 
 /*
  * Writes to reversed the bit_len low binary digits of x in reversed order. If bit_len is 0 it writes all 64 digits of x
  * in reversed order. The condition is that bit_len is at most 64.
  */
-bool p3_util_reverse_bits_len(size_t x, size_t bit_len, size_t *reversed);
+P3_UTIL_CHECK bool p3_util_reverse_bits_len(size_t x, size_t bit_len, size_t *reversed);
 
 /*
  * Returns the number of the interface, which is also in the function's name. Code that includes this header refers to

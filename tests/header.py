@@ -1,6 +1,6 @@
 """For tests/agree: compares the prototypes in c/p3_util.h with the exports of crates/p3_util_c: their names, the types
 and the order of their arguments, and their return types. Neither a C compiler nor the linker would notice a
-difference."""
+difference. It also finds a call with a condition whose result a program may drop without a warning."""
 import glob
 import re
 
@@ -34,10 +34,12 @@ def exported():
 
 def declared():
     for prototype in re.findall(r"^\w[\w *]*\bp3_util_\w+\([^()]*\);", read(HEADER), re.M):
-        yield " ".join(prototype.split())
+        yield " ".join(prototype.removeprefix("P3_UTIL_CHECK ").split())
 
 
 def wrong():
+    for prototype in re.findall(r"^bool p3_util_\w+", read(HEADER), re.M):
+        yield f"{HEADER}: {prototype} has no P3_UTIL_CHECK before it"
     here, there = set(declared()), set(exported())
     for prototype in sorted(here ^ there):
         says = "declares this, and no export is so" if prototype in here else "does not declare this, and an export is so"

@@ -16,23 +16,24 @@ from rattle_source import declarations, read, statements
 
 LIST = "docs/contracts.txt"
 HEAD = """\
-# The public contracts of all crates, all definitions, and the statements of the lemmas for callers, as the sources have
-# them. docs/CALLING.md explains how to read a contract, and docs/MODEL.md says in words what is promised.
+# The public contracts and the definitions of the crates on which code may rely, and the statements of the lemmas for callers,
+# as the sources have them. docs/CALLING.md explains how to read a contract, and docs/MODEL.md says in words what is promised.
+# The crates of examples and tests, p3_util_callers, p3_util_transform and p3_util_vectors, are not listed.
 #
 # Below the name of a source are its contracts. All structs are listed, with their private fields, since a clause or a
 # definition may name them. The lines below an implementation of a trait say what a clause sees of that type. Sources on the
 # parts of a call are listed with the contracts that only their crate sees, because what is proved of parts stands in these.
 # So is whatever the code of the package that is written by hand may name, such as the traits that its holders implement.
-# The crate p3_util_vectors has only tests, so it is listed with its definitions alone. What the root of a crate re-exports,
-# such as `p3_util::NoRoom`, is below its src/lib.rt.
+# What the root of a crate re-exports, such as `p3_util::NoRoom`, is below its src/lib.rt.
 #
 # The contracts of a crate are followed by its definitions and, in p3_util, by the lemmas for callers without their proofs.
 # Below these are the crate's imports: the modules that the names in its contracts, definitions and lemmas come from. Your
 # crate can import the same names, by `ghost use`.
 #
 # Written by: python3 tools/contract_list.py"""
-CRATES = ["p3_util_kernels", "p3_util", "p3_util_run", "p3_util_c", "p3_util_transform", "p3_util_callers", "p3_util_vectors"]
-ONLY_TESTS = {"p3_util_vectors"}
+CRATES = ["p3_util_kernels", "p3_util", "p3_util_run", "p3_util_c"]
+# No code may rely on these: examples and tests.
+EXAMPLES = {"p3_util_callers", "p3_util_transform", "p3_util_vectors"}
 # In these sources, what only the crate itself sees is listed too.
 PARTS = r"crates/p3_util_kernels/src/parts\b"
 # In this crate, that which these files of the package name is listed too. They are written by hand, and trust its clauses.
@@ -132,7 +133,7 @@ def exports(text):
 def sections(crate):
     """The sections of a crate, each with its path, its lines and the names that it imports: the sources without tests, the
     files of definitions, and the files of lemmas for callers."""
-    sources = [] if crate in ONLY_TESTS else sorted(glob.glob(f"crates/{crate}/src/**/*.rt", recursive=True))
+    sources = sorted(glob.glob(f"crates/{crate}/src/**/*.rt", recursive=True))
     definitions = sorted(glob.glob(f"crates/{crate}/specs/**/*.antt", recursive=True))
     for path in [*(path for path in sources if not re.search(r"/tests[./]", path)), *definitions]:
         yield path, *listed(path)

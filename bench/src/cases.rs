@@ -35,7 +35,7 @@ const GROUPS_ON_THREADS: &[Group] = &[
     ("transposes of fewer than 2^18 items", |it| {
         it.is("transpose", ..1 << 18)
     }),
-    ("transposes of fewer than 2^22 items", |it| {
+    ("transposes of 2^18 items and more, but fewer than 2^22", |it| {
         it.is("transpose", 1 << 18..1 << 22)
     }),
     ("transposes of 2^22 items and more", |it| it.is("transpose", 1 << 22..)),
@@ -175,6 +175,7 @@ pub fn chosen(options: &Options) -> Vec<Case> {
     let of_size = |item_size| works.iter().map(move |&work| Case { work, item_size, parts });
     let sizes = distinct(options.items.iter().flatten().copied());
     let mut cases: Vec<Case> = sizes.into_iter().flat_map(of_size).filter(Case::is_whole).collect();
+    cases.retain(|case| case.items() * case.item_size <= options.largest);
     cases.sort_by_key(|case| case.work.call());
     cases
 }

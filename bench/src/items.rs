@@ -30,9 +30,11 @@ mod over_library {
 }
 
 /// The sizes of an item in bytes.
-#[cfg(library)]
+#[cfg(few)]
+pub const SIZES: &[usize] = &[1, 4, 8, 16, 32];
+#[cfg(all(library, not(few)))]
 pub const SIZES: &[usize] = &[1, 2, 4, 8, 12, 16, 20, 24, 32, 40, 48, 64];
-#[cfg(not(library))]
+#[cfg(not(any(library, few)))]
 pub const SIZES: &[usize] = &[1, 2, 3, 4, 8, 12, 16, 20, 24, 32, 40, 48, 64];
 
 pub trait Item: Copy + PartialEq + Send + Sync + 'static {
@@ -102,28 +104,40 @@ impl Task for Case {
     fn prepare(&self) -> Runner {
         match self.item_size {
             1 => runner::<u8>(self),
-            2 => runner::<u16>(self),
-            #[cfg(not(library))]
-            3 => runner::<[u8; 3]>(self),
             4 => runner::<u32>(self),
             8 => runner::<u64>(self),
-            12 => runner::<[u32; 3]>(self),
             16 => runner::<[u64; 2]>(self),
-            20 => runner::<[u32; 5]>(self),
-            24 => runner::<[u64; 3]>(self),
             32 => runner::<[u64; 4]>(self),
-            40 => runner::<[u64; 5]>(self),
-            48 => runner::<[u64; 6]>(self),
-            64 => runner::<[u64; 8]>(self),
+            #[cfg(not(few))]
+            size => other_runner(size, self),
+            #[cfg(few)]
             size => unreachable!("there are no items of {size} bytes"),
         }
+    }
+}
+
+/// The runner for items of the sizes that a build for few sizes does not have.
+#[cfg(not(few))]
+fn other_runner(size: usize, case: &Case) -> Runner {
+    match size {
+        2 => runner::<u16>(case),
+        #[cfg(not(library))]
+        3 => runner::<[u8; 3]>(case),
+        12 => runner::<[u32; 3]>(case),
+        20 => runner::<[u32; 5]>(case),
+        24 => runner::<[u64; 3]>(case),
+        40 => runner::<[u64; 5]>(case),
+        48 => runner::<[u64; 6]>(case),
+        64 => runner::<[u64; 8]>(case),
+        size => unreachable!("there are no items of {size} bytes"),
     }
 }
 
 fn runner<T: Item>(case: &Case) -> Runner {
     let contenders = contenders(case);
     let mut lists = Lists::<T>::new(case);
-    contenders.iter().for_each(|&contender| lists.check(contender));
+    let wanted: Vec<T> = (0..lists.from.len()).map(|i| lists.from[case.source(i)]).collect();
+    contenders.iter().for_each(|&contender| lists.check(contender, &wanted));
     Box::new(move |contender, times| lists.run(contenders[contender], times))
 }
 
@@ -214,20 +228,21 @@ impl<T: Item> Lists<T> {
         }
     }
 
-    /// Makes one call from the same start and compares the list with the definition, item by item.
-    fn check(&mut self, contender: Contender) {
+    /// Makes one call from the same start and compares the list with the one that the definition says.
+    fn check(&mut self, contender: Contender, wanted: &[T]) {
         self.to.copy_from_slice(&self.from);
         self.run(contender, 1);
-        let is_copy = contender == Contender::Copy;
-        for (i, item) in self.to.iter().enumerate() {
-            let source = if is_copy { i } else { self.case.source(i) };
-            assert!(
-                *item == self.from[source],
-                "{} of {}: wrong at {i}",
-                self.case.work.call(),
-                self.case.work.shape()
-            );
-        }
+        let wanted = if contender == Contender::Copy {
+            self.from.as_slice()
+        } else {
+            wanted
+        };
+        assert!(
+            self.to == wanted,
+            "wrong: {} of {}",
+            self.case.work.call(),
+            self.case.work.shape()
+        );
     }
 }
 

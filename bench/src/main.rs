@@ -44,11 +44,11 @@ fn main() -> ExitCode {
 
 fn run(options: &Options) -> Result<(), String> {
     let _busy = Busy::start(options.busy)?;
-    if options.words {
-        return words::run(options);
-    }
-    if options.iterators {
-        return iterators::run(options);
+    if options.words || options.iterators {
+        let run = if options.words { words::run } else { iterators::run };
+        run(options)?;
+        print_call(options);
+        return Ok(());
     }
     let cases = cases::chosen(options);
     let Some(took) = measured(&cases, options)? else {
@@ -66,15 +66,19 @@ fn run(options: &Options) -> Result<(), String> {
         table::summaries(&rows, &options.items),
         table::slower(&rows, &options.build())
     );
+    print_call(options);
+    if let Some(file) = &options.svg {
+        let svg = picture::svg(&rows, options.cpu.as_deref());
+        std::fs::write(file, svg).map_err(|e| format!("{}: {e}", file.display()))?;
+    }
+    Ok(())
+}
+
+fn print_call(options: &Options) {
     if let Mode::Time = options.mode {
         println!(
             "A call of another crate that does nothing takes {:.1} ns on this machine.",
             call::of_another_crate(options.runs)
         );
     }
-    if let Some(file) = &options.svg {
-        let svg = picture::svg(&rows, options.cpu.as_deref());
-        std::fs::write(file, svg).map_err(|e| format!("{}: {e}", file.display()))?;
-    }
-    Ok(())
 }

@@ -29,6 +29,8 @@ pub struct Options {
     /// The number of parts to ask for, if calls are cut into parts.
     pub parts: Option<usize>,
     pub runs: usize,
+    /// The most bytes that a list may have.
+    pub largest: usize,
     pub wide: bool,
     pub svg: Option<PathBuf>,
     pub cpu: Option<String>,
@@ -83,6 +85,7 @@ impl Options {
             shapes: distinct(shapes.into_iter().chain(list(WIDE_SHAPES, shape)?)),
             parts: None,
             runs: 9,
+            largest: usize::MAX,
             wide: false,
             svg: None,
             cpu: None,
@@ -108,6 +111,7 @@ impl Options {
                 "--shapes" => options.shapes = list(&value()?, shape)?,
                 "--parts" => options.parts = Some(number(&value()?)?),
                 "--runs" => options.runs = number(&value()?)?,
+                "--largest" => options.largest = number::<usize>(&value()?)? << 20,
                 "--wide" => options.wide = true,
                 "--svg" => options.svg = Some(value()?.into()),
                 "--cpu" => options.cpu = Some(value()?),

@@ -112,7 +112,7 @@ pub fn long(rows: &[Row], unit: Unit) -> String {
         let (an_item, copies) = (row.an_item(), row.copies());
         let _ = writeln!(
             out,
-            "| {call} | {item_size} | {shape} | {an_item:.2} | {copies:.1} | {ratio} | {call_ratio} | {before} |"
+            "| {call} | {item_size} | {shape} | {an_item:.2} | {copies:.2} | {ratio} | {call_ratio} | {before} |"
         );
     }
     out.push('\n');

@@ -11,10 +11,10 @@ const TASK: Duration = Duration::from_millis(60);
 /// The least nanoseconds that each contender takes for its task, in at least `runs` runs. `runner` lets the contender
 /// with this number, counted from 0, do its task that many times.
 pub fn least(contenders: usize, runs: usize, runner: &mut dyn FnMut(usize, u32)) -> Vec<f64> {
-    let repeats: Vec<u32> = (0..contenders).map(|k| repeats(runner, k)).collect();
-    let mut least = vec![f64::INFINITY; contenders];
     let start = processor_time();
-    let mut done = 0;
+    // What finds the numbers of repeats is the first run.
+    let (repeats, mut least): (Vec<u32>, Vec<f64>) = (0..contenders).map(|k| repeats(runner, k)).unzip();
+    let mut done = 1;
     while done < runs || processor_time() - start < TASK {
         for k in turn(done, contenders) {
             let time = run(runner, k, repeats[k]).as_secs_f64() * 1e9;
@@ -36,13 +36,16 @@ fn turn(round: usize, len: usize) -> impl Iterator<Item = usize> {
     (0..len).map(move |i| (round / 2 + i * step) % len)
 }
 
-/// How often a contender repeats its task in one run.
-fn repeats(runner: &mut dyn FnMut(usize, u32), contender: usize) -> u32 {
+/// How often a contender repeats its task in one run, and the nanoseconds that the task takes in such a run.
+fn repeats(runner: &mut dyn FnMut(usize, u32), contender: usize) -> (u32, f64) {
     let mut repeats = 1;
-    while run(runner, contender, repeats) < LEAST_RUN {
+    loop {
+        let time = run(runner, contender, repeats);
+        if time >= LEAST_RUN {
+            return (repeats, time.as_secs_f64() * 1e9 / f64::from(repeats));
+        }
         repeats *= 2;
     }
-    repeats
 }
 
 fn run(runner: &mut dyn FnMut(usize, u32), contender: usize, repeats: u32) -> Duration {

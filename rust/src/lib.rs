@@ -167,6 +167,7 @@ mod checked;
 pub mod kernels;
 pub mod linear_map;
 mod memory;
+#[doc(alias = "DisjointMutPtr")]
 pub mod parts;
 #[cfg(doctest)]
 mod refused;

@@ -77,6 +77,7 @@ impl<K: Eq, V> LinearMap<K, V> {
     ///
     /// If memory runs out.
     #[track_caller]
+    #[doc(alias = "entry")]
     pub fn get_or_insert_with(&mut self, k: K, f: impl FnOnce() -> V) -> &mut V {
         granted(self.0.get_or_insert_with(k, f))
     }
@@ -91,7 +92,8 @@ impl<K: Eq, V> LinearMap<K, V> {
         self.0.values()
     }
 
-    /// The pairs, in order.
+    /// The pairs, in order. Their number is that of the iterator.
+    #[doc(alias = "len")]
     pub fn iter(&self) -> Iter<'_, K, V> {
         self.0.iter()
     }

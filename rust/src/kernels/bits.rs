@@ -1,3 +1,4 @@
+// rust/erase writes this file from crates/p3_util_kernels/src/bits.rt. Make changes there.
 //! Logarithms and powers of integers, the reversal of their binary digits, and the short names of
 //! types.
 

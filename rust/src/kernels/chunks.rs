@@ -1,3 +1,4 @@
+// rust/erase writes this file from crates/p3_util/src/chunks.rt. Make changes there.
 //! Iterators that are cut into chunks of a fixed size.
 
 use core::iter::FusedIterator;

@@ -1,3 +1,4 @@
+// rust/erase writes this file from crates/p3_util_kernels/src/grid.rt. Make changes there.
 //! Squares of a list, and the exchange of their items across the diagonal.
 //!
 //! A *grid* is a square with 2^k rows and columns. Its row `x` begins at a place of the list, and

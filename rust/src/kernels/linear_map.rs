@@ -1,3 +1,4 @@
+// rust/erase writes this file from crates/p3_util/src/linear_map.rt. Make changes there.
 //! A map that keeps its pairs in the order of insertion. It finds a key by comparing it with each
 //! stored key.
 

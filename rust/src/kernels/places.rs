@@ -1,3 +1,4 @@
+// rust/erase writes this file from crates/p3_util_kernels/src/places.rt. Make changes there.
 //! Lists that are reached by index alone, and counters that count the changes to such lists.
 //!
 //! These terms are used throughout the crate:

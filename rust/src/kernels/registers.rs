@@ -1,3 +1,4 @@
+// rust/erase writes this file from crates/p3_util_kernels/src/registers.rt. Make changes there.
 //! Squares of items that are transposed in registers, for holders that can read, write and interleave
 //! registers.
 //!

@@ -1,3 +1,4 @@
+// rust/erase writes this file from crates/p3_util_kernels/src/reverse.rt. Make changes there.
 //! Bit reversal of lists: item `i` moves to the index whose binary digits are those of `i` in
 //! reversed order.
 //!

@@ -1,3 +1,4 @@
+// rust/erase writes this file from crates/p3_util_kernels/src/transpose.rt. Make changes there.
 //! Transposes of matrices that are stored as flat lists, row after row.
 //!
 //! A *region* is a rectangle in a matrix: the items that lie in some neighbouring rows and in some

@@ -1,3 +1,4 @@
+// rust/erase writes this file from crates/p3_util/src/zip_eq.rt. Make changes there.
 //! Two iterators of one length as one iterator of pairs.
 
 use core::iter::FusedIterator;

@@ -1,3 +1,4 @@
+// rust/erase writes this file from crates/p3_util_kernels/src/bits/digits.rt. Make changes there.
 //! Reverses the binary digits of an integer by halves: the two halves change places, and each half
 //! is reversed in the same way, down to bytes.
 //!

@@ -1,3 +1,4 @@
+// rust/erase writes this file from crates/p3_util_kernels/src/bits/names.rt. Make changes there.
 //! The short names of types.
 
 use crate::memory::{AllocError, Global, String};

@@ -1,3 +1,4 @@
+// rust/erase writes this file from crates/p3_util_kernels/src/parts/reversal.rt. Make changes there.
 //! The parts that a reversal is cut into.
 
 use crate::kernels::grid::TILE;

@@ -1,3 +1,4 @@
+// rust/erase writes this file from crates/p3_util_kernels/src/places/counters.rt. Make changes there.
 //! Counters: holders around another holder, which count its exchanges or its puts.
 //!
 //! A counter is itself a holder, as [`places`](crate::kernels::places) explains. The count rises by the

@@ -1,3 +1,4 @@
+// rust/erase writes this file from crates/p3_util_kernels/src/places/references.rt. Make changes there.
 //! References to holders. Such a reference is a holder too: each step and each read is made by the
 //! holder behind the reference.
 

@@ -1,3 +1,4 @@
+// rust/erase writes this file from crates/p3_util_kernels/src/places/slices.rt. Make changes there.
 //! The holders of slices. [`SlicePlaces`] exchanges items, [`SliceCells`] puts items into the
 //! slice, and [`SliceSource`] reads items.
 

@@ -1,3 +1,4 @@
+// rust/erase writes this file from crates/p3_util_kernels/src/registers/lines.rt. Make changes there.
 //! Blocks whose columns are whole cache lines: each column is stored from its first cell to its last, one right
 //! after the other.
 

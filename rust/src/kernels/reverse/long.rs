@@ -1,3 +1,4 @@
+// rust/erase writes this file from crates/p3_util_kernels/src/reverse/long.rt. Make changes there.
 //! Bit reversal of long lists in three passes: chunks, squares, and chunks again.
 //!
 //! A list of `2^k` items is seen as `2^half` rows of `2^c` items, with `half = k / 2` and

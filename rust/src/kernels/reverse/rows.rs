@@ -1,3 +1,4 @@
+// rust/erase writes this file from crates/p3_util_kernels/src/reverse/rows.rt. Make changes there.
 //! Bit reversal of the order of rows of any width. Each pair of rows whose indices are each other's
 //! reverse is exchanged once. Single items are reversed as rows of one item.
 //!

@@ -1,3 +1,4 @@
+// rust/erase writes this file from crates/p3_util_kernels/src/transpose/butterfly.rt. Make changes there.
 //! The transpose of a block of 4 by 4 items in two stages. Each stage exchanges one bit of the row
 //! number with the same bit of the column number.
 //!

@@ -1,3 +1,4 @@
+// rust/erase writes this file from crates/p3_util_kernels/src/transpose/lines.rt. Make changes there.
 //! Puts a region by *lines*: by the cache lines of the output, from the first cell of a line to its last.
 //!
 //! The strips of 1024 columns are put from top to bottom, and then those of the next columns. A *strip* here has one line of

@@ -1,3 +1,4 @@
+// rust/erase writes this file from crates/p3_util_kernels/src/transpose/order.rt. Make changes there.
 //! The orders in which a matrix may be put.
 
 use crate::kernels::places::{Cells, Source};

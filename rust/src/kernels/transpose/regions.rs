@@ -1,3 +1,4 @@
+// rust/erase writes this file from crates/p3_util_kernels/src/transpose/regions.rt. Make changes there.
 //! Matrices, their regions, and the parts that a region is cut into.
 
 /// A matrix of `height` rows of `width` items. The items are in `source`, row after row.

@@ -1,3 +1,4 @@
+// rust/erase writes this file from crates/p3_util_kernels/src/transpose/split.rt. Make changes there.
 //! Puts a large region: halves its longer side, and does the same with each half, until the parts
 //! are leaves. A *leaf* is a part that is small or narrow. It is put strip by strip.
 

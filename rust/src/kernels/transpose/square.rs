@@ -1,3 +1,4 @@
+// rust/erase writes this file from crates/p3_util_kernels/src/transpose/square.rt. Make changes there.
 //! Transposes a square of items in place.
 //!
 //! The item in row `a` and column `b` of the square is at place `base + a * stride + b` of the

@@ -1,3 +1,4 @@
+// rust/erase writes this file from crates/p3_util_kernels/src/transpose/strips.rt. Make changes there.
 //! Puts a region strip by strip, with one put for each item.
 //!
 //! - The item in row y and column x of the matrix is at `y * width + x` of its source. It is put
