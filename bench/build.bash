@@ -75,7 +75,7 @@ building() {
 # package NAME FOLDER: builds the package of the checkout in this folder as a crate with this name.
 package() {
     building "the package in $2"
-    "${rust[@]}" "${package_level[@]}" --crate-type lib --crate-name "$1" --check-cfg 'cfg(test, ordinary_stores)' --cap-lints warn \
+    "${rust[@]}" "${package_level[@]}" --crate-type lib --crate-name "$1" --check-cfg 'cfg(test, ordinary_stores, unaligned_is_slow)' --cap-lints warn \
         --check-cfg 'cfg(feature, values("checked"))' ${checked:+--cfg 'feature="checked"'} \
         -o "$out/lib$1.rlib" "$2/rust/src/lib.rs"
 }

@@ -7,7 +7,9 @@
 //! | `by_size.rs`, `by_type.rs` | choose the instance of a kernel | that the precondition was checked |
 //! | `order.rs` | decide how a matrix is put | nothing: each order is right for every matrix |
 //! | `holders.rs` | unsafe code: move items by index, without a check | that each index meets the contract of its step |
+//! | `bytes.rs` | unsafe code: move the bytes of an item, or of a run of items | that they are within the list |
 //! | `registers.rs` | unsafe code: interleave and halve registers | nothing: each of its functions is defined for all registers |
+//! | `cache.rs` | unsafe code: instructions on the caches | nothing: they change no memory |
 //!
 //! It is proved that a kernel whose own precondition holds meets the preconditions of `exchange`, `put` and `at`, for
 //! every holder. So the holders check no index. `reverse`, `reverse_rows`, `transpose`, `parts_of_transpose` and
@@ -36,6 +38,12 @@ use holders::{SliceItems as PartItems, SliceItems as SliceCells, SliceItems as S
 #[cfg(not(feature = "checked"))]
 mod by_size;
 mod by_type;
+#[cfg(not(feature = "checked"))]
+#[allow(unsafe_code)]
+mod bytes;
+#[cfg(not(feature = "checked"))]
+#[allow(unsafe_code)]
+mod cache;
 #[cfg(not(feature = "checked"))]
 #[allow(unsafe_code)]
 mod holders;

@@ -1,12 +1,11 @@
 """Prints each function of a user from which a store past the caches could reach another thread too late. There should be none.
 
-    objdump -dr --no-show-raw-insn PACKAGE CRATE | fenced.py [NAME]    the package, and a crate that uses it, for x86-64
+    objdump -dr --no-show-raw-insn PACKAGE CRATE | fenced.py    the package, and a crate that uses it, for x86-64
 
 A store past the caches, such as `movntdq`, is ordered with the stores after it only by an `sfence`. The proved function that
 makes such stores leaves the `sfence` to its caller, which is code by hand. So this finds out what may be executed after such a
 store, and after a call of a function that may return before the `sfence`. A function of the user should find all of them
-done: it is printed if it calls a function of the package that may return before the `sfence`. Functions with the name NAME
-are left out, since their stores past the caches are never executed."""
+done: it is printed if it calls a function of the package that may return before the `sfence`."""
 import re
 import sys
 
@@ -74,10 +73,10 @@ def functions(lines):
 
 
 def main():
-    found, leaving, left_out = functions(sys.stdin), set(), "".join(f"{len(name)}{name}" for name in sys.argv[1:]) or " "
+    found, leaving = functions(sys.stdin), set()
     if not any(STORE.match(name) for function in found.values() for _, name, _, _ in function.code):
         print("no function stores past the caches")
-    while new := {name for name in found.keys() - leaving if left_out not in name and found[name].leaves_stores(leaving)}:
+    while new := {name for name in found.keys() - leaving if found[name].leaves_stores(leaving)}:
         leaving |= new
     users = sorted(name for name in leaving if "p3_util_proved" not in name)
     print(*users, sep="\n", end="\n" if users else "")

@@ -54,13 +54,14 @@ def types_of(text):
 
 
 def references(text):
-    """The types of the references that a function makes from a pointer, or that another function returns to it."""
+    """The types of the references that a function makes from a pointer, or that another function returns to it. Those to a
+    plan are left out, since a plan has no items."""
     types = types_of(text)
     for to, value in re.findall(r"^ +(_\d+) = (.*?)(?: -> .*)?;$", text, re.M):
         of = re.match(r"&(?:mut )?\W*(_\d+)", value)
         is_other = not re.match(r"(?:move|copy|const) (?!.*\(Transmute\)$)|[(&]|.*::Some\(", value)
         is_made = types.get(of[1], "").startswith("*") if of else is_other
-        if is_made and re.match(r"(?:core::option::Option<|\()*&", types.get(to, "")):
+        if is_made and re.match(r"(?:core::option::Option<|\()*&(?!\S*Plan\b)", types.get(to, "")):
             yield re.sub(r"core::(?:option|mem)::", "", types[to])
 
 

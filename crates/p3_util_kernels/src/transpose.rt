@@ -42,7 +42,7 @@ pub use split::{transpose_source_split_on, transpose_split_on};
 pub(crate) use square::transpose_square;
 pub use square::{fits_square, transpose_square_on};
 use strips::put_strips;
-pub(crate) use strips::{Strips, UNIT, put_rest};
+pub(crate) use strips::{Strips, UNIT, put_columns};
 
 /// How many levels of splits a transpose is given. No matrix needs as many.
 const ENOUGH_LEVELS: u32 = 64;

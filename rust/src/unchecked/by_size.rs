@@ -9,7 +9,8 @@
 //! If the processor does not move unaligned bytes as fast as aligned ones, each type has kernels of its own.
 
 use super::by_type::{self, LONG_BYTES};
-use super::holders::{Bytes, InRegisters, MOVES_BYTES, SliceItems, SliceSource};
+use super::bytes::{Bytes, MOVES_BYTES};
+use super::holders::{InRegisters, SliceItems, SliceSource};
 use super::order::order_of;
 use super::registers::{Items, Register, USES_REGISTERS};
 use super::{Part, Reversal};

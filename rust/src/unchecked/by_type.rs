@@ -5,7 +5,7 @@ use super::order::order_of;
 use super::{Part, PartItems, Reversal};
 use crate::kernels::places::{Cells, Places, Source};
 use crate::kernels::reverse::{self, RowDigits, reverse_short};
-use crate::kernels::transpose::{Matrix, Order, put_rest, transpose_matrix};
+use crate::kernels::transpose::{Matrix, Order, put_columns, transpose_matrix};
 
 /// An item of at least this many bytes is long. It is exchanged as a run of bytes, which takes hardly longer, and is put
 /// by its index.
@@ -28,8 +28,9 @@ pub(super) fn reverse_rows(items: impl Places, row_width: usize) {
 #[inline(always)]
 pub(super) fn transpose<M: Cells, R: Source<Item = M::Item> + Copy>(order: Order, cells: M, matrix: Matrix<R>) {
     match order {
-        // This names no other order, so that a crate of the user compiles none.
-        Order::Columns if const { size_of::<M::Item>() < LONG_BYTES } => _ = put_rest(cells, matrix, matrix.whole()),
+        // This names no other order, so that a crate of the user compiles none. The matrix has rows: this order is chosen for
+        // one that has items.
+        Order::Columns if const { size_of::<M::Item>() < LONG_BYTES } => _ = put_columns(cells, matrix, matrix.whole()),
         _ => put(None, cells, matrix),
     }
 }

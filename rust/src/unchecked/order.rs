@@ -15,8 +15,8 @@
 //! | Items | Strips | Why |
 //! |---|---|---|
 //! | 1 or 2 bytes | high, by blocks of 8 by 8 | a register holds one or two rows of such a block |
-//! | 4 bytes | high, by blocks of 4 by 4 | a register holds a row |
-//! | up to 32768 items of 8 bytes: `BLOCKS_LONG_ITEMS` | high, by blocks of `LONG_ITEMS_SIDE` | in a larger matrix the blocks gain nothing |
+//! | 4 bytes | high, by blocks of 4 by 4. On aarch64, by blocks of 8 by 8 | a register holds a row of 4. See `SIDE` |
+//! | 8 bytes, on x86-64 up to 32768 items: `BLOCKS_LONG_ITEMS` | the same | on x86-64, in a larger matrix the blocks gain nothing |
 //! | all others | low if 16 divides the width, otherwise high, column after column | see `Strips::by_width` |
 //!
 //! Lines are put on x86-64, and blocks where items are transposed in registers. Elsewhere the lines of the tables that speak
@@ -48,12 +48,15 @@ const LIMITS: [usize; 3] = if cfg!(test) {
     [PAST_CACHES, LINE_COLS, LONG_COLUMN]
 };
 
-/// A matrix of more items of 8 bytes is not put by blocks in registers.
+/// On x86-64, a matrix of more items of 8 bytes is not put by blocks in registers.
 const BLOCKS_LONG_ITEMS: usize = 1 << 15;
 
-/// The side of the blocks of at most that many items of 8 bytes. On aarch64, which has 32 vector registers, a block of 8 by
-/// 8 items takes fewer instructions than four of 4 by 4. On x86-64 it takes more.
-const LONG_ITEMS_SIDE: usize = if cfg!(target_arch = "aarch64") { 8 } else { 4 };
+/// On aarch64, which has 32 vector registers, a block of 8 by 8 items of 4 or 8 bytes takes fewer instructions than four
+/// blocks of 4 by 4, and than columns, at every size. On x86-64 it takes more than four blocks of 4 by 4.
+const IS_AARCH64: bool = cfg!(target_arch = "aarch64");
+
+/// The side of the blocks of items of 4 and 8 bytes.
+const SIDE: usize = if cfg!(target_arch = "aarch64") { 8 } else { 4 };
 
 /// The order in which a part is put. `first` is the address of the first cell of the output. Without it, lines are not taken.
 #[inline(always)]
@@ -66,8 +69,8 @@ pub(super) fn order_of<R>(size: usize, matrix: Matrix<R>, part: Part, first: Opt
     let is_long = column >= long_column || size < 16 && column % LINE == 0;
     let strips = match size {
         1 | 2 if USES_REGISTERS => Strips::high(8),
-        4 if USES_REGISTERS => Strips::high(4),
-        8 if USES_REGISTERS && items <= BLOCKS_LONG_ITEMS => Strips::high(LONG_ITEMS_SIDE),
+        4 if USES_REGISTERS => Strips::high(SIDE),
+        8 if USES_REGISTERS && (IS_AARCH64 || items <= BLOCKS_LONG_ITEMS) => Strips::high(SIDE),
         _ => Strips::by_width(matrix.width),
     };
     match (Order::in_strips(strips, items, part.is_none()), first) {

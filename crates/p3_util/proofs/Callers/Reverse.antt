@@ -14,7 +14,7 @@ use Rattle.p3_util_kernels.proofs.Lengths.{zero_or_power}
 use Rattle.p3_util_kernels.proofs.Logs.{power_of_two}
 use Rattle.p3_util_kernels.proofs.SameList.{same_places}
 use Rattle.p3_util_kernels.proofs.ReversalLemmas.{IsReversal-unique, row_reversed_back, IsRowReversal-unique, IsReversal-from_power}
-use Rattle.p3_util.proofs.Callers.Bits.{log_reversible, pair_below, rev_even, rev_odd, rev_first, rev_last, rev_longer}
+use Rattle.p3_util.proofs.Callers.Bits.{pair_below, rev_even, rev_odd, rev_first, rev_last, rev_longer}
 
 -- a number of one digit is its own reverse
 one_digit : (i : ℕ) → i < 2 ^ 1 → rev 1 i ≡ i

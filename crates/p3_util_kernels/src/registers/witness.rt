@@ -2,14 +2,16 @@
 //! a holder, and as a proof that this can be done. No other code uses them, and the package is made without them.
 //!
 //! [`OneTile`] allows what one tile needs and nothing else. [`turn_tile`] is proved for it all the same, so it touches
-//! no place outside the tile, whatever list it is given.
+//! no place outside the tile, whatever list it is given. [`OneColumn`] and [`TwoColumns`] show the same of a line of one
+//! column: [`put_lines`] writes no other cell, and reads the column and the one to its right.
 
-ghost use Rattle.std.specs.Prelude.{◌≡◌, ℕ, ◌+◌, ◌%◌, ◌<◌, ◌≤◌, ◌^◌, ◌⊎◌, List, [], ◌∷◌, length, slice_index};
+ghost use Rattle.std.specs.Prelude.{◌≡◌, ℕ, ◌+◌, ◌*◌, ◌%◌, ◌<◌, ◌≤◌, ◌^◌, ◌⊎◌, List, [], ◌∷◌, length, slice_index};
 ghost use Rattle.std.proofs.Common.{refl, rules};
 ghost use Rattle.p3_util_kernels.specs.BlockPut.{BlockFits, IsBlockPut, block_items};
 ghost use Rattle.p3_util_kernels.specs.Exchanged.{IsTile, TileTurned};
 
 use crate::places::{Block, Places};
+use crate::registers::lines::put_lines;
 use crate::registers::{Pair, Register, Runs, exchange_tiles, put_block, turn_tile};
 
 /// A register of two items.
@@ -106,7 +108,8 @@ impl<'a, T: Copy> Places for Short<'a, T> {
 
 /// Puts a block, as a holder's `put_block` does.
 fn block_put<T: Copy>(cells: &mut Short<T>, source: &Short<T>, block: Block)
-    requires side { (block.side ≡ 4) ⊎ (block.side ≡ 8) }
+    requires side { (block.rows ≡ 4) ⊎ (block.rows ≡ 8) }
+    requires square { block.cols ≡ block.rows }
     requires block { BlockFits block (length source.now.items.now) (length cells.old.items.now) }
     ensures put { IsBlockPut (block_items block) block source.now.items.now cells.old.items.now cells.new.items.now }
     ensures holder { cells.old.items.ghost_name ≡ cells.new.items.ghost_name }
@@ -154,4 +157,84 @@ fn turned_alone<T: Copy>(tile: &mut OneTile<T>)
     ensures holder { tile.old.items.ghost_name ≡ tile.new.items.ghost_name }
 {
     turn_tile::<T, Pair<Duo<T>>, _>(tile, 2, tile.rows);
+}
+
+/// A line of one column: 8 cells from `to` on, of a borrowed list of fewer than 2^63 items. No other cell may be touched.
+struct OneColumn<'a, T> {
+    items: &'a mut [T],
+    to: usize,
+    ghost fits: { length items.now < 2 ^ 63 },
+}
+
+impl<'a, T: Copy> Runs<T, Pair<Duo<T>>> for OneColumn<'a, T> {
+    ghost items = { λ s. s.items.now };
+
+    ghost Reach = { ℕ × (ℕ × ℕ) };
+
+    ghost reach = { λ s. (s.items.ghost_name, (length s.items.now, s.to)) };
+
+    ghost may = { λ reach p. (p + 2 ≤ reach.1.0) × ((k : ℕ) × ((k < 4) × (p ≡ reach.1.1 + k * 2))) };
+
+    ghost may_last = { λ reach p. (p + 2 ≤ reach.1.0) × ((k : ℕ) × ((k < 4) × (p ≡ reach.1.1 + k * 2))) };
+
+    fn load(&self, place: usize) -> Duo<T> {
+        Duo(self.items[place], self.items[place + 1])
+    }
+
+    fn store(&mut self, place: usize, run: Duo<T>) {
+        self.items[place] = run.0;
+        self.items[place + 1] = run.1;
+    }
+
+    ghost may_both = { λ reach p both. both };
+
+    ghost fits = { λ s. s.fits };
+}
+
+/// Two items of each of 8 rows, of a borrowed list of fewer than 2^63 items. No other item may be read.
+struct TwoColumns<'a, T> {
+    items: &'a mut [T],
+    from: usize,
+    width: usize,
+    ghost fits: { length items.now < 2 ^ 63 },
+}
+
+impl<'a, T: Copy> Runs<T, Pair<Duo<T>>> for TwoColumns<'a, T> {
+    ghost items = { λ s. s.items.now };
+
+    ghost Reach = { ℕ × (ℕ × (ℕ × ℕ)) };
+
+    ghost reach = { λ s. (s.items.ghost_name, (length s.items.now, (s.from, s.width))) };
+
+    ghost may = { λ reach p. (p + 2 ≤ reach.1.0) × ((r : ℕ) × ((r < 8) × (p ≡ reach.1.1.0 + r * reach.1.1.1))) };
+
+    ghost may_last = { λ reach p. ⊥ };
+
+    fn load(&self, place: usize) -> Duo<T> {
+        Duo(self.items[place], self.items[place + 1])
+    }
+
+    fn store(&mut self, place: usize, run: Duo<T>) {
+        self.items[place] = run.0;
+        self.items[place + 1] = run.1;
+    }
+
+    ghost may_both = { λ reach p never. absurd never };
+
+    ghost fits = { λ s. s.fits };
+}
+
+/// Puts a line of one column. Its `inside` says that each row has an item to the right of the column.
+fn column_put_alone<T: Copy>(cells: &mut OneColumn<T>, source: &TwoColumns<T>, block: Block)
+    requires side { block.rows ≡ 8 }
+    requires one { block.cols ≡ 1 }
+    requires to { block.to ≡ cells.old.to }
+    requires from { block.from ≡ source.now.from }
+    requires width { block.width ≡ source.now.width }
+    requires inside { (r : ℕ) → r < block.rows → block.from + r * block.width + 2 ≤ length source.now.items.now }
+    requires block { BlockFits block (length source.now.items.now) (length cells.old.items.now) }
+    ensures put { IsBlockPut (block_items block) block source.now.items.now cells.old.items.now cells.new.items.now }
+    ensures holder { cells.old.items.ghost_name ≡ cells.new.items.ghost_name }
+{
+    put_lines::<T, Pair<Duo<T>>, _, _>(cells, source, 2, block);
 }

@@ -8,7 +8,7 @@ use crate::transpose::ENOUGH_LEVELS;
 use crate::transpose::lines::Lines;
 use crate::transpose::regions::{Matrix, Region};
 use crate::transpose::split::put_split;
-use crate::transpose::strips::{Strips, put_rest, put_strips};
+use crate::transpose::strips::{Strips, put_columns, put_strips};
 
 /// A matrix of fewer items is put column after column.
 const TINY_MATRIX: usize = 128;
@@ -69,7 +69,9 @@ impl Order {
         ensures holder { M.same_holder (items_of region) out result }
     {
         match self {
-            Order::Columns => put_rest(out, matrix, region),
+            // A region without rows has no item.
+            Order::Columns if region.row_start == region.row_end => out,
+            Order::Columns => put_columns(out, matrix, region),
             Order::Strips(strips) => put_strips(out, matrix, region, strips),
             Order::Leaves(strips) => {
                 let (out, _) = put_split(out, matrix, region, ENOUGH_LEVELS, strips);

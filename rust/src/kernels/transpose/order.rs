@@ -6,7 +6,7 @@ use crate::kernels::transpose::ENOUGH_LEVELS;
 use crate::kernels::transpose::lines::Lines;
 use crate::kernels::transpose::regions::{Matrix, Region};
 use crate::kernels::transpose::split::put_split;
-use crate::kernels::transpose::strips::{Strips, put_rest, put_strips};
+use crate::kernels::transpose::strips::{Strips, put_columns, put_strips};
 
 /// A matrix of fewer items is put column after column.
 const TINY_MATRIX: usize = 128;
@@ -75,7 +75,9 @@ impl Order {
         region: Region,
     ) -> M {
         match self {
-            Order::Columns => put_rest(out, matrix, region),
+            // A region without rows has no item.
+            Order::Columns if region.row_start == region.row_end => out,
+            Order::Columns => put_columns(out, matrix, region),
             Order::Strips(strips) => put_strips(out, matrix, region, strips),
             Order::Leaves(strips) => {
                 let (out, _) = put_split(out, matrix, region, ENOUGH_LEVELS, strips);

@@ -1,0 +1,111 @@
+//! Moves bytes of items: single items, and runs of them. What a byte means, or whether it was ever written, does not matter
+//! here.
+
+use core::mem::MaybeUninit;
+use core::ptr;
+use core::sync::atomic::{Ordering, compiler_fence};
+
+use super::registers;
+
+/// Whether this processor moves unaligned bytes as fast as aligned ones. Otherwise each item is moved as its type says. On
+/// some systems, rustc moves unaligned bytes of aarch64 one by one. `rust/test` makes a build in which it is false.
+pub(super) const MOVES_BYTES: bool = cfg!(not(unaligned_is_slow))
+    && (cfg!(target_arch = "x86_64")
+        || cfg!(target_arch = "aarch64")
+            && !cfg!(any(
+                target_os = "none",
+                target_os = "hermit",
+                target_os = "nuttx",
+                target_os = "teeos"
+            )));
+
+/// An item of `N` bytes, of which only the size is known, or a row of such items.
+///
+/// A copy of a `MaybeUninit` keeps each byte as it is, also if it was never written, and keeps the provenance of each
+/// pointer. That is true of the parts in which an item is copied too: each of them is a `MaybeUninit`. Its alignment
+/// is 1, which is weaker than that of any item, so a reference to these bytes is aligned wherever the item is. What
+/// moves here is always the bytes of whole items, within the list of these items. So each place has an item
+/// afterwards.
+pub(super) type Bytes<const N: usize> = [MaybeUninit<u8>; N];
+
+/// Writes an item. Its bytes are written from the lowest address on, see [`move_bytes`]. The compiler would write the
+/// upper part first, or parts that overlap. That takes longer, most of all if the item lies in two cache lines.
+///
+/// # Safety
+///
+/// `to` is valid for writes of an item.
+#[inline(always)]
+pub(super) unsafe fn write_item<T>(to: *mut T, item: T) {
+    // SAFETY: this is what the caller promises, and a copy of the item is only read.
+    unsafe {
+        if const { MOVES_BYTES && size_of::<T>() <= 64 } {
+            let item = MaybeUninit::new(item);
+            move_bytes::<false>(item.as_ptr().cast_mut().cast(), to.cast(), size_of::<T>());
+        } else {
+            to.write(item);
+        }
+    }
+}
+
+/// Exchanges two runs of `len` items.
+///
+/// # Safety
+///
+/// Both runs are valid for reads and writes, and do not overlap.
+#[inline(never)]
+pub(super) unsafe fn swap_runs<T>(x: *mut T, y: *mut T, len: usize) {
+    // SAFETY: this is what the caller promises.
+    unsafe {
+        if MOVES_BYTES {
+            move_bytes::<true>(x.cast(), y.cast(), len * size_of::<T>());
+        } else {
+            ptr::swap_nonoverlapping(x, y, len);
+        }
+    }
+}
+
+/// Copies the `len` bytes at `from` to `to`. If `BACK` is true, it also copies those at `to` to `from`. It moves parts
+/// of 16 bytes, and then one of 8, 4, 2 and 1 bytes for each digit of `len` that is set, from the lowest address on.
+/// Parts of single bytes would take longer: there may be up to 15 at the end.
+///
+/// # Safety
+///
+/// The bytes at `from` are valid for reads and those at `to` for writes, and if `BACK` is true, both for both. They do
+/// not overlap.
+#[inline(always)]
+unsafe fn move_bytes<const BACK: bool>(from: *mut u8, to: *mut u8, len: usize) {
+    let mut done = 0;
+    // SAFETY: each part is within the `len` bytes.
+    unsafe {
+        while len - done >= 16 {
+            done += move_part::<registers::Register, BACK>(from.add(done), to.add(done), 16);
+            // Without the fence, the compiler would join two parts of an item. With AVX, two registers are one.
+            if !BACK && len >= 32 && (done % 32 == 0 || cfg!(not(target_feature = "avx"))) {
+                compiler_fence(Ordering::SeqCst);
+            }
+        }
+        done += move_part::<registers::Half, BACK>(from.add(done), to.add(done), len);
+        done += move_part::<MaybeUninit<u32>, BACK>(from.add(done), to.add(done), len);
+        done += move_part::<MaybeUninit<u16>, BACK>(from.add(done), to.add(done), len);
+        move_part::<MaybeUninit<u8>, BACK>(from.add(done), to.add(done), len);
+    }
+}
+
+/// Does the same as [`move_bytes`] for one part, if its size is a digit of `len` that is set. Returns how many bytes it moved.
+/// Some of them may never have been written.
+#[inline(always)]
+unsafe fn move_part<P, const BACK: bool>(from: *mut u8, to: *mut u8, len: usize) -> usize {
+    if len & size_of::<P>() == 0 {
+        return 0;
+    }
+    let (from, to) = (from.cast::<P>(), to.cast::<P>());
+    // SAFETY: this is what the caller promises.
+    unsafe {
+        let part = from.read_unaligned();
+        if BACK {
+            from.write_unaligned(to.read_unaligned());
+        }
+        to.write_unaligned(part);
+    }
+    size_of::<P>()
+}
