@@ -8,8 +8,8 @@ use core::slice::from_raw_parts;
 use core::sync::atomic::{Ordering, compiler_fence};
 
 use super::bytes::{Bytes, swap_runs, write_item};
+use super::cache;
 use super::order::LINE;
-use super::{cache, registers};
 use crate::kernels::places::{Block, Cells, Places, Source};
 use crate::kernels::registers::{self as squares, Register, Runs};
 
@@ -213,7 +213,7 @@ impl<T, D: Register<T>> Runs<T, D> for SliceItems<'_, T> {
         debug_assert!(self.first.wrapping_add(place).addr() % 16 == 0);
         // SAFETY (of both): a run is a register here. It `may_last` be written, by the `requires` of `Runs::store_last`:
         // `InRegisters::may_last` tests that.
-        let (to, run): (_, registers::Register) = (self.first.wrapping_add(place), unsafe {
+        let (to, run): (_, super::registers::Register) = (self.first.wrapping_add(place), unsafe {
             core::mem::transmute_copy(&run)
         });
         unsafe { core::arch::asm!("movntdq [{}], {}", in(reg) to, in(xmm_reg) run, options(nostack, preserves_flags)) }
