@@ -118,7 +118,7 @@ fn block_put<T: Copy>(cells: &mut Short<T>, source: &Short<T>, block: Block)
 }
 
 /// One tile of a borrowed list of fewer than 2^63 items: 8 items from each place of `rows` on. Only runs within these
-/// may be touched, and `store_last` may write none.
+/// may be touched, and `store_last` may write the run at place 0 alone.
 struct OneTile<'a, T> {
     items: &'a mut [T],
     rows: [usize; 8],
@@ -134,7 +134,7 @@ impl<'a, T: Copy> Runs<T, Pair<Duo<T>>> for OneTile<'a, T> {
 
     ghost may = { λ reach p. (p + 2 ≤ reach.1.0) × ((r : ℕ) × ((c : ℕ) × ((r < 8) × ((c + 2 ≤ 8) × (p ≡ slice_index reach.1.1 r + c))))) };
 
-    ghost may_last = { λ reach p. ⊥ };
+    ghost may_last = { λ reach p. ((p + 2 ≤ reach.1.0) × ((r : ℕ) × ((c : ℕ) × ((r < 8) × ((c + 2 ≤ 8) × (p ≡ slice_index reach.1.1 r + c)))))) × (p ≡ 0) };
 
     fn load(&self, place: usize) -> Duo<T> {
         Duo(self.items[place], self.items[place + 1])
@@ -145,7 +145,7 @@ impl<'a, T: Copy> Runs<T, Pair<Duo<T>>> for OneTile<'a, T> {
         self.items[place + 1] = run.1;
     }
 
-    ghost may_both = { λ reach p never. absurd never };
+    ghost may_both = { λ reach p both. both.0 };
 
     ghost fits = { λ s. s.fits };
 }
@@ -191,7 +191,8 @@ impl<'a, T: Copy> Runs<T, Pair<Duo<T>>> for OneColumn<'a, T> {
     ghost fits = { λ s. s.fits };
 }
 
-/// Two items of each of 8 rows, of a borrowed list of fewer than 2^63 items. No other item may be read.
+/// Two items of each of 8 rows, of a borrowed list of fewer than 2^63 items. No other item may be read. As in [`OneTile`],
+/// `store_last` may write the run at place 0 alone.
 struct TwoColumns<'a, T> {
     items: &'a mut [T],
     from: usize,
@@ -208,7 +209,7 @@ impl<'a, T: Copy> Runs<T, Pair<Duo<T>>> for TwoColumns<'a, T> {
 
     ghost may = { λ reach p. (p + 2 ≤ reach.1.0) × ((r : ℕ) × ((r < 8) × (p ≡ reach.1.1.0 + r * reach.1.1.1))) };
 
-    ghost may_last = { λ reach p. ⊥ };
+    ghost may_last = { λ reach p. ((p + 2 ≤ reach.1.0) × ((r : ℕ) × ((r < 8) × (p ≡ reach.1.1.0 + r * reach.1.1.1)))) × (p ≡ 0) };
 
     fn load(&self, place: usize) -> Duo<T> {
         Duo(self.items[place], self.items[place + 1])
@@ -219,7 +220,7 @@ impl<'a, T: Copy> Runs<T, Pair<Duo<T>>> for TwoColumns<'a, T> {
         self.items[place + 1] = run.1;
     }
 
-    ghost may_both = { λ reach p never. absurd never };
+    ghost may_both = { λ reach p both. both.0 };
 
     ghost fits = { λ s. s.fits };
 }
