@@ -3,7 +3,7 @@ use Rattle.std.proofs.Common.{◌≡◌, ℕ, zero, suc, true, false, ◌==◌, 
 use Rattle.std.proofs.lemmas.Nat.{div-add-mod'}
 use Rattle.p3_util_kernels.specs.declared.grid.Grid.{Grid}
 use Rattle.p3_util_kernels.specs.Digits.{rev, sum_below}
-use Rattle.p3_util_kernels.specs.Grid.{AreSteps, IsInFirstRow, PlacesFit, row_place}
+use Rattle.p3_util_kernels.specs.Grid.{AreRowDistances, IsInFirstRow, PlacesFit, row_place}
 use Rattle.p3_util_kernels.proofs.DigitsLemmas.{rev-of-zero, rev-parts}
 use Rattle.p3_util_kernels.proofs.PowersLemmas.{exponent-le}
 use Rattle.p3_util_kernels.proofs.Tables.{all_below, all_below-at}
@@ -22,8 +22,8 @@ pub turned : (grid : Grid) (x : ℕ) → grid.reversed ≡ true → row_place gr
 unfolding row_place
 turned grid x e = rw e refl
 
-pub AreSteps-in_order : (grid : Grid) → grid.reversed ≡ false → AreSteps grid grid.stride (2 * grid.stride) (4 * grid.stride)
-AreSteps-in_order grid e x t whole room less =
+pub AreRowDistances-in_order : (grid : Grid) → grid.reversed ≡ false → AreRowDistances grid grid.stride (2 * grid.stride) (4 * grid.stride)
+AreRowDistances-in_order grid e x t whole room less =
     let digits : t ≡ t % 2 + t / 2 % 2 * 2 + t / 4 * 4 = omega arith in
     let parts : t * grid.stride ≡ t % 2 * grid.stride + t / 2 % 2 * (2 * grid.stride) + t / 4 * (4 * grid.stride) = ap (λ n. n * grid.stride) digits ∙ omega arith in
     omega (arith, in_order grid (x + t) e, in_order grid x e, parts)
@@ -32,8 +32,8 @@ AreSteps-in_order grid e x t whole room less =
 pub three : (digits : ℕ) → 8 ≤ 2 ^ digits → 3 ≤ digits
 three digits h = exponent-le 3 digits h
 
-pub AreSteps-reversed : (grid : Grid) (step : ℕ) → grid.reversed ≡ true → step ≡ grid.stride * 2 ^ (grid.digits - 3) → AreSteps grid (4 * step) (2 * step) step
-AreSteps-reversed grid step e is x t whole room less =
+pub AreRowDistances-reversed : (grid : Grid) (step : ℕ) → grid.reversed ≡ true → step ≡ grid.stride * 2 ^ (grid.digits - 3) → AreRowDistances grid (4 * step) (2 * step) step
+AreRowDistances-reversed grid step e is x t whole room less =
     let d = grid.digits in
     let some : 3 ≤ d = three d (omega arith) in
     let all : d - 3 + 3 ≡ d = omega arith in
@@ -49,7 +49,7 @@ AreSteps-reversed grid step e is x t whole room less =
     omega (arith, turned grid (x + t) e, turned grid x e, rw (← is) at scaled, steps)
 
 -- the last of the 8 rows fits in a usize, and so do the others
-pub last_fits : (grid : Grid) (one two four first : ℕ) → PlacesFit grid → AreSteps grid one two four → IsInFirstRow grid first → first + one + two + four < 2 ^ 64
+pub last_fits : (grid : Grid) (one two four first : ℕ) → PlacesFit grid → AreRowDistances grid one two four → IsInFirstRow grid first → first + one + two + four < 2 ^ 64
 last_fits grid one two four first fits steps at =
     omega (arith, at, steps at.x 7 at.whole at.x_below (omega arith), fits.rows (at.x + 7) (omega (arith, at.x_below)))
 

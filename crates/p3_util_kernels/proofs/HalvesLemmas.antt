@@ -18,22 +18,22 @@ lev-of_region region width height lies wide tall fits =
     lev_le (rows_of region) (cols_of region) (omega (arith, lies)) (omega (arith, lies)) (omega (arith, items, mul_comm width height))
 
 -- A side above 128 in two parts: its half, rounded down, and the rest of it.
-halves : (side half rest : ℕ) → 128 < side → half ≡ side / 2 → rest ≡ side - side / 2
+clog-cut_in_half : (side half rest : ℕ) → 128 < side → half ≡ side / 2 → rest ≡ side - side / 2
     → (7 < clog side) × (clog rest + 1 ≡ clog side) × (clog half ≤ clog rest)
-halves side half rest h e f = (clog-above side 7 h, rw f (clog-half side (omega arith)), clog-le half rest (omega arith))
+clog-cut_in_half side half rest h e f = (clog-above side 7 h, rw f (clog-half side (omega arith)), clog-le half rest (omega arith))
 
 pub AreHalves-rows : (whole : Region) → 2 < cols_of whole → 128 < rows_of whole → whole.row_start ≤ whole.row_end
     → let middle = whole.row_start + rows_of whole / 2 in AreHalves whole (record whole { row_end = middle }) (record whole { row_start = middle })
 AreHalves-rows whole deep high order =
     let middle = whole.row_start + rows_of whole / 2 in
-    let sides = halves (rows_of whole) (middle - whole.row_start) (whole.row_end - middle) high (omega arith) (omega arith) in
+    let sides = clog-cut_in_half (rows_of whole) (middle - whole.row_start) (whole.row_end - middle) high (omega arith) (omega arith) in
     grind (arith, nat_tests, sides, IsCut-rows whole middle (omega arith) (omega arith))
 
 pub AreHalves-cols : (whole : Region) → 2 < rows_of whole → 128 < cols_of whole → whole.col_start ≤ whole.col_end
     → let middle = whole.col_start + cols_of whole / 2 in AreHalves whole (record whole { col_end = middle }) (record whole { col_start = middle })
 AreHalves-cols whole deep wide order =
     let middle = whole.col_start + cols_of whole / 2 in
-    let sides = halves (cols_of whole) (middle - whole.col_start) (whole.col_end - middle) wide (omega arith) (omega arith) in
+    let sides = clog-cut_in_half (cols_of whole) (middle - whole.col_start) (whole.col_end - middle) wide (omega arith) (omega arith) in
     grind (arith, nat_tests, sides, IsCut-cols whole middle (omega arith) (omega arith))
 
 -- a region halved by its rows, and one halved by its columns

@@ -28,8 +28,8 @@ pub record IsInFirstRow (grid : Grid) (p : ℕ) : Type 0 where
 
 -- for the 8 rows from row x on, where 8 divides x: how far from row x they begin. Each binary digit
 -- of the number of a row adds its own distance
-abbrev pub AreSteps : (grid : Grid) (one two four : ℕ) → Type 0
-AreSteps grid one two four =
+abbrev pub AreRowDistances : (grid : Grid) (one two four : ℕ) → Type 0
+AreRowDistances grid one two four =
     (x t : ℕ) → x % 8 ≡ 0 → x + 8 ≤ 2 ^ grid.digits → t < 8
     → row_place grid (x + t) ≡ row_place grid x + (t % 2 * one + t / 2 % 2 * two + t / 4 * four)
 

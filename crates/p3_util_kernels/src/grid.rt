@@ -17,7 +17,7 @@
 ghost use Rattle.std.specs.Prelude.{◌≡◌, ◌≢◌, ℕ, ◌+◌, ◌-◌, ◌*◌, ◌/◌, ◌%◌, ◌^◌, ◌<◌, ◌≤◌, length, slice_index};
 ghost use Rattle.p3_util_kernels.specs.Digits.{rev};
 ghost use Rattle.p3_util_kernels.specs.Exchanged.{RunsExchanged};
-ghost use Rattle.p3_util_kernels.specs.Grid.{AreSteps, HoldsGrid, IsInFirstRow, PlacesFit, SwapsInGrid, row_place};
+ghost use Rattle.p3_util_kernels.specs.Grid.{AreRowDistances, HoldsGrid, IsInFirstRow, PlacesFit, SwapsInGrid, row_place};
 ghost use Rattle.p3_util_kernels.specs.Region.{cols_of, items_of};
 ghost use Rattle.p3_util_kernels.specs.SwapCounts.{square_swaps};
 
@@ -74,7 +74,7 @@ impl Grid {
     fn steps(self) -> (usize, usize, usize)
         requires fits { PlacesFit self }
         requires some { 8 ≤ 2 ^ self.digits }
-        ensures { AreSteps self result.0 result.1 result.2 }
+        ensures { AreRowDistances self result.0 result.1 result.2 }
     {
         if self.reversed {
             let four = self.stride * pow2(self.digits - 3);

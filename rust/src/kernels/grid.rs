@@ -74,7 +74,7 @@ impl Grid {
     /// ```text
     /// requires fits { PlacesFit self }
     /// requires some { 8 ≤ 2 ^ self.digits }
-    /// ensures { AreSteps self result.0 result.1 result.2 }
+    /// ensures { AreRowDistances self result.0 result.1 result.2 }
     /// ```
     #[inline(always)]
     fn steps(self) -> (usize, usize, usize) {

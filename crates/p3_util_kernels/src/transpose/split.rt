@@ -132,7 +132,7 @@ pub(crate) fn put_split<M: Cells, R: Source<Item = M::Item> + Copy>(
     if is_leaf(region) {
         return (put_strips(out, matrix, region, strips), 0);
     }
-    let (first, second) = halves(region);
+    let (first, second) = cut_in_half(region);
     let (out, nested) = put_split(out, matrix, first, levels - 1, strips);
     let (out, nested_after) = put_split(out, matrix, second, levels - 1, strips);
     (out, 1 + nested.max(nested_after))
@@ -153,7 +153,7 @@ fn is_leaf(region: Region) -> bool
 
 /// Halves the longer side of `region`. If both sides are equal, the rows are halved.
 #[tactic(auto, using(crate::proofs::HalvesLemmas::halved))]
-fn halves(region: Region) -> (Region, Region)
+fn cut_in_half(region: Region) -> (Region, Region)
     requires rows_in_order { region.row_start ≤ region.row_end }
     requires cols_in_order { region.col_start ≤ region.col_end }
     requires large { let rows = rows_of region in let cols = cols_of region in

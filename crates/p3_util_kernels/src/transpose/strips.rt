@@ -300,7 +300,7 @@ fn put_stack<M: Cells, R: Source<Item = M::Item> + Copy>(
     for k in 0..region.rows() / side {
         let row = region.row_start + k * side;
         let block = region.with_rows(row, row + side);
-        out = put_block(out, matrix, block.with_known_sides(side, side));
+        out = put_as_block(out, matrix, block.with_known_sides(side, side));
     }
     out
 }
@@ -342,9 +342,9 @@ fn put_columns_apart<M: Cells, R: Source<Item = M::Item> + Copy>(
     put_columns(out, matrix, region)
 }
 
-/// Puts a block in the holder's own way.
+/// Puts a region as one block, in the holder's own way.
 #[inline(always)]
-pub(crate) fn put_block<M: Cells, R: Source<Item = M::Item> + Copy>(
+pub(crate) fn put_as_block<M: Cells, R: Source<Item = M::Item> + Copy>(
     out: M,
     matrix: Matrix<R>,
     region: Region,

@@ -1,19 +1,20 @@
 // rust/erase writes this file from crates/p3_util_kernels/src/transpose/lines.rt. Make changes there.
 //! Puts a region by *lines*: by the cache lines of the output, from the first cell of a line to its last.
 //!
-//! The strips of 1024 columns are put from top to bottom, and then those of the next columns. A *strip* here has one line of
-//! each column. If the height of the matrix is no multiple of a line, the columns of a strip begin in different rows. The
-//! first and the last strip have the parts of lines at the ends of the columns.
+//! The region is put chunk after chunk. A *chunk* has 1024 columns, and is put by rows of lines, from top to bottom. A *row of
+//! lines* has one line of each of these columns. If the height of the matrix is no multiple of a line, the columns of a row
+//! of lines begin in different rows of the matrix. The first and the last row of lines have the parts of lines at the ends of
+//! the columns.
 
 use crate::kernels::places::{Cells, Source};
 use crate::kernels::transpose::regions::{Matrix, Region};
-use crate::kernels::transpose::strips::{put_block, put_rest};
+use crate::kernels::transpose::strips::{put_as_block, put_rest};
 
 /// Lines are put in so many columns at a time. The memory pages that these columns are on are few
 /// enough for the processor to keep all of their addresses.
 const LINE_COLUMNS: usize = 1024;
 
-/// A row of so many lines is long.
+/// A row of the matrix that is as long as this many lines is long.
 const LONG_ROW: usize = 32;
 
 /// A region with more rows is not put by lines.
@@ -78,9 +79,9 @@ impl Lines {
         col + 1
     }
 
-    /// Tells the source that rows of the next strip, from `row` on, may be read soon. Of as many neighbouring columns as a
-    /// line has cells, each asks for an item of another row, to the right of these columns. Where long rows are read by
-    /// blocks, the processor reads ahead by itself.
+    /// Tells the source that rows from `row` on, those of the next row of lines, may be read soon. Of as many neighbouring
+    /// columns as a line has cells, each asks for an item of another row, to the right of these columns. Where long rows are
+    /// read by blocks, the processor reads ahead by itself.
     ///
     /// # Contract
     ///
@@ -129,11 +130,11 @@ impl Lines {
         if region.row_end > MOST_ROWS {
             return put_rest(out, matrix, region);
         }
-        put_lines(out, matrix, region, self)
+        put_chunks(out, matrix, region, self)
     }
 }
 
-/// Puts `region` by lines, some columns after the other.
+/// Puts `region` by lines, chunk after chunk.
 ///
 /// # Contract
 ///
@@ -145,7 +146,7 @@ impl Lines {
 ///     (R.items matrix.source) (M.items out) (M.items result) }
 /// ensures holder { M.same_holder (items_of region) out result }
 /// ```
-fn put_lines<M: Cells, R: Source<Item = M::Item> + Copy>(
+fn put_chunks<M: Cells, R: Source<Item = M::Item> + Copy>(
     out: M,
     matrix: Matrix<R>,
     region: Region,
@@ -161,7 +162,7 @@ fn put_lines<M: Cells, R: Source<Item = M::Item> + Copy>(
     out
 }
 
-/// Puts the strips of `region` from top to bottom, each from left to right.
+/// Puts a chunk: its rows of lines from top to bottom, each from left to right.
 ///
 /// # Contract
 ///
@@ -192,7 +193,7 @@ fn put_chunk<M: Cells, R: Source<Item = M::Item> + Copy>(
             let from = lines.limit(region, skew, col, done);
             let to = lines.limit(region, skew, col, next);
             if from < to {
-                out = put_block(out, matrix, region.with_rows(from, to).with_cols(col, end));
+                out = put_as_block(out, matrix, region.with_rows(from, to).with_cols(col, end));
             }
             col = end;
         }

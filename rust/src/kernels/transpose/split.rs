@@ -165,7 +165,7 @@ pub(crate) fn put_split<M: Cells, R: Source<Item = M::Item> + Copy>(
     if is_leaf(region) {
         return (put_strips(out, matrix, region, strips), 0);
     }
-    let (first, second) = halves(region);
+    let (first, second) = cut_in_half(region);
     let (out, nested) = put_split(out, matrix, first, levels - 1, strips);
     let (out, nested_after) = put_split(out, matrix, second, levels - 1, strips);
     (out, 1 + nested.max(nested_after))
@@ -198,7 +198,7 @@ fn is_leaf(region: Region) -> bool {
 ///     (NARROW_SIDE < rows) × (NARROW_SIDE < cols) × (LEAF_SIDE < max rows cols) }
 /// ensures { AreHalves region result.0 result.1 }
 /// ```
-fn halves(region: Region) -> (Region, Region) {
+fn cut_in_half(region: Region) -> (Region, Region) {
     let (rows, cols) = (region.rows(), region.cols());
     if rows >= cols {
         region.cut_rows(region.row_start + rows / 2)

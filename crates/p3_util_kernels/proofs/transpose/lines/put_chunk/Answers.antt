@@ -32,8 +32,8 @@ loop-col-preserved-then-from-to g c =
       to = omega arith;
       put = IsPutTo-more region c.args.matrix.width c.args.matrix.height _ c.limit-from.result c.limit-to.result c.loop-col.col c.end-end.result _ _ _ _ _ (omega arith) start (omega arith) stop (omega arith) (omega arith)
           (λ x from to. let at = ahead-here region c.args.lines.cells c.args.lines.before _ order c.loop-done.done _ c.loop-col.col c.end-end.result x c.end-end.ensures.alike from to in (at.0 ∙ sym c.limit-from.ensures, at.1 ∙ sym c.limit-to.ensures))
-          (λ x out. ahead-there c.loop-col.col c.end-end.result _ _ x (omega arith) out) c.loop-col.invariant.put (rw (c.with_cols.ensures, c.with_rows.ensures) at c.put_block-out.ensures.transposed);
-      holder = g.met.M.Cells.same_holder_trans _ _ _ _ _ _ c.loop-col.invariant.holder (rw (c.with_cols.ensures, c.with_rows.ensures) at c.put_block-out.ensures.holder)
+          (λ x out. ahead-there c.loop-col.col c.end-end.result _ _ x (omega arith) out) c.loop-col.invariant.put (rw (c.with_cols.ensures, c.with_rows.ensures) at c.put_as_block-out.ensures.transposed);
+      holder = g.met.M.Cells.same_holder_trans _ _ _ _ _ _ c.loop-col.invariant.holder (rw (c.with_cols.ensures, c.with_rows.ensures) at c.put_as_block-out.ensures.holder)
           (items_to-more region c.limit-from.result c.limit-to.result c.loop-col.col c.end-end.result _ _ start (omega arith) (omega arith) (omega arith) (omega arith)
           (λ x from to. let at = ahead-here region c.args.lines.cells c.args.lines.before _ order c.loop-done.done _ c.loop-col.col c.end-end.result x c.end-end.ensures.alike from to in (at.0 ∙ sym c.limit-from.ensures, at.1 ∙ sym c.limit-to.ensures))
           (λ x out. ahead-there c.loop-col.col c.end-end.result _ _ x (omega arith) out));

@@ -13,26 +13,26 @@ use Rattle.p3_util_kernels.proofs.transpose.split.+put_split.Goals as goal
 -- are enough.
 pub put_split-out-requires : goal.put_split-out-requires
 put_split-out-requires g t c =
-    let some = c.halves.ensures.first_levels in
-    let inside = c.halves.ensures.cut.first_inside in
+    let some = c.cut_in_half.ensures.first_levels in
+    let inside = c.cut_in_half.ensures.cut.first_inside in
     λ κs k. (omega (arith, c.decreases, c.requires.enough), grind (arith, rules, c.requires.ready, c.requires.enough, inside))
 
 pub put_split-out-requires-2 : goal.put_split-out-requires-2
 put_split-out-requires-2 g t c =
-    let some = c.halves.ensures.second_levels in
-    let inside = c.halves.ensures.cut.second_inside in
+    let some = c.cut_in_half.ensures.second_levels in
+    let inside = c.cut_in_half.ensures.cut.second_inside in
     λ κs k. (omega (arith, c.decreases, c.requires.enough), grind (arith, rules, c.requires.ready, c.requires.enough, inside))
 
 -- Each place of the region is in exactly one of its halves. So the second half leaves what the
 -- first one put, and both together put as many items as the region has.
 pub returns-clause-transposed : goal.returns-clause-transposed
 returns-clause-transposed g t c =
-    IsRegionTransposed-cut c.args.matrix.width c.args.matrix.height _ c.args.region c.halves.result.0 c.halves.result.1 _ _ _ c.requires.ready.inside.rows_inside c.halves.ensures.cut
+    IsRegionTransposed-cut c.args.matrix.width c.args.matrix.height _ c.args.region c.cut_in_half.result.0 c.cut_in_half.result.1 _ _ _ c.requires.ready.inside.rows_inside c.cut_in_half.ensures.cut
     c.put_split-out.ensures.transposed c.put_split-out-2.ensures.transposed
 
 pub returns-clause-holder : goal.returns-clause-holder
 returns-clause-holder g t c =
-    g.met.M.Cells.same_holder_trans _ _ _ _ _ _ c.put_split-out.ensures.holder c.put_split-out-2.ensures.holder (omega (arith, c.halves.ensures.cut.items))
+    g.met.M.Cells.same_holder_trans _ _ _ _ _ _ c.put_split-out.ensures.holder c.put_split-out-2.ensures.holder (omega (arith, c.cut_in_half.ensures.cut.items))
 
 -- One split, and then the splits of the half that nests deeper, give the depth of the region. It is
 -- at most 57 if the places of the matrix fit in a usize.
@@ -40,7 +40,7 @@ pub returns-clause-bound : goal.returns-clause-bound
 returns-clause-bound g t c =
     omega (
       arith,
-      c.halves.ensures.nested,
+      c.cut_in_half.ensures.nested,
       nest_le (rows_of c.args.region) (cols_of c.args.region),
       lev-of_region c.args.region c.args.matrix.width c.args.matrix.height c.requires.ready.inside (omega arith) (omega arith) (omega arith),
     )

@@ -17,8 +17,8 @@ loop-k-preserved g c =
     let inside : row + side ≤ c.args.region.row_end = omega (arith, next, c.rows.ensures, div-mul-le_self c.rows.result side) in
     record {
       transposed = rw more (IsRegionTransposed-cut c.args.matrix.width c.args.matrix.height _ done _ _ _ _ _ (omega (arith, inside)) (IsCut-rows done row (omega arith) (omega arith))
-          c.loop-k.invariant.transposed (rw (c.with_known_sides.ensures, c.with_rows-block.ensures) at c.put_block-out.ensures.transposed));
-      holder = g.met.M.Cells.same_holder_trans _ _ _ _ _ _ c.loop-k.invariant.holder (rw (c.with_known_sides.ensures, c.with_rows-block.ensures, rows) at c.put_block-out.ensures.holder) (omega arith);
+          c.loop-k.invariant.transposed (rw (c.with_known_sides.ensures, c.with_rows-block.ensures) at c.put_as_block-out.ensures.transposed));
+      holder = g.met.M.Cells.same_holder_trans _ _ _ _ _ _ c.loop-k.invariant.holder (rw (c.with_known_sides.ensures, c.with_rows-block.ensures, rows) at c.put_as_block-out.ensures.holder) (omega arith);
     }
 
 pub returns-clause-transposed : goal.returns-clause-transposed

@@ -2,7 +2,7 @@
 use Rattle.std.proofs.Common.{arith}
 use Rattle.std.proofs.lemmas.Nat.{mul-add-lt}
 use Rattle.p3_util_kernels.proofs.BlockPutLemmas.{BlockFits-region, IsRegionTransposed-block}
-use Rattle.p3_util_kernels.proofs.transpose.strips.put_block.Goals as goal
+use Rattle.p3_util_kernels.proofs.transpose.strips.put_as_block.Goals as goal
 
 pub overflow_add-block : goal.overflow_add-block
 overflow_add-block g c =
