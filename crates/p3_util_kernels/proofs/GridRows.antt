@@ -9,7 +9,7 @@ use Rattle.p3_util_kernels.specs.Digits.{rev}
 use Rattle.p3_util_kernels.specs.Grid.{HoldsGrid, SwapsInGrid, grid_of_rows, row_place}
 use Rattle.p3_util_kernels.proofs.CrossingLemmas.{AreCrossed, same_item, turned as turned_item}
 use Rattle.p3_util_kernels.proofs.DigitsLemmas.{rev-lt, rev-rev-below}
-use Rattle.p3_util_kernels.proofs.GridSteps.{turned}
+use Rattle.p3_util_kernels.proofs.GridDistances.{turned}
 use Rattle.p3_util_kernels.proofs.SideBySideLemmas.{row_length}
 
 module _ (half c row_width middle : ℕ) (within : half ≤ c) (below : middle < 2 ^ (c - half)) where

@@ -3,6 +3,7 @@
 -- Source: new.
 use Rattle.std.specs.Prelude.{ℕ, ◌≡◌, ◌+◌, ◌*◌, ◌/◌, ◌%◌, ◌^◌, ◌<◌, ◌≤◌, ◌⊎◌, true, min, max, List, length, if◌then◌else◌}
 use Rattle.p3_util_kernels.specs.declared.grid.Grid.{Grid}
+use Rattle.p3_util_kernels.specs.declared.grid.RowDistances.{RowDistances}
 use Rattle.p3_util_kernels.specs.declared.transpose.regions.Region.{Region}
 use Rattle.p3_util_kernels.specs.Digits.{rev}
 use Rattle.p3_util_kernels.specs.Mirrored.{Mirrored}
@@ -28,10 +29,10 @@ pub record IsInFirstRow (grid : Grid) (p : ℕ) : Type 0 where
 
 -- for the 8 rows from row x on, where 8 divides x: how far from row x they begin. Each binary digit
 -- of the number of a row adds its own distance
-abbrev pub AreRowDistances : (grid : Grid) (one two four : ℕ) → Type 0
-AreRowDistances grid one two four =
+abbrev pub AreRowDistances : (grid : Grid) (distances : RowDistances) → Type 0
+AreRowDistances grid distances =
     (x t : ℕ) → x % 8 ≡ 0 → x + 8 ≤ 2 ^ grid.digits → t < 8
-    → row_place grid (x + t) ≡ row_place grid x + (t % 2 * one + t / 2 % 2 * two + t / 4 * four)
+    → row_place grid (x + t) ≡ row_place grid x + (t % 2 * distances.one + t / 2 % 2 * distances.two + t / 4 * distances.four)
 
 -- The place of row a and column b of the grid stands for `width` items. For all a and b that are
 -- different and whose lesser one is a row and whose greater one is a column of the region, the items

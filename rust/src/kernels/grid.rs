@@ -47,6 +47,13 @@ pub(crate) struct Grid {
     pub reversed: bool,
 }
 
+/// How far from row `x` the rows `x + 1`, `x + 2` and `x + 4` begin, if 8 divides `x`.
+struct RowDistances {
+    one: usize,
+    two: usize,
+    four: usize,
+}
+
 impl Grid {
     /// The place at which row `x` begins.
     ///
@@ -67,22 +74,30 @@ impl Grid {
         self.base + row * self.stride
     }
 
-    /// How far from row `x` the rows `x + 1`, `x + 2` and `x + 4` begin, if 8 divides `x`.
+    /// How far apart the rows of a tile begin.
     ///
     /// # Contract
     ///
     /// ```text
     /// requires fits { PlacesFit self }
     /// requires some { 8 ≤ 2 ^ self.digits }
-    /// ensures { AreRowDistances self result.0 result.1 result.2 }
+    /// ensures { AreRowDistances self result }
     /// ```
     #[inline(always)]
-    fn steps(self) -> (usize, usize, usize) {
+    fn row_distances(self) -> RowDistances {
         if self.reversed {
             let four = self.stride * pow2(self.digits - 3);
-            (4 * four, 2 * four, four)
+            RowDistances {
+                one: 4 * four,
+                two: 2 * four,
+                four,
+            }
         } else {
-            (self.stride, 2 * self.stride, 4 * self.stride)
+            RowDistances {
+                one: self.stride,
+                two: 2 * self.stride,
+                four: 4 * self.stride,
+            }
         }
     }
 
@@ -101,7 +116,7 @@ impl Grid {
     fn tile_column(self, first: usize) -> [usize; 8] {
         // If 8 divides `x`, row `x + t` begins as far from row `x` as these distances say, one for each
         // binary digit of `t` that is set.
-        let (one, two, four) = self.steps();
+        let RowDistances { one, two, four } = self.row_distances();
         let middle = first + four;
         [
             first,

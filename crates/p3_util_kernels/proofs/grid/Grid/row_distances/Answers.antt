@@ -2,8 +2,8 @@
 use Rattle.std.proofs.Common.{◌≤◌, ◌+◌, ◌*◌, ap, refl, arith, ◌^◌}
 use Rattle.p3_util_kernels.specs.declared.grid.Grid.{Grid}
 use Rattle.p3_util_kernels.specs.Grid.{IsInFirstRow, row_place}
-use Rattle.p3_util_kernels.proofs.GridSteps.{AreRowDistances-in_order, AreRowDistances-reversed, last_fits, three}
-use Rattle.p3_util_kernels.proofs.grid.Grid.steps.Goals as goal
+use Rattle.p3_util_kernels.proofs.GridDistances.{AreRowDistances-in_order, AreRowDistances-reversed, last_fits, three}
+use Rattle.p3_util_kernels.proofs.grid.Grid.row_distances.Goals as goal
 
 -- the first place of the grid
 top : (grid : Grid) → 8 ≤ 2 ^ grid.digits → IsInFirstRow grid (row_place grid 0 + 0)
@@ -20,20 +20,20 @@ returns-else-self c = AreRowDistances-in_order c.args.self c.if-self.false
 
 pub overflow_mul-four : goal.overflow_mul-four
 overflow_mul-four c =
-    omega (arith, last_fits c.args.self _ _ _ _ c.requires.fits (AreRowDistances-reversed c.args.self _ c.if-self.true (ap (λ n. c.args.self.stride * n) c.pow2.ensures)) (top c.args.self c.requires.some))
+    omega (arith, last_fits c.args.self _ _ c.requires.fits (AreRowDistances-reversed c.args.self _ c.if-self.true (ap (λ n. c.args.self.stride * n) c.pow2.ensures)) (top c.args.self c.requires.some))
 
 pub overflow_mul-result : goal.overflow_mul-result
 overflow_mul-result c =
-    omega (arith, last_fits c.args.self _ _ _ _ c.requires.fits (AreRowDistances-reversed c.args.self _ c.if-self.true (ap (λ n. c.args.self.stride * n) c.pow2.ensures)) (top c.args.self c.requires.some))
+    omega (arith, last_fits c.args.self _ _ c.requires.fits (AreRowDistances-reversed c.args.self _ c.if-self.true (ap (λ n. c.args.self.stride * n) c.pow2.ensures)) (top c.args.self c.requires.some))
 
 pub overflow_mul-result-then-self : goal.overflow_mul-result-then-self
 overflow_mul-result-then-self c =
-    omega (arith, last_fits c.args.self _ _ _ _ c.requires.fits (AreRowDistances-reversed c.args.self _ c.if-self.true (ap (λ n. c.args.self.stride * n) c.pow2.ensures)) (top c.args.self c.requires.some))
+    omega (arith, last_fits c.args.self _ _ c.requires.fits (AreRowDistances-reversed c.args.self _ c.if-self.true (ap (λ n. c.args.self.stride * n) c.pow2.ensures)) (top c.args.self c.requires.some))
 
 pub overflow_mul-result-else-self : goal.overflow_mul-result-else-self
 overflow_mul-result-else-self c =
-    omega (arith, last_fits c.args.self _ _ _ _ c.requires.fits (AreRowDistances-in_order c.args.self c.if-self.false) (top c.args.self c.requires.some))
+    omega (arith, last_fits c.args.self _ _ c.requires.fits (AreRowDistances-in_order c.args.self c.if-self.false) (top c.args.self c.requires.some))
 
 pub overflow_mul-result-else-self-2 : goal.overflow_mul-result-else-self-2
 overflow_mul-result-else-self-2 c =
-    omega (arith, last_fits c.args.self _ _ _ _ c.requires.fits (AreRowDistances-in_order c.args.self c.if-self.false) (top c.args.self c.requires.some))
+    omega (arith, last_fits c.args.self _ _ c.requires.fits (AreRowDistances-in_order c.args.self c.if-self.false) (top c.args.self c.requires.some))

@@ -2,6 +2,7 @@
 use Rattle.std.proofs.Common.{◌≡◌, ℕ, zero, suc, true, false, ◌==◌, ◌+◌, ◌-◌, ◌*◌, ◌/◌, ◌%◌, ◌^◌, ◌<◌, ◌≤◌, [], ◌∷◌, slice_index, refl, ap, ◌∙◌, arith, eqb-true}
 use Rattle.std.proofs.lemmas.Nat.{div-add-mod'}
 use Rattle.p3_util_kernels.specs.declared.grid.Grid.{Grid}
+use Rattle.p3_util_kernels.specs.declared.grid.RowDistances.{RowDistances}
 use Rattle.p3_util_kernels.specs.Digits.{rev, sum_below}
 use Rattle.p3_util_kernels.specs.Grid.{AreRowDistances, IsInFirstRow, PlacesFit, row_place}
 use Rattle.p3_util_kernels.proofs.DigitsLemmas.{rev-of-zero, rev-parts}
@@ -22,7 +23,7 @@ pub turned : (grid : Grid) (x : ℕ) → grid.reversed ≡ true → row_place gr
 unfolding row_place
 turned grid x e = rw e refl
 
-pub AreRowDistances-in_order : (grid : Grid) → grid.reversed ≡ false → AreRowDistances grid grid.stride (2 * grid.stride) (4 * grid.stride)
+pub AreRowDistances-in_order : (grid : Grid) → grid.reversed ≡ false → AreRowDistances grid (record { one = grid.stride; two = 2 * grid.stride; four = 4 * grid.stride })
 AreRowDistances-in_order grid e x t whole room less =
     let digits : t ≡ t % 2 + t / 2 % 2 * 2 + t / 4 * 4 = omega arith in
     let parts : t * grid.stride ≡ t % 2 * grid.stride + t / 2 % 2 * (2 * grid.stride) + t / 4 * (4 * grid.stride) = ap (λ n. n * grid.stride) digits ∙ omega arith in
@@ -32,7 +33,7 @@ AreRowDistances-in_order grid e x t whole room less =
 pub three : (digits : ℕ) → 8 ≤ 2 ^ digits → 3 ≤ digits
 three digits h = exponent-le 3 digits h
 
-pub AreRowDistances-reversed : (grid : Grid) (step : ℕ) → grid.reversed ≡ true → step ≡ grid.stride * 2 ^ (grid.digits - 3) → AreRowDistances grid (4 * step) (2 * step) step
+pub AreRowDistances-reversed : (grid : Grid) (step : ℕ) → grid.reversed ≡ true → step ≡ grid.stride * 2 ^ (grid.digits - 3) → AreRowDistances grid (record { one = 4 * step; two = 2 * step; four = step })
 AreRowDistances-reversed grid step e is x t whole room less =
     let d = grid.digits in
     let some : 3 ≤ d = three d (omega arith) in
@@ -49,9 +50,9 @@ AreRowDistances-reversed grid step e is x t whole room less =
     omega (arith, turned grid (x + t) e, turned grid x e, rw (← is) at scaled, steps)
 
 -- the last of the 8 rows fits in a usize, and so do the others
-pub last_fits : (grid : Grid) (one two four first : ℕ) → PlacesFit grid → AreRowDistances grid one two four → IsInFirstRow grid first → first + one + two + four < 2 ^ 64
-last_fits grid one two four first fits steps at =
-    omega (arith, at, steps at.x 7 at.whole at.x_below (omega arith), fits.rows (at.x + 7) (omega (arith, at.x_below)))
+pub last_fits : (grid : Grid) (d : RowDistances) (first : ℕ) → PlacesFit grid → AreRowDistances grid d → IsInFirstRow grid first → first + d.one + d.two + d.four < 2 ^ 64
+last_fits grid d first fits are at =
+    omega (arith, at, are at.x 7 at.whole at.x_below (omega arith), fits.rows (at.x + 7) (omega (arith, at.x_below)))
 
 -- a list of 8 numbers, entry by entry
 pub eight : (f : ℕ → ℕ) (a b c d e g h i : ℕ) → a ≡ f 0 → b ≡ f 1 → c ≡ f 2 → d ≡ f 3 → e ≡ f 4 → g ≡ f 5 → h ≡ f 6 → i ≡ f 7
