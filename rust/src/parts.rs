@@ -92,7 +92,7 @@
 use core::fmt;
 use core::iter::FusedIterator;
 
-use crate::unchecked::{self, Parts, Regions, Reversal};
+use crate::unchecked::{self, MatrixPlan, PartsToRun, PlacePlan};
 
 /// A list of more items is cut, whatever the size of its items.
 const ONE_PART_ITEMS: usize = 1 << 16;
@@ -128,20 +128,20 @@ pub const fn one_part_reversal<F>() -> usize {
 
 /// The remaining parts of a transpose, as an iterator of known length.
 #[must_use = "a part that is not run leaves its cells as they are"]
-pub struct TransposeParts<'a, T>(Parts<'a, T, Regions<'a, T>>);
+pub struct TransposeParts<'a, T>(PartsToRun<'a, T, MatrixPlan<&'a [T]>>);
 
 /// A part of a transpose. It is `Send` if its items are `Send` and `Sync`. It is `Sync` if they are, and it cannot be
 /// cloned.
 #[must_use = "a part that is not run leaves its cells as they are"]
-pub struct TransposePart<'a, T>(Parts<'a, T, Regions<'a, T>>);
+pub struct TransposePart<'a, T>(PartsToRun<'a, T, MatrixPlan<&'a [T]>>);
 
 /// The remaining parts of a reversal, as an iterator of known length.
 #[must_use = "a part that is not run leaves the list neither as it was nor reversed"]
-pub struct ReversalParts<'a, F>(Parts<'a, F, Reversal>);
+pub struct ReversalParts<'a, F>(PartsToRun<'a, F, PlacePlan>);
 
 /// A part of a reversal. It is `Send` if its items are, and `Sync` if they are. It cannot be cloned.
 #[must_use = "a part that is not run leaves the list neither as it was nor reversed"]
-pub struct ReversalPart<'a, F>(Parts<'a, F, Reversal>);
+pub struct ReversalPart<'a, F>(PartsToRun<'a, F, PlacePlan>);
 
 /// The greatest number of ranges that a side is cut into if the caller asks for `parts` parts. P ranges of a side make
 /// P(P + 1) / 2 patches. These are about two for each part that the caller asks for, so that threads that take one patch

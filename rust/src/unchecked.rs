@@ -90,9 +90,9 @@ pub(crate) fn transpose<T: Copy>(input: &[T], output: &mut [T], width: usize, he
         } else {
             let matrix = Matrix::new(SliceSource::new(input), width, height);
             let cells = SliceCells::new(output);
-            match order::order_of(size_of::<T>(), matrix, None, None) {
+            match order::order_of(size_of::<T>(), matrix, Part::Whole, None) {
                 order @ (Order::Columns | Order::Strips(_)) => dispatch::transpose(order, cells, matrix),
-                _ => dispatch::put(None, cells, matrix),
+                _ => dispatch::put(Part::Whole, cells, matrix),
             }
         }
     }
@@ -105,22 +105,30 @@ pub(crate) use registers::USES_REGISTERS;
 #[cfg(feature = "checked")]
 pub(crate) const USES_REGISTERS: bool = false;
 
-/// Some parts of a call: those that have these numbers. No other `Parts` of the call has one of these numbers.
+/// The parts of a call that have these numbers, and the list. No other `PartsToRun` of the call has one of these numbers.
 ///
 /// `parts_of_transpose` and `parts_of_reversal` set the fields together: `items` is the list that `plan` was made for,
-/// and `numbers` are below the number of parts of `plan`. The fields are private, and `Parts` is not `Clone`, so this
-/// stays true.
-pub(crate) struct Parts<'a, T, P> {
+/// and `numbers` are below the number of parts of `plan`. The fields are private, and `PartsToRun` is not `Clone`, so
+/// this stays true.
+pub(crate) struct PartsToRun<'a, T, P> {
     items: PartItems<'a, T>,
     plan: P,
     numbers: Range<usize>,
 }
 
-/// A part of a transpose: a plan and the number of a region. Without these it is the whole matrix.
-type Part<'a> = Option<(&'a TransposePlan, usize)>;
+/// What is put at a time: the whole matrix, or a region that a plan gives this number.
+#[derive(Clone, Copy)]
+enum Part<'a> {
+    Whole,
+    Region { plan: &'a TransposePlan, number: usize },
+}
 
-/// A matrix that is transposed in regions.
-pub(crate) type Regions<'a, T> = (Matrix<&'a [T]>, TransposePlan);
+/// A matrix, and the plan by which it is transposed in regions.
+#[derive(Clone, Copy)]
+pub(crate) struct MatrixPlan<R> {
+    matrix: Matrix<R>,
+    plan: TransposePlan,
+}
 
 /// The parts of [`transpose`], or `None` if one of the lists does not have `width * height` items.
 pub(crate) fn parts_of_transpose<'a, T: Copy>(
@@ -129,7 +137,7 @@ pub(crate) fn parts_of_transpose<'a, T: Copy>(
     width: usize,
     height: usize,
     parts: usize,
-) -> Option<Parts<'a, T, Regions<'a, T>>> {
+) -> Option<PartsToRun<'a, T, MatrixPlan<&'a [T]>>> {
     if !fits_matrix(source.len(), output.len(), width, height) {
         return None;
     }
@@ -139,22 +147,22 @@ pub(crate) fn parts_of_transpose<'a, T: Copy>(
     let count = if size_of::<T>() == 0 { 0 } else { plan.count() };
     // If the columns are cut, each region fills a run of this many cells. The last region may fill fewer.
     let share = if count == 0 { 0 } else { plan.items(0) };
-    let (items, numbers) = (PartItems::in_shares(output, share), 0..count);
-    let plan = (Matrix::new(source, width, height), plan);
-    Some(Parts { items, plan, numbers })
+    let (matrix, items) = (Matrix::new(source, width, height), PartItems::in_shares(output, share));
+    let (plan, numbers) = (MatrixPlan { matrix, plan }, 0..count);
+    Some(PartsToRun { items, plan, numbers })
 }
 
-/// A reversal that is cut into parts. The plan is one of places of `place` bytes each: of items, of whole rows, or of bytes.
+/// The plan of a reversal of places of `place` bytes each: of items, of whole rows, or of bytes.
 #[derive(Clone, Copy)]
 #[cfg_attr(feature = "checked", allow(dead_code, reason = "there, a place is an item"))]
-pub(crate) struct Reversal {
+pub(crate) struct PlacePlan {
     plan: ReversalPlan,
     place: usize,
 }
 
-impl Reversal {
+impl PlacePlan {
     /// The plan of a reversal of `len` items of `size` bytes, and the number of its parts. See [`parts_of_reversal`].
-    fn new(len: usize, size: usize, row_width: usize, parts: usize, one_part: usize) -> Option<(Reversal, usize)> {
+    fn new(len: usize, size: usize, row_width: usize, parts: usize, one_part: usize) -> Option<(PlacePlan, usize)> {
         if !fits_rows(len, row_width) {
             return None;
         }
@@ -164,7 +172,7 @@ impl Reversal {
         let one_part = if len <= one_part { usize::MAX } else { 0 };
         let plan = ReversalPlan::new(len * size / place, row / place, parts, one_part);
         let count = if row == 0 { 0 } else { plan.count() };
-        Some((Reversal { plan, place }, count))
+        Some((PlacePlan { plan, place }, count))
     }
 }
 
@@ -176,22 +184,22 @@ pub(crate) fn parts_of_reversal<F>(
     row_width: usize,
     parts: usize,
     one_part: usize,
-) -> Option<Parts<'_, F, Reversal>> {
+) -> Option<PartsToRun<'_, F, PlacePlan>> {
     let len = vals.len();
     // The plan is made for as many places as `vals` has. This is the clause `plan` of `ReversalPlan::exchange`.
-    let (plan, count) = Reversal::new(len, size_of::<F>(), row_width, parts, one_part)?;
+    let (plan, count) = PlacePlan::new(len, size_of::<F>(), row_width, parts, one_part)?;
     let (items, numbers) = (PartItems::in_shares(vals, len), 0..count);
-    Some(Parts { items, plan, numbers })
+    Some(PartsToRun { items, plan, numbers })
 }
 
-impl<T, P: Copy> Parts<'_, T, P> {
+impl<T, P: Copy> PartsToRun<'_, T, P> {
     /// Removes the first part and returns it.
     pub(crate) fn split_first(&mut self) -> Option<Self> {
         // `Range::next` yields each number once, so no two parts have the same number, and parts with different numbers
         // have no place in common. Therefore the part may have a share of `items` while other parts have theirs.
         let number = self.numbers.next()?;
         let (items, plan, numbers) = (self.items.share(), self.plan, number..number + 1);
-        Some(Parts { items, plan, numbers })
+        Some(PartsToRun { items, plan, numbers })
     }
 
     /// The numbers of the remaining parts.
@@ -200,21 +208,23 @@ impl<T, P: Copy> Parts<'_, T, P> {
     }
 }
 
-impl<T: Copy> Parts<'_, T, Regions<'_, T>> {
+impl<T: Copy> PartsToRun<'_, T, MatrixPlan<&[T]>> {
     /// Puts the remaining regions.
     pub(crate) fn put(mut self) {
         // The clause `below` of `TransposePlan::put` holds because `numbers` are below the plan's count. `input_fits`
         // and `output_fits` hold because `source` and `items` are the lists that `parts_of_transpose` checked for this
         // plan.
-        let (matrix, plan) = self.plan;
+        let MatrixPlan { matrix, plan } = self.plan;
         let matrix = Matrix::new(SliceSource::new(matrix.source), matrix.width, matrix.height);
         let is_cut = plan.count() > 1;
-        self.numbers
-            .for_each(|number| dispatch::put(is_cut.then_some((&plan, number)), self.items.share(), matrix));
+        self.numbers.for_each(|number| {
+            let region = Part::Region { plan: &plan, number };
+            dispatch::put(if is_cut { region } else { Part::Whole }, self.items.share(), matrix);
+        });
     }
 }
 
-impl<F> Parts<'_, F, Reversal> {
+impl<F> PartsToRun<'_, F, PlacePlan> {
     /// Makes the exchanges of the remaining parts.
     pub(crate) fn exchange(mut self) {
         // The clause `below` of `ReversalPlan::exchange` holds because `numbers` are below the plan's count, and the

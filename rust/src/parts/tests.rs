@@ -187,7 +187,7 @@ fn reversed(digits: usize, i: usize) -> usize {
 
 /// The three parts of the index of a row, which has `digits` digits: the middle digit, the high half in reversed order,
 /// and the low half.
-fn names(digits: usize, row: usize) -> (usize, usize, usize) {
+fn parts_of_index(digits: usize, row: usize) -> (usize, usize, usize) {
     let half = digits / 2;
     let (high, rest) = (row >> (digits - half), row % (1 << (digits - half)));
     (rest >> half, reversed(half, high), rest % (1 << half))
@@ -196,7 +196,7 @@ fn names(digits: usize, row: usize) -> (usize, usize, usize) {
 /// The patch that has a row: its square, and the pieces of the sides of that square, the lower piece first. A row and the
 /// row that it is exchanged with have the same patch. The sides are cut by `cut`.
 fn patch_of(cut: Cut, digits: usize, row: usize) -> (usize, usize, usize) {
-    let (middle, x, y) = names(digits, row);
+    let (middle, x, y) = parts_of_index(digits, row);
     let piece = |i| (0..cut.count()).position(|part| (cut.part(part).0..cut.part(part).1).contains(&i));
     (middle, piece(x.min(y)).unwrap(), piece(x.max(y)).unwrap())
 }

@@ -13,7 +13,7 @@ use super::bytes::{Bytes, MOVES_BYTES};
 use super::holders::{InRegisters, SliceItems, SliceSource};
 use super::order::order_of;
 use super::registers::{Items, Register, USES_REGISTERS};
-use super::{Part, Reversal};
+use super::{Part, PlacePlan};
 use crate::kernels::parts::ReversalPlan;
 use crate::kernels::registers::{Pair, Two};
 use crate::kernels::transpose::{Matrix, Order};
@@ -99,7 +99,7 @@ pub(super) fn place(size: usize, row: usize) -> usize {
 
 /// Makes the exchanges of part `number`.
 #[inline(always)]
-pub(super) fn exchange<F>(items: SliceItems<F>, reversal: Reversal, number: usize) {
+pub(super) fn exchange<F>(items: SliceItems<F>, reversal: PlacePlan, number: usize) {
     if const { by_size!(size_of::<F>()) } || reversal.place != size_of::<F>() {
         exchange_part(items.in_bytes(), reversal, number);
     } else {
@@ -125,7 +125,7 @@ fn reverse_places(list: SliceItems<Bytes<1>>, bytes: usize) {
 
 /// Makes the exchanges of a part. A place has a size in the table.
 #[inline(never)]
-fn exchange_part(list: SliceItems<Bytes<1>>, Reversal { plan, place }: Reversal, number: usize) {
+fn exchange_part(list: SliceItems<Bytes<1>>, PlacePlan { plan, place }: PlacePlan, number: usize) {
     match plan {
         ReversalPlan::OnePart(rows) => reverse_places(list, rows.width * place),
         ReversalPlan::ByPairs(pairs) => by_size!(

@@ -2,7 +2,7 @@
 //! of each was checked.
 
 use super::order::order_of;
-use super::{Part, PartItems, Reversal};
+use super::{Part, PartItems, PlacePlan};
 use crate::kernels::places::{Cells, Places, Source};
 use crate::kernels::reverse::{self, RowDigits, reverse_short};
 use crate::kernels::transpose::{Matrix, Order, put_columns, transpose_matrix};
@@ -31,7 +31,7 @@ pub(super) fn transpose<M: Cells, R: Source<Item = M::Item> + Copy>(order: Order
         // This names no other order, so that a crate of the user compiles none. The matrix has rows: this order is chosen for
         // one that has items.
         Order::Columns if const { size_of::<M::Item>() < LONG_BYTES } => _ = put_columns(cells, matrix, matrix.whole()),
-        _ => put(None, cells, matrix),
+        _ => put(Part::Whole, cells, matrix),
     }
 }
 
@@ -49,7 +49,8 @@ pub(super) fn put_in<M: Cells, R: Source<Item = M::Item> + Copy>(order: Order, p
         run(order, part, cells, from);
     } else {
         let indices = Matrix::new(Indices(from.source.len()), from.width, from.height);
-        run(order, part, ByIndex(cells, from.source), indices);
+        let source = from.source;
+        run(order, part, ByIndex { cells, source }, indices);
     }
 }
 
@@ -57,8 +58,8 @@ pub(super) fn put_in<M: Cells, R: Source<Item = M::Item> + Copy>(order: Order, p
 #[inline(always)]
 fn run<M: Cells, R: Source<Item = M::Item> + Copy>(order: Order, part: Part, cells: M, matrix: Matrix<R>) {
     match part {
-        None => _ = transpose_matrix(cells, matrix, order),
-        Some((plan, number)) => _ = plan.put(cells, matrix.source, number, order),
+        Part::Whole => _ = transpose_matrix(cells, matrix, order),
+        Part::Region { plan, number } => _ = plan.put(cells, matrix.source, number, order),
     }
 }
 
@@ -70,7 +71,7 @@ pub(super) fn place(size: usize, _row: usize) -> usize {
 
 /// Makes the exchanges of part `number`.
 #[inline(always)]
-pub(super) fn exchange<F>(items: PartItems<F>, reversal: Reversal, number: usize) {
+pub(super) fn exchange<F>(items: PartItems<F>, reversal: PlacePlan, number: usize) {
     let _ = reversal.plan.exchange(items, number);
 }
 
@@ -93,18 +94,21 @@ impl Source for Indices {
 
 /// Cells that are given the index of an item in a source, and put the item. A kernel puts items of [`Indices`] alone, which are
 /// below the length of the source. No contract says so of a single put, so each index is tested. Long items hide the time.
-struct ByIndex<C, R>(C, R);
+struct ByIndex<C, R> {
+    cells: C,
+    source: R,
+}
 
 impl<R: Source, C: Cells<Item = R::Item>> Cells for ByIndex<C, R> {
     type Item = usize;
 
     fn len(&self) -> usize {
-        self.0.len()
+        self.cells.len()
     }
 
     #[inline(never)]
     fn put(&mut self, i: usize, from: usize) {
-        assert!(from < self.1.len());
-        self.0.put(i, self.1.at(from));
+        assert!(from < self.source.len());
+        self.cells.put(i, self.source.at(from));
     }
 }

@@ -63,7 +63,10 @@ const SIDE: usize = if cfg!(target_arch = "aarch64") { 8 } else { 4 };
 pub(super) fn order_of<R>(size: usize, matrix: Matrix<R>, part: Part, first: Option<usize>) -> Order {
     // A matrix without items may be so high that the second product wraps. It is not large.
     let (items, column) = (matrix.width * matrix.height, matrix.height.wrapping_mul(size));
-    let cols = part.map_or(matrix.width, |(plan, number)| plan.region(number).cols());
+    let cols = match part {
+        Part::Whole => matrix.width,
+        Part::Region { plan, number } => plan.region(number).cols(),
+    };
     let [bytes, least_cols, long_column] = LIMITS;
     let is_large = items * size >= bytes && cols >= least_cols;
     let is_long = column >= long_column || size < 16 && column % LINE == 0;
@@ -73,7 +76,7 @@ pub(super) fn order_of<R>(size: usize, matrix: Matrix<R>, part: Part, first: Opt
         8 if USES_REGISTERS && (IS_AARCH64 || items <= BLOCKS_LONG_ITEMS) => Strips::high(SIDE),
         _ => Strips::by_width(matrix.width),
     };
-    match (Order::in_strips(strips, items, part.is_none()), first) {
+    match (Order::in_strips(strips, items, matches!(part, Part::Whole)), first) {
         (Order::Leaves(_), Some(first))
             if HAS_LINES && is_large && matches!(size, 4 | 8 | 16) && is_long && first % size == 0 =>
         {

@@ -21,7 +21,7 @@ fn run_all<P: Send>(shares: impl IntoIterator<Item = Vec<P>>, run: fn(P)) {
 }
 
 /// Runs all parts, which are dealt out to `threads` threads.
-fn run_on<'a, T: Send, P: Copy + Send>(threads: usize, mut parts: Parts<'a, T, P>, run: fn(Parts<'a, T, P>)) {
+fn run_on<'a, T: Send, P: Copy + Send>(threads: usize, mut parts: PartsToRun<'a, T, P>, run: fn(PartsToRun<'a, T, P>)) {
     let mut shares: Vec<Vec<_>> = from_fn(|| Some(Vec::new())).take(threads).collect();
     for (turn, part) in from_fn(|| parts.split_first()).enumerate() {
         shares[turn % threads].push(part);
@@ -51,7 +51,7 @@ fn transposes<T: Number>(width: usize, height: usize, parts: usize, threads: usi
     let input: Vec<T> = (0..width * height).map(T::of).collect();
     let mut output = std::vec![T::of(0); input.len()];
     let parts = parts_of_transpose(&input, &mut output, width, height, parts).unwrap();
-    run_on(threads, parts, Parts::put);
+    run_on(threads, parts, PartsToRun::put);
     let transposed = |place| T::of(place % height * width + place / height);
     assert!(output.into_iter().eq((0..input.len()).map(transposed)));
 }
@@ -60,7 +60,7 @@ fn transposes<T: Number>(width: usize, height: usize, parts: usize, threads: usi
 fn reverses<T: Number>(digits: u32, row_width: usize, parts: usize, threads: usize) {
     let mut list: Vec<T> = (0..row_width << digits).map(T::of).collect();
     let parts = parts_of_reversal(&mut list, row_width, parts, 0).unwrap();
-    run_on(threads, parts, Parts::exchange);
+    run_on(threads, parts, PartsToRun::exchange);
     let reversed = |row: usize| (0..digits).fold(0, |rev, place| rev << 1 | row >> place & 1);
     let item = |place| T::of(reversed(place / row_width) * row_width + place % row_width);
     assert!(list.into_iter().eq((0..row_width << digits).map(item)));
@@ -81,10 +81,14 @@ fn parts_on_threads() {
 }
 
 /// Takes two plans for the list of `parts`, and runs one part of each, on two threads.
-fn run_both<'a, T: Send, P: Copy + Send>(mut parts: Parts<'a, T, P>, plans: [(P, usize); 2], run: fn(Parts<'a, T, P>)) {
+fn run_both<'a, T: Send, P: Copy + Send>(
+    mut parts: PartsToRun<'a, T, P>,
+    plans: [(P, usize); 2],
+    run: fn(PartsToRun<'a, T, P>),
+) {
     let shares = plans.map(|(plan, number)| {
         let items = parts.items.share();
-        std::vec![Parts {
+        std::vec![PartsToRun {
             items,
             plan,
             numbers: number..number + 1,
@@ -102,8 +106,8 @@ fn exchanges_both(len: usize, row_width: usize) {
     let of_places = |items: usize| items * size_of::<usize>() / place;
     let plans = [1, 2].map(|pieces| ReversalPlan::new(of_places(len), of_places(row_width), pieces, 0));
     assert_eq!(plans.map(ReversalPlan::count), [1, 3]);
-    let plans = plans.map(|plan| (Reversal { plan, place }, 0));
-    run_both(parts, plans, Parts::exchange);
+    let plans = plans.map(|plan| (PlacePlan { plan, place }, 0));
+    run_both(parts, plans, PartsToRun::exchange);
 }
 
 /// The first 32 of 64 columns, and the last 16 of those 32.
@@ -115,9 +119,9 @@ fn overlapping_regions() {
     let parts = parts_of_transpose(&input, &mut output, 64, 64, 1).unwrap();
     let cuts = [(2, 0), (4, 1)].map(|(count, part)| {
         let plan = TransposePlan::new(64, 64, count, true);
-        ((parts.plan.0, plan), part)
+        (MatrixPlan { plan, ..parts.plan }, part)
     });
-    run_both(parts, cuts, Parts::put);
+    run_both(parts, cuts, PartsToRun::put);
 }
 
 /// 2^8 rows of three items, which are a square of 16 by 16 rows.

@@ -43,13 +43,14 @@ fn reads<T: Copy + Default>(len: usize, call: impl FnOnce(&[T], &mut [T], Noted<
 }
 
 /// Puts the regions of some parts, with their items from `source`.
-fn put_from<T: Copy>(mut parts: Parts<T, Regions<T>>, source: impl Source<Item = T> + Copy) {
-    let (matrix, plan) = parts.plan;
+fn put_from<T: Copy>(mut parts: PartsToRun<T, MatrixPlan<&[T]>>, source: impl Source<Item = T> + Copy) {
+    let MatrixPlan { matrix, plan } = parts.plan;
     let matrix = Matrix::new(source, matrix.width, matrix.height);
     let is_cut = plan.count() > 1;
-    parts
-        .numbers
-        .for_each(|number| by_type::put(is_cut.then_some((&plan, number)), parts.items.share(), matrix));
+    parts.numbers.for_each(|number| {
+        let region = Part::Region { plan: &plan, number };
+        by_type::put(if is_cut { region } else { Part::Whole }, parts.items.share(), matrix);
+    });
 }
 
 #[test]
@@ -79,7 +80,7 @@ fn strips_of_the_parts() {
             reads::<T>(width * height, |_, output, source| {
                 let matrix = Matrix::new(source, width, height);
                 let order = if by_size {
-                    order_of(size_of::<T>(), matrix, None, None)
+                    order_of(size_of::<T>(), matrix, Part::Whole, None)
                 } else {
                     Order::by_shape(matrix)
                 };
@@ -106,14 +107,14 @@ fn strips_of_calls_on_slices() {
     fn check<T: Copy + Default>(width: usize, height: usize) {
         let by_call = reads::<T>(width * height, |_, output, source| {
             let matrix = Matrix::new(source, width, height);
-            by_type::put(None, SliceCells::new(output), matrix);
+            by_type::put(Part::Whole, SliceCells::new(output), matrix);
         });
         let by_strips = reads::<T>(width * height, |_, output, source| {
             let matrix = Matrix::new(source, width, height);
             let _ = transpose_matrix(
                 SliceCells::new(output),
                 matrix,
-                order_of(size_of::<T>(), matrix, None, None),
+                order_of(size_of::<T>(), matrix, Part::Whole, None),
             );
         });
         assert!(by_call == by_strips, "{width} by {height}");

@@ -40,19 +40,20 @@ fn matrix<T: Copy>(width: usize, height: usize) -> Matrix<Unread<T>> {
 /// Whether a matrix of items of type `T`, and a part of it, is put in these strips, without lines.
 fn is_in<T: Copy>(strips: Strips, width: usize, height: usize) -> bool {
     let plan = TransposePlan::new(width, height, 1, true);
+    let region = Part::Region { plan: &plan, number: 0 };
     let order = |part| order_of(size_of::<T>(), matrix::<T>(width, height), part, None);
     let whole = match width * height {
         0 | 128..=1_048_576 => Order::Strips(strips),
         1..128 => Order::Columns,
         _ => Order::Leaves(strips),
     };
-    order(None) == whole && order(Some((&plan, 0))) == Order::Leaves(strips)
+    order(Part::Whole) == whole && order(region) == Order::Leaves(strips)
 }
 
 /// Whether a matrix of items of type `T` is put in the same way as by the calls in Rattle.
 fn is_by_shape<T: Copy>(width: usize, height: usize) -> bool {
     let matrix = matrix::<T>(width, height);
-    order_of(size_of::<T>(), matrix, None, None) == Order::by_shape(matrix)
+    order_of(size_of::<T>(), matrix, Part::Whole, None) == Order::by_shape(matrix)
 }
 
 #[test]
@@ -138,9 +139,9 @@ fn lines_of_long_lists() {
             for first in [0, size, 64 - size, 4096 + 2 * size, 1, size / 2] {
                 let plan = TransposePlan::new(width, height, 2, true);
                 let lines = Order::Lines(Lines::new(LINE / size, first % LINE / size));
-                for part in [None, Some((&plan, 0))] {
+                for part in [Part::Whole, Part::Region { plan: &plan, number: 0 }] {
                     let order = |first| order_of(size, matrix::<T>(width, height), part, first);
-                    let is_split = part.is_some() || width * height > 1 << 20;
+                    let is_split = matches!(part, Part::Region { .. }) || width * height > 1 << 20;
                     let is_long = width * height * size >= 1024 && first % size == 0;
                     let has_lines = can && HAS_LINES && is_split && is_long;
                     let wanted = if has_lines { lines } else { order(None) };
