@@ -162,6 +162,11 @@ const FAR_BYTES: usize = 1 << 23;
 impl<T: Copy> Cells for SliceItems<'_, T> {
     type Item = T;
 
+    #[inline(always)]
+    fn has_blocks(&self, _side: usize) -> bool {
+        false
+    }
+
     fn len(&self) -> usize {
         self.len
     }
@@ -317,23 +322,27 @@ impl<T: Copy, D: Register<T>, const LAST: bool> Cells for InRegisters<'_, T, D, 
         self.items.put(i, v);
     }
 
+    /// Whether such blocks are put in registers. On x86-64, which has 16 vector registers without AVX-512, those of a block
+    /// of 8 by 8 items would go through memory, except for items of 1 and of 2 bytes.
+    #[inline(always)]
+    fn has_blocks(&self, side: usize) -> bool {
+        let is_small = side == 4 || side == 8 && const { Self::SIDE == 8 || cfg!(not(target_arch = "x86_64")) };
+        1 < Self::SIDE && Self::SIDE <= side && is_small
+    }
+
     #[cfg_attr(debug_assertions, inline(never))]
     #[cfg_attr(not(debug_assertions), inline(always))]
     fn put_block<R: Source<Item = T>>(&mut self, source: &R, block: Block) {
         let Block { rows, cols, .. } = block;
         // Whether the list has `SIDE` items of each row, from the block's first column on.
         let inside = |len| cols == rows || cols == 1 && block.from + (rows - 1) * block.width + Self::SIDE <= len;
-        // Whether the block is a square that is put in registers. On x86-64, which has 16 vector registers without AVX-512,
-        // those of a block of 8 by 8 items would go through memory, except for items of 1 and of 2 bytes.
-        let is_small = rows == 4 || rows == 8 && const { Self::SIDE == 8 || cfg!(not(target_arch = "x86_64")) };
-        let is_turned = cols == rows && Self::SIDE <= rows && is_small;
         match source.as_slice() {
             // These items are only read: the functions of `squares` have a shared reference to them.
             Some(items) if LAST && self.may_last(block) && inside(items.len()) => {
                 let items = SliceItems::of(items.as_ptr().cast_mut(), items.len());
                 squares::lines::put_lines::<T, D, _, _>(&mut self.items, &items, Self::SIDE, block);
             }
-            Some(items) if const { Self::SIDE > 1 } && is_turned => {
+            Some(items) if cols == rows && self.has_blocks(rows) => {
                 let items = SliceItems::of(items.as_ptr().cast_mut(), items.len());
                 squares::put_block::<T, D, _, _>(&mut self.items, &items, Self::SIDE, block);
             }

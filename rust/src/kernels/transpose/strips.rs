@@ -176,10 +176,11 @@ pub(crate) fn put_strips<M: Cells, R: Source<Item = M::Item> + Copy>(
         // A region without columns has no item, however many rows it has.
         return out;
     }
-    // Here the compiler knows the side of a block, and so the lengths of the loops.
+    // Here the compiler knows the side of a block, and so the lengths of the loops. If it knows that the
+    // holder has no such blocks, it compiles no loops for them.
     match strips.side {
-        4 => put_strips_of(out, matrix, region, strips, 4),
-        8 => put_strips_of(out, matrix, region, strips, 8),
+        4 if out.has_blocks(4) => put_strips_of(out, matrix, region, strips, 4),
+        8 if out.has_blocks(8) => put_strips_of(out, matrix, region, strips, 8),
         _ => put_strips_of(out, matrix, region, strips, 1),
     }
 }
