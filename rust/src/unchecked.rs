@@ -28,7 +28,7 @@ use core::ops::Range;
 
 use crate::kernels::parts::{ReversalPlan, TransposePlan};
 use crate::kernels::reverse::fits_rows;
-use crate::kernels::transpose::{Matrix, Order, fits_matrix};
+use crate::kernels::transpose::{Matrix, Order, Region, fits_matrix};
 
 #[cfg(feature = "checked")]
 use crate::checked::{PartItems, SliceCells, SlicePlaces, SliceSource};
@@ -121,6 +121,17 @@ pub(crate) struct PartsToRun<'a, T, P> {
 enum Part<'a> {
     Whole,
     Region { plan: &'a TransposePlan, number: usize },
+}
+
+impl Part<'_> {
+    /// The region of the matrix that is put.
+    #[inline(always)]
+    fn region<R>(self, matrix: Matrix<R>) -> Region {
+        match self {
+            Part::Whole => matrix.whole(),
+            Part::Region { plan, number } => plan.region(number),
+        }
+    }
 }
 
 /// A matrix, and the plan by which it is transposed in regions.

@@ -139,10 +139,12 @@ fn exchange_part(list: SliceItems<Bytes<1>>, PlacePlan { plan, place }: PlacePla
 /// Puts a part, for items of a size in the table.
 #[inline(never)]
 fn put_part(part: Part, cells: SliceItems<Bytes<1>>, matrix: Matrix<SliceSource<Bytes<1>>>, size: usize) {
-    if let order @ Order::Lines(_) = order_of(size, matrix, part, Some(cells.address())) {
+    if let Order::Lines(lines) = order_of(size, matrix, part, Some(cells.address())) {
+        // This names no other order, so that none is compiled for a holder that stores past the caches.
+        let region = part.region(matrix);
         return by_size!(
             @ [4: Pair<Items<4>>, 8: Pair<Items<8>>, 16: Two<Register>] [] size,
-            holder = cells => holder.past_caches(|cells| by_type::put_in(order, part, cells, in_bytes(matrix))),
+            holder = cells => holder.past_caches(|cells| _ = lines.put(cells, in_bytes(matrix), region)),
             _ => unreachable!("this size has no lines")
         );
     }

@@ -35,21 +35,15 @@ pub(super) fn transpose<M: Cells, R: Source<Item = M::Item> + Copy>(order: Order
     }
 }
 
-/// Puts a part, not by lines.
+/// Puts a part, not by lines. Long items are put by their indices.
 #[inline(never)]
 pub(super) fn put<M: Cells, R: Source<Item = M::Item> + Copy>(part: Part, cells: M, matrix: Matrix<R>) {
     let order = order_of(size_of::<M::Item>(), matrix, part, None);
-    put_in(order, part, cells, matrix);
-}
-
-/// Puts a part in this order. Long items are put by their indices.
-#[inline(always)]
-pub(super) fn put_in<M: Cells, R: Source<Item = M::Item> + Copy>(order: Order, part: Part, cells: M, from: Matrix<R>) {
     if const { size_of::<M::Item>() < LONG_BYTES } {
-        run(order, part, cells, from);
+        run(order, part, cells, matrix);
     } else {
-        let indices = Matrix::new(Indices(from.source.len()), from.width, from.height);
-        let source = from.source;
+        let indices = Matrix::new(Indices(matrix.source.len()), matrix.width, matrix.height);
+        let source = matrix.source;
         run(order, part, ByIndex { cells, source }, indices);
     }
 }

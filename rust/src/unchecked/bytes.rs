@@ -52,16 +52,27 @@ pub(super) unsafe fn write_item<T>(to: *mut T, item: T) {
 /// # Safety
 ///
 /// Both runs are valid for reads and writes, and do not overlap.
-#[inline(never)]
+#[inline(always)]
 pub(super) unsafe fn swap_runs<T>(x: *mut T, y: *mut T, len: usize) {
     // SAFETY: this is what the caller promises.
     unsafe {
         if MOVES_BYTES {
-            move_bytes::<true>(x.cast(), y.cast(), len * size_of::<T>());
+            swap_bytes(x.cast(), y.cast(), len * size_of::<T>());
         } else {
             ptr::swap_nonoverlapping(x, y, len);
         }
     }
+}
+
+/// Exchanges two runs of `len` bytes. This is compiled once for all types.
+///
+/// # Safety
+///
+/// It is that of [`swap_runs`].
+#[inline(never)]
+unsafe fn swap_bytes(x: *mut u8, y: *mut u8, len: usize) {
+    // SAFETY: this is what the caller promises.
+    unsafe { move_bytes::<true>(x, y, len) }
 }
 
 /// Copies the `len` bytes at `from` to `to`. If `BACK` is true, it also copies those at `to` to `from`. It moves parts

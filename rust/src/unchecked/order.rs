@@ -60,13 +60,10 @@ const SIDE: usize = if cfg!(target_arch = "aarch64") { 8 } else { 4 };
 
 /// The order in which a part is put. `first` is the address of the first cell of the output. Without it, lines are not taken.
 #[inline(always)]
-pub(super) fn order_of<R>(size: usize, matrix: Matrix<R>, part: Part, first: Option<usize>) -> Order {
+pub(super) fn order_of<R: Copy>(size: usize, matrix: Matrix<R>, part: Part, first: Option<usize>) -> Order {
     // A matrix without items may be so high that the second product wraps. It is not large.
     let (items, column) = (matrix.width * matrix.height, matrix.height.wrapping_mul(size));
-    let cols = match part {
-        Part::Whole => matrix.width,
-        Part::Region { plan, number } => plan.region(number).cols(),
-    };
+    let cols = part.region(matrix).cols();
     let [bytes, least_cols, long_column] = LIMITS;
     let is_large = items * size >= bytes && cols >= least_cols;
     let is_long = column >= long_column || size < 16 && column % LINE == 0;

@@ -100,6 +100,7 @@ impl Lines {
     }
 
     /// Puts `region` by these lines.
+    #[inline]
     pub(crate) fn put<M: Cells, R: Source<Item = M::Item> + Copy>(
         self,
         out: M,

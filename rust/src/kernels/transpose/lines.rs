@@ -121,6 +121,7 @@ impl Lines {
     ///     (R.items matrix.source) (M.items out) (M.items result) }
     /// ensures holder { M.same_holder (items_of region) out result }
     /// ```
+    #[inline]
     pub(crate) fn put<M: Cells, R: Source<Item = M::Item> + Copy>(
         self,
         out: M,
