@@ -6,7 +6,7 @@ use Rattle.std.proofs.lemmas.Nat.{same_from_place}
 use Rattle.p3_util_kernels.specs.declared.grid.Grid.{Grid}
 use Rattle.p3_util_kernels.specs.declared.transpose.regions.Region.{Region}
 use Rattle.p3_util_kernels.specs.Exchanged.{AreTiles, IsTile, RunsExchanged, TileTurned, TilesExchanged}
-use Rattle.p3_util_kernels.specs.Grid.{HoldsGrid, PlacesFit, SwapsInGrid, row_place}
+use Rattle.p3_util_kernels.specs.Grid.{HoldsGrid, PlacesFit, SwapsInGrid, row_place, square_at}
 use Rattle.p3_util_kernels.specs.Halves.{IsCut}
 use Rattle.p3_util_kernels.specs.Region.{IsInRegion}
 use Rattle.p3_util_kernels.proofs.CrossingLemmas.{outside}
@@ -171,7 +171,7 @@ module _ {A : Type 0} (grid : Grid) (items : List A) (holds : HoldsGrid grid ite
     -- a tile on the diagonal is transposed
     pub SwapsInGrid-turned : (start : ℕ) (x : List ℕ) (xs ys : List B) → grid.width ≡ 1 → start + 8 ≤ 2 ^ grid.digits
         → ((t : ℕ) → t < 8 → slice_index x t ≡ row_place grid (start + t) + start) → TileTurned 64 x xs ys
-        → SwapsInGrid grid (record { row_start = start; row_end = start + 8; col_start = start; col_end = start + 8 }) xs ys
+        → SwapsInGrid grid (square_at start 8) xs ys
     SwapsInGrid-turned start x xs ys one within at s =
         let place : (a b : ℕ) → start ≤ a → a < start + 8 → start ≤ b → (row_place grid a + b) * grid.width + 0 ≡ slice_index x (a - start) + (b - start) =
         λ a b ha ka hb. let row : start + (a - start) ≡ a = omega arith in omega (arith, ap (λ k. (row_place grid a + b) * k) one, rw row at (at (a - start) (omega arith))) in

@@ -6,7 +6,7 @@ use Rattle.std.proofs.lemmas.Nat.{pow-add}
 use Rattle.p3_util_kernels.specs.declared.grid.Grid.{Grid}
 use Rattle.p3_util_kernels.specs.Crossing.{HoldsRows, IsRowItem, row_of}
 use Rattle.p3_util_kernels.specs.Digits.{rev}
-use Rattle.p3_util_kernels.specs.Grid.{HoldsGrid, SwapsInGrid, grid_of_rows, row_place}
+use Rattle.p3_util_kernels.specs.Grid.{HoldsGrid, SwapsInGrid, grid_of_rows, row_place, square_at}
 use Rattle.p3_util_kernels.proofs.CrossingLemmas.{AreCrossed, same_item, turned as turned_item}
 use Rattle.p3_util_kernels.proofs.DigitsLemmas.{rev-lt, rev-rev-below}
 use Rattle.p3_util_kernels.proofs.GridDistances.{turned}
@@ -57,7 +57,7 @@ module _ (half c row_width middle : ℕ) (within : half ≤ c) (below : middle <
 
   -- the pairs in the grids before this one are exchanged, and then those in this grid
   pub AreCrossed-more : {A : Type 0} (xs ys zs : List A) → AreCrossed half c row_width middle xs ys
-      → SwapsInGrid (grid_of_rows half c row_width middle) (record { row_start = 0; row_end = 2 ^ half; col_start = 0; col_end = 2 ^ half }) ys zs
+      → SwapsInGrid (grid_of_rows half c row_width middle) (square_at 0 (2 ^ half)) ys zs
       → AreCrossed half c row_width (middle + 1) xs zs
   AreCrossed-more xs ys zs s t =
       let own : (u v w : ℕ) → (u < row_width) × (v < 2 ^ half) × (w < 2 ^ half) → IsRowItem half c row_width middle u v w =

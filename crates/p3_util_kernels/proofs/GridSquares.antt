@@ -3,7 +3,7 @@ use Rattle.std.proofs.Common.{◌≡◌, ℕ, false, ◌+◌, ◌-◌, ◌*◌, 
 use Rattle.std.proofs.Math.Nat.{mul-le-mul_right}
 use Rattle.std.proofs.Math.Pow.{pow_mono}
 use Rattle.p3_util_kernels.specs.declared.grid.Grid.{Grid}
-use Rattle.p3_util_kernels.specs.Grid.{HoldsGrid, SwapsInGrid, row_place}
+use Rattle.p3_util_kernels.specs.Grid.{HoldsGrid, SwapsInGrid, row_place, square_at}
 use Rattle.p3_util_kernels.specs.Square.{IsSquareTransposed}
 use Rattle.p3_util_kernels.proofs.GridDistances.{in_order}
 
@@ -35,7 +35,7 @@ module _ (base log_stride log_size : ℕ) (within : log_size ≤ log_stride) whe
 
   -- the whole square, exchanged across its diagonal, is its transpose
   pub IsSquareTransposed-grid : {A : Type 0} (old new : List A)
-      → SwapsInGrid (square_grid base log_stride log_size) (record { row_start = 0; row_end = 2 ^ log_size; col_start = 0; col_end = 2 ^ log_size }) old new
+      → SwapsInGrid (square_grid base log_stride log_size) (square_at 0 (2 ^ log_size)) old new
       → IsSquareTransposed base log_stride log_size old new
   IsSquareTransposed-grid old new s =
       let at : (a b : ℕ) → (row_place grid a + b) * 1 + 0 ≡ base + a * 2 ^ log_stride + b = λ a b. omega (arith, in_order grid a refl) in

@@ -43,6 +43,10 @@ SwapsInGrid grid region old new =
     Mirrored {M = ℕ} (λ t a b. (row_place grid a + b) * grid.width + t)
     (λ t a b. ((t < grid.width) × (a < 2 ^ grid.digits) × (b < 2 ^ grid.digits)) × IsInRegion region (max a b) (min a b)) old new
 
+-- the square of `size` rows and `size` columns from `start` on
+abbrev pub square_at : (start size : ℕ) → Region
+square_at start size = record { row_start = start; row_end = start + size; col_start = start; col_end = start + size }
+
 -- The list has all places of the grid, no two rows of which overlap. Its length fits in a usize, and
 -- `width` is at least 1
 pub record HoldsGrid {A : Type 0} (grid : Grid) (items : List A) : Type 0 where

@@ -17,7 +17,7 @@
 ghost use Rattle.std.specs.Prelude.{◌≡◌, ◌≢◌, ℕ, ◌+◌, ◌-◌, ◌*◌, ◌/◌, ◌%◌, ◌^◌, ◌<◌, ◌≤◌, length, slice_index};
 ghost use Rattle.p3_util_kernels.specs.Digits.{rev};
 ghost use Rattle.p3_util_kernels.specs.Exchanged.{RunsExchanged};
-ghost use Rattle.p3_util_kernels.specs.Grid.{AreRowDistances, HoldsGrid, IsInFirstRow, PlacesFit, SwapsInGrid, row_place};
+ghost use Rattle.p3_util_kernels.specs.Grid.{AreRowDistances, HoldsGrid, IsInFirstRow, PlacesFit, SwapsInGrid, row_place, square_at};
 ghost use Rattle.p3_util_kernels.specs.Region.{cols_of, items_of};
 ghost use Rattle.p3_util_kernels.specs.SwapCounts.{square_swaps};
 
@@ -289,12 +289,7 @@ fn upper_half(size: usize) -> usize
 fn exchange_on_diagonal<M: Places>(m: M, grid: Grid, start: usize, size: usize) -> M
     requires within { start + size ≤ 2 ^ grid.digits }
     requires ready { HoldsGrid grid (M.items m) }
-    ensures exchanged { SwapsInGrid grid (record {
-      row_start = start;
-      row_end = start + size;
-      col_start = start;
-      col_end = start + size;
-    }) (M.items m) (M.items result) }
+    ensures exchanged { SwapsInGrid grid (square_at start size) (M.items m) (M.items result) }
     ensures holder { M.same_holder (grid.width * square_swaps size) m result }
 {
     let end = start + size;
@@ -317,12 +312,7 @@ fn exchange_diagonal_tile<M: Places>(m: M, grid: Grid, start: usize) -> M
     requires whole { start % 8 ≡ 0 }
     requires within { start + 8 ≤ 2 ^ grid.digits }
     requires ready { HoldsGrid grid (M.items m) }
-    ensures exchanged { SwapsInGrid grid (record {
-      row_start = start;
-      row_end = start + 8;
-      col_start = start;
-      col_end = start + 8;
-    }) (M.items m) (M.items result) }
+    ensures exchanged { SwapsInGrid grid (square_at start 8) (M.items m) (M.items result) }
     ensures holder { M.same_holder (grid.width * square_swaps 8) m result }
 {
     let places = grid.tile_column(grid.start(start) + start);
@@ -342,12 +332,7 @@ fn exchange_wide_tile<M: Places>(m: M, grid: Grid, _start: usize, places: [usize
     requires within { _start + 8 ≤ 2 ^ grid.digits }
     requires rows { (t : ℕ) → t < 8 → slice_index places t ≡ row_place grid (_start + t) + _start }
     requires ready { HoldsGrid grid (M.items m) }
-    ensures exchanged { SwapsInGrid grid (record {
-      row_start = _start;
-      row_end = _start + 8;
-      col_start = _start;
-      col_end = _start + 8;
-    }) (M.items m) (M.items result) }
+    ensures exchanged { SwapsInGrid grid (square_at _start 8) (M.items m) (M.items result) }
     ensures holder { M.same_holder (grid.width * square_swaps 8) m result }
 {
     let mut m = m;
@@ -366,12 +351,7 @@ fn exchange_wide_tile<M: Places>(m: M, grid: Grid, _start: usize, places: [usize
 pub(crate) fn exchange_quadrants<M: Places>(m: M, grid: Grid, start: usize, size: usize) -> M
     requires within { start + size ≤ 2 ^ grid.digits }
     requires ready { HoldsGrid grid (M.items m) }
-    ensures exchanged { SwapsInGrid grid (record {
-      row_start = start;
-      row_end = start + size;
-      col_start = start;
-      col_end = start + size;
-    }) (M.items m) (M.items result) }
+    ensures exchanged { SwapsInGrid grid (square_at start size) (M.items m) (M.items result) }
     ensures holder { M.same_holder (grid.width * square_swaps size) m result }
 {
     if size == TILE && start % TILE == 0 {
@@ -397,12 +377,8 @@ pub(crate) fn exchange_quadrants<M: Places>(m: M, grid: Grid, start: usize, size
 #[inline(always)]
 pub(crate) fn exchange_square<M: Places>(m: M, grid: Grid) -> M
     requires { HoldsGrid grid (M.items m) }
-    ensures exchanged { SwapsInGrid grid (record {
-      row_start = 0;
-      row_end = 2 ^ grid.digits;
-      col_start = 0;
-      col_end = 2 ^ grid.digits;
-    }) (M.items m) (M.items result) }
+    ensures exchanged { SwapsInGrid grid (square_at 0 (2 ^ grid.digits))
+        (M.items m) (M.items result) }
     ensures holder { M.same_holder (grid.width * square_swaps (2 ^ grid.digits)) m result }
 {
     let size = pow2(grid.digits);

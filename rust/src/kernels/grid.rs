@@ -325,12 +325,7 @@ fn upper_half(size: usize) -> usize {
 /// ```text
 /// requires within { start + size ≤ 2 ^ grid.digits }
 /// requires ready { HoldsGrid grid (M.items m) }
-/// ensures exchanged { SwapsInGrid grid (record {
-///   row_start = start;
-///   row_end = start + size;
-///   col_start = start;
-///   col_end = start + size;
-/// }) (M.items m) (M.items result) }
+/// ensures exchanged { SwapsInGrid grid (square_at start size) (M.items m) (M.items result) }
 /// ensures holder { M.same_holder (grid.width * square_swaps size) m result }
 /// ```
 #[inline(always)]
@@ -357,12 +352,7 @@ fn exchange_on_diagonal<M: Places>(m: M, grid: Grid, start: usize, size: usize) 
 /// requires whole { start % 8 ≡ 0 }
 /// requires within { start + 8 ≤ 2 ^ grid.digits }
 /// requires ready { HoldsGrid grid (M.items m) }
-/// ensures exchanged { SwapsInGrid grid (record {
-///   row_start = start;
-///   row_end = start + 8;
-///   col_start = start;
-///   col_end = start + 8;
-/// }) (M.items m) (M.items result) }
+/// ensures exchanged { SwapsInGrid grid (square_at start 8) (M.items m) (M.items result) }
 /// ensures holder { M.same_holder (grid.width * square_swaps 8) m result }
 /// ```
 #[inline(always)]
@@ -386,12 +376,7 @@ fn exchange_diagonal_tile<M: Places>(m: M, grid: Grid, start: usize) -> M {
 /// requires within { _start + 8 ≤ 2 ^ grid.digits }
 /// requires rows { (t : ℕ) → t < 8 → slice_index places t ≡ row_place grid (_start + t) + _start }
 /// requires ready { HoldsGrid grid (M.items m) }
-/// ensures exchanged { SwapsInGrid grid (record {
-///   row_start = _start;
-///   row_end = _start + 8;
-///   col_start = _start;
-///   col_end = _start + 8;
-/// }) (M.items m) (M.items result) }
+/// ensures exchanged { SwapsInGrid grid (square_at _start 8) (M.items m) (M.items result) }
 /// ensures holder { M.same_holder (grid.width * square_swaps 8) m result }
 /// ```
 #[inline(never)]
@@ -415,12 +400,7 @@ fn exchange_wide_tile<M: Places>(m: M, grid: Grid, _start: usize, places: [usize
 /// ```text
 /// requires within { start + size ≤ 2 ^ grid.digits }
 /// requires ready { HoldsGrid grid (M.items m) }
-/// ensures exchanged { SwapsInGrid grid (record {
-///   row_start = start;
-///   row_end = start + size;
-///   col_start = start;
-///   col_end = start + size;
-/// }) (M.items m) (M.items result) }
+/// ensures exchanged { SwapsInGrid grid (square_at start size) (M.items m) (M.items result) }
 /// ensures holder { M.same_holder (grid.width * square_swaps size) m result }
 /// ```
 pub(crate) fn exchange_quadrants<M: Places>(m: M, grid: Grid, start: usize, size: usize) -> M {
@@ -449,12 +429,8 @@ pub(crate) fn exchange_quadrants<M: Places>(m: M, grid: Grid, start: usize, size
 ///
 /// ```text
 /// requires { HoldsGrid grid (M.items m) }
-/// ensures exchanged { SwapsInGrid grid (record {
-///   row_start = 0;
-///   row_end = 2 ^ grid.digits;
-///   col_start = 0;
-///   col_end = 2 ^ grid.digits;
-/// }) (M.items m) (M.items result) }
+/// ensures exchanged { SwapsInGrid grid (square_at 0 (2 ^ grid.digits))
+///     (M.items m) (M.items result) }
 /// ensures holder { M.same_holder (grid.width * square_swaps (2 ^ grid.digits)) m result }
 /// ```
 #[inline(always)]

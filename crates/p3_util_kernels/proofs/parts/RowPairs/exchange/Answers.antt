@@ -2,7 +2,7 @@
 use Rattle.std.proofs.Common.{◌≡◌, ℕ, ◌+◌, ◌-◌, ◌/◌, ◌%◌, ◌^◌, ◌<◌, ◌≤◌, refl, subst, eq-eqb, ne_eqb, arith}
 use Rattle.p3_util_kernels.specs.declared.transpose.regions.Region.{Region}
 use Rattle.p3_util_kernels.specs.Patches.{IsPatch, swaps_of_patch}
-use Rattle.p3_util_kernels.specs.Grid.{SwapsInGrid, grid_of_rows}
+use Rattle.p3_util_kernels.specs.Grid.{SwapsInGrid, grid_of_rows, square_at}
 use Rattle.p3_util_kernels.specs.Region.{items_of, rows_of}
 use Rattle.p3_util_kernels.specs.SwapCounts.{square_swaps}
 use Rattle.p3_util_kernels.proofs.PatchesLemmas.{patch-above, patch-diagonal, patch-rows}
@@ -15,7 +15,7 @@ below digits step number middle region patch = let rest : digits - digits / 2 - 
 
 -- a region on the diagonal is a square
 square : (region : Region) → region.row_start ≤ region.row_end → region.row_start ≡ region.col_start → region.row_end ≡ region.col_end
-    → record { row_start = region.row_start; row_end = region.row_start + rows_of region; col_start = region.row_start; col_end = region.row_start + rows_of region } ≡ region
+    → square_at region.row_start (rows_of region) ≡ region
 square region order start end = let size : region.row_start + rows_of region ≡ region.row_end = omega arith in rw (size, end, start) refl
 
 pub grid-grid-requires-clause-middle : goal.grid-grid-requires-clause-middle
