@@ -3,10 +3,6 @@ use Rattle.std.proofs.Common.{arith}
 use Rattle.p3_util_kernels.proofs.GridLemmas.{IsTile-grid, SwapsInGrid-turned}
 use Rattle.p3_util_kernels.proofs.grid.exchange_diagonal_tile.Goals as goal
 
-pub tile_column-places-requires-clause-tile : goal.tile_column-places-requires-clause-tile
-tile_column-places-requires-clause-tile g c =
-    record { x = c.args.start; y = c.args.start; whole = c.requires.whole; x_below = c.requires.within; y_below = omega arith; is = omega arith }
-
 pub turn_tile-requires : goal.turn_tile-requires
 turn_tile-requires g c =
     IsTile-grid c.args.grid _ c.requires.ready c.args.start _ c.if-grid-eq1.true c.requires.within (c.tile_column-places.ensures c.args.start c.args.start c.requires.whole c.requires.within (omega arith))

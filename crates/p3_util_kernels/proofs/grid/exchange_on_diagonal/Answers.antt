@@ -1,6 +1,5 @@
 -- Each turn of the loop exchanges one more row to the right of the diagonal.
 use Rattle.std.proofs.Common.{◌≡◌, ◌+◌, ◌-◌, ◌*◌, suc, arith}
-use Rattle.p3_util_kernels.specs.SwapCounts.{square_swaps}
 use Rattle.p3_util_kernels.proofs.GridLemmas.{SwapsInGrid-corner, SwapsInGrid-none}
 use Rattle.p3_util_kernels.proofs.Pairs.{square_swaps-next}
 use Rattle.p3_util_kernels.proofs.grid.exchange_on_diagonal.Goals as goal
@@ -32,9 +31,3 @@ pub returns-clause-exchanged : goal.returns-clause-exchanged
 returns-clause-exchanged g c =
     let all : c.loop-row.row ≡ c.args.start + c.args.size = omega arith in
     rw all at c.loop-row.invariant.exchanged
-
-pub returns-clause-holder : goal.returns-clause-holder
-returns-clause-holder g c =
-    let none : c.args.start + c.args.size - c.loop-row.row ≡ 0 = omega arith in
-    let all : c.loop-row.invariant.count ≡ square_swaps c.args.size = omega (arith, rw none at c.loop-row.invariant.left) in
-    rw all at c.loop-row.invariant.holder

@@ -27,20 +27,11 @@ exchange_tiles-requires g c =
     rw c.loop-tile.invariant.exchanged.same_length (AreTiles-grid c.args.grid _ c.requires.ready row c.args.col _ _ c.requires.one (omega arith) c.requires.within (c.tile_column-rows.ensures row c.args.col (omega arith) (omega arith) (omega arith))
     (c.tile_column-cols.ensures c.args.col row c.requires.whole_col c.requires.within (omega arith)))
 
--- the places of this tile and of the next one, and those of their mirror images, are in the first
--- rows of these tiles
+-- the places of this tile and of the next one are in the first rows of these tiles
 pub tile_column-rows-requires-clause-tile : goal.tile_column-rows-requires-clause-tile
 tile_column-rows-requires-clause-tile g c =
     record { x = c.loop-tile.tile * 8; y = c.args.col; whole = omega arith; x_below = omega arith; y_below = omega arith; is = omega arith }
 
-pub tile_column-cols-requires-clause-tile : goal.tile_column-cols-requires-clause-tile
-tile_column-cols-requires-clause-tile g c =
-    record { x = c.args.col; y = c.loop-tile.tile * 8; whole = c.requires.whole_col; x_below = c.requires.within; y_below = omega arith; is = omega arith }
-
 pub tile_column-next_rows-requires-clause-tile : goal.tile_column-next_rows-requires-clause-tile
 tile_column-next_rows-requires-clause-tile g c =
     record { x = c.loop-tile.tile * 8 + 8; y = c.args.col; whole = omega arith; x_below = omega (arith, c.requires.whole_end); y_below = omega arith; is = omega arith }
-
-pub tile_column-requires-clause-tile : goal.tile_column-requires-clause-tile
-tile_column-requires-clause-tile g c =
-    record { x = c.args.col; y = c.loop-tile.tile * 8 + 8; whole = c.requires.whole_col; x_below = c.requires.within; y_below = omega (arith, c.requires.whole_end); is = omega arith }

@@ -3,7 +3,6 @@
 use Rattle.std.proofs.Common.{◌≡◌, ◌+◌, ◌-◌, ◌*◌, ◌∙◌, slice_index, suc, refl, arith}
 use Rattle.p3_util_kernels.specs.declared.transpose.regions.Region.{Region}
 use Rattle.p3_util_kernels.specs.Grid.{row_place}
-use Rattle.p3_util_kernels.specs.SwapCounts.{square_swaps}
 use Rattle.p3_util_kernels.proofs.CrossingLemmas.{runs-apart}
 use Rattle.p3_util_kernels.proofs.GridLemmas.{SwapsInGrid-corner, SwapsInGrid-item, SwapsInGrid-none, grid_fits, grid_room, one_place}
 use Rattle.p3_util_kernels.proofs.Pairs.{square_swaps-next}
@@ -96,9 +95,3 @@ pub returns-clause-exchanged : goal.returns-clause-exchanged
 returns-clause-exchanged g c =
     let all : c.loop-row.row ≡ 8 = omega arith in
     rw all at c.loop-row.invariant.exchanged
-
-pub returns-clause-holder : goal.returns-clause-holder
-returns-clause-holder g c =
-    let none : 8 - c.loop-row.row ≡ 0 = omega arith in
-    let all : c.loop-row.invariant.count ≡ square_swaps 8 = omega (arith, rw none at c.loop-row.invariant.left) in
-    rw all at c.loop-row.invariant.holder

@@ -4,9 +4,6 @@ use Rattle.p3_util_kernels.specs.Grid.{row_place}
 use Rattle.p3_util_kernels.proofs.GridDistances.{eight, last_fits}
 use Rattle.p3_util_kernels.proofs.grid.Grid.tile_column.Goals as goal
 
-pub row_distances-one-requires-clause-some : goal.row_distances-one-requires-clause-some
-row_distances-one-requires-clause-some c = omega (arith, c.requires.tile.x_below)
-
 pub overflow_add-middle : goal.overflow_add-middle
 overflow_add-middle c = omega (arith, last_fits c.args.self _ c.args.first c.requires.fits c.row_distances-one.ensures c.requires.tile)
 

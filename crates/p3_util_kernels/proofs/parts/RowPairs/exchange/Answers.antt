@@ -1,9 +1,9 @@
 -- A patch is a region of the grid of its rows.
-use Rattle.std.proofs.Common.{◌≡◌, ℕ, ◌+◌, ◌-◌, ◌/◌, ◌%◌, ◌^◌, ◌<◌, ◌≤◌, refl, subst, eq-eqb, ne_eqb, arith}
+use Rattle.std.proofs.Common.{◌≡◌, ℕ, ◌+◌, ◌-◌, ◌/◌, ◌%◌, ◌^◌, ◌<◌, ◌≤◌, refl, subst, eq-eqb, arith}
 use Rattle.p3_util_kernels.specs.declared.transpose.regions.Region.{Region}
 use Rattle.p3_util_kernels.specs.Patches.{IsPatch, swaps_of_patch}
 use Rattle.p3_util_kernels.specs.Grid.{SwapsInGrid, grid_of_rows, square_at}
-use Rattle.p3_util_kernels.specs.Region.{items_of, rows_of}
+use Rattle.p3_util_kernels.specs.Region.{rows_of}
 use Rattle.p3_util_kernels.specs.SwapCounts.{square_swaps}
 use Rattle.p3_util_kernels.proofs.PatchesLemmas.{patch-above, patch-diagonal, patch-rows}
 use Rattle.p3_util_kernels.proofs.GridRows.{HoldsGrid-rows}
@@ -54,15 +54,4 @@ returns-then-region g c =
       subst (λ (r : Region). SwapsInGrid grid r (g.M.Places.items c.args.m) (g.M.Places.items c.exchange_quadrants.result))
           (square region (omega (arith, rows)) c.if-region.true end) (rw (c.grid-grid.ensures, c.rows.ensures) at c.exchange_quadrants.ensures.exchanged),
       rw swaps (rw (c.grid-grid.ensures, c.rows.ensures) at c.exchange_quadrants.ensures.holder),
-    )
-
-pub returns-else-region : goal.returns-else-region
-returns-else-region g c =
-    let region = c.patch-middle.result.1 in
-    let swaps : swaps_of_patch region ≡ items_of region = rw (ne_eqb region.row_start region.col_start c.if-region.false) refl in (
-      c.patch-middle.result.0,
-      region,
-      c.patch-middle.ensures,
-      rw c.grid-grid.ensures at c.exchange_region.ensures.exchanged,
-      rw swaps (rw c.grid-grid.ensures at c.exchange_region.ensures.holder),
     )

@@ -1,14 +1,11 @@
 -- Each turn of the loop puts one more part. After the loop the matrix is transposed.
-use Rattle.std.proofs.Common.{◌≡◌, ◌∙◌, arith}
+use Rattle.std.proofs.Common.{◌≡◌, arith}
 use Rattle.p3_util_kernels.specs.Parts.{parts_in}
 use Rattle.p3_util_kernels.proofs.PartsInOrder.{put-all, put-more, put-none, puts-more, puts-zero}
 use Rattle.p3_util_kernels.proofs.parts.laws.put_all_parts.Goals as goal
 
 pub loop-number-init : goal.loop-number-init
 loop-number-init g c = record { put = put-none c.args.plan _ _; holder = rw (puts-zero c.args.plan) (g.met.C.Cells.same_holder_refl _) }
-
-pub put-out-requires-clause-output_fits : goal.put-out-requires-clause-output_fits
-put-out-requires-clause-output_fits g c = c.loop-number.invariant.put.same_length ∙ c.requires.output_fits
 
 pub loop-number-preserved : goal.loop-number-preserved
 loop-number-preserved g c = record {

@@ -38,12 +38,6 @@ reversed row_width digits xs ys fits counted same crossed =
           IsRowReversal-crossed (digits / 2) (digits - digits / 2) (omega arith) row_width xs ys (omega arith) (rw parts rows.whole) same crossed
     ]
 
-pub loop-middle-init : goal.loop-middle-init
-loop-middle-init g c = record {
-  crossed = record { same_length = refl; crossed = λ m x y h. absurd (omega (arith, h.1)); others = λ p out. refl };
-  holder = let none : 0 * (c.args.rows.width * square_swaps (2 ^ (c.args.rows.digits / 2))) ≡ 0 = omega arith in rw none (g.met.M.Places.same_holder_refl _);
-}
-
 pub loop-middle-preserved : goal.loop-middle-preserved
 loop-middle-preserved g c =
     let half = c.args.rows.digits / 2 in

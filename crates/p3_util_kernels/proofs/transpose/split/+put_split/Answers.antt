@@ -1,5 +1,5 @@
 -- The recursion of the split. Its measure is the number of levels that remain.
-use Rattle.std.proofs.Common.{arith, rules}
+use Rattle.std.proofs.Common.{arith}
 use Rattle.p3_util_kernels.specs.Region.{cols_of, rows_of}
 use Rattle.p3_util_kernels.proofs.HalvesLemmas.{lev-of_region}
 use Rattle.p3_util_kernels.proofs.LevelsLemmas.{nest_le}
@@ -8,31 +8,12 @@ use Rattle.p3_util_kernels.proofs.transpose.split.+put_split.Goals as goal
 
 -- edit 1
 
--- The splits of a region that is halved nest at least one level deep, so there is a level to
--- subtract. The splits of each half nest at least one level less deep, so the levels that remain
--- are enough.
-pub put_split-out-requires : goal.put_split-out-requires
-put_split-out-requires g t c =
-    let some = c.cut_in_half.ensures.first_levels in
-    let inside = c.cut_in_half.ensures.cut.first_inside in
-    λ κs k. (omega (arith, c.decreases, c.requires.enough), grind (arith, rules, c.requires.ready, c.requires.enough, inside))
-
-pub put_split-out-requires-2 : goal.put_split-out-requires-2
-put_split-out-requires-2 g t c =
-    let some = c.cut_in_half.ensures.second_levels in
-    let inside = c.cut_in_half.ensures.cut.second_inside in
-    λ κs k. (omega (arith, c.decreases, c.requires.enough), grind (arith, rules, c.requires.ready, c.requires.enough, inside))
-
 -- Each place of the region is in exactly one of its halves. So the second half leaves what the
 -- first one put, and both together put as many items as the region has.
 pub returns-clause-transposed : goal.returns-clause-transposed
 returns-clause-transposed g t c =
     IsRegionTransposed-cut c.args.matrix.width c.args.matrix.height _ c.args.region c.cut_in_half.result.0 c.cut_in_half.result.1 _ _ _ c.requires.ready.inside.rows_inside c.cut_in_half.ensures.cut
     c.put_split-out.ensures.transposed c.put_split-out-2.ensures.transposed
-
-pub returns-clause-holder : goal.returns-clause-holder
-returns-clause-holder g t c =
-    g.met.M.Cells.same_holder_trans _ _ _ _ _ _ c.put_split-out.ensures.holder c.put_split-out-2.ensures.holder (omega (arith, c.cut_in_half.ensures.cut.items))
 
 -- One split, and then the splits of the half that nests deeper, give the depth of the region. It is
 -- at most 57 if the places of the matrix fit in a usize.

@@ -1,6 +1,4 @@
 -- The square is a grid. The whole grid, exchanged across its diagonal, is its transpose.
-use Rattle.std.proofs.Common.{◌≡◌, ◌*◌, ◌^◌, arith}
-use Rattle.p3_util_kernels.specs.SwapCounts.{square_swaps}
 use Rattle.p3_util_kernels.proofs.GridSquares.{HoldsGrid-square, IsSquareTransposed-grid}
 use Rattle.p3_util_kernels.proofs.transpose.square.transpose_square.Goals as goal
 
@@ -12,9 +10,3 @@ pub returns-clause-transposed : goal.returns-clause-transposed
 returns-clause-transposed g c =
     IsSquareTransposed-grid c.args.base c.args.log_stride c.args.log_size c.requires.rows_apart _ _
     (rw c.pow2.ensures at c.exchange_square.ensures.exchanged)
-
-pub returns-clause-holder : goal.returns-clause-holder
-returns-clause-holder g c =
-    let s = 2 ^ c.args.log_size in
-    let one : 1 * square_swaps s ≡ square_swaps s = omega arith in
-    rw one at c.exchange_square.ensures.holder
