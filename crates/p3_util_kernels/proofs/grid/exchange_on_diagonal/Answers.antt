@@ -1,19 +1,8 @@
 -- Each turn of the loop exchanges one more row to the right of the diagonal.
-use Rattle.std.proofs.Common.{◌≡◌, ◌+◌, ◌-◌, ◌*◌, suc, arith}
-use Rattle.p3_util_kernels.proofs.GridLemmas.{SwapsInGrid-corner, SwapsInGrid-none}
+use Rattle.std.proofs.Common.{◌≡◌, ◌+◌, ◌-◌, suc, arith}
+use Rattle.p3_util_kernels.proofs.GridLemmas.{SwapsInGrid-corner}
 use Rattle.p3_util_kernels.proofs.Pairs.{square_swaps-next}
 use Rattle.p3_util_kernels.proofs.grid.exchange_on_diagonal.Goals as goal
-
-pub loop-row-init : goal.loop-row-init
-loop-row-init g c =
-    let all : c.args.start + c.args.size - c.args.start ≡ c.args.size = omega arith in
-    let none : c.args.grid.width * 0 ≡ 0 = omega arith in
-    record {
-      exchanged = SwapsInGrid-none c.args.grid _ c.requires.ready _ _ (λ t a b h k. absurd (omega (arith, k.row_from, k.row_to)));
-      count = 0;
-      left = rw all (omega arith);
-      holder = rw none (g.met.M.Places.same_holder_refl _);
-    }
 
 pub loop-row-preserved : goal.loop-row-preserved
 loop-row-preserved g c =

@@ -1,22 +1,12 @@
 -- Each turn of the inner loop exchanges one more place of a row to the right of the diagonal, and each
 -- turn of the outer loop one more row.
-use Rattle.std.proofs.Common.{◌≡◌, ◌+◌, ◌-◌, ◌*◌, ◌∙◌, slice_index, suc, refl, arith}
+use Rattle.std.proofs.Common.{◌≡◌, ◌+◌, ◌-◌, ◌*◌, ◌∙◌, slice_index, suc, arith}
 use Rattle.p3_util_kernels.specs.declared.transpose.regions.Region.{Region}
 use Rattle.p3_util_kernels.specs.Grid.{row_place}
 use Rattle.p3_util_kernels.proofs.CrossingLemmas.{runs-apart}
-use Rattle.p3_util_kernels.proofs.GridLemmas.{SwapsInGrid-corner, SwapsInGrid-item, SwapsInGrid-none, grid_fits, grid_room, one_place}
+use Rattle.p3_util_kernels.proofs.GridLemmas.{SwapsInGrid-corner, SwapsInGrid-item, grid_fits, grid_room, one_place}
 use Rattle.p3_util_kernels.proofs.Pairs.{square_swaps-next}
 use Rattle.p3_util_kernels.proofs.grid.exchange_wide_tile.Goals as goal
-
-pub loop-row-init : goal.loop-row-init
-loop-row-init g c =
-    let none : c.args.grid.width * 0 ≡ 0 = omega arith in
-    record {
-      exchanged = SwapsInGrid-none c.args.grid _ c.requires.ready _ _ (λ t a b h k. absurd (omega (arith, k.row_from, k.row_to)));
-      count = 0;
-      left = refl;
-      holder = rw none (g.met.M.Places.same_holder_refl _);
-    }
 
 pub loop-col-preserved : goal.loop-col-preserved
 loop-col-preserved g c =

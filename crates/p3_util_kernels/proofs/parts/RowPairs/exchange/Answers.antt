@@ -1,11 +1,10 @@
 -- A patch is a region of the grid of its rows.
-use Rattle.std.proofs.Common.{◌≡◌, ℕ, ◌+◌, ◌-◌, ◌/◌, ◌%◌, ◌^◌, ◌<◌, ◌≤◌, refl, subst, eq-eqb, arith}
+use Rattle.std.proofs.Common.{◌≡◌, ℕ, ◌+◌, ◌-◌, ◌/◌, ◌%◌, ◌^◌, ◌<◌, ◌≤◌, refl, arith}
 use Rattle.p3_util_kernels.specs.declared.transpose.regions.Region.{Region}
-use Rattle.p3_util_kernels.specs.Patches.{IsPatch, swaps_of_patch}
-use Rattle.p3_util_kernels.specs.Grid.{SwapsInGrid, grid_of_rows, square_at}
+use Rattle.p3_util_kernels.specs.Patches.{IsPatch}
+use Rattle.p3_util_kernels.specs.Grid.{square_at}
 use Rattle.p3_util_kernels.specs.Region.{rows_of}
-use Rattle.p3_util_kernels.specs.SwapCounts.{square_swaps}
-use Rattle.p3_util_kernels.proofs.PatchesLemmas.{patch-above, patch-diagonal, patch-rows}
+use Rattle.p3_util_kernels.proofs.PatchesLemmas.{patch-above}
 use Rattle.p3_util_kernels.proofs.GridRows.{HoldsGrid-rows}
 use Rattle.p3_util_kernels.proofs.parts.RowPairs.exchange.Goals as goal
 
@@ -37,21 +36,3 @@ exchange_region-requires-clause-ready g c =
 
 pub exchange_region-requires-clause-above : goal.exchange_region-requires-clause-above
 exchange_region-requires-clause-above g c = patch-above _ _ _ _ _ c.args.self.cut.some_step c.patch-middle.ensures c.if-region.false
-
-pub returns-then-region : goal.returns-then-region
-returns-then-region g c =
-    let pairs = c.args.self in
-    let half = pairs.rows.digits / 2 in
-    let grid = grid_of_rows half (pairs.rows.digits - half) pairs.rows.width c.patch-middle.result.0 in
-    let region = c.patch-middle.result.1 in
-    let patch = c.patch-middle.ensures in
-    let rows = patch-rows _ _ _ _ region pairs.cut.some_step patch in
-    let end = patch-diagonal _ _ _ _ region pairs.cut.some_step patch c.if-region.true in
-    let swaps : swaps_of_patch region ≡ square_swaps (rows_of region) = rw (eq-eqb region.row_start region.col_start c.if-region.true) refl in (
-      c.patch-middle.result.0,
-      region,
-      patch,
-      subst (λ (r : Region). SwapsInGrid grid r (g.M.Places.items c.args.m) (g.M.Places.items c.exchange_quadrants.result))
-          (square region (omega (arith, rows)) c.if-region.true end) (rw (c.grid-grid.ensures, c.rows.ensures) at c.exchange_quadrants.ensures.exchanged),
-      rw swaps (rw (c.grid-grid.ensures, c.rows.ensures) at c.exchange_quadrants.ensures.holder),
-    )

@@ -2,7 +2,6 @@
 use Rattle.std.proofs.Common.{◌≡◌, ◌+◌, ◌-◌, ◌*◌, ◌/◌, ◌%◌, ◌≤◌, arith}
 use Rattle.std.proofs.Math.Nat.{div-mul-le_self, mul-le-mul_right}
 use Rattle.std.proofs.lemmas.Nat.{div-add-mod'}
-use Rattle.p3_util_kernels.specs.Region.{cols_of}
 use Rattle.p3_util_kernels.proofs.RegionLemmas.{IsCut-cols, IsRegionTransposed-cut}
 use Rattle.p3_util_kernels.proofs.transpose.strips.put_blocks.Goals as goal
 
@@ -29,10 +28,3 @@ returns-clause-transposed g c =
     let whole : c.cols.result % c.args.side ≡ 0 = rw c.cols.ensures c.requires.whole_cols in
     let end : c.args.region.col_start + c.loop-k.k * c.args.side ≡ c.args.region.col_end = rw done (omega (arith, whole, c.cols.ensures, div-add-mod' c.cols.result c.args.side)) in
     rw end at c.loop-k.invariant.transposed
-
-pub returns-clause-holder : goal.returns-clause-holder
-returns-clause-holder g c =
-    let done : c.loop-k.k ≡ c.cols.result / c.args.side = omega arith in
-    let whole : c.cols.result % c.args.side ≡ 0 = rw c.cols.ensures c.requires.whole_cols in
-    let all : c.loop-k.k * c.args.side ≡ cols_of c.args.region = rw done (omega (arith, whole, c.cols.ensures, div-add-mod' c.cols.result c.args.side)) in
-    rw all at c.loop-k.invariant.holder

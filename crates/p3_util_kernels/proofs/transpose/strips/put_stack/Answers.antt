@@ -2,7 +2,6 @@
 use Rattle.std.proofs.Common.{◌≡◌, ◌+◌, ◌-◌, ◌*◌, ◌/◌, ◌%◌, ◌≤◌, arith}
 use Rattle.std.proofs.Math.Nat.{div-mul-le_self, mul-le-mul_right}
 use Rattle.std.proofs.lemmas.Nat.{div-add-mod'}
-use Rattle.p3_util_kernels.specs.Region.{rows_of}
 use Rattle.p3_util_kernels.proofs.RegionLemmas.{IsCut-rows, IsRegionTransposed-cut}
 use Rattle.p3_util_kernels.proofs.transpose.strips.put_stack.Goals as goal
 
@@ -27,10 +26,3 @@ returns-clause-transposed g c =
     let whole : c.rows.result % c.args.side ≡ 0 = rw c.rows.ensures c.requires.whole_rows in
     let end : c.args.region.row_start + c.loop-k.k * c.args.side ≡ c.args.region.row_end = rw done (omega (arith, whole, c.rows.ensures, div-add-mod' c.rows.result c.args.side)) in
     rw end at c.loop-k.invariant.transposed
-
-pub returns-clause-holder : goal.returns-clause-holder
-returns-clause-holder g c =
-    let done : c.loop-k.k ≡ c.rows.result / c.args.side = omega arith in
-    let whole : c.rows.result % c.args.side ≡ 0 = rw c.rows.ensures c.requires.whole_rows in
-    let all : c.loop-k.k * c.args.side ≡ rows_of c.args.region = rw done (omega (arith, whole, c.rows.ensures, div-add-mod' c.rows.result c.args.side)) in
-    rw all at c.loop-k.invariant.holder
