@@ -22,8 +22,9 @@
 //! [`butterfly_4x4`](crate::transpose::butterfly_4x4) exchanges one bit of the row number with the same
 //! bit of the column number: after two stages of either, the two numbers are exchanged.
 //!
-//! [`exchange_tiles`], [`turn_tile`] and [`put_block`] leave the list that the methods of these names in
-//! [`places`](crate::places) leave. A holder's own method may call them.
+//! [`exchange_tiles`] and [`turn_tile`] leave the list that the methods of these names in
+//! [`places`](crate::places) leave, and [`put_by_squares`] leaves that of `Cells::put_block`. A holder's own methods
+//! may call them.
 //!
 //! The module `witness`, which only the Rattle sources have, is an example for whoever writes a holder: a
 //! register, and lists that meet [`Runs`].
@@ -33,7 +34,7 @@ ghost use Rattle.p3_util_kernels.specs.BlockPut.{BlockFits, IsBlockPut, block_it
 ghost use Rattle.p3_util_kernels.specs.Registers.{AreApart, AreColumns, AreInterleaved, AreLoaded, AreReached, AreStored, ColumnsPut, IsNextStage, IsSide, IsRunStored, IsStored, RowsExchanged, RowsReached, SquaresTurned, items_of_four, length_of_pair};
 ghost use Rattle.p3_util_kernels.specs.Exchanged.{AreTiles, IsTile, TileTurned, TilesExchanged};
 
-pub(crate) mod lines;
+pub(crate) mod line_blocks;
 mod witness;
 
 use crate::places::Block;
@@ -263,7 +264,7 @@ fn in_columns(x: [usize; 8], tops: [usize; 8]) -> [usize; 8]
 /// The first place of row `c` of some squares side by side, if the first row of its square is row
 /// `top` of a tile.
 #[inline(always)]
-fn row_place(x: [usize; 8], side: usize, top: usize, c: usize) -> usize
+fn row_of_squares(x: [usize; 8], side: usize, top: usize, c: usize) -> usize
     requires some_side { IsSide side }
     requires below { top + side ≤ 8 }
     requires in_tile { c < 8 }
@@ -284,14 +285,14 @@ fn in_rows(x: [usize; 8], side: usize, tops: [usize; 8]) -> [usize; 8]
 {
     // With a loop here, the compiler would move registers back and forth in the loop over the blocks.
     [
-        row_place(x, side, tops[0], 0),
-        row_place(x, side, tops[1], 1),
-        row_place(x, side, tops[2], 2),
-        row_place(x, side, tops[3], 3),
-        row_place(x, side, tops[4], 4),
-        row_place(x, side, tops[5], 5),
-        row_place(x, side, tops[6], 6),
-        row_place(x, side, tops[7], 7),
+        row_of_squares(x, side, tops[0], 0),
+        row_of_squares(x, side, tops[1], 1),
+        row_of_squares(x, side, tops[2], 2),
+        row_of_squares(x, side, tops[3], 3),
+        row_of_squares(x, side, tops[4], 4),
+        row_of_squares(x, side, tops[5], 5),
+        row_of_squares(x, side, tops[6], 6),
+        row_of_squares(x, side, tops[7], 7),
     ]
 }
 
@@ -462,10 +463,10 @@ fn starts(first: usize, stride: usize, count: usize) -> [usize; 8]
     ]
 }
 
-/// Puts `side` columns of a block, from column `col` on. If the block has 4 rows, the registers have
-/// each of its squares twice, and one of both is put.
+/// Puts `side` columns of a block, from column `col` on, which are squares one above another. If the
+/// block has 4 rows, the registers have each of its squares twice, and one of both is put.
 #[inline(always)]
-fn put_columns<T, D: Register<T>, S: Runs<T, D>, M: Runs<T, D>>(
+fn put_squares<T, D: Register<T>, S: Runs<T, D>, M: Runs<T, D>>(
     cells: &mut M,
     source: &S,
     side: usize,
@@ -579,7 +580,7 @@ fn put_twice<T, D: Register<T>, S: Runs<T, D>, M: Runs<T, D>>(
 
 /// Does what `Cells::put_block` does, by squares of `side` rows.
 #[inline(always)]
-pub(crate) fn put_block<T, D: Register<T>, S: Runs<T, D>, M: Runs<T, D>>(
+pub(crate) fn put_by_squares<T, D: Register<T>, S: Runs<T, D>, M: Runs<T, D>>(
     cells: &mut M,
     source: &S,
     side: usize,
@@ -602,7 +603,7 @@ pub(crate) fn put_block<T, D: Register<T>, S: Runs<T, D>, M: Runs<T, D>>(
             put_twice(cells, source, side, block, 4);
         }
         2 => put_twice(cells, source, side, block, 0),
-        _ => put_columns(cells, source, side, block, 0),
+        _ => put_squares(cells, source, side, block, 0),
     }
 }
 

@@ -340,11 +340,11 @@ impl<T: Copy, D: Register<T>, const LAST: bool> Cells for InRegisters<'_, T, D, 
             // These items are only read: the functions of `squares` have a shared reference to them.
             Some(items) if LAST && self.may_last(block) && inside(items.len()) => {
                 let items = SliceItems::of(items.as_ptr().cast_mut(), items.len());
-                squares::lines::put_lines::<T, D, _, _>(&mut self.items, &items, Self::SIDE, block);
+                squares::line_blocks::put_by_lines::<T, D, _, _>(&mut self.items, &items, Self::SIDE, block);
             }
             Some(items) if cols == rows && self.has_blocks(rows) => {
                 let items = SliceItems::of(items.as_ptr().cast_mut(), items.len());
-                squares::put_block::<T, D, _, _>(&mut self.items, &items, Self::SIDE, block);
+                squares::put_by_squares::<T, D, _, _>(&mut self.items, &items, Self::SIDE, block);
             }
             _ => self.items.put_block(source, block),
         }

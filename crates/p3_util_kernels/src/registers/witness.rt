@@ -3,7 +3,7 @@
 //!
 //! [`OneTile`] allows what one tile needs and nothing else. [`turn_tile`] is proved for it all the same, so it touches
 //! no place outside the tile, whatever list it is given. [`OneColumn`] and [`TwoColumns`] show the same of a line of one
-//! column: [`put_lines`] writes no other cell, and reads the column and the one to its right.
+//! column: [`put_by_lines`] writes no other cell, and reads the column and the one to its right.
 
 ghost use Rattle.std.specs.Prelude.{◌≡◌, ℕ, ◌+◌, ◌*◌, ◌%◌, ◌<◌, ◌≤◌, ◌^◌, ◌⊎◌, List, [], ◌∷◌, length, slice_index};
 ghost use Rattle.std.proofs.Common.{refl, rules};
@@ -11,8 +11,8 @@ ghost use Rattle.p3_util_kernels.specs.BlockPut.{BlockFits, IsBlockPut, block_it
 ghost use Rattle.p3_util_kernels.specs.Exchanged.{IsTile, TileTurned};
 
 use crate::places::{Block, Places};
-use crate::registers::lines::put_lines;
-use crate::registers::{Pair, Register, Runs, exchange_tiles, put_block, turn_tile};
+use crate::registers::line_blocks::put_by_lines;
+use crate::registers::{Pair, Register, Runs, exchange_tiles, put_by_squares, turn_tile};
 
 /// A register of two items.
 #[derive(Clone, Copy)]
@@ -114,7 +114,7 @@ fn block_put<T: Copy>(cells: &mut Short<T>, source: &Short<T>, block: Block)
     ensures put { IsBlockPut (block_items block) block source.now.items.now cells.old.items.now cells.new.items.now }
     ensures holder { cells.old.items.ghost_name ≡ cells.new.items.ghost_name }
 {
-    put_block::<T, Pair<Duo<T>>, _, _>(cells, source, 2, block);
+    put_by_squares::<T, Pair<Duo<T>>, _, _>(cells, source, 2, block);
 }
 
 /// One tile of a borrowed list of fewer than 2^63 items: 8 items from each place of `rows` on. Only runs within these
@@ -237,5 +237,5 @@ fn column_put_alone<T: Copy>(cells: &mut OneColumn<T>, source: &TwoColumns<T>, b
     ensures put { IsBlockPut (block_items block) block source.now.items.now cells.old.items.now cells.new.items.now }
     ensures holder { cells.old.items.ghost_name ≡ cells.new.items.ghost_name }
 {
-    put_lines::<T, Pair<Duo<T>>, _, _>(cells, source, 2, block);
+    put_by_lines::<T, Pair<Duo<T>>, _, _>(cells, source, 2, block);
 }

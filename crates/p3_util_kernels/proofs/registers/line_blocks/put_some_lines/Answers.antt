@@ -3,7 +3,7 @@ use Rattle.std.proofs.Common.{◌≡◌, ◌+◌, ◌-◌, ◌*◌, inr, refl, �
 use Rattle.p3_util_kernels.specs.Registers.{items_of_four}
 use Rattle.p3_util_kernels.proofs.RegistersBlocks.{ColumnsPut-joined}
 use Rattle.p3_util_kernels.proofs.RegistersLines.{ColumnsPut-of_8, ColumnsPut-of_16, other, some}
-use Rattle.p3_util_kernels.proofs.registers.lines.put_some_lines.Goals as goal
+use Rattle.p3_util_kernels.proofs.registers.line_blocks.put_some_lines.Goals as goal
 
 pub load_lines-top-requires-clause-inside : goal.load_lines-top-requires-clause-inside
 load_lines-top-requires-clause-inside g c r h =

@@ -26,7 +26,12 @@ fn load_lines<T, D: Register<T>, S: Runs<T, D>>(list: &S, from: usize, width: us
 
 /// Writes the first half of a register from place `first` on, and then the second half from place `second` on.
 #[inline(always)]
-fn store_last<T, D: Register<T>, M: Runs<T, D>>(list: &mut M, first: usize, second: usize, rows: D)
+fn store_two_last<T, D: Register<T>, M: Runs<T, D>>(
+    list: &mut M,
+    first: usize,
+    second: usize,
+    rows: D,
+)
     requires apart { (first + D.half ≤ second) ⊎ (second + D.half ≤ first) }
     requires first { M.may_last (M.reach list.old) first }
     requires second { M.may_last (M.reach list.old) second }
@@ -59,8 +64,8 @@ fn put_line<T, D: Register<T>, M: Runs<T, D>>(
     ensures holder { M.reach list.new ≡ M.reach list.old }
 {
     let to = block.to + col * block.height;
-    store_last(list, to, to + side, a);
-    store_last(list, to + 2 * side, to + 3 * side, b);
+    store_two_last(list, to, to + side, a);
+    store_two_last(list, to + 2 * side, to + 3 * side, b);
 }
 
 /// Puts `side` columns of a block, from column `col` on. Each is stored from its first cell to its last.
@@ -156,7 +161,7 @@ fn put_four<T, D: Register<T>, S: Runs<T, D>, M: Runs<T, D>>(
 /// Does what `Cells::put_block` does, for blocks of 4 * `side` rows and as many columns, or of one column, column after
 /// column.
 #[inline(always)]
-pub(crate) fn put_lines<T, D: Register<T>, S: Runs<T, D>, M: Runs<T, D>>(
+pub(crate) fn put_by_lines<T, D: Register<T>, S: Runs<T, D>, M: Runs<T, D>>(
     cells: &mut M,
     source: &S,
     side: usize,

@@ -4,7 +4,7 @@ use Rattle.std.proofs.Math.ListN.{replicate}
 use Rattle.std.proofs.lemmas.List.{get_or-replicate}
 use Rattle.p3_util_kernels.specs.Registers.{items_of_four}
 use Rattle.p3_util_kernels.proofs.RegistersBlocks.{AreReached-block_from, AreReached-block_to, AreApart-block_to, ColumnsPut-step}
-use Rattle.p3_util_kernels.proofs.registers.put_columns.Goals as goal
+use Rattle.p3_util_kernels.proofs.registers.put_squares.Goals as goal
 
 pub starts-requires-clause-fits : goal.starts-requires-clause-fits
 starts-requires-clause-fits g c r h = omega (arith, c.requires.source_fits, c.requires.block.inside r c.args.col h (omega (arith, c.requires.square)))

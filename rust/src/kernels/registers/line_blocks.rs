@@ -1,4 +1,4 @@
-// rust/erase writes this file from crates/p3_util_kernels/src/registers/lines.rt. Make changes there.
+// rust/erase writes this file from crates/p3_util_kernels/src/registers/line_blocks.rt. Make changes there.
 //! Blocks whose columns are whole cache lines: each column is stored from its first cell to its last, one right
 //! after the other.
 
@@ -36,7 +36,12 @@ fn load_lines<T, D: Register<T>, S: Runs<T, D>>(list: &S, from: usize, width: us
 /// ensures holder { M.reach list.new ≡ M.reach list.old }
 /// ```
 #[inline(always)]
-fn store_last<T, D: Register<T>, M: Runs<T, D>>(list: &mut M, first: usize, second: usize, rows: D) {
+fn store_two_last<T, D: Register<T>, M: Runs<T, D>>(
+    list: &mut M,
+    first: usize,
+    second: usize,
+    rows: D,
+) {
     let (a, b) = rows.halves();
     list.store_last(first, a);
     list.store_last(second, b);
@@ -67,8 +72,8 @@ fn put_line<T, D: Register<T>, M: Runs<T, D>>(
     b: D,
 ) {
     let to = block.to + col * block.height;
-    store_last(list, to, to + side, a);
-    store_last(list, to + 2 * side, to + 3 * side, b);
+    store_two_last(list, to, to + side, a);
+    store_two_last(list, to + 2 * side, to + 3 * side, b);
 }
 
 /// Puts `side` columns of a block, from column `col` on. Each is stored from its first cell to its last.
@@ -191,7 +196,7 @@ fn put_four<T, D: Register<T>, S: Runs<T, D>, M: Runs<T, D>>(
 /// ensures holder { M.reach cells.new ≡ M.reach cells.old }
 /// ```
 #[inline(always)]
-pub(crate) fn put_lines<T, D: Register<T>, S: Runs<T, D>, M: Runs<T, D>>(
+pub(crate) fn put_by_lines<T, D: Register<T>, S: Runs<T, D>, M: Runs<T, D>>(
     cells: &mut M,
     source: &S,
     side: usize,

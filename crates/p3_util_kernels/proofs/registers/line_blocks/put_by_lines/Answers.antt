@@ -4,7 +4,7 @@ use Rattle.p3_util_kernels.specs.declared.places.Block.{Block}
 use Rattle.p3_util_kernels.specs.Registers.{ColumnsPut}
 use Rattle.p3_util_kernels.proofs.RegistersBlocks.{ColumnsPut-joined, IsBlockPut-whole}
 use Rattle.p3_util_kernels.proofs.RegistersLines.{some}
-use Rattle.p3_util_kernels.proofs.registers.lines.put_lines.Goals as goal
+use Rattle.p3_util_kernels.proofs.registers.line_blocks.put_by_lines.Goals as goal
 
 -- the same columns
 to_end : {A : Type 0} (from to end : ℕ) (block : Block) (input old new : List A) → end ≡ to → ColumnsPut from to block input old new → ColumnsPut from end block input old new

@@ -2,7 +2,7 @@
 use Rattle.std.proofs.Common.{◌≡◌, ◌%◌, arith}
 use Rattle.p3_util_kernels.specs.Registers.{items_of_four}
 use Rattle.p3_util_kernels.proofs.RegistersLines.{AreLines-stages}
-use Rattle.p3_util_kernels.proofs.registers.lines.load_lines.Goals as goal
+use Rattle.p3_util_kernels.proofs.registers.line_blocks.load_lines.Goals as goal
 
 pub load-one-requires : goal.load-one-requires
 load-one-requires g c j h =

@@ -1,7 +1,7 @@
 -- Two registers have the four items of the column.
 use Rattle.std.proofs.Common.{◌≡◌, ◌+◌, ◌*◌, inr, refl, arith}
 use Rattle.p3_util_kernels.proofs.RegistersLines.{ColumnsPut-line, column_of_two, of_pair}
-use Rattle.p3_util_kernels.proofs.registers.lines.put_four.Goals as goal
+use Rattle.p3_util_kernels.proofs.registers.line_blocks.put_four.Goals as goal
 
 pub load_two-a-requires-clause-first : goal.load_two-a-requires-clause-first
 load_two-a-requires-clause-first g c =

@@ -2,7 +2,7 @@
 use Rattle.std.proofs.Common.{◌≡◌, ◌+◌, ◌*◌, inl, refl, arith}
 use Rattle.p3_util_kernels.specs.Registers.{items_of_four}
 use Rattle.p3_util_kernels.proofs.RegistersLines.{ColumnsPut-of_8, ColumnsPut-of_16, other, some}
-use Rattle.p3_util_kernels.proofs.registers.lines.put_one_line.Goals as goal
+use Rattle.p3_util_kernels.proofs.registers.line_blocks.put_one_line.Goals as goal
 
 pub load_lines-top-requires-clause-inside : goal.load_lines-top-requires-clause-inside
 load_lines-top-requires-clause-inside g c r h =

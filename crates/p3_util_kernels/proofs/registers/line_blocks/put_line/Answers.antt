@@ -1,7 +1,7 @@
 -- The runs of both registers follow each other.
 use Rattle.std.proofs.Common.{arith}
 use Rattle.p3_util_kernels.proofs.RegistersLines.{IsRunStored-two}
-use Rattle.p3_util_kernels.proofs.registers.lines.put_line.Goals as goal
+use Rattle.p3_util_kernels.proofs.registers.line_blocks.put_line.Goals as goal
 
 pub overflow_mul-to : goal.overflow_mul-to
 overflow_mul-to g c = omega (arith, c.requires.list_fits, c.requires.room 0 (omega arith))
@@ -12,7 +12,7 @@ overflow_add-to g c = omega (arith, c.requires.list_fits, c.requires.room 0 (ome
 pub returns-clause-stored : goal.returns-clause-stored
 returns-clause-stored g c =
     rw (c.requires.line, c.requires.side)
-    (IsRunStored-two g.D.Register.half _ _ _ _ _ _ (g.met.D.Register.full c.args.a) (rw c.requires.side at c.store_last.ensures.stored) (rw c.requires.side at c.store_last-2.ensures.stored))
+    (IsRunStored-two g.D.Register.half _ _ _ _ _ _ (g.met.D.Register.full c.args.a) (rw c.requires.side at c.store_two_last.ensures.stored) (rw c.requires.side at c.store_two_last-2.ensures.stored))
 
 -- edit 0
 -- edit 1

@@ -1,7 +1,7 @@
 -- The columns of the block are put from the first to the last.
 use Rattle.std.proofs.Common.{◌≡◌, ◌+◌, ◌*◌, arith}
 use Rattle.p3_util_kernels.proofs.RegistersBlocks.{ColumnsPut-joined, IsBlockPut-whole}
-use Rattle.p3_util_kernels.proofs.registers.put_block.Goals as goal
+use Rattle.p3_util_kernels.proofs.registers.put_by_squares.Goals as goal
 
 pub returns-in-4-clause-put : goal.returns-in-4-clause-put
 returns-in-4-clause-put g c =
@@ -18,4 +18,4 @@ returns-in-2-clause-put g c =
 pub returns-in_default-clause-put : goal.returns-in_default-clause-put
 returns-in_default-clause-put g c =
     let all : 0 + c.args.side ≡ c.args.block.cols = grind (arith, c.requires.known, c.requires.square, c.requires.some_side, c.requires.side, c.requires.below, c.in_default) in
-    IsBlockPut-whole c.args.block _ _ _ (rw all at c.put_columns.ensures.put)
+    IsBlockPut-whole c.args.block _ _ _ (rw all at c.put_squares.ensures.put)
