@@ -39,6 +39,17 @@ pub(crate) trait Register<T>: Copy {
     /// The items of one half of a register.
     type Half: Copy;
 
+    /// The number of items of a half, which is also the number of rows of a square. It is a function and
+    /// not a constant, because a constant has no `requires`: the number of a [`Pair`] might not fit.
+    ///
+    /// # Contract
+    ///
+    /// ```text
+    /// requires { half < 2 ^ 64 }
+    /// ensures { result ≡ half }
+    /// ```
+    fn side() -> usize;
+
     /// Interleaves the first halves of two registers.
     ///
     /// # Contract
@@ -201,23 +212,19 @@ fn in_order(places: [usize; 8], side: usize) -> [usize; 8] {
     places
 }
 
-/// Reads squares of `side` rows, which are 8 rows together, and transposes them. `places` has the first
-/// place of each row, one square after another.
+/// Reads squares, which are 8 rows together, and transposes them. `places` has the first place of each
+/// row, one square after another.
 ///
 /// # Contract
 ///
 /// ```text
 /// requires some_side { IsSide D.half }
-/// requires side { side ≡ D.half }
 /// requires reached { AreReached 8 places (S.may (S.reach list.now)) }
 /// ensures { AreColumns D.half places (S.items list.now) (items_of_four D.items result) }
 /// ```
 #[inline(always)]
-fn load_columns<T, D: Register<T>, S: Runs<T, D>>(
-    list: &S,
-    side: usize,
-    places: [usize; 8],
-) -> Four<D> {
+fn load_columns<T, D: Register<T>, S: Runs<T, D>>(list: &S, places: [usize; 8]) -> Four<D> {
+    let side = D::side();
     let one = load(list, in_order(places, side));
     if side == 2 {
         return one;
@@ -339,44 +346,41 @@ fn in_rows(x: [usize; 8], side: usize, tops: [usize; 8]) -> [usize; 8] {
     ]
 }
 
-/// Exchanges `side` rows of a tile, from row `row` on, with as many columns of the other.
+/// Exchanges `D::side()` rows of a tile, from row `row` on, with as many columns of the other.
 ///
 /// # Contract
 ///
 /// ```text
 /// requires some_side { IsSide D.half }
-/// requires side { side ≡ D.half }
-/// requires below { row + side ≤ 8 }
+/// requires below { row + D.half ≤ 8 }
 /// requires tiles { AreTiles x y (length (M.items list.old)) }
 /// requires reached_x { RowsReached 8 D.half (slice_index x) (M.may (M.reach list.old)) }
 /// requires reached_y { RowsReached 8 D.half (slice_index y) (M.may (M.reach list.old)) }
 /// requires fits { length (M.items list.old) < 2 ^ 63 }
-/// ensures exchanged { RowsExchanged row (row + side) x y (M.items list.old) (M.items list.new) }
+/// ensures exchanged { RowsExchanged row (row + D.half) x y (M.items list.old) (M.items list.new) }
 /// ensures holder { M.reach list.new ≡ M.reach list.old }
 /// ```
 #[inline(always)]
 fn exchange_band<T, D: Register<T>, M: Runs<T, D>>(
     list: &mut M,
-    side: usize,
     x: [usize; 8],
     y: [usize; 8],
     row: usize,
 ) {
-    let in_x = in_rows(x, side, [row; 8]);
+    let in_x = in_rows(x, D::side(), [row; 8]);
     let in_y = in_columns(y, [row; 8]);
-    let to_y = load_columns(list, side, in_x);
-    let to_x = load_columns(list, side, in_y);
+    let to_y = load_columns(list, in_x);
+    let to_x = load_columns(list, in_y);
     store(list, 8, in_y, to_y);
     store(list, 8, in_x, to_x);
 }
 
-/// Does what `Places::exchange_tiles` does, by squares of `side` rows.
+/// Does what `Places::exchange_tiles` does, by squares of `D::side()` rows.
 ///
 /// # Contract
 ///
 /// ```text
 /// requires some_side { IsSide D.half }
-/// requires side { side ≡ D.half }
 /// requires tiles { AreTiles x y (length (M.items list.old)) }
 /// requires reached_x { RowsReached 8 D.half (slice_index x) (M.may (M.reach list.old)) }
 /// requires reached_y { RowsReached 8 D.half (slice_index y) (M.may (M.reach list.old)) }
@@ -386,22 +390,21 @@ fn exchange_band<T, D: Register<T>, M: Runs<T, D>>(
 #[inline(always)]
 pub(crate) fn exchange_tiles<T, D: Register<T>, M: Runs<T, D>>(
     list: &mut M,
-    side: usize,
     x: [usize; 8],
     y: [usize; 8],
 ) {
-    match side {
+    match D::side() {
         2 => {
-            exchange_band(list, side, x, y, 0);
-            exchange_band(list, side, x, y, 2);
-            exchange_band(list, side, x, y, 4);
-            exchange_band(list, side, x, y, 6);
+            exchange_band(list, x, y, 0);
+            exchange_band(list, x, y, 2);
+            exchange_band(list, x, y, 4);
+            exchange_band(list, x, y, 6);
         }
         4 => {
-            exchange_band(list, side, x, y, 0);
-            exchange_band(list, side, x, y, 4);
+            exchange_band(list, x, y, 0);
+            exchange_band(list, x, y, 4);
         }
-        _ => exchange_band(list, side, x, y, 0),
+        _ => exchange_band(list, x, y, 0),
     }
 }
 
@@ -449,53 +452,47 @@ fn opposites(side: usize, sum: usize) -> [usize; 8] {
 ///
 /// ```text
 /// requires some_side { IsSide D.half }
-/// requires side { side ≡ D.half }
 /// requires sum { sum < 8 }
-/// requires whole { sum % side ≡ 0 }
+/// requires whole { sum % D.half ≡ 0 }
 /// requires tile { IsTile x (length (M.items list.old)) }
 /// requires reached { RowsReached 8 D.half (slice_index x) (M.may (M.reach list.old)) }
 /// requires fits { length (M.items list.old) < 2 ^ 63 }
-/// ensures turned { SquaresTurned sum (sum + side) side x (M.items list.old) (M.items list.new) }
+/// ensures turned { SquaresTurned sum (sum + D.half) D.half x (M.items list.old) (M.items list.new) }
 /// ensures holder { M.reach list.new ≡ M.reach list.old }
 /// ```
 #[inline(always)]
-fn turn_squares<T, D: Register<T>, M: Runs<T, D>>(
-    list: &mut M,
-    side: usize,
-    x: [usize; 8],
-    sum: usize,
-) {
+fn turn_squares<T, D: Register<T>, M: Runs<T, D>>(list: &mut M, x: [usize; 8], sum: usize) {
+    let side = D::side();
     let tops = opposites(side, sum);
-    let columns = load_columns(list, side, in_columns(x, tops));
+    let columns = load_columns(list, in_columns(x, tops));
     store(list, 8, in_rows(x, side, tops), columns);
 }
 
-/// Does what `Places::turn_tile` does, by squares of `side` rows.
+/// Does what `Places::turn_tile` does, by squares of `D::side()` rows.
 ///
 /// # Contract
 ///
 /// ```text
 /// requires some_side { IsSide D.half }
-/// requires side { side ≡ D.half }
 /// requires tile { IsTile x (length (M.items list.old)) }
 /// requires reached { RowsReached 8 D.half (slice_index x) (M.may (M.reach list.old)) }
 /// ensures turned { TileTurned 64 x (M.items list.old) (M.items list.new) }
 /// ensures holder { M.reach list.new ≡ M.reach list.old }
 /// ```
 #[inline(always)]
-pub(crate) fn turn_tile<T, D: Register<T>, M: Runs<T, D>>(list: &mut M, side: usize, x: [usize; 8]) {
-    match side {
+pub(crate) fn turn_tile<T, D: Register<T>, M: Runs<T, D>>(list: &mut M, x: [usize; 8]) {
+    match D::side() {
         2 => {
-            turn_squares(list, side, x, 0);
-            turn_squares(list, side, x, 2);
-            turn_squares(list, side, x, 4);
-            turn_squares(list, side, x, 6);
+            turn_squares(list, x, 0);
+            turn_squares(list, x, 2);
+            turn_squares(list, x, 4);
+            turn_squares(list, x, 6);
         }
         4 => {
-            turn_squares(list, side, x, 0);
-            turn_squares(list, side, x, 4);
+            turn_squares(list, x, 0);
+            turn_squares(list, x, 4);
         }
-        _ => turn_squares(list, side, x, 0),
+        _ => turn_squares(list, x, 0),
     }
 }
 
@@ -538,37 +535,38 @@ fn starts(first: usize, stride: usize, count: usize) -> [usize; 8] {
     ]
 }
 
-/// Puts `side` columns of a block, from column `col` on, which are squares one above another. If the
-/// block has 4 rows, the registers have each of its squares twice, and one of both is put.
+/// Puts `D::side()` columns of a block, from column `col` on, which are squares one above another. If
+/// the block has 4 rows, the registers have each of its squares twice, and one of both is put.
 ///
 /// # Contract
 ///
 /// ```text
 /// requires some_side { IsSide D.half }
-/// requires side { side ≡ D.half }
 /// requires known { (block.rows ≡ 4) ⊎ (block.rows ≡ 8) }
-/// requires below { col + side ≤ block.rows }
+/// requires below { col + D.half ≤ block.rows }
 /// requires square { block.cols ≡ block.rows }
 /// requires block { BlockFits block (length (S.items source.now)) (length (M.items cells.old)) }
 /// requires reads { RowsReached block.rows D.half (λ r. block.from + r * block.width) (S.may (S.reach source.now)) }
 /// requires writes { RowsReached block.rows D.half (λ c. block.to + c * block.height) (M.may (M.reach cells.old)) }
 /// requires source_fits { length (S.items source.now) < 2 ^ 63 }
 /// requires cells_fit { length (M.items cells.old) < 2 ^ 63 }
-/// ensures put { ColumnsPut col (col + side) block (S.items source.now) (M.items cells.old) (M.items cells.new) }
+/// ensures put { ColumnsPut col (col + D.half) block (S.items source.now) (M.items cells.old) (M.items cells.new) }
 /// ensures holder { M.reach cells.new ≡ M.reach cells.old }
 /// ```
 #[inline(always)]
 fn put_squares<T, D: Register<T>, S: Runs<T, D>, M: Runs<T, D>>(
     cells: &mut M,
     source: &S,
-    side: usize,
     block: Block,
     col: usize,
 ) {
     let from = in_columns(starts(block.from, block.width, block.rows), [col; 8]);
-    let to = in_rows(starts(block.to, block.height, block.rows), side, [col; 8]);
-    let columns = load_columns(source, side, from);
-    store(cells, block.rows, to, columns);
+    let to = in_rows(
+        starts(block.to, block.height, block.rows),
+        D::side(),
+        [col; 8],
+    );
+    store(cells, block.rows, to, load_columns(source, from));
 }
 
 /// Does what [`store`] does, for squares of 2 or 4 rows, in another order: the runs of a column are
@@ -623,38 +621,37 @@ fn store_columns<T, D: Register<T>, M: Runs<T, D>>(
     list.store(to[7], d.1);
 }
 
-/// Puts twice `side` columns of a block, from column `col` on. All of them are read before one is put.
-/// So two neighbouring runs of a row are read, and two of a column written, one right after the other.
-/// On aarch64 that is one instruction for both (`ldp`, `stp`).
+/// Puts twice `D::side()` columns of a block, from column `col` on. All of them are read before one is
+/// put. So two neighbouring runs of a row are read, and two of a column written, one right after the
+/// other. On aarch64 that is one instruction for both (`ldp`, `stp`).
 ///
 /// # Contract
 ///
 /// ```text
 /// requires some_side { IsSide D.half }
-/// requires side { side ≡ D.half }
 /// requires known { (block.rows ≡ 4) ⊎ (block.rows ≡ 8) }
-/// requires below { col + 2 * side ≤ block.rows }
+/// requires below { col + 2 * D.half ≤ block.rows }
 /// requires square { block.cols ≡ block.rows }
 /// requires block { BlockFits block (length (S.items source.now)) (length (M.items cells.old)) }
 /// requires reads { RowsReached block.rows D.half (λ r. block.from + r * block.width) (S.may (S.reach source.now)) }
 /// requires writes { RowsReached block.rows D.half (λ c. block.to + c * block.height) (M.may (M.reach cells.old)) }
 /// requires source_fits { length (S.items source.now) < 2 ^ 63 }
 /// requires cells_fit { length (M.items cells.old) < 2 ^ 63 }
-/// ensures put { ColumnsPut col (col + 2 * side) block (S.items source.now) (M.items cells.old) (M.items cells.new) }
+/// ensures put { ColumnsPut col (col + 2 * D.half) block (S.items source.now) (M.items cells.old) (M.items cells.new) }
 /// ensures holder { M.reach cells.new ≡ M.reach cells.old }
 /// ```
 #[inline(always)]
 fn put_twice<T, D: Register<T>, S: Runs<T, D>, M: Runs<T, D>>(
     cells: &mut M,
     source: &S,
-    side: usize,
     block: Block,
     col: usize,
 ) {
+    let side = D::side();
     let from = starts(block.from, block.width, block.rows);
     let to = starts(block.to, block.height, block.rows);
-    let left = load_columns(source, side, in_columns(from, [col; 8]));
-    let right = load_columns(source, side, in_columns(from, [col + side; 8]));
+    let left = load_columns(source, in_columns(from, [col; 8]));
+    let right = load_columns(source, in_columns(from, [col + side; 8]));
     store_columns(cells, side, block.rows, in_rows(to, side, [col; 8]), left);
     store_columns(
         cells,
@@ -665,16 +662,15 @@ fn put_twice<T, D: Register<T>, S: Runs<T, D>, M: Runs<T, D>>(
     );
 }
 
-/// Does what `Cells::put_block` does, by squares of `side` rows.
+/// Does what `Cells::put_block` does, by squares of `D::side()` rows.
 ///
 /// # Contract
 ///
 /// ```text
 /// requires some_side { IsSide D.half }
-/// requires side { side ≡ D.half }
 /// requires known { (block.rows ≡ 4) ⊎ (block.rows ≡ 8) }
 /// requires square { block.cols ≡ block.rows }
-/// requires below { side ≤ block.rows }
+/// requires below { D.half ≤ block.rows }
 /// requires block { BlockFits block (length (S.items source.now)) (length (M.items cells.old)) }
 /// requires reads { RowsReached block.rows D.half (λ r. block.from + r * block.width) (S.may (S.reach source.now)) }
 /// requires writes { RowsReached block.rows D.half (λ c. block.to + c * block.height) (M.may (M.reach cells.old)) }
@@ -685,16 +681,15 @@ fn put_twice<T, D: Register<T>, S: Runs<T, D>, M: Runs<T, D>>(
 pub(crate) fn put_by_squares<T, D: Register<T>, S: Runs<T, D>, M: Runs<T, D>>(
     cells: &mut M,
     source: &S,
-    side: usize,
     block: Block,
 ) {
-    match block.rows / side {
+    match block.rows / D::side() {
         4 => {
-            put_twice(cells, source, side, block, 0);
-            put_twice(cells, source, side, block, 4);
+            put_twice(cells, source, block, 0);
+            put_twice(cells, source, block, 4);
         }
-        2 => put_twice(cells, source, side, block, 0),
-        _ => put_squares(cells, source, side, block, 0),
+        2 => put_twice(cells, source, block, 0),
+        _ => put_squares(cells, source, block, 0),
     }
 }
 
@@ -707,6 +702,11 @@ pub(crate) struct Two<H>(H, H);
 
 impl<T, H: Single<T>> Register<T> for Two<H> {
     type Half = H;
+
+    #[inline(always)]
+    fn side() -> usize {
+        1
+    }
 
     #[inline(always)]
     fn low(self, other: Self) -> Self {
@@ -735,6 +735,11 @@ pub(crate) struct Pair<R>(R, R);
 
 impl<T, R: Register<T>> Register<T> for Pair<R> {
     type Half = R;
+
+    #[inline(always)]
+    fn side() -> usize {
+        2 * R::side()
+    }
 
     #[inline(always)]
     fn low(self, other: Self) -> Self {

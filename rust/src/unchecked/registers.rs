@@ -61,6 +61,11 @@ macro_rules! registers {
         impl registers::Register<Bytes<$bytes>> for Items<$bytes> {
             type Half = Half;
 
+            #[inline(always)]
+            fn side() -> usize {
+                size_of::<Half>() / $bytes
+            }
+
             $(#[inline(always)]
             #[allow(unused)] // Without `USES_REGISTERS`, nothing is shuffled.
             fn $name(self, other: Self) -> Self {

@@ -50,6 +50,10 @@ where
 {
     type Half = <Items<N> as Register<Bytes<N>>>::Half;
 
+    fn side() -> usize {
+        Items::<N>::side()
+    }
+
     fn low(self, other: Self) -> Self {
         Of(self.0.low(other.0))
     }
@@ -698,6 +702,7 @@ mod refused {
 
         fn check<T: Copy + Default, D: Register<T>>() {
             let len = size_of::<D::Half>() / size_of::<T>();
+            assert_eq!(D::side(), len);
             let mut list = [T::default(); 40];
             let mut places = SlicePlaces::new(&mut list[..20]);
             let first = Runs::<T, D>::load(&places, 0);

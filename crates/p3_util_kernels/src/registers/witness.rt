@@ -27,6 +27,10 @@ impl<T: Copy> Register<T> for Duo<T> {
 
     ghost half = { 1 };
 
+    fn side() -> usize {
+        1
+    }
+
     fn low(self, other: Self) -> Self {
         Duo(self.0, other.0)
     }
@@ -94,11 +98,11 @@ impl<'a, T: Copy> Places for Short<'a, T> {
     }
 
     fn exchange_tiles(&mut self, x: [usize; 8], y: [usize; 8]) {
-        exchange_tiles::<T, Pair<Duo<T>>, _>(self, 2, x, y);
+        exchange_tiles::<T, Pair<Duo<T>>, _>(self, x, y);
     }
 
     fn turn_tile(&mut self, x: [usize; 8]) {
-        turn_tile::<T, Pair<Duo<T>>, _>(self, 2, x);
+        turn_tile::<T, Pair<Duo<T>>, _>(self, x);
     }
 
     ghost same_holder_refl = { Prim.search rules };
@@ -114,7 +118,7 @@ fn block_put<T: Copy>(cells: &mut Short<T>, source: &Short<T>, block: Block)
     ensures put { IsBlockPut (block_items block) block source.now.items.now cells.old.items.now cells.new.items.now }
     ensures holder { cells.old.items.ghost_name ≡ cells.new.items.ghost_name }
 {
-    put_by_squares::<T, Pair<Duo<T>>, _, _>(cells, source, 2, block);
+    put_by_squares::<T, Pair<Duo<T>>, _, _>(cells, source, block);
 }
 
 /// One tile of a borrowed list of fewer than 2^63 items: 8 items from each place of `rows` on. Only runs within these
@@ -156,7 +160,7 @@ fn turned_alone<T: Copy>(tile: &mut OneTile<T>)
     ensures turned { TileTurned 64 tile.old.rows tile.old.items.now tile.new.items.now }
     ensures holder { tile.old.items.ghost_name ≡ tile.new.items.ghost_name }
 {
-    turn_tile::<T, Pair<Duo<T>>, _>(tile, 2, tile.rows);
+    turn_tile::<T, Pair<Duo<T>>, _>(tile, tile.rows);
 }
 
 /// A line of one column: 8 cells from `to` on, of a borrowed list of fewer than 2^63 items. No other cell may be touched.
@@ -237,5 +241,5 @@ fn column_put_alone<T: Copy>(cells: &mut OneColumn<T>, source: &TwoColumns<T>, b
     ensures put { IsBlockPut (block_items block) block source.now.items.now cells.old.items.now cells.new.items.now }
     ensures holder { cells.old.items.ghost_name ≡ cells.new.items.ghost_name }
 {
-    put_by_lines::<T, Pair<Duo<T>>, _, _>(cells, source, 2, block);
+    put_by_lines::<T, Pair<Duo<T>>, _, _>(cells, source, block);
 }

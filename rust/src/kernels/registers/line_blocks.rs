@@ -52,67 +52,59 @@ fn store_two_last<T, D: Register<T>, M: Runs<T, D>>(
 /// # Contract
 ///
 /// ```text
-/// requires side { side ≡ D.half }
-/// requires some_side { 0 < side }
-/// requires line { block.rows ≡ 4 * side }
+/// requires some_side { 0 < D.half }
+/// requires line { block.rows ≡ 4 * D.half }
 /// requires room { (r : ℕ) → r < block.rows → block.to + col * block.height + r < length (M.items list.old) }
 /// requires list_fits { length (M.items list.old) < 2 ^ 63 }
-/// requires reached { (k : ℕ) → k < 4 → M.may_last (M.reach list.old) (block.to + col * block.height + k * side) }
+/// requires reached { (k : ℕ) → k < 4 → M.may_last (M.reach list.old) (block.to + col * block.height + k * D.half) }
 /// ensures stored { IsRunStored block.rows (block.to + col * block.height) (D.items a ++ D.items b)
 ///     (M.items list.old) (M.items list.new) }
 /// ensures holder { M.reach list.new ≡ M.reach list.old }
 /// ```
 #[inline(always)]
-fn put_line<T, D: Register<T>, M: Runs<T, D>>(
-    list: &mut M,
-    side: usize,
-    block: Block,
-    col: usize,
-    a: D,
-    b: D,
-) {
+fn put_line<T, D: Register<T>, M: Runs<T, D>>(list: &mut M, block: Block, col: usize, a: D, b: D) {
+    let side = D::side();
     let to = block.to + col * block.height;
     store_two_last(list, to, to + side, a);
     store_two_last(list, to + 2 * side, to + 3 * side, b);
 }
 
-/// Puts `side` columns of a block, from column `col` on. Each is stored from its first cell to its last.
+/// Puts `D::side()` columns of a block, from column `col` on. Each is stored from its first cell to its last.
 ///
 /// # Contract
 ///
 /// ```text
 /// requires some_side { (D.half ≡ 2) ⊎ (D.half ≡ 4) }
-/// requires side { side ≡ D.half }
-/// requires lines { block.rows ≡ 4 * side }
-/// requires below { col + side ≤ block.cols }
+/// requires lines { block.rows ≡ 4 * D.half }
+/// requires below { col + D.half ≤ block.cols }
 /// requires block { BlockFits block (length (S.items source.now)) (length (M.items cells.old)) }
-/// requires reads { ColumnsReached side block (S.may (S.reach source.now)) }
-/// requires writes { LinesReached side block (M.may_last (M.reach cells.old)) }
+/// requires reads { ColumnsReached D.half block (S.may (S.reach source.now)) }
+/// requires writes { LinesReached D.half block (M.may_last (M.reach cells.old)) }
 /// requires source_fits { length (S.items source.now) < 2 ^ 63 }
 /// requires cells_fit { length (M.items cells.old) < 2 ^ 63 }
-/// ensures put { ColumnsPut col (col + side) block (S.items source.now) (M.items cells.old) (M.items cells.new) }
+/// ensures put { ColumnsPut col (col + D.half) block (S.items source.now) (M.items cells.old) (M.items cells.new) }
 /// ensures holder { M.reach cells.new ≡ M.reach cells.old }
 /// ```
 #[inline(never)]
 fn put_some_lines<T, D: Register<T>, S: Runs<T, D>, M: Runs<T, D>>(
     cells: &mut M,
     source: &S,
-    side: usize,
     block: Block,
     col: usize,
 ) {
+    let side = D::side();
     let from = block.from + col;
     let top = load_lines(source, from, block.width);
     if side == 2 {
-        put_line(cells, side, block, col, top.a, top.b);
-        put_line(cells, side, block, col + 1, top.c, top.d);
+        put_line(cells, block, col, top.a, top.b);
+        put_line(cells, block, col + 1, top.c, top.d);
         return;
     }
     let bottom = load_lines(source, from + 8 * block.width, block.width);
-    put_line(cells, side, block, col, top.a, bottom.a);
-    put_line(cells, side, block, col + 1, top.b, bottom.b);
-    put_line(cells, side, block, col + 2, top.c, bottom.c);
-    put_line(cells, side, block, col + 3, top.d, bottom.d);
+    put_line(cells, block, col, top.a, bottom.a);
+    put_line(cells, block, col + 1, top.b, bottom.b);
+    put_line(cells, block, col + 2, top.c, bottom.c);
+    put_line(cells, block, col + 3, top.d, bottom.d);
 }
 
 /// Puts a block of one column. Of each row, the registers have some items to the right of this column too.
@@ -121,13 +113,12 @@ fn put_some_lines<T, D: Register<T>, S: Runs<T, D>, M: Runs<T, D>>(
 ///
 /// ```text
 /// requires some_side { (D.half ≡ 2) ⊎ (D.half ≡ 4) }
-/// requires side { side ≡ D.half }
-/// requires lines { block.rows ≡ 4 * side }
+/// requires lines { block.rows ≡ 4 * D.half }
 /// requires one { block.cols ≡ 1 }
-/// requires inside { (r : ℕ) → r < block.rows → block.from + r * block.width + side ≤ length (S.items source.now) }
+/// requires inside { (r : ℕ) → r < block.rows → block.from + r * block.width + D.half ≤ length (S.items source.now) }
 /// requires room { block.to + block.rows ≤ length (M.items cells.old) }
-/// requires reads { ColumnsReached side block (S.may (S.reach source.now)) }
-/// requires writes { LinesReached side block (M.may_last (M.reach cells.old)) }
+/// requires reads { ColumnsReached D.half block (S.may (S.reach source.now)) }
+/// requires writes { LinesReached D.half block (M.may_last (M.reach cells.old)) }
 /// requires source_fits { length (S.items source.now) < 2 ^ 63 }
 /// requires cells_fit { length (M.items cells.old) < 2 ^ 63 }
 /// ensures put { ColumnsPut 0 block.cols block (S.items source.now) (M.items cells.old) (M.items cells.new) }
@@ -137,16 +128,16 @@ fn put_some_lines<T, D: Register<T>, S: Runs<T, D>, M: Runs<T, D>>(
 fn put_one_line<T, D: Register<T>, S: Runs<T, D>, M: Runs<T, D>>(
     cells: &mut M,
     source: &S,
-    side: usize,
     block: Block,
 ) {
+    let side = D::side();
     let top = load_lines(source, block.from, block.width);
     if side == 2 {
-        put_line(cells, side, block, 0, top.a, top.b);
+        put_line(cells, block, 0, top.a, top.b);
         return;
     }
     let bottom = load_lines(source, block.from + 8 * block.width, block.width);
-    put_line(cells, side, block, 0, top.a, bottom.a);
+    put_line(cells, block, 0, top.a, bottom.a);
 }
 
 /// Puts a column of a block of 4 rows.
@@ -158,8 +149,8 @@ fn put_one_line<T, D: Register<T>, S: Runs<T, D>, M: Runs<T, D>>(
 /// requires lines { block.rows ≡ 4 }
 /// requires below { col < block.cols }
 /// requires block { BlockFits block (length (S.items source.now)) (length (M.items cells.old)) }
-/// requires reads { ColumnsReached 1 block (S.may (S.reach source.now)) }
-/// requires writes { LinesReached 1 block (M.may_last (M.reach cells.old)) }
+/// requires reads { ColumnsReached D.half block (S.may (S.reach source.now)) }
+/// requires writes { LinesReached D.half block (M.may_last (M.reach cells.old)) }
 /// requires source_fits { length (S.items source.now) < 2 ^ 63 }
 /// requires cells_fit { length (M.items cells.old) < 2 ^ 63 }
 /// ensures put { ColumnsPut col (col + 1) block (S.items source.now) (M.items cells.old) (M.items cells.new) }
@@ -175,23 +166,22 @@ fn put_four<T, D: Register<T>, S: Runs<T, D>, M: Runs<T, D>>(
     let from = block.from + col;
     let a = load_two(source, from, from + block.width);
     let b = load_two(source, from + 2 * block.width, from + 3 * block.width);
-    put_line(cells, 1, block, col, a, b);
+    put_line(cells, block, col, a, b);
 }
 
-/// Does what `Cells::put_block` does, for blocks of 4 * `side` rows and as many columns, or of one column, column after
+/// Does what `Cells::put_block` does, for blocks of 4 * `D::side()` rows and as many columns, or of one column, column after
 /// column.
 ///
 /// # Contract
 ///
 /// ```text
 /// requires some_side { (D.half ≡ 1) ⊎ ((D.half ≡ 2) ⊎ (D.half ≡ 4)) }
-/// requires side { side ≡ D.half }
-/// requires lines { block.rows ≡ 4 * side }
+/// requires lines { block.rows ≡ 4 * D.half }
 /// requires cols { (block.cols ≡ 1) ⊎ (block.cols ≡ block.rows) }
-/// requires inside { (r : ℕ) → r < block.rows → block.from + r * block.width + side ≤ length (S.items source.now) }
+/// requires inside { (r : ℕ) → r < block.rows → block.from + r * block.width + D.half ≤ length (S.items source.now) }
 /// requires block { BlockFits block (length (S.items source.now)) (length (M.items cells.old)) }
-/// requires reads { ColumnsReached side block (S.may (S.reach source.now)) }
-/// requires writes { LinesReached side block (M.may_last (M.reach cells.old)) }
+/// requires reads { ColumnsReached D.half block (S.may (S.reach source.now)) }
+/// requires writes { LinesReached D.half block (M.may_last (M.reach cells.old)) }
 /// ensures put { IsBlockPut (block_items block) block (S.items source.now) (M.items cells.old) (M.items cells.new) }
 /// ensures holder { M.reach cells.new ≡ M.reach cells.old }
 /// ```
@@ -199,9 +189,9 @@ fn put_four<T, D: Register<T>, S: Runs<T, D>, M: Runs<T, D>>(
 pub(crate) fn put_by_lines<T, D: Register<T>, S: Runs<T, D>, M: Runs<T, D>>(
     cells: &mut M,
     source: &S,
-    side: usize,
     block: Block,
 ) {
+    let side = D::side();
     if side == 1 {
         put_four(cells, source, block, 0);
         if block.cols > 1 {
@@ -212,11 +202,11 @@ pub(crate) fn put_by_lines<T, D: Register<T>, S: Runs<T, D>, M: Runs<T, D>>(
         return;
     }
     if block.cols == 1 {
-        put_one_line(cells, source, side, block);
+        put_one_line(cells, source, block);
         return;
     }
-    put_some_lines(cells, source, side, block, 0);
-    put_some_lines(cells, source, side, block, side);
-    put_some_lines(cells, source, side, block, 2 * side);
-    put_some_lines(cells, source, side, block, 3 * side);
+    put_some_lines(cells, source, block, 0);
+    put_some_lines(cells, source, block, side);
+    put_some_lines(cells, source, block, 2 * side);
+    put_some_lines(cells, source, block, 3 * side);
 }

@@ -12,24 +12,23 @@ starts-requires-clause-fits g c r h = omega (arith, c.requires.source_fits, c.re
 pub starts-requires-2-clause-fits : goal.starts-requires-2-clause-fits
 starts-requires-2-clause-fits g c r h = omega (arith, c.requires.cells_fit, c.requires.block.room c.args.col r (omega arith) (omega (arith, c.requires.square)))
 
-pub load_columns-columns-requires-clause-reached : goal.load_columns-columns-requires-clause-reached
-load_columns-columns-requires-clause-reached g c =
-    AreReached-block_from _ c.args.block c.args.col _ _ c.requires.some_side c.requires.known (rw c.requires.side at c.requires.below) c.requires.square c.requires.block _ _ (replicate 8 c.args.col) (λ j h. get_or-replicate 8 j c.args.col 0 h)
+pub load_columns-requires-clause-reached : goal.load_columns-requires-clause-reached
+load_columns-requires-clause-reached g c =
+    AreReached-block_from _ c.args.block c.args.col _ _ c.requires.some_side c.requires.known c.requires.below c.requires.square c.requires.block _ _ (replicate 8 c.args.col) (λ j h. get_or-replicate 8 j c.args.col 0 h)
     c.starts.ensures.are c.starts-2.ensures.are (g.S.Runs.may (g.S.Runs.reach c.args.source.now)) c.requires.reads _ c.in_columns-from.ensures
 
 pub store-requires-clause-reached : goal.store-requires-clause-reached
 store-requires-clause-reached g c =
-    AreReached-block_to _ c.args.block c.args.col _ _ c.requires.some_side c.requires.known (rw c.requires.side at c.requires.below) c.requires.square c.requires.block _ _ (replicate 8 c.args.col) (λ j h. get_or-replicate 8 j c.args.col 0 h)
-    c.starts.ensures.are c.starts-2.ensures.are _ (rw c.requires.side at c.in_rows-to.ensures) (g.M.Runs.may (g.M.Runs.reach c.args.cells.now)) c.requires.writes
+    AreReached-block_to _ c.args.block c.args.col _ _ c.requires.some_side c.requires.known c.requires.below c.requires.square c.requires.block _ _ (replicate 8 c.args.col) (λ j h. get_or-replicate 8 j c.args.col 0 h)
+    c.starts.ensures.are c.starts-2.ensures.are _ (rw c.side.ensures at c.in_rows-to.ensures) (g.M.Runs.may (g.M.Runs.reach c.args.cells.now)) c.requires.writes
 
 pub store-requires-clause-apart : goal.store-requires-clause-apart
 store-requires-clause-apart g c =
-    AreApart-block_to _ c.args.block c.args.col _ _ c.requires.some_side c.requires.known (rw c.requires.side at c.requires.below) c.requires.square c.requires.block _ _ (replicate 8 c.args.col) (λ j h. get_or-replicate 8 j c.args.col 0 h)
-    c.starts.ensures.are c.starts-2.ensures.are _ (rw c.requires.side at c.in_rows-to.ensures)
+    AreApart-block_to _ c.args.block c.args.col _ _ c.requires.some_side c.requires.known c.requires.below c.requires.square c.requires.block _ _ (replicate 8 c.args.col) (λ j h. get_or-replicate 8 j c.args.col 0 h)
+    c.starts.ensures.are c.starts-2.ensures.are _ (rw c.side.ensures at c.in_rows-to.ensures)
 
 pub returns-clause-put : goal.returns-clause-put
 returns-clause-put g c =
-    rw c.requires.side
-    (ColumnsPut-step _ c.args.block c.args.col _ _ c.requires.some_side c.requires.known (rw c.requires.side at c.requires.below) c.requires.square c.requires.block _ _ (replicate 8 c.args.col) (λ j h. get_or-replicate 8 j c.args.col 0 h)
-    c.starts.ensures.are c.starts-2.ensures.are _ (rw c.requires.side at c.in_rows-to.ensures)
-    _ (items_of_four g.D.Register.items c.load_columns-columns.result) _ _ _ c.in_columns-from.ensures c.load_columns-columns.ensures c.store.ensures.stored)
+    ColumnsPut-step _ c.args.block c.args.col _ _ c.requires.some_side c.requires.known c.requires.below c.requires.square c.requires.block _ _ (replicate 8 c.args.col) (λ j h. get_or-replicate 8 j c.args.col 0 h)
+    c.starts.ensures.are c.starts-2.ensures.are _ (rw c.side.ensures at c.in_rows-to.ensures)
+    _ (items_of_four g.D.Register.items c.load_columns.result) _ _ _ c.in_columns-from.ensures c.load_columns.ensures c.store.ensures.stored

@@ -29,20 +29,22 @@ returns-else-block-gt1-clause-put g c =
 pub put_one_line-requires-clause-room : goal.put_one_line-requires-clause-room
 put_one_line-requires-clause-room g c =
     let more : 1 ≤ g.D.Register.half = elim c.requires.some_side [ inl one ↦ omega (arith, one) | inr many ↦ omega (arith, some many) ] in
-    omega (arith, more, c.requires.side, c.requires.lines, c.requires.block.room (c.args.block.rows - 1) 0 (omega (arith, more, c.requires.side, c.requires.lines)) (omega (arith, c.if-block-eq1.true)))
+    omega (arith, more, c.requires.lines, c.requires.block.room (c.args.block.rows - 1) 0 (omega (arith, more, c.requires.lines)) (omega (arith, c.if-block-eq1.true)))
 
 pub returns-then-block-eq1-clause-put : goal.returns-then-block-eq1-clause-put
 returns-then-block-eq1-clause-put g c = IsBlockPut-whole c.args.block _ _ _ c.put_one_line.ensures.put
 
 pub returns-clause-put : goal.returns-clause-put
 returns-clause-put g c =
-    let side = c.args.side in
-    let square : c.args.block.cols ≡ 4 * side = elim c.requires.cols [ inl one ↦ absurd (c.if-block-eq1.false one) | inr all ↦ omega (arith, all, c.requires.lines) ] in
+    let side = c.side-side.result in
+    let half = g.D.Register.half in
+    let is = c.side-side.ensures in
+    let square : c.args.block.cols ≡ 4 * side = elim c.requires.cols [ inl one ↦ absurd (c.if-block-eq1.false one) | inr all ↦ omega (arith, all, c.requires.lines, is) ] in
+    let one : 0 + half ≡ side = omega (arith, is) in
+    let two : side + half ≡ 2 * side = omega (arith, is) in
+    let three : 2 * side + half ≡ 3 * side = omega (arith, is) in
+    let four : 3 * side + half ≡ c.args.block.cols = omega (arith, square, is) in
     let join = ColumnsPut-joined c.args.block _ _ c.requires.block in
-    let one : 0 + side ≡ side = omega arith in
-    let two : side + side ≡ 2 * side = omega arith in
-    let three : 2 * side + side ≡ 3 * side = omega arith in
-    let four : 3 * side + side ≡ c.args.block.cols = omega (arith, square) in
     IsBlockPut-whole c.args.block _ _ _
     (join 0 (3 * side) c.args.block.cols _ _ _ _ (omega arith) (omega (arith, square))
     (join 0 (2 * side) (3 * side) _ _ _ _ (omega arith) (omega arith)

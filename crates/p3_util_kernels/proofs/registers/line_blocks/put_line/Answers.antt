@@ -11,8 +11,8 @@ overflow_add-to g c = omega (arith, c.requires.list_fits, c.requires.room 0 (ome
 
 pub returns-clause-stored : goal.returns-clause-stored
 returns-clause-stored g c =
-    rw (c.requires.line, c.requires.side)
-    (IsRunStored-two g.D.Register.half _ _ _ _ _ _ (g.met.D.Register.full c.args.a) (rw c.requires.side at c.store_two_last.ensures.stored) (rw c.requires.side at c.store_two_last-2.ensures.stored))
+    rw c.requires.line
+    (IsRunStored-two g.D.Register.half _ _ _ _ _ _ (g.met.D.Register.full c.args.a) (rw c.side-side.ensures at c.store_two_last.ensures.stored) (rw c.side-side.ensures at c.store_two_last-2.ensures.stored))
 
 -- edit 0
 -- edit 1
