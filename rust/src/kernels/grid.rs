@@ -422,8 +422,9 @@ pub(crate) fn exchange_quadrants<M: Places>(m: M, grid: Grid, start: usize, size
     exchange_quadrants(m, grid, start + half, size - half)
 }
 
-/// Exchanges all items of a grid that are above the diagonal with their mirror images. If the
-/// compiler knows that the grid has two or four rows, it unrolls the exchanges.
+/// Exchanges all items of a grid that are above the diagonal with their mirror images, by quadrants
+/// or row by row. Row by row, the compiler unrolls the exchanges if it knows that the grid has two or
+/// four rows.
 ///
 /// # Contract
 ///
@@ -434,9 +435,9 @@ pub(crate) fn exchange_quadrants<M: Places>(m: M, grid: Grid, start: usize, size
 /// ensures holder { M.same_holder (grid.width * square_swaps (2 ^ grid.digits)) m result }
 /// ```
 #[inline(always)]
-pub(crate) fn exchange_square<M: Places>(m: M, grid: Grid) -> M {
+pub(crate) fn exchange_square<M: Places>(m: M, grid: Grid, row_by_row: bool) -> M {
     let size = pow2(grid.digits);
-    if grid.digits < 3 {
+    if row_by_row {
         exchange_on_diagonal(m, grid, 0, size)
     } else {
         exchange_quadrants(m, grid, 0, size)

@@ -185,17 +185,18 @@ pub(crate) fn reverse_rows<M: Places>(m: M, rows: RowDigits) -> M
     // Each further case would be one more copy of these exchanges. With too many copies, Rattle's
     // compiler no longer inlines this function.
     match rows.digits {
-        2 => exchange_pairs(m, RowDigits { digits: 2, ..rows }),
-        3 => exchange_pairs(m, RowDigits { digits: 3, ..rows }),
-        4 => exchange_pairs(m, RowDigits { digits: 4, ..rows }),
-        5 => exchange_pairs(m, RowDigits { digits: 5, ..rows }),
+        2 => exchange_pairs(m, RowDigits { digits: 2, ..rows }, true),
+        3 => exchange_pairs(m, RowDigits { digits: 3, ..rows }, true),
+        4 => exchange_pairs(m, RowDigits { digits: 4, ..rows }, true),
+        5 => exchange_pairs(m, RowDigits { digits: 5, ..rows }, true),
         _ => exchange_pairs_outlined(m, rows),
     }
 }
 
-/// Exchanges all pairs of rows whose indices are each other's reverse.
+/// Exchanges all pairs of rows whose indices are each other's reverse. In each grid this is done by
+/// quadrants or row by row.
 #[inline(always)]
-pub(crate) fn exchange_pairs<M: Places>(m: M, rows: RowDigits) -> M
+fn exchange_pairs<M: Places>(m: M, rows: RowDigits, row_by_row: bool) -> M
     requires fits { FitsRows (length (M.items m)) rows.width }
     requires digits { rows.digits ≡ clog (length (M.items m) / rows.width) }
     requires len_fits { length (M.items m) < 2 ^ 64 }
@@ -208,13 +209,13 @@ pub(crate) fn exchange_pairs<M: Places>(m: M, rows: RowDigits) -> M
     let half = rows.digits / 2;
     let mut m = m;
     for middle in 0..pow2(rows.digits - half - half) {
-        m = exchange_square(m, rows.grid(middle));
+        m = exchange_square(m, rows.grid(middle), row_by_row);
     }
     m
 }
 
-/// Does the same as [`exchange_pairs`], in a function of its own. So a call with few rows needs no
-/// stack frame, which would take longer than its exchanges.
+/// Does the same as [`exchange_pairs`], by quadrants, in a function of its own. So a call with few rows
+/// needs no stack frame, which would take longer than its exchanges.
 #[inline(never)]
 pub(crate) fn exchange_pairs_outlined<M: Places>(m: M, rows: RowDigits) -> M
     requires fits { FitsRows (length (M.items m)) rows.width }
@@ -223,5 +224,5 @@ pub(crate) fn exchange_pairs_outlined<M: Places>(m: M, rows: RowDigits) -> M
     ensures order { IsRowReversal rows.width (M.items m) (M.items result) }
     ensures holder { M.same_holder (rows.width * short_swaps rows.digits) m result }
 {
-    exchange_pairs(m, rows)
+    exchange_pairs(m, rows, false)
 }

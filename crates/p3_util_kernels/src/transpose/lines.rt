@@ -121,7 +121,6 @@ impl Lines {
 }
 
 /// Puts `region` by lines, chunk after chunk.
-#[inline(always)]
 fn put_chunks<M: Cells, R: Source<Item = M::Item> + Copy>(
     out: M,
     matrix: Matrix<R>,

@@ -232,15 +232,16 @@ pub(crate) fn reverse_rows<M: Places>(m: M, rows: RowDigits) -> M {
     // Each further case would be one more copy of these exchanges. With too many copies, Rattle's
     // compiler no longer inlines this function.
     match rows.digits {
-        2 => exchange_pairs(m, RowDigits { digits: 2, ..rows }),
-        3 => exchange_pairs(m, RowDigits { digits: 3, ..rows }),
-        4 => exchange_pairs(m, RowDigits { digits: 4, ..rows }),
-        5 => exchange_pairs(m, RowDigits { digits: 5, ..rows }),
+        2 => exchange_pairs(m, RowDigits { digits: 2, ..rows }, true),
+        3 => exchange_pairs(m, RowDigits { digits: 3, ..rows }, true),
+        4 => exchange_pairs(m, RowDigits { digits: 4, ..rows }, true),
+        5 => exchange_pairs(m, RowDigits { digits: 5, ..rows }, true),
         _ => exchange_pairs_outlined(m, rows),
     }
 }
 
-/// Exchanges all pairs of rows whose indices are each other's reverse.
+/// Exchanges all pairs of rows whose indices are each other's reverse. In each grid this is done by
+/// quadrants or row by row.
 ///
 /// # Contract
 ///
@@ -252,20 +253,20 @@ pub(crate) fn reverse_rows<M: Places>(m: M, rows: RowDigits) -> M {
 /// ensures holder { M.same_holder (rows.width * short_swaps rows.digits) m result }
 /// ```
 #[inline(always)]
-pub(crate) fn exchange_pairs<M: Places>(m: M, rows: RowDigits) -> M {
+fn exchange_pairs<M: Places>(m: M, rows: RowDigits, row_by_row: bool) -> M {
     if rows.digits < 2 {
         return m;
     }
     let half = rows.digits / 2;
     let mut m = m;
     for middle in 0..pow2(rows.digits - half - half) {
-        m = exchange_square(m, rows.grid(middle));
+        m = exchange_square(m, rows.grid(middle), row_by_row);
     }
     m
 }
 
-/// Does the same as [`exchange_pairs`], in a function of its own. So a call with few rows needs no
-/// stack frame, which would take longer than its exchanges.
+/// Does the same as [`exchange_pairs`], by quadrants, in a function of its own. So a call with few rows
+/// needs no stack frame, which would take longer than its exchanges.
 ///
 /// # Contract
 ///
@@ -278,5 +279,5 @@ pub(crate) fn exchange_pairs<M: Places>(m: M, rows: RowDigits) -> M {
 /// ```
 #[inline(never)]
 pub(crate) fn exchange_pairs_outlined<M: Places>(m: M, rows: RowDigits) -> M {
-    exchange_pairs(m, rows)
+    exchange_pairs(m, rows, false)
 }

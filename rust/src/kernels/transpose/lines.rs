@@ -147,7 +147,6 @@ impl Lines {
 ///     (R.items matrix.source) (M.items out) (M.items result) }
 /// ensures holder { M.same_holder (items_of region) out result }
 /// ```
-#[inline(always)]
 fn put_chunks<M: Cells, R: Source<Item = M::Item> + Copy>(
     out: M,
     matrix: Matrix<R>,

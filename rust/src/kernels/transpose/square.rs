@@ -102,5 +102,5 @@ pub(crate) fn transpose_square<M: Places>(
         digits: log_size,
         reversed: false,
     };
-    exchange_square(m, grid)
+    exchange_square(m, grid, log_size < 3)
 }
