@@ -1,6 +1,6 @@
 -- Each turn of the inner loop exchanges one more item of a row, and each turn of the outer loop one
 -- more row.
-use Rattle.std.proofs.Common.{◌≡◌, ◌+◌, ◌-◌, ◌*◌, suc, refl, arith}
+use Rattle.std.proofs.Common.{◌≡◌, ◌+◌, ◌-◌, ◌*◌, suc, inl, inr, refl, arith}
 use Rattle.p3_util_kernels.proofs.ExchangedTiles.{TileTurned-more, TileTurned-row}
 use Rattle.p3_util_kernels.proofs.Pairs.{square_swaps-next}
 use Rattle.p3_util_kernels.proofs.places.Places.turn_tile.Goals as goal
@@ -12,6 +12,18 @@ loop-col-init g c =
       turned = TileTurned-row _ _ c.requires c.loop-row.row _ _ (omega arith) c.loop-row.invariant.turned;
       holder = rw none (g.met.Self.Places.same_holder_refl _);
     }
+
+pub exchange_apart-requires-clause-apart : goal.exchange_apart-requires-clause-apart
+exchange_apart-requires-clause-apart g c =
+    elim (c.requires.apart c.loop-row.row c.loop-col.col (omega arith) (omega arith)) [ inl up ↦ inl (omega arith) | inr down ↦ inr (omega arith) ]
+
+pub exchange_apart-requires-clause-first : goal.exchange_apart-requires-clause-first
+exchange_apart-requires-clause-first g c =
+    omega (arith, c.requires.inside c.loop-row.row (omega arith), c.loop-col.invariant.turned.same_length)
+
+pub exchange_apart-requires-clause-second : goal.exchange_apart-requires-clause-second
+exchange_apart-requires-clause-second g c =
+    omega (arith, c.requires.inside c.loop-col.col (omega arith), c.loop-col.invariant.turned.same_length)
 
 pub loop-col-preserved : goal.loop-col-preserved
 loop-col-preserved g c = record {
