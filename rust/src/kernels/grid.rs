@@ -363,30 +363,9 @@ fn exchange_diagonal_tile<M: Places>(m: M, grid: Grid, start: usize) -> M {
         m.turn_tile(places);
         return m;
     }
-    exchange_wide_tile(m, grid, start, places)
-}
-
-/// Does the same as [`exchange_diagonal_tile`], for places of several items. Row `t` of the tile
-/// begins at `places[t]`. The function is not inlined, so that the compiler does not unroll its loops
-/// within [`exchange_quadrants`].
-///
-/// # Contract
-///
-/// ```text
-/// requires within { _start + 8 ≤ 2 ^ grid.digits }
-/// requires rows { (t : ℕ) → t < 8 → slice_index places t ≡ row_place grid (_start + t) + _start }
-/// requires ready { HoldsGrid grid (M.items m) }
-/// ensures exchanged { SwapsInGrid grid (square_at _start 8) (M.items m) (M.items result) }
-/// ensures holder { M.same_holder (grid.width * square_swaps 8) m result }
-/// ```
-#[inline(never)]
-fn exchange_wide_tile<M: Places>(m: M, grid: Grid, _start: usize, places: [usize; 8]) -> M {
-    let mut m = m;
     for row in 0..TILE {
         for col in row + 1..TILE {
-            let upper = (places[row] + col) * grid.width;
-            let lower = (places[col] + row) * grid.width;
-            m.exchange_runs(upper, lower, grid.width);
+            m = exchange_places(m, grid.width, places[row] + col, places[col] + row);
         }
     }
     m
