@@ -90,7 +90,7 @@ pub(crate) fn transpose<T: Copy>(input: &[T], output: &mut [T], width: usize, he
         } else {
             let matrix = Matrix::new(SliceSource::new(input), width, height);
             let cells = SliceCells::new(output);
-            match order::order_of(size_of::<T>(), matrix, Part::Whole, None) {
+            match order::order_of(size_of::<T>(), matrix, Part::Whole) {
                 order @ (Order::Columns | Order::Strips(_)) => dispatch::transpose(order, cells, matrix),
                 _ => dispatch::put(Part::Whole, cells, matrix),
             }

@@ -35,7 +35,7 @@ mod strips;
 
 use crate::places::{Cells, SliceCells, SliceSource, Source, Writes};
 pub use butterfly::{butterfly_4x4, butterfly_stage1, butterfly_stage2};
-pub(crate) use order::Order;
+pub(crate) use order::{Order, PutRegion};
 pub(crate) use regions::Matrix;
 pub use regions::Region;
 pub use split::{transpose_source_split_on, transpose_split_on};
@@ -297,10 +297,10 @@ fn transpose_longer<M: Cells, R: Source<Item = M::Item> + Copy>(out: M, matrix: 
 
 /// Transposes a matrix in the given order.
 #[inline(always)]
-pub(crate) fn transpose_matrix<M: Cells, R: Source<Item = M::Item> + Copy>(
+pub(crate) fn transpose_matrix<M: Cells, R: Source<Item = M::Item> + Copy, O: PutRegion>(
     out: M,
     matrix: Matrix<R>,
-    order: Order,
+    order: O,
 ) -> M
     requires input_fits { length (R.items matrix.source) ≡ matrix.width * matrix.height }
     requires output_fits { length (M.items out) ≡ matrix.width * matrix.height }

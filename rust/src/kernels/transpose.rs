@@ -31,7 +31,7 @@ mod strips;
 
 use crate::kernels::places::{Cells, SliceCells, SliceSource, Source, Writes};
 pub use butterfly::{butterfly_4x4, butterfly_stage1, butterfly_stage2};
-pub(crate) use order::Order;
+pub(crate) use order::{Order, PutRegion};
 pub(crate) use regions::Matrix;
 pub use regions::Region;
 pub use split::{transpose_source_split_on, transpose_split_on};
@@ -408,10 +408,10 @@ fn transpose_longer<M: Cells, R: Source<Item = M::Item> + Copy>(out: M, matrix: 
 /// ensures holder { M.same_holder (matrix.width * matrix.height) out result }
 /// ```
 #[inline(always)]
-pub(crate) fn transpose_matrix<M: Cells, R: Source<Item = M::Item> + Copy>(
+pub(crate) fn transpose_matrix<M: Cells, R: Source<Item = M::Item> + Copy, O: PutRegion>(
     out: M,
     matrix: Matrix<R>,
-    order: Order,
+    order: O,
 ) -> M {
     let whole = matrix.whole();
     order.put(out, matrix, whole)

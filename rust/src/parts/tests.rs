@@ -77,7 +77,7 @@ fn check(len: usize, count: usize, run: impl Fn(&mut Noted, usize), wanted: impl
 
 /// Checks the parts of the transpose of a matrix. Its items are the numbers from `len` on, so that each put changes its
 /// cell. The matrix is cut along its longer side, or always along its columns if `may_cut_rows` is false. It is put in every
-/// order.
+/// order, and by lines.
 fn check_matrix(width: usize, height: usize, parts: usize, may_cut_rows: bool) {
     let len = width * height;
     let input: Vec<usize> = (len..2 * len).collect();
@@ -92,12 +92,15 @@ fn check_matrix(width: usize, height: usize, parts: usize, may_cut_rows: bool) {
         let is_inside = (from..to).contains(if by_rows { &y } else { &x });
         if is_inside { input[y * width + x] } else { place }
     };
-    let lines = Order::Lines(Lines::new(8, width % 8));
-    for order in [Order::Columns, Order::Strips(strips), Order::Leaves(strips), lines] {
-        let put = |noted: &mut Noted, number| _ = plan.put(noted, source, number, order);
+    let count = |put: &dyn Fn(&mut Noted, usize)| {
         let puts = check(len, plan.count(), put, wanted);
         assert_eq!(puts, len, "{width} by {height} in {parts} parts");
+    };
+    for order in [Order::Columns, Order::Strips(strips), Order::Leaves(strips)] {
+        count(&|noted, number| _ = plan.put(noted, source, number, order));
     }
+    let lines = Lines::new(8, width % 8);
+    count(&|noted, number| _ = plan.put(noted, source, number, lines));
     assert_eq!((0..plan.count()).map(|number| plan.items(number)).sum::<usize>(), len);
 }
 

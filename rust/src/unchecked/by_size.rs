@@ -11,7 +11,7 @@
 use super::by_type::{self, LONG_BYTES};
 use super::bytes::{Bytes, MOVES_BYTES};
 use super::holders::{InRegisters, SliceItems, SliceSource};
-use super::order::order_of;
+use super::order::lines_of;
 use super::registers::{Items, Register, USES_REGISTERS};
 use super::{Part, PlacePlan};
 use crate::kernels::parts::ReversalPlan;
@@ -139,12 +139,10 @@ fn exchange_part(list: SliceItems<Bytes<1>>, PlacePlan { plan, place }: PlacePla
 /// Puts a part, for items of a size in the table.
 #[inline(never)]
 fn put_part(part: Part, cells: SliceItems<Bytes<1>>, matrix: Matrix<SliceSource<Bytes<1>>>, size: usize) {
-    if let Order::Lines(lines) = order_of(size, matrix, part, Some(cells.address())) {
-        // This names no other order, so that none is compiled for a holder that stores past the caches.
-        let region = part.region(matrix);
+    if let Some(lines) = lines_of(size, matrix, part, cells.address()) {
         return by_size!(
             @ [4: Pair<Items<4>>, 8: Pair<Items<8>>, 16: Two<Register>] [] size,
-            holder = cells => holder.past_caches(|cells| _ = lines.put(cells, in_bytes(matrix), region)),
+            holder = cells => holder.past_caches(|cells| by_type::run(lines, part, cells, in_bytes(matrix))),
             _ => unreachable!("this size has no lines")
         );
     }

@@ -5,7 +5,7 @@ use super::order::order_of;
 use super::{Part, PartItems, PlacePlan};
 use crate::kernels::places::{Cells, Places, Source};
 use crate::kernels::reverse::{self, RowDigits, reverse_short};
-use crate::kernels::transpose::{Matrix, Order, put_columns, transpose_matrix};
+use crate::kernels::transpose::{Matrix, Order, PutRegion, put_columns, transpose_matrix};
 
 /// An item of at least this many bytes is long. It is exchanged as a run of bytes, which takes hardly longer, and is put
 /// by its index.
@@ -38,7 +38,7 @@ pub(super) fn transpose<M: Cells, R: Source<Item = M::Item> + Copy>(order: Order
 /// Puts a part, not by lines. Long items are put by their indices.
 #[inline(never)]
 pub(super) fn put<M: Cells, R: Source<Item = M::Item> + Copy>(part: Part, cells: M, matrix: Matrix<R>) {
-    let order = order_of(size_of::<M::Item>(), matrix, part, None);
+    let order = order_of(size_of::<M::Item>(), matrix, part);
     if const { size_of::<M::Item>() < LONG_BYTES } {
         run(order, part, cells, matrix);
     } else {
@@ -50,7 +50,12 @@ pub(super) fn put<M: Cells, R: Source<Item = M::Item> + Copy>(part: Part, cells:
 
 /// Runs the kernel of a part.
 #[inline(always)]
-fn run<M: Cells, R: Source<Item = M::Item> + Copy>(order: Order, part: Part, cells: M, matrix: Matrix<R>) {
+pub(super) fn run<O, M, R>(order: O, part: Part, cells: M, matrix: Matrix<R>)
+where
+    O: PutRegion,
+    M: Cells,
+    R: Source<Item = M::Item> + Copy,
+{
     match part {
         Part::Whole => _ = transpose_matrix(cells, matrix, order),
         Part::Region { plan, number } => _ = plan.put(cells, matrix.source, number, order),

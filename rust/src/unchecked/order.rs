@@ -1,5 +1,5 @@
-//! Decides how a matrix is put: [`order_of`] says it for each call and for each part of a call, and nothing else does. The
-//! kernels put a matrix in any [`Order`], and their contracts are the same for all of them.
+//! Decides how a matrix is put: [`lines_of`] and [`order_of`] say it for each call and for each part of a call, and nothing
+//! else does. The kernels put a matrix by any [`Lines`] and in any [`Order`], and their contracts are the same for all of them.
 //!
 //! The first line that fits a matrix says how it is put. A *whole call* puts the whole matrix, and so does a single part.
 //!
@@ -58,29 +58,34 @@ const IS_AARCH64: bool = cfg!(target_arch = "aarch64");
 /// The side of the blocks of items of 4 and 8 bytes.
 const SIDE: usize = if cfg!(target_arch = "aarch64") { 8 } else { 4 };
 
-/// The order in which a part is put. `first` is the address of the first cell of the output. Without it, lines are not taken.
+/// The order in which a part is put that is not put by lines.
 #[inline(always)]
-pub(super) fn order_of<R: Copy>(size: usize, matrix: Matrix<R>, part: Part, first: Option<usize>) -> Order {
-    // A matrix without items may be so high that the second product wraps. It is not large.
-    let (items, column) = (matrix.width * matrix.height, matrix.height.wrapping_mul(size));
-    let cols = part.region(matrix).cols();
-    let [bytes, least_cols, long_column] = LIMITS;
-    let is_large = items * size >= bytes && cols >= least_cols;
-    let is_long = column >= long_column || size < 16 && column % LINE == 0;
+pub(super) fn order_of<R>(size: usize, matrix: Matrix<R>, part: Part) -> Order {
+    let items = matrix.width * matrix.height;
     let strips = match size {
         1 | 2 if USES_REGISTERS => Strips::high(8),
         4 if USES_REGISTERS => Strips::high(SIDE),
         8 if USES_REGISTERS && (IS_AARCH64 || items <= BLOCKS_LONG_ITEMS) => Strips::high(SIDE),
         _ => Strips::by_width(matrix.width),
     };
-    match (Order::in_strips(strips, items, matches!(part, Part::Whole)), first) {
-        (Order::Leaves(_), Some(first))
-            if HAS_LINES && is_large && matches!(size, 4 | 8 | 16) && is_long && first % size == 0 =>
-        {
-            Order::Lines(Lines::new(LINE / size, first % LINE / size))
-        }
-        (order, _) => order,
-    }
+    Order::in_strips(strips, items, matches!(part, Part::Whole))
+}
+
+/// The lines by which a part is put, if it is put by lines. `first` is the address of the first cell of the output.
+#[cfg_attr(
+    feature = "checked",
+    allow(dead_code, reason = "its holders store nothing past the caches")
+)]
+#[inline(always)]
+pub(super) fn lines_of<R: Copy>(size: usize, matrix: Matrix<R>, part: Part, first: usize) -> Option<Lines> {
+    // A matrix without items may be so high that this product wraps. It is not large.
+    let column = matrix.height.wrapping_mul(size);
+    let [bytes, least_cols, long_column] = LIMITS;
+    let is_split = matches!(order_of(size, matrix, part), Order::Leaves(_));
+    let is_large = matrix.width * matrix.height * size >= bytes && part.region(matrix).cols() >= least_cols;
+    let is_long = column >= long_column || size < 16 && column % LINE == 0;
+    let is_whole = matches!(size, 4 | 8 | 16) && first % size == 0;
+    (HAS_LINES && is_split && is_large && is_long && is_whole).then(|| Lines::new(LINE / size, first % LINE / size))
 }
 
 #[cfg(test)]

@@ -80,7 +80,7 @@ fn strips_of_the_parts() {
             reads::<T>(width * height, |_, output, source| {
                 let matrix = Matrix::new(source, width, height);
                 let order = if by_size {
-                    order_of(size_of::<T>(), matrix, Part::Whole, None)
+                    order_of(size_of::<T>(), matrix, Part::Whole)
                 } else {
                     Order::by_shape(matrix)
                 };
@@ -114,7 +114,7 @@ fn strips_of_calls_on_slices() {
             let _ = transpose_matrix(
                 SliceCells::new(output),
                 matrix,
-                order_of(size_of::<T>(), matrix, Part::Whole, None),
+                order_of(size_of::<T>(), matrix, Part::Whole),
             );
         });
         assert!(by_call == by_strips, "{width} by {height}");

@@ -39,7 +39,7 @@ ghost use Rattle.p3_util_kernels.specs.Transpose.{IsTranspose};
 
 use crate::parts::{ReversalPlan, TransposePlan};
 use crate::places::{Cells, Places, Source};
-use crate::transpose::Order;
+use crate::transpose::PutRegion;
 
 /// A holder whose `same_holder n a b` says that some n puts turn the items of `a` into those of
 /// `b`.
@@ -104,12 +104,12 @@ impl<S: Places> Places for ExchangeSteps<S> {
 
 /// Each part of a plan for a transpose has steps, in any order: some puts that put its region, one
 /// for each item of the region.
-pub(crate) fn puts_of_part<C: Cells, R: Source<Item = C::Item> + Copy>(
+pub(crate) fn puts_of_part<C: Cells, R: Source<Item = C::Item> + Copy, O: PutRegion>(
     out: C,
     source: R,
     plan: TransposePlan,
     number: usize,
-    order: Order,
+    order: O,
 ) -> C
     requires below { number < parts_in plan.cut.len plan.cut.step }
     requires input_fits { length (R.items source) ≡ plan.width * plan.height }
@@ -180,11 +180,11 @@ pub(crate) fn reversal_in_parts<T>(plan: ReversalPlan)
 
 /// Puts all parts of a plan for a transpose, in the order of their numbers, as one thread may do. In
 /// any holder this is the transpose, by as many puts as there are items.
-pub(crate) fn put_all_parts<C: Cells, R: Source<Item = C::Item> + Copy>(
+pub(crate) fn put_all_parts<C: Cells, R: Source<Item = C::Item> + Copy, O: PutRegion>(
     out: C,
     source: R,
     plan: TransposePlan,
-    order: Order,
+    order: O,
 ) -> C
     requires input_fits { length (R.items source) ≡ plan.width * plan.height }
     requires output_fits { length (C.items out) ≡ plan.width * plan.height }

@@ -6,7 +6,7 @@ ghost use Rattle.p3_util_kernels.specs.Region.{IsRegionTransposed, LiesInMatrix,
 
 use crate::parts::Cut;
 use crate::places::{Cells, Source};
-use crate::transpose::{Matrix, Order, Region, UNIT};
+use crate::transpose::{Matrix, PutRegion, Region, UNIT};
 
 /// The transpose of a matrix of `height` rows of `width` items, cut into regions of neighbouring
 /// rows or of neighbouring columns.
@@ -89,12 +89,12 @@ impl TransposePlan {
     /// Puts region `number` of the matrix in `source`, in the given order. The list `out` has the
     /// cells of the whole transpose.
     #[inline(always)]
-    pub(crate) fn put<C: Cells, R: Source<Item = C::Item> + Copy>(
+    pub(crate) fn put<C: Cells, R: Source<Item = C::Item> + Copy, O: PutRegion>(
         self,
         out: C,
         source: R,
         number: usize,
-        order: Order,
+        order: O,
     ) -> C
         requires below { number < parts_in self.cut.len self.cut.step }
         requires input_fits { length (R.items source) ≡ self.width * self.height }

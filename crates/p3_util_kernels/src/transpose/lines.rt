@@ -10,6 +10,7 @@ ghost use Rattle.p3_util_kernels.specs.Lines.{limit};
 ghost use Rattle.p3_util_kernels.specs.Region.{IsReady, IsRegionTransposed, items_of};
 
 use crate::places::{Cells, Source};
+use crate::transpose::order::PutRegion;
 use crate::transpose::regions::{Matrix, Region};
 use crate::transpose::strips::{put_as_block, put_rest};
 
@@ -98,21 +99,15 @@ impl Lines {
             matrix.source.expect(down.wrapping_add(right));
         }
     }
+}
 
-    /// Puts `region` by these lines.
-    #[inline]
-    pub(crate) fn put<M: Cells, R: Source<Item = M::Item> + Copy>(
+impl PutRegion for Lines {
+    fn put<M: Cells, R: Source<Item = M::Item> + Copy>(
         self,
         out: M,
         matrix: Matrix<R>,
         region: Region,
-    ) -> M
-        requires ready { IsReady region matrix.width matrix.height
-            (R.items matrix.source) (M.items out) }
-        ensures transposed { IsRegionTransposed region matrix.width matrix.height
-            (R.items matrix.source) (M.items out) (M.items result) }
-        ensures holder { M.same_holder (items_of region) out result }
-    {
+    ) -> M {
         if region.row_end > MOST_ROWS {
             return put_rest(out, matrix, region);
         }

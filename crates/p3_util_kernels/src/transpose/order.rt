@@ -5,7 +5,6 @@ ghost use Rattle.p3_util_kernels.specs.Region.{IsReady, IsRegionTransposed, item
 
 use crate::places::{Cells, Source};
 use crate::transpose::ENOUGH_LEVELS;
-use crate::transpose::lines::Lines;
 use crate::transpose::regions::{Matrix, Region};
 use crate::transpose::split::put_split;
 use crate::transpose::strips::{Strips, put_columns, put_strips};
@@ -16,8 +15,24 @@ const TINY_MATRIX: usize = 128;
 /// The greatest number of items of a matrix that is not split.
 const LARGE_MATRIX: usize = 1_048_576;
 
-/// An order in which a matrix or a region of it is put. The caller of a kernel chooses it. The
-/// contract is the same for all orders.
+/// A way to put a region: an [`Order`], or [`Lines`](crate::transpose::lines::Lines). The caller of a
+/// kernel chooses it. The contract is the same for all of them.
+pub(crate) trait PutRegion: Copy {
+    /// Puts `region` in this way.
+    fn put<M: Cells, R: Source<Item = M::Item> + Copy>(
+        self,
+        out: M,
+        matrix: Matrix<R>,
+        region: Region,
+    ) -> M
+        requires ready { IsReady region matrix.width matrix.height
+            (R.items matrix.source) (M.items out) }
+        ensures transposed { IsRegionTransposed region matrix.width matrix.height
+            (R.items matrix.source) (M.items out) (M.items result) }
+        ensures holder { M.same_holder (items_of region) out result };
+}
+
+/// An order in which a matrix or a region of it is put.
 #[derive(Clone, Copy, PartialEq, Eq)]
 pub(crate) enum Order {
     /// Column after column, each from its first row to its last.
@@ -26,8 +41,6 @@ pub(crate) enum Order {
     Strips(Strips),
     /// Leaf by leaf, as the region is split, and each leaf strip by strip.
     Leaves(Strips),
-    /// By the cache lines of the output.
-    Lines(Lines),
 }
 
 impl Order {
@@ -53,21 +66,16 @@ impl Order {
             Order::Leaves(strips)
         }
     }
+}
 
-    /// Puts `region` in this order.
+impl PutRegion for Order {
     #[inline(always)]
-    pub(crate) fn put<M: Cells, R: Source<Item = M::Item> + Copy>(
+    fn put<M: Cells, R: Source<Item = M::Item> + Copy>(
         self,
         out: M,
         matrix: Matrix<R>,
         region: Region,
-    ) -> M
-        requires ready { IsReady region matrix.width matrix.height
-            (R.items matrix.source) (M.items out) }
-        ensures transposed { IsRegionTransposed region matrix.width matrix.height
-            (R.items matrix.source) (M.items out) (M.items result) }
-        ensures holder { M.same_holder (items_of region) out result }
-    {
+    ) -> M {
         match self {
             // A region without rows has no item.
             Order::Columns if region.row_start == region.row_end => out,
@@ -77,7 +85,6 @@ impl Order {
                 let (out, _) = put_split(out, matrix, region, ENOUGH_LEVELS, strips);
                 out
             }
-            Order::Lines(lines) => lines.put(out, matrix, region),
         }
     }
 }

@@ -59,8 +59,8 @@
 //! ```text
 //! struct PutSteps<C> { cells: C }
 //! struct ExchangeSteps<S> { places: S }
-//! fn puts_of_part<C: Cells, R: Source<Item = C::Item> + Copy>(out: C, source: R, plan: TransposePlan, number: usize,
-//!     order: Order) -> C
+//! fn puts_of_part<C: Cells, R: Source<Item = C::Item> + Copy, O: PutRegion>(out: C, source: R, plan: TransposePlan,
+//!     number: usize, order: O) -> C
 //!   requires below: number < parts_in plan.cut.len plan.cut.step
 //!   requires input_fits: length (R.items source) ≡ plan.width * plan.height
 //!   requires output_fits: length (C.items out) ≡ plan.width * plan.height
@@ -95,8 +95,8 @@
 //!       plan → AreOfParts (parts_of plan) (λ k. IsMadeAlone plan k (numbers_below (length old))) lists → IsInterleaved
 //!       lists all → IsRowReversal (width_of plan) old (after_swaps old all) × (length all ≡ row_swaps (length old)
 //!       (width_of plan))
-//! fn put_all_parts<C: Cells, R: Source<Item = C::Item> + Copy>(out: C, source: R, plan: TransposePlan, order: Order)
-//!     -> C
+//! fn put_all_parts<C: Cells, R: Source<Item = C::Item> + Copy, O: PutRegion>(out: C, source: R, plan: TransposePlan,
+//!     order: O) -> C
 //!   requires input_fits: length (R.items source) ≡ plan.width * plan.height
 //!   requires output_fits: length (C.items out) ≡ plan.width * plan.height
 //!   ensures transposed: IsTranspose plan.width plan.height (R.items source) (C.items result)
@@ -157,8 +157,8 @@
 //! fn TransposePlan::items(self, number: usize) -> usize
 //!   requires: number < parts_in self.cut.len self.cut.step
 //!   ensures: result ≡ items_of (part_of_matrix self.width self.height self.by_rows self.cut.len self.cut.step number)
-//! fn TransposePlan::put<C: Cells, R: Source<Item = C::Item> + Copy>(self, out: C, source: R, number: usize, order:
-//!     Order) -> C
+//! fn TransposePlan::put<C: Cells, R: Source<Item = C::Item> + Copy, O: PutRegion>(self, out: C, source: R, number:
+//!     usize, order: O) -> C
 //!   requires below: number < parts_in self.cut.len self.cut.step
 //!   requires input_fits: length (R.items source) ≡ self.width * self.height
 //!   requires output_fits: length (C.items out) ≡ self.width * self.height

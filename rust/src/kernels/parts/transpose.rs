@@ -3,7 +3,7 @@
 
 use crate::kernels::parts::Cut;
 use crate::kernels::places::{Cells, Source};
-use crate::kernels::transpose::{Matrix, Order, Region, UNIT};
+use crate::kernels::transpose::{Matrix, PutRegion, Region, UNIT};
 
 /// The transpose of a matrix of `height` rows of `width` items, cut into regions of neighbouring
 /// rows or of neighbouring columns.
@@ -113,12 +113,12 @@ impl TransposePlan {
     ///     out result }
     /// ```
     #[inline(always)]
-    pub(crate) fn put<C: Cells, R: Source<Item = C::Item> + Copy>(
+    pub(crate) fn put<C: Cells, R: Source<Item = C::Item> + Copy, O: PutRegion>(
         self,
         out: C,
         source: R,
         number: usize,
-        order: Order,
+        order: O,
     ) -> C {
         let matrix = Matrix::new(source, self.width, self.height);
         order.put(out, matrix, self.region(number))

@@ -7,6 +7,7 @@
 //! the columns.
 
 use crate::kernels::places::{Cells, Source};
+use crate::kernels::transpose::order::PutRegion;
 use crate::kernels::transpose::regions::{Matrix, Region};
 use crate::kernels::transpose::strips::{put_as_block, put_rest};
 
@@ -109,20 +110,10 @@ impl Lines {
             matrix.source.expect(down.wrapping_add(right));
         }
     }
+}
 
-    /// Puts `region` by these lines.
-    ///
-    /// # Contract
-    ///
-    /// ```text
-    /// requires ready { IsReady region matrix.width matrix.height
-    ///     (R.items matrix.source) (M.items out) }
-    /// ensures transposed { IsRegionTransposed region matrix.width matrix.height
-    ///     (R.items matrix.source) (M.items out) (M.items result) }
-    /// ensures holder { M.same_holder (items_of region) out result }
-    /// ```
-    #[inline]
-    pub(crate) fn put<M: Cells, R: Source<Item = M::Item> + Copy>(
+impl PutRegion for Lines {
+    fn put<M: Cells, R: Source<Item = M::Item> + Copy>(
         self,
         out: M,
         matrix: Matrix<R>,

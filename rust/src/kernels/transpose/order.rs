@@ -3,7 +3,6 @@
 
 use crate::kernels::places::{Cells, Source};
 use crate::kernels::transpose::ENOUGH_LEVELS;
-use crate::kernels::transpose::lines::Lines;
 use crate::kernels::transpose::regions::{Matrix, Region};
 use crate::kernels::transpose::split::put_split;
 use crate::kernels::transpose::strips::{Strips, put_columns, put_strips};
@@ -14,8 +13,29 @@ const TINY_MATRIX: usize = 128;
 /// The greatest number of items of a matrix that is not split.
 const LARGE_MATRIX: usize = 1_048_576;
 
-/// An order in which a matrix or a region of it is put. The caller of a kernel chooses it. The
-/// contract is the same for all orders.
+/// A way to put a region: an [`Order`], or [`Lines`](crate::kernels::transpose::lines::Lines). The caller of a
+/// kernel chooses it. The contract is the same for all of them.
+pub(crate) trait PutRegion: Copy {
+    /// Puts `region` in this way.
+    ///
+    /// # Contract
+    ///
+    /// ```text
+    /// requires ready { IsReady region matrix.width matrix.height
+    ///     (R.items matrix.source) (M.items out) }
+    /// ensures transposed { IsRegionTransposed region matrix.width matrix.height
+    ///     (R.items matrix.source) (M.items out) (M.items result) }
+    /// ensures holder { M.same_holder (items_of region) out result }
+    /// ```
+    fn put<M: Cells, R: Source<Item = M::Item> + Copy>(
+        self,
+        out: M,
+        matrix: Matrix<R>,
+        region: Region,
+    ) -> M;
+}
+
+/// An order in which a matrix or a region of it is put.
 #[derive(Clone, Copy, PartialEq, Eq)]
 pub(crate) enum Order {
     /// Column after column, each from its first row to its last.
@@ -24,8 +44,6 @@ pub(crate) enum Order {
     Strips(Strips),
     /// Leaf by leaf, as the region is split, and each leaf strip by strip.
     Leaves(Strips),
-    /// By the cache lines of the output.
-    Lines(Lines),
 }
 
 impl Order {
@@ -55,20 +73,11 @@ impl Order {
             Order::Leaves(strips)
         }
     }
+}
 
-    /// Puts `region` in this order.
-    ///
-    /// # Contract
-    ///
-    /// ```text
-    /// requires ready { IsReady region matrix.width matrix.height
-    ///     (R.items matrix.source) (M.items out) }
-    /// ensures transposed { IsRegionTransposed region matrix.width matrix.height
-    ///     (R.items matrix.source) (M.items out) (M.items result) }
-    /// ensures holder { M.same_holder (items_of region) out result }
-    /// ```
+impl PutRegion for Order {
     #[inline(always)]
-    pub(crate) fn put<M: Cells, R: Source<Item = M::Item> + Copy>(
+    fn put<M: Cells, R: Source<Item = M::Item> + Copy>(
         self,
         out: M,
         matrix: Matrix<R>,
@@ -83,7 +92,6 @@ impl Order {
                 let (out, _) = put_split(out, matrix, region, ENOUGH_LEVELS, strips);
                 out
             }
-            Order::Lines(lines) => lines.put(out, matrix, region),
         }
     }
 }

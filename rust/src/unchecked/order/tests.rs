@@ -41,7 +41,7 @@ fn matrix<T: Copy>(width: usize, height: usize) -> Matrix<Unread<T>> {
 fn is_in<T: Copy>(strips: Strips, width: usize, height: usize) -> bool {
     let plan = TransposePlan::new(width, height, 1, true);
     let region = Part::Region { plan: &plan, number: 0 };
-    let order = |part| order_of(size_of::<T>(), matrix::<T>(width, height), part, None);
+    let order = |part| order_of(size_of::<T>(), matrix::<T>(width, height), part);
     let whole = match width * height {
         0 | 128..=1_048_576 => Order::Strips(strips),
         1..128 => Order::Columns,
@@ -53,7 +53,7 @@ fn is_in<T: Copy>(strips: Strips, width: usize, height: usize) -> bool {
 /// Whether a matrix of items of type `T` is put in the same way as by the calls in Rattle.
 fn is_by_shape<T: Copy>(width: usize, height: usize) -> bool {
     let matrix = matrix::<T>(width, height);
-    order_of(size_of::<T>(), matrix, Part::Whole, None) == Order::by_shape(matrix)
+    order_of(size_of::<T>(), matrix, Part::Whole) == Order::by_shape(matrix)
 }
 
 #[test]
@@ -138,14 +138,13 @@ fn lines_of_long_lists() {
         for (width, height) in [(16, 16), (1, 1024), (1024, 1), (19, 37), (5, 30), (2000, 2000)] {
             for first in [0, size, 64 - size, 4096 + 2 * size, 1, size / 2] {
                 let plan = TransposePlan::new(width, height, 2, true);
-                let lines = Order::Lines(Lines::new(LINE / size, first % LINE / size));
+                let lines = Lines::new(LINE / size, first % LINE / size);
                 for part in [Part::Whole, Part::Region { plan: &plan, number: 0 }] {
-                    let order = |first| order_of(size, matrix::<T>(width, height), part, first);
                     let is_split = matches!(part, Part::Region { .. }) || width * height > 1 << 20;
                     let is_long = width * height * size >= 1024 && first % size == 0;
                     let has_lines = can && HAS_LINES && is_split && is_long;
-                    let wanted = if has_lines { lines } else { order(None) };
-                    assert!(order(Some(first)) == wanted, "{width} by {height} at {first}");
+                    let found = lines_of(size, matrix::<T>(width, height), part, first);
+                    assert!(found == has_lines.then_some(lines), "{width} by {height} at {first}");
                 }
             }
         }

@@ -1,7 +1,7 @@
 -- 64 levels are enough for the splits of a region.
 use Rattle.std.proofs.Common.{arith}
 use Rattle.p3_util_kernels.proofs.HalvesLemmas.{lev-of_region}
-use Rattle.p3_util_kernels.proofs.transpose.order.Order.put.Goals as goal
+use Rattle.p3_util_kernels.proofs.transpose.order.OrderPutRegion.put.Goals as goal
 
 pub put_split-out-requires-clause-enough : goal.put_split-out-requires-clause-enough
 put_split-out-requires-clause-enough g c =
