@@ -135,12 +135,13 @@ def number(text):
 def constants():
     """For each constant of the sources, the package and its overlay: its name, file and value, or None if the value is not
     known. Where it depends on `cfg!`, this is the one without that, so not the one for tests or for aarch64. Constants that
-    are not numbers, and those that depend on a type, are left out."""
+    are not numbers, and those that depend on a type, are left out. So are those that a trait declares."""
     found = []
+    declared = {name for text in sources.values() for name in re.findall(r"^ +const ([A-Z_]+): \w+;", text, re.M)}
     for path in tracked:
         if path in sources or re.fullmatch(r"rust/(overlay/)?src/(unchecked/)?\w+\.rs", path):
-            for name, value in re.findall(r"^ *(?:pub(?:\(\w+\))? )?const ([A-Z_]+): (?!bool)\w+ = ([^;]+);", read(path), re.M):
-                if "size_of" not in value:
+            for space, name, value in re.findall(r"^( *)(?:pub(?:\(\w+\))? )?const ([A-Z_]+): (?!bool)\w+ = ([^;]+);", read(path), re.M):
+                if "size_of" not in value and not (space and name in declared):
                     found.append((name, path, re.sub(r"if cfg!\(.*?\) \{.*?\} else \{(.*?)\}", r"(\1)", value)))
     values = {name: value for name, _, value in found}
     for name, path, value in found:

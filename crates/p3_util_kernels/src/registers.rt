@@ -48,33 +48,29 @@ pub(crate) trait Register<T>: Copy {
 
     ghost half_items: { Self.Half → List T };
 
-    /// The number of items of a half.
-    ghost half: { ℕ };
+    /// The number of items of a half, which is also the number of rows of a square.
+    const SIDE: usize;
 
-    /// The number of items of a half, which is also the number of rows of a square. It is a function and
-    /// not a constant, because a constant has no `requires`: the number of a [`Pair`] might not fit.
-    fn side() -> usize
-        requires { half < 2 ^ 64 }
-        ensures { result ≡ half };
+    ghost SIDE: { ℕ };
 
     /// Interleaves the first halves of two registers.
     fn low(self, other: Self) -> Self
-        ensures { AreInterleaved half 0 0 (items self) (items other) (items result) };
+        ensures { AreInterleaved SIDE 0 0 (items self) (items other) (items result) };
 
     /// Interleaves the second halves of two registers.
     fn high(self, other: Self) -> Self
-        ensures { AreInterleaved half half half (items self) (items other) (items result) };
+        ensures { AreInterleaved SIDE SIDE SIDE (items self) (items other) (items result) };
 
     /// A register whose first half is this one. Its second half may be anything.
     fn from_half(first: Self::Half) -> Self
-        ensures { (t : ℕ) → t < half → slice_get (items result) t ≡ slice_get (half_items first) t };
+        ensures { (t : ℕ) → t < SIDE → slice_get (items result) t ≡ slice_get (half_items first) t };
 
     /// Both halves of a register.
     fn halves(self) -> (Self::Half, Self::Half)
-        ensures first { (t : ℕ) → t < half → slice_get (half_items result.0) t ≡ slice_get (items self) t }
-        ensures second { (t : ℕ) → t < half → slice_get (half_items result.1) t ≡ slice_get (items self) (half + t) };
+        ensures first { (t : ℕ) → t < SIDE → slice_get (half_items result.0) t ≡ slice_get (items self) t }
+        ensures second { (t : ℕ) → t < SIDE → slice_get (half_items result.1) t ≡ slice_get (items self) (SIDE + t) };
 
-    ghost full: { (a : Self) → length (items a) ≡ 2 * half };
+    ghost full: { (a : Self) → length (items a) ≡ 2 * SIDE };
 }
 
 /// A list in which a run of items, half a register, can be read or written at once.
@@ -99,18 +95,18 @@ pub(crate) trait Runs<T, D: Register<T>> {
     /// Reads the run from `place` on.
     fn load(&self, place: usize) -> D::Half
         requires { may (reach self.now) place }
-        ensures { (t : ℕ) → t < D.half → slice_get (D.half_items result) t ≡ slice_get (items self.now) (place + t) };
+        ensures { (t : ℕ) → t < D.SIDE → slice_get (D.half_items result) t ≡ slice_get (items self.now) (place + t) };
 
     /// Writes the run from `place` on.
     fn store(&mut self, place: usize, run: D::Half)
         requires { may (reach self.old) place }
-        ensures stored { IsRunStored D.half place (D.half_items run) (items self.old) (items self.new) }
+        ensures stored { IsRunStored D.SIDE place (D.half_items run) (items self.old) (items self.new) }
         ensures holder { reach self.new ≡ reach self.old };
 
     /// Does the same as `store`, for a run that is read or written again only after the call of the kernel.
     fn store_last(&mut self, place: usize, run: D::Half)
         requires { may_last (reach self.old) place }
-        ensures stored { IsRunStored D.half place (D.half_items run) (items self.old) (items self.new) }
+        ensures stored { IsRunStored D.SIDE place (D.half_items run) (items self.old) (items self.new) }
         ensures holder { reach self.new ≡ reach self.old }
     {
         self.store(place, run);
@@ -133,7 +129,7 @@ pub(crate) struct Four<D> {
 /// Interleaves the items of the first two registers with those of the last two.
 #[inline(always)]
 fn next_stage<T, D: Register<T>>(four: Four<D>) -> Four<D>
-    ensures { IsNextStage D.half (items_of_four D.items four) (items_of_four D.items result) }
+    ensures { IsNextStage D.SIDE (items_of_four D.items four) (items_of_four D.items result) }
 {
     let Four { a, b, c, d } = four;
     Four {
@@ -149,7 +145,7 @@ fn next_stage<T, D: Register<T>>(four: Four<D>) -> Four<D>
 fn load_two<T, D: Register<T>, S: Runs<T, D>>(list: &S, first: usize, second: usize) -> D
     requires first { S.may (S.reach list.now) first }
     requires second { S.may (S.reach list.now) second }
-    ensures { AreInterleaved D.half first second (S.items list.now) (S.items list.now) (D.items result) }
+    ensures { AreInterleaved D.SIDE first second (S.items list.now) (S.items list.now) (D.items result) }
 {
     D::from_half(list.load(first)).low(D::from_half(list.load(second)))
 }
@@ -158,7 +154,7 @@ fn load_two<T, D: Register<T>, S: Runs<T, D>>(list: &S, first: usize, second: us
 #[inline(always)]
 fn load<T, D: Register<T>, S: Runs<T, D>>(list: &S, from: [usize; 8]) -> Four<D>
     requires { AreReached 8 from (S.may (S.reach list.now)) }
-    ensures { AreLoaded D.half from (S.items list.now) (items_of_four D.items result) }
+    ensures { AreLoaded D.SIDE from (S.items list.now) (items_of_four D.items result) }
 {
     Four {
         a: load_two(list, from[0], from[4]),
@@ -192,11 +188,11 @@ fn in_order(places: [usize; 8], side: usize) -> [usize; 8]
 /// row, one square after another.
 #[inline(always)]
 fn load_columns<T, D: Register<T>, S: Runs<T, D>>(list: &S, places: [usize; 8]) -> Four<D>
-    requires some_side { IsSide D.half }
+    requires some_side { IsSide D.SIDE }
     requires reached { AreReached 8 places (S.may (S.reach list.now)) }
-    ensures { AreColumns D.half places (S.items list.now) (items_of_four D.items result) }
+    ensures { AreColumns D.SIDE places (S.items list.now) (items_of_four D.items result) }
 {
-    let side = D::side();
+    let side = D::SIDE;
     let one = load(list, in_order(places, side));
     if side == 2 {
         return one;
@@ -211,10 +207,10 @@ fn load_columns<T, D: Register<T>, S: Runs<T, D>>(list: &S, places: [usize; 8]) 
 /// Writes the first half of a register from place `first` on, and the second half from place `second` on.
 #[inline(always)]
 fn store_two<T, D: Register<T>, M: Runs<T, D>>(list: &mut M, first: usize, second: usize, rows: D)
-    requires apart { (first + D.half ≤ second) ⊎ (second + D.half ≤ first) }
+    requires apart { (first + D.SIDE ≤ second) ⊎ (second + D.SIDE ≤ first) }
     requires first { M.may (M.reach list.old) first }
     requires second { M.may (M.reach list.old) second }
-    ensures stored { IsStored D.half first second (D.items rows) (M.items list.old) (M.items list.new) }
+    ensures stored { IsStored D.SIDE first second (D.items rows) (M.items list.old) (M.items list.new) }
     ensures holder { M.reach list.new ≡ M.reach list.old }
 {
     let (a, b) = rows.halves();
@@ -232,8 +228,8 @@ fn store<T, D: Register<T>, M: Runs<T, D>>(
 )
     requires known { (count ≡ 4) ⊎ (count ≡ 8) }
     requires reached { AreReached count to (M.may (M.reach list.old)) }
-    requires apart { AreApart count D.half to }
-    ensures stored { AreStored count D.half to (items_of_four D.items four) (M.items list.old) (M.items list.new) }
+    requires apart { AreApart count D.SIDE to }
+    ensures stored { AreStored count D.SIDE to (items_of_four D.items four) (M.items list.old) (M.items list.new) }
     ensures holder { M.reach list.new ≡ M.reach list.old }
 {
     store_two(list, to[0], to[1], four.a);
@@ -298,7 +294,7 @@ fn in_rows(x: [usize; 8], side: usize, tops: [usize; 8]) -> [usize; 8]
     ]
 }
 
-/// Exchanges `D::side()` rows of a tile, from row `row` on, with as many columns of the other.
+/// Exchanges `D::SIDE` rows of a tile, from row `row` on, with as many columns of the other.
 #[inline(always)]
 fn exchange_band<T, D: Register<T>, M: Runs<T, D>>(
     list: &mut M,
@@ -306,16 +302,16 @@ fn exchange_band<T, D: Register<T>, M: Runs<T, D>>(
     y: [usize; 8],
     row: usize,
 )
-    requires some_side { IsSide D.half }
-    requires below { row + D.half ≤ 8 }
+    requires some_side { IsSide D.SIDE }
+    requires below { row + D.SIDE ≤ 8 }
     requires tiles { AreTiles x y (length (M.items list.old)) }
-    requires reached_x { RowsReached 8 D.half (slice_index x) (M.may (M.reach list.old)) }
-    requires reached_y { RowsReached 8 D.half (slice_index y) (M.may (M.reach list.old)) }
+    requires reached_x { RowsReached 8 D.SIDE (slice_index x) (M.may (M.reach list.old)) }
+    requires reached_y { RowsReached 8 D.SIDE (slice_index y) (M.may (M.reach list.old)) }
     requires fits { length (M.items list.old) < 2 ^ 63 }
-    ensures exchanged { RowsExchanged row (row + D.half) x y (M.items list.old) (M.items list.new) }
+    ensures exchanged { RowsExchanged row (row + D.SIDE) x y (M.items list.old) (M.items list.new) }
     ensures holder { M.reach list.new ≡ M.reach list.old }
 {
-    let in_x = in_rows(x, D::side(), [row; 8]);
+    let in_x = in_rows(x, D::SIDE, [row; 8]);
     let in_y = in_columns(y, [row; 8]);
     let to_y = load_columns(list, in_x);
     let to_x = load_columns(list, in_y);
@@ -323,21 +319,21 @@ fn exchange_band<T, D: Register<T>, M: Runs<T, D>>(
     store(list, 8, in_x, to_x);
 }
 
-/// Does what `Places::exchange_tiles` does, by squares of `D::side()` rows.
+/// Does what `Places::exchange_tiles` does, by squares of `D::SIDE` rows.
 #[inline(always)]
 pub(crate) fn exchange_tiles<T, D: Register<T>, M: Runs<T, D>>(
     list: &mut M,
     x: [usize; 8],
     y: [usize; 8],
 )
-    requires some_side { IsSide D.half }
+    requires some_side { IsSide D.SIDE }
     requires tiles { AreTiles x y (length (M.items list.old)) }
-    requires reached_x { RowsReached 8 D.half (slice_index x) (M.may (M.reach list.old)) }
-    requires reached_y { RowsReached 8 D.half (slice_index y) (M.may (M.reach list.old)) }
+    requires reached_x { RowsReached 8 D.SIDE (slice_index x) (M.may (M.reach list.old)) }
+    requires reached_y { RowsReached 8 D.SIDE (slice_index y) (M.may (M.reach list.old)) }
     ensures exchanged { TilesExchanged 64 x y (M.items list.old) (M.items list.new) }
     ensures holder { M.reach list.new ≡ M.reach list.old }
 {
-    match D::side() {
+    match D::SIDE {
         2 => {
             exchange_band(list, x, y, 0);
             exchange_band(list, x, y, 2);
@@ -385,31 +381,31 @@ fn opposites(side: usize, sum: usize) -> [usize; 8]
 /// Transposes some squares of a tile, each into the place of its mirror image.
 #[inline(always)]
 fn turn_squares<T, D: Register<T>, M: Runs<T, D>>(list: &mut M, x: [usize; 8], sum: usize)
-    requires some_side { IsSide D.half }
+    requires some_side { IsSide D.SIDE }
     requires sum { sum < 8 }
-    requires whole { sum % D.half ≡ 0 }
+    requires whole { sum % D.SIDE ≡ 0 }
     requires tile { IsTile x (length (M.items list.old)) }
-    requires reached { RowsReached 8 D.half (slice_index x) (M.may (M.reach list.old)) }
+    requires reached { RowsReached 8 D.SIDE (slice_index x) (M.may (M.reach list.old)) }
     requires fits { length (M.items list.old) < 2 ^ 63 }
-    ensures turned { SquaresTurned sum (sum + D.half) D.half x (M.items list.old) (M.items list.new) }
+    ensures turned { SquaresTurned sum (sum + D.SIDE) D.SIDE x (M.items list.old) (M.items list.new) }
     ensures holder { M.reach list.new ≡ M.reach list.old }
 {
-    let side = D::side();
+    let side = D::SIDE;
     let tops = opposites(side, sum);
     let columns = load_columns(list, in_columns(x, tops));
     store(list, 8, in_rows(x, side, tops), columns);
 }
 
-/// Does what `Places::turn_tile` does, by squares of `D::side()` rows.
+/// Does what `Places::turn_tile` does, by squares of `D::SIDE` rows.
 #[inline(always)]
 pub(crate) fn turn_tile<T, D: Register<T>, M: Runs<T, D>>(list: &mut M, x: [usize; 8])
-    requires some_side { IsSide D.half }
+    requires some_side { IsSide D.SIDE }
     requires tile { IsTile x (length (M.items list.old)) }
-    requires reached { RowsReached 8 D.half (slice_index x) (M.may (M.reach list.old)) }
+    requires reached { RowsReached 8 D.SIDE (slice_index x) (M.may (M.reach list.old)) }
     ensures turned { TileTurned 64 x (M.items list.old) (M.items list.new) }
     ensures holder { M.reach list.new ≡ M.reach list.old }
 {
-    match D::side() {
+    match D::SIDE {
         2 => {
             turn_squares(list, x, 0);
             turn_squares(list, x, 2);
@@ -455,7 +451,7 @@ fn starts(first: usize, stride: usize, count: usize) -> [usize; 8]
     ]
 }
 
-/// Puts `D::side()` columns of a block, from column `col` on, which are squares one above another. If
+/// Puts `D::SIDE` columns of a block, from column `col` on, which are squares one above another. If
 /// the block has 4 rows, the registers have each of its squares twice, and one of both is put.
 #[inline(always)]
 fn put_squares<T, D: Register<T>, S: Runs<T, D>, M: Runs<T, D>>(
@@ -464,22 +460,22 @@ fn put_squares<T, D: Register<T>, S: Runs<T, D>, M: Runs<T, D>>(
     block: Block,
     col: usize,
 )
-    requires some_side { IsSide D.half }
+    requires some_side { IsSide D.SIDE }
     requires known { (block.rows ≡ 4) ⊎ (block.rows ≡ 8) }
-    requires below { col + D.half ≤ block.rows }
+    requires below { col + D.SIDE ≤ block.rows }
     requires square { block.cols ≡ block.rows }
     requires block { BlockFits block (length (S.items source.now)) (length (M.items cells.old)) }
-    requires reads { RowsReached block.rows D.half (λ r. block.from + r * block.width) (S.may (S.reach source.now)) }
-    requires writes { RowsReached block.rows D.half (λ c. block.to + c * block.height) (M.may (M.reach cells.old)) }
+    requires reads { RowsReached block.rows D.SIDE (λ r. block.from + r * block.width) (S.may (S.reach source.now)) }
+    requires writes { RowsReached block.rows D.SIDE (λ c. block.to + c * block.height) (M.may (M.reach cells.old)) }
     requires source_fits { length (S.items source.now) < 2 ^ 63 }
     requires cells_fit { length (M.items cells.old) < 2 ^ 63 }
-    ensures put { ColumnsPut col (col + D.half) block (S.items source.now) (M.items cells.old) (M.items cells.new) }
+    ensures put { ColumnsPut col (col + D.SIDE) block (S.items source.now) (M.items cells.old) (M.items cells.new) }
     ensures holder { M.reach cells.new ≡ M.reach cells.old }
 {
     let from = in_columns(starts(block.from, block.width, block.rows), [col; 8]);
     let to = in_rows(
         starts(block.to, block.height, block.rows),
-        D::side(),
+        D::SIDE,
         [col; 8],
     );
     store(cells, block.rows, to, load_columns(source, from));
@@ -499,8 +495,8 @@ fn store_columns<T, D: Register<T>, M: Runs<T, D>>(
     requires known { (count ≡ 4) ⊎ (count ≡ 8) }
     requires squares { 2 * side ≤ count }
     requires reached { AreReached count to (M.may (M.reach list.old)) }
-    requires apart { AreApart count D.half to }
-    ensures stored { AreStored count D.half to (items_of_four D.items four) (M.items list.old) (M.items list.new) }
+    requires apart { AreApart count D.SIDE to }
+    ensures stored { AreStored count D.SIDE to (items_of_four D.items four) (M.items list.old) (M.items list.new) }
     ensures holder { M.reach list.new ≡ M.reach list.old }
 {
     let (a, b) = (four.a.halves(), four.b.halves());
@@ -533,7 +529,7 @@ fn store_columns<T, D: Register<T>, M: Runs<T, D>>(
     list.store(to[7], d.1);
 }
 
-/// Puts twice `D::side()` columns of a block, from column `col` on. All of them are read before one is
+/// Puts twice `D::SIDE` columns of a block, from column `col` on. All of them are read before one is
 /// put. So two neighbouring runs of a row are read, and two of a column written, one right after the
 /// other. On aarch64 that is one instruction for both (`ldp`, `stp`).
 #[inline(always)]
@@ -543,19 +539,19 @@ fn put_twice<T, D: Register<T>, S: Runs<T, D>, M: Runs<T, D>>(
     block: Block,
     col: usize,
 )
-    requires some_side { IsSide D.half }
+    requires some_side { IsSide D.SIDE }
     requires known { (block.rows ≡ 4) ⊎ (block.rows ≡ 8) }
-    requires below { col + 2 * D.half ≤ block.rows }
+    requires below { col + 2 * D.SIDE ≤ block.rows }
     requires square { block.cols ≡ block.rows }
     requires block { BlockFits block (length (S.items source.now)) (length (M.items cells.old)) }
-    requires reads { RowsReached block.rows D.half (λ r. block.from + r * block.width) (S.may (S.reach source.now)) }
-    requires writes { RowsReached block.rows D.half (λ c. block.to + c * block.height) (M.may (M.reach cells.old)) }
+    requires reads { RowsReached block.rows D.SIDE (λ r. block.from + r * block.width) (S.may (S.reach source.now)) }
+    requires writes { RowsReached block.rows D.SIDE (λ c. block.to + c * block.height) (M.may (M.reach cells.old)) }
     requires source_fits { length (S.items source.now) < 2 ^ 63 }
     requires cells_fit { length (M.items cells.old) < 2 ^ 63 }
-    ensures put { ColumnsPut col (col + 2 * D.half) block (S.items source.now) (M.items cells.old) (M.items cells.new) }
+    ensures put { ColumnsPut col (col + 2 * D.SIDE) block (S.items source.now) (M.items cells.old) (M.items cells.new) }
     ensures holder { M.reach cells.new ≡ M.reach cells.old }
 {
-    let side = D::side();
+    let side = D::SIDE;
     let from = starts(block.from, block.width, block.rows);
     let to = starts(block.to, block.height, block.rows);
     let left = load_columns(source, in_columns(from, [col; 8]));
@@ -570,24 +566,24 @@ fn put_twice<T, D: Register<T>, S: Runs<T, D>, M: Runs<T, D>>(
     );
 }
 
-/// Does what `Cells::put_block` does, by squares of `D::side()` rows.
+/// Does what `Cells::put_block` does, by squares of `D::SIDE` rows.
 #[inline(always)]
 pub(crate) fn put_by_squares<T, D: Register<T>, S: Runs<T, D>, M: Runs<T, D>>(
     cells: &mut M,
     source: &S,
     block: Block,
 )
-    requires some_side { IsSide D.half }
+    requires some_side { IsSide D.SIDE }
     requires known { (block.rows ≡ 4) ⊎ (block.rows ≡ 8) }
     requires square { block.cols ≡ block.rows }
-    requires below { D.half ≤ block.rows }
+    requires below { D.SIDE ≤ block.rows }
     requires block { BlockFits block (length (S.items source.now)) (length (M.items cells.old)) }
-    requires reads { RowsReached block.rows D.half (λ r. block.from + r * block.width) (S.may (S.reach source.now)) }
-    requires writes { RowsReached block.rows D.half (λ c. block.to + c * block.height) (M.may (M.reach cells.old)) }
+    requires reads { RowsReached block.rows D.SIDE (λ r. block.from + r * block.width) (S.may (S.reach source.now)) }
+    requires writes { RowsReached block.rows D.SIDE (λ c. block.to + c * block.height) (M.may (M.reach cells.old)) }
     ensures put { IsBlockPut (block_items block) block (S.items source.now) (M.items cells.old) (M.items cells.new) }
     ensures holder { M.reach cells.new ≡ M.reach cells.old }
 {
-    match block.rows / D::side() {
+    match block.rows / D::SIDE {
         4 => {
             put_twice(cells, source, block, 0);
             put_twice(cells, source, block, 4);
@@ -613,12 +609,9 @@ impl<T, H: Single<T>> Register<T> for Two<H> {
 
     ghost half_items = { λ h. H.item h ∷ [] };
 
-    ghost half = { 1 };
+    const SIDE: usize = 1;
 
-    #[inline(always)]
-    fn side() -> usize {
-        1
-    }
+    ghost SIDE = { 1 };
 
     #[inline(always)]
     fn low(self, other: Self) -> Self {
@@ -643,23 +636,25 @@ impl<T, H: Single<T>> Register<T> for Two<H> {
     ghost full = { λ two. refl };
 }
 
+/// A register that may be one of a [`Pair`]. It has so few items that the number for the pair does not wrap.
+pub(crate) trait Paired<T>: Register<T> {
+    ghost few: { Self.SIDE < 2 ^ 63 };
+}
+
 /// Two registers, whose items follow each other.
 #[derive(Clone, Copy)]
 pub(crate) struct Pair<R>(R, R);
 
-impl<T, R: Register<T>> Register<T> for Pair<R> {
+impl<T, R: Paired<T>> Register<T> for Pair<R> {
     type Half = R;
 
     ghost items = { λ pair. R.items pair.0 ++ R.items pair.1 };
 
     ghost half_items = { λ r. R.items r };
 
-    ghost half = { 2 * R.half };
+    const SIDE: usize = 2 * R::SIDE;
 
-    #[inline(always)]
-    fn side() -> usize {
-        2 * R::side()
-    }
+    ghost SIDE = { 2 * R.SIDE };
 
     #[inline(always)]
     fn low(self, other: Self) -> Self {
@@ -681,5 +676,5 @@ impl<T, R: Register<T>> Register<T> for Pair<R> {
         (self.0, self.1)
     }
 
-    ghost full = { λ pair. length_of_pair (R.items pair.0) (R.items pair.1) R.half (R.full pair.0) (R.full pair.1) };
+    ghost full = { λ pair. length_of_pair (R.items pair.0) (R.items pair.1) R.SIDE (R.full pair.0) (R.full pair.1) };
 }

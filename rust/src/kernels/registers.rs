@@ -39,23 +39,15 @@ pub(crate) trait Register<T>: Copy {
     /// The items of one half of a register.
     type Half: Copy;
 
-    /// The number of items of a half, which is also the number of rows of a square. It is a function and
-    /// not a constant, because a constant has no `requires`: the number of a [`Pair`] might not fit.
-    ///
-    /// # Contract
-    ///
-    /// ```text
-    /// requires { half < 2 ^ 64 }
-    /// ensures { result ≡ half }
-    /// ```
-    fn side() -> usize;
+    /// The number of items of a half, which is also the number of rows of a square.
+    const SIDE: usize;
 
     /// Interleaves the first halves of two registers.
     ///
     /// # Contract
     ///
     /// ```text
-    /// ensures { AreInterleaved half 0 0 (items self) (items other) (items result) }
+    /// ensures { AreInterleaved SIDE 0 0 (items self) (items other) (items result) }
     /// ```
     fn low(self, other: Self) -> Self;
 
@@ -64,7 +56,7 @@ pub(crate) trait Register<T>: Copy {
     /// # Contract
     ///
     /// ```text
-    /// ensures { AreInterleaved half half half (items self) (items other) (items result) }
+    /// ensures { AreInterleaved SIDE SIDE SIDE (items self) (items other) (items result) }
     /// ```
     fn high(self, other: Self) -> Self;
 
@@ -73,7 +65,7 @@ pub(crate) trait Register<T>: Copy {
     /// # Contract
     ///
     /// ```text
-    /// ensures { (t : ℕ) → t < half → slice_get (items result) t ≡ slice_get (half_items first) t }
+    /// ensures { (t : ℕ) → t < SIDE → slice_get (items result) t ≡ slice_get (half_items first) t }
     /// ```
     fn from_half(first: Self::Half) -> Self;
 
@@ -82,8 +74,8 @@ pub(crate) trait Register<T>: Copy {
     /// # Contract
     ///
     /// ```text
-    /// ensures first { (t : ℕ) → t < half → slice_get (half_items result.0) t ≡ slice_get (items self) t }
-    /// ensures second { (t : ℕ) → t < half → slice_get (half_items result.1) t ≡ slice_get (items self) (half + t) }
+    /// ensures first { (t : ℕ) → t < SIDE → slice_get (half_items result.0) t ≡ slice_get (items self) t }
+    /// ensures second { (t : ℕ) → t < SIDE → slice_get (half_items result.1) t ≡ slice_get (items self) (SIDE + t) }
     /// ```
     fn halves(self) -> (Self::Half, Self::Half);
 }
@@ -100,7 +92,7 @@ pub(crate) trait Runs<T, D: Register<T>> {
     ///
     /// ```text
     /// requires { may (reach self.now) place }
-    /// ensures { (t : ℕ) → t < D.half → slice_get (D.half_items result) t ≡ slice_get (items self.now) (place + t) }
+    /// ensures { (t : ℕ) → t < D.SIDE → slice_get (D.half_items result) t ≡ slice_get (items self.now) (place + t) }
     /// ```
     fn load(&self, place: usize) -> D::Half;
 
@@ -110,7 +102,7 @@ pub(crate) trait Runs<T, D: Register<T>> {
     ///
     /// ```text
     /// requires { may (reach self.old) place }
-    /// ensures stored { IsRunStored D.half place (D.half_items run) (items self.old) (items self.new) }
+    /// ensures stored { IsRunStored D.SIDE place (D.half_items run) (items self.old) (items self.new) }
     /// ensures holder { reach self.new ≡ reach self.old }
     /// ```
     fn store(&mut self, place: usize, run: D::Half);
@@ -121,7 +113,7 @@ pub(crate) trait Runs<T, D: Register<T>> {
     ///
     /// ```text
     /// requires { may_last (reach self.old) place }
-    /// ensures stored { IsRunStored D.half place (D.half_items run) (items self.old) (items self.new) }
+    /// ensures stored { IsRunStored D.SIDE place (D.half_items run) (items self.old) (items self.new) }
     /// ensures holder { reach self.new ≡ reach self.old }
     /// ```
     fn store_last(&mut self, place: usize, run: D::Half) {
@@ -143,7 +135,7 @@ pub(crate) struct Four<D> {
 /// # Contract
 ///
 /// ```text
-/// ensures { IsNextStage D.half (items_of_four D.items four) (items_of_four D.items result) }
+/// ensures { IsNextStage D.SIDE (items_of_four D.items four) (items_of_four D.items result) }
 /// ```
 #[inline(always)]
 fn next_stage<T, D: Register<T>>(four: Four<D>) -> Four<D> {
@@ -163,7 +155,7 @@ fn next_stage<T, D: Register<T>>(four: Four<D>) -> Four<D> {
 /// ```text
 /// requires first { S.may (S.reach list.now) first }
 /// requires second { S.may (S.reach list.now) second }
-/// ensures { AreInterleaved D.half first second (S.items list.now) (S.items list.now) (D.items result) }
+/// ensures { AreInterleaved D.SIDE first second (S.items list.now) (S.items list.now) (D.items result) }
 /// ```
 #[inline(always)]
 fn load_two<T, D: Register<T>, S: Runs<T, D>>(list: &S, first: usize, second: usize) -> D {
@@ -176,7 +168,7 @@ fn load_two<T, D: Register<T>, S: Runs<T, D>>(list: &S, first: usize, second: us
 ///
 /// ```text
 /// requires { AreReached 8 from (S.may (S.reach list.now)) }
-/// ensures { AreLoaded D.half from (S.items list.now) (items_of_four D.items result) }
+/// ensures { AreLoaded D.SIDE from (S.items list.now) (items_of_four D.items result) }
 /// ```
 #[inline(always)]
 fn load<T, D: Register<T>, S: Runs<T, D>>(list: &S, from: [usize; 8]) -> Four<D> {
@@ -218,13 +210,13 @@ fn in_order(places: [usize; 8], side: usize) -> [usize; 8] {
 /// # Contract
 ///
 /// ```text
-/// requires some_side { IsSide D.half }
+/// requires some_side { IsSide D.SIDE }
 /// requires reached { AreReached 8 places (S.may (S.reach list.now)) }
-/// ensures { AreColumns D.half places (S.items list.now) (items_of_four D.items result) }
+/// ensures { AreColumns D.SIDE places (S.items list.now) (items_of_four D.items result) }
 /// ```
 #[inline(always)]
 fn load_columns<T, D: Register<T>, S: Runs<T, D>>(list: &S, places: [usize; 8]) -> Four<D> {
-    let side = D::side();
+    let side = D::SIDE;
     let one = load(list, in_order(places, side));
     if side == 2 {
         return one;
@@ -241,10 +233,10 @@ fn load_columns<T, D: Register<T>, S: Runs<T, D>>(list: &S, places: [usize; 8]) 
 /// # Contract
 ///
 /// ```text
-/// requires apart { (first + D.half ≤ second) ⊎ (second + D.half ≤ first) }
+/// requires apart { (first + D.SIDE ≤ second) ⊎ (second + D.SIDE ≤ first) }
 /// requires first { M.may (M.reach list.old) first }
 /// requires second { M.may (M.reach list.old) second }
-/// ensures stored { IsStored D.half first second (D.items rows) (M.items list.old) (M.items list.new) }
+/// ensures stored { IsStored D.SIDE first second (D.items rows) (M.items list.old) (M.items list.new) }
 /// ensures holder { M.reach list.new ≡ M.reach list.old }
 /// ```
 #[inline(always)]
@@ -261,8 +253,8 @@ fn store_two<T, D: Register<T>, M: Runs<T, D>>(list: &mut M, first: usize, secon
 /// ```text
 /// requires known { (count ≡ 4) ⊎ (count ≡ 8) }
 /// requires reached { AreReached count to (M.may (M.reach list.old)) }
-/// requires apart { AreApart count D.half to }
-/// ensures stored { AreStored count D.half to (items_of_four D.items four) (M.items list.old) (M.items list.new) }
+/// requires apart { AreApart count D.SIDE to }
+/// ensures stored { AreStored count D.SIDE to (items_of_four D.items four) (M.items list.old) (M.items list.new) }
 /// ensures holder { M.reach list.new ≡ M.reach list.old }
 /// ```
 #[inline(always)]
@@ -346,18 +338,18 @@ fn in_rows(x: [usize; 8], side: usize, tops: [usize; 8]) -> [usize; 8] {
     ]
 }
 
-/// Exchanges `D::side()` rows of a tile, from row `row` on, with as many columns of the other.
+/// Exchanges `D::SIDE` rows of a tile, from row `row` on, with as many columns of the other.
 ///
 /// # Contract
 ///
 /// ```text
-/// requires some_side { IsSide D.half }
-/// requires below { row + D.half ≤ 8 }
+/// requires some_side { IsSide D.SIDE }
+/// requires below { row + D.SIDE ≤ 8 }
 /// requires tiles { AreTiles x y (length (M.items list.old)) }
-/// requires reached_x { RowsReached 8 D.half (slice_index x) (M.may (M.reach list.old)) }
-/// requires reached_y { RowsReached 8 D.half (slice_index y) (M.may (M.reach list.old)) }
+/// requires reached_x { RowsReached 8 D.SIDE (slice_index x) (M.may (M.reach list.old)) }
+/// requires reached_y { RowsReached 8 D.SIDE (slice_index y) (M.may (M.reach list.old)) }
 /// requires fits { length (M.items list.old) < 2 ^ 63 }
-/// ensures exchanged { RowsExchanged row (row + D.half) x y (M.items list.old) (M.items list.new) }
+/// ensures exchanged { RowsExchanged row (row + D.SIDE) x y (M.items list.old) (M.items list.new) }
 /// ensures holder { M.reach list.new ≡ M.reach list.old }
 /// ```
 #[inline(always)]
@@ -367,7 +359,7 @@ fn exchange_band<T, D: Register<T>, M: Runs<T, D>>(
     y: [usize; 8],
     row: usize,
 ) {
-    let in_x = in_rows(x, D::side(), [row; 8]);
+    let in_x = in_rows(x, D::SIDE, [row; 8]);
     let in_y = in_columns(y, [row; 8]);
     let to_y = load_columns(list, in_x);
     let to_x = load_columns(list, in_y);
@@ -375,15 +367,15 @@ fn exchange_band<T, D: Register<T>, M: Runs<T, D>>(
     store(list, 8, in_x, to_x);
 }
 
-/// Does what `Places::exchange_tiles` does, by squares of `D::side()` rows.
+/// Does what `Places::exchange_tiles` does, by squares of `D::SIDE` rows.
 ///
 /// # Contract
 ///
 /// ```text
-/// requires some_side { IsSide D.half }
+/// requires some_side { IsSide D.SIDE }
 /// requires tiles { AreTiles x y (length (M.items list.old)) }
-/// requires reached_x { RowsReached 8 D.half (slice_index x) (M.may (M.reach list.old)) }
-/// requires reached_y { RowsReached 8 D.half (slice_index y) (M.may (M.reach list.old)) }
+/// requires reached_x { RowsReached 8 D.SIDE (slice_index x) (M.may (M.reach list.old)) }
+/// requires reached_y { RowsReached 8 D.SIDE (slice_index y) (M.may (M.reach list.old)) }
 /// ensures exchanged { TilesExchanged 64 x y (M.items list.old) (M.items list.new) }
 /// ensures holder { M.reach list.new ≡ M.reach list.old }
 /// ```
@@ -393,7 +385,7 @@ pub(crate) fn exchange_tiles<T, D: Register<T>, M: Runs<T, D>>(
     x: [usize; 8],
     y: [usize; 8],
 ) {
-    match D::side() {
+    match D::SIDE {
         2 => {
             exchange_band(list, x, y, 0);
             exchange_band(list, x, y, 2);
@@ -451,37 +443,37 @@ fn opposites(side: usize, sum: usize) -> [usize; 8] {
 /// # Contract
 ///
 /// ```text
-/// requires some_side { IsSide D.half }
+/// requires some_side { IsSide D.SIDE }
 /// requires sum { sum < 8 }
-/// requires whole { sum % D.half ≡ 0 }
+/// requires whole { sum % D.SIDE ≡ 0 }
 /// requires tile { IsTile x (length (M.items list.old)) }
-/// requires reached { RowsReached 8 D.half (slice_index x) (M.may (M.reach list.old)) }
+/// requires reached { RowsReached 8 D.SIDE (slice_index x) (M.may (M.reach list.old)) }
 /// requires fits { length (M.items list.old) < 2 ^ 63 }
-/// ensures turned { SquaresTurned sum (sum + D.half) D.half x (M.items list.old) (M.items list.new) }
+/// ensures turned { SquaresTurned sum (sum + D.SIDE) D.SIDE x (M.items list.old) (M.items list.new) }
 /// ensures holder { M.reach list.new ≡ M.reach list.old }
 /// ```
 #[inline(always)]
 fn turn_squares<T, D: Register<T>, M: Runs<T, D>>(list: &mut M, x: [usize; 8], sum: usize) {
-    let side = D::side();
+    let side = D::SIDE;
     let tops = opposites(side, sum);
     let columns = load_columns(list, in_columns(x, tops));
     store(list, 8, in_rows(x, side, tops), columns);
 }
 
-/// Does what `Places::turn_tile` does, by squares of `D::side()` rows.
+/// Does what `Places::turn_tile` does, by squares of `D::SIDE` rows.
 ///
 /// # Contract
 ///
 /// ```text
-/// requires some_side { IsSide D.half }
+/// requires some_side { IsSide D.SIDE }
 /// requires tile { IsTile x (length (M.items list.old)) }
-/// requires reached { RowsReached 8 D.half (slice_index x) (M.may (M.reach list.old)) }
+/// requires reached { RowsReached 8 D.SIDE (slice_index x) (M.may (M.reach list.old)) }
 /// ensures turned { TileTurned 64 x (M.items list.old) (M.items list.new) }
 /// ensures holder { M.reach list.new ≡ M.reach list.old }
 /// ```
 #[inline(always)]
 pub(crate) fn turn_tile<T, D: Register<T>, M: Runs<T, D>>(list: &mut M, x: [usize; 8]) {
-    match D::side() {
+    match D::SIDE {
         2 => {
             turn_squares(list, x, 0);
             turn_squares(list, x, 2);
@@ -535,22 +527,22 @@ fn starts(first: usize, stride: usize, count: usize) -> [usize; 8] {
     ]
 }
 
-/// Puts `D::side()` columns of a block, from column `col` on, which are squares one above another. If
+/// Puts `D::SIDE` columns of a block, from column `col` on, which are squares one above another. If
 /// the block has 4 rows, the registers have each of its squares twice, and one of both is put.
 ///
 /// # Contract
 ///
 /// ```text
-/// requires some_side { IsSide D.half }
+/// requires some_side { IsSide D.SIDE }
 /// requires known { (block.rows ≡ 4) ⊎ (block.rows ≡ 8) }
-/// requires below { col + D.half ≤ block.rows }
+/// requires below { col + D.SIDE ≤ block.rows }
 /// requires square { block.cols ≡ block.rows }
 /// requires block { BlockFits block (length (S.items source.now)) (length (M.items cells.old)) }
-/// requires reads { RowsReached block.rows D.half (λ r. block.from + r * block.width) (S.may (S.reach source.now)) }
-/// requires writes { RowsReached block.rows D.half (λ c. block.to + c * block.height) (M.may (M.reach cells.old)) }
+/// requires reads { RowsReached block.rows D.SIDE (λ r. block.from + r * block.width) (S.may (S.reach source.now)) }
+/// requires writes { RowsReached block.rows D.SIDE (λ c. block.to + c * block.height) (M.may (M.reach cells.old)) }
 /// requires source_fits { length (S.items source.now) < 2 ^ 63 }
 /// requires cells_fit { length (M.items cells.old) < 2 ^ 63 }
-/// ensures put { ColumnsPut col (col + D.half) block (S.items source.now) (M.items cells.old) (M.items cells.new) }
+/// ensures put { ColumnsPut col (col + D.SIDE) block (S.items source.now) (M.items cells.old) (M.items cells.new) }
 /// ensures holder { M.reach cells.new ≡ M.reach cells.old }
 /// ```
 #[inline(always)]
@@ -563,7 +555,7 @@ fn put_squares<T, D: Register<T>, S: Runs<T, D>, M: Runs<T, D>>(
     let from = in_columns(starts(block.from, block.width, block.rows), [col; 8]);
     let to = in_rows(
         starts(block.to, block.height, block.rows),
-        D::side(),
+        D::SIDE,
         [col; 8],
     );
     store(cells, block.rows, to, load_columns(source, from));
@@ -579,8 +571,8 @@ fn put_squares<T, D: Register<T>, S: Runs<T, D>, M: Runs<T, D>>(
 /// requires known { (count ≡ 4) ⊎ (count ≡ 8) }
 /// requires squares { 2 * side ≤ count }
 /// requires reached { AreReached count to (M.may (M.reach list.old)) }
-/// requires apart { AreApart count D.half to }
-/// ensures stored { AreStored count D.half to (items_of_four D.items four) (M.items list.old) (M.items list.new) }
+/// requires apart { AreApart count D.SIDE to }
+/// ensures stored { AreStored count D.SIDE to (items_of_four D.items four) (M.items list.old) (M.items list.new) }
 /// ensures holder { M.reach list.new ≡ M.reach list.old }
 /// ```
 #[inline(always)]
@@ -621,23 +613,23 @@ fn store_columns<T, D: Register<T>, M: Runs<T, D>>(
     list.store(to[7], d.1);
 }
 
-/// Puts twice `D::side()` columns of a block, from column `col` on. All of them are read before one is
+/// Puts twice `D::SIDE` columns of a block, from column `col` on. All of them are read before one is
 /// put. So two neighbouring runs of a row are read, and two of a column written, one right after the
 /// other. On aarch64 that is one instruction for both (`ldp`, `stp`).
 ///
 /// # Contract
 ///
 /// ```text
-/// requires some_side { IsSide D.half }
+/// requires some_side { IsSide D.SIDE }
 /// requires known { (block.rows ≡ 4) ⊎ (block.rows ≡ 8) }
-/// requires below { col + 2 * D.half ≤ block.rows }
+/// requires below { col + 2 * D.SIDE ≤ block.rows }
 /// requires square { block.cols ≡ block.rows }
 /// requires block { BlockFits block (length (S.items source.now)) (length (M.items cells.old)) }
-/// requires reads { RowsReached block.rows D.half (λ r. block.from + r * block.width) (S.may (S.reach source.now)) }
-/// requires writes { RowsReached block.rows D.half (λ c. block.to + c * block.height) (M.may (M.reach cells.old)) }
+/// requires reads { RowsReached block.rows D.SIDE (λ r. block.from + r * block.width) (S.may (S.reach source.now)) }
+/// requires writes { RowsReached block.rows D.SIDE (λ c. block.to + c * block.height) (M.may (M.reach cells.old)) }
 /// requires source_fits { length (S.items source.now) < 2 ^ 63 }
 /// requires cells_fit { length (M.items cells.old) < 2 ^ 63 }
-/// ensures put { ColumnsPut col (col + 2 * D.half) block (S.items source.now) (M.items cells.old) (M.items cells.new) }
+/// ensures put { ColumnsPut col (col + 2 * D.SIDE) block (S.items source.now) (M.items cells.old) (M.items cells.new) }
 /// ensures holder { M.reach cells.new ≡ M.reach cells.old }
 /// ```
 #[inline(always)]
@@ -647,7 +639,7 @@ fn put_twice<T, D: Register<T>, S: Runs<T, D>, M: Runs<T, D>>(
     block: Block,
     col: usize,
 ) {
-    let side = D::side();
+    let side = D::SIDE;
     let from = starts(block.from, block.width, block.rows);
     let to = starts(block.to, block.height, block.rows);
     let left = load_columns(source, in_columns(from, [col; 8]));
@@ -662,18 +654,18 @@ fn put_twice<T, D: Register<T>, S: Runs<T, D>, M: Runs<T, D>>(
     );
 }
 
-/// Does what `Cells::put_block` does, by squares of `D::side()` rows.
+/// Does what `Cells::put_block` does, by squares of `D::SIDE` rows.
 ///
 /// # Contract
 ///
 /// ```text
-/// requires some_side { IsSide D.half }
+/// requires some_side { IsSide D.SIDE }
 /// requires known { (block.rows ≡ 4) ⊎ (block.rows ≡ 8) }
 /// requires square { block.cols ≡ block.rows }
-/// requires below { D.half ≤ block.rows }
+/// requires below { D.SIDE ≤ block.rows }
 /// requires block { BlockFits block (length (S.items source.now)) (length (M.items cells.old)) }
-/// requires reads { RowsReached block.rows D.half (λ r. block.from + r * block.width) (S.may (S.reach source.now)) }
-/// requires writes { RowsReached block.rows D.half (λ c. block.to + c * block.height) (M.may (M.reach cells.old)) }
+/// requires reads { RowsReached block.rows D.SIDE (λ r. block.from + r * block.width) (S.may (S.reach source.now)) }
+/// requires writes { RowsReached block.rows D.SIDE (λ c. block.to + c * block.height) (M.may (M.reach cells.old)) }
 /// ensures put { IsBlockPut (block_items block) block (S.items source.now) (M.items cells.old) (M.items cells.new) }
 /// ensures holder { M.reach cells.new ≡ M.reach cells.old }
 /// ```
@@ -683,7 +675,7 @@ pub(crate) fn put_by_squares<T, D: Register<T>, S: Runs<T, D>, M: Runs<T, D>>(
     source: &S,
     block: Block,
 ) {
-    match block.rows / D::side() {
+    match block.rows / D::SIDE {
         4 => {
             put_twice(cells, source, block, 0);
             put_twice(cells, source, block, 4);
@@ -703,10 +695,7 @@ pub(crate) struct Two<H>(H, H);
 impl<T, H: Single<T>> Register<T> for Two<H> {
     type Half = H;
 
-    #[inline(always)]
-    fn side() -> usize {
-        1
-    }
+    const SIDE: usize = 1;
 
     #[inline(always)]
     fn low(self, other: Self) -> Self {
@@ -729,17 +718,17 @@ impl<T, H: Single<T>> Register<T> for Two<H> {
     }
 }
 
+/// A register that may be one of a [`Pair`]. It has so few items that the number for the pair does not wrap.
+pub(crate) trait Paired<T>: Register<T> {}
+
 /// Two registers, whose items follow each other.
 #[derive(Clone, Copy)]
 pub(crate) struct Pair<R>(R, R);
 
-impl<T, R: Register<T>> Register<T> for Pair<R> {
+impl<T, R: Paired<T>> Register<T> for Pair<R> {
     type Half = R;
 
-    #[inline(always)]
-    fn side() -> usize {
-        2 * R::side()
-    }
+    const SIDE: usize = 2 * R::SIDE;
 
     #[inline(always)]
     fn low(self, other: Self) -> Self {

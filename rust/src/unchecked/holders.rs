@@ -225,8 +225,8 @@ impl<T, D: Register<T>> Runs<T, D> for SliceItems<'_, T> {
     }
 }
 
-/// The same holder for items whose squares of `D::side()` rows are transposed in registers. `D` is two rows of a square. If
-/// `LAST` is true, it stores whole cache lines past the caches.
+/// The same holder for items whose squares are transposed in registers. `D` is two rows of a square. If `LAST` is true, it
+/// stores whole cache lines past the caches.
 pub(super) struct InRegisters<'a, T, D, const LAST: bool = false> {
     items: SliceItems<'a, T>,
     rows: PhantomData<D>,
@@ -286,7 +286,7 @@ impl<T, D: Register<T>> Places for InRegisters<'_, T, D> {
     #[cfg_attr(debug_assertions, inline(never))]
     #[cfg_attr(not(debug_assertions), inline(always))]
     fn exchange_tiles(&mut self, x: [usize; 8], y: [usize; 8]) {
-        match D::side() {
+        match D::SIDE {
             1 => self.items.exchange_tiles(x, y),
             _ => squares::exchange_tiles::<T, D, _>(&mut self.items, x, y),
         }
@@ -295,7 +295,7 @@ impl<T, D: Register<T>> Places for InRegisters<'_, T, D> {
     #[cfg_attr(debug_assertions, inline(never))]
     #[cfg_attr(not(debug_assertions), inline(always))]
     fn turn_tile(&mut self, x: [usize; 8]) {
-        match D::side() {
+        match D::SIDE {
             1 => self.items.turn_tile(x),
             _ => squares::turn_tile::<T, D, _>(&mut self.items, x),
         }
@@ -323,24 +323,23 @@ impl<T: Copy, D: Register<T>, const LAST: bool> Cells for InRegisters<'_, T, D, 
     /// of 8 by 8 items would go through memory, except for items of 1 and of 2 bytes.
     #[inline(always)]
     fn has_blocks(&self, side: usize) -> bool {
-        let is_small = side == 4 || side == 8 && (D::side() == 8 || cfg!(not(target_arch = "x86_64")));
-        1 < D::side() && D::side() <= side && is_small
+        let is_small = side == 4 || side == 8 && const { D::SIDE == 8 || cfg!(not(target_arch = "x86_64")) };
+        1 < D::SIDE && D::SIDE <= side && is_small
     }
 
     #[cfg_attr(debug_assertions, inline(never))]
     #[cfg_attr(not(debug_assertions), inline(always))]
     fn put_block<R: Source<Item = T>>(&mut self, source: &R, block: Block) {
         let Block { rows, cols, .. } = block;
-        let side = D::side();
-        // Whether the list has `side` items of each row, from the block's first column on.
-        let inside = |len| cols == rows || cols == 1 && block.from + (rows - 1) * block.width + side <= len;
+        // Whether the list has `D::SIDE` items of each row, from the block's first column on.
+        let inside = |len| cols == rows || cols == 1 && block.from + (rows - 1) * block.width + D::SIDE <= len;
         match source.as_slice() {
             // These items are only read: the functions of `squares` have a shared reference to them.
             Some(items) if LAST && self.may_last(block) && inside(items.len()) => {
                 let items = SliceItems::of(items.as_ptr().cast_mut(), items.len());
                 squares::line_blocks::put_by_lines::<T, D, _, _>(&mut self.items, &items, block);
             }
-            Some(items) if cols == rows && self.has_blocks(rows) => {
+            Some(items) if const { D::SIDE > 1 } && cols == rows && self.has_blocks(rows) => {
                 let items = SliceItems::of(items.as_ptr().cast_mut(), items.len());
                 squares::put_by_squares::<T, D, _, _>(&mut self.items, &items, block);
             }

@@ -61,10 +61,7 @@ macro_rules! registers {
         impl registers::Register<Bytes<$bytes>> for Items<$bytes> {
             type Half = Half;
 
-            #[inline(always)]
-            fn side() -> usize {
-                size_of::<Half>() / $bytes
-            }
+            const SIDE: usize = size_of::<Half>() / $bytes;
 
             $(#[inline(always)]
             #[allow(unused)] // Without `USES_REGISTERS`, nothing is shuffled.
@@ -100,6 +97,8 @@ macro_rules! registers {
                 (first, second)
             }
         }
+
+        impl registers::Paired<Bytes<$bytes>> for Items<$bytes> {}
     )*};
 }
 

@@ -17,7 +17,7 @@ use super::registers::{self, Items};
 use super::{SliceCells, SlicePlaces, SliceSource};
 use crate::kernels::places::{Block, Cells, Places, Source};
 #[cfg(not(feature = "checked"))]
-use crate::kernels::registers::{Pair, Register, Single, Two};
+use crate::kernels::registers::{Pair, Paired, Register, Single, Two};
 use crate::kernels::transpose::{Matrix, Order, Strips, transpose_matrix, transpose_square};
 
 /// Makes the holder of a list that is tested.
@@ -50,9 +50,7 @@ where
 {
     type Half = <Items<N> as Register<Bytes<N>>>::Half;
 
-    fn side() -> usize {
-        Items::<N>::side()
-    }
+    const SIDE: usize = Items::<N>::SIDE;
 
     fn low(self, other: Self) -> Self {
         Of(self.0.low(other.0))
@@ -70,6 +68,9 @@ where
         self.0.halves()
     }
 }
+
+#[cfg(not(feature = "checked"))]
+impl<T, const N: usize> Paired<T> for Of<N> where Items<N>: Register<Bytes<N>> {}
 
 /// A register that is an item of 16 bytes, of any type of this size.
 #[cfg(not(feature = "checked"))]
@@ -554,11 +555,11 @@ fn blocks_of_parts() {
 fn shuffles() {
     use super::USES_REGISTERS;
     use super::holders::SliceItems;
-    use crate::kernels::registers::{Pair, Register, Runs};
+    use crate::kernels::registers::{Pair, Paired, Register, Runs};
 
     fn compare<const N: usize>()
     where
-        Of<N>: Register<[u8; N]>,
+        Of<N>: Paired<[u8; N]>,
     {
         let lists: [Vec<[u8; N]>; 2] = [0, 16].map(|first| {
             (0..16 / N)
@@ -702,7 +703,7 @@ mod refused {
 
         fn check<T: Copy + Default, D: Register<T>>() {
             let len = size_of::<D::Half>() / size_of::<T>();
-            assert_eq!(D::side(), len);
+            assert_eq!(D::SIDE, len);
             let mut list = [T::default(); 40];
             let mut places = SlicePlaces::new(&mut list[..20]);
             let first = Runs::<T, D>::load(&places, 0);
@@ -722,6 +723,7 @@ mod refused {
         check::<u16, Pair<Of<2>>>();
         check::<u32, Pair<Of<4>>>();
         check::<u64, Pair<Of<8>>>();
+        check::<u128, Two<Whole>>();
     }
 
     /// A store past the caches has to be inside the list, and aligned to 16 bytes.

@@ -12,7 +12,7 @@ ghost use Rattle.p3_util_kernels.specs.Exchanged.{IsTile, TileTurned};
 
 use crate::places::{Block, Places};
 use crate::registers::line_blocks::put_by_lines;
-use crate::registers::{Pair, Register, Runs, exchange_tiles, put_by_squares, turn_tile};
+use crate::registers::{Pair, Paired, Register, Runs, exchange_tiles, put_by_squares, turn_tile};
 
 /// A register of two items.
 #[derive(Clone, Copy)]
@@ -25,11 +25,9 @@ impl<T: Copy> Register<T> for Duo<T> {
 
     ghost half_items = { λ t. t ∷ [] };
 
-    ghost half = { 1 };
+    const SIDE: usize = 1;
 
-    fn side() -> usize {
-        1
-    }
+    ghost SIDE = { 1 };
 
     fn low(self, other: Self) -> Self {
         Duo(self.0, other.0)
@@ -48,6 +46,10 @@ impl<T: Copy> Register<T> for Duo<T> {
     }
 
     ghost full = { λ d. refl };
+}
+
+impl<T: Copy> Paired<T> for Duo<T> {
+    ghost few = { Prim.search rules };
 }
 
 /// A borrowed list of fewer than 2^63 items. Each run within it may be touched. `store_last` may write those that

@@ -17,10 +17,10 @@ store-requires-clause-apart g c a b h k =
 pub store-requires-2-clause-apart : goal.store-requires-2-clause-apart
 store-requires-2-clause-apart g c =
     AreApart-rows 8 _ (inr refl) c.requires.some_side (omega (arith, c.requires.below)) (λ s. c.args.row) c.args.x (replicate 8 c.args.row) _ (λ j h. c.requires.below)
-    (λ j h. get_or-replicate 8 j c.args.row 0 h) (rw c.side.ensures at c.in_rows-in_x.ensures) c.requires.tiles.first_apart
+    (λ j h. get_or-replicate 8 j c.args.row 0 h) (rw c.SIDE.ensures at c.in_rows-in_x.ensures) c.requires.tiles.first_apart
 
 pub returns-clause-exchanged : goal.returns-clause-exchanged
 returns-clause-exchanged g c =
-    RowsExchanged-band _ _ _ c.requires.tiles g.D.Register.half _ (replicate 8 c.args.row) _ _ (items_of_four g.D.Register.items c.load_columns-to_x.result) (items_of_four g.D.Register.items c.load_columns-to_y.result)
-    _ _ _ c.requires.some_side c.requires.below (λ j h. get_or-replicate 8 j c.args.row 0 h) (rw c.side.ensures at c.in_rows-in_x.ensures) c.in_columns-in_y.ensures
+    RowsExchanged-band _ _ _ c.requires.tiles g.D.Register.SIDE _ (replicate 8 c.args.row) _ _ (items_of_four g.D.Register.items c.load_columns-to_x.result) (items_of_four g.D.Register.items c.load_columns-to_y.result)
+    _ _ _ c.requires.some_side c.requires.below (λ j h. get_or-replicate 8 j c.args.row 0 h) (rw c.SIDE.ensures at c.in_rows-in_x.ensures) c.in_columns-in_y.ensures
     c.load_columns-to_y.ensures c.load_columns-to_x.ensures c.store.ensures.stored c.store-2.ensures.stored

@@ -20,15 +20,15 @@ load_columns-requires-clause-reached g c =
 pub store-requires-clause-reached : goal.store-requires-clause-reached
 store-requires-clause-reached g c =
     AreReached-block_to _ c.args.block c.args.col _ _ c.requires.some_side c.requires.known c.requires.below c.requires.square c.requires.block _ _ (replicate 8 c.args.col) (λ j h. get_or-replicate 8 j c.args.col 0 h)
-    c.starts.ensures.are c.starts-2.ensures.are _ (rw c.side.ensures at c.in_rows-to.ensures) (g.M.Runs.may (g.M.Runs.reach c.args.cells.now)) c.requires.writes
+    c.starts.ensures.are c.starts-2.ensures.are _ (rw c.SIDE.ensures at c.in_rows-to.ensures) (g.M.Runs.may (g.M.Runs.reach c.args.cells.now)) c.requires.writes
 
 pub store-requires-clause-apart : goal.store-requires-clause-apart
 store-requires-clause-apart g c =
     AreApart-block_to _ c.args.block c.args.col _ _ c.requires.some_side c.requires.known c.requires.below c.requires.square c.requires.block _ _ (replicate 8 c.args.col) (λ j h. get_or-replicate 8 j c.args.col 0 h)
-    c.starts.ensures.are c.starts-2.ensures.are _ (rw c.side.ensures at c.in_rows-to.ensures)
+    c.starts.ensures.are c.starts-2.ensures.are _ (rw c.SIDE.ensures at c.in_rows-to.ensures)
 
 pub returns-clause-put : goal.returns-clause-put
 returns-clause-put g c =
     ColumnsPut-step _ c.args.block c.args.col _ _ c.requires.some_side c.requires.known c.requires.below c.requires.square c.requires.block _ _ (replicate 8 c.args.col) (λ j h. get_or-replicate 8 j c.args.col 0 h)
-    c.starts.ensures.are c.starts-2.ensures.are _ (rw c.side.ensures at c.in_rows-to.ensures)
+    c.starts.ensures.are c.starts-2.ensures.are _ (rw c.SIDE.ensures at c.in_rows-to.ensures)
     _ (items_of_four g.D.Register.items c.load_columns.result) _ _ _ c.in_columns-from.ensures c.load_columns.ensures c.store.ensures.stored

@@ -15,23 +15,23 @@ starts-to-requires-clause-fits g c r h = omega (arith, c.requires.cells_fit, c.r
 pub store_columns-requires-clause-apart : goal.store_columns-requires-clause-apart
 store_columns-requires-clause-apart g c =
     AreApart-block_to _ c.args.block c.args.col _ _ c.requires.some_side c.requires.known (omega (arith, c.requires.below)) c.requires.square c.requires.block _ _ (replicate 8 c.args.col)
-    (λ j h. get_or-replicate 8 j c.args.col 0 h) c.starts-from.ensures.are c.starts-to.ensures.are _ (rw c.side-side.ensures at c.in_rows.ensures)
+    (λ j h. get_or-replicate 8 j c.args.col 0 h) c.starts-from.ensures.are c.starts-to.ensures.are _ (rw c.SIDE-side.ensures at c.in_rows.ensures)
 
 pub store_columns-requires-2-clause-apart : goal.store_columns-requires-2-clause-apart
 store_columns-requires-2-clause-apart g c =
-    let next = c.args.col + c.side-side.result in
-    AreApart-block_to _ c.args.block next _ _ c.requires.some_side c.requires.known (omega (arith, c.side-side.ensures, c.requires.below)) c.requires.square c.requires.block _ _ (replicate 8 next)
-    (λ j h. get_or-replicate 8 j next 0 h) c.starts-from.ensures.are c.starts-to.ensures.are _ (rw c.side-side.ensures at c.in_rows-2.ensures)
+    let next = c.args.col + c.SIDE-side.result in
+    AreApart-block_to _ c.args.block next _ _ c.requires.some_side c.requires.known (omega (arith, c.SIDE-side.ensures, c.requires.below)) c.requires.square c.requires.block _ _ (replicate 8 next)
+    (λ j h. get_or-replicate 8 j next 0 h) c.starts-from.ensures.are c.starts-to.ensures.are _ (rw c.SIDE-side.ensures at c.in_rows-2.ensures)
 
 pub returns-clause-put : goal.returns-clause-put
 returns-clause-put g c =
-    let next = c.args.col + c.side-side.result in
+    let next = c.args.col + c.SIDE-side.result in
     let left = ColumnsPut-step _ c.args.block c.args.col _ _ c.requires.some_side c.requires.known (omega (arith, c.requires.below)) c.requires.square c.requires.block _ _ (replicate 8 c.args.col)
-    (λ j h. get_or-replicate 8 j c.args.col 0 h) c.starts-from.ensures.are c.starts-to.ensures.are _ (rw c.side-side.ensures at c.in_rows.ensures)
+    (λ j h. get_or-replicate 8 j c.args.col 0 h) c.starts-from.ensures.are c.starts-to.ensures.are _ (rw c.SIDE-side.ensures at c.in_rows.ensures)
     _ (items_of_four g.D.Register.items c.load_columns-left.result) _ _ _ c.in_columns.ensures c.load_columns-left.ensures c.store_columns.ensures.stored in
-    let right = ColumnsPut-step _ c.args.block next _ _ c.requires.some_side c.requires.known (omega (arith, c.side-side.ensures, c.requires.below)) c.requires.square c.requires.block _ _ (replicate 8 next)
-    (λ j h. get_or-replicate 8 j next 0 h) c.starts-from.ensures.are c.starts-to.ensures.are _ (rw c.side-side.ensures at c.in_rows-2.ensures)
+    let right = ColumnsPut-step _ c.args.block next _ _ c.requires.some_side c.requires.known (omega (arith, c.SIDE-side.ensures, c.requires.below)) c.requires.square c.requires.block _ _ (replicate 8 next)
+    (λ j h. get_or-replicate 8 j next 0 h) c.starts-from.ensures.are c.starts-to.ensures.are _ (rw c.SIDE-side.ensures at c.in_rows-2.ensures)
     _ (items_of_four g.D.Register.items c.load_columns-right.result) _ _ _ c.in_columns-2.ensures c.load_columns-right.ensures c.store_columns-2.ensures.stored in
-    let middle : c.args.col + g.D.Register.half ≡ next = omega (arith, c.side-side.ensures) in
-    let end : next + g.D.Register.half ≡ c.args.col + 2 * g.D.Register.half = omega (arith, c.side-side.ensures) in
-    ColumnsPut-joined c.args.block _ _ c.requires.block c.args.col next (c.args.col + 2 * g.D.Register.half) _ _ _ _ (omega arith) (omega arith) (rw middle at left) (rw end at right)
+    let middle : c.args.col + g.D.Register.SIDE ≡ next = omega (arith, c.SIDE-side.ensures) in
+    let end : next + g.D.Register.SIDE ≡ c.args.col + 2 * g.D.Register.SIDE = omega (arith, c.SIDE-side.ensures) in
+    ColumnsPut-joined c.args.block _ _ c.requires.block c.args.col next (c.args.col + 2 * g.D.Register.SIDE) _ _ _ _ (omega arith) (omega arith) (rw middle at left) (rw end at right)

@@ -8,7 +8,7 @@ pub returns-then-side-eq4-clause-stored : goal.returns-then-side-eq4-clause-stor
 returns-then-side-eq4-clause-stored g c =
     let count : c.args.count ≡ 8 = grind (arith, c.requires.known, c.requires.squares, c.if-side-eq4.true) in
     let apart = rw count at c.requires.apart in
-    let more = AreRunsStored-more 8 g.D.Register.half c.args.to apart by_fours by_twos (λ i h. omega arith) (λ i h. omega arith) (items_of_four g.D.Register.items c.args.four) in
+    let more = AreRunsStored-more 8 g.D.Register.SIDE c.args.to apart by_fours by_twos (λ i h. omega arith) (λ i h. omega arith) (items_of_four g.D.Register.items c.args.four) in
     rw count
     (AreStored-runs 8 _ _ apart by_fours by_twos (λ i h. omega arith) (λ i h. omega arith) _ _ _ (λ i h. omega arith) (λ i h. omega arith)
     (more 7 _ _ _ _ (omega arith) (second_half _ _ _ c.halves-d.ensures.second)
@@ -25,7 +25,7 @@ pub returns-then-count-eq4-clause-stored : goal.returns-then-count-eq4-clause-st
 returns-then-count-eq4-clause-stored g c =
     let count : c.args.count ≡ 4 = c.if-count-eq4.true in
     let apart = rw count at c.requires.apart in
-    let more = AreRunsStored-more 4 g.D.Register.half c.args.to apart by_twos_of_four by_twos_of_four (λ i h. omega arith) (λ i h. omega arith) (items_of_four g.D.Register.items c.args.four) in
+    let more = AreRunsStored-more 4 g.D.Register.SIDE c.args.to apart by_twos_of_four by_twos_of_four (λ i h. omega arith) (λ i h. omega arith) (items_of_four g.D.Register.items c.args.four) in
     rw count
     (AreStored-runs 4 _ _ apart by_twos_of_four by_twos_of_four (λ i h. omega arith) (λ i h. omega arith) _ _ _ (λ i h. omega arith) (λ i h. omega arith)
     (more 3 _ _ _ _ (omega arith) (second_half _ _ _ c.halves-b.ensures.second)
@@ -38,7 +38,7 @@ pub returns-clause-stored : goal.returns-clause-stored
 returns-clause-stored g c =
     let count : c.args.count ≡ 8 = grind (arith, c.requires.known, c.if-count-eq4.false) in
     let apart = rw count at c.requires.apart in
-    let more = AreRunsStored-more 8 g.D.Register.half c.args.to apart by_twos by_fours (λ i h. omega arith) (λ i h. omega arith) (items_of_four g.D.Register.items c.args.four) in
+    let more = AreRunsStored-more 8 g.D.Register.SIDE c.args.to apart by_twos by_fours (λ i h. omega arith) (λ i h. omega arith) (items_of_four g.D.Register.items c.args.four) in
     rw count
     (AreStored-runs 8 _ _ apart by_twos by_fours (λ i h. omega arith) (λ i h. omega arith) _ _ _ (λ i h. omega arith) (λ i h. omega arith)
     (more 7 _ _ _ _ (omega arith) (second_half _ _ _ c.halves-d.ensures.second)

@@ -28,7 +28,7 @@ returns-else-block-gt1-clause-put g c =
 
 pub put_one_line-requires-clause-room : goal.put_one_line-requires-clause-room
 put_one_line-requires-clause-room g c =
-    let more : 1 ≤ g.D.Register.half = elim c.requires.some_side [ inl one ↦ omega (arith, one) | inr many ↦ omega (arith, some many) ] in
+    let more : 1 ≤ g.D.Register.SIDE = elim c.requires.some_side [ inl one ↦ omega (arith, one) | inr many ↦ omega (arith, some many) ] in
     omega (arith, more, c.requires.lines, c.requires.block.room (c.args.block.rows - 1) 0 (omega (arith, more, c.requires.lines)) (omega (arith, c.if-block-eq1.true)))
 
 pub returns-then-block-eq1-clause-put : goal.returns-then-block-eq1-clause-put
@@ -36,9 +36,9 @@ returns-then-block-eq1-clause-put g c = IsBlockPut-whole c.args.block _ _ _ c.pu
 
 pub returns-clause-put : goal.returns-clause-put
 returns-clause-put g c =
-    let side = c.side-side.result in
-    let half = g.D.Register.half in
-    let is = c.side-side.ensures in
+    let side = c.SIDE-side.result in
+    let half = g.D.Register.SIDE in
+    let is = c.SIDE-side.ensures in
     let square : c.args.block.cols ≡ 4 * side = elim c.requires.cols [ inl one ↦ absurd (c.if-block-eq1.false one) | inr all ↦ omega (arith, all, c.requires.lines, is) ] in
     let one : 0 + half ≡ side = omega (arith, is) in
     let two : side + half ≡ 2 * side = omega (arith, is) in

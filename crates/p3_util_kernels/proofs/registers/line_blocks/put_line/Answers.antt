@@ -12,7 +12,7 @@ overflow_add-to g c = omega (arith, c.requires.list_fits, c.requires.room 0 (ome
 pub returns-clause-stored : goal.returns-clause-stored
 returns-clause-stored g c =
     rw c.requires.line
-    (IsRunStored-two g.D.Register.half _ _ _ _ _ _ (g.met.D.Register.full c.args.a) (rw c.side-side.ensures at c.store_two_last.ensures.stored) (rw c.side-side.ensures at c.store_two_last-2.ensures.stored))
+    (IsRunStored-two g.D.Register.SIDE _ _ _ _ _ _ (g.met.D.Register.full c.args.a) (rw c.SIDE-side.ensures at c.store_two_last.ensures.stored) (rw c.SIDE-side.ensures at c.store_two_last-2.ensures.stored))
 
 -- edit 0
 -- edit 1
