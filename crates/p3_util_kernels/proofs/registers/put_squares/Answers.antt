@@ -3,7 +3,7 @@ use Rattle.std.proofs.Common.{arith}
 use Rattle.std.proofs.Math.ListN.{replicate}
 use Rattle.std.proofs.lemmas.List.{get_or-replicate}
 use Rattle.p3_util_kernels.specs.Registers.{items_of_four}
-use Rattle.p3_util_kernels.proofs.RegistersBlocks.{AreReached-block_from, AreReached-block_to, AreApart-block_to, ColumnsPut-step}
+use Rattle.p3_util_kernels.proofs.RegistersBlocks.{AreReached-block_to, AreApart-block_to, ColumnsPut-step}
 use Rattle.p3_util_kernels.proofs.registers.put_squares.Goals as goal
 
 pub starts-requires-clause-fits : goal.starts-requires-clause-fits
@@ -11,11 +11,6 @@ starts-requires-clause-fits g c r h = omega (arith, c.requires.source_fits, c.re
 
 pub starts-requires-2-clause-fits : goal.starts-requires-2-clause-fits
 starts-requires-2-clause-fits g c r h = omega (arith, c.requires.cells_fit, c.requires.block.room c.args.col r (omega arith) (omega (arith, c.requires.square)))
-
-pub load_columns-requires-clause-reached : goal.load_columns-requires-clause-reached
-load_columns-requires-clause-reached g c =
-    AreReached-block_from _ c.args.block c.args.col _ _ c.requires.some_side c.requires.known c.requires.below c.requires.square c.requires.block _ _ (replicate 8 c.args.col) (λ j h. get_or-replicate 8 j c.args.col 0 h)
-    c.starts.ensures.are c.starts-2.ensures.are (g.S.Runs.may (g.S.Runs.reach c.args.source.now)) c.requires.reads _ c.in_columns-from.ensures
 
 pub store-requires-clause-reached : goal.store-requires-clause-reached
 store-requires-clause-reached g c =

@@ -4,11 +4,6 @@ use Rattle.p3_util_kernels.specs.Registers.{items_of_four}
 use Rattle.p3_util_kernels.proofs.RegistersLines.{AreLines-stages}
 use Rattle.p3_util_kernels.proofs.registers.line_blocks.load_lines.Goals as goal
 
-pub load-one-requires : goal.load-one-requires
-load-one-requires g c j h =
-    let same : j % 8 ≡ j = omega arith in
-    rw (rw same at (c.starts.ensures.are j h)) (c.requires.reached j h)
-
 pub returns : goal.returns
 returns g c =
     AreLines-stages c.args.from c.args.width c.starts.result _ (items_of_four g.D.Register.items c.load-one.result) (items_of_four g.D.Register.items c.next_stage-two.result)

@@ -1,9 +1,8 @@
 -- The columns of the block are put from the first to the last.
-use Rattle.std.proofs.Common.{◌≡◌, ℕ, ◌+◌, ◌-◌, ◌*◌, ◌≤◌, List, inl, inr, arith}
+use Rattle.std.proofs.Common.{◌≡◌, ℕ, ◌+◌, ◌*◌, List, inl, inr, arith}
 use Rattle.p3_util_kernels.specs.declared.places.Block.{Block}
 use Rattle.p3_util_kernels.specs.Registers.{ColumnsPut}
 use Rattle.p3_util_kernels.proofs.RegistersBlocks.{ColumnsPut-joined, IsBlockPut-whole}
-use Rattle.p3_util_kernels.proofs.RegistersLines.{some}
 use Rattle.p3_util_kernels.proofs.registers.line_blocks.put_by_lines.Goals as goal
 
 -- the same columns
@@ -25,11 +24,6 @@ pub returns-else-block-gt1-clause-put : goal.returns-else-block-gt1-clause-put
 returns-else-block-gt1-clause-put g c =
     let alone : c.args.block.cols ≡ 1 = elim c.requires.cols [ inl one ↦ one | inr all ↦ absurd (omega (arith, all, c.requires.lines)) ] in
     IsBlockPut-whole c.args.block _ _ _ (to_end 0 1 _ c.args.block _ _ _ alone c.put_four.ensures.put)
-
-pub put_one_line-requires-clause-room : goal.put_one_line-requires-clause-room
-put_one_line-requires-clause-room g c =
-    let more : 1 ≤ g.D.Register.SIDE = elim c.requires.some_side [ inl one ↦ omega (arith, one) | inr many ↦ omega (arith, some many) ] in
-    omega (arith, more, c.requires.lines, c.requires.block.room (c.args.block.rows - 1) 0 (omega (arith, more, c.requires.lines)) (omega (arith, c.if-block-eq1.true)))
 
 pub returns-then-block-eq1-clause-put : goal.returns-then-block-eq1-clause-put
 returns-then-block-eq1-clause-put g c = IsBlockPut-whole c.args.block _ _ _ c.put_one_line.ensures.put

@@ -1,13 +1,6 @@
 -- The runs of both registers follow each other.
-use Rattle.std.proofs.Common.{arith}
 use Rattle.p3_util_kernels.proofs.RegistersLines.{IsRunStored-two}
 use Rattle.p3_util_kernels.proofs.registers.line_blocks.put_line.Goals as goal
-
-pub overflow_mul-to : goal.overflow_mul-to
-overflow_mul-to g c = omega (arith, c.requires.list_fits, c.requires.room 0 (omega arith))
-
-pub overflow_add-to : goal.overflow_add-to
-overflow_add-to g c = omega (arith, c.requires.list_fits, c.requires.room 0 (omega arith))
 
 pub returns-clause-stored : goal.returns-clause-stored
 returns-clause-stored g c =

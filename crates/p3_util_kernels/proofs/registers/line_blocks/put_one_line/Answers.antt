@@ -4,29 +4,10 @@ use Rattle.p3_util_kernels.specs.Registers.{items_of_four}
 use Rattle.p3_util_kernels.proofs.RegistersLines.{ColumnsPut-of_8, ColumnsPut-of_16, other, some}
 use Rattle.p3_util_kernels.proofs.registers.line_blocks.put_one_line.Goals as goal
 
-pub load_lines-top-requires-clause-inside : goal.load_lines-top-requires-clause-inside
-load_lines-top-requires-clause-inside g c r h =
-    omega (arith, c.requires.inside r (omega (arith, c.requires.lines, some c.requires.some_side)))
-
 pub load_lines-top-requires-clause-reached : goal.load_lines-top-requires-clause-reached
 load_lines-top-requires-clause-reached g c r h =
     let at : c.args.block.from + r * c.args.block.width + 0 ≡ c.args.block.from + r * c.args.block.width = omega arith in
     rw at at (c.requires.reads r 0 (omega (arith, c.requires.lines, some c.requires.some_side)) (inl refl))
-
-pub overflow_mul-block : goal.overflow_mul-block
-overflow_mul-block g c =
-    let half = other c.requires.some_side c.SIDE-side.ensures c.if-side-eq2.false in
-    omega (arith, c.requires.source_fits, c.requires.inside 8 (omega (arith, half, c.requires.lines)))
-
-pub overflow_add-block : goal.overflow_add-block
-overflow_add-block g c =
-    let half = other c.requires.some_side c.SIDE-side.ensures c.if-side-eq2.false in
-    omega (arith, c.requires.source_fits, c.requires.inside 8 (omega (arith, half, c.requires.lines)))
-
-pub load_lines-bottom-requires-clause-inside : goal.load_lines-bottom-requires-clause-inside
-load_lines-bottom-requires-clause-inside g c r h =
-    let half = other c.requires.some_side c.SIDE-side.ensures c.if-side-eq2.false in
-    omega (arith, c.requires.inside (8 + r) (omega (arith, half, c.requires.lines)))
 
 pub load_lines-bottom-requires-clause-reached : goal.load_lines-bottom-requires-clause-reached
 load_lines-bottom-requires-clause-reached g c r h =
