@@ -16,7 +16,8 @@
 //! |---|---|---|
 //! | 1 or 2 bytes | high, by blocks of 8 by 8 | a register holds one or two rows of such a block |
 //! | 4 bytes | high, by blocks of 4 by 4. On aarch64, by blocks of 8 by 8 | a register holds a row of 4. See `SIDE` |
-//! | 8 bytes, on x86-64 up to 32768 items: `BLOCKS_LONG_ITEMS` | the same | on x86-64, in a larger matrix the blocks gain nothing |
+//! | 8 bytes, on x86-64 up to 32768 items: `BLOCKS_LONG_ITEMS` | the same | on x86-64, in most larger matrices the blocks gain nothing |
+//! | 8 bytes, up to 262144 items, if 512 divides the width: `BLOCKS_FAR_ROWS` | the same | the rows begin 4 KiB apart. The lines of a column are in few sets of the cache, and a block uses them up before they are evicted |
 //! | all others | low if 16 divides the width, otherwise high, column after column | see `Strips::by_width` |
 //!
 //! Lines are put on x86-64, and blocks where items are transposed in registers. Elsewhere the lines of the tables that speak
@@ -51,6 +52,9 @@ const LIMITS: [usize; 3] = if cfg!(test) {
 /// On x86-64, a matrix of more items of 8 bytes is not put by blocks in registers.
 const BLOCKS_LONG_ITEMS: usize = 1 << 15;
 
+/// The same, if the distance of two rows is a multiple of 4 KiB.
+const BLOCKS_FAR_ROWS: usize = 1 << 18;
+
 /// On aarch64, which has 32 vector registers, a block of 8 by 8 items of 4 or 8 bytes takes fewer instructions than four
 /// blocks of 4 by 4, and than columns, at every size. On x86-64 it takes more than four blocks of 4 by 4.
 const IS_AARCH64: bool = cfg!(target_arch = "aarch64");
@@ -62,10 +66,15 @@ const SIDE: usize = if cfg!(target_arch = "aarch64") { 8 } else { 4 };
 #[inline(always)]
 pub(super) fn order_of<R>(size: usize, matrix: Matrix<R>, part: Part) -> Order {
     let items = matrix.width * matrix.height;
+    let long_items = if matrix.width % 512 == 0 {
+        BLOCKS_FAR_ROWS
+    } else {
+        BLOCKS_LONG_ITEMS
+    };
     let strips = match size {
         1 | 2 if USES_REGISTERS => Strips::high(8),
         4 if USES_REGISTERS => Strips::high(SIDE),
-        8 if USES_REGISTERS && (IS_AARCH64 || items <= BLOCKS_LONG_ITEMS) => Strips::high(SIDE),
+        8 if USES_REGISTERS && (IS_AARCH64 || items <= long_items) => Strips::high(SIDE),
         _ => Strips::by_width(matrix.width),
     };
     Order::in_strips(strips, items, matches!(part, Part::Whole))

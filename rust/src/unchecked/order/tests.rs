@@ -81,7 +81,14 @@ fn blocks_of_small_items() {
             "{width} by {height}"
         );
     }
-    for (width, height) in [(1, 32_769), (182, 181), (512, 512), (1025, 1024), (262_144, 12)] {
+    for (width, height) in [
+        (1, 32_769),
+        (182, 181),
+        (1025, 1024),
+        (512, 512),
+        (512, 513),
+        (262_144, 12),
+    ] {
         assert_eq!(
             is_in::<u8>(Strips::high(8), width, height),
             turns,
@@ -98,8 +105,8 @@ fn blocks_of_small_items() {
             "{width} by {height}"
         );
         // On aarch64, all matrices of items of 8 bytes are put by blocks.
-        let by_shape = !(IS_AARCH64 && turns);
-        assert_eq!(is_by_shape::<u64>(width, height), by_shape, "{width} by {height}");
+        let by_blocks = turns && (IS_AARCH64 || (width, height) == (512, 512));
+        assert_eq!(is_by_shape::<u64>(width, height), !by_blocks, "{width} by {height}");
     }
 }
 
