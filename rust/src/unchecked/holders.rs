@@ -339,7 +339,7 @@ impl<T: Copy, D: Register<T>, const LAST: bool> Cells for InRegisters<'_, T, D, 
                 let items = SliceItems::of(items.as_ptr().cast_mut(), items.len());
                 squares::line_blocks::put_by_lines::<T, D, _, _>(&mut self.items, &items, block);
             }
-            Some(items) if const { D::SIDE > 1 } && cols == rows && self.has_blocks(rows) => {
+            Some(items) if const { D::SIDE > 1 } && cols == rows && Self::has_blocks(self, rows) => {
                 let items = SliceItems::of(items.as_ptr().cast_mut(), items.len());
                 squares::put_by_squares::<T, D, _, _>(&mut self.items, &items, block);
             }
