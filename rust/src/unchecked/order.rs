@@ -17,7 +17,7 @@
 //! | 1 or 2 bytes | high, by blocks of 8 by 8 | a register holds one or two rows of such a block |
 //! | 4 bytes | high, by blocks of 4 by 4. On aarch64, by blocks of 8 by 8 | a register holds a row of 4. See `SIDE` |
 //! | 8 bytes, on x86-64 up to 32768 items: `BLOCKS_LONG_ITEMS` | the same | on x86-64, in most larger matrices the blocks gain nothing |
-//! | 8 bytes, up to 262144 items, if 512 divides the width: `BLOCKS_FAR_ROWS` | the same | the rows begin 4 KiB apart. The lines of a column are in few sets of the cache, and a block uses them up before they are evicted |
+//! | 8 bytes, up to 262144 items, if 512 divides the width: `BLOCKS_FAR_ROWS` | the same | the rows begin a multiple of 4 KiB apart. The lines of a column are in few sets of the cache, and a block uses them up before they are evicted |
 //! | all others | low if 16 divides the width, otherwise high, column after column | see `Strips::by_width` |
 //!
 //! Lines are put on x86-64, and blocks where items are transposed in registers. Elsewhere the lines of the tables that speak
