@@ -138,15 +138,14 @@ fn greatest(vals: &[u64]) -> Option<u64>
 }
 
 /// Reverses the order of rows, and returns the greatest item, which is the greatest one of the list
-/// before. The `?` takes it out of its `Option`, so that the proof knows what holds for it.
+/// before.
 pub fn greatest_after_rows(vals: &mut [u64], width: usize) -> Option<u64>
     requires { FitsRows (length vals.old) width }
     ensures most { IfSome result (λ m. All (λ x. x ≤ m) vals.old) }
     ensures one { IfSome result (λ m. Contains vals.old m) }
 {
     reorder_rows_and_keep(vals, width);
-    let most = greatest(vals)?;
-    Some(most)
+    greatest(vals)
 }
 
 /// Writes the transpose of `input` to `output`. If no two items are equal in `input`, none are in
