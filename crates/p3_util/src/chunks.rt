@@ -89,6 +89,7 @@ impl<T: Copy, const N: usize, I: Iterator<Item = T>> Iterator for ArrayChunksPad
 
     ghost remaining = { padded_left I.remaining };
 
+    #[inline]
     fn next(&mut self) -> Option<[T; N]> {
         if self.done {
             return None;

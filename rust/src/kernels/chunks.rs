@@ -98,6 +98,7 @@ pub struct ArrayChunksPadded<I, T, const N: usize> {
 impl<T: Copy, const N: usize, I: Iterator<Item = T>> Iterator for ArrayChunksPadded<I, T, N> {
     type Item = [T; N];
 
+    #[inline]
     fn next(&mut self) -> Option<[T; N]> {
         if self.done {
             return None;
