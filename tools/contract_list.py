@@ -31,13 +31,13 @@ HEAD = """\
 # crate can import the same names, by `ghost use`.
 #
 # Written by: python3 tools/contract_list.py"""
-CRATES = ["p3_util_kernels", "p3_util", "p3_util_run", "p3_util_c"]
+CRATES = ["p3_util_kernels", "p3_util_registers", "p3_util_parts", "p3_util", "p3_util_run", "p3_util_c"]
 # No code may rely on these: examples and tests.
 EXAMPLES = {"p3_util_callers", "p3_util_transform", "p3_util_vectors"}
 # In these sources, what only the crate itself sees is listed too.
-PARTS = r"crates/p3_util_kernels/src/parts\b"
-# In this crate, that which these files of the package name is listed too. They are written by hand, and trust its clauses.
-KERNELS, BY_HAND = "crates/p3_util_kernels/", ("rust/src/*.rs", "rust/src/unchecked/*.rs")
+PARTS = r"crates/p3_util_parts/"
+# In these crates, that which these files of the package name is listed too. They are written by hand, and trust its clauses.
+KERNELS, BY_HAND = ("crates/p3_util_kernels/", "crates/p3_util_registers/"), ("rust/src/*.rs", "rust/src/unchecked/*.rs")
 # A file with this name, in a crate's proofs/, names the crate's lemmas for callers.
 LEMMAS = "Callers.antt"
 # The rows of marks and names of std that are too rare for docs/CALLING.md.

@@ -28,7 +28,7 @@ PAGE, READ, READ_ALOUD = "docs/CALLING.md", "How a clause is read", "A contract,
 # Further rows of marks and names of std, which are too rare for that page.
 RARER = "tools/marks.txt"
 # The crates whose definitions the contracts of the package use.
-CRATES = ["p3_util_kernels", "p3_util"]
+CRATES = ["p3_util_kernels", "p3_util_registers", "p3_util_parts", "p3_util"]
 # The definition that each holder gives for itself, and the file in which the comments on its traits explain it.
 OF_HOLDERS, TRAITS = "same_holder n a b", "crates/p3_util_kernels/src/places.rt"
 # How the documentation of a contract begins, and what follows for each name that is explained.

@@ -116,7 +116,7 @@ class Source:
         before = max((i for i in self.partner if i < brace and self.text(i) in "{}"), default=0)
         head = self.texts(before, brace)
         if "trait" in head:
-            return ("pub", "(") not in zip(head, head[1:])
+            return ("pub", "(") not in zip(head, head[1:]) and "hidden" not in head
         return "impl" in head and any(a == "for" and b != "<" for a, b in zip(head, head[1:]))
 
 
@@ -148,10 +148,12 @@ class Declaration:
 
 @functools.cache
 def read(path):
-    """The text of a source without its comments and attributes. Each declaration stays in its line."""
+    """The text of a source without its comments and attributes. Each declaration stays in its line. What is
+    `#[doc(hidden)] pub` is there for the sister crates only, and reads as `pub(crate)`."""
     with open(path, encoding="utf-8") as file:
         tokens = list(scanned(file.read(), path))
     text = "".join(blank(token.gap) + (blank(token.text) if token.kind == "doc" else token.text) for token in tokens)
+    text = re.sub(r"^( *#\[doc\(hidden\)\]\n *)pub ", r"\1pub(crate) ", text, flags=re.M)
     return re.sub(r"^ *#!?\[.*\]$| +$", "", text, flags=re.M)
 
 

@@ -87,7 +87,7 @@ mod checked;
 /// | `transpose`, `transpose_counted`, `transpose_source_counted`, `transpose_on`, `transpose_source_on` | `fits_matrix(input_len, len, width, height)` |
 /// | `transpose_region_counted`, `transpose_region_on`, `transpose_source_region_counted`, `transpose_source_region_on` | the same, and `region.fits(width, height)` |
 /// | `transpose_split_on`, `transpose_source_split_on` | the same as for a region; 64 `levels` are always enough |
-/// | `transpose_square_on` | `fits_square(len, base, log_stride, log_size)` |
+/// | `transpose_square_on`, `transpose_square_counted` | `fits_square(len, base, log_stride, log_size)` |
 ///
 /// To reverse a container of your own, implement [`Places`](kernels::places::Places) for it. This call also counts the
 /// swaps:

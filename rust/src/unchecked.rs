@@ -20,7 +20,7 @@
 //! The parts of a call share one list. The holder of a part is a pointer and a length. It makes references to one place
 //! or one run at a time, never to the whole list: see `SliceItems`. Which parts a call has, and what each part does, is
 //! decided by proved code (`kernels/parts.rs`), as the steps of a kernel are. It is proved
-//! (`crates/p3_util_kernels/src/parts/laws.rt`) that two parts have no place in common, and that the steps of all parts,
+//! (`crates/p3_util_parts/src/parts/laws.rt`) that two parts have no place in common, and that the steps of all parts,
 //! interleaved in any way, have the effect of the call. The section "Threads" of the package's README says exactly what
 //! is proved, and what is checked by review.
 
@@ -91,7 +91,8 @@ pub(crate) fn transpose<T: Copy>(input: &[T], output: &mut [T], width: usize, he
             let matrix = Matrix::new(SliceSource::new(input), width, height);
             let cells = SliceCells::new(output);
             match order::order_of(size_of::<T>(), matrix, Part::Whole) {
-                order @ (Order::Columns | Order::Strips(_)) => dispatch::transpose(order, cells, matrix),
+                Order::Columns if const { size_of::<T>() < by_type::LONG_BYTES } => dispatch::put_few(cells, matrix),
+                Order::Columns | Order::Strips(_) => dispatch::transpose(cells, matrix),
                 _ => dispatch::put(Part::Whole, cells, matrix),
             }
         }

@@ -12,12 +12,12 @@ ghost use Rattle.p3_util.specs.SwapCounts.{square_swaps};
 ghost use Rattle.p3_util.specs.Transpose.{IsTranspose};
 
 use p3_util::bits::log2_ceil_usize;
-use p3_util::places::{Cells, Places, SliceCells, Source, Swaps, Writes};
+use p3_util::places::{Cells, Places, SliceCells, SlicePlaces, Source, Swaps, Writes};
 use p3_util::reverse::reverse_slice_row_index_bits;
 use p3_util::transpose::{
     Region, butterfly_stage1, butterfly_stage2, fits_matrix, fits_square, transpose,
     transpose_region_counted, transpose_region_on, transpose_source_region_on,
-    transpose_source_split_on, transpose_split_on, transpose_square_on,
+    transpose_source_split_on, transpose_split_on, transpose_square_counted, transpose_square_on,
 };
 use std::alloc::{AllocError, Global};
 
@@ -154,6 +154,7 @@ pub fn transpose_no_rows<T: Copy>(
 }
 
 /// Transposes a whole matrix of `2^log_size` rows of as many items in place.
+#[tactic(auto, using(p3_util::proofs::Callers::whole_square))]
 pub fn transpose_whole_square<S: Places>(m: &mut Swaps<S>, log_size: usize)
     requires fits { length (S.items m.old.holder) ≡ 2 ^ log_size * 2 ^ log_size }
     requires small { log_size < 64 }
@@ -163,6 +164,18 @@ pub fn transpose_whole_square<S: Places>(m: &mut Swaps<S>, log_size: usize)
     ensures holder { S.same_holder (square_swaps (2 ^ log_size)) m.old.holder m.new.holder }
 {
     transpose_square_on(m, 0, log_size, log_size);
+}
+
+/// Transposes a whole matrix of `2^log_size` rows of as many items in a slice, and returns the
+/// number of swaps.
+#[tactic(auto, using(p3_util::proofs::Callers::whole_square))]
+pub fn transpose_slice_square<T>(vals: &mut [T], log_size: usize) -> u128
+    requires fits { length vals.old ≡ 2 ^ log_size * 2 ^ log_size }
+    requires small { log_size < 64 }
+    ensures order { IsTranspose (2 ^ log_size) (2 ^ log_size) vals.old vals.new }
+    ensures count { result ≡ square_swaps (2 ^ log_size) }
+{
+    transpose_square_counted(&mut SlicePlaces::new(vals), 0, log_size, log_size)
 }
 
 /// Transposes the square of `2^log_size` rows and columns at `base` in place and returns `true`, if
@@ -412,14 +425,14 @@ pub fn transposed_copy<T: Copy + Default>(
 }
 
 /// Transposes the columns before `middle`, and those after it. Afterwards the output has what both
-/// calls put, and its row `middle` is as it was.
+/// calls put, and its row `middle` is as it was. Returns the number of writes.
 pub fn transpose_two_regions<C: Cells>(
     input: &[C::Item],
     cells: &mut C,
     width: usize,
     height: usize,
     middle: usize,
-)
+) -> u128
     requires input_fits { length input.now ≡ width * height }
     requires output_fits { length (C.items cells.old) ≡ width * height }
     requires inside { middle < width }
@@ -430,6 +443,7 @@ pub fn transpose_two_regions<C: Cells>(
         ≡ slice_get (C.items cells.old) (middle * height + y) }
     ensures last { (x y : ℕ) → middle < x → x < width → y < height
         → slice_get (C.items cells.new) (x * height + y) ≡ slice_get input.now (y * width + x) }
+    ensures holder { C.same_holder result cells.old cells.new }
 {
     let before = Region {
         row_start: 0,
@@ -443,6 +457,7 @@ pub fn transpose_two_regions<C: Cells>(
         col_start: middle + 1,
         col_end: width,
     };
-    transpose_region_counted(input, cells, before, width, height);
-    transpose_region_counted(input, cells, after, width, height);
+    let first = transpose_region_counted(input, cells, before, width, height);
+    let second = transpose_region_counted(input, cells, after, width, height);
+    first + second
 }

@@ -22,6 +22,13 @@ IsReversal-from_power k old new e same at = record {
       rw (power, from, to) (at r (omega arith));
 }
 
+-- place i of a reversal of 2 ^ k items
+pub reversed_place : {A : Type 0} (k i : ℕ) (old new : List A) → IsReversal old new → length old ≡ 2 ^ k → i < 2 ^ k → slice_get new i ≡ slice_get old (rev k i)
+reversed_place k i old new reversal e h =
+    let from : i * 1 + 0 ≡ i = omega arith in
+    let to : rev k i * 1 + 0 ≡ rev k i = omega arith in
+    rw (from, to) at (reversal.places k i 0 (omega arith) h (omega arith))
+
 -- a list without items is its own reversal
 pub IsRowReversal-none : {A : Type 0} (row_width : ℕ) (old new : List A) → length old ≡ 0 → length new ≡ length old → IsRowReversal row_width old new
 IsRowReversal-none row_width old new none same = record {

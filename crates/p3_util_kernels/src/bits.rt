@@ -106,7 +106,8 @@ pub const fn log2_ceil_u64(n: u64) -> u64
 
 /// 2 to the power of `exponent`.
 #[inline(always)]
-pub(crate) const fn pow2(exponent: usize) -> usize
+#[doc(hidden)]
+pub const fn pow2(exponent: usize) -> usize
     requires { exponent < 64 }
     ensures { result ≡ 2 ^ exponent }
 {

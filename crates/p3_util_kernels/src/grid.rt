@@ -26,7 +26,8 @@ use crate::places::Places;
 use crate::transpose::Region;
 
 /// The number of rows and of columns of a tile.
-pub(crate) const TILE: usize = 8;
+#[doc(hidden)]
+pub const TILE: usize = 8;
 
 /// The greatest number of rows and of columns of a region that is not cut further.
 const LEAF: usize = 64;
@@ -42,7 +43,8 @@ const REVERSED_SIX: [u8; 64] = [
 
 /// A square of `2^digits` rows and columns in a list. Each of its places is a run of `width` items.
 #[derive(Clone, Copy)]
-pub(crate) struct Grid {
+#[doc(hidden)]
+pub struct Grid {
     pub width: usize,
     /// The first place.
     pub base: usize,
@@ -246,7 +248,8 @@ fn exchange_leaf<M: Places>(m: M, grid: Grid, region: Region) -> M
 /// Exchanges a region above the diagonal with its mirror image. A region that is not a leaf is cut
 /// in half at its longer side. The calls nest at most as deep as the sides can be halved until
 /// neither is longer than `LEAF`. The proof that the calls end counts these levels.
-pub(crate) fn exchange_region<M: Places>(m: M, grid: Grid, region: Region) -> M
+#[doc(hidden)]
+pub fn exchange_region<M: Places>(m: M, grid: Grid, region: Region) -> M
     requires rows_in_order { region.row_start ≤ region.row_end }
     requires cols_in_order { region.col_start ≤ region.col_end }
     requires above { region.row_end ≤ region.col_start }
@@ -331,7 +334,8 @@ fn exchange_diagonal_tile<M: Places>(m: M, grid: Grid, start: usize) -> M
 
 /// Does the same as [`exchange_on_diagonal`], by quadrants. The calls nest at most as deep as `size` can
 /// be halved until it is at most 8. The proof that the calls end counts these levels.
-pub(crate) fn exchange_quadrants<M: Places>(m: M, grid: Grid, start: usize, size: usize) -> M
+#[doc(hidden)]
+pub fn exchange_quadrants<M: Places>(m: M, grid: Grid, start: usize, size: usize) -> M
     requires within { start + size ≤ 2 ^ grid.digits }
     requires ready { HoldsGrid grid (M.items m) }
     ensures exchanged { SwapsInGrid grid (square_at start size) (M.items m) (M.items result) }

@@ -4,10 +4,9 @@
 #![tactic(auto)]
 
 pub mod bits;
-pub(crate) mod grid;
+#[doc(hidden)]
+pub mod grid;
 pub mod laws;
-pub(crate) mod parts;
 pub mod places;
-pub(crate) mod registers;
 pub mod reverse;
 pub mod transpose;

@@ -14,8 +14,9 @@
 //! `IsRowReversal`). For the calls that count, the exact number of swaps is proved too. The order
 //! of the swaps is only tested. Which path a call on a slice takes can be seen only in its speed.
 
-ghost use Rattle.std.specs.Prelude.{◌≡◌, ℕ, ◌*◌, ◌/◌, ◌^◌, ◌↔◌, ◌≤◌, IsTrue, length};
+ghost use Rattle.std.specs.Prelude.{◌≡◌, ℕ, ◌+◌, ◌*◌, ◌/◌, ◌^◌, ◌↔◌, ◌<◌, ◌≤◌, IsTrue, length, slice_get};
 ghost use Rattle.p3_util_kernels.specs.Reversal.{FitsRows, IsReversal, IsReversible, IsRowReversal, IsZeroOrPowerOfTwo};
+ghost use Rattle.p3_util_kernels.specs.Digits.{rev};
 ghost use Rattle.p3_util_kernels.specs.Levels.{clog};
 ghost use Rattle.p3_util_kernels.specs.Steps.{counted};
 ghost use Rattle.p3_util_kernels.specs.SwapCounts.{reversal_swaps, row_swaps};
@@ -28,7 +29,9 @@ mod rows;
 use crate::places::{Places, SlicePlaces, Swaps};
 pub use long::reverse_index_bits_long;
 use long::reverse_long;
-pub(crate) use rows::{RowDigits, reverse_rows, reverse_short};
+pub(crate) use rows::reverse_short;
+#[doc(hidden)]
+pub use rows::{RowDigits, reverse_rows};
 pub use rows::{reverse_chunks_on, reverse_index_bits_short, reverse_row_index_bits_on};
 
 /// A call that counts its swaps takes the short path for at most this many items, and the long path
@@ -57,10 +60,13 @@ pub const fn fits_rows(len: usize, row_width: usize) -> bool
 ///
 /// With 2^k items, index `i` gets the item from the index that has the k bits of `i` in reversed
 /// order. A second call restores the original order. No item is cloned or dropped.
+#[tactic(auto, using(crate::proofs::ReversalLemmas::reversed_place))]
 pub fn reverse_slice_index_bits<F>(vals: &mut [F])
     requires { IsReversible (length vals.old) }
     ensures order { IsReversal vals.old vals.new }
     ensures inverse { IsReversal vals.new vals.old }
+    ensures at { (k i : ℕ) → length vals.old ≡ 2 ^ k → i < 2 ^ k
+        → slice_get vals.new i ≡ slice_get vals.old (rev k i) }
 {
     let _ = reverse_items(vals);
 }
@@ -70,12 +76,14 @@ pub fn reverse_slice_index_bits<F>(vals: &mut [F])
 /// With 2^k items, index `i` gets the item from the index that has the k bits of `i` in reversed
 /// order. A list of n items takes at most 3n/2 swaps, which are counted from 0. The length must be
 /// zero or a power of two, which `fits_rows(places.len(), 1)` checks.
-#[tactic(auto, using(crate::proofs::SwapCountsLemmas::reversal_bound))]
+#[tactic(auto, using(crate::proofs::SwapCountsLemmas::reversal_bound, crate::proofs::ReversalLemmas::reversed_place))]
 #[inline(always)]
 pub fn reverse_counted<S: Places>(places: &mut S) -> u128
     requires { IsReversible (length (S.items places.old)) }
     ensures order { IsReversal (S.items places.old) (S.items places.new) }
     ensures inverse { IsReversal (S.items places.new) (S.items places.old) }
+    ensures at { (k i : ℕ) → length (S.items places.old) ≡ 2 ^ k → i < 2 ^ k
+        → slice_get (S.items places.new) i ≡ slice_get (S.items places.old) (rev k i) }
     ensures count { result ≡ reversal_swaps (length (S.items places.old)) }
     ensures bound { result ≤ 3 * length (S.items places.old) / 2 }
     ensures holder { S.same_holder result places.old places.new }
@@ -93,6 +101,8 @@ pub fn reverse_slice_row_index_bits<F>(vals: &mut [F], row_width: usize)
     requires { FitsRows (length vals.old) row_width }
     ensures order { IsRowReversal row_width vals.old vals.new }
     ensures inverse { IsRowReversal row_width vals.new vals.old }
+    ensures at { (k r j : ℕ) → length vals.old ≡ row_width * 2 ^ k → r < 2 ^ k → j < row_width
+        → slice_get vals.new (r * row_width + j) ≡ slice_get vals.old (rev k r * row_width + j) }
 {
     let _ = reverse_rows_of_items(vals, row_width);
 }
@@ -109,6 +119,9 @@ pub fn reverse_rows_counted<S: Places>(places: &mut S, row_width: usize) -> u128
     requires { FitsRows (length (S.items places.old)) row_width }
     ensures order { IsRowReversal row_width (S.items places.old) (S.items places.new) }
     ensures inverse { IsRowReversal row_width (S.items places.new) (S.items places.old) }
+    ensures at { (k r j : ℕ) → length (S.items places.old) ≡ row_width * 2 ^ k → r < 2 ^ k
+        → j < row_width → slice_get (S.items places.new) (r * row_width + j)
+        ≡ slice_get (S.items places.old) (rev k r * row_width + j) }
     ensures count { result ≡ row_swaps (length (S.items places.old)) row_width }
     ensures bound { result ≤ length (S.items places.old) / 2 }
     ensures holder { S.same_holder result places.old places.new }
@@ -122,10 +135,12 @@ pub fn reverse_rows_counted<S: Places>(places: &mut S, row_width: usize) -> u128
 ///
 /// A list of n items takes at most 3n/2 swaps. The length must be zero or a power of two, which
 /// `fits_rows(m.len(), 1)` checks.
-#[tactic(auto, using(crate::proofs::SwapCountsLemmas::reversal_bound))]
+#[tactic(auto, using(crate::proofs::SwapCountsLemmas::reversal_bound, crate::proofs::ReversalLemmas::reversed_place))]
 pub fn reverse_index_bits_on<S: Places>(m: &mut Swaps<S>)
     requires { IsReversible (length (S.items m.old.holder)) }
     ensures order { IsReversal (S.items m.old.holder) (S.items m.new.holder) }
+    ensures at { (k i : ℕ) → length (S.items m.old.holder) ≡ 2 ^ k → i < 2 ^ k
+        → slice_get (S.items m.new.holder) i ≡ slice_get (S.items m.old.holder) (rev k i) }
     ensures count { m.new.count ≡ counted m.old.count
         (reversal_swaps (length (S.items m.old.holder))) }
     ensures bound { let n = length (S.items m.old.holder) in reversal_swaps n ≤ 3 * n / 2 }

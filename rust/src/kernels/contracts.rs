@@ -18,10 +18,13 @@
 //!     requires { IsReversible (length vals.old) }
 //!     ensures order { IsReversal vals.old vals.new }
 //!     ensures inverse { IsReversal vals.new vals.old }
+//!     ensures at { (k i : ℕ) → length vals.old ≡ 2 ^ k → i < 2 ^ k
+//!         → slice_get vals.new i ≡ slice_get vals.old (rev k i) }
 //! ```
 //!
 //! - `requires`: the length is zero or a power of two. The call does not test that.
 //! - `order`: the new list is the old one in the order of reversed index bits. `inverse`: the same call restores the old list.
+//! - `at`: if the old list has 2^k items, item i of the new one is the item at `rev k i` of the old one.
 //!
 //! # Marks, and names of Rust and its std
 //!

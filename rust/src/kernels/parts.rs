@@ -1,4 +1,4 @@
-// rust/erase writes this file from crates/p3_util_kernels/src/parts.rt. Make changes there.
+// rust/erase writes this file from crates/p3_util_parts/src/parts.rt. Make changes there.
 //! Cuts a call into parts, each of which may run on a thread of its own. No thread is started here.
 //!
 //! - A *plan* says how a call is cut: a [`TransposePlan`] for a transpose, and a [`ReversalPlan`]

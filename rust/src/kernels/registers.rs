@@ -1,4 +1,4 @@
-// rust/erase writes this file from crates/p3_util_kernels/src/registers.rt. Make changes there.
+// rust/erase writes this file from crates/p3_util_registers/src/registers.rt. Make changes there.
 //! Squares of items that are transposed in registers, for holders that can read, write and interleave
 //! registers.
 //!
@@ -338,6 +338,53 @@ fn in_rows(x: [usize; 8], side: usize, tops: [usize; 8]) -> [usize; 8] {
     ]
 }
 
+/// The same as [`in_columns`], for the same column in each row.
+///
+/// # Contract
+///
+/// ```text
+/// requires below { top < 8 }
+/// requires fit { (j : ℕ) → j < 8 → slice_index x j + 8 < 2 ^ 64 }
+/// ensures { (c : ℕ) → c < 8 → slice_index result c ≡ slice_index x c + top }
+/// ```
+#[inline(always)]
+fn in_column(x: [usize; 8], top: usize) -> [usize; 8] {
+    [
+        x[0] + top,
+        x[1] + top,
+        x[2] + top,
+        x[3] + top,
+        x[4] + top,
+        x[5] + top,
+        x[6] + top,
+        x[7] + top,
+    ]
+}
+
+/// The same as [`in_rows`], for squares side by side that begin in the same row of a tile.
+///
+/// # Contract
+///
+/// ```text
+/// requires some_side { IsSide side }
+/// requires below { top + side ≤ 8 }
+/// requires fit { (j : ℕ) → j < 8 → slice_index x j + 8 < 2 ^ 64 }
+/// ensures { (c : ℕ) → c < 8 → slice_index result c ≡ slice_index x (top + c % side) + (c - c % side) }
+/// ```
+#[inline(always)]
+fn in_band(x: [usize; 8], side: usize, top: usize) -> [usize; 8] {
+    [
+        row_of_squares(x, side, top, 0),
+        row_of_squares(x, side, top, 1),
+        row_of_squares(x, side, top, 2),
+        row_of_squares(x, side, top, 3),
+        row_of_squares(x, side, top, 4),
+        row_of_squares(x, side, top, 5),
+        row_of_squares(x, side, top, 6),
+        row_of_squares(x, side, top, 7),
+    ]
+}
+
 /// Exchanges `D::SIDE` rows of a tile, from row `row` on, with as many columns of the other.
 ///
 /// # Contract
@@ -359,8 +406,8 @@ fn exchange_band<T, D: Register<T>, M: Runs<T, D>>(
     y: [usize; 8],
     row: usize,
 ) {
-    let in_x = in_rows(x, D::SIDE, [row; 8]);
-    let in_y = in_columns(y, [row; 8]);
+    let in_x = in_band(x, D::SIDE, row);
+    let in_y = in_column(y, row);
     let to_y = load_columns(list, in_x);
     let to_x = load_columns(list, in_y);
     store(list, 8, in_y, to_y);
@@ -552,12 +599,8 @@ fn put_squares<T, D: Register<T>, S: Runs<T, D>, M: Runs<T, D>>(
     block: Block,
     col: usize,
 ) {
-    let from = in_columns(starts(block.from, block.width, block.rows), [col; 8]);
-    let to = in_rows(
-        starts(block.to, block.height, block.rows),
-        D::SIDE,
-        [col; 8],
-    );
+    let from = in_column(starts(block.from, block.width, block.rows), col);
+    let to = in_band(starts(block.to, block.height, block.rows), D::SIDE, col);
     store(cells, block.rows, to, load_columns(source, from));
 }
 
@@ -642,16 +685,11 @@ fn put_twice<T, D: Register<T>, S: Runs<T, D>, M: Runs<T, D>>(
     let side = D::SIDE;
     let from = starts(block.from, block.width, block.rows);
     let to = starts(block.to, block.height, block.rows);
-    let left = load_columns(source, in_columns(from, [col; 8]));
-    let right = load_columns(source, in_columns(from, [col + side; 8]));
-    store_columns(cells, side, block.rows, in_rows(to, side, [col; 8]), left);
-    store_columns(
-        cells,
-        side,
-        block.rows,
-        in_rows(to, side, [col + side; 8]),
-        right,
-    );
+    let next = col + side;
+    let left = load_columns(source, in_column(from, col));
+    let right = load_columns(source, in_column(from, next));
+    store_columns(cells, side, block.rows, in_band(to, side, col), left);
+    store_columns(cells, side, block.rows, in_band(to, side, next), right);
 }
 
 /// Does what `Cells::put_block` does, by squares of `D::SIDE` rows.

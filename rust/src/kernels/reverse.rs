@@ -23,7 +23,8 @@ mod rows;
 use crate::kernels::places::{Places, SlicePlaces, Swaps};
 pub use long::reverse_index_bits_long;
 use long::reverse_long;
-pub(crate) use rows::{RowDigits, reverse_rows, reverse_short};
+pub(crate) use rows::reverse_short;
+pub(crate) use rows::{RowDigits, reverse_rows};
 pub use rows::{reverse_chunks_on, reverse_index_bits_short, reverse_row_index_bits_on};
 
 /// A call that counts its swaps takes the short path for at most this many items, and the long path
@@ -65,12 +66,15 @@ pub const fn fits_rows(len: usize, row_width: usize) -> bool {
 ///
 /// [`contracts`](crate::kernels::contracts) explains how to read this contract, and its names
 /// [`IsReversal`](crate::kernels::contracts#IsReversal),
-/// [`IsReversible`](crate::kernels::contracts#IsReversible).
+/// [`IsReversible`](crate::kernels::contracts#IsReversible),
+/// [`rev`](crate::kernels::contracts#rev).
 ///
 /// ```text
 /// requires { IsReversible (length vals.old) }
 /// ensures order { IsReversal vals.old vals.new }
 /// ensures inverse { IsReversal vals.new vals.old }
+/// ensures at { (k i : ℕ) → length vals.old ≡ 2 ^ k → i < 2 ^ k
+///     → slice_get vals.new i ≡ slice_get vals.old (rev k i) }
 /// ```
 pub fn reverse_slice_index_bits<F>(vals: &mut [F]) {
     let _ = reverse_items(vals);
@@ -87,6 +91,7 @@ pub fn reverse_slice_index_bits<F>(vals: &mut [F]) {
 /// [`contracts`](crate::kernels::contracts) explains how to read this contract, and its names
 /// [`IsReversal`](crate::kernels::contracts#IsReversal),
 /// [`IsReversible`](crate::kernels::contracts#IsReversible),
+/// [`rev`](crate::kernels::contracts#rev),
 /// [`reversal_swaps`](crate::kernels::contracts#reversal_swaps),
 /// [`same_holder`](crate::kernels::contracts#same_holder).
 ///
@@ -94,6 +99,8 @@ pub fn reverse_slice_index_bits<F>(vals: &mut [F]) {
 /// requires { IsReversible (length (S.items places.old)) }
 /// ensures order { IsReversal (S.items places.old) (S.items places.new) }
 /// ensures inverse { IsReversal (S.items places.new) (S.items places.old) }
+/// ensures at { (k i : ℕ) → length (S.items places.old) ≡ 2 ^ k → i < 2 ^ k
+///     → slice_get (S.items places.new) i ≡ slice_get (S.items places.old) (rev k i) }
 /// ensures count { result ≡ reversal_swaps (length (S.items places.old)) }
 /// ensures bound { result ≤ 3 * length (S.items places.old) / 2 }
 /// ensures holder { S.same_holder result places.old places.new }
@@ -114,12 +121,15 @@ pub fn reverse_counted<S: Places>(places: &mut S) -> u128 {
 ///
 /// [`contracts`](crate::kernels::contracts) explains how to read this contract, and its names
 /// [`FitsRows`](crate::kernels::contracts#FitsRows),
-/// [`IsRowReversal`](crate::kernels::contracts#IsRowReversal).
+/// [`IsRowReversal`](crate::kernels::contracts#IsRowReversal),
+/// [`rev`](crate::kernels::contracts#rev).
 ///
 /// ```text
 /// requires { FitsRows (length vals.old) row_width }
 /// ensures order { IsRowReversal row_width vals.old vals.new }
 /// ensures inverse { IsRowReversal row_width vals.new vals.old }
+/// ensures at { (k r j : ℕ) → length vals.old ≡ row_width * 2 ^ k → r < 2 ^ k → j < row_width
+///     → slice_get vals.new (r * row_width + j) ≡ slice_get vals.old (rev k r * row_width + j) }
 /// ```
 pub fn reverse_slice_row_index_bits<F>(vals: &mut [F], row_width: usize) {
     let _ = reverse_rows_of_items(vals, row_width);
@@ -137,6 +147,7 @@ pub fn reverse_slice_row_index_bits<F>(vals: &mut [F], row_width: usize) {
 /// [`contracts`](crate::kernels::contracts) explains how to read this contract, and its names
 /// [`FitsRows`](crate::kernels::contracts#FitsRows),
 /// [`IsRowReversal`](crate::kernels::contracts#IsRowReversal),
+/// [`rev`](crate::kernels::contracts#rev),
 /// [`row_swaps`](crate::kernels::contracts#row_swaps),
 /// [`same_holder`](crate::kernels::contracts#same_holder).
 ///
@@ -144,6 +155,9 @@ pub fn reverse_slice_row_index_bits<F>(vals: &mut [F], row_width: usize) {
 /// requires { FitsRows (length (S.items places.old)) row_width }
 /// ensures order { IsRowReversal row_width (S.items places.old) (S.items places.new) }
 /// ensures inverse { IsRowReversal row_width (S.items places.new) (S.items places.old) }
+/// ensures at { (k r j : ℕ) → length (S.items places.old) ≡ row_width * 2 ^ k → r < 2 ^ k
+///     → j < row_width → slice_get (S.items places.new) (r * row_width + j)
+///     ≡ slice_get (S.items places.old) (rev k r * row_width + j) }
 /// ensures count { result ≡ row_swaps (length (S.items places.old)) row_width }
 /// ensures bound { result ≤ length (S.items places.old) / 2 }
 /// ensures holder { S.same_holder result places.old places.new }
@@ -166,12 +180,15 @@ pub fn reverse_rows_counted<S: Places>(places: &mut S, row_width: usize) -> u128
 /// [`counted`](crate::kernels::contracts#counted),
 /// [`IsReversal`](crate::kernels::contracts#IsReversal),
 /// [`IsReversible`](crate::kernels::contracts#IsReversible),
+/// [`rev`](crate::kernels::contracts#rev),
 /// [`reversal_swaps`](crate::kernels::contracts#reversal_swaps),
 /// [`same_holder`](crate::kernels::contracts#same_holder).
 ///
 /// ```text
 /// requires { IsReversible (length (S.items m.old.holder)) }
 /// ensures order { IsReversal (S.items m.old.holder) (S.items m.new.holder) }
+/// ensures at { (k i : ℕ) → length (S.items m.old.holder) ≡ 2 ^ k → i < 2 ^ k
+///     → slice_get (S.items m.new.holder) i ≡ slice_get (S.items m.old.holder) (rev k i) }
 /// ensures count { m.new.count ≡ counted m.old.count
 ///     (reversal_swaps (length (S.items m.old.holder))) }
 /// ensures bound { let n = length (S.items m.old.holder) in reversal_swaps n ≤ 3 * n / 2 }

@@ -22,7 +22,6 @@
 // `lines` does, which only the plain Rust package chooses. `square` transposes a square in place, for the long path of a bit reversal.
 // No kernel uses `butterfly`.
 mod butterfly;
-pub(crate) mod lines;
 mod order;
 mod regions;
 mod split;
@@ -31,14 +30,16 @@ mod strips;
 
 use crate::kernels::places::{Cells, SliceCells, SliceSource, Source, Writes};
 pub use butterfly::{butterfly_4x4, butterfly_stage1, butterfly_stage2};
-pub(crate) use order::{Order, PutRegion};
+pub(crate) use order::Order;
+pub(crate) use order::PutRegion;
 pub(crate) use regions::Matrix;
 pub use regions::Region;
 pub use split::{transpose_source_split_on, transpose_split_on};
 pub(crate) use square::transpose_square;
-pub use square::{fits_square, transpose_square_on};
+pub use square::{fits_square, transpose_square_counted, transpose_square_on};
 use strips::put_strips;
-pub(crate) use strips::{Strips, UNIT, put_columns};
+pub(crate) use strips::{Strips, put_columns};
+pub(crate) use strips::{UNIT, put_as_block, put_rest};
 
 /// How many levels of splits a transpose is given. No matrix needs as many.
 const ENOUGH_LEVELS: u32 = 64;
@@ -217,6 +218,15 @@ where
 /// requires inside { LiesInMatrix region width height }
 /// ensures transposed { IsRegionTransposed region width height input.now
 ///     (C.items out.old.holder) (C.items out.new.holder) }
+/// ensures put { (x y : ℕ) → region.row_start ≤ y → y < region.row_end
+///     → region.col_start ≤ x → x < region.col_end
+///     → slice_get (C.items out.new.holder) (x * height + y)
+///     ≡ slice_get input.now (y * width + x) }
+/// ensures stay { (x y : ℕ) → y < height
+///     → ((y < region.row_start) ⊎ (region.row_end ≤ y) ⊎ (x < region.col_start)
+///     ⊎ (region.col_end ≤ x))
+///     → slice_get (C.items out.new.holder) (x * height + y)
+///     ≡ slice_get (C.items out.old.holder) (x * height + y) }
 /// ensures count { out.new.count ≡ counted out.old.count (items_of region) }
 /// ensures holder { C.same_holder (items_of region) out.old.holder out.new.holder }
 /// ```
@@ -248,6 +258,15 @@ pub fn transpose_region_on<C: Cells>(
 /// requires inside { LiesInMatrix region width height }
 /// ensures transposed { IsRegionTransposed region width height (R.items input.now)
 ///     (C.items out.old.holder) (C.items out.new.holder) }
+/// ensures put { (x y : ℕ) → region.row_start ≤ y → y < region.row_end
+///     → region.col_start ≤ x → x < region.col_end
+///     → slice_get (C.items out.new.holder) (x * height + y)
+///     ≡ slice_get (R.items input.now) (y * width + x) }
+/// ensures stay { (x y : ℕ) → y < height
+///     → ((y < region.row_start) ⊎ (region.row_end ≤ y) ⊎ (x < region.col_start)
+///     ⊎ (region.col_end ≤ x))
+///     → slice_get (C.items out.new.holder) (x * height + y)
+///     ≡ slice_get (C.items out.old.holder) (x * height + y) }
 /// ensures count { out.new.count ≡ counted out.old.count (items_of region) }
 /// ensures holder { C.same_holder (items_of region) out.old.holder out.new.holder }
 /// ```
@@ -264,7 +283,7 @@ where
 {
     let matrix = Matrix::new(input, width, height);
     let counter = Writes::resumed(&mut out.holder, out.count);
-    out.count = put_strips(counter, matrix, region, Strips::by_shape(matrix)).writes();
+    out.count = put_region(counter, matrix, region).writes();
 }
 
 /// Writes the transpose of `region` to `cells`, and returns the number of writes, which are counted
@@ -286,6 +305,14 @@ where
 /// requires inside { LiesInMatrix region width height }
 /// ensures transposed { IsRegionTransposed region width height input.now (C.items cells.old)
 ///     (C.items cells.new) }
+/// ensures put { (x y : ℕ) → region.row_start ≤ y → y < region.row_end
+///     → region.col_start ≤ x → x < region.col_end
+///     → slice_get (C.items cells.new) (x * height + y) ≡ slice_get input.now (y * width + x) }
+/// ensures stay { (x y : ℕ) → y < height
+///     → ((y < region.row_start) ⊎ (region.row_end ≤ y) ⊎ (x < region.col_start)
+///     ⊎ (region.col_end ≤ x))
+///     → slice_get (C.items cells.new) (x * height + y)
+///     ≡ slice_get (C.items cells.old) (x * height + y) }
 /// ensures count { result ≡ items_of region }
 /// ensures holder { C.same_holder result cells.old cells.new }
 /// ```
@@ -316,6 +343,15 @@ pub fn transpose_region_counted<C: Cells>(
 /// requires inside { LiesInMatrix region width height }
 /// ensures transposed { IsRegionTransposed region width height (R.items input.now)
 ///     (C.items cells.old) (C.items cells.new) }
+/// ensures put { (x y : ℕ) → region.row_start ≤ y → y < region.row_end
+///     → region.col_start ≤ x → x < region.col_end
+///     → slice_get (C.items cells.new) (x * height + y)
+///     ≡ slice_get (R.items input.now) (y * width + x) }
+/// ensures stay { (x y : ℕ) → y < height
+///     → ((y < region.row_start) ⊎ (region.row_end ≤ y) ⊎ (x < region.col_start)
+///     ⊎ (region.col_end ≤ x))
+///     → slice_get (C.items cells.new) (x * height + y)
+///     ≡ slice_get (C.items cells.old) (x * height + y) }
 /// ensures count { result ≡ items_of region }
 /// ensures holder { C.same_holder result cells.old cells.new }
 /// ```
@@ -331,7 +367,39 @@ where
     R: Source<Item = C::Item>,
 {
     let matrix = Matrix::new(input, width, height);
-    put_strips(Writes::new(cells), matrix, region, Strips::by_shape(matrix)).writes()
+    put_region(Writes::new(cells), matrix, region).writes()
+}
+
+/// The kernel of [`transpose_source_region_on`]. It says by the bounds of the region, too, which
+/// cells it puts and which stay.
+///
+/// # Contract
+///
+/// ```text
+/// requires inside { LiesInMatrix region matrix.width matrix.height }
+/// requires input_fits { length (R.items matrix.source) ≡ matrix.width * matrix.height }
+/// requires output_fits { length (M.items out) ≡ matrix.width * matrix.height }
+/// requires length_fits { length (R.items matrix.source) < 2 ^ 64 }
+/// ensures transposed { IsRegionTransposed region matrix.width matrix.height
+///     (R.items matrix.source) (M.items out) (M.items result) }
+/// ensures put { (x y : ℕ) → region.row_start ≤ y → y < region.row_end
+///     → region.col_start ≤ x → x < region.col_end
+///     → slice_get (M.items result) (x * matrix.height + y)
+///     ≡ slice_get (R.items matrix.source) (y * matrix.width + x) }
+/// ensures stay { (x y : ℕ) → y < matrix.height
+///     → ((y < region.row_start) ⊎ (region.row_end ≤ y) ⊎ (x < region.col_start)
+///     ⊎ (region.col_end ≤ x))
+///     → slice_get (M.items result) (x * matrix.height + y)
+///     ≡ slice_get (M.items out) (x * matrix.height + y) }
+/// ensures holder { M.same_holder (items_of region) out result }
+/// ```
+#[inline(always)]
+fn put_region<M: Cells, R: Source<Item = M::Item> + Copy>(
+    out: M,
+    matrix: Matrix<R>,
+    region: Region,
+) -> M {
+    put_strips(out, matrix, region, Strips::by_shape(matrix))
 }
 
 /// Runs the kernel on a holder of the slice and returns the slice. The kernel takes the holder by

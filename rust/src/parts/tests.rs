@@ -6,10 +6,10 @@ use std::collections::BTreeSet;
 use std::vec::Vec;
 
 use super::{one_part_reversal, parts_of_side, row_reversal, transpose};
+use crate::kernels::lines::Lines;
 use crate::kernels::parts::{Cut, ReversalPlan, RowPairs, TransposePlan};
 use crate::kernels::places::{Cells, Places, SliceCells, SlicePlaces, SliceSource, Source};
 use crate::kernels::reverse::RowDigits;
-use crate::kernels::transpose::lines::Lines;
 use crate::kernels::transpose::{Matrix, Order, Strips};
 
 /// A list of numbers that notes each place that a step changes.

@@ -16,7 +16,7 @@ use super::registers::{Items, Register, USES_REGISTERS};
 use super::{Part, PlacePlan};
 use crate::kernels::parts::ReversalPlan;
 use crate::kernels::registers::{Pair, Two};
-use crate::kernels::transpose::{Matrix, Order};
+use crate::kernels::transpose::Matrix;
 
 /// `by_size!(size)` is whether the size is in this table. `by_size!(size, holder = list => call, _ => other)` is `call` if
 /// it is, and otherwise `other`. In `call`, `holder` is the holder of the list as items of this size.
@@ -67,13 +67,25 @@ pub(super) fn reverse_rows<F>(items: SliceItems<F>, row_width: usize) {
     }
 }
 
-/// Transposes a matrix of few items, in this order.
+/// Transposes a matrix of very few items in place of this call. An item that may have several fields is put as bytes: otherwise
+/// its fields would be read and written one by one.
 #[inline(always)]
-pub(super) fn transpose<T: Copy>(order: Order, cells: SliceItems<T>, matrix: Matrix<SliceSource<T>>) {
+pub(super) fn put_few<T: Copy>(cells: SliceItems<T>, matrix: Matrix<SliceSource<T>>) {
+    by_size!(
+        @ [] [2 4 8 12 16 20 32 64]
+        const { if size_of::<T>() <= 8 && size_of::<T>() == align_of::<T>() { 0 } else { size_of::<T>() } },
+        holder = cells => by_type::put_few(holder, in_bytes(matrix)),
+        _ => by_type::put_few(cells, matrix)
+    );
+}
+
+/// Transposes a matrix that is not put by lines.
+#[inline(always)]
+pub(super) fn transpose<T: Copy>(cells: SliceItems<T>, matrix: Matrix<SliceSource<T>>) {
     by_size!(
         const { size_of::<T>() },
-        holder = cells => by_type::transpose(order, holder, in_bytes(matrix)),
-        _ => by_type::transpose(order, cells, matrix)
+        holder = cells => by_type::transpose(holder, in_bytes(matrix)),
+        _ => by_type::transpose(cells, matrix)
     );
 }
 

@@ -5,7 +5,7 @@ use super::order::order_of;
 use super::{Part, PartItems, PlacePlan};
 use crate::kernels::places::{Cells, Places, Source};
 use crate::kernels::reverse::{self, RowDigits, reverse_short};
-use crate::kernels::transpose::{Matrix, Order, PutRegion, put_columns, transpose_matrix};
+use crate::kernels::transpose::{Matrix, PutRegion, put_columns, transpose_matrix};
 
 /// An item of at least this many bytes is long. It is exchanged as a run of bytes, which takes hardly longer, and is put
 /// by its index.
@@ -23,16 +23,17 @@ pub(super) fn reverse_rows(items: impl Places, row_width: usize) {
     let _ = reverse::reverse_rows(items, rows);
 }
 
-/// Transposes a matrix in this order. A matrix of very few items is put in place of this call, since a call of another crate
-/// would take as long as that.
+/// Transposes a matrix of very few items in place of this call, since a call of another crate would take as long. It has
+/// rows: there are items.
 #[inline(always)]
-pub(super) fn transpose<M: Cells, R: Source<Item = M::Item> + Copy>(order: Order, cells: M, matrix: Matrix<R>) {
-    match order {
-        // This names no other order, so that a crate of the user compiles none. The matrix has rows: this order is chosen for
-        // one that has items.
-        Order::Columns if const { size_of::<M::Item>() < LONG_BYTES } => _ = put_columns(cells, matrix, matrix.whole()),
-        _ => put(Part::Whole, cells, matrix),
-    }
+pub(super) fn put_few<M: Cells, R: Source<Item = M::Item> + Copy>(cells: M, matrix: Matrix<R>) {
+    let _ = put_columns(cells, matrix, matrix.whole());
+}
+
+/// Transposes a matrix, not by lines.
+#[inline(always)]
+pub(super) fn transpose<M: Cells, R: Source<Item = M::Item> + Copy>(cells: M, matrix: Matrix<R>) {
+    put(Part::Whole, cells, matrix);
 }
 
 /// Puts a part, not by lines. Long items are put by their indices.

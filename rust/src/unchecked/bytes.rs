@@ -28,8 +28,14 @@ pub(super) const MOVES_BYTES: bool = cfg!(not(unaligned_is_slow))
 /// afterwards.
 pub(super) type Bytes<const N: usize> = [MaybeUninit<u8>; N];
 
-/// Writes an item. Its bytes are written from the lowest address on, see [`move_bytes`]. The compiler would write the
-/// upper part first, or parts that overlap. That takes longer, most of all if the item lies in two cache lines.
+/// Some bytes at any address. At such a place, they are read and written like an item that is aligned.
+#[derive(Clone, Copy)]
+#[repr(C, packed)]
+pub(super) struct Unaligned<P>(pub(super) P);
+
+/// Writes an item. Its bytes are written from the lowest address on, in parts of 16 bytes, and then one of 8, 4, 2 and 1 bytes
+/// for each digit of the size that is set. The compiler would write the upper part first, or parts that overlap. That takes
+/// longer, most of all if the item lies in two cache lines. With debug assertions, the parts would take longer.
 ///
 /// # Safety
 ///
@@ -38,11 +44,42 @@ pub(super) type Bytes<const N: usize> = [MaybeUninit<u8>; N];
 pub(super) unsafe fn write_item<T>(to: *mut T, item: T) {
     // SAFETY: this is what the caller promises, and a copy of the item is only read.
     unsafe {
-        if const { MOVES_BYTES && size_of::<T>() <= 64 } {
+        if const { MOVES_BYTES && size_of::<T>() <= 64 && cfg!(not(debug_assertions)) } {
             let item = MaybeUninit::new(item);
-            move_bytes::<false>(item.as_ptr().cast_mut().cast(), to.cast(), size_of::<T>());
+            let (from, to) = (item.as_ptr().cast_mut().cast(), to.cast());
+            if const { size_of::<T>() >= 16 } {
+                write_registers::<T>(from, to);
+            }
+            move_bytes::<false>(from, to, const { size_of::<T>() / 16 * 16 }, size_of::<T>());
         } else {
             to.write(item);
+        }
+    }
+}
+
+/// Writes the parts of 16 bytes of an item. Within [`write_item`], these calls would make the reversal of 64 items of 3 and 5
+/// bytes slower, which have no such parts.
+#[inline(always)]
+unsafe fn write_registers<T>(from: *mut u8, to: *mut u8) {
+    // SAFETY: this is what the caller promises.
+    unsafe {
+        // With `opt-level = "s"`, a loop would not be unrolled.
+        write_register::<T, 0>(from, to);
+        write_register::<T, 16>(from, to);
+        write_register::<T, 32>(from, to);
+        write_register::<T, 48>(from, to);
+    }
+}
+
+/// Writes the 16 bytes of an item from byte `AT` on, if it has so many.
+#[inline(always)]
+unsafe fn write_register<T, const AT: usize>(from: *mut u8, to: *mut u8) {
+    if const { AT + 16 <= size_of::<T>() } {
+        // SAFETY: this part is within the item.
+        unsafe { move_part::<registers::Register, false>(from.add(AT), to.add(AT), 16) };
+        // Without the fence, the compiler would join two parts of an item. With AVX, two registers are one.
+        if const { size_of::<T>() >= 32 && (AT % 32 == 16 || cfg!(not(target_feature = "avx"))) } {
+            compiler_fence(Ordering::SeqCst);
         }
     }
 }
@@ -56,7 +93,7 @@ pub(super) unsafe fn write_item<T>(to: *mut T, item: T) {
 pub(super) unsafe fn swap_runs<T>(x: *mut T, y: *mut T, len: usize) {
     // SAFETY: this is what the caller promises.
     unsafe {
-        if MOVES_BYTES {
+        if MOVES_BYTES && cfg!(not(debug_assertions)) {
             swap_bytes(x.cast(), y.cast(), len * size_of::<T>());
         } else {
             ptr::swap_nonoverlapping(x, y, len);
@@ -72,28 +109,24 @@ pub(super) unsafe fn swap_runs<T>(x: *mut T, y: *mut T, len: usize) {
 #[inline(never)]
 unsafe fn swap_bytes(x: *mut u8, y: *mut u8, len: usize) {
     // SAFETY: this is what the caller promises.
-    unsafe { move_bytes::<true>(x, y, len) }
+    unsafe { move_bytes::<true>(x, y, 0, len) }
 }
 
-/// Copies the `len` bytes at `from` to `to`. If `BACK` is true, it also copies those at `to` to `from`. It moves parts
-/// of 16 bytes, and then one of 8, 4, 2 and 1 bytes for each digit of `len` that is set, from the lowest address on.
-/// Parts of single bytes would take longer: there may be up to 15 at the end.
+/// Copies the `len` bytes at `from` to `to`, except for the first `done`, which is a multiple of 16. If `BACK` is true, it also
+/// copies those at `to` to `from`. It moves parts of 16 bytes, and then one of 8, 4, 2 and 1 bytes for each digit of `len` that
+/// is set, from the lowest address on. Parts of single bytes would take longer: there may be up to 15 at the end.
 ///
 /// # Safety
 ///
 /// The bytes at `from` are valid for reads and those at `to` for writes, and if `BACK` is true, both for both. They do
 /// not overlap.
 #[inline(always)]
-unsafe fn move_bytes<const BACK: bool>(from: *mut u8, to: *mut u8, len: usize) {
-    let mut done = 0;
+unsafe fn move_bytes<const BACK: bool>(from: *mut u8, to: *mut u8, done: usize, len: usize) {
+    let mut done = done;
     // SAFETY: each part is within the `len` bytes.
     unsafe {
         while len - done >= 16 {
             done += move_part::<registers::Register, BACK>(from.add(done), to.add(done), 16);
-            // Without the fence, the compiler would join two parts of an item. With AVX, two registers are one.
-            if !BACK && len >= 32 && (done % 32 == 0 || cfg!(not(target_feature = "avx"))) {
-                compiler_fence(Ordering::SeqCst);
-            }
         }
         done += move_part::<registers::Half, BACK>(from.add(done), to.add(done), len);
         done += move_part::<MaybeUninit<u32>, BACK>(from.add(done), to.add(done), len);

@@ -1,13 +1,16 @@
 //! Holders of slices, which check no index except with debug assertions. A holder may do to the items of its slice what
 //! a step of `Places`, `Cells` or `Source` says. It trusts that each call of a step meets the step's precondition. The
 //! kernels are proved to do so. Only this folder can make a holder.
+//!
+//! With debug assertions, an item is moved as its type says, and there is no fence. Often such a build is not optimized.
+//! Then parts of an item and fences would take several times as long, and so would `add`, which is a call there.
 
 use core::marker::PhantomData;
 use core::ptr;
 use core::slice::from_raw_parts;
 use core::sync::atomic::{Ordering, compiler_fence};
 
-use super::bytes::{Bytes, swap_runs, write_item};
+use super::bytes::{Bytes, Unaligned, swap_runs, write_item};
 use super::cache;
 use super::order::LINE;
 use crate::kernels::places::{Block, Cells, Places, Source};
@@ -94,7 +97,7 @@ impl<F> Places for SliceItems<'_, F> {
         // SAFETY: the places differ by the clause `apart` of `Places::exchange_apart`, and are within the slice by
         // `first` and `second`. If both items are read, each is written over the other.
         unsafe {
-            let (x, y) = (&mut *self.first.add(i), &mut *self.first.add(j));
+            let (x, y) = (&mut *self.first.wrapping_add(i), &mut *self.first.wrapping_add(j));
             if const { size_of::<F>() < 48 } {
                 let (of_x, of_y) = (ptr::read(x), ptr::read(y));
                 write_item(y, of_x);
@@ -105,7 +108,7 @@ impl<F> Places for SliceItems<'_, F> {
         }
         // The fence has no effect on the processor. Without it, the compiler would make one permutation in vector
         // registers of the exchanges of a small list, which takes twice as long with AVX-512.
-        if size_of::<F>() <= 8 {
+        if size_of::<F>() <= 8 && cfg!(not(debug_assertions)) {
             compiler_fence(Ordering::SeqCst);
         }
     }
@@ -174,8 +177,14 @@ impl<T: Copy> Cells for SliceItems<'_, T> {
     #[inline(always)]
     fn put(&mut self, i: usize, v: T) {
         debug_assert!(i < self.len);
+        let cell = self.first.wrapping_add(i);
         // SAFETY: the cell is within the slice, by the `requires` of `Cells::put`.
-        unsafe { write_item(self.first.add(i), v) }
+        unsafe {
+            if cfg!(debug_assertions) {
+                return *cell = v;
+            }
+            write_item(cell, v);
+        }
         // Without the fence, the compiler would read eight items before it writes them, because it knows that the
         // input and the output do not overlap. For processors with AVX-512 it would turn these reads, which are in
         // eight rows, into one gather. For items of 4 and 8 bytes, that takes two to four times as long as moving
@@ -198,14 +207,14 @@ impl<T, D: Register<T>> Runs<T, D> for SliceItems<'_, T> {
     fn load(&self, place: usize) -> D::Half {
         debug_assert!(place + size_of::<D::Half>() / size_of::<T>() <= self.len);
         // SAFETY: the run `may` be read, by the `requires` of `Runs::load`.
-        unsafe { self.first.add(place).cast::<D::Half>().read_unaligned() }
+        unsafe { (*self.first.wrapping_add(place).cast::<Unaligned<D::Half>>()).0 }
     }
 
     #[inline(always)]
     fn store(&mut self, place: usize, run: D::Half) {
         debug_assert!(place + size_of::<D::Half>() / size_of::<T>() <= self.len);
         // SAFETY: the run `may` be written, by the `requires` of `Runs::store`.
-        unsafe { self.first.add(place).cast::<D::Half>().write_unaligned(run) }
+        unsafe { *self.first.wrapping_add(place).cast() = Unaligned(run) }
     }
 
     /// Writes a register past the caches: the cache line that it is in is not read first. Like a shuffle this is one
@@ -377,7 +386,9 @@ impl<T: Copy> Source for SliceSource<'_, T> {
 
     #[inline(always)]
     fn at(&self, i: usize) -> T {
-        debug_assert!(i < self.items.len());
+        if cfg!(debug_assertions) {
+            return self.items[i];
+        }
         // SAFETY: the index is within the slice, by the `requires` of `Source::at`.
         unsafe { *self.items.get_unchecked(i) }
     }

@@ -8,8 +8,8 @@
 //! | a call on a slice, one row or one column | copied by `unchecked::transpose` | its items keep their order |
 //! | a whole call, fewer than 128 items: `TINY_MATRIX` | `Columns`, in code that is inlined | a call would take as long |
 //! | a whole call, up to 1048576 items: `LARGE_MATRIX` | `Strips` | the lines and pages in use stay in the caches |
-//! | 16 MiB and more: `PAST_CACHES`, items of 4 or 8 bytes, 16 columns and more of the matrix or part: `LINE_COLS`, a column of whole cache lines or of 1 KiB and more: `LONG_COLUMN` | `Lines` | what is stored past the caches is not read first, but whole lines have to be stored. A part of a line, which a column may have at both of its ends, takes longer |
-//! | the same, items of 16 bytes, a column of 1 KiB and more | `Lines` | in a shorter column the stores of single items are as fast |
+//! | 16 MiB and more: `PAST_CACHES`, items of 4 or 8 bytes, 12 columns and more of the matrix or part: `LINE_COLS`, of 4 bytes 16: `LINE_COLS_OF_4`, a column of whole cache lines or of 768 bytes and more: `LONG_COLUMN`, and of 4 bytes then 128 rows and more of the matrix or part: `LINE_ROWS_OF_4` | `Lines` | what is stored past the caches is not read first, but whole lines have to be stored. A part of a line, which a column may have at both of its ends, takes longer |
+//! | the same, items of 16 bytes, a column of 768 bytes and more | `Lines` | in a shorter column the stores of single items are as fast |
 //! | all others | `Leaves`, with the same strips | a leaf stays in the caches |
 //!
 //! | Items | Strips | Why |
@@ -24,7 +24,7 @@
 //! of them fit no matrix.
 
 use super::{Part, USES_REGISTERS};
-use crate::kernels::transpose::lines::Lines;
+use crate::kernels::lines::Lines;
 use crate::kernels::transpose::{Matrix, Order, Strips};
 
 /// The bytes of a cache line.
@@ -37,16 +37,22 @@ const HAS_LINES: bool = USES_REGISTERS && cfg!(target_arch = "x86_64");
 const PAST_CACHES: usize = 1 << 24;
 
 /// Fewer columns are not put by lines.
-const LINE_COLS: usize = 16;
+const LINE_COLS: usize = 12;
+
+/// Nor are fewer columns of items of 4 bytes.
+const LINE_COLS_OF_4: usize = 16;
+
+/// Fewer rows of items of 4 bytes are not put by lines, unless all columns begin at the same cell of a line.
+const LINE_ROWS_OF_4: usize = 128;
 
 /// A column of so many bytes is put by lines even if it is not whole lines.
-const LONG_COLUMN: usize = 1024;
+const LONG_COLUMN: usize = 768;
 
 /// These limits. The tests of this package take lower ones, so that short lists are put by lines.
-const LIMITS: [usize; 3] = if cfg!(test) {
-    [1 << 10, 1, 1]
+const LIMITS: [usize; 5] = if cfg!(test) {
+    [1 << 10, 1, 1, 1, 1]
 } else {
-    [PAST_CACHES, LINE_COLS, LONG_COLUMN]
+    [PAST_CACHES, LONG_COLUMN, LINE_COLS, LINE_COLS_OF_4, LINE_ROWS_OF_4]
 };
 
 /// On x86-64, a matrix of more items of 8 bytes is not put by blocks in registers.
@@ -89,9 +95,12 @@ pub(super) fn order_of<R>(size: usize, matrix: Matrix<R>, part: Part) -> Order {
 pub(super) fn lines_of<R: Copy>(size: usize, matrix: Matrix<R>, part: Part, first: usize) -> Option<Lines> {
     // A matrix without items may be so high that this product wraps. It is not large.
     let column = matrix.height.wrapping_mul(size);
-    let [bytes, least_cols, long_column] = LIMITS;
+    let [bytes, long_column, least_cols, cols_of_4, rows_of_4] = LIMITS;
     let is_split = matches!(order_of(size, matrix, part), Order::Leaves(_));
-    let is_large = matrix.width * matrix.height * size >= bytes && part.region(matrix).cols() >= least_cols;
+    let region = part.region(matrix);
+    // In a part of few rows, a column has hardly a whole line, and at both of its ends a part of one.
+    let fits_4 = region.cols() >= cols_of_4 && (region.rows() >= rows_of_4 || column % LINE == 0);
+    let is_large = matrix.width * matrix.height * size >= bytes && region.cols() >= least_cols && (size != 4 || fits_4);
     let is_long = column >= long_column || size < 16 && column % LINE == 0;
     let is_whole = matches!(size, 4 | 8 | 16) && first % size == 0;
     (HAS_LINES && is_split && is_large && is_long && is_whole).then(|| Lines::new(LINE / size, first % LINE / size))

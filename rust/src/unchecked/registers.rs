@@ -86,7 +86,7 @@ macro_rules! registers {
             fn from_half(first: Half) -> Self {
                 let mut register = Register::uninit();
                 // SAFETY: a register is two halves, whose bytes may be unwritten.
-                unsafe { register.as_mut_ptr().cast::<Half>().write_unaligned(first) }
+                unsafe { *register.as_mut_ptr().cast() = first }
                 Items(register)
             }
 

@@ -209,6 +209,9 @@ fn a_square_within_a_list() {
         Some(at) if at / 8 < 4 && at % 8 < 4 => 5 + at % 8 * 8 + at / 8,
         _ => place,
     });
+    assert!(noted.items.into_iter().eq(wanted.clone()));
+    let mut noted = Noted::numbered(40);
+    assert_eq!(transpose_square_counted(&mut noted, 5, 3, 2), 6);
     assert!(noted.items.into_iter().eq(wanted));
 }
 

@@ -3,7 +3,7 @@
 -- products of powers; bits of a number; and the row and the column of a place.
 use Rattle.std.proofs.Common.{◌≡◌, ℕ, zero, suc, ◌+◌, ◌-◌, ◌*◌, ◌/◌, ◌%◌, ◌^◌, ◌<◌, ◌≤◌, ◌≢◌, inl, inr, true, refl, sym, ap, ◌∙◌, add-one, arith}
 use Rattle.std.proofs.lemmas.Nat.{div-add-mod', div-mul-add, mod_below, pow-add, pow_pos, mod-mul-add, mul-mod_first}
-use Rattle.std.proofs.Math.Nat.{mod-eq_of_lt, mul-le-mul_right, pow-suc}
+use Rattle.std.proofs.Math.Nat.{mod-eq_of_lt, mul-le-mul_right, mul_assoc, pow-suc}
 use Rattle.std.proofs.Math.Pow.{pow_mono}
 use Rattle.std.specs.Int.{is_power_of_two}
 use Rattle.p3_util_kernels.specs.Digits.{rev}
@@ -152,6 +152,12 @@ pub power_step : (p b i x : ℕ) → x ≡ b ^ i % p → x * b % p ≡ b ^ (i + 
 power_step p b i x e =
     let next : b ^ (i + 1) ≡ b ^ i * b = rw add-one (pow-suc b i) in
     rw (e, next) (mul-mod_first (b ^ i) b p)
+
+-- the same for a power with a factor
+pub shifted_step : (p s b i x : ℕ) → x ≡ s * b ^ i % p → x * b % p ≡ s * b ^ (i + 1) % p
+shifted_step p s b i x e =
+    let next : b ^ (i + 1) ≡ b ^ i * b = rw add-one (pow-suc b i) in
+    rw (e, next, ← mul_assoc s (b ^ i) b) (mul-mod_first (s * b ^ i) b p)
 
 -- the row and the column of a place of a matrix
 pub row_of_place : (i rows cols : ℕ) → i < rows * cols → i / cols < rows

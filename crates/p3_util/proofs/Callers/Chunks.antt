@@ -11,7 +11,8 @@ use Rattle.std.specs.Int.{div_ceil}
 use Rattle.std.specs.List.{FoldsTo, sum_by}
 use Rattle.std.specs.Prelude.{replicate}
 use Rattle.p3_util.specs.Flat.{flat}
-use Rattle.p3_util.specs.Pieces.{padded, padded_pieces, pieces}
+use Rattle.p3_util.specs.Pieces.{padded, padded_pieces, piece_count, pieces}
+use Rattle.p3_util.proofs.PaddedRuns.{joined-padded_pieces}
 use Rattle.p3_util.proofs.PiecesLemmas.{div_ceil-upper, joined-pieces, length-pieces, slice_get-pieces}
 use Rattle.p3_util_kernels.proofs.ListParts.{slice_get-append_left, slice_get-append_right}
 
@@ -111,3 +112,15 @@ pub ruleset item_of_lane = (lane_item, lane_index)
 -- the list from which a list was padded
 pub cut_of_padded : {A : Type 0} (xs : List A) (n : ℕ) (fill : A) → take (length xs) (xs ++ replicate n fill) ≡ xs
 cut_of_padded xs n fill = take_at xs (replicate n fill) (length xs) refl
+
+-- the number of padded pieces, their items in one list, and the list from which they were made
+module _ {A : Type 0} where
+  pub pieces_counted : (n : ℕ) (fill : A) (xs : List A) → length (padded_pieces n fill xs) ≡ piece_count n (length xs)
+  pieces_counted n fill xs = length-map (pieces n xs) (padded n fill) ∙ length-pieces n xs
+
+  pub pieces_joined : (n : ℕ) (fill : A) (xs : List A) → 0 < n
+      → flat (padded_pieces n fill xs) ≡ xs ++ replicate (piece_count n (length xs) * n - length xs) fill
+  pieces_joined = joined-padded_pieces
+
+  pub cut_of_pieces : (n : ℕ) (fill : A) (xs : List A) → 0 < n → take (length xs) (flat (padded_pieces n fill xs)) ≡ xs
+  cut_of_pieces n fill xs some = rw (pieces_joined n fill xs some) (cut_of_padded xs _ fill)

@@ -7,7 +7,8 @@ use Rattle.std.specs.List.{swap}
 use Rattle.p3_util_kernels.specs.Digits.{rev}
 use Rattle.p3_util_kernels.specs.Reversal.{IsReversal, IsReversible}
 use Rattle.p3_util.specs.ItemsAt.{IsSameOutside, column_of}
-use Rattle.p3_util.proofs.Callers.Reverse.{reversed_place, reversed_twice}
+use Rattle.p3_util_kernels.proofs.ReversalLemmas.{reversed_place}
+use Rattle.p3_util.proofs.Callers.Reverse.{reversed_twice}
 use Rattle.p3_util.proofs.ItemsAtLemmas.{items_at-swap, length-items_at, slice_get-items_at}
 use Rattle.p3_util_kernels.proofs.DigitsLemmas.{rev-lt}
 use Rattle.p3_util_kernels.proofs.Exchange.{slice_get-swap_other}

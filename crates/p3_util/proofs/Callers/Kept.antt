@@ -18,7 +18,7 @@ use Rattle.p3_util_kernels.proofs.Exchange.{slice_get-swap_first, slice_get-swap
 use Rattle.p3_util_kernels.proofs.ListParts.{slice_get-append_left, slice_get-append_right, slice_get-drop, slice_get-take}
 use Rattle.p3_util_kernels.proofs.DigitsLemmas.{rev-lt, rev-rev-below}
 use Rattle.p3_util_kernels.proofs.Lengths.{zero_or_power}
-use Rattle.p3_util.proofs.Callers.Reverse.{reversed_place}
+use Rattle.p3_util_kernels.proofs.ReversalLemmas.{reversed_place}
 use Rattle.p3_util.proofs.Callers.ZipEq.{zip_length, zip_place}
 use Rattle.p3_util_kernels.proofs.Matrix.{row_and_column, same_number}
 use Rattle.std.proofs.Math.Nat.{mod-add-div'}

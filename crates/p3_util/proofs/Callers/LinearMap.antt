@@ -1,5 +1,5 @@
 -- A map after an insert: what a look-up finds, and the sum of all values.
-use Rattle.std.proofs.Common.{◌≡◌, ◌≢◌, ℕ, ◌+◌, ◌≤◌, Bool, true, false, ◌&&◌, cond, Decides, IsTrue, is_some, nat_eq, Some, None, List, [], ◌∷◌, ◌++◌, Bor, sum, refl, sym, ap, ◌∙◌, arith}
+use Rattle.std.proofs.Common.{◌≡◌, ◌≢◌, ℕ, ◌+◌, ◌≤◌, Bool, true, false, ◌&&◌, cond, Decides, IsTrue, is_some, nat_eq, Some, None, List, [], ◌∷◌, ◌++◌, Bor, sum, refl, sym, ap, ◌∙◌, arith, IsSome, ◌↔◌, ◌⊎◌, inl, inr, true≢false, eqb-true}
 use Rattle.std.proofs.lemmas.Bool.{and_from, and_parts, ne_eqb}
 use Rattle.std.proofs.lemmas.List.{map-append}
 use Rattle.std.proofs.lemmas.Map.Entries.{sum_by-set_value}
@@ -54,8 +54,27 @@ module _ {K V : Type 0} {eq : K → K → Bool} (laws : IsEquivalence eq) where
         | None ↦ λ absent. set_added (eq k) pairs k v w (laws.refl k) absent
       ] refl)
 
+-- the keys after `insert`: the new one, and those from before
+module _ {K V : Type 0} {eq : K → K → Bool} (laws : IsEquivalence eq) where
+  pub key_known : (pairs : List (K × V)) (k : K) (v : V) (q : K)
+      → IsSome (value_at eq (put eq pairs k v) q) ↔ ((eq k q ≡ true) ⊎ IsSome (value_at eq pairs q))
+  key_known pairs k v q =
+      rw (lookup_put laws pairs k v q)
+      (elim (eq k q) as (λ b. IsSome (cond b (Some v) (value_at eq pairs q)) ↔ ((b ≡ true) ⊎ IsSome (value_at eq pairs q))) [
+        | true ↦ (λ some. inl refl, λ either. refl)
+        | false ↦ (λ some. inr some, λ either. elim either [ inl same ↦ absurd (true≢false (sym same)) | inr some ↦ some ])
+      ])
+
 -- the same for keys that are numbers
 module _ {V : Type 0} where
+  pub number_known : (pairs : List (ℕ × V)) (k : ℕ) (v : V) (q : ℕ)
+      → IsSome (value_at nat_eq (put nat_eq pairs k v) q) ↔ ((q ≡ k) ⊎ IsSome (value_at nat_eq pairs q))
+  number_known pairs k v q =
+      let either = key_known nat_eq_equiv pairs k v q in (
+        λ some. elim (either.0 some) [ inl same ↦ inl (sym (eqb-true k q same)) | inr known ↦ inr known ],
+        λ known. elim known [ inl same ↦ either.1 (inl (rw same (nat_eq_equiv.refl k))) | inr some ↦ either.1 (inr some) ],
+      )
+
   pub number_put_put : (pairs : List (ℕ × V)) (k : ℕ) (v w : V) → put nat_eq (put nat_eq pairs k v) k w ≡ put nat_eq pairs k w
   number_put_put = key_put_put nat_eq_equiv
 
@@ -68,6 +87,8 @@ module _ {V : Type 0} where
 pub ruleset put_found = (key_found, number_found)
 
 pub ruleset put_others = (key_others, number_others)
+
+pub ruleset put_known = (key_known, number_known)
 
 pub ruleset put_put = (key_put_put, number_put_put)
 

@@ -13,7 +13,7 @@ use Rattle.p3_util_kernels.proofs.DigitsLemmas.{rev-lt, rev-of-zero, rev-rev-bel
 use Rattle.p3_util_kernels.proofs.Lengths.{zero_or_power}
 use Rattle.p3_util_kernels.proofs.Logs.{power_of_two}
 use Rattle.p3_util_kernels.proofs.SameList.{same_places}
-use Rattle.p3_util_kernels.proofs.ReversalLemmas.{IsReversal-unique, row_reversed_back, IsRowReversal-unique, IsReversal-from_power}
+use Rattle.p3_util_kernels.proofs.ReversalLemmas.{IsReversal-unique, row_reversed_back, IsRowReversal-unique, IsReversal-from_power, reversed_place}
 use Rattle.p3_util.proofs.Callers.Bits.{pair_below, rev_even, rev_odd, rev_first, rev_last, rev_longer}
 
 -- a number of one digit is its own reverse
@@ -34,13 +34,6 @@ pub word_below : (k i p n : ℕ) → n ≡ 2 ^ k → i < n → p ≡ rev_word k 
 word_below k i p n len h e = rw (e, word_same k i (omega arith)) (omega (arith, rev-lt k i))
 
 module _ {A : Type 0} where
-  -- place i of a reversal of 2 ^ k items
-  pub reversed_place : (k i : ℕ) (old new : List A) → IsReversal old new → length old ≡ 2 ^ k → i < 2 ^ k → slice_get new i ≡ slice_get old (rev k i)
-  reversed_place k i old new reversal e h =
-      let from : i * 1 + 0 ≡ i = omega arith in
-      let to : rev k i * 1 + 0 ≡ rev k i = omega arith in
-      rw (from, to) at (reversal.places k i 0 (omega arith) h (omega arith))
-
   -- where the item at i goes: to the reverse of i. The number of digits is the logarithm of the
   -- length, or a call such as `reverse_bits` finds it.
   pub place_moved : (k i : ℕ) (old new : List A) → IsReversal old new → length old ≡ 2 ^ k → i < 2 ^ k → slice_get new (rev k i) ≡ slice_get old i

@@ -9,7 +9,8 @@ use Rattle.p3_util_kernels.specs.Reversal.{IsReversal, IsReversible}
 use Rattle.p3_util_kernels.proofs.Logs.{power_of_two}
 use Rattle.p3_util_kernels.proofs.DigitsLemmas.{rev-lt, rev-rev-below}
 use Rattle.p3_util.proofs.Callers.Bits.{log_reversible, log_some, pair_below, rev_even, rev_odd, half_length}
-use Rattle.p3_util.proofs.Callers.Reverse.{bits_moved, first_stays, last_stays, place_moved, reversed_place, word_below, word_moved}
+use Rattle.p3_util_kernels.proofs.ReversalLemmas.{reversed_place}
+use Rattle.p3_util.proofs.Callers.Reverse.{bits_moved, first_stays, last_stays, place_moved, word_below, word_moved}
 
 module _ {A : Type 0} where
   -- the same for an item as an index reads it, for one that is read before the reversal and for one

@@ -1,10 +1,12 @@
--- A square that is transposed twice in place is as it was.
-use Rattle.std.proofs.Common.{◌≡◌, ◌≢◌, ℕ, ◌+◌, ◌-◌, ◌*◌, ◌/◌, ◌%◌, ◌^◌, ◌<◌, ◌≤◌, inl, inr, List, slice_get, ◌∙◌, arith}
+-- A square that is transposed twice in place is as it was, and a square that is the whole list is
+-- transposed as a matrix.
+use Rattle.std.proofs.Common.{◌≡◌, ◌≢◌, ℕ, ◌+◌, ◌-◌, ◌*◌, ◌/◌, ◌%◌, ◌^◌, ◌<◌, ◌≤◌, inl, inr, List, length, slice_get, zero-add, ◌∙◌, arith}
 use Rattle.std.proofs.lemmas.Bool.{cases_lt}
 use Rattle.std.proofs.lemmas.Nat.{div-mul-add, mod-mul-add}
 use Rattle.std.proofs.Math.Nat.{mod-add-div'}
 use Rattle.std.proofs.Math.Pow.{pow_mono}
 use Rattle.p3_util_kernels.specs.Square.{IsSquareTransposed}
+use Rattle.p3_util_kernels.specs.Transpose.{IsTranspose}
 use Rattle.p3_util_kernels.proofs.SameList.{same_places}
 
 module _ {A : Type 0} (base log_stride log_size : ℕ) (old mid new : List A) where
@@ -47,3 +49,11 @@ module _ {A : Type 0} (base log_stride log_size : ℕ) (old mid new : List A) wh
           ]
         ]
       ])
+
+-- a square that is the whole list
+pub whole_square : {A : Type 0} (k : ℕ) (old new : List A) → IsSquareTransposed 0 k k old new → length old ≡ 2 ^ k * 2 ^ k
+    → IsTranspose (2 ^ k) (2 ^ k) old new
+whole_square k old new square len = record {
+  same_length = square.same_length ∙ len;
+  places = λ x y hx hy. simp zero-add at (square.places x y hx hy);
+}

@@ -10,7 +10,8 @@
 //! change places. The third pass does the same as the first one, and so reverses the bits that were
 //! those of the column.
 
-ghost use Rattle.std.specs.Prelude.{◌≡◌, ℕ, ◌+◌, ◌-◌, ◌*◌, ◌/◌, ◌^◌, ◌<◌, ◌≤◌, length};
+ghost use Rattle.std.specs.Prelude.{◌≡◌, ℕ, ◌+◌, ◌-◌, ◌*◌, ◌/◌, ◌^◌, ◌<◌, ◌≤◌, length, slice_get};
+ghost use Rattle.p3_util_kernels.specs.Digits.{rev};
 ghost use Rattle.p3_util_kernels.specs.Levels.{clog};
 ghost use Rattle.p3_util_kernels.specs.Reversal.{IsReversal, IsReversible};
 ghost use Rattle.p3_util_kernels.specs.Steps.{counted};
@@ -30,11 +31,13 @@ use crate::transpose::transpose_square;
 /// [`reverse_index_bits_short`](crate::reverse::reverse_index_bits_short) takes at most n/2, but
 /// the order of the swaps here suits lists that do not fit in a cache. The length must be at least
 /// 4, and a power of two, which std's `is_power_of_two` checks.
-#[tactic(auto, using(crate::proofs::SwapCountsLemmas::long_bound))]
+#[tactic(auto, using(crate::proofs::SwapCountsLemmas::long_bound, crate::proofs::ReversalLemmas::reversed_place))]
 pub fn reverse_index_bits_long<S: Places>(m: &mut Swaps<S>)
     requires fits { IsReversible (length (S.items m.old.holder)) }
     requires not_short { 4 ≤ length (S.items m.old.holder) }
     ensures order { IsReversal (S.items m.old.holder) (S.items m.new.holder) }
+    ensures at { (k i : ℕ) → length (S.items m.old.holder) ≡ 2 ^ k → i < 2 ^ k
+        → slice_get (S.items m.new.holder) i ≡ slice_get (S.items m.old.holder) (rev k i) }
     ensures count { m.new.count ≡ counted m.old.count
         (long_swaps (clog (length (S.items m.old.holder)))) }
     ensures bound { let n = length (S.items m.old.holder) in long_swaps (clog n) ≤ 3 * n / 2 }

@@ -18,7 +18,8 @@
 //! The rows with the same middle digit form a [`Grid`]: the row of `x` and `y` is the place of row
 //! `x` and column `y`, and is exchanged with the place of row `y` and column `x`.
 
-ghost use Rattle.std.specs.Prelude.{◌≡◌, ℕ, ◌+◌, ◌-◌, ◌*◌, ◌/◌, ◌^◌, ◌<◌, ◌≤◌, length};
+ghost use Rattle.std.specs.Prelude.{◌≡◌, ℕ, ◌+◌, ◌-◌, ◌*◌, ◌/◌, ◌^◌, ◌<◌, ◌≤◌, length, slice_get};
+ghost use Rattle.p3_util_kernels.specs.Digits.{rev};
 ghost use Rattle.p3_util_kernels.specs.Grid.{grid_of_rows};
 ghost use Rattle.p3_util_kernels.specs.Levels.{clog};
 ghost use Rattle.p3_util_kernels.specs.Reversal.{FitsRows, IsReversal, IsReversible, IsRowReversal};
@@ -32,7 +33,8 @@ use crate::places::{Places, Swaps};
 /// Rows of `width` items each, whose indices have `digits` binary digits: there are `2^digits`
 /// rows, or none.
 #[derive(Clone, Copy)]
-pub(crate) struct RowDigits {
+#[doc(hidden)]
+pub struct RowDigits {
     pub width: usize,
     pub digits: usize,
 }
@@ -40,7 +42,8 @@ pub(crate) struct RowDigits {
 impl RowDigits {
     /// The rows of `width` items of a list of `len` items.
     #[inline(always)]
-    pub(crate) fn of(len: usize, width: usize) -> Self
+    #[doc(hidden)]
+    pub fn of(len: usize, width: usize) -> Self
         requires { FitsRows len width }
         ensures width { result.width ≡ width }
         ensures digits { result.digits ≡ clog (len / width) }
@@ -69,7 +72,8 @@ impl RowDigits {
 
     /// The grid of the rows whose indices have the middle part `middle`.
     #[inline(always)]
-    pub(crate) fn grid(self, middle: usize) -> Grid
+    #[doc(hidden)]
+    pub fn grid(self, middle: usize) -> Grid
         requires few { self.digits < 64 }
         requires middle { middle < 2 ^ (self.digits - self.digits / 2 - self.digits / 2) }
         ensures { let half = self.digits / 2 in
@@ -97,6 +101,9 @@ impl RowDigits {
 pub fn reverse_row_index_bits_on<S: Places>(m: &mut Swaps<S>, row_width: usize)
     requires { FitsRows (length (S.items m.old.holder)) row_width }
     ensures order { IsRowReversal row_width (S.items m.old.holder) (S.items m.new.holder) }
+    ensures at { (k r j : ℕ) → length (S.items m.old.holder) ≡ row_width * 2 ^ k → r < 2 ^ k
+        → j < row_width → slice_get (S.items m.new.holder) (r * row_width + j)
+        ≡ slice_get (S.items m.old.holder) (rev k r * row_width + j) }
     ensures count { m.new.count ≡ counted m.old.count
         (row_swaps (length (S.items m.old.holder)) row_width) }
     ensures bound { let n = length (S.items m.old.holder) in row_swaps n row_width ≤ n / 2 }
@@ -113,10 +120,12 @@ pub fn reverse_row_index_bits_on<S: Places>(m: &mut Swaps<S>, row_width: usize)
 /// zero or a power of two, which `fits_rows(m.len(), 1)` checks.
 ///
 /// [`reverse_slice_index_bits`]: crate::reverse::reverse_slice_index_bits
-#[tactic(auto, using(crate::proofs::SwapCountsLemmas::short_bound))]
+#[tactic(auto, using(crate::proofs::SwapCountsLemmas::short_bound, crate::proofs::ReversalLemmas::reversed_place))]
 pub fn reverse_index_bits_short<S: Places>(m: &mut Swaps<S>)
     requires { IsReversible (length (S.items m.old.holder)) }
     ensures order { IsReversal (S.items m.old.holder) (S.items m.new.holder) }
+    ensures at { (k i : ℕ) → length (S.items m.old.holder) ≡ 2 ^ k → i < 2 ^ k
+        → slice_get (S.items m.new.holder) i ≡ slice_get (S.items m.old.holder) (rev k i) }
     ensures count { m.new.count ≡ counted m.old.count
         (short_swaps (clog (length (S.items m.old.holder)))) }
     ensures bound { let n = length (S.items m.old.holder) in short_swaps (clog n) ≤ n / 2 }
@@ -174,7 +183,8 @@ pub(crate) fn reverse_chunks<M: Places>(m: M, lb_num_chunks: usize, lb_chunk_siz
 
 /// The kernel of [`reverse_row_index_bits_on`].
 #[inline(always)]
-pub(crate) fn reverse_rows<M: Places>(m: M, rows: RowDigits) -> M
+#[doc(hidden)]
+pub fn reverse_rows<M: Places>(m: M, rows: RowDigits) -> M
     requires fits { FitsRows (length (M.items m)) rows.width }
     requires digits { rows.digits ≡ clog (length (M.items m) / rows.width) }
     requires len_fits { length (M.items m) < 2 ^ 64 }

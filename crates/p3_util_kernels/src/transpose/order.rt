@@ -15,9 +15,10 @@ const TINY_MATRIX: usize = 128;
 /// The greatest number of items of a matrix that is not split.
 const LARGE_MATRIX: usize = 1_048_576;
 
-/// A way to put a region: an [`Order`], or [`Lines`](crate::transpose::lines::Lines). The caller of a
+/// A way to put a region: an [`Order`], or `Lines` of the crate `p3_util_registers`. The caller of a
 /// kernel chooses it. The contract is the same for all of them.
-pub(crate) trait PutRegion: Copy {
+#[doc(hidden)]
+pub trait PutRegion: Copy {
     /// Puts `region` in this way.
     fn put<M: Cells, R: Source<Item = M::Item> + Copy>(
         self,

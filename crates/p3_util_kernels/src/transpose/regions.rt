@@ -6,7 +6,8 @@ ghost use Rattle.p3_util_kernels.specs.Region.{LiesInMatrix, cols_of, rows_of};
 
 /// A matrix of `height` rows of `width` items. The items are in `source`, row after row.
 #[derive(Clone, Copy)]
-pub(crate) struct Matrix<R> {
+#[doc(hidden)]
+pub struct Matrix<R> {
     pub source: R,
     pub width: usize,
     pub height: usize,
@@ -15,7 +16,8 @@ pub(crate) struct Matrix<R> {
 impl<R> Matrix<R> {
     /// The matrix of `height` rows of `width` items that `source` holds.
     #[inline(always)]
-    pub(crate) fn new(source: R, width: usize, height: usize) -> Self
+    #[doc(hidden)]
+    pub fn new(source: R, width: usize, height: usize) -> Self
         ensures source { result.source ≡ source }
         ensures width { result.width ≡ width }
         ensures height { result.height ≡ height }
@@ -29,7 +31,8 @@ impl<R> Matrix<R> {
 
     /// The region that is the whole matrix.
     #[inline(always)]
-    pub(crate) fn whole(&self) -> Region
+    #[doc(hidden)]
+    pub fn whole(&self) -> Region
         ensures { result ≡ record {
           row_start = 0;
           row_end = self.now.height;
@@ -78,7 +81,8 @@ impl Region {
 
     /// The number of rows.
     #[inline(always)]
-    pub(crate) fn rows(self) -> usize
+    #[doc(hidden)]
+    pub fn rows(self) -> usize
         requires in_order { self.row_start ≤ self.row_end }
         ensures { result ≡ rows_of self }
     {
@@ -87,7 +91,8 @@ impl Region {
 
     /// The number of columns.
     #[inline(always)]
-    pub(crate) fn cols(self) -> usize
+    #[doc(hidden)]
+    pub fn cols(self) -> usize
         requires in_order { self.col_start ≤ self.col_end }
         ensures { result ≡ cols_of self }
     {
@@ -96,7 +101,8 @@ impl Region {
 
     /// The region with the same columns and with the rows `start..end` of the matrix.
     #[inline(always)]
-    pub(crate) fn with_rows(self, start: usize, end: usize) -> Region
+    #[doc(hidden)]
+    pub fn with_rows(self, start: usize, end: usize) -> Region
         ensures { result ≡ record self { row_start = start; row_end = end } }
     {
         Region {
@@ -108,7 +114,8 @@ impl Region {
 
     /// The region with the same rows and with the columns `start..end` of the matrix.
     #[inline(always)]
-    pub(crate) fn with_cols(self, start: usize, end: usize) -> Region
+    #[doc(hidden)]
+    pub fn with_cols(self, start: usize, end: usize) -> Region
         ensures { result ≡ record self { col_start = start; col_end = end } }
     {
         Region {
@@ -151,7 +158,8 @@ impl Region {
     /// Returns the same region. If the caller passes constants, the compiler then knows how many
     /// rows and columns the region has.
     #[inline(always)]
-    pub(crate) fn with_known_sides(self, rows: usize, cols: usize) -> Region
+    #[doc(hidden)]
+    pub fn with_known_sides(self, rows: usize, cols: usize) -> Region
         requires rows_in_order { self.row_start ≤ self.row_end }
         requires cols_in_order { self.col_start ≤ self.col_end }
         requires rows { rows ≡ rows_of self }

@@ -64,6 +64,29 @@ pub fn transpose_square_on<S: Places>(
     m.count = transpose_square(counter, base, log_stride, log_size).swaps();
 }
 
+/// Transposes a square of `places` in place, and returns the number of swaps, which are counted
+/// from 0.
+///
+/// The square and the preconditions are as for [`transpose_square_on`].
+#[tactic(auto, using(crate::proofs::SquareCounts::square_swaps_fit))]
+pub fn transpose_square_counted<S: Places>(
+    places: &mut S,
+    base: usize,
+    log_stride: usize,
+    log_size: usize,
+) -> u128
+    requires rows_apart { log_size ≤ log_stride }
+    requires stride_fits { log_stride < 64 }
+    requires room { let s = 2 ^ log_size in
+        base + (s - 1) * 2 ^ log_stride + (s - 1) < length (S.items places.old) }
+    ensures transposed { IsSquareTransposed base log_stride log_size (S.items places.old)
+        (S.items places.new) }
+    ensures count { let s = 2 ^ log_size in result ≡ s * (s - 1) / 2 }
+    ensures holder { S.same_holder result places.old places.new }
+{
+    transpose_square(Swaps::new(places), base, log_stride, log_size).swaps()
+}
+
 /// The kernel of [`transpose_square_on`].
 pub(crate) fn transpose_square<M: Places>(
     m: M,

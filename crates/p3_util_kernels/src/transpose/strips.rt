@@ -27,7 +27,8 @@ use crate::transpose::regions::{Matrix, Region};
 
 /// If the width of a matrix is a multiple of this, its strips are low. Parts of a call begin at
 /// multiples of it.
-pub(crate) const UNIT: usize = 16;
+#[doc(hidden)]
+pub const UNIT: usize = 16;
 
 /// The greatest number of items of a matrix that is put by blocks if 16 divides its width.
 const SMALL_MATRIX: usize = 1024;
@@ -308,7 +309,8 @@ fn put_stack<M: Cells, R: Source<Item = M::Item> + Copy>(
 
 /// Puts a region column after column. It may have no items.
 #[inline(always)]
-pub(crate) fn put_rest<M: Cells, R: Source<Item = M::Item> + Copy>(
+#[doc(hidden)]
+pub fn put_rest<M: Cells, R: Source<Item = M::Item> + Copy>(
     out: M,
     matrix: Matrix<R>,
     region: Region,
@@ -345,7 +347,8 @@ fn put_columns_apart<M: Cells, R: Source<Item = M::Item> + Copy>(
 
 /// Puts a region as one block, in the holder's own way.
 #[inline(always)]
-pub(crate) fn put_as_block<M: Cells, R: Source<Item = M::Item> + Copy>(
+#[doc(hidden)]
+pub fn put_as_block<M: Cells, R: Source<Item = M::Item> + Copy>(
     out: M,
     matrix: Matrix<R>,
     region: Region,
@@ -454,8 +457,10 @@ fn put_items<M: Cells, R: Source<Item = M::Item> + Copy>(
     ensures holder { M.same_holder rows out result }
 {
     let mut out = out;
-    for t in 0..rows {
+    let mut t = 0;
+    while t < rows {
         out.put(to + t, matrix.source.at(from + t * matrix.width));
+        t += 1;
     }
     out
 }

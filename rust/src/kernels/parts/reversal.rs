@@ -1,8 +1,8 @@
-// rust/erase writes this file from crates/p3_util_kernels/src/parts/reversal.rt. Make changes there.
+// rust/erase writes this file from crates/p3_util_parts/src/parts/reversal.rt. Make changes there.
 //! The parts that a reversal is cut into.
 
-use crate::kernels::grid::TILE;
 use crate::kernels::parts::RowPairs;
+use crate::kernels::grid::TILE;
 use crate::kernels::places::Places;
 use crate::kernels::reverse::{RowDigits, reverse_rows};
 

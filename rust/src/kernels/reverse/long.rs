@@ -33,12 +33,15 @@ use crate::kernels::transpose::transpose_square;
 /// [`IsReversal`](crate::kernels::contracts#IsReversal),
 /// [`IsReversible`](crate::kernels::contracts#IsReversible),
 /// [`long_swaps`](crate::kernels::contracts#long_swaps),
+/// [`rev`](crate::kernels::contracts#rev),
 /// [`same_holder`](crate::kernels::contracts#same_holder).
 ///
 /// ```text
 /// requires fits { IsReversible (length (S.items m.old.holder)) }
 /// requires not_short { 4 ≤ length (S.items m.old.holder) }
 /// ensures order { IsReversal (S.items m.old.holder) (S.items m.new.holder) }
+/// ensures at { (k i : ℕ) → length (S.items m.old.holder) ≡ 2 ^ k → i < 2 ^ k
+///     → slice_get (S.items m.new.holder) i ≡ slice_get (S.items m.old.holder) (rev k i) }
 /// ensures count { m.new.count ≡ counted m.old.count
 ///     (long_swaps (clog (length (S.items m.old.holder)))) }
 /// ensures bound { let n = length (S.items m.old.holder) in long_swaps (clog n) ≤ 3 * n / 2 }

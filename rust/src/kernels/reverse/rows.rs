@@ -106,12 +106,16 @@ impl RowDigits {
 /// [`counted`](crate::kernels::contracts#counted),
 /// [`FitsRows`](crate::kernels::contracts#FitsRows),
 /// [`IsRowReversal`](crate::kernels::contracts#IsRowReversal),
+/// [`rev`](crate::kernels::contracts#rev),
 /// [`row_swaps`](crate::kernels::contracts#row_swaps),
 /// [`same_holder`](crate::kernels::contracts#same_holder).
 ///
 /// ```text
 /// requires { FitsRows (length (S.items m.old.holder)) row_width }
 /// ensures order { IsRowReversal row_width (S.items m.old.holder) (S.items m.new.holder) }
+/// ensures at { (k r j : ℕ) → length (S.items m.old.holder) ≡ row_width * 2 ^ k → r < 2 ^ k
+///     → j < row_width → slice_get (S.items m.new.holder) (r * row_width + j)
+///     ≡ slice_get (S.items m.old.holder) (rev k r * row_width + j) }
 /// ensures count { m.new.count ≡ counted m.old.count
 ///     (row_swaps (length (S.items m.old.holder)) row_width) }
 /// ensures bound { let n = length (S.items m.old.holder) in row_swaps n row_width ≤ n / 2 }
@@ -137,12 +141,15 @@ pub fn reverse_row_index_bits_on<S: Places>(m: &mut Swaps<S>, row_width: usize) 
 /// [`counted`](crate::kernels::contracts#counted),
 /// [`IsReversal`](crate::kernels::contracts#IsReversal),
 /// [`IsReversible`](crate::kernels::contracts#IsReversible),
+/// [`rev`](crate::kernels::contracts#rev),
 /// [`same_holder`](crate::kernels::contracts#same_holder),
 /// [`short_swaps`](crate::kernels::contracts#short_swaps).
 ///
 /// ```text
 /// requires { IsReversible (length (S.items m.old.holder)) }
 /// ensures order { IsReversal (S.items m.old.holder) (S.items m.new.holder) }
+/// ensures at { (k i : ℕ) → length (S.items m.old.holder) ≡ 2 ^ k → i < 2 ^ k
+///     → slice_get (S.items m.new.holder) i ≡ slice_get (S.items m.old.holder) (rev k i) }
 /// ensures count { m.new.count ≡ counted m.old.count
 ///     (short_swaps (clog (length (S.items m.old.holder)))) }
 /// ensures bound { let n = length (S.items m.old.holder) in short_swaps (clog n) ≤ n / 2 }

@@ -13,7 +13,7 @@ const TINY_MATRIX: usize = 128;
 /// The greatest number of items of a matrix that is not split.
 const LARGE_MATRIX: usize = 1_048_576;
 
-/// A way to put a region: an [`Order`], or [`Lines`](crate::kernels::transpose::lines::Lines). The caller of a
+/// A way to put a region: an [`Order`], or `Lines` of the crate `p3_util_registers`. The caller of a
 /// kernel chooses it. The contract is the same for all of them.
 pub(crate) trait PutRegion: Copy {
     /// Puts `region` in this way.

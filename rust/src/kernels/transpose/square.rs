@@ -76,6 +76,36 @@ pub fn transpose_square_on<S: Places>(
     m.count = transpose_square(counter, base, log_stride, log_size).swaps();
 }
 
+/// Transposes a square of `places` in place, and returns the number of swaps, which are counted
+/// from 0.
+///
+/// The square and the preconditions are as for [`transpose_square_on`].
+///
+/// # Contract
+///
+/// [`contracts`](crate::kernels::contracts) explains how to read this contract, and its names
+/// [`IsSquareTransposed`](crate::kernels::contracts#IsSquareTransposed),
+/// [`same_holder`](crate::kernels::contracts#same_holder).
+///
+/// ```text
+/// requires rows_apart { log_size ≤ log_stride }
+/// requires stride_fits { log_stride < 64 }
+/// requires room { let s = 2 ^ log_size in
+///     base + (s - 1) * 2 ^ log_stride + (s - 1) < length (S.items places.old) }
+/// ensures transposed { IsSquareTransposed base log_stride log_size (S.items places.old)
+///     (S.items places.new) }
+/// ensures count { let s = 2 ^ log_size in result ≡ s * (s - 1) / 2 }
+/// ensures holder { S.same_holder result places.old places.new }
+/// ```
+pub fn transpose_square_counted<S: Places>(
+    places: &mut S,
+    base: usize,
+    log_stride: usize,
+    log_size: usize,
+) -> u128 {
+    transpose_square(Swaps::new(places), base, log_stride, log_size).swaps()
+}
+
 /// The kernel of [`transpose_square_on`].
 ///
 /// # Contract

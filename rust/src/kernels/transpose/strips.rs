@@ -522,8 +522,10 @@ fn put_items<M: Cells, R: Source<Item = M::Item> + Copy>(
     rows: usize,
 ) -> M {
     let mut out = out;
-    for t in 0..rows {
+    let mut t = 0;
+    while t < rows {
         out.put(to + t, matrix.source.at(from + t * matrix.width));
+        t += 1;
     }
     out
 }

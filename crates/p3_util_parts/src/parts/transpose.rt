@@ -1,0 +1,112 @@
+//! The regions that the transpose of a matrix is cut into.
+
+ghost use Rattle.std.specs.Prelude.{◌≡◌, ℕ, ◌+◌, ◌*◌, ◌%◌, ◌^◌, ◌<◌, ◌≤◌, ◌↔◌, IsTrue, if◌then◌else◌, length, max};
+ghost use Rattle.p3_util_parts.specs.Parts.{IsLeastStep, part_of_matrix, parts_in, start_of};
+ghost use Rattle.p3_util_kernels.specs.Region.{IsRegionTransposed, LiesInMatrix, items_of};
+
+use crate::parts::Cut;
+use p3_util_kernels::places::{Cells, Source};
+use p3_util_kernels::transpose::{Matrix, PutRegion, Region, UNIT};
+
+/// The transpose of a matrix of `height` rows of `width` items, cut into regions of neighbouring
+/// rows or of neighbouring columns.
+#[derive(Clone, Copy, Debug)]
+pub(crate) struct TransposePlan {
+    width: usize,
+    height: usize,
+    by_rows: bool,
+    cut: Cut,
+    pub ghost side: { 0 < cut.len → cut.len ≡ if by_rows then height else width },
+    pub ghost all: { cut.len ≡ 0 → width * height ≡ 0 },
+    pub ghost fits: { width * height < 2 ^ 64 },
+}
+
+impl TransposePlan {
+    /// Cuts the longer side into at most `parts` parts, at multiples of `UNIT`. If
+    /// `may_cut_rows` is false, the columns are cut, whichever side is longer. A `parts` of 0
+    /// counts as 1. A matrix without items has no region.
+    pub(crate) fn new(
+        width: usize,
+        height: usize,
+        parts: usize,
+        may_cut_rows: bool,
+    ) -> TransposePlan
+        requires { width * height < 2 ^ 64 }
+        ensures width { result.width ≡ width }
+        ensures height { result.height ≡ height }
+        ensures by_rows { IsTrue result.by_rows ↔ (IsTrue may_cut_rows × (width < height)) }
+        ensures empty { width * height ≡ 0 → parts_in result.cut.len result.cut.step ≡ 0 }
+        ensures few { parts_in result.cut.len result.cut.step ≤ max parts 1 }
+        ensures least { IsLeastStep parts UNIT result.cut.len result.cut.step }
+        ensures units { (k : ℕ) → k < parts_in result.cut.len result.cut.step
+            → start_of result.cut.len result.cut.step k % UNIT ≡ 0 }
+    {
+        let by_rows = may_cut_rows && height > width;
+        let side = if width == 0 || height == 0 {
+            0
+        } else if by_rows {
+            height
+        } else {
+            width
+        };
+        TransposePlan {
+            width,
+            height,
+            by_rows,
+            cut: Cut::new(side, parts, UNIT),
+        }
+    }
+
+    /// The number of regions.
+    pub(crate) fn count(self) -> usize
+        ensures { result ≡ parts_in self.cut.len self.cut.step }
+    {
+        self.cut.count()
+    }
+
+    /// Region `number`.
+    pub(crate) fn region(self, number: usize) -> Region
+        requires { number < parts_in self.cut.len self.cut.step }
+        ensures region { result ≡ part_of_matrix self.width self.height self.by_rows self.cut.len
+            self.cut.step number }
+        ensures inside { LiesInMatrix result self.width self.height }
+    {
+        let matrix = Matrix::new((), self.width, self.height);
+        self.cut.region(&matrix, self.by_rows, number)
+    }
+
+    /// The number of items of region `number`. If the columns are cut, the items of a region fill
+    /// consecutive cells, right after the cells of the region before it.
+    pub(crate) fn items(self, number: usize) -> usize
+        requires { number < parts_in self.cut.len self.cut.step }
+        ensures { result ≡ items_of (part_of_matrix self.width self.height self.by_rows self.cut.len
+            self.cut.step number) }
+    {
+        let region = self.region(number);
+        region.rows() * region.cols()
+    }
+
+    /// Puts region `number` of the matrix in `source`, in the given order. The list `out` has the
+    /// cells of the whole transpose.
+    #[inline(always)]
+    pub(crate) fn put<C: Cells, R: Source<Item = C::Item> + Copy, O: PutRegion>(
+        self,
+        out: C,
+        source: R,
+        number: usize,
+        order: O,
+    ) -> C
+        requires below { number < parts_in self.cut.len self.cut.step }
+        requires input_fits { length (R.items source) ≡ self.width * self.height }
+        requires output_fits { length (C.items out) ≡ self.width * self.height }
+        ensures transposed { IsRegionTransposed
+            (part_of_matrix self.width self.height self.by_rows self.cut.len self.cut.step number)
+            self.width self.height (R.items source) (C.items out) (C.items result) }
+        ensures holder { C.same_holder (items_of
+            (part_of_matrix self.width self.height self.by_rows self.cut.len self.cut.step number))
+            out result }
+    {
+        let matrix = Matrix::new(source, self.width, self.height);
+        order.put(out, matrix, self.region(number))
+    }
+}

@@ -1,0 +1,7 @@
+-- The modules of lemmas of this crate.
+pub mod LinesLemmas
+pub mod RegistersBlocks
+pub mod RegistersLemmas
+pub mod RegistersLines
+pub mod RegistersRuns
+pub mod RegistersTiles

@@ -1,0 +1,263 @@
+//! A register and two lists that meet the traits of [`registers`](crate::registers), as an example for the author of
+//! a holder, and as a proof that this can be done. No other code uses them, and the package is made without them.
+//!
+//! [`OneTile`] allows what one tile needs and nothing else. [`turn_tile`] is proved for it all the same, so it touches
+//! no place outside the tile, whatever list it is given. [`OneColumn`] and [`TwoColumns`] show the same of a line of one
+//! column: [`put_by_lines`] writes no other cell, and reads the column and the one to its right.
+
+ghost use Rattle.std.specs.Prelude.{◌≡◌, ℕ, ◌+◌, ◌*◌, ◌%◌, ◌<◌, ◌≤◌, ◌^◌, ◌⊎◌, List, [], ◌∷◌, length, slice_get, slice_index};
+ghost use Rattle.std.proofs.Common.{refl, rules};
+ghost use Rattle.p3_util_kernels.specs.BlockPut.{BlockFits, IsBlockPut, block_items};
+ghost use Rattle.p3_util_kernels.specs.Exchanged.{IsTile, TileTurned};
+ghost use Rattle.p3_util_registers.specs.Registers.{IsRunStored};
+
+use crate::registers::line_blocks::put_by_lines;
+use crate::registers::{Pair, Paired, Register, Runs, exchange_tiles, put_by_squares, turn_tile};
+use p3_util_kernels::places::{Block, Places};
+
+/// A register of two items.
+#[derive(Clone, Copy)]
+struct Duo<T>(T, T);
+
+impl<T: Copy> Register<T> for Duo<T> {
+    type Half = T;
+
+    ghost items = { λ d. d.0 ∷ d.1 ∷ [] };
+
+    ghost half_items = { λ t. t ∷ [] };
+
+    const SIDE: usize = 1;
+
+    ghost SIDE = { 1 };
+
+    fn low(self, other: Self) -> Self {
+        Duo(self.0, other.0)
+    }
+
+    fn high(self, other: Self) -> Self {
+        Duo(self.1, other.1)
+    }
+
+    fn from_half(first: T) -> Self {
+        Duo(first, first)
+    }
+
+    fn halves(self) -> (T, T) {
+        (self.0, self.1)
+    }
+
+    ghost full = { λ d. refl };
+}
+
+impl<T: Copy> Paired<T> for Duo<T> {
+    ghost few = { Prim.search rules };
+}
+
+/// The run from `place` on.
+fn run_at<T: Copy>(items: &[T], place: usize) -> Duo<T>
+    requires inside { place + 2 ≤ length items.now }
+    requires fits { length items.now < 2 ^ 63 }
+    ensures { (t : ℕ) → t < 2 → slice_get (result.0 ∷ result.1 ∷ []) t ≡ slice_get items.now (place + t) }
+{
+    Duo(items[place], items[place + 1])
+}
+
+/// Writes the run from `place` on.
+fn put_run<T: Copy>(items: &mut [T], place: usize, run: Duo<T>)
+    requires inside { place + 2 ≤ length items.old }
+    requires fits { length items.old < 2 ^ 63 }
+    ensures { IsRunStored 2 place (run.0 ∷ run.1 ∷ []) items.old items.new }
+{
+    items[place] = run.0;
+    items[place + 1] = run.1;
+}
+
+/// A borrowed list of fewer than 2^63 items. Each run within it may be touched. `store_last` may write those that
+/// begin at an even place.
+struct Short<'a, T> {
+    items: &'a mut [T],
+    ghost fits: { length items.now < 2 ^ 63 },
+}
+
+impl<'a, T: Copy> Runs<T, Pair<Duo<T>>> for Short<'a, T> {
+    ghost items = { λ s. s.items.now };
+
+    ghost Reach = { ℕ × ℕ };
+
+    ghost reach = { λ s. (s.items.ghost_name, length s.items.now) };
+
+    ghost may = { λ reach place. place + 2 ≤ reach.1 };
+
+    ghost may_last = { λ reach place. (place + 2 ≤ reach.1) × (place % 2 ≡ 0) };
+
+    fn load(&self, place: usize) -> Duo<T> {
+        run_at(self.items, place)
+    }
+
+    fn store(&mut self, place: usize, run: Duo<T>) {
+        put_run(self.items, place, run);
+    }
+
+    ghost may_both = { λ reach place both. both.0 };
+
+    ghost fits = { λ s. s.fits };
+}
+
+impl<'a, T: Copy> Places for Short<'a, T> {
+    type Item = T;
+
+    ghost items = { λ s. s.items.now };
+
+    ghost same_holder = { λ n a b. a.items.ghost_name ≡ b.items.ghost_name };
+
+    fn len(&self) -> usize {
+        self.items.len()
+    }
+
+    fn exchange(&mut self, i: usize, j: usize) {
+        self.items.swap(i, j);
+    }
+
+    fn exchange_tiles(&mut self, x: [usize; 8], y: [usize; 8]) {
+        exchange_tiles::<T, Pair<Duo<T>>, _>(self, x, y);
+    }
+
+    fn turn_tile(&mut self, x: [usize; 8]) {
+        turn_tile::<T, Pair<Duo<T>>, _>(self, x);
+    }
+
+    ghost same_holder_refl = { Prim.search rules };
+
+    ghost same_holder_trans = { Prim.search rules };
+}
+
+/// Puts a block, as a holder's `put_block` does.
+fn block_put<T: Copy>(cells: &mut Short<T>, source: &Short<T>, block: Block)
+    requires side { (block.rows ≡ 4) ⊎ (block.rows ≡ 8) }
+    requires square { block.cols ≡ block.rows }
+    requires block { BlockFits block (length source.now.items.now) (length cells.old.items.now) }
+    ensures put { IsBlockPut (block_items block) block source.now.items.now cells.old.items.now cells.new.items.now }
+    ensures holder { cells.old.items.ghost_name ≡ cells.new.items.ghost_name }
+{
+    put_by_squares::<T, Pair<Duo<T>>, _, _>(cells, source, block);
+}
+
+/// One tile of a borrowed list of fewer than 2^63 items: 8 items from each place of `rows` on. Only runs within these
+/// may be touched, and `store_last` may write the run at place 0 alone.
+struct OneTile<'a, T> {
+    items: &'a mut [T],
+    rows: [usize; 8],
+    ghost fits: { length items.now < 2 ^ 63 },
+}
+
+impl<'a, T: Copy> Runs<T, Pair<Duo<T>>> for OneTile<'a, T> {
+    ghost items = { λ s. s.items.now };
+
+    ghost Reach = { ℕ × (ℕ × List ℕ) };
+
+    ghost reach = { λ s. (s.items.ghost_name, (length s.items.now, s.rows)) };
+
+    ghost may = { λ reach p. (p + 2 ≤ reach.1.0) × ((r : ℕ) × ((c : ℕ) × ((r < 8) × ((c + 2 ≤ 8) × (p ≡ slice_index reach.1.1 r + c))))) };
+
+    ghost may_last = { λ reach p. ((p + 2 ≤ reach.1.0) × ((r : ℕ) × ((c : ℕ) × ((r < 8) × ((c + 2 ≤ 8) × (p ≡ slice_index reach.1.1 r + c)))))) × (p ≡ 0) };
+
+    fn load(&self, place: usize) -> Duo<T> {
+        run_at(self.items, place)
+    }
+
+    fn store(&mut self, place: usize, run: Duo<T>) {
+        put_run(self.items, place, run);
+    }
+
+    ghost may_both = { λ reach p both. both.0 };
+
+    ghost fits = { λ s. s.fits };
+}
+
+/// Turns the tile.
+fn turned_alone<T: Copy>(tile: &mut OneTile<T>)
+    requires { IsTile tile.old.rows (length tile.old.items.now) }
+    ensures turned { TileTurned 64 tile.old.rows tile.old.items.now tile.new.items.now }
+    ensures holder { tile.old.items.ghost_name ≡ tile.new.items.ghost_name }
+{
+    turn_tile::<T, Pair<Duo<T>>, _>(tile, tile.rows);
+}
+
+/// A line of one column: 8 cells from `to` on, of a borrowed list of fewer than 2^63 items. No other cell may be touched.
+struct OneColumn<'a, T> {
+    items: &'a mut [T],
+    to: usize,
+    ghost fits: { length items.now < 2 ^ 63 },
+}
+
+impl<'a, T: Copy> Runs<T, Pair<Duo<T>>> for OneColumn<'a, T> {
+    ghost items = { λ s. s.items.now };
+
+    ghost Reach = { ℕ × (ℕ × ℕ) };
+
+    ghost reach = { λ s. (s.items.ghost_name, (length s.items.now, s.to)) };
+
+    ghost may = { λ reach p. (p + 2 ≤ reach.1.0) × ((k : ℕ) × ((k < 4) × (p ≡ reach.1.1 + k * 2))) };
+
+    ghost may_last = { λ reach p. (p + 2 ≤ reach.1.0) × ((k : ℕ) × ((k < 4) × (p ≡ reach.1.1 + k * 2))) };
+
+    fn load(&self, place: usize) -> Duo<T> {
+        run_at(self.items, place)
+    }
+
+    fn store(&mut self, place: usize, run: Duo<T>) {
+        put_run(self.items, place, run);
+    }
+
+    ghost may_both = { λ reach p both. both };
+
+    ghost fits = { λ s. s.fits };
+}
+
+/// Two items of each of 8 rows, of a borrowed list of fewer than 2^63 items. No other item may be read. As in [`OneTile`],
+/// `store_last` may write the run at place 0 alone.
+struct TwoColumns<'a, T> {
+    items: &'a mut [T],
+    from: usize,
+    width: usize,
+    ghost fits: { length items.now < 2 ^ 63 },
+}
+
+impl<'a, T: Copy> Runs<T, Pair<Duo<T>>> for TwoColumns<'a, T> {
+    ghost items = { λ s. s.items.now };
+
+    ghost Reach = { ℕ × (ℕ × (ℕ × ℕ)) };
+
+    ghost reach = { λ s. (s.items.ghost_name, (length s.items.now, (s.from, s.width))) };
+
+    ghost may = { λ reach p. (p + 2 ≤ reach.1.0) × ((r : ℕ) × ((r < 8) × (p ≡ reach.1.1.0 + r * reach.1.1.1))) };
+
+    ghost may_last = { λ reach p. ((p + 2 ≤ reach.1.0) × ((r : ℕ) × ((r < 8) × (p ≡ reach.1.1.0 + r * reach.1.1.1)))) × (p ≡ 0) };
+
+    fn load(&self, place: usize) -> Duo<T> {
+        run_at(self.items, place)
+    }
+
+    fn store(&mut self, place: usize, run: Duo<T>) {
+        put_run(self.items, place, run);
+    }
+
+    ghost may_both = { λ reach p both. both.0 };
+
+    ghost fits = { λ s. s.fits };
+}
+
+/// Puts a line of one column. Its `inside` says that each row has an item to the right of the column.
+fn column_put_alone<T: Copy>(cells: &mut OneColumn<T>, source: &TwoColumns<T>, block: Block)
+    requires side { block.rows ≡ 8 }
+    requires one { block.cols ≡ 1 }
+    requires to { block.to ≡ cells.old.to }
+    requires from { block.from ≡ source.now.from }
+    requires width { block.width ≡ source.now.width }
+    requires inside { (r : ℕ) → r < block.rows → block.from + r * block.width + 2 ≤ length source.now.items.now }
+    requires block { BlockFits block (length source.now.items.now) (length cells.old.items.now) }
+    ensures put { IsBlockPut (block_items block) block source.now.items.now cells.old.items.now cells.new.items.now }
+    ensures holder { cells.old.items.ghost_name ≡ cells.new.items.ghost_name }
+{
+    put_by_lines::<T, Pair<Duo<T>>, _, _>(cells, source, block);
+}
