@@ -26,15 +26,15 @@ TABLE_IS_ABOUT = "rust/|" + LIBRARIES
 TABLE_ROW = r"^\| (`[A-Z_`, ]+`) \| ([\d, ^+]+) \| `([^`]+)` \|.*$"
 # How many lines the tables of a page have. A row that is lost promises less, or hides a difference, and no other check
 # would notice. Whoever adds or removes a row changes the number.
-ROWS = {"docs/MODEL.md": 77, "docs/DIFFERENCES.md": 58, "rust/README.md": 34}
+ROWS = {"docs/MODEL.md": 77, "docs/DIFFERENCES.md": 58, "rust/README.md": 35}
 # Sentences that list sizes in bytes, each with the file that has the sizes, and how they stand there.
 SIZES = {
-    "The kernels for items of {} bytes, and for rows": ("rust/src/unchecked/by_size.rs", r"\n +\[([\d ]+)\] \$size"),
-    "by itself if a row has {} bytes": ("rust/src/unchecked/by_size.rs", r"\n +\[([\d ]+)\] \$size"),
+    "The kernels for items of {} bytes, and for rows": ("rust/src/slices/by_size.rs", r"\n +\[([\d ]+)\] \$size"),
+    "by itself if a row has {} bytes": ("rust/src/slices/by_size.rs", r"\n +\[([\d ]+)\] \$size"),
     "is the size of an item in bytes: {}.": ("c/p3_util.h", r"\bp3_util_reverse_(\d+)\("),
 }
 # How many ranges a side of a reversal is cut into, and how many parts that makes, in the package and in words.
-PARTS = "rust/src/parts.rs"
+PARTS = "rust/src/slices/parts.rs"
 RANGES_IN_CODE, RANGES, PATCHES = "1 + parts.saturating_sub(1).saturating_mul(4).isqrt()", "1 + ⌊2√(N − 1)⌋", "P(P + 1) / 2"
 FILE = r"[\w.-]+(/[\w.-]+)+/?|[\w-]+\.(md|rt|antt|sh|py|rs|h|c|tsv|svg|txt|toml)"
 
@@ -139,7 +139,7 @@ def constants():
     found = []
     declared = {name for text in sources.values() for name in re.findall(r"^ +const ([A-Z_]+): \w+;", text, re.M)}
     for path in tracked:
-        if path in sources or re.fullmatch(r"rust/(overlay/)?src/(unchecked/)?\w+\.rs", path):
+        if path in sources or re.fullmatch(r"rust/(overlay/)?src/(slices/(holders/)?)?\w+\.rs", path):
             for space, name, value in re.findall(r"^( *)(?:pub(?:\(\w+\))? )?const ([A-Z_]+): (?!bool)\w+ = ([^;]+);", read(path), re.M):
                 if "size_of" not in value and not (space and name in declared):
                     found.append((name, path, re.sub(r"if cfg!\(.*?\) \{.*?\} else \{(.*?)\}", r"(\1)", value)))
@@ -311,7 +311,7 @@ def check_modules():
         os.path.normpath(os.path.join(os.path.dirname(path), other))
         for path in tracked
         if path.endswith(".rs")
-        for other in re.findall(r'^#\[path = "(.*)"\]', read(path), re.M)
+        for other in re.findall(r'^#\[(?:cfg_attr\(.*, )?path = "(.*)"\)?\]', read(path), re.M)
     }
     for path in tracked:
         file = re.fullmatch(r"((?:crates/\w+|rust|tests/unproved)/(?:src|tests)\b.*)/(?!(?:lib|main|mod)\.)(\w+)(\.rt|\.rs|\.rt\.in)", path)
@@ -319,7 +319,7 @@ def check_modules():
             continue
         folder, name, end = file.groups()
         above = {folder + end, *(f"{folder}/{root}{end}" for root in ("lib", "main", "mod"))}.intersection(tracked)
-        if not any(re.search(rf"^(pub(\(crate\))? )?mod {name};", read(parent), re.M) for parent in above):
+        if not any(re.search(rf"^(pub(\(\w+\))? )?mod {name};", read(parent), re.M) for parent in above):
             yield f"{path}: no file above it has it as a module"
 
 

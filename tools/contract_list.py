@@ -37,7 +37,7 @@ EXAMPLES = {"p3_util_callers", "p3_util_transform", "p3_util_vectors"}
 # In these sources, what only the crate itself sees is listed too.
 PARTS = r"crates/p3_util_parts/"
 # In these crates, that which these files of the package name is listed too. They are written by hand, and trust its clauses.
-KERNELS, BY_HAND = ("crates/p3_util_kernels/", "crates/p3_util_registers/"), ("rust/src/*.rs", "rust/src/unchecked/*.rs")
+KERNELS, BY_HAND = ("crates/p3_util_kernels/", "crates/p3_util_registers/"), ("rust/src/*.rs", "rust/src/slices/*.rs", "rust/src/slices/holders/*.rs")
 # A file with this name, in a crate's proofs/, names the crate's lemmas for callers.
 LEMMAS = "Callers.antt"
 # The rows of marks and names of std that are too rare for docs/CALLING.md.

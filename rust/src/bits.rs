@@ -3,8 +3,7 @@
 
 use crate::kernels::bits as proved;
 
-/// The logarithm to base 2 of a power of two. It is computed by
-/// [`kernels::bits::log2_strict_usize`](proved::log2_strict_usize).
+/// The logarithm to base 2 of a power of two.
 ///
 /// The compiler can tell that `1 << log2_strict_usize(n)` is `n`, so `&v[..1 << log2_strict_usize(v.len())]` needs no
 /// bounds check.
@@ -12,6 +11,10 @@ use crate::kernels::bits as proved;
 /// # Panics
 ///
 /// If `n` is not a power of two.
+///
+/// # Contract
+///
+#[doc = include_str!("kernels/contracts/log2_strict_usize.txt")]
 #[inline]
 #[must_use]
 #[track_caller]
@@ -23,12 +26,15 @@ pub const fn log2_strict_usize(n: usize) -> usize {
     proved::log2_strict_usize(n)
 }
 
-/// The logarithm to base 3 of a power of three. It is computed by
-/// [`kernels::bits::log3_strict_usize`](proved::log3_strict_usize).
+/// The logarithm to base 3 of a power of three.
 ///
 /// # Panics
 ///
 /// If `n` is not a power of three.
+///
+/// # Contract
+///
+#[doc = include_str!("kernels/contracts/log3_strict_usize.txt")]
 #[inline]
 #[must_use]
 #[track_caller]
@@ -43,12 +49,15 @@ pub const fn log3_strict_usize(n: usize) -> usize {
 
 /// Reverses the k low binary digits of `x` and drops the others, for an `n` of 2^k.
 ///
-/// An `n` of 1 reverses all 64 digits, as a `bit_len` of 0 does in [`reverse_bits_len`]. For a power of two this is
-/// [`kernels::bits::reverse_bits`](proved::reverse_bits).
+/// An `n` of 1 reverses all 64 digits, as a `bit_len` of 0 does in [`reverse_bits_len`].
 ///
 /// # Panics
 ///
 /// With debug assertions, if `n` is not a power of two. Without them, the lowest set digit of `n` is used.
+///
+/// # Contract
+///
+#[doc = include_str!("kernels/contracts/reverse_bits.txt")]
 #[inline]
 #[track_caller]
 pub const fn reverse_bits(x: usize, n: usize) -> usize {
@@ -58,12 +67,15 @@ pub const fn reverse_bits(x: usize, n: usize) -> usize {
 
 /// Reverses the `bit_len` low binary digits of `x` and drops the others.
 ///
-/// A `bit_len` of 0 reverses all 64 digits. For up to 64 digits this is
-/// [`kernels::bits::reverse_bits_len`](proved::reverse_bits_len).
+/// A `bit_len` of 0 reverses all 64 digits.
 ///
 /// # Panics
 ///
 /// With debug assertions, if `bit_len` is above 64. Without them, `bit_len % 64` is used.
+///
+/// # Contract
+///
+#[doc = include_str!("kernels/contracts/reverse_bits_len.txt")]
 #[inline]
 #[track_caller]
 pub const fn reverse_bits_len(x: usize, bit_len: usize) -> usize {

@@ -65,9 +65,8 @@ use alloc::string::String;
 use core::any::type_name;
 
 mod bits;
-#[cfg(feature = "checked")]
-mod checked;
-/// All of the proved code, the map and the iterators included, with its contracts as documentation.
+/// All of the proved code, the map and the iterators included, with its contracts as documentation. Seven functions that have
+/// the name of one at the package's root are private here. That one tests their precondition and shows their contract.
 ///
 /// Here a reversal or a transpose also takes a list of your own, by a *holder*: a value that gives access to a list by
 /// index. A *kernel* is a private function that does the work of such a call on any holder. Calls that count tell you how
@@ -80,11 +79,11 @@ mod checked;
 ///
 /// | Call of [`reverse`](kernels::reverse) or [`transpose`](kernels::transpose) | Test |
 /// |---|---|
-/// | `reverse_slice_index_bits`, `reverse_counted`, `reverse_index_bits_on`, `reverse_index_bits_short` | `fits_rows(len, 1)` |
+/// | `reverse_counted`, `reverse_index_bits_on`, `reverse_index_bits_short` | `fits_rows(len, 1)` |
 /// | `reverse_index_bits_long` | `len.is_power_of_two() && len >= 4` |
-/// | `reverse_slice_row_index_bits`, `reverse_rows_counted`, `reverse_row_index_bits_on` | `fits_rows(len, row_width)` |
+/// | `reverse_rows_counted`, `reverse_row_index_bits_on` | `fits_rows(len, row_width)` |
 /// | `reverse_chunks_on` | `checked_log_size_sum(lb_num_chunks, lb_chunk_size)` is `Some((_, items))` where `items` is `len` |
-/// | `transpose`, `transpose_counted`, `transpose_source_counted`, `transpose_on`, `transpose_source_on` | `fits_matrix(input_len, len, width, height)` |
+/// | `transpose_counted`, `transpose_source_counted`, `transpose_on`, `transpose_source_on` | `fits_matrix(input_len, len, width, height)` |
 /// | `transpose_region_counted`, `transpose_region_on`, `transpose_source_region_counted`, `transpose_source_region_on` | the same, and `region.fits(width, height)` |
 /// | `transpose_split_on`, `transpose_source_split_on` | the same as for a region; 64 `levels` are always enough |
 /// | `transpose_square_on`, `transpose_square_counted` | `fits_square(len, base, log_stride, log_size)` |
@@ -163,16 +162,15 @@ mod checked;
 #[allow(clippy::needless_range_loop, reason = "a tile is reached by row and column")]
 #[allow(clippy::only_used_in_recursion, reason = "by the bound, a recursion ends")]
 #[cfg_attr(feature = "checked", allow(dead_code, reason = "no registers"))]
+#[allow(rustdoc::private_intra_doc_links, reason = "seven functions are private here")]
 #[rustfmt::skip]
 pub mod kernels;
 pub mod linear_map;
 mod memory;
-#[doc(alias = "DisjointMutPtr")]
-pub mod parts;
 #[cfg(doctest)]
 mod refused;
+mod slices;
 pub mod transpose;
-mod unchecked;
 pub mod zip_eq;
 
 pub use bits::{log2_strict_usize, log3_strict_usize, reverse_bits, reverse_bits_len};
@@ -183,6 +181,8 @@ pub use kernels::bits::{
 };
 #[doc(inline)]
 pub use kernels::chunks::apply_to_chunks;
+#[doc(inline)]
+pub use slices::parts;
 
 /// Does nothing, but a call compiles only if `T` is `Send`.
 ///
@@ -202,8 +202,8 @@ pub const fn assert_sync<T: Sync>() {}
 
 /// Reverses the order of `vals` by index bits.
 ///
-/// With 2^k items, index `i` gets the item from the index that has the k bits of `i` in reversed order. The kernel is
-/// that of [`kernels::reverse::reverse_slice_index_bits`], whose contract says this. No item is cloned or dropped.
+/// With 2^k items, index `i` gets the item from the index that has the k bits of `i` in reversed order. No item is cloned or
+/// dropped.
 ///
 /// ```
 /// use p3_util_proved::reverse_slice_index_bits;
@@ -220,10 +220,14 @@ pub const fn assert_sync<T: Sync>() {}
 /// ```should_panic
 /// p3_util_proved::reverse_slice_index_bits(&mut [0, 1, 2, 3, 4, 5]);
 /// ```
+///
+/// # Contract of the kernel
+///
+#[doc = include_str!("kernels/contracts/reverse_slice_index_bits.txt")]
 #[inline]
 #[track_caller]
 pub fn reverse_slice_index_bits<F: Send + Sync>(vals: &mut [F]) {
-    if !unchecked::reverse(vals) {
+    if !slices::reverse(vals) {
         refuse_items(vals.len());
     }
 }
@@ -238,8 +242,8 @@ fn refuse_items(len: usize) -> ! {
 
 /// Reverses the order of the rows of `vals` by index bits. Each row has `row_width` items.
 ///
-/// With 2^k rows, the row at index `r` comes from the index that has the k bits of `r` in reversed order. The kernel is
-/// that of [`kernels::reverse::reverse_slice_row_index_bits`], whose contract says this. No item is cloned or dropped.
+/// With 2^k rows, the row at index `r` comes from the index that has the k bits of `r` in reversed order. No item is cloned
+/// or dropped.
 ///
 /// ```
 /// let mut rows = [0, 1, 10, 11, 20, 21, 30, 31];
@@ -250,10 +254,14 @@ fn refuse_items(len: usize) -> ! {
 /// # Panics
 ///
 /// If the length is not `row_width` times zero or a power of two. With a `row_width` of 0 the length must be 0.
+///
+/// # Contract of the kernel
+///
+#[doc = include_str!("kernels/contracts/reverse_slice_row_index_bits.txt")]
 #[inline]
 #[track_caller]
 pub fn reverse_slice_row_index_bits<F>(vals: &mut [F], row_width: usize) {
-    if !unchecked::reverse_rows(vals, row_width) {
+    if !slices::reverse_rows(vals, row_width) {
         refuse_rows(vals.len(), row_width);
     }
 }

@@ -1,11 +1,10 @@
 //! Transposes of matrices that are stored as flat slices, row after row.
 
-use crate::unchecked;
+use crate::slices;
 
 /// Transposes `input`, a matrix of `height` rows of `width` items, into `output`.
 ///
-/// The item at `input[y * width + x]` goes to `output[x * height + y]`. The kernel is that of
-/// [`kernels::transpose::transpose`](crate::kernels::transpose::transpose), whose contract says this.
+/// The item at `input[y * width + x]` goes to `output[x * height + y]`.
 ///
 /// ```
 /// use p3_util_proved::transpose::transpose;
@@ -25,10 +24,14 @@ use crate::unchecked;
 /// // The output has room for five items.
 /// p3_util_proved::transpose::transpose(&[1, 2, 3, 4, 5, 6], &mut [0; 5], 3, 2);
 /// ```
+///
+/// # Contract of the kernel
+///
+#[doc = include_str!("kernels/contracts/transpose.txt")]
 #[inline]
 #[track_caller]
 pub fn transpose<T: Copy + Send + Sync>(input: &[T], output: &mut [T], width: usize, height: usize) {
-    if !unchecked::transpose(input, output, width, height) {
+    if !slices::transpose(input, output, width, height) {
         refuse(input.len(), output.len(), width, height);
     }
 }

@@ -1,4 +1,4 @@
-"""Prints what could be undefined behaviour in `unchecked.rs` and its folder that no test of results would see. `rust/test`
+"""Prints what could be undefined behaviour in `slices.rs` and its folder that no test of results would see. `rust/test`
 compares the output with what is right.
 
     held.py FILE    FILE is the package's MIR, as rustc writes it with full paths
@@ -22,8 +22,8 @@ NUMBER = r"(?:[iu](?:8|16|32|64|128)|f(?:16|32|64|128)|char|(?:\w+::)*(?:__m\w+|
 
 
 def functions(mir):
-    """The name and the text of each function of `unchecked.rs` and its folder."""
-    for text in re.findall(r"^fn unchecked::.*?^\}", mir, re.M | re.S):
+    """The name and the text of each function of `slices.rs` and its folder."""
+    for text in re.findall(r"^fn slices::.*?^\}", mir, re.M | re.S):
         path = text.partition("(")[0]
         yield re.search(r"\w+(::\{[^}]*\})*$", path).group(), text
 
@@ -89,7 +89,7 @@ def main():
     for name, text in functions(mir):
         arguments = text.partition(") -> ")[0]
         lines.update(f"{name} has the number {number}" for number in numbers(text))
-        if re.search(r"unchecked::(holders::(?!SliceSource)\w+|PartsToRun)<|\{closure@", arguments):
+        if re.search(r"slices::(parts::PartsToRun|holders::(?!SliceSource)\w+)<|\{closure@", arguments):
             lines.update(f"{name} has the slice {it}" for it in slices(text))
         made = collections.Counter(references(text))
         lines.update(f"{name} makes {it}" + f", {number} of them" * (number > 1) for it, number in made.items())

@@ -34,9 +34,9 @@ mod strips;
 
 use crate::places::{Cells, SliceCells, SliceSource, Source, Writes};
 pub use butterfly::{butterfly_4x4, butterfly_stage1, butterfly_stage2};
-pub(crate) use order::Order;
 #[doc(hidden)]
 pub use order::PutRegion;
+pub(crate) use order::{LARGE_MATRIX, Order, TINY_MATRIX};
 #[doc(hidden)]
 pub use regions::Matrix;
 pub use regions::Region;

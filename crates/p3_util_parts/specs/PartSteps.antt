@@ -4,8 +4,7 @@
 -- Source: new.
 use Rattle.std.proofs.Common.{◌≡◌, ◌≢◌, ℕ, ◌+◌, ◌-◌, ◌*◌, ◌/◌, ◌<◌, min, max, List, [], ◌∷◌, ◌++◌, length, slice_get, slice_set, length-append, refl, sym, ◌∙◌, ap, arith}
 use Rattle.std.specs.Prelude.{swap}
-use Rattle.p3_util_parts.specs.declared.parts.reversal.ReversalPlan.{ReversalPlan}
-use Rattle.p3_util_parts.specs.declared.parts.reversal.ReversalPlan.TheVariants.{OnePart, ByPairs}
+use Rattle.p3_util_parts.specs.declared.parts.RowPairs.{RowPairs}
 use Rattle.p3_util_kernels.specs.declared.transpose.regions.Region.{Region}
 use Rattle.p3_util_parts.specs.Patches.{IsPatch}
 use Rattle.p3_util_kernels.specs.Crossing.{row_of}
@@ -43,15 +42,13 @@ abbrev pub IsInPatch : (digits step number middle a b : ℕ) → Type 0
 IsInPatch digits step number middle a b =
     (region : Region) × IsPatch digits step number middle region × IsInRegion region (max a b) (min a b)
 
--- p is a place of part `number` of the plan. A plan of one part has all places. Otherwise p is a
--- place in one of the rows that the patch with this number exchanges. A row that stays where it is
--- counts as a pair with itself
-abbrev pub IsPlaceOfPart : (plan : ReversalPlan) (number p : ℕ) → Type 0
-IsPlaceOfPart (OnePart rows) number p = number ≡ 0
-IsPlaceOfPart (ByPairs pairs) number p =
-    let half = pairs.rows.digits / 2 in
-    (m t x y : ℕ) × (t < pairs.rows.width) × IsInPatch pairs.rows.digits pairs.cut.step number m x y
-    × (p ≡ row_of half (pairs.rows.digits - half) m x y * pairs.rows.width + t)
+-- p is a place of part `number` of the plan: a place in one of the rows that the patch with this
+-- number exchanges. A row that stays where it is counts as a pair with itself
+abbrev pub IsPlaceOfPart : (plan : RowPairs) (number p : ℕ) → Type 0
+IsPlaceOfPart plan number p =
+    let half = plan.rows.digits / 2 in
+    (m t x y : ℕ) × (t < plan.rows.width) × IsInPatch plan.rows.digits plan.cut.step number m x y
+    × (p ≡ row_of half (plan.rows.digits - half) m x y * plan.rows.width + t)
 
 more_steps : {A S : Type 0} (after : List A → List S → List A) → ((xs : List A) (s t : List S) → after xs (s ++ t) ≡ after (after xs s) t)
     → (m n all : ℕ) (a b c : List A) → StepsLead after m a b → StepsLead after n b c → m + n ≡ all → StepsLead after all a c

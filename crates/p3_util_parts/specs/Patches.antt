@@ -1,7 +1,7 @@
 -- The grids of the rows of a reversal, cut into patches. These definitions serve private contracts:
 -- those of `src/parts.rt` and of the files below it.
 --
--- There are `2 ^ digits` rows. As `src/reverse/rows.rt` explains, they form one grid, or two if
+-- There are `2 ^ digits` rows. As `crates/p3_util_kernels/src/reverse/rows.rt` explains, they form one grid, or two if
 -- `digits` is odd. A grid has `2 ^ (digits / 2)` rows and as many columns. Both are cut into parts of
 -- `step`, which cuts the grid into patches.
 -- Source: new.

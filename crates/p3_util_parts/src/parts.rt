@@ -1,31 +1,30 @@
 //! Cuts a call into parts, each of which may run on a thread of its own. No thread is started here.
 //!
-//! - A *plan* says how a call is cut: a [`TransposePlan`] for a transpose, and a [`ReversalPlan`]
+//! - A *plan* says how a call is cut: a [`TransposePlan`] for a transpose, and [`RowPairs`]
 //!   for a reversal. The parts may run in any order.
 //! - A transpose is cut into regions. Each region is a part.
-//! - A reversal is a single part, or it has one part for each patch of its [`RowPairs`].
+//! - A reversal has one part for each patch of its [`RowPairs`].
 //! - A [`Cut`] cuts consecutive numbers, such as the columns of a matrix, into parts.
 //!
 //! The module `laws`, which only the Rattle sources have, states what is proved about the parts:
 //! at which places the steps of each part are, that two parts have no place in common, and that all
 //! parts together have the effect of the call, however their steps are interleaved.
 
-ghost use Rattle.std.specs.Prelude.{length, ◌≡◌, ℕ, ◌+◌, ◌-◌, ◌*◌, ◌/◌, ◌%◌, ◌^◌, ◌<◌, ◌≤◌, if◌then◌else◌, max};
+ghost use Rattle.std.specs.Prelude.{length, ◌≡◌, ℕ, ◌+◌, ◌-◌, ◌*◌, ◌/◌, ◌%◌, ◌^◌, ◌<◌, ◌≤◌, ◌==◌, if◌then◌else◌, max};
 ghost use Rattle.p3_util_parts.specs.Patches.{IsPatch, IsPatchExchanged, patches_of};
 ghost use Rattle.p3_util_kernels.specs.Crossing.{HoldsRows};
 ghost use Rattle.p3_util_parts.specs.Parts.{FollowEachOther, IsLeastStep, number_of_pair, pairs_of, part_of_matrix, parts_in, start_of};
 ghost use Rattle.p3_util_kernels.specs.Region.{LiesInMatrix};
+ghost use Rattle.p3_util_kernels.specs.Reversal.{FitsRows};
 
 mod laws;
-mod reversal;
 mod transpose;
 
 use p3_util_kernels::bits::pow2;
-use p3_util_kernels::grid::{exchange_quadrants, exchange_region};
+use p3_util_kernels::grid::{TILE, exchange_quadrants, exchange_region};
 use p3_util_kernels::places::Places;
 use p3_util_kernels::reverse::RowDigits;
 use p3_util_kernels::transpose::{Matrix, Region};
-pub(crate) use reversal::ReversalPlan;
 pub(crate) use transpose::TransposePlan;
 
 /// The numbers below `len`, cut into parts of `step` consecutive numbers. The last part may have
@@ -131,15 +130,19 @@ pub(crate) struct RowPairs {
 }
 
 impl RowPairs {
-    /// The pairs of `rows`. Each side of a grid is cut into at most `parts` parts, at multiples of
-    /// `unit`. A `parts` of 0 counts as 1.
-    pub(crate) fn new(rows: RowDigits, parts: usize, unit: usize) -> RowPairs
-        requires unit { 0 < unit }
-        requires digits { rows.digits < 64 }
-        ensures rows { result.rows ≡ rows }
+    /// The pairs of the rows of a list of `len` items, `row_width` in each row. Each side of a grid is
+    /// cut into at most `parts` parts. A `parts` of 0 counts as 1. Rows of one item are cut at
+    /// multiples of `TILE`.
+    pub(crate) fn new(len: usize, row_width: usize, parts: usize) -> RowPairs
+        requires { FitsRows len row_width }
+        ensures width { result.rows.width ≡ row_width }
+        ensures rows { 0 < len → (0 < row_width) × (len ≡ row_width * 2 ^ result.rows.digits) }
         ensures few { parts_in result.cut.len result.cut.step ≤ max parts 1 }
-        ensures least { IsLeastStep parts unit result.cut.len result.cut.step }
+        ensures least { IsLeastStep parts (if row_width == 1 then TILE else 1) result.cut.len
+            result.cut.step }
     {
+        let rows = RowDigits::of(len, row_width);
+        let unit = if row_width == 1 { TILE } else { 1 };
         let cut = Cut::new(pow2(rows.digits / 2), parts, unit);
         RowPairs { rows, cut }
     }

@@ -5,7 +5,7 @@
 mod digits;
 mod names;
 
-pub use digits::{reverse_bits, reverse_bits_len};
+pub(crate) use digits::{reverse_bits, reverse_bits_len};
 pub use names::pretty_name;
 
 /// The powers of three below 2^64, in order.
@@ -187,7 +187,7 @@ pub const fn checked_log_size_sum(a: usize, b: usize) -> Option<(usize, usize)> 
 /// ensures bound { result < 64 }
 /// ```
 #[inline]
-pub const fn log2_strict_usize(n: usize) -> usize {
+pub(crate) const fn log2_strict_usize(n: usize) -> usize {
     n.trailing_zeros() as usize
 }
 
@@ -206,7 +206,7 @@ pub const fn log2_strict_usize(n: usize) -> usize {
 /// ensures bound { result < 41 }
 /// ```
 #[inline]
-pub const fn log3_strict_usize(n: usize) -> usize {
+pub(crate) const fn log3_strict_usize(n: usize) -> usize {
     let top = n.ilog2();
     exponent_of_three(top as usize)
 }

@@ -147,7 +147,7 @@ impl Grid {
 fn exchange_places<M: Places>(m: M, width: usize, i: usize, j: usize) -> M {
     let mut m = m;
     if width == 1 {
-        m.exchange_apart(i, j);
+        m.exchange(i, j);
     } else {
         m.exchange_runs(i * width, j * width, width);
     }

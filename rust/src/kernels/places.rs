@@ -93,26 +93,6 @@ pub trait Places {
     /// ```
     fn exchange(&mut self, i: usize, j: usize);
 
-    /// Only for speed: does the same as `exchange`, for two different places. A holder need not
-    /// check here whether the two places are the same.
-    ///
-    /// # Contract
-    ///
-    /// [`contracts`](crate::kernels::contracts) explains how to read this contract, and its names
-    /// [`same_holder`](crate::kernels::contracts#same_holder).
-    ///
-    /// ```text
-    /// requires apart { (i < j) ⊎ (j < i) }
-    /// requires first { i < length (items self.old) }
-    /// requires second { j < length (items self.old) }
-    /// ensures exchanged { items self.new ≡ swap (items self.old) i j }
-    /// ensures holder { same_holder 1 self.old self.new }
-    /// ```
-    #[inline(always)]
-    fn exchange_apart(&mut self, i: usize, j: usize) {
-        self.exchange(i, j);
-    }
-
     /// Only for speed: exchanges two tiles of 8 by 8 items, each with the mirror image of the
     /// other. The item in row r and column c of a tile goes to row c and column r of the other
     /// tile. Row r of the one tile is the 8 places from `x[r]` on, and row r of the other the 8
@@ -136,7 +116,7 @@ pub trait Places {
         length_fits(self.len());
         for r in 0..8 {
             for c in 0..8 {
-                self.exchange_apart(x[r] + c, y[c] + r);
+                self.exchange(x[r] + c, y[c] + r);
             }
         }
     }
@@ -163,7 +143,7 @@ pub trait Places {
         length_fits(self.len());
         for row in 0..8 {
             for col in row + 1..8 {
-                self.exchange_apart(x[row] + col, x[col] + row);
+                self.exchange(x[row] + col, x[col] + row);
             }
         }
     }

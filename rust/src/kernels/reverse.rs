@@ -76,7 +76,8 @@ pub const fn fits_rows(len: usize, row_width: usize) -> bool {
 /// ensures at { (k i : ℕ) → length vals.old ≡ 2 ^ k → i < 2 ^ k
 ///     → slice_get vals.new i ≡ slice_get vals.old (rev k i) }
 /// ```
-pub fn reverse_slice_index_bits<F>(vals: &mut [F]) {
+#[allow(dead_code)]
+pub(crate) fn reverse_slice_index_bits<F>(vals: &mut [F]) {
     let _ = reverse_items(vals);
 }
 
@@ -131,7 +132,8 @@ pub fn reverse_counted<S: Places>(places: &mut S) -> u128 {
 /// ensures at { (k r j : ℕ) → length vals.old ≡ row_width * 2 ^ k → r < 2 ^ k → j < row_width
 ///     → slice_get vals.new (r * row_width + j) ≡ slice_get vals.old (rev k r * row_width + j) }
 /// ```
-pub fn reverse_slice_row_index_bits<F>(vals: &mut [F], row_width: usize) {
+#[allow(dead_code)]
+pub(crate) fn reverse_slice_row_index_bits<F>(vals: &mut [F], row_width: usize) {
     let _ = reverse_rows_of_items(vals, row_width);
 }
 

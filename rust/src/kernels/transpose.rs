@@ -30,8 +30,8 @@ mod strips;
 
 use crate::kernels::places::{Cells, SliceCells, SliceSource, Source, Writes};
 pub use butterfly::{butterfly_4x4, butterfly_stage1, butterfly_stage2};
-pub(crate) use order::Order;
 pub(crate) use order::PutRegion;
+pub(crate) use order::{LARGE_MATRIX, Order, TINY_MATRIX};
 pub(crate) use regions::Matrix;
 pub use regions::Region;
 pub use split::{transpose_source_split_on, transpose_split_on};
@@ -83,7 +83,8 @@ pub const fn fits_matrix(input_len: usize, output_len: usize, width: usize, heig
 /// ensures order { IsTranspose width height input.now output.new }
 /// ensures inverse { IsTranspose height width output.new input.now }
 /// ```
-pub fn transpose<T: Copy>(input: &[T], output: &mut [T], width: usize, height: usize) {
+#[allow(dead_code)]
+pub(crate) fn transpose<T: Copy>(input: &[T], output: &mut [T], width: usize, height: usize) {
     let _ = transpose_items(Matrix::new(SliceSource::new(input), width, height), output);
 }
 

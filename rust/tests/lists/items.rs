@@ -1,5 +1,5 @@
 //! Items of every alignment and kind. The test program `sizes` has those of every size up to 72 bytes, and the tests of
-//! `unchecked/` have rows of many types.
+//! `slices/` have rows of many types.
 
 use std::array;
 use std::fmt::Debug;

@@ -161,12 +161,6 @@ impl<S: Places> Places for Swaps<S> {
     }
 
     #[inline(always)]
-    fn exchange_apart(&mut self, i: usize, j: usize) {
-        self.holder.exchange_apart(i, j);
-        self.count = self.count.saturating_add(1);
-    }
-
-    #[inline(always)]
     fn exchange_tiles(&mut self, x: [usize; 8], y: [usize; 8]) {
         self.holder.exchange_tiles(x, y);
         self.count = self.count.saturating_add(64);

@@ -24,11 +24,6 @@ impl<S: Places> Places for &mut S {
     }
 
     #[inline(always)]
-    fn exchange_apart(&mut self, i: usize, j: usize) {
-        S::exchange_apart(self, i, j);
-    }
-
-    #[inline(always)]
     fn exchange_tiles(&mut self, x: [usize; 8], y: [usize; 8]) {
         S::exchange_tiles(self, x, y);
     }

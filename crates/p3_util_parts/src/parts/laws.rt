@@ -27,19 +27,20 @@
 
 ghost use Rattle.std.specs.Prelude.{◌≡◌, ◌≢◌, ℕ, ◌+◌, ◌*◌, ◌^◌, ◌<◌, ◌≤◌, ◌↔◌, List, Some, false, length, slice_get};
 ghost use Rattle.p3_util_parts.specs.Interleaved.{AreOfParts, IsInterleaved, IsMadeAlone, IsPutAlone, numbers_below, puts_of, region_of};
+ghost use Rattle.p3_util_kernels.specs.Crossing.{HoldsRows};
 ghost use Rattle.p3_util_kernels.specs.Least.{AreOnceAmong, after_puts, after_swaps, places_put, places_swapped};
 ghost use Rattle.p3_util_parts.specs.PartSteps.{IsPlaceOfPart, IsPlaceOfRegion, NoItemInCommon, NoPlaceInCommon};
 ghost use Rattle.p3_util_parts.specs.PartSteps.{PutsLead, more_puts, no_puts, one_put};
 ghost use Rattle.p3_util_parts.specs.PartSteps.{SwapsLead, more_swaps, no_swaps, one_swap};
 ghost use Rattle.p3_util_parts.specs.Parts.{parts_in, start_of};
-ghost use Rattle.p3_util_parts.specs.Plans.{IsReversalPlan, parts_of, width_of};
+ghost use Rattle.p3_util_parts.specs.Plans.{IsReversalPlan, parts_of};
 ghost use Rattle.p3_util_kernels.specs.Reversal.{IsRowReversal};
 ghost use Rattle.p3_util_kernels.specs.SwapCounts.{row_swaps};
 ghost use Rattle.p3_util_kernels.specs.Transpose.{IsTranspose};
 
-use crate::parts::{ReversalPlan, TransposePlan};
+use crate::parts::{RowPairs, TransposePlan};
 use p3_util_kernels::places::{Cells, Places, Source};
-use p3_util_kernels::transpose::PutRegion;
+use p3_util_kernels::transpose::{Matrix, PutRegion};
 
 /// A holder whose `same_holder n a b` says that some n puts turn the items of `a` into those of
 /// `b`.
@@ -117,7 +118,9 @@ pub(crate) fn puts_of_part<C: Cells, R: Source<Item = C::Item> + Copy, O: PutReg
     ensures { (steps : List (ℕ × C.Item)) × (C.items result ≡ after_puts (C.items out) steps)
         × IsPutAlone plan number (R.items source) (C.items out) steps }
 {
-    plan.put(PutSteps { cells: out }, source, number, order)
+    let matrix = Matrix::new(source, plan.width, plan.height);
+    order
+        .put(PutSteps { cells: out }, matrix, plan.region(number))
         .cells
 }
 
@@ -148,12 +151,11 @@ pub(crate) fn transpose_in_parts<T>(plan: TransposePlan)
         × (length all ≡ plan.width * plan.height) }
 {}
 
-/// Each part of a plan for a reversal has steps: some exchanges that have the effect of the part,
-/// as many as the part takes.
-pub(crate) fn exchanges_of_part<M: Places>(m: M, plan: ReversalPlan, number: usize) -> M
+/// Each part of a reversal has steps: some exchanges that have the effect of the part, as many as the
+/// part takes.
+pub(crate) fn exchanges_of_part<M: Places>(m: M, plan: RowPairs, number: usize) -> M
     requires below { number < parts_of plan }
-    requires plan { IsReversalPlan (length (M.items m)) plan }
-    requires len_fits { length (M.items m) < 2 ^ 64 }
+    requires ready { HoldsRows plan.rows.width plan.rows.digits (M.items m) }
     ensures { (steps : List (ℕ × ℕ)) × (M.items result ≡ after_swaps (M.items m) steps)
         × IsMadeAlone plan number (M.items m) steps }
 {
@@ -164,7 +166,7 @@ pub(crate) fn exchanges_of_part<M: Places>(m: M, plan: ReversalPlan, number: usi
 /// places of the part, no two of these places are the same, and two parts have no place in common.
 /// Any interleaving of the exchanges of all parts reverses every list, by as many exchanges as the
 /// reversal that is not cut.
-pub(crate) fn reversal_in_parts<T>(plan: ReversalPlan)
+pub(crate) fn reversal_in_parts<T>(plan: RowPairs)
     ensures stay { (len number : ℕ) (steps : List (ℕ × ℕ)) → number < parts_of plan
         → IsReversalPlan len plan → IsMadeAlone plan number (numbers_below len) steps
         → AreOnceAmong (IsPlaceOfPart plan number) (places_swapped steps) }
@@ -174,8 +176,8 @@ pub(crate) fn reversal_in_parts<T>(plan: ReversalPlan)
         → IsReversalPlan (length old) plan
         → AreOfParts (parts_of plan) (λ k. IsMadeAlone plan k (numbers_below (length old))) lists
         → IsInterleaved lists all
-        → IsRowReversal (width_of plan) old (after_swaps old all)
-        × (length all ≡ row_swaps (length old) (width_of plan)) }
+        → IsRowReversal plan.rows.width old (after_swaps old all)
+        × (length all ≡ row_swaps (length old) plan.rows.width) }
 {}
 
 /// Puts all parts of a plan for a transpose, in the order of their numbers, as one thread may do. In
@@ -193,18 +195,21 @@ pub(crate) fn put_all_parts<C: Cells, R: Source<Item = C::Item> + Copy, O: PutRe
 {
     let mut out = out;
     for number in 0..plan.count() {
-        out = plan.put(out, source, number, order);
+        out = order.put(
+            out,
+            Matrix::new(source, plan.width, plan.height),
+            plan.region(number),
+        );
     }
     out
 }
 
-/// Makes all parts of a plan for a reversal, in the order of their numbers, as one thread may do. In
-/// any holder this is the reversal, by as many exchanges as the reversal that is not cut.
-pub(crate) fn exchange_all_parts<M: Places>(m: M, plan: ReversalPlan) -> M
-    requires plan { IsReversalPlan (length (M.items m)) plan }
-    requires len_fits { length (M.items m) < 2 ^ 64 }
-    ensures reversed { IsRowReversal (width_of plan) (M.items m) (M.items result) }
-    ensures holder { M.same_holder (row_swaps (length (M.items m)) (width_of plan)) m result }
+/// Makes all parts of a reversal, in the order of their numbers, as one thread may do. In any holder
+/// this is the reversal, by as many exchanges as the reversal that is not cut.
+pub(crate) fn exchange_all_parts<M: Places>(m: M, plan: RowPairs) -> M
+    requires ready { HoldsRows plan.rows.width plan.rows.digits (M.items m) }
+    ensures reversed { IsRowReversal plan.rows.width (M.items m) (M.items result) }
+    ensures holder { M.same_holder (row_swaps (length (M.items m)) plan.rows.width) m result }
 {
     let mut m = m;
     for part in 0..plan.count() {

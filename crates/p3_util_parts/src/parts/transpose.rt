@@ -5,15 +5,14 @@ ghost use Rattle.p3_util_parts.specs.Parts.{IsLeastStep, part_of_matrix, parts_i
 ghost use Rattle.p3_util_kernels.specs.Region.{IsRegionTransposed, LiesInMatrix, items_of};
 
 use crate::parts::Cut;
-use p3_util_kernels::places::{Cells, Source};
-use p3_util_kernels::transpose::{Matrix, PutRegion, Region, UNIT};
+use p3_util_kernels::transpose::{Matrix, Region, UNIT};
 
 /// The transpose of a matrix of `height` rows of `width` items, cut into regions of neighbouring
 /// rows or of neighbouring columns.
 #[derive(Clone, Copy, Debug)]
 pub(crate) struct TransposePlan {
-    width: usize,
-    height: usize,
+    pub width: usize,
+    pub height: usize,
     by_rows: bool,
     cut: Cut,
     pub ghost side: { 0 < cut.len → cut.len ≡ if by_rows then height else width },
@@ -84,29 +83,5 @@ impl TransposePlan {
     {
         let region = self.region(number);
         region.rows() * region.cols()
-    }
-
-    /// Puts region `number` of the matrix in `source`, in the given order. The list `out` has the
-    /// cells of the whole transpose.
-    #[inline(always)]
-    pub(crate) fn put<C: Cells, R: Source<Item = C::Item> + Copy, O: PutRegion>(
-        self,
-        out: C,
-        source: R,
-        number: usize,
-        order: O,
-    ) -> C
-        requires below { number < parts_in self.cut.len self.cut.step }
-        requires input_fits { length (R.items source) ≡ self.width * self.height }
-        requires output_fits { length (C.items out) ≡ self.width * self.height }
-        ensures transposed { IsRegionTransposed
-            (part_of_matrix self.width self.height self.by_rows self.cut.len self.cut.step number)
-            self.width self.height (R.items source) (C.items out) (C.items result) }
-        ensures holder { C.same_holder (items_of
-            (part_of_matrix self.width self.height self.by_rows self.cut.len self.cut.step number))
-            out result }
-    {
-        let matrix = Matrix::new(source, self.width, self.height);
-        order.put(out, matrix, self.region(number))
     }
 }

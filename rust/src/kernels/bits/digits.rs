@@ -25,7 +25,7 @@
 /// ensures below { x < n → result < n }
 /// ```
 #[inline]
-pub const fn reverse_bits(x: usize, n: usize) -> usize {
+pub(crate) const fn reverse_bits(x: usize, n: usize) -> usize {
     reverse_bits_len(x, n.trailing_zeros() as usize)
 }
 
@@ -47,7 +47,7 @@ pub const fn reverse_bits(x: usize, n: usize) -> usize {
 /// ensures twice { x < 2 ^ bit_len → rev_word bit_len result ≡ x }
 /// ```
 #[inline]
-pub const fn reverse_bits_len(x: usize, bit_len: usize) -> usize {
+pub(crate) const fn reverse_bits_len(x: usize, bit_len: usize) -> usize {
     let reversed = reverse_u64(x as u64) as usize;
     // If `bit_len` is 0, this shifts by 0 and keeps all 64 digits.
     reversed >> ((64 - bit_len) % 64)

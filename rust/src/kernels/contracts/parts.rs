@@ -1,8 +1,8 @@
 // rust/erase writes this folder from the proved sources in crates/. Make changes there.
 //! What is proved of the parts of a call: the contracts of the plans by which a call is cut, and the laws about all parts.
 //!
-//! A *plan* says how a call is cut: `TransposePlan` into regions of a matrix, and `ReversalPlan` into patches of a grid. `put` and
-//! `exchange` of a plan make the steps of one part. The functions of `laws.rt` are there only for their contracts, and are not
+//! A *plan* says how a call is cut: `TransposePlan` into regions of a matrix, and `RowPairs` into patches of a grid. `put` of a
+//! region and `exchange` make the steps of one part. The functions of `laws.rt` are there only for their contracts, and are not
 //! part of this package. A clause that begins with `(steps : List ..)` holds for every list of steps. [The page
 //! above](super) explains the marks.
 //!
@@ -39,12 +39,12 @@
 //!   ensures number: number_of_pair (parts_in self.len self.step) result.0 result.1 ≡ number
 //! struct RowPairs { rows: RowDigits, cut: Cut, pub ghost digits: { rows.digits < 64 }, pub ghost side: { cut.len ≡ 2 ^
 //!     (rows.digits / 2) }, pub ghost few: { parts_in cut.len cut.step < 2 ^ 32 } }
-//! fn RowPairs::new(rows: RowDigits, parts: usize, unit: usize) -> RowPairs
-//!   requires unit: 0 < unit
-//!   requires digits: rows.digits < 64
-//!   ensures rows: result.rows ≡ rows
+//! fn RowPairs::new(len: usize, row_width: usize, parts: usize) -> RowPairs
+//!   requires: FitsRows len row_width
+//!   ensures width: result.rows.width ≡ row_width
+//!   ensures rows: 0 < len → (0 < row_width) × (len ≡ row_width * 2 ^ result.rows.digits)
 //!   ensures few: parts_in result.cut.len result.cut.step ≤ max parts 1
-//!   ensures least: IsLeastStep parts unit result.cut.len result.cut.step
+//!   ensures least: IsLeastStep parts (if row_width == 1 then TILE else 1) result.cut.len result.cut.step
 //! fn RowPairs::count(self) -> usize
 //!   ensures: result ≡ patches_of self.rows.digits self.cut.step
 //! fn RowPairs::exchange<M: Places>(self, m: M, number: usize) -> M
@@ -80,32 +80,30 @@
 //!       IsPutAlone plan k (numbers_below (plan.width * plan.height)) blank) lists → IsInterleaved lists all →
 //!       IsTranspose plan.width plan.height input (after_puts old (puts_of item all)) × (length all ≡ plan.width *
 //!       plan.height)
-//! fn exchanges_of_part<M: Places>(m: M, plan: ReversalPlan, number: usize) -> M
+//! fn exchanges_of_part<M: Places>(m: M, plan: RowPairs, number: usize) -> M
 //!   requires below: number < parts_of plan
-//!   requires plan: IsReversalPlan (length (M.items m)) plan
-//!   requires len_fits: length (M.items m) < 2 ^ 64
+//!   requires ready: HoldsRows plan.rows.width plan.rows.digits (M.items m)
 //!   ensures: (steps : List (ℕ × ℕ)) × (M.items result ≡ after_swaps (M.items m) steps) × IsMadeAlone plan number
 //!       (M.items m) steps
-//! fn reversal_in_parts<T>(plan: ReversalPlan)
+//! fn reversal_in_parts<T>(plan: RowPairs)
 //!   ensures stay: (len number : ℕ) (steps : List (ℕ × ℕ)) → number < parts_of plan → IsReversalPlan len plan →
 //!       IsMadeAlone plan number (numbers_below len) steps → AreOnceAmong (IsPlaceOfPart plan number) (places_swapped
 //!       steps)
 //!   ensures apart: (i j : ℕ) → i ≢ j → NoPlaceInCommon (IsPlaceOfPart plan i) (IsPlaceOfPart plan j)
 //!   ensures whole: (old : List T) (lists : List (List (ℕ × ℕ))) (all : List (ℕ × ℕ)) → IsReversalPlan (length old)
 //!       plan → AreOfParts (parts_of plan) (λ k. IsMadeAlone plan k (numbers_below (length old))) lists → IsInterleaved
-//!       lists all → IsRowReversal (width_of plan) old (after_swaps old all) × (length all ≡ row_swaps (length old)
-//!       (width_of plan))
+//!       lists all → IsRowReversal plan.rows.width old (after_swaps old all) × (length all ≡ row_swaps (length old)
+//!       plan.rows.width)
 //! fn put_all_parts<C: Cells, R: Source<Item = C::Item> + Copy, O: PutRegion>(out: C, source: R, plan: TransposePlan,
 //!     order: O) -> C
 //!   requires input_fits: length (R.items source) ≡ plan.width * plan.height
 //!   requires output_fits: length (C.items out) ≡ plan.width * plan.height
 //!   ensures transposed: IsTranspose plan.width plan.height (R.items source) (C.items result)
 //!   ensures holder: C.same_holder (plan.width * plan.height) out result
-//! fn exchange_all_parts<M: Places>(m: M, plan: ReversalPlan) -> M
-//!   requires plan: IsReversalPlan (length (M.items m)) plan
-//!   requires len_fits: length (M.items m) < 2 ^ 64
-//!   ensures reversed: IsRowReversal (width_of plan) (M.items m) (M.items result)
-//!   ensures holder: M.same_holder (row_swaps (length (M.items m)) (width_of plan)) m result
+//! fn exchange_all_parts<M: Places>(m: M, plan: RowPairs) -> M
+//!   requires ready: HoldsRows plan.rows.width plan.rows.digits (M.items m)
+//!   ensures reversed: IsRowReversal plan.rows.width (M.items m) (M.items result)
+//!   ensures holder: M.same_holder (row_swaps (length (M.items m)) plan.rows.width) m result
 //! fn cells_follow(plan: TransposePlan, number: usize)
 //!   requires columns: plan.by_rows ≡ false
 //!   requires below: number < parts_in plan.cut.len plan.cut.step
@@ -113,31 +111,12 @@
 //!       number * plan.height ≤ p) × (p < start_of plan.cut.len plan.cut.step (number + 1) * plan.height))
 //! ```
 //!
-//! # `parts/reversal.rt`
-//!
-//! ```text
-//! enum ReversalPlan { /// The whole reversal of these rows, as one part. OnePart(RowDigits), /// Each pair of rows is
-//!     exchanged. A part is a patch of these pairs. ByPairs(RowPairs) }
-//! fn ReversalPlan::new(len: usize, row_width: usize, parts: usize, one_part: usize) -> ReversalPlan
-//!   requires: FitsRows len row_width
-//!   ensures width: width_of result ≡ row_width
-//!   ensures plan: IsReversalPlan len result
-//!   ensures cut: IsCutAsAsked len row_width parts one_part TILE result
-//! fn ReversalPlan::count(self) -> usize
-//!   ensures: result ≡ parts_of self
-//! fn ReversalPlan::exchange<M: Places>(self, m: M, number: usize) -> M
-//!   requires below: number < parts_of self
-//!   requires plan: IsReversalPlan (length (M.items m)) self
-//!   requires len_fits: length (M.items m) < 2 ^ 64
-//!   ensures: IsPartMade self number (M.items m) (M.items result) (λ n. M.same_holder n m result)
-//! ```
-//!
 //! # `parts/transpose.rt`
 //!
 //! ```text
-//! struct TransposePlan { width: usize, height: usize, by_rows: bool, cut: Cut, pub ghost side: { 0 < cut.len → cut.len
-//!     ≡ if by_rows then height else width }, pub ghost all: { cut.len ≡ 0 → width * height ≡ 0 }, pub ghost fits: {
-//!     width * height < 2 ^ 64 } }
+//! struct TransposePlan { pub width: usize, pub height: usize, by_rows: bool, cut: Cut, pub ghost side: { 0 < cut.len →
+//!     cut.len ≡ if by_rows then height else width }, pub ghost all: { cut.len ≡ 0 → width * height ≡ 0 }, pub ghost
+//!     fits: { width * height < 2 ^ 64 } }
 //! fn TransposePlan::new(width: usize, height: usize, parts: usize, may_cut_rows: bool) -> TransposePlan
 //!   requires: width * height < 2 ^ 64
 //!   ensures width: result.width ≡ width
@@ -157,15 +136,6 @@
 //! fn TransposePlan::items(self, number: usize) -> usize
 //!   requires: number < parts_in self.cut.len self.cut.step
 //!   ensures: result ≡ items_of (part_of_matrix self.width self.height self.by_rows self.cut.len self.cut.step number)
-//! fn TransposePlan::put<C: Cells, R: Source<Item = C::Item> + Copy, O: PutRegion>(self, out: C, source: R, number:
-//!     usize, order: O) -> C
-//!   requires below: number < parts_in self.cut.len self.cut.step
-//!   requires input_fits: length (R.items source) ≡ self.width * self.height
-//!   requires output_fits: length (C.items out) ≡ self.width * self.height
-//!   ensures transposed: IsRegionTransposed (part_of_matrix self.width self.height self.by_rows self.cut.len
-//!       self.cut.step number) self.width self.height (R.items source) (C.items out) (C.items result)
-//!   ensures holder: C.same_holder (items_of (part_of_matrix self.width self.height self.by_rows self.cut.len
-//!       self.cut.step number)) out result
 //! ```
 //!
 //! # Names of this package
@@ -181,16 +151,14 @@
 //! | <a id="FitsRows"></a>`FitsRows len row_width` | `len` items fill whole rows of `row_width` items, and the number of rows is 0 or a power of two |
 //! | <a id="FollowEachOther"></a>`FollowEachOther count len start` | The numbers below `len` are cut into `count` parts. Part k has the numbers from `start k` up to, but not including, `start (k + 1)`. The first part begins at 0, the last one ends at `len`, and none is empty |
 //! | <a id="HoldsRows"></a>`HoldsRows row_width digits items` | the list has `2 ^ digits` rows of `row_width` items, its length fits in a usize, and `row_width` is at least 1 |
-//! | <a id="IsCutAsAsked"></a>`IsCutAsAsked len row_width parts one_part unit plan` | Up to `one_part` items the plan has one part. Beyond that, each side of a grid is cut into at most `parts` parts, where 0 for `parts` counts as 1. The parts are no longer than necessary, as `IsLeastStep` says with the unit `unit` for rows of one item, and with the unit 1 for other rows |
 //! | <a id="IsInterleaved"></a>`IsInterleaved lists all` | `all` is an interleaving of the lists: each step of `all` is the first remaining step of one of the lists, and at the end no list has a step left |
 //! | <a id="IsLeastStep"></a>`IsLeastStep parts unit len step` | Parts of `step` numbers are no longer than necessary. Take any positive multiple L of `unit`. If parts of L numbers cut the numbers below `len` into at most `parts` parts, then L is at least `step`. If `parts` is 0, it counts as 1 |
 //! | <a id="IsMadeAlone"></a>`IsMadeAlone plan k old steps` | The exchanges `steps`, made on `old` without those of any other part, do what `IsPartMade` says about part k of the plan, and there are as many as it says |
-//! | <a id="IsPartMade"></a>`IsPartMade plan number old new Steps` | Part `number` of the plan turns `old` into `new`, and `Steps` holds for the number of its exchanges. Depending on the plan, the part makes the bit reversal of all rows, or exchanges the pairs of rows of a patch |
+//! | <a id="IsPartMade"></a>`IsPartMade plan number old new Steps` | Part `number` of the plan turns `old` into `new`, and `Steps` holds for the number of its exchanges. The part exchanges the pairs of rows of a patch |
 //! | <a id="IsPatchExchanged"></a>`IsPatchExchanged digits row_width step number old new Steps` | The pairs of rows in the patch with this number are exchanged, and no other rows. `Steps` holds for the number of exchanges |
-//! | <a id="IsPlaceOfPart"></a>`IsPlaceOfPart plan number p` | p is a place of part `number` of the plan. A plan of one part has all places. Otherwise p is a place in one of the rows that the patch with this number exchanges. A row that stays where it is counts as a pair with itself |
+//! | <a id="IsPlaceOfPart"></a>`IsPlaceOfPart plan number p` | p is a place of part `number` of the plan: a place in one of the rows that the patch with this number exchanges. A row that stays where it is counts as a pair with itself |
 //! | <a id="IsPlaceOfRegion"></a>`IsPlaceOfRegion region height p` | p is the place of an item of the region in the transpose of a matrix of `height` rows |
 //! | <a id="IsPutAlone"></a>`IsPutAlone plan k input old steps` | The writes `steps`, made on `old` without those of any other part, put the transpose of the region of part k. There is one write for each item of the region |
-//! | <a id="IsRegionTransposed"></a>`IsRegionTransposed region width height input old new` | `input` has `height` rows of `width` items, and an output changes from `old` to `new`. For each row y and column x of the region, item `x * height + y` of `new` is item `y * width + x` of `input`. Every other item of the output stays as it was |
 //! | <a id="IsReversalPlan"></a>`IsReversalPlan len plan` | the plan is one for a list of `len` items |
 //! | <a id="IsRowReversal"></a>`IsRowReversal row_width old new` | The two lists have the same length. If `old` has `2 ^ k` rows of `row_width` items, row r of `new` has the items of row `rev k r` of `old`, in the same order |
 //! | <a id="IsTranspose"></a>`IsTranspose width height old new` | `old` has `height` rows of `width` items. `new` is its transpose, which has `width` rows of `height` items: item `x * height + y` of `new` is item `y * width + x` of `old`, for x < width and y < height |
@@ -215,4 +183,3 @@
 //! | <a id="same_holder"></a>`same_holder n a b` | For `Places`: b is the holder a after n exchanges. What that means depends on the holder. If the holder counts, the count of b is n more than the count of a. If it does not count, it ignores n. If it borrows its items, b borrows the same slice as a, so a change to the holder is a change to that slice. A holder of your own defines `len` and `exchange`. The methods after these are only for speed. Their bodies here do the same by calls of `exchange`. For `Cells`: b is the holder a after n puts. The rest is the same as for `Places`. A holder of your own defines `len` and `put` |
 //! | <a id="short_swaps"></a>`short_swaps k` | the number of pairs of different k-bit numbers that are each other's reverse. Of the `2 ^ k` numbers, `2 ^ ceil(k / 2)` are their own reverse, so there are `(2 ^ k - 2 ^ ceil(k / 2)) / 2` pairs |
 //! | <a id="start_of"></a>`start_of len step k` | where part k begins when the numbers below `len` are cut into parts of `step` numbers: at `k * step`, or at `len` if that is less |
-//! | <a id="width_of"></a>`width_of plan` | the number of items of each of the rows that the plan reverses |

@@ -2,15 +2,14 @@
 //! The regions that the transpose of a matrix is cut into.
 
 use crate::kernels::parts::Cut;
-use crate::kernels::places::{Cells, Source};
-use crate::kernels::transpose::{Matrix, PutRegion, Region, UNIT};
+use crate::kernels::transpose::{Matrix, Region, UNIT};
 
 /// The transpose of a matrix of `height` rows of `width` items, cut into regions of neighbouring
 /// rows or of neighbouring columns.
 #[derive(Clone, Copy, Debug)]
 pub(crate) struct TransposePlan {
-    width: usize,
-    height: usize,
+    pub width: usize,
+    pub height: usize,
     by_rows: bool,
     cut: Cut,
 }
@@ -94,33 +93,5 @@ impl TransposePlan {
     pub(crate) fn items(self, number: usize) -> usize {
         let region = self.region(number);
         region.rows() * region.cols()
-    }
-
-    /// Puts region `number` of the matrix in `source`, in the given order. The list `out` has the
-    /// cells of the whole transpose.
-    ///
-    /// # Contract
-    ///
-    /// ```text
-    /// requires below { number < parts_in self.cut.len self.cut.step }
-    /// requires input_fits { length (R.items source) ≡ self.width * self.height }
-    /// requires output_fits { length (C.items out) ≡ self.width * self.height }
-    /// ensures transposed { IsRegionTransposed
-    ///     (part_of_matrix self.width self.height self.by_rows self.cut.len self.cut.step number)
-    ///     self.width self.height (R.items source) (C.items out) (C.items result) }
-    /// ensures holder { C.same_holder (items_of
-    ///     (part_of_matrix self.width self.height self.by_rows self.cut.len self.cut.step number))
-    ///     out result }
-    /// ```
-    #[inline(always)]
-    pub(crate) fn put<C: Cells, R: Source<Item = C::Item> + Copy, O: PutRegion>(
-        self,
-        out: C,
-        source: R,
-        number: usize,
-        order: O,
-    ) -> C {
-        let matrix = Matrix::new(source, self.width, self.height);
-        order.put(out, matrix, self.region(number))
     }
 }

@@ -8,10 +8,10 @@ use crate::kernels::transpose::split::put_split;
 use crate::kernels::transpose::strips::{Strips, put_columns, put_strips};
 
 /// A matrix of fewer items is put column after column.
-const TINY_MATRIX: usize = 128;
+pub(crate) const TINY_MATRIX: usize = 128;
 
 /// The greatest number of items of a matrix that is not split.
-const LARGE_MATRIX: usize = 1_048_576;
+pub(crate) const LARGE_MATRIX: usize = 1_048_576;
 
 /// A way to put a region: an [`Order`], or `Lines` of the crate `p3_util_registers`. The caller of a
 /// kernel chooses it. The contract is the same for all of them.
@@ -57,17 +57,12 @@ impl Order {
     /// ```
     #[inline(always)]
     pub(crate) fn by_shape<R: Source + Copy>(matrix: Matrix<R>) -> Order {
-        Order::in_strips(Strips::by_shape(matrix), matrix.source.len(), true)
-    }
-
-    /// The order by these strips for a matrix of `items` items, or for a part of it if `is_whole`
-    /// is false.
-    #[inline(always)]
-    pub(crate) fn in_strips(strips: Strips, items: usize, is_whole: bool) -> Order {
+        let strips = Strips::by_shape(matrix);
         // A matrix without items may have very many columns, which have no rows.
-        if is_whole && 0 < items && items < TINY_MATRIX {
+        let items = matrix.source.len();
+        if 0 < items && items < TINY_MATRIX {
             Order::Columns
-        } else if is_whole && items <= LARGE_MATRIX {
+        } else if items <= LARGE_MATRIX {
             Order::Strips(strips)
         } else {
             Order::Leaves(strips)

@@ -15,7 +15,7 @@ returns-then-width-eq1-clause-exchanged g c =
     let j : c.args.j * 1 ≡ c.args.j = omega arith in
     let first = rw one at c.requires.first in
     let second = rw one at c.requires.second in
-    rw (one, i, j) (RunsExchanged-one c.args.i c.args.j _ _ (omega arith) (omega arith) c.exchange_apart.ensures.exchanged)
+    rw (one, i, j) (RunsExchanged-one c.args.i c.args.j _ _ (omega arith) (omega arith) c.exchange.ensures.exchanged)
 
 -- edit 1
 -- edit 2

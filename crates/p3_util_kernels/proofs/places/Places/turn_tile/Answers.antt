@@ -1,6 +1,6 @@
 -- Each turn of the inner loop exchanges one more item of a row, and each turn of the outer loop one
 -- more row.
-use Rattle.std.proofs.Common.{◌≡◌, ◌+◌, ◌-◌, ◌*◌, suc, inl, inr, refl, arith}
+use Rattle.std.proofs.Common.{◌≡◌, ◌+◌, ◌-◌, ◌*◌, suc, refl, arith}
 use Rattle.p3_util_kernels.proofs.ExchangedTiles.{TileTurned-more, TileTurned-row}
 use Rattle.p3_util_kernels.proofs.Pairs.{square_swaps-next}
 use Rattle.p3_util_kernels.proofs.places.Places.turn_tile.Goals as goal
@@ -13,23 +13,19 @@ loop-col-init g c =
       holder = rw none (g.met.Self.Places.same_holder_refl _);
     }
 
-pub exchange_apart-requires-clause-apart : goal.exchange_apart-requires-clause-apart
-exchange_apart-requires-clause-apart g c =
-    elim (c.requires.apart c.loop-row.row c.loop-col.col (omega arith) (omega arith)) [ inl up ↦ inl (omega arith) | inr down ↦ inr (omega arith) ]
-
-pub exchange_apart-requires-clause-first : goal.exchange_apart-requires-clause-first
-exchange_apart-requires-clause-first g c =
+pub exchange-requires-clause-first : goal.exchange-requires-clause-first
+exchange-requires-clause-first g c =
     omega (arith, c.requires.inside c.loop-row.row (omega arith), c.loop-col.invariant.turned.same_length)
 
-pub exchange_apart-requires-clause-second : goal.exchange_apart-requires-clause-second
-exchange_apart-requires-clause-second g c =
+pub exchange-requires-clause-second : goal.exchange-requires-clause-second
+exchange-requires-clause-second g c =
     omega (arith, c.requires.inside c.loop-col.col (omega arith), c.loop-col.invariant.turned.same_length)
 
 pub loop-col-preserved : goal.loop-col-preserved
 loop-col-preserved g c = record {
   turned = TileTurned-more _ _ c.requires c.loop-row.row c.loop-col.col _ _ _ refl (omega arith) (omega arith)
-      c.loop-col.invariant.turned c.exchange_apart.ensures.exchanged;
-  holder = g.met.Self.Places.same_holder_trans _ _ _ _ _ _ c.loop-col.invariant.holder c.exchange_apart.ensures.holder (omega arith);
+      c.loop-col.invariant.turned c.exchange.ensures.exchanged;
+  holder = g.met.Self.Places.same_holder_trans _ _ _ _ _ _ c.loop-col.invariant.holder c.exchange.ensures.holder (omega arith);
 }
 
 pub loop-row-preserved : goal.loop-row-preserved

@@ -8,10 +8,15 @@ pub loop-number-init : goal.loop-number-init
 loop-number-init g c = record { put = put-none c.args.plan _ _; holder = rw (puts-zero c.args.plan) (g.met.C.Cells.same_holder_refl _) }
 
 pub loop-number-preserved : goal.loop-number-preserved
-loop-number-preserved g c = record {
-  put = put-more c.args.plan c.loop-number.number _ _ _ _ c.loop-number.invariant.put c.put-out.ensures.transposed;
-  holder = g.met.C.Cells.same_holder_trans _ _ _ _ _ _ c.loop-number.invariant.holder c.put-out.ensures.holder (puts-more c.args.plan c.loop-number.number);
-}
+loop-number-preserved g c =
+    let plan = c.args.plan in
+    let number = c.loop-number.number in
+    let put = rw (c.region.ensures.region, c.new.ensures.source, c.new.ensures.width, c.new.ensures.height) at c.put-out.ensures.transposed in
+    let puts = rw c.region.ensures.region at c.put-out.ensures.holder in
+    record {
+      put = put-more plan number _ _ _ _ c.loop-number.invariant.put put;
+      holder = g.met.C.Cells.same_holder_trans _ _ _ _ _ _ c.loop-number.invariant.holder puts (puts-more plan number);
+    }
 
 pub returns-clause-transposed : goal.returns-clause-transposed
 returns-clause-transposed g c =

@@ -6,7 +6,7 @@ use std::iter::from_fn;
 use std::thread::scope;
 use std::vec::Vec;
 
-use super::*;
+use super::super::*;
 
 /// Runs each share on its own thread.
 fn run_all<P: Send>(shares: impl IntoIterator<Item = Vec<P>>, run: fn(P)) {
@@ -21,9 +21,9 @@ fn run_all<P: Send>(shares: impl IntoIterator<Item = Vec<P>>, run: fn(P)) {
 }
 
 /// Runs all parts, which are dealt out to `threads` threads.
-fn run_on<'a, T: Send, P: Copy + Send>(threads: usize, mut parts: PartsToRun<'a, T, P>, run: fn(PartsToRun<'a, T, P>)) {
+fn run_on<P: Send>(threads: usize, parts: impl Iterator<Item = P>, run: fn(P)) {
     let mut shares: Vec<Vec<_>> = from_fn(|| Some(Vec::new())).take(threads).collect();
-    for (turn, part) in from_fn(|| parts.split_first()).enumerate() {
+    for (turn, part) in parts.enumerate() {
         shares[turn % threads].push(part);
     }
     run_all(shares, run);
@@ -50,8 +50,11 @@ impl Number for usize {
 fn transposes<T: Number>(width: usize, height: usize, parts: usize, threads: usize) {
     let input: Vec<T> = (0..width * height).map(T::of).collect();
     let mut output = std::vec![T::of(0); input.len()];
-    let parts = parts_of_transpose(&input, &mut output, width, height, parts).unwrap();
-    run_on(threads, parts, PartsToRun::put);
+    run_on(
+        threads,
+        transpose(&input, &mut output, width, height, parts),
+        TransposePart::run,
+    );
     let transposed = |place| T::of(place % height * width + place / height);
     assert!(output.into_iter().eq((0..input.len()).map(transposed)));
 }
@@ -59,8 +62,8 @@ fn transposes<T: Number>(width: usize, height: usize, parts: usize, threads: usi
 /// Reverses 2^`digits` rows of numbers, in parts. The sides of the squares are cut into at most `parts` pieces.
 fn reverses<T: Number>(digits: u32, row_width: usize, parts: usize, threads: usize) {
     let mut list: Vec<T> = (0..row_width << digits).map(T::of).collect();
-    let parts = parts_of_reversal(&mut list, row_width, parts, 0).unwrap();
-    run_on(threads, parts, PartsToRun::exchange);
+    let parts = cut(&mut list, row_width, parts, 0).unwrap();
+    run_on(threads, parts, ReversalPart::run);
     let reversed = |row: usize| (0..digits).fold(0, |rev, place| rev << 1 | row >> place & 1);
     let item = |place| T::of(reversed(place / row_width) * row_width + place % row_width);
     assert!(list.into_iter().eq((0..row_width << digits).map(item)));
@@ -80,34 +83,23 @@ fn parts_on_threads() {
     }
 }
 
-/// Takes two plans for the list of `parts`, and runs one part of each, on two threads.
-fn run_both<'a, T: Send, P: Copy + Send>(
-    mut parts: PartsToRun<'a, T, P>,
-    plans: [(P, usize); 2],
-    run: fn(PartsToRun<'a, T, P>),
-) {
-    let shares = plans.map(|(plan, number)| {
-        let items = parts.items.share();
-        std::vec![PartsToRun {
-            items,
-            plan,
-            numbers: number..number + 1,
-        }]
-    });
-    run_all(shares, run);
+/// Takes two plans for the list of `parts`, and one part of each.
+fn of_both<'a, T, P: Copy>(mut parts: PartsToRun<'a, T, P>, plans: [(P, usize); 2]) -> [PartsToRun<'a, T, P>; 2] {
+    plans.map(|(plan, number)| {
+        let (items, numbers) = (parts.items.share(), number..number + 1);
+        PartsToRun { items, plan, numbers }
+    })
 }
 
 /// Runs two parts of a reversal that overlap, on two threads: a patch of a square whose sides are cut into two pieces,
 /// and the whole square.
 fn exchanges_both(len: usize, row_width: usize) {
     let mut list: Vec<usize> = (0..len).collect();
-    let parts = parts_of_reversal(&mut list, row_width, 1, 0).unwrap();
-    let place = parts.plan.place;
-    let of_places = |items: usize| items * size_of::<usize>() / place;
-    let plans = [1, 2].map(|pieces| ReversalPlan::new(of_places(len), of_places(row_width), pieces, 0));
-    assert_eq!(plans.map(ReversalPlan::count), [1, 3]);
-    let plans = plans.map(|plan| (PlacePlan { plan, place }, 0));
-    run_both(parts, plans, PartsToRun::exchange);
+    let ReversalParts(parts) = cut(&mut list, row_width, 1, 0).unwrap();
+    let plans = [1, 2].map(|pieces| RowPlan::new(len, size_of::<usize>(), row_width, pieces, 0).unwrap());
+    assert_eq!(plans.map(|(_, count)| count), [1, 3]);
+    let both = of_both(parts, plans.map(|(plan, _)| (plan, 0)));
+    run_all(both.map(|part| std::vec![ReversalPart(part)]), ReversalPart::run);
 }
 
 /// The first 32 of 64 columns, and the last 16 of those 32.
@@ -116,12 +108,10 @@ fn exchanges_both(len: usize, row_width: usize) {
 fn overlapping_regions() {
     let input: Vec<u32> = (0..64 * 64).collect();
     let mut output = input.clone();
-    let parts = parts_of_transpose(&input, &mut output, 64, 64, 1).unwrap();
-    let cuts = [(2, 0), (4, 1)].map(|(count, part)| {
-        let plan = TransposePlan::new(64, 64, count, true);
-        (MatrixPlan { plan, ..parts.plan }, part)
-    });
-    run_both(parts, cuts, PartsToRun::put);
+    let TransposeParts(parts) = transpose(&input, &mut output, 64, 64, 1);
+    let cuts = [(2, 0), (4, 1)].map(|(count, part)| ((parts.plan.0, TransposePlan::new(64, 64, count, true)), part));
+    let both = of_both(parts, cuts);
+    run_all(both.map(|part| std::vec![TransposePart(part)]), TransposePart::run);
 }
 
 /// 2^8 rows of three items, which are a square of 16 by 16 rows.

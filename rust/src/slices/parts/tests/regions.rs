@@ -4,8 +4,10 @@
 use core::cell::RefCell;
 use std::vec::Vec;
 
-use super::order::order_of;
-use super::*;
+use super::super::super::by_type;
+use super::super::super::holders::USES_REGISTERS;
+use super::super::super::ways::strips_of;
+use super::super::*;
 use crate::kernels::places::Source;
 use crate::kernels::transpose::{Order, transpose_matrix};
 
@@ -30,7 +32,7 @@ impl<T: Copy> Source for Noted<'_, T> {
 }
 
 /// Calls `call` with `len` items and returns the indices that it reads, in order.
-fn reads<T: Copy + Default>(len: usize, call: impl FnOnce(&[T], &mut [T], Noted<T>)) -> Vec<usize> {
+fn reads<T: Copy + Default + Send + Sync>(len: usize, call: impl FnOnce(&[T], &mut [T], Noted<T>)) -> Vec<usize> {
     let items = std::vec![T::default(); len];
     let mut output = items.clone();
     let reads = RefCell::new(Vec::new());
@@ -43,24 +45,22 @@ fn reads<T: Copy + Default>(len: usize, call: impl FnOnce(&[T], &mut [T], Noted<
 }
 
 /// Puts the regions of some parts, with their items from `source`.
-fn put_from<T: Copy>(mut parts: PartsToRun<T, MatrixPlan<&[T]>>, source: impl Source<Item = T> + Copy) {
-    let MatrixPlan { matrix, plan } = parts.plan;
+fn put_from<T: Copy>(TransposePart(part): TransposePart<T>, source: impl Source<Item = T> + Copy) {
+    let PartsToRun {
+        mut items,
+        plan: (matrix, plan),
+        numbers,
+    } = part;
     let matrix = Matrix::new(source, matrix.width, matrix.height);
     let is_cut = plan.count() > 1;
-    parts.numbers.for_each(|number| {
-        let region = Part::Region { plan: &plan, number };
-        by_type::put(if is_cut { region } else { Part::Whole }, parts.items.share(), matrix);
-    });
+    numbers.for_each(|number| by_type::put_region(items.share(), matrix, is_cut.then(|| plan.region(number))));
 }
 
 #[test]
 fn each_item_is_read_once() {
     for (width, height, asked) in [(64, 64, 1), (64, 64, 4), (100, 40, 3), (40, 100, 3), (5, 3, 9)] {
         let mut read = reads::<usize>(width * height, |items, output, source| {
-            let mut parts = parts_of_transpose(items, output, width, height, asked).unwrap();
-            while let Some(part) = parts.split_first() {
-                put_from(part, source);
-            }
+            transpose(items, output, width, height, asked).for_each(|part| put_from(part, source));
         });
         read.sort_unstable();
         assert!(read.into_iter().eq(0..width * height), "{width} by {height}");
@@ -72,19 +72,19 @@ fn each_item_is_read_once() {
 /// registers.
 #[test]
 fn strips_of_the_parts() {
-    fn check<T: Copy + Default>(width: usize, height: usize) -> bool {
+    fn check<T: Copy + Default + Send + Sync>(width: usize, height: usize) -> bool {
         let by_parts = reads::<T>(width * height, |items, output, source| {
-            put_from(parts_of_transpose(items, output, width, height, 1).unwrap(), source);
+            transpose(items, output, width, height, 1).for_each(|part| put_from(part, source));
         });
         let by_strips = |by_size: bool| {
             reads::<T>(width * height, |_, output, source| {
                 let matrix = Matrix::new(source, width, height);
                 let order = if by_size {
-                    order_of(size_of::<T>(), matrix, Part::Whole)
+                    Order::Strips(strips_of(size_of::<T>(), width, height))
                 } else {
                     Order::by_shape(matrix)
                 };
-                let _ = transpose_matrix(SliceCells::new(output), matrix, order);
+                let _ = transpose_matrix(SliceItems::new(output), matrix, order);
             })
         };
         assert!(by_parts == by_strips(true), "{width} by {height}");
@@ -104,17 +104,17 @@ fn strips_of_the_parts() {
 /// A call on slices puts the items by the strips that suit their size.
 #[test]
 fn strips_of_calls_on_slices() {
-    fn check<T: Copy + Default>(width: usize, height: usize) {
+    fn check<T: Copy + Default + Send + Sync>(width: usize, height: usize) {
         let by_call = reads::<T>(width * height, |_, output, source| {
             let matrix = Matrix::new(source, width, height);
-            by_type::put(Part::Whole, SliceCells::new(output), matrix);
+            by_type::put_region(SliceItems::new(output), matrix, None);
         });
         let by_strips = reads::<T>(width * height, |_, output, source| {
             let matrix = Matrix::new(source, width, height);
             let _ = transpose_matrix(
-                SliceCells::new(output),
+                SliceItems::new(output),
                 matrix,
-                order_of(size_of::<T>(), matrix, Part::Whole),
+                Order::Strips(strips_of(size_of::<T>(), width, height)),
             );
         });
         assert!(by_call == by_strips, "{width} by {height}");
@@ -125,5 +125,4 @@ fn strips_of_calls_on_slices() {
     check::<u128>(16, 16);
     check::<u128>(64, 64);
     check::<u128>(17, 20);
-    check::<[u64; 4]>(16, 65_664);
 }

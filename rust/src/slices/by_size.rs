@@ -1,22 +1,19 @@
-//! Kernels that are compiled for each size of item, and not for each type. Only `unchecked.rs` uses this file.
+//! Kernels that are compiled for each size of item, and not for each type. Only `slices.rs` uses this file.
 //!
 //! A kernel moves items and never looks at one. So all that an instance of a kernel has to know of the type is how many
 //! bytes an item has. The instances for the sizes in the table of `by_size!`, and for rows, are compiled in this package:
-//! those of `reverse_places`, `exchange_part` and `put_part` name every size, and are not generic. A crate that uses the
+//! those of `reverse_places`, `exchange_places` and `put_bytes` name every size, and are not generic. A crate that uses the
 //! package calls them. It compiles kernels of its own only for items of other sizes: rustc, from 1.85 on, does not compile a
 //! generic function again that is not inlined and that the package has compiled for the same types.
 //!
 //! If the processor does not move unaligned bytes as fast as aligned ones, each type has kernels of its own.
 
-use super::by_type::{self, LONG_BYTES};
-use super::bytes::{Bytes, MOVES_BYTES};
-use super::holders::{InRegisters, SliceItems, SliceSource};
-use super::order::lines_of;
-use super::registers::{Items, Register, USES_REGISTERS};
-use super::{Part, PlacePlan};
-use crate::kernels::parts::ReversalPlan;
+use super::by_type;
+use super::holders::{Bytes, Items, MOVES_BYTES, Register, SliceItems, SliceSource, USES_REGISTERS};
+use super::parts::RowPlan;
+use super::ways::LONG_BYTES;
 use crate::kernels::registers::{Pair, Two};
-use crate::kernels::transpose::Matrix;
+use crate::kernels::transpose::{Matrix, Region};
 
 /// `by_size!(size)` is whether the size is in this table. `by_size!(size, holder = list => call, _ => other)` is `call` if
 /// it is, and otherwise `other`. In `call`, `holder` is the holder of the list as items of this size.
@@ -32,7 +29,7 @@ macro_rules! by_size {
     $size:expr, $holder:ident = $list:expr => $call:expr, _ => $other:expr) => {
         match $size {
             $($short if USES_REGISTERS => {
-                let $holder = InRegisters::<_, $rows>::new($list.in_bytes::<$short>());
+                let $holder = $list.in_bytes::<$short>().in_registers::<$rows>();
                 $call
             })*
             $($bytes if MOVES_BYTES => {
@@ -67,35 +64,23 @@ pub(super) fn reverse_rows<F>(items: SliceItems<F>, row_width: usize) {
     }
 }
 
-/// Transposes a matrix of very few items in place of this call. An item that may have several fields is put as bytes: otherwise
-/// its fields would be read and written one by one.
+/// Puts a matrix.
 #[inline(always)]
-pub(super) fn put_few<T: Copy>(cells: SliceItems<T>, matrix: Matrix<SliceSource<T>>) {
-    by_size!(
-        @ [] [2 4 8 12 16 20 32 64]
-        const { if size_of::<T>() <= 8 && size_of::<T>() == align_of::<T>() { 0 } else { size_of::<T>() } },
-        holder = cells => by_type::put_few(holder, in_bytes(matrix)),
-        _ => by_type::put_few(cells, matrix)
-    );
-}
-
-/// Transposes a matrix that is not put by lines.
-#[inline(always)]
-pub(super) fn transpose<T: Copy>(cells: SliceItems<T>, matrix: Matrix<SliceSource<T>>) {
+pub(super) fn put<T: Copy>(source: SliceSource<T>, cells: SliceItems<T>, width: usize, height: usize) {
     by_size!(
         const { size_of::<T>() },
-        holder = cells => by_type::transpose(holder, in_bytes(matrix)),
-        _ => by_type::transpose(cells, matrix)
+        holder = cells => by_type::put(source.in_bytes(), holder, width, height),
+        _ => by_type::put(source, cells, width, height)
     );
 }
 
-/// Puts a part of a matrix.
+/// Puts a region of a matrix, or all of it.
 #[inline(always)]
-pub(super) fn put<T: Copy>(part: Part, cells: SliceItems<T>, matrix: Matrix<SliceSource<T>>) {
+pub(super) fn put_region<T: Copy>(cells: SliceItems<T>, matrix: Matrix<SliceSource<T>>, region: Option<Region>) {
     if const { by_size!(size_of::<T>()) } {
-        put_part(part, cells.in_bytes(), in_bytes(matrix), size_of::<T>());
+        put_bytes(cells.in_bytes(), in_bytes(matrix), region, size_of::<T>());
     } else {
-        by_type::put(part, cells, matrix);
+        by_type::put_region(cells, matrix, region);
     }
 }
 
@@ -111,11 +96,11 @@ pub(super) fn place(size: usize, row: usize) -> usize {
 
 /// Makes the exchanges of part `number`.
 #[inline(always)]
-pub(super) fn exchange<F>(items: SliceItems<F>, reversal: PlacePlan, number: usize) {
-    if const { by_size!(size_of::<F>()) } || reversal.place != size_of::<F>() {
-        exchange_part(items.in_bytes(), reversal, number);
+pub(super) fn exchange<F>(items: SliceItems<F>, plan: RowPlan, number: usize) {
+    if const { by_size!(size_of::<F>()) } || plan.place != size_of::<F>() {
+        exchange_places(items.in_bytes(), plan, number);
     } else {
-        by_type::exchange(items, reversal, number);
+        by_type::exchange(items, plan, number);
     }
 }
 
@@ -137,30 +122,23 @@ fn reverse_places(list: SliceItems<Bytes<1>>, bytes: usize) {
 
 /// Makes the exchanges of a part. A place has a size in the table.
 #[inline(never)]
-fn exchange_part(list: SliceItems<Bytes<1>>, PlacePlan { plan, place }: PlacePlan, number: usize) {
-    match plan {
-        ReversalPlan::OnePart(rows) => reverse_places(list, rows.width * place),
-        ReversalPlan::ByPairs(pairs) => by_size!(
-            place,
+fn exchange_places(list: SliceItems<Bytes<1>>, plan: RowPlan, number: usize) {
+    match plan.pairs {
+        None => reverse_places(list, plan.width * plan.place),
+        Some(pairs) => by_size!(
+            plan.place,
             holder = list => _ = pairs.exchange(holder, number),
             _ => unreachable!("these items have kernels of their type")
         ),
     }
 }
 
-/// Puts a part, for items of a size in the table.
+/// Puts a region of items of a size in the table.
 #[inline(never)]
-fn put_part(part: Part, cells: SliceItems<Bytes<1>>, matrix: Matrix<SliceSource<Bytes<1>>>, size: usize) {
-    if let Some(lines) = lines_of(size, matrix, part, cells.address()) {
-        return by_size!(
-            @ [4: Pair<Items<4>>, 8: Pair<Items<8>>, 16: Two<Register>] [] size,
-            holder = cells => holder.past_caches(|cells| by_type::run(lines, part, cells, in_bytes(matrix))),
-            _ => unreachable!("this size has no lines")
-        );
-    }
+fn put_bytes(cells: SliceItems<Bytes<1>>, matrix: Matrix<SliceSource<Bytes<1>>>, region: Option<Region>, size: usize) {
     by_size!(
         size,
-        holder = cells => by_type::put(part, holder, in_bytes(matrix)),
+        holder = cells => by_type::put_region(holder, in_bytes(matrix), region),
         _ => unreachable!("this size has no kernels here")
     );
 }

@@ -67,10 +67,8 @@ fn transposes_are_seen_by_a_flag() {
                 DONE
             };
             shared.take(WRITES, next, |list| match round % 2 {
-                0 => assert!(crate::unchecked::transpose(&input, list, WIDTH, HEIGHT)),
-                _ => crate::unchecked::parts_of_transpose(&input, list, WIDTH, HEIGHT, 2)
-                    .unwrap()
-                    .put(),
+                0 => assert!(crate::slices::transpose(&input, list, WIDTH, HEIGHT)),
+                _ => crate::parts::transpose(&input, list, WIDTH, HEIGHT, 2).for_each(crate::parts::TransposePart::run),
             });
             if next == DONE {
                 break;

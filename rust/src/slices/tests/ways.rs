@@ -1,168 +1,130 @@
-//! Tests in which order a matrix is put, and the order of the puts for the strips that only this package chooses.
+//! Tests how a matrix is put, and the order of the puts for the strips that only this package chooses.
 
-use core::marker::PhantomData;
 use core::ops::Range;
 use std::vec::Vec;
 
-use super::*;
-use crate::kernels::parts::TransposePlan;
+use super::super::holders::USES_REGISTERS;
+use super::super::ways::{ShortWay, Way, short_way_of, side_of, strips_of, way_of};
 use crate::kernels::places::{Block, Cells, SliceSource, Source};
-use crate::kernels::transpose::{Strips, transpose_matrix};
+use crate::kernels::transpose::{Matrix, Order, Region, Strips, transpose_matrix};
 
-/// A source of this many items, which are never read.
-struct Unread<T>(usize, PhantomData<T>);
+const IS_AARCH64: bool = cfg!(target_arch = "aarch64");
 
-impl<T> Clone for Unread<T> {
-    fn clone(&self) -> Self {
-        *self
-    }
-}
+const HAS_LINES: bool = USES_REGISTERS && cfg!(target_arch = "x86_64");
 
-impl<T> Copy for Unread<T> {}
-
-impl<T: Copy> Source for Unread<T> {
-    type Item = T;
-
-    fn len(&self) -> usize {
-        self.0
-    }
-
-    fn at(&self, _: usize) -> T {
-        unreachable!("no item is read")
-    }
-}
-
-/// A matrix of items of type `T`.
-fn matrix<T: Copy>(width: usize, height: usize) -> Matrix<Unread<T>> {
-    Matrix::new(Unread(width * height, PhantomData), width, height)
-}
-
-/// Whether a matrix of items of type `T`, and a part of it, is put in these strips, without lines.
-fn is_in<T: Copy>(strips: Strips, width: usize, height: usize) -> bool {
-    let plan = TransposePlan::new(width, height, 1, true);
-    let region = Part::Region { plan: &plan, number: 0 };
-    let order = |part| order_of(size_of::<T>(), matrix::<T>(width, height), part);
-    let whole = match width * height {
-        0 | 128..=1_048_576 => Order::Strips(strips),
-        1..128 => Order::Columns,
-        _ => Order::Leaves(strips),
+/// The way for all columns of a matrix, as a part of a call that is cut.
+fn way_of_part(size: usize, width: usize, height: usize, first: usize) -> Way {
+    let region = Region {
+        row_start: 0,
+        row_end: height,
+        col_start: 0,
+        col_end: width,
     };
-    order(Part::Whole) == whole && order(region) == Order::Leaves(strips)
+    way_of(size, width, height, Some(region), first)
 }
 
-/// Whether a matrix of items of type `T` is put in the same way as by the calls in Rattle.
-fn is_by_shape<T: Copy>(width: usize, height: usize) -> bool {
-    let matrix = matrix::<T>(width, height);
-    order_of(size_of::<T>(), matrix, Part::Whole) == Order::by_shape(matrix)
-}
-
+/// Each row of the first table. In these tests a list of 1024 bytes is long, and so is every column.
 #[test]
-fn blocks_of_small_items() {
-    let turns = USES_REGISTERS;
-    for (width, height) in [(7, 1000), (8, 17), (12, 11), (64, 64), (181, 181)] {
-        assert_eq!(
-            is_in::<u8>(Strips::high(8), width, height),
-            turns,
-            "{width} by {height}"
-        );
-        assert_eq!(
-            is_in::<u16>(Strips::high(8), width, height),
-            turns,
-            "{width} by {height}"
-        );
-        assert_eq!(
-            is_in::<u32>(Strips::high(SIDE), width, height),
-            turns,
-            "{width} by {height}"
-        );
-        assert_eq!(
-            is_in::<u64>(Strips::high(SIDE), width, height),
-            turns,
-            "{width} by {height}"
-        );
+fn ways() {
+    for size in [1, 2, 3, 4, 8, 12, 16, 32, 1023] {
+        let short = |width, height| short_way_of(size, width, height);
+        for other in [0, 1, 2, 127, 128, 1 << 30] {
+            for few in [0, 1] {
+                assert_eq!(
+                    [short(few, other), short(other, few)],
+                    [Some(ShortWay::Copied); 2],
+                    "{size} {other}"
+                );
+            }
+        }
+        for (width, height) in (2..=64).flat_map(|width| (2..=64).map(move |height| (width, height))) {
+            let is_block = USES_REGISTERS
+                && match size {
+                    1 | 2 => (width, height) == (8, 8),
+                    4 | 8 if IS_AARCH64 => (width, height) == (8, 8),
+                    4 | 8 => (width, height) == (4, 4),
+                    _ => false,
+                };
+            let wanted = match width * height {
+                _ if is_block => Some(ShortWay::Block),
+                ..128 => Some(ShortWay::Columns),
+                _ => None,
+            };
+            assert_eq!(short(width, height), wanted, "{size} {width} {height}");
+            assert_eq!(way_of(size, width, height, None, 1), Way::Strips);
+            assert_eq!(way_of_part(size, width, height, 1), Way::Leaves);
+        }
     }
+    for size in [1024, 1 << 20] {
+        assert_eq!(short_way_of(size, 1, 5), Some(ShortWay::Copied));
+        assert_eq!([short_way_of(size, 2, 2), short_way_of(size, 8, 8)], [None; 2]);
+        assert_eq!(way_of_part(size, 64, 64, 0), Way::Leaves);
+    }
+    for size in [1, 3, 12, 1023, 1024] {
+        let whole = |width, height| way_of(size, width, height, None, 1);
+        assert_eq!([whole(2, 2), whole(1024, 1024)], [Way::Strips; 2]);
+        assert_eq!([whole(1025, 1024), whole(2, 524_289)], [Way::Leaves; 2]);
+    }
+}
+
+/// The rows of the second table.
+#[test]
+fn strips() {
     for (width, height) in [
+        (7, 1000),
+        (8, 17),
+        (64, 64),
+        (181, 181),
         (1, 32_769),
         (182, 181),
         (1025, 1024),
         (512, 512),
         (512, 513),
-        (262_144, 12),
+        (1024, 256),
     ] {
-        assert_eq!(
-            is_in::<u8>(Strips::high(8), width, height),
-            turns,
-            "{width} by {height}"
-        );
-        assert_eq!(
-            is_in::<u16>(Strips::high(8), width, height),
-            turns,
-            "{width} by {height}"
-        );
-        assert_eq!(
-            is_in::<u32>(Strips::high(SIDE), width, height),
-            turns,
-            "{width} by {height}"
-        );
-        // On aarch64, all matrices of items of 8 bytes are put by blocks.
-        let by_blocks = turns && (IS_AARCH64 || (width, height) == (512, 512));
-        assert_eq!(is_by_shape::<u64>(width, height), !by_blocks, "{width} by {height}");
+        let by_width = if width % 16 == 0 {
+            Strips::low()
+        } else {
+            Strips::high(1)
+        };
+        for size in [0, 1, 2, 3, 4, 8, 12, 16, 32, 64] {
+            let most = match size {
+                1 | 2 | 4 => usize::MAX,
+                8 if IS_AARCH64 => usize::MAX,
+                8 if width % 512 == 0 => 262_144,
+                8 => 32_768,
+                _ => 0,
+            };
+            let by_blocks = USES_REGISTERS && width * height <= most;
+            let wanted = if by_blocks {
+                Strips::high(side_of(size))
+            } else {
+                by_width
+            };
+            assert!(strips_of(size, width, height) == wanted, "{size} {width} {height}");
+        }
     }
 }
 
-/// By the shape alone, small matrices would be put by blocks of 4 by 4 items.
-#[test]
-fn columns_of_other_items() {
-    fn check<T: Copy>() {
-        for (width, height) in [(16, 8), (16, 64), (32, 32), (48, 17)] {
-            assert!(is_in::<T>(Strips::low(), width, height), "{width} by {height}");
-        }
-        for (width, height) in [
-            (16, 65),
-            (1040, 12),
-            (64, 64),
-            (2048, 2048),
-            (8, 16),
-            (300, 60),
-            (1025, 1024),
-        ] {
-            assert!(is_by_shape::<T>(width, height), "{width} by {height}");
-        }
-    }
-    check::<()>();
-    check::<[u8; 3]>();
-    check::<u128>();
-    check::<[u64; 4]>();
-    check::<[u64; 8]>();
-}
-
-/// In these tests a list of 1024 bytes is long, and so is every column. Items that are not aligned are put as others. A whole
-/// call goes by lines only if its matrix would be split otherwise.
+/// Items that are not aligned are put as others. A whole call goes by lines only if it has too many items for strips.
 #[test]
 fn lines_of_long_lists() {
-    fn check<T: Copy>(can: bool) {
-        let size = size_of::<T>();
-        for (width, height) in [(16, 16), (1, 1024), (1024, 1), (19, 37), (5, 30), (2000, 2000)] {
+    for size in [1, 2, 4, 8, 12, 16, 32] {
+        for (width, height) in [(16, 16), (19, 37), (5, 30), (2000, 2000)] {
             for first in [0, size, 64 - size, 4096 + 2 * size, 1, size / 2] {
-                let plan = TransposePlan::new(width, height, 2, true);
-                let lines = Lines::new(LINE / size, first % LINE / size);
-                for part in [Part::Whole, Part::Region { plan: &plan, number: 0 }] {
-                    let is_split = matches!(part, Part::Region { .. }) || width * height > 1 << 20;
-                    let is_long = width * height * size >= 1024 && first % size == 0;
-                    let has_lines = can && HAS_LINES && is_split && is_long;
-                    let found = lines_of(size, matrix::<T>(width, height), part, first);
-                    assert!(found == has_lines.then_some(lines), "{width} by {height} at {first}");
+                let is_long = matches!(size, 4 | 8 | 16) && width * height * size >= 1024 && first % size == 0;
+                let wanted = if HAS_LINES && is_long { Way::Lines } else { Way::Leaves };
+                assert_eq!(
+                    way_of_part(size, width, height, first),
+                    wanted,
+                    "{size} {width} by {height} at {first}"
+                );
+                if width * height > 1 << 20 {
+                    assert_eq!(way_of(size, width, height, None, first), wanted);
                 }
             }
         }
     }
-    check::<u8>(false);
-    check::<u16>(false);
-    check::<u32>(true);
-    check::<u64>(true);
-    check::<[u32; 3]>(false);
-    check::<u128>(true);
-    check::<[u64; 4]>(false);
 }
 
 /// The cells of a transpose, which note the order of the puts.

@@ -9,12 +9,13 @@ use std::num::NonZero;
 use std::vec::Vec;
 
 #[cfg(not(feature = "checked"))]
-use super::bytes::Bytes;
+use super::holders::Bytes;
 #[cfg(not(feature = "checked"))]
-use super::holders::InRegisters;
+use super::holders::SliceItems;
 #[cfg(not(feature = "checked"))]
-use super::registers::{self, Items};
-use super::{SliceCells, SlicePlaces, SliceSource};
+use super::holders::{Items, Register as Vector, USES_REGISTERS};
+use super::holders::{SliceItems as SliceCells, SliceItems as SlicePlaces, SliceSource};
+use super::parts::{ReversalPart, TransposePart};
 use crate::kernels::places::{Block, Cells, Places, Source};
 #[cfg(not(feature = "checked"))]
 use crate::kernels::registers::{Pair, Paired, Register, Single, Two};
@@ -75,7 +76,7 @@ impl<T, const N: usize> Paired<T> for Of<N> where Items<N>: Register<Bytes<N>> {
 /// A register that is an item of 16 bytes, of any type of this size.
 #[cfg(not(feature = "checked"))]
 #[derive(Clone, Copy)]
-struct Whole(#[allow(dead_code, reason = "it is only copied")] registers::Register);
+struct Whole(#[allow(dead_code, reason = "it is only copied")] Vector);
 
 #[cfg(not(feature = "checked"))]
 impl<T> Single<T> for Whole {}
@@ -86,10 +87,10 @@ struct ByRegisters<D>(D);
 
 #[cfg(not(feature = "checked"))]
 impl<'a, T: 'a, D: Register<T>> Hold<'a, T> for ByRegisters<D> {
-    type Holder = InRegisters<'a, T, D>;
+    type Holder = SliceItems<'a, T, D>;
 
-    fn hold(list: &'a mut [T]) -> InRegisters<'a, T, D> {
-        InRegisters::new(SlicePlaces::new(list))
+    fn hold(list: &'a mut [T]) -> SliceItems<'a, T, D> {
+        SlicePlaces::new(list).in_registers()
     }
 }
 
@@ -106,7 +107,7 @@ macro_rules! of_each_holder {
     }};
     (@ $item:ty, $hold:ident => $statement:expr, $($bytes:literal: $rows:ty),*) => {
         match size_of::<$item>() {
-            $($bytes if crate::unchecked::USES_REGISTERS => {
+            $($bytes if USES_REGISTERS => {
                 type $hold = ByRegisters<$rows>;
                 $statement;
             })*
@@ -132,9 +133,9 @@ impl<'a, T: Copy + 'a> HoldCells<'a, T> for Singly {
 
 #[cfg(not(feature = "checked"))]
 impl<'a, T: Copy + 'a, D: Register<T>> HoldCells<'a, T> for ByRegisters<D> {
-    type Holder = InRegisters<'a, T, D>;
+    type Holder = SliceItems<'a, T, D>;
 
-    fn hold_cells(list: &'a mut [T]) -> InRegisters<'a, T, D> {
+    fn hold_cells(list: &'a mut [T]) -> SliceItems<'a, T, D> {
         Self::hold(list)
     }
 }
@@ -151,8 +152,7 @@ fn left(call: impl FnOnce(&mut SlicePlaces<[u8; 5]>)) -> [u8; 6] {
 fn exchanges() {
     assert_eq!(left(|places| places.exchange(5, 1)), [0, 5, 2, 3, 4, 1]);
     assert_eq!(left(|places| places.exchange(3, 3)), [0, 1, 2, 3, 4, 5]);
-    assert_eq!(left(|places| places.exchange_apart(0, 5)), [5, 1, 2, 3, 4, 0]);
-    assert_eq!(left(|places| places.exchange_apart(5, 0)), [5, 1, 2, 3, 4, 0]);
+    assert_eq!(left(|places| places.exchange(0, 5)), [5, 1, 2, 3, 4, 0]);
 }
 
 /// A list taken as groups of bytes has as many groups as lie within it.
@@ -520,15 +520,16 @@ fn blocks_as_defined() {
 
 /// Whether a matrix of the items that `item` makes is transposed in parts, which are cut at multiples of 16 columns or
 /// rows.
-fn is_transposed_in_parts<T: Copy + PartialEq>(width: usize, height: usize, item: impl Fn(usize) -> T) -> bool {
+fn is_transposed_in_parts<T: Copy + PartialEq + Send + Sync>(
+    width: usize,
+    height: usize,
+    item: impl Fn(usize) -> T,
+) -> bool {
     let input: Vec<T> = (0..width * height).map(&item).collect();
     let cuts = 1..=width.max(height).div_ceil(16);
     cuts.into_iter().all(|count| {
         let mut output = std::vec![item(usize::MAX); input.len()];
-        let mut parts = super::parts_of_transpose(&input, &mut output, width, height, count).unwrap();
-        while let Some(part) = parts.split_first() {
-            part.put();
-        }
+        super::parts::transpose(&input, &mut output, width, height, count).for_each(TransposePart::run);
         (0..output.len()).all(|place| output[place] == input[place % height * width + place / height])
     })
 }
@@ -553,8 +554,6 @@ fn blocks_of_parts() {
 #[cfg(not(feature = "checked"))]
 #[test]
 fn shuffles() {
-    use super::USES_REGISTERS;
-    use super::holders::SliceItems;
     use crate::kernels::registers::{Pair, Paired, Register, Runs};
 
     fn compare<const N: usize>()
@@ -603,6 +602,8 @@ mod handed_over;
 #[cfg(not(feature = "checked"))]
 mod lines;
 
+mod ways;
+
 #[cfg(any(debug_assertions, feature = "checked"))]
 mod refused {
     use std::panic::{AssertUnwindSafe, catch_unwind};
@@ -618,12 +619,6 @@ mod refused {
         for (i, j) in [(6, 0), (0, 6), (6, 6), (usize::MAX, 0), (0, usize::MAX)] {
             assert!(panics(|| _ = left(|places| places.exchange(i, j))), "{i} {j}");
         }
-        for (i, j) in [(0, 6), (6, 0), (6, 6), (6, 7), (0, usize::MAX)] {
-            assert!(panics(|| _ = left(|places| places.exchange_apart(i, j))), "{i} {j}");
-        }
-        // Equal places are refused, except with the feature `checked`.
-        #[cfg(not(feature = "checked"))]
-        assert!(panics(|| _ = left(|places| places.exchange_apart(3, 3))));
     }
 
     #[test]
@@ -762,7 +757,7 @@ fn shares() {
     use std::panic::{AssertUnwindSafe, catch_unwind};
 
     let mut list = [0, 1, 2, 3, 4];
-    let mut items = super::PartItems::in_shares(&mut list, 3);
+    let mut items = SliceCells::in_shares(&mut list, 3);
     let (mut first, mut second) = (items.share(), items.share());
     first.put(2, 7);
     first.exchange(0, 1);
@@ -770,7 +765,7 @@ fn shares() {
     second.exchange(3, 4);
     assert_eq!([Cells::len(&first), Cells::len(&second), Places::len(&second)], [5; 3]);
     let is_refused = |call: &mut dyn FnMut()| catch_unwind(AssertUnwindSafe(call)).is_err();
-    let refuses = |share: &mut super::PartItems<i32>, inside: usize, outside: &[usize]| {
+    let refuses = |share: &mut SliceCells<i32>, inside: usize, outside: &[usize]| {
         for outside in outside {
             assert!(is_refused(&mut || share.put(*outside, 9)), "{outside}");
             assert!(
@@ -795,23 +790,19 @@ fn shares() {
 #[test]
 fn places_of_parts() {
     fn place<const N: usize>(row_width: usize) -> usize {
-        let mut list = [[0u8; N]; 64];
-        super::parts_of_reversal(&mut list, row_width, 1, 0).unwrap().plan.place
+        super::instances::place(N, row_width * N)
     }
     let moves_bytes = cfg!(all(
         any(target_arch = "x86_64", target_arch = "aarch64"),
         not(unaligned_is_slow)
     ));
     if cfg!(feature = "checked") || !moves_bytes {
-        assert_eq!([place::<0>(2), place::<3>(4), place::<4>(4)], [1, 3, 4]);
+        assert_eq!([place::<3>(4), place::<4>(4)], [3, 4]);
         return;
     }
     assert_eq!([1, 2, 4, 8, 32].map(place::<4>), [4, 8, 16, 32, 1]);
     assert_eq!([1, 2, 4, 64].map(place::<3>), [3, 1, 12, 1]);
-    assert_eq!(
-        [place::<0>(1), place::<0>(2), place::<48>(1), place::<64>(2)],
-        [1, 1, 48, 1]
-    );
+    assert_eq!([place::<48>(1), place::<64>(2)], [48, 1]);
 }
 
 /// Reverses items, rows and parts of the items that `item` makes. Then each item is dropped, which it would be twice or
@@ -828,13 +819,13 @@ fn reverses<T: Debug + PartialEq>(item: impl Fn(usize) -> T) {
         check(&list, &reversed);
         // With the feature `checked` each reversal is one part.
         let one_part = if cfg!(feature = "checked") { usize::MAX } else { 0 };
-        super::parts_of_reversal(&mut list, width, 2, one_part)
+        super::parts::cut(&mut list, width, 2, one_part)
             .unwrap()
-            .exchange();
+            .for_each(ReversalPart::run);
         check(&list, &|row| row);
-        super::parts_of_reversal(&mut list, width, 1, usize::MAX)
+        super::parts::cut(&mut list, width, 1, usize::MAX)
             .unwrap()
-            .exchange();
+            .for_each(ReversalPart::run);
         check(&list, &reversed);
         if width == 1 {
             assert!(super::reverse(&mut list));
@@ -844,7 +835,7 @@ fn reverses<T: Debug + PartialEq>(item: impl Fn(usize) -> T) {
 }
 
 /// Transposes matrices of the items that `item` makes, as a whole and in parts.
-fn transposes<T: Copy + Debug + PartialEq>(item: impl Fn(usize) -> T) {
+fn transposes<T: Copy + Debug + PartialEq + Send + Sync>(item: impl Fn(usize) -> T) {
     for (width, height) in [(2, 3), (8, 8), (5, 40), (33, 20)] {
         let input: Vec<T> = (0..width * height).map(&item).collect();
         let wanted = |place: usize| item(place % height * width + place / height);
@@ -852,9 +843,7 @@ fn transposes<T: Copy + Debug + PartialEq>(item: impl Fn(usize) -> T) {
             let mut output = std::vec![item(0); input.len()];
             match parts {
                 0 => assert!(super::transpose(&input, &mut output, width, height)),
-                _ => super::parts_of_transpose(&input, &mut output, width, height, parts)
-                    .unwrap()
-                    .put(),
+                _ => super::parts::transpose(&input, &mut output, width, height, parts).for_each(TransposePart::run),
             }
             assert!(
                 output.into_iter().eq((0..input.len()).map(wanted)),

@@ -5,12 +5,12 @@ use std::array::from_fn;
 use std::collections::BTreeSet;
 use std::vec::Vec;
 
-use super::{one_part_reversal, parts_of_side, row_reversal, transpose};
+use super::{cut, one_part_reversal, parts_of_side, row_reversal, transpose};
 use crate::kernels::lines::Lines;
-use crate::kernels::parts::{Cut, ReversalPlan, RowPairs, TransposePlan};
+use crate::kernels::parts::{Cut, RowPairs, TransposePlan};
 use crate::kernels::places::{Cells, Places, SliceCells, SlicePlaces, SliceSource, Source};
-use crate::kernels::reverse::RowDigits;
-use crate::kernels::transpose::{Matrix, Order, Strips};
+use crate::kernels::reverse::{RowDigits, reverse_rows};
+use crate::kernels::transpose::{Matrix, Order, PutRegion, Strips};
 
 /// A list of numbers that notes each place that a step changes.
 #[derive(Debug)]
@@ -97,10 +97,10 @@ fn check_matrix(width: usize, height: usize, parts: usize, may_cut_rows: bool) {
         assert_eq!(puts, len, "{width} by {height} in {parts} parts");
     };
     for order in [Order::Columns, Order::Strips(strips), Order::Leaves(strips)] {
-        count(&|noted, number| _ = plan.put(noted, source, number, order));
+        count(&|noted, number| _ = order.put(noted, Matrix::new(source, width, height), plan.region(number)));
     }
     let lines = Lines::new(8, width % 8);
-    count(&|noted, number| _ = plan.put(noted, source, number, lines));
+    count(&|noted, number| _ = lines.put(noted, Matrix::new(source, width, height), plan.region(number)));
     assert_eq!((0..plan.count()).map(|number| plan.items(number)).sum::<usize>(), len);
 }
 
@@ -167,13 +167,8 @@ fn regions_of_long_matrices() {
             assert_eq!(last * plan.items(0) + plan.items(last), len);
             if plan.items(last) <= 16 {
                 let mut far = Far { len, puts: Vec::new() };
-                let source = Numbers(len);
-                let _ = plan.put(
-                    &mut far,
-                    source,
-                    last,
-                    Order::Leaves(Strips::by_shape(Matrix::new(source, width, height))),
-                );
+                let matrix = Matrix::new(Numbers(len), width, height);
+                let _ = Order::Leaves(Strips::by_shape(matrix)).put(&mut far, matrix, plan.region(last));
                 assert!(far.puts.into_iter().eq((last * plan.items(0)..len).map(|i| (i, i))));
             }
         }
@@ -209,11 +204,11 @@ fn patch_of(cut: Cut, digits: usize, row: usize) -> (usize, usize, usize) {
 #[test]
 fn patches_of_pairs_of_rows() {
     let cases = (0..=11).flat_map(|digits| (0..=9).map(move |parts| (digits, parts)));
-    for ((digits, parts), (width, unit)) in cases.flat_map(|case| [(1, 8), (1, 2), (3, 1)].map(|rows| (case, rows))) {
-        let plan = ReversalPlan::ByPairs(RowPairs::new(RowDigits { width, digits }, parts, unit));
+    for ((digits, parts), (width, unit)) in cases.flat_map(|case| [(1, 8), (2, 1), (3, 1)].map(|rows| (case, rows))) {
+        let len = width << digits;
+        let plan = RowPairs::new(len, width, parts);
         let exchange = |noted: &mut Noted, number| _ = plan.exchange(noted, number);
         let cut = Cut::new(1 << (digits / 2), parts, unit);
-        let len = width << digits;
         let patches: Vec<_> = (0..plan.count())
             .map(|number| {
                 let mut noted = Noted::numbered(len);
@@ -243,7 +238,7 @@ fn long_lists() {
     for (digits, row_width) in [(9, 1), (14, 1), (15, 1), (19, 1), (10, 20)] {
         let len = row_width << digits;
         let mut noted = Noted::numbered(len);
-        let plan = ReversalPlan::new(len, row_width, 5, 0);
+        let plan = RowPairs::new(len, row_width, 5);
         let mut owners = std::vec![usize::MAX; len];
         for number in 0..plan.count() {
             noted.places.clear();
@@ -292,7 +287,7 @@ fn count_and_share(sizes: impl IntoIterator<Item = usize>) -> (usize, usize) {
 }
 
 /// The same for the plan of a reversal of `len` items. Each part is run alone.
-fn shares(len: usize, plan: ReversalPlan) -> (usize, usize) {
+fn shares(len: usize, plan: RowPairs) -> (usize, usize) {
     let exchanges_of = |number| {
         let mut counted = Counted { len, exchanges: 0 };
         let _ = plan.exchange(&mut counted, number);
@@ -328,7 +323,7 @@ fn shares_of_reversals() {
     ];
     for (digits, row_width, asked, wanted) in cases {
         let len = row_width << digits;
-        let plan = ReversalPlan::new(len, row_width, parts_of_side(asked), 1 << 18);
+        let plan = RowPairs::new(len, row_width, parts_of_side(asked));
         let got = shares(len, plan);
         assert_eq!(got, wanted, "2^{digits} rows of {row_width} if {asked} are asked for");
         let most = match (digits, asked) {
@@ -346,7 +341,7 @@ fn small_shares_of_short_lists() {
     let items = (13..=18).map(|digits| (digits, 1));
     for (digits, row_width) in items.chain((7..=12).map(|digits| (digits, 5))) {
         let len = row_width << digits;
-        let (_, largest) = shares(len, ReversalPlan::new(len, row_width, parts_of_side(64), 0));
+        let (_, largest) = shares(len, RowPairs::new(len, row_width, parts_of_side(64)));
         assert!(largest <= 20, "2^{digits} rows of {row_width}: {largest}");
     }
 }
@@ -372,8 +367,11 @@ fn shares_of_transposes() {
 /// Up to a given length, a list is one part.
 #[test]
 fn lists_up_to_one_part() {
-    let count = |len, row_width, one_part| ReversalPlan::new(len, row_width, 5, one_part).count();
-    assert_eq!([count(0, 1, 0), count(0, 1, 9), count(0, 0, 0)], [1, 1, 1]);
+    let count = |len, row_width, one_part| {
+        let mut list = std::vec![0u8; len];
+        cut(&mut list, row_width, 5, one_part).unwrap().len()
+    };
+    assert_eq!([count(0, 1, 0), count(0, 1, 9), count(0, 0, 0)], [0, 0, 0]);
     assert_eq!([count(1 << 12, 1, 4095), count(1 << 12, 1, 4096)], [10, 1]);
     assert_eq!([count(3 << 9, 3, 1535), count(3 << 9, 3, 1536)], [20, 1]);
 }
@@ -411,20 +409,29 @@ fn item<const N: usize>(number: usize) -> [u8; N] {
 /// that has kernels in this package.
 fn exchange_by_plan<const N: usize, const WIDTH: usize>(rows: &mut [[[u8; N]; WIDTH]], asked: usize, number: usize) {
     let len = rows.len() * WIDTH;
-    let one_part = if len <= one_part_reversal::<[u8; N]>() {
-        usize::MAX
-    } else {
-        0
-    };
-    let plan = |places, width| ReversalPlan::new(places, width, parts_of_side(asked), one_part);
+    let is_cut = len > one_part_reversal::<[u8; N]>();
+    fn exchange(places: impl Places, width: usize, parts: usize, is_cut: bool, number: usize) {
+        let len = places.len();
+        if is_cut {
+            let _ = RowPairs::new(len, width, parts).exchange(places, number);
+        } else {
+            let _ = reverse_rows(places, RowDigits::of(len, width));
+        }
+    }
     let moves_rows = cfg!(all(
         any(target_arch = "x86_64", target_arch = "aarch64"),
         not(unaligned_is_slow)
     ));
     if moves_rows && matches!(N * WIDTH, 1 | 2 | 4 | 8 | 12 | 16 | 20 | 32 | 64) {
-        let _ = plan(rows.len(), 1).exchange(SlicePlaces::new(rows), number);
+        exchange(SlicePlaces::new(rows), 1, parts_of_side(asked), is_cut, number);
     } else {
-        let _ = plan(len, WIDTH).exchange(SlicePlaces::new(rows.as_flattened_mut()), number);
+        exchange(
+            SlicePlaces::new(rows.as_flattened_mut()),
+            WIDTH,
+            parts_of_side(asked),
+            is_cut,
+            number,
+        );
     }
 }
 
@@ -459,7 +466,8 @@ fn puts_alone<const N: usize>() {
             let (mut output, mut wanted) = (blank.clone(), blank.clone());
             let part = transpose(&input, &mut output, width, height, asked).nth(number);
             part.unwrap().run();
-            let _ = plan.put(SliceCells::new(&mut wanted), source, number, Order::Leaves(strips));
+            let matrix = Matrix::new(source, width, height);
+            let _ = Order::Leaves(strips).put(SliceCells::new(&mut wanted), matrix, plan.region(number));
             let is_wanted = output.as_flattened() == wanted.as_flattened();
             assert!(is_wanted, "part {number} of {width} by {height}, items of {N} bytes");
         }
@@ -479,3 +487,8 @@ fn each_part_alone() {
     }
     sizes!(1 2 3 4 8 12 16 20 24 32 40 48 64);
 }
+
+mod regions;
+
+#[cfg(not(feature = "checked"))]
+mod races;

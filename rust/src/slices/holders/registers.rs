@@ -44,14 +44,14 @@ mod processor {
 pub(crate) const USES_REGISTERS: bool = processor::HAS_REGISTERS && MOVES_BYTES && cfg!(not(miri));
 
 /// 16 bytes.
-pub(super) type Register = MaybeUninit<processor::Vector>;
+pub(crate) type Register = MaybeUninit<processor::Vector>;
 
 /// 8 bytes.
-pub(super) type Half = MaybeUninit<processor::Half>;
+pub(crate) type Half = MaybeUninit<processor::Half>;
 
 /// A register of items of `N` bytes.
 #[derive(Clone, Copy)]
-pub(super) struct Items<const N: usize>(Register);
+pub(crate) struct Items<const N: usize>(Register);
 
 /// Defines the registers of items of some sizes. A line has the number of bytes of an item and the name of such parts of
 /// a register on aarch64. The next two have the name of a function, and the names of its one instruction on x86-64 and on

@@ -2,14 +2,13 @@
 //! here.
 
 use core::mem::MaybeUninit;
-use core::ptr;
 use core::sync::atomic::{Ordering, compiler_fence};
 
 use super::registers;
 
 /// Whether this processor moves unaligned bytes as fast as aligned ones. Otherwise each item is moved as its type says. On
 /// some systems, rustc moves unaligned bytes of aarch64 one by one. `rust/test` makes a build in which it is false.
-pub(super) const MOVES_BYTES: bool = cfg!(not(unaligned_is_slow))
+pub(crate) const MOVES_BYTES: bool = cfg!(not(unaligned_is_slow))
     && (cfg!(target_arch = "x86_64")
         || cfg!(target_arch = "aarch64")
             && !cfg!(any(
@@ -26,7 +25,7 @@ pub(super) const MOVES_BYTES: bool = cfg!(not(unaligned_is_slow))
 /// is 1, which is weaker than that of any item, so a reference to these bytes is aligned wherever the item is. What
 /// moves here is always the bytes of whole items, within the list of these items. So each place has an item
 /// afterwards.
-pub(super) type Bytes<const N: usize> = [MaybeUninit<u8>; N];
+pub(crate) type Bytes<const N: usize> = [MaybeUninit<u8>; N];
 
 /// Some bytes at any address. At such a place, they are read and written like an item that is aligned.
 #[derive(Clone, Copy)]
@@ -84,30 +83,13 @@ unsafe fn write_register<T, const AT: usize>(from: *mut u8, to: *mut u8) {
     }
 }
 
-/// Exchanges two runs of `len` items.
-///
-/// # Safety
-///
-/// Both runs are valid for reads and writes, and do not overlap.
-#[inline(always)]
-pub(super) unsafe fn swap_runs<T>(x: *mut T, y: *mut T, len: usize) {
-    // SAFETY: this is what the caller promises.
-    unsafe {
-        if MOVES_BYTES && cfg!(not(debug_assertions)) {
-            swap_bytes(x.cast(), y.cast(), len * size_of::<T>());
-        } else {
-            ptr::swap_nonoverlapping(x, y, len);
-        }
-    }
-}
-
 /// Exchanges two runs of `len` bytes. This is compiled once for all types.
 ///
 /// # Safety
 ///
-/// It is that of [`swap_runs`].
+/// Both runs are valid for reads and writes, and do not overlap.
 #[inline(never)]
-unsafe fn swap_bytes(x: *mut u8, y: *mut u8, len: usize) {
+pub(super) unsafe fn swap_bytes(x: *mut u8, y: *mut u8, len: usize) {
     // SAFETY: this is what the caller promises.
     unsafe { move_bytes::<true>(x, y, 0, len) }
 }
@@ -119,9 +101,9 @@ unsafe fn swap_bytes(x: *mut u8, y: *mut u8, len: usize) {
 /// # Safety
 ///
 /// The bytes at `from` are valid for reads and those at `to` for writes, and if `BACK` is true, both for both. They do
-/// not overlap.
+/// not overlap, or are the same bytes.
 #[inline(always)]
-unsafe fn move_bytes<const BACK: bool>(from: *mut u8, to: *mut u8, done: usize, len: usize) {
+pub(super) unsafe fn move_bytes<const BACK: bool>(from: *mut u8, to: *mut u8, done: usize, len: usize) {
     let mut done = done;
     // SAFETY: each part is within the `len` bytes.
     unsafe {

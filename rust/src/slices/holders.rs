@@ -10,11 +10,21 @@ use core::ptr;
 use core::slice::from_raw_parts;
 use core::sync::atomic::{Ordering, compiler_fence};
 
-use super::bytes::{Bytes, Unaligned, swap_runs, write_item};
-use super::cache;
-use super::order::LINE;
+pub(super) use bytes::{Bytes, MOVES_BYTES};
+use bytes::{Unaligned, move_bytes, swap_bytes, write_item};
+pub(crate) use registers::USES_REGISTERS;
+pub(super) use registers::{Items, Register};
+
+use super::by_type::{Input, Output};
+use super::ways::{LINE, side_of};
+use crate::kernels::lines::Lines;
 use crate::kernels::places::{Block, Cells, Places, Source};
-use crate::kernels::registers::{self as squares, Register, Runs};
+use crate::kernels::registers::{self as squares, Runs, Single, Two};
+use crate::kernels::transpose::{Matrix, PutRegion, Region};
+
+mod bytes;
+mod cache;
+pub(super) mod registers;
 
 /// The items of a slice, as places or as cells, for one kernel or for one part.
 ///
@@ -22,21 +32,29 @@ use crate::kernels::registers::{self as squares, Register, Runs};
 /// makes a reference to the whole list, or to a place or a run that it does not change. A reference to something
 /// that another part changes is undefined behaviour, even if nothing is read through the reference. No test and no
 /// race detector would notice that.
-pub(super) struct SliceItems<'a, T> {
+///
+/// Tiles and blocks of items are transposed in registers `D`, each of which is two rows of a square, if these have more than
+/// one item. If `LAST` is true, the holder stores whole cache lines past the caches.
+pub(super) struct SliceItems<'a, T, D = Two<Alone>, const LAST: bool = false> {
     first: *mut T,
     len: usize,
-    slice: PhantomData<&'a mut [T]>,
+    slice: PhantomData<(&'a mut [T], D)>,
 }
+
+/// No register: items are moved one by one.
+#[derive(Clone, Copy)]
+pub(super) struct Alone;
+
+impl<T> Single<T> for Alone {}
 
 // SAFETY: a `SliceItems` is made from a `&mut [T]`, and may do to the items only what that reference may do.
 unsafe impl<T: Send> Send for SliceItems<'_, T> {}
 
-// SAFETY: a method that takes a `&SliceItems` reads the length and no item, so any number of threads may have one.
-// It would be safe for every `T`. With this bound it holds for the same items as for a `&mut [T]`, and so for the
-// same parts as with the feature `checked`.
+// SAFETY: a method that takes a `&SliceItems` reads the length and no item. With this bound the same parts are `Sync` as with
+// the feature `checked`.
 unsafe impl<T: Sync> Sync for SliceItems<'_, T> {}
 
-impl<'a, T> SliceItems<'a, T> {
+impl<'a, T, D, const LAST: bool> SliceItems<'a, T, D, LAST> {
     /// The `len` items from `first` on. Whoever uses the holder has borrowed them.
     #[inline(always)]
     fn of(first: *mut T, len: usize) -> Self {
@@ -44,6 +62,16 @@ impl<'a, T> SliceItems<'a, T> {
         SliceItems { first, len, slice }
     }
 
+    /// Whether the cells of a block `may_last` be written: each column is a line of the output, and a fence follows.
+    #[inline(always)]
+    fn may_last(&self, block: Block) -> bool {
+        let first = self.first.wrapping_add(block.to).addr();
+        let distance = block.height * size_of::<T>() * usize::from(block.cols > 1);
+        LAST && block.rows * size_of::<T>() == LINE && (first | distance) % LINE == 0
+    }
+}
+
+impl<'a, T> SliceItems<'a, T> {
     #[inline(always)]
     pub(super) fn new(slice: &'a mut [T]) -> Self {
         // The length is read first: reading it through the reference after the pointer was taken from it would end what
@@ -62,20 +90,53 @@ impl<'a, T> SliceItems<'a, T> {
         SliceItems { ..*self }
     }
 
-    /// The address of the first item.
-    pub(super) fn address(&self) -> usize {
-        self.first.addr()
-    }
-
     /// The bytes of the items, `N` at a time.
     #[inline(always)]
     pub(super) fn in_bytes<const N: usize>(self) -> SliceItems<'a, Bytes<N>> {
         // This many groups of `N` bytes are within the slice. `SliceItems` borrows it for as long as it is borrowed.
         SliceItems::of(self.first.cast(), self.len * size_of::<T>() / N)
     }
+
+    #[inline(always)]
+    pub(super) fn in_registers<D: squares::Register<T>>(self) -> SliceItems<'a, T, D> {
+        SliceItems::of(self.first, self.len)
+    }
 }
 
-impl<F> Places for SliceItems<'_, F> {
+impl<T: Copy, D: squares::Register<T>> Output for SliceItems<'_, T, D> {
+    fn address(&self) -> usize {
+        self.first.addr()
+    }
+
+    #[inline]
+    fn copy(self, source: impl Input<T>) {
+        let items = source.as_slice().unwrap_or_default();
+        debug_assert!(self.len == items.len());
+        // SAFETY: both lists have this length, and the source is borrowed as long as it is read.
+        unsafe { ptr::copy_nonoverlapping(items.as_ptr(), self.first, items.len()) }
+    }
+
+    #[inline(never)]
+    fn put_by_lines(self, matrix: Matrix<impl Input<T>>, region: Region) {
+        if const { matches!(size_of::<T>(), 4 | 8 | 16) } {
+            let lines = Lines::new(LINE / size_of::<T>(), self.address() % LINE / size_of::<T>());
+            self.past_caches(|cells| _ = lines.put(cells, matrix, region));
+        }
+    }
+}
+
+impl<'a, T, D> SliceItems<'a, T, D> {
+    /// Runs a kernel that puts a call or a part by lines. Only this function makes a holder that stores past the caches.
+    #[inline(always)]
+    pub(super) fn past_caches(self, kernel: impl FnOnce(SliceItems<'a, T, D, true>)) {
+        kernel(SliceItems::of(self.first, self.len));
+        cache::fence();
+    }
+}
+
+/// With debug assertions, functions that use registers have frames of their own: there a register is on the stack in each
+/// function that it goes through.
+impl<F, D: squares::Register<F>> Places for SliceItems<'_, F, D> {
     type Item = F;
 
     fn len(&self) -> usize {
@@ -84,30 +145,23 @@ impl<F> Places for SliceItems<'_, F> {
 
     #[inline(always)]
     fn exchange(&mut self, i: usize, j: usize) {
-        debug_assert!(i < self.len);
-        if i != j {
-            self.exchange_apart(i, j);
-        }
-    }
-
-    /// Stands for `exchange`. Items of less than 48 bytes are read and then written.
-    #[inline(always)]
-    fn exchange_apart(&mut self, i: usize, j: usize) {
-        debug_assert!(i != j && i < self.len && j < self.len);
-        // SAFETY: the places differ by the clause `apart` of `Places::exchange_apart`, and are within the slice by
-        // `first` and `second`. If both items are read, each is written over the other.
+        debug_assert!(i < self.len && j < self.len);
+        // SAFETY: both places are within the slice, by `first` and `second` of `Places::exchange`. They may be one: items
+        // and parts of items are both read before they are written.
         unsafe {
-            let (x, y) = (&mut *self.first.wrapping_add(i), &mut *self.first.wrapping_add(j));
+            let (x, y) = (self.first.wrapping_add(i), self.first.wrapping_add(j));
             if const { size_of::<F>() < 48 } {
                 let (of_x, of_y) = (ptr::read(x), ptr::read(y));
                 write_item(y, of_x);
                 write_item(x, of_y);
+            } else if MOVES_BYTES && cfg!(not(debug_assertions)) {
+                move_bytes::<true>(x.cast(), y.cast(), 0, size_of::<F>());
             } else {
-                core::mem::swap(x, y);
+                ptr::swap(x, y);
             }
         }
-        // The fence has no effect on the processor. Without it, the compiler would make one permutation in vector
-        // registers of the exchanges of a small list, which takes twice as long with AVX-512.
+        // Without this fence, which has no effect on the processor, the compiler would make one permutation in vector registers
+        // of the exchanges of a small list. That takes twice as long with AVX-512.
         if size_of::<F>() <= 8 && cfg!(not(debug_assertions)) {
             compiler_fence(Ordering::SeqCst);
         }
@@ -119,21 +173,44 @@ impl<F> Places for SliceItems<'_, F> {
         debug_assert!(len <= n && i <= n - len && j <= n - len && i.abs_diff(j) >= len);
         // SAFETY: both runs are within the slice, by the clauses `first` and `second` of `Places::exchange_runs`,
         // and do not overlap, by `apart`.
-        unsafe { swap_runs(self.first.add(i), self.first.add(j), len) }
+        unsafe {
+            let (x, y) = (self.first.add(i), self.first.add(j));
+            if MOVES_BYTES && cfg!(not(debug_assertions)) {
+                swap_bytes(x.cast(), y.cast(), len * size_of::<F>());
+            } else {
+                ptr::swap_nonoverlapping(x, y, len);
+            }
+        }
     }
 
-    /// Stands for 64 calls of `exchange_apart`, one for each row `r` and column `c`, which exchange `x[r] + c` and
-    /// `y[c] + r`. They are made in squares of 4 by 4.
-    #[inline(always)]
+    /// Items that are not in registers are exchanged in squares of 4 by 4.
     #[allow(clippy::needless_range_loop, reason = "a tile is reached by row and column")]
+    #[cfg_attr(debug_assertions, inline(never))]
+    #[cfg_attr(not(debug_assertions), inline(always))]
     fn exchange_tiles(&mut self, x: [usize; 8], y: [usize; 8]) {
+        if const { D::SIDE > 1 } {
+            return squares::exchange_tiles::<F, D, _>(self, x, y);
+        }
         for row in (0..8).step_by(4) {
             for col in (0..8).step_by(4) {
                 for r in row..row + 4 {
                     for c in col..col + 4 {
-                        self.exchange_apart(x[r] + c, y[c] + r);
+                        self.exchange(x[r] + c, y[c] + r);
                     }
                 }
+            }
+        }
+    }
+
+    #[cfg_attr(debug_assertions, inline(never))]
+    #[cfg_attr(not(debug_assertions), inline(always))]
+    fn turn_tile(&mut self, x: [usize; 8]) {
+        if const { D::SIDE > 1 } {
+            return squares::turn_tile::<F, D, _>(self, x);
+        }
+        for row in 0..8 {
+            for col in row + 1..8 {
+                self.exchange(x[row] + col, x[col] + row);
             }
         }
     }
@@ -162,12 +239,12 @@ impl<F> Places for SliceItems<'_, F> {
 /// A list of at least this many bytes does not fit in a cache.
 const FAR_BYTES: usize = 1 << 23;
 
-impl<T: Copy> Cells for SliceItems<'_, T> {
+impl<T: Copy, D: squares::Register<T>, const LAST: bool> Cells for SliceItems<'_, T, D, LAST> {
     type Item = T;
 
     #[inline(always)]
-    fn has_blocks(&self, _side: usize) -> bool {
-        false
+    fn has_blocks(&self, side: usize) -> bool {
+        D::SIDE > 1 && side == side_of(size_of::<T>())
     }
 
     fn len(&self) -> usize {
@@ -185,13 +262,37 @@ impl<T: Copy> Cells for SliceItems<'_, T> {
             }
             write_item(cell, v);
         }
-        // Without the fence, the compiler would read eight items before it writes them, because it knows that the
-        // input and the output do not overlap. For processors with AVX-512 it would turn these reads, which are in
-        // eight rows, into one gather. For items of 4 and 8 bytes, that takes two to four times as long as moving
-        // one item after the other. The fence keeps each read after the write that comes before it in the program.
-        // It has no effect on the processor. Without AVX-512, items of 16 bytes take less time without it.
+        // Without this fence, which has no effect on the processor, the compiler would read eight items, of eight rows, before it
+        // writes them. For AVX-512 it would make one gather of these reads, which takes two to four times as long for items of 4
+        // and 8 bytes. Without AVX-512, items of 16 bytes take less time without the fence.
         if size_of::<T>() != 16 || cfg!(target_feature = "avx512f") {
             compiler_fence(Ordering::SeqCst);
+        }
+    }
+
+    #[cfg_attr(debug_assertions, inline(never))]
+    #[cfg_attr(not(debug_assertions), inline(always))]
+    fn put_block<R: Source<Item = T>>(&mut self, source: &R, block: Block) {
+        let Block { rows, cols, from, .. } = block;
+        // Whether the list has `D::SIDE` items of each row, from the block's first column on.
+        let inside = |len| cols == rows || cols == 1 && from + (rows - 1) * block.width + D::SIDE <= len;
+        match source.as_slice() {
+            // These items are only read: the functions of `squares` have a shared reference to them.
+            Some(items) if LAST && self.may_last(block) && inside(items.len()) => {
+                let items = SliceItems::<T, D>::of(items.as_ptr().cast_mut(), items.len());
+                squares::line_blocks::put_by_lines::<T, D, _, _>(self, &items, block);
+            }
+            Some(items) if const { D::SIDE > 1 } && cols == rows && Self::has_blocks(self, rows) => {
+                let items = SliceItems::<T, D>::of(items.as_ptr().cast_mut(), items.len());
+                squares::put_by_squares::<T, D, _, _>(self, &items, block);
+            }
+            _ => {
+                for c in 0..cols {
+                    for r in 0..rows {
+                        self.put(block.to + c * block.height + r, source.at(from + r * block.width + c));
+                    }
+                }
+            }
         }
     }
 }
@@ -202,7 +303,7 @@ impl<T: Copy> Cells for SliceItems<'_, T> {
 /// is only read, `may` be anywhere in the list. The functions of `kernels/registers.rs` are proved to touch no other run,
 /// whatever `may` and `may_last` are. So that method may call them if it names no place but those of its step, and no run
 /// that ends after the source.
-impl<T, D: Register<T>> Runs<T, D> for SliceItems<'_, T> {
+impl<T, E, D: squares::Register<T>, const LAST: bool> Runs<T, D> for SliceItems<'_, T, E, LAST> {
     #[inline(always)]
     fn load(&self, place: usize) -> D::Half {
         debug_assert!(place + size_of::<D::Half>() / size_of::<T>() <= self.len);
@@ -217,142 +318,19 @@ impl<T, D: Register<T>> Runs<T, D> for SliceItems<'_, T> {
         unsafe { *self.first.wrapping_add(place).cast() = Unaligned(run) }
     }
 
-    /// Writes a register past the caches: the cache line that it is in is not read first. Like a shuffle this is one
-    /// instruction, because the function of `core::arch` takes a number. No race detector sees it, so `rust/test` makes
-    /// ordinary stores for that (`ordinary_stores`). It changes no register, so it needs no other form with AVX.
+    /// Writes a register past the caches: its cache line is not read first. The function of `core::arch` would take a number.
+    /// No race detector sees assembly, so `rust/test` makes ordinary stores for one (`ordinary_stores`).
     #[cfg(all(target_arch = "x86_64", target_feature = "sse2", not(ordinary_stores)))]
     #[inline(always)]
     fn store_last(&mut self, place: usize, run: D::Half) {
         debug_assert!(place + 16 / size_of::<T>() <= self.len && size_of::<D::Half>() == 16);
         debug_assert!(self.first.wrapping_add(place).addr() % 16 == 0);
-        // SAFETY (of both): a run is a register here. It `may_last` be written, by the `requires` of `Runs::store_last`:
-        // `InRegisters::may_last` tests that.
-        let (to, run): (_, super::registers::Register) = (self.first.wrapping_add(place), unsafe {
-            core::mem::transmute_copy(&run)
-        });
-        unsafe { core::arch::asm!("movntdq [{}], {}", in(reg) to, in(xmm_reg) run, options(nostack, preserves_flags)) }
-    }
-}
-
-/// The same holder for items whose squares are transposed in registers. `D` is two rows of a square. If `LAST` is true, it
-/// stores whole cache lines past the caches.
-pub(super) struct InRegisters<'a, T, D, const LAST: bool = false> {
-    items: SliceItems<'a, T>,
-    rows: PhantomData<D>,
-}
-
-impl<'a, T, D: Register<T>> InRegisters<'a, T, D> {
-    #[inline(always)]
-    pub(super) fn new(items: SliceItems<'a, T>) -> Self {
-        let rows = PhantomData;
-        InRegisters { items, rows }
-    }
-
-    /// Runs a kernel that puts a call or a part by lines. Only this function makes a holder that stores past the caches.
-    #[inline(always)]
-    pub(super) fn past_caches(self, kernel: impl FnOnce(InRegisters<'a, T, D, true>)) {
-        let (items, rows) = (self.items, PhantomData);
-        kernel(InRegisters { items, rows });
-        // Such stores are not ordered with other stores. Without the fence, another thread could learn that the part is
-        // done, and then read what was there before.
-        cache::fence();
-    }
-}
-
-impl<T, D: Register<T>, const LAST: bool> InRegisters<'_, T, D, LAST> {
-    /// Whether the cells of a block `may_last` be written: each column is a line of the output, and a fence follows.
-    #[inline(always)]
-    fn may_last(&self, block: Block) -> bool {
-        let first = self.items.first.wrapping_add(block.to).addr();
-        let distance = block.height * size_of::<T>() * usize::from(block.cols > 1);
-        LAST && block.rows * size_of::<T>() == LINE && (first | distance) % LINE == 0
-    }
-}
-
-/// Without optimization, a register is on the stack in each function that it goes through. So with debug assertions, those
-/// that use registers have frames of their own.
-impl<T, D: Register<T>> Places for InRegisters<'_, T, D> {
-    type Item = T;
-
-    fn len(&self) -> usize {
-        self.items.len
-    }
-
-    #[inline(always)]
-    fn exchange(&mut self, i: usize, j: usize) {
-        self.items.exchange(i, j);
-    }
-
-    #[inline(always)]
-    fn exchange_apart(&mut self, i: usize, j: usize) {
-        self.items.exchange_apart(i, j);
-    }
-
-    fn exchange_runs(&mut self, i: usize, j: usize, len: usize) {
-        self.items.exchange_runs(i, j, len);
-    }
-
-    #[cfg_attr(debug_assertions, inline(never))]
-    #[cfg_attr(not(debug_assertions), inline(always))]
-    fn exchange_tiles(&mut self, x: [usize; 8], y: [usize; 8]) {
-        match D::SIDE {
-            1 => self.items.exchange_tiles(x, y),
-            _ => squares::exchange_tiles::<T, D, _>(&mut self.items, x, y),
-        }
-    }
-
-    #[cfg_attr(debug_assertions, inline(never))]
-    #[cfg_attr(not(debug_assertions), inline(always))]
-    fn turn_tile(&mut self, x: [usize; 8]) {
-        match D::SIDE {
-            1 => self.items.turn_tile(x),
-            _ => squares::turn_tile::<T, D, _>(&mut self.items, x),
-        }
-    }
-
-    #[inline(always)]
-    fn expect_tiles(&self, x: [usize; 8], y: [usize; 8]) {
-        self.items.expect_tiles(x, y);
-    }
-}
-
-impl<T: Copy, D: Register<T>, const LAST: bool> Cells for InRegisters<'_, T, D, LAST> {
-    type Item = T;
-
-    fn len(&self) -> usize {
-        self.items.len
-    }
-
-    #[inline(always)]
-    fn put(&mut self, i: usize, v: T) {
-        self.items.put(i, v);
-    }
-
-    /// Whether such blocks are put in registers. On x86-64, which has 16 vector registers without AVX-512, those of a block
-    /// of 8 by 8 items would go through memory, except for items of 1 and of 2 bytes.
-    #[inline(always)]
-    fn has_blocks(&self, side: usize) -> bool {
-        let is_small = side == 4 || side == 8 && const { D::SIDE == 8 || cfg!(not(target_arch = "x86_64")) };
-        1 < D::SIDE && D::SIDE <= side && is_small
-    }
-
-    #[cfg_attr(debug_assertions, inline(never))]
-    #[cfg_attr(not(debug_assertions), inline(always))]
-    fn put_block<R: Source<Item = T>>(&mut self, source: &R, block: Block) {
-        let Block { rows, cols, .. } = block;
-        // Whether the list has `D::SIDE` items of each row, from the block's first column on.
-        let inside = |len| cols == rows || cols == 1 && block.from + (rows - 1) * block.width + D::SIDE <= len;
-        match source.as_slice() {
-            // These items are only read: the functions of `squares` have a shared reference to them.
-            Some(items) if LAST && self.may_last(block) && inside(items.len()) => {
-                let items = SliceItems::of(items.as_ptr().cast_mut(), items.len());
-                squares::line_blocks::put_by_lines::<T, D, _, _>(&mut self.items, &items, block);
-            }
-            Some(items) if const { D::SIDE > 1 } && cols == rows && Self::has_blocks(self, rows) => {
-                let items = SliceItems::of(items.as_ptr().cast_mut(), items.len());
-                squares::put_by_squares::<T, D, _, _>(&mut self.items, &items, block);
-            }
-            _ => self.items.put_block(source, block),
+        let to = self.first.wrapping_add(place);
+        // SAFETY: a run is a register here. It `may_last` be written, by the `requires` of `Runs::store_last`: `may_last` of
+        // the holder tests that.
+        unsafe {
+            let run: Register = core::mem::transmute_copy(&run);
+            core::arch::asm!("movntdq [{}], {}", in(reg) to, in(xmm_reg) run, options(nostack, preserves_flags))
         }
     }
 }
@@ -398,7 +376,6 @@ impl<T: Copy> Source for SliceSource<'_, T> {
         Some(self.items)
     }
 
-    /// Prefetches the cache line of the item. No reference is made to it.
     #[inline(always)]
     fn expect(&self, i: usize) {
         cache::prefetch(self.items.as_ptr().wrapping_add(i).cast());

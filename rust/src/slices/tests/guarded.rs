@@ -104,7 +104,7 @@ fn steps<const N: usize>() {
         let mut two = Runs::<N>::new(2, 1, ends_with_page);
         SlicePlaces::new(two.list()).exchange(0, GAP);
         two.check(|run, k| (1 - run, k));
-        SlicePlaces::new(two.list()).exchange_apart(GAP, 0);
+        SlicePlaces::new(two.list()).exchange(GAP, 0);
         two.check(|run, k| (run, k));
         let put = SliceSource::new(two.list()).at(GAP);
         SliceCells::new(two.list()).put(0, put);
@@ -209,7 +209,7 @@ fn lines<const N: usize, D: Register<[u8; N]>>(ends_with_page: bool) {
             to,
             height,
         };
-        let holder = InRegisters::<_, D>::new(SlicePlaces::new(cells.list()));
+        let holder = SlicePlaces::new(cells.list()).in_registers::<D>();
         holder.past_caches(|mut cells| cells.put_block(&SliceSource::new(source.list()), block));
         cells.check(|run, k| (k, run));
         source.check(|run, k| (run, k));
@@ -219,7 +219,7 @@ fn lines<const N: usize, D: Register<[u8; N]>>(ends_with_page: bool) {
 #[cfg(not(feature = "checked"))]
 #[test]
 fn lines_touch_their_places_alone() {
-    for ends_with_page in [false, true].into_iter().filter(|_| crate::unchecked::USES_REGISTERS) {
+    for ends_with_page in [false, true].into_iter().filter(|_| USES_REGISTERS) {
         lines::<4, Pair<Of<4>>>(ends_with_page);
         lines::<8, Pair<Of<8>>>(ends_with_page);
         lines::<16, Two<Whole>>(ends_with_page);

@@ -4,11 +4,11 @@ use std::boxed::Box;
 use std::fmt::Debug;
 use std::vec::Vec;
 
-use crate::unchecked::parts_of_transpose;
+use crate::slices::parts::{TransposePart, transpose};
 
 /// Transposes a matrix in some parts, and compares each item of the output with that of the definition. `input` and
 /// `output` are the numbers of items before the lists. The items around the output have to stay.
-fn transposes<T: Copy + Debug + PartialEq>(
+fn transposes<T: Copy + Debug + PartialEq + Send + Sync>(
     [width, height]: [usize; 2],
     [input, output]: [usize; 2],
     parts: usize,
@@ -18,11 +18,10 @@ fn transposes<T: Copy + Debug + PartialEq>(
     let list: Vec<T> = (0..input + len).map(&item).collect();
     let beside = item(len + 1000);
     let mut cells = std::vec![beside; output + len + 40];
-    let mut rest = parts_of_transpose(&list[input..], &mut cells[output..output + len], width, height, parts).unwrap();
-    let mut all: Vec<_> = std::iter::from_fn(|| rest.split_first()).collect();
+    let mut all: Vec<_> = transpose(&list[input..], &mut cells[output..output + len], width, height, parts).collect();
     // Another order for each shape.
     while !all.is_empty() {
-        all.swap_remove((7 * width + 3 * height) % all.len()).put();
+        all.swap_remove((7 * width + 3 * height) % all.len()).run();
     }
     let wanted = |place: usize| match place.checked_sub(output) {
         Some(place) if place < len => list[input + place % height * width + place / height],
@@ -62,7 +61,7 @@ fn all_addresses() {
             items: [[0; 4]; 33 * 48],
         });
         let input: Vec<[u8; 4]> = (0..33 * 48u32).map(u32::to_le_bytes).collect();
-        parts_of_transpose(&input, &mut list.items, 33, 48, 3).unwrap().put();
+        transpose(&input, &mut list.items, 33, 48, 3).for_each(TransposePart::run);
         let wanted = |place: usize| input[place % 48 * 33 + place / 48];
         assert!(list.items.iter().enumerate().all(|(place, got)| *got == wanted(place)));
         assert_eq!(list.before, [9; BYTES]);
@@ -103,7 +102,7 @@ fn whole_calls() {
     for (width, height) in [(1030, 1040), (16400, 64), (64, 16400), (1025, 1025), (1031, 1029)] {
         let input: Vec<u32> = (0..width as u32 * height as u32).collect();
         let mut output = std::vec![0; input.len()];
-        assert!(crate::unchecked::transpose(&input, &mut output, width, height));
+        assert!(crate::slices::transpose(&input, &mut output, width, height));
         let wanted = |place: usize| input[place % height * width + place / height];
         assert!(output.iter().enumerate().all(|(place, got)| *got == wanted(place)));
     }

@@ -1,0 +1,149 @@
+//! Kernels on holders of slices, compiled for each type of item. This file calls kernels, and trusts that the precondition
+//! of each was checked.
+
+use super::parts::RowPlan;
+use super::ways::{LONG_BYTES, ShortWay, Way, short_way_of, side_of, strips_of, way_of};
+use crate::kernels::places::{Cells, Places, Source};
+use crate::kernels::reverse::{self, RowDigits, reverse_short};
+use crate::kernels::transpose::{Matrix, Order, PutRegion, Region, put_as_block, put_columns};
+
+/// Reverses items by index bits. Their number is zero or a power of two.
+#[inline(never)]
+pub(super) fn reverse(items: impl Places) {
+    let _ = reverse_short(items);
+}
+
+/// Reverses the order of rows of `row_width` items by index bits.
+pub(super) fn reverse_rows(items: impl Places, row_width: usize) {
+    let rows = RowDigits::of(items.len(), row_width);
+    let _ = reverse::reverse_rows(items, rows);
+}
+
+/// Puts a matrix. A user's crate has this, and puts columns itself, since a call would take as long. The arguments of the calls
+/// are those of the user's own, and in the same registers, so that they need no room on the stack.
+#[inline(always)]
+pub(super) fn put<M: Output>(source: impl Input<M::Item>, cells: M, width: usize, height: usize) {
+    let size = const { size_of::<M::Item>() };
+    match short_way_of(size, width, height) {
+        Some(ShortWay::Copied) => cells.copy(source),
+        Some(ShortWay::Block) if const { side_of(size_of::<M::Item>()) > 1 } => put_block(source, cells, width, height),
+        Some(ShortWay::Columns) if const { size_of::<M::Item>() < LONG_BYTES } => {
+            let matrix = Matrix::new(source, width, height);
+            let _ = put_columns(cells, matrix, matrix.whole());
+        }
+        _ => put_apart(source, cells, width, height),
+    }
+}
+
+#[inline(never)]
+fn put_block<M: Output>(source: impl Input<M::Item>, cells: M, width: usize, height: usize) {
+    let matrix = Matrix::new(source, width, height);
+    let _ = put_as_block(cells, matrix, matrix.whole());
+}
+
+#[inline(never)]
+fn put_apart<M: Output>(source: impl Input<M::Item>, cells: M, width: usize, height: usize) {
+    let matrix = Matrix::new(source, width, height);
+    run(cells, matrix, None);
+}
+
+/// Puts a region of a matrix, or all of it.
+#[inline(never)]
+pub(super) fn put_region<M: Output>(cells: M, matrix: Matrix<impl Input<M::Item>>, region: Option<Region>) {
+    match region {
+        None => put(matrix.source, cells, matrix.width, matrix.height),
+        Some(_) => run(cells, matrix, region),
+    }
+}
+
+/// Puts a region, or a matrix that has no short way. Long items are put by their indices.
+#[inline(always)]
+fn run<M: Output>(cells: M, matrix: Matrix<impl Input<M::Item>>, region: Option<Region>) {
+    let (size, Matrix { source, width, height }) = (const { size_of::<M::Item>() }, matrix);
+    let strips = strips_of(size, width, height);
+    let way = way_of(size, width, height, region, cells.address());
+    let region = region.unwrap_or(matrix.whole());
+    let order = match way {
+        Way::Lines => return cells.put_by_lines(matrix, region),
+        Way::Leaves => Order::Leaves(strips),
+        Way::Strips => Order::Strips(strips),
+    };
+    if const { size_of::<M::Item>() < LONG_BYTES } {
+        let _ = order.put(cells, matrix, region);
+    } else {
+        let indices = Matrix::new(Indices(source.len()), width, height);
+        let _ = order.put(ByIndex { cells, source }, indices, region);
+    }
+}
+
+/// A list of this length, of which each item is its own index. A build without optimization has copies of an item on the
+/// stack in each function that the item goes through. Large items would fill the stack, and their indices do not.
+#[derive(Clone, Copy)]
+struct Indices(usize);
+
+impl Source for Indices {
+    type Item = usize;
+
+    fn len(&self) -> usize {
+        self.0
+    }
+
+    fn at(&self, i: usize) -> usize {
+        i
+    }
+}
+
+/// Cells that are given the index of an item in a source, and put the item. A kernel puts items of [`Indices`] alone, which are
+/// below the length of the source. No contract says so of a single put, so each index is tested. Long items hide the time.
+struct ByIndex<C, R> {
+    cells: C,
+    source: R,
+}
+
+impl<R: Source, C: Cells<Item = R::Item>> Cells for ByIndex<C, R> {
+    type Item = usize;
+
+    fn len(&self) -> usize {
+        self.cells.len()
+    }
+
+    #[inline(never)]
+    fn put(&mut self, i: usize, from: usize) {
+        assert!(from < self.source.len());
+        self.cells.put(i, self.source.at(from));
+    }
+}
+
+/// The items of a slice.
+pub(super) trait Input<T>: Source<Item = T> + Copy {}
+
+impl<R: Source + Copy> Input<R::Item> for R {}
+
+/// The cells of a slice.
+pub(super) trait Output: Cells + Sized {
+    /// The address of the first cell, or 0 if no way depends on it.
+    fn address(&self) -> usize {
+        0
+    }
+
+    /// Copies a list of the same length.
+    fn copy(self, source: impl Input<Self::Item>);
+
+    fn put_by_lines(self, _matrix: Matrix<impl Input<Self::Item>>, _region: Region) {
+        unreachable!("these cells are not put by lines");
+    }
+}
+
+#[cfg(feature = "checked")]
+pub(super) fn place(size: usize, _row: usize) -> usize {
+    size.max(1)
+}
+
+/// Makes the exchanges of part `number`. A reversal that is not cut is one part.
+pub(super) fn exchange(items: impl Places, plan: RowPlan, number: usize) {
+    match plan.pairs {
+        None if plan.width == 1 => reverse(items),
+        None => reverse_rows(items, plan.width),
+        Some(pairs) => _ = pairs.exchange(items, number),
+    }
+}

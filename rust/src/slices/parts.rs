@@ -1,0 +1,332 @@
+//! Transposes and reversals in parts, for threads of your own. This package starts none.
+//!
+//! A call is cut into parts. They may run in any order, at the same time, each on any thread. All parts together have
+//! the same effect as the call. Nothing is allocated.
+//!
+//! ```
+//! use std::thread::scope;
+//!
+//! use p3_util_proved::parts;
+//!
+//! let matrix: Vec<u32> = (0..6000).collect();
+//! let mut columns = vec![0; 6000];
+//! scope(|threads| {
+//!     for part in parts::transpose(&matrix, &mut columns, 60, 100, 4) {
+//!         threads.spawn(|| part.run());
+//!     }
+//! });
+//! assert_eq!(columns[..3], [0, 60, 120]);
+//!
+//! let mut list: Vec<u32> = (0..1 << 20).collect();
+//! scope(|threads| {
+//!     for part in parts::reversal(&mut list, 16) {
+//!         threads.spawn(|| part.run());
+//!     }
+//! });
+//! assert_eq!(list[..3], [0, 1 << 19, 1 << 18]);
+//! ```
+//!
+//! With rayon, run the parts by `parts.par_bridge().for_each(ReversalPart::run)`, or by
+//! `parts.collect::<Vec<_>>().into_par_iter().for_each(ReversalPart::run)`. The first way needs no list of the parts:
+//! each thread takes the next part behind a lock. Both ways return when all parts are done.
+//!
+//! # How many parts
+//!
+//! With the argument `parts` you ask for a number of parts, 0 for 1. A transpose has at most as many. A reversal is cut like a
+//! square, by a grid. If you ask for N parts, each side is cut into at most P = 1 + ⌊2√(N − 1)⌋ ranges, and each patch of the
+//! grid on or above the diagonal is a part. These are P(P + 1) / 2 parts, about two for each that you ask for. There are
+//! twice as many if there are two squares, and fewer if a side is too short for P ranges.
+//!
+//! ```
+//! use p3_util_proved::parts::reversal;
+//!
+//! // The number of items, how many parts are asked for, and how many parts there are.
+//! let table = [
+//!     (1 << 20, 16, 36),
+//!     (1 << 21, 16, 72),
+//!     (1 << 20, 64, 136),
+//!     (1 << 20, 256, 528),
+//! ];
+//! # if cfg!(not(feature = "checked")) {
+//! for (items, asked, parts) in table {
+//!     let mut list = vec![0u8; items];
+//!     assert_eq!(reversal(&mut list, asked).len(), parts);
+//! }
+//! # }
+//! ```
+//!
+//! Four parts for each thread are a good number to ask for. Parts differ in size: a patch on a diagonal has about half as
+//! many exchanges as a patch above it. Threads that already wait for work, such as those of rayon's pool, make a reversal
+//! faster from about 2^17 items of 4 bytes on. If you start threads for the call, they do from 2 to 4 MiB on.
+//!
+//! - A transpose is cut along its longer side, at multiples of 16 rows or columns.
+//! - A reversal of up to [`one_part_reversal`] items is one part. A longer one, of 2^k items, is cut like a square of
+//!   2^(k / 2) rows and columns, or like two squares if k is odd, at multiples of 8.
+//! - A reversal of rows is cut in the same way, at multiples of 8 if a row has as many bytes as an item that has kernels in
+//!   this package, and otherwise at any number.
+//! - A list that is empty, or whose items have no bytes, has no parts.
+//! - With the feature `checked` a transpose is cut along its columns, and a reversal is one part.
+//!
+//! # What is not run
+//!
+//! A part that is dropped without being run leaves its cells, or its pairs of items, as they are. The loop
+//! `for _part in parts {}` drops all parts, and the compiler does not warn about this. Whatever you drop, forget or run in
+//! another order, and wherever a panic comes from, memory is safe, and a reversal leaves each item once.
+//!
+//! # Why this is safe
+//!
+//! It is proved that no two parts make a step at the same index, and that the steps of all parts, interleaved in any way,
+//! have the effect of the call. A part runs at most once, because `run` consumes it, and borrows the list until then. The
+//! section "Threads" of the package's README says exactly what is proved, and what is checked by review.
+//! [`kernels::contracts::parts`](crate::kernels::contracts::parts) has the contracts.
+use core::fmt;
+use core::iter::FusedIterator;
+use core::ops::Range;
+
+use super::{SliceItems, SliceSource, instances};
+use crate::kernels::parts::{RowPairs, TransposePlan};
+use crate::kernels::reverse::fits_rows;
+use crate::kernels::transpose::{Matrix, fits_matrix};
+
+/// A list of more items is cut, whatever the size of its items.
+const ONE_PART_ITEMS: usize = 1 << 16;
+
+/// A list of more bytes is cut, however few items it has.
+const ONE_PART_BYTES: usize = 1 << 21;
+
+/// The greatest number of items of this type that [`reversal`] and [`row_reversal`] leave as one part.
+///
+/// It is 2^16, or the number of items that 2^21 bytes hold if that is less. Up to about that number, the call takes
+/// less time than its parts on the threads of a pool.
+///
+/// ```
+/// use p3_util_proved::parts::one_part_reversal;
+///
+/// # if cfg!(not(feature = "checked")) {
+/// assert_eq!(one_part_reversal::<u32>(), 1 << 16);
+/// assert_eq!(one_part_reversal::<[u64; 8]>(), 1 << 15);
+/// # }
+/// ```
+///
+/// With the feature `checked` each reversal is one part, however many items it has.
+#[must_use]
+pub const fn one_part_reversal<F>() -> usize {
+    if cfg!(feature = "checked") {
+        return usize::MAX;
+    }
+    match ONE_PART_BYTES.checked_div(size_of::<F>()) {
+        Some(items) if items < ONE_PART_ITEMS => items,
+        _ => ONE_PART_ITEMS,
+    }
+}
+
+/// The remaining parts of a transpose, as an iterator of known length.
+#[must_use = "a part that is not run leaves its cells as they are"]
+pub struct TransposeParts<'a, T>(PartsToRun<'a, T, MatrixPlan<'a, T>>);
+
+/// A part of a transpose. It is `Send` if its items are `Send` and `Sync`. It is `Sync` if they are, and it cannot be
+/// cloned.
+#[must_use = "a part that is not run leaves its cells as they are"]
+pub struct TransposePart<'a, T>(PartsToRun<'a, T, MatrixPlan<'a, T>>);
+
+/// The remaining parts of a reversal, as an iterator of known length.
+#[must_use = "a part that is not run leaves the list neither as it was nor reversed"]
+pub struct ReversalParts<'a, F>(PartsToRun<'a, F, RowPlan>);
+
+/// A part of a reversal. It is `Send` if its items are, and `Sync` if they are. It cannot be cloned.
+#[must_use = "a part that is not run leaves the list neither as it was nor reversed"]
+pub struct ReversalPart<'a, F>(PartsToRun<'a, F, RowPlan>);
+
+/// The greatest number of ranges that a side is cut into if the caller asks for `parts` parts. P ranges of a side make
+/// P(P + 1) / 2 patches. These are about two for each part that the caller asks for, so that threads that take one patch
+/// after the other end at about the same time. More patches would be smaller, and small patches make less use of the
+/// caches.
+const fn parts_of_side(parts: usize) -> usize {
+    1 + parts.saturating_sub(1).saturating_mul(4).isqrt()
+}
+
+/// The parts of a call that have these numbers, and the list. No other `PartsToRun` of the call has one of these numbers.
+///
+/// [`transpose`] and [`cut`] set the fields together: `items` is the list that `plan` was made for,
+/// and `numbers` are below the number of parts of `plan`. The fields are private, and `PartsToRun` is not `Clone`, so
+/// this stays true.
+struct PartsToRun<'a, T, P> {
+    items: SliceItems<'a, T>,
+    plan: P,
+    numbers: Range<usize>,
+}
+
+/// A matrix, and the plan by which it is transposed in regions.
+type MatrixPlan<'a, T> = (Matrix<&'a [T]>, TransposePlan);
+
+/// A reversal of rows of `width` places, of `place` bytes each. If it is cut, its parts are patches of `pairs`.
+#[derive(Clone, Copy)]
+#[cfg_attr(feature = "checked", allow(dead_code, reason = "there, a place is an item"))]
+pub(super) struct RowPlan {
+    pub(super) place: usize,
+    pub(super) width: usize,
+    pub(super) pairs: Option<RowPairs>,
+}
+
+impl RowPlan {
+    /// The plan for `len` items of `size` bytes, and the number of its parts. See [`cut`].
+    fn new(len: usize, size: usize, row_width: usize, parts: usize, one_part: usize) -> Option<(RowPlan, usize)> {
+        if !fits_rows(len, row_width) {
+            return None;
+        }
+        let row = if len * size == 0 { 0 } else { row_width * size };
+        let place = instances::place(size, row);
+        // A row consists of whole places, so the rows fit in these too.
+        let (places, width) = (len * size / place, row / place);
+        let pairs = (len > one_part && row > 0).then(|| RowPairs::new(places, width, parts));
+        let count = pairs.map_or(usize::from(row > 0), RowPairs::count);
+        Some((RowPlan { place, width, pairs }, count))
+    }
+}
+
+/// Cuts [`transpose::transpose`](crate::transpose::transpose) into at most `parts` parts.
+///
+/// # Panics
+///
+/// In the same cases as the call itself, before any part is returned.
+#[track_caller]
+#[must_use = "the transpose is put by its parts, and none has run yet"]
+pub fn transpose<'a, T: Copy + Send + Sync>(
+    input: &'a [T],
+    output: &'a mut [T],
+    width: usize,
+    height: usize,
+    parts: usize,
+) -> TransposeParts<'a, T> {
+    if !fits_matrix(input.len(), output.len(), width, height) {
+        crate::transpose::refuse(input.len(), output.len(), width, height);
+    }
+    let plan = TransposePlan::new(width, height, parts, cfg!(not(feature = "checked")));
+    let count = if size_of::<T>() == 0 { 0 } else { plan.count() };
+    // If the columns are cut, each region fills a run of this many cells. The last region may fill fewer.
+    let share = if count == 0 { 0 } else { plan.items(0) };
+    let (items, matrix) = (SliceItems::in_shares(output, share), Matrix::new(input, width, height));
+    let (plan, numbers) = ((matrix, plan), 0..count);
+    TransposeParts(PartsToRun { items, plan, numbers })
+}
+
+/// Cuts [`reverse_slice_index_bits`](crate::reverse_slice_index_bits) into parts. `parts` determines [how
+/// many](self#how-many-parts).
+///
+/// Items go to other threads, but no two threads share one, so they need not be `Sync`.
+///
+/// # Panics
+///
+/// In the same cases as the call itself, before any part is returned.
+#[track_caller]
+#[must_use = "the list is reversed by the parts, and none has run yet"]
+pub fn reversal<F: Send>(vals: &mut [F], parts: usize) -> ReversalParts<'_, F> {
+    row_reversal(vals, 1, parts)
+}
+
+/// Cuts [`reverse_slice_row_index_bits`](crate::reverse_slice_row_index_bits) into parts. `parts` determines [how
+/// many](self#how-many-parts).
+///
+/// Items go to other threads, but no two threads share one, so they need not be `Sync`.
+///
+/// # Panics
+///
+/// In the same cases as the call itself, before any part is returned.
+#[track_caller]
+#[must_use = "the list is reversed by the parts, and none has run yet"]
+pub fn row_reversal<F: Send>(vals: &mut [F], row_width: usize, parts: usize) -> ReversalParts<'_, F> {
+    let len = vals.len();
+    match cut(vals, row_width, parts_of_side(parts), one_part_reversal::<F>()) {
+        Some(parts) => parts,
+        None => crate::refuse_rows(len, row_width),
+    }
+}
+
+/// The parts of a reversal, or `None` if the length does not fit the row width. Each side of a square is cut into at most
+/// `parts` parts. A list of up to `one_part` items is one part. A list that is empty, or whose items have no bytes, has
+/// no part.
+pub(super) fn cut<F>(vals: &mut [F], row_width: usize, parts: usize, one_part: usize) -> Option<ReversalParts<'_, F>> {
+    let len = vals.len();
+    let (plan, count) = RowPlan::new(len, size_of::<F>(), row_width, parts, one_part)?;
+    let (items, numbers) = (SliceItems::in_shares(vals, len), 0..count);
+    Some(ReversalParts(PartsToRun { items, plan, numbers }))
+}
+
+impl<T, P: Copy> PartsToRun<'_, T, P> {
+    /// Removes the first part and returns it.
+    fn split_first(&mut self) -> Option<Self> {
+        // `Range::next` yields each number once, so no two parts have the same number, and parts with different numbers
+        // have no place in common. Therefore the part may have a share of `items` while other parts have theirs.
+        let number = self.numbers.next()?;
+        let (items, plan, numbers) = (self.items.share(), self.plan, number..number + 1);
+        Some(PartsToRun { items, plan, numbers })
+    }
+}
+
+impl<T: Copy> TransposePart<'_, T> {
+    /// Writes the items of this part to the output.
+    #[inline]
+    pub fn run(self) {
+        // `TransposePlan::region` asks for a number below the plan's count, and its clause `inside` says that the region
+        // lies in the matrix. Both lists have as many items as the matrix: `transpose` checked that.
+        let (mut items, (matrix, plan)) = (self.0.items, self.0.plan);
+        let matrix = Matrix::new(SliceSource::new(matrix.source), matrix.width, matrix.height);
+        let is_cut = plan.count() > 1;
+        self.0.numbers.for_each(|number| {
+            instances::put_region(items.share(), matrix, is_cut.then(|| plan.region(number)));
+        });
+    }
+}
+
+impl<F> ReversalPart<'_, F> {
+    /// Exchanges the items of this part.
+    #[inline]
+    pub fn run(self) {
+        let (mut items, plan) = (self.0.items, self.0.plan);
+        // If the reversal is not cut, its one part is the call, for which `RowPlan::new` checked the rows. Otherwise, the
+        // clause `below` of `RowPairs::exchange` holds because `numbers` are below the plan's count, and `ready` because
+        // the pairs are those of the rows of `items`.
+        self.0
+            .numbers
+            .for_each(|number| instances::exchange(items.share(), plan, number));
+    }
+}
+
+/// What the parts of both calls have in common.
+macro_rules! iterators {
+    ($($parts:ident $part:ident)*) => {$(
+        impl<'a, T> Iterator for $parts<'a, T> {
+            type Item = $part<'a, T>;
+
+            fn next(&mut self) -> Option<$part<'a, T>> {
+                self.0.split_first().map($part)
+            }
+
+            fn size_hint(&self) -> (usize, Option<usize>) {
+                self.0.numbers.size_hint()
+            }
+        }
+
+        impl<T> ExactSizeIterator for $parts<'_, T> {}
+
+        impl<T> FusedIterator for $parts<'_, T> {}
+
+        impl<T> fmt::Debug for $parts<'_, T> {
+            fn fmt(&self, f: &mut fmt::Formatter<'_>) -> fmt::Result {
+                f.debug_struct(stringify!($parts)).field("left", &self.len()).finish()
+            }
+        }
+
+        impl<T> fmt::Debug for $part<'_, T> {
+            fn fmt(&self, f: &mut fmt::Formatter<'_>) -> fmt::Result {
+                f.debug_struct(stringify!($part)).field("number", &self.0.numbers.start).finish()
+            }
+        }
+    )*};
+}
+
+iterators! { TransposeParts TransposePart ReversalParts ReversalPart }
+
+#[cfg(test)]
+#[cfg_attr(not(feature = "checked"), allow(unsafe_code))]
+mod tests;

@@ -1,0 +1,140 @@
+//! How a matrix, or a part of it, is put. [`short_way_of`] and [`way_of`] choose it, once for each call and each part, and
+//! nothing else does. The kernels put a matrix in any way, and their contracts are the same for all of them.
+//!
+//! The first line that fits says how a matrix is put. A *whole call* puts the whole matrix, and so does a single part.
+//!
+//! | Matrix | [`ShortWay`], [`Way`] | Why |
+//! |---|---|---|
+//! | a whole call, fewer than two rows or columns | `Copied` | its items keep their order |
+//! | a whole call, one block: `side_of` | `Block` | in registers |
+//! | a whole call, fewer than 128 items of less than 1 KiB: `TINY_MATRIX`, `LONG_BYTES` | `Columns`, which a call inlines | another call would take as long |
+//! | a whole call, up to 1048576 items: `LARGE_MATRIX` | `Strips` | the lines and pages in use stay in the caches |
+//! | 16 MiB and more: `PAST_CACHES`, items of 4 or 8 bytes at a multiple of their size, 12 columns and more of the matrix or part: `LINE_COLS`, of 4 bytes 16: `LINE_COLS_OF_4`, a column of whole cache lines or of 768 bytes and more: `LONG_COLUMN`, and of 4 bytes then 128 rows and more of the matrix or part: `LINE_ROWS_OF_4` | `Lines` | what is stored past the caches is not read first, but whole lines have to be stored. A part of a line, which a column may have at both of its ends, takes longer |
+//! | the same, items of 16 bytes, a column of 768 bytes and more | `Lines` | in a shorter column the stores of single items are as fast |
+//! | all others | `Leaves`, with the same strips | a leaf stays in the caches |
+//!
+//! | Items | Strips | Why |
+//! |---|---|---|
+//! | 1 or 2 bytes | high, by blocks of 8 by 8 | a register holds one or two rows of such a block |
+//! | 4 bytes | high, by blocks of 4 by 4. On aarch64, by blocks of 8 by 8 | a register holds a row of 4. See `side_of` |
+//! | 8 bytes, on x86-64 up to 32768 items: `BLOCKS_LONG_ITEMS` | the same | on x86-64, in most larger matrices the blocks gain nothing |
+//! | 8 bytes, up to 262144 items, if 512 divides the width: `BLOCKS_FAR_ROWS` | the same | the rows begin a multiple of 4 KiB apart. The lines of a column are in few sets of the cache, and a block uses them up before they are evicted |
+//! | all others | low if 16 divides the width, otherwise high, column after column | see `Strips::by_width` |
+//!
+//! Lines are put on x86-64, and blocks where items are transposed in registers. Elsewhere the lines of the tables that speak
+//! of them fit no matrix.
+
+use super::holders::USES_REGISTERS;
+use crate::kernels::transpose::{LARGE_MATRIX, Region, Strips, TINY_MATRIX};
+
+/// The bytes of a cache line.
+pub(super) const LINE: usize = 64;
+
+/// An item of so many bytes is exchanged as a run of bytes, which takes hardly longer, and is put by its index.
+pub(super) const LONG_BYTES: usize = 1024;
+
+/// On aarch64, lines were not tried.
+const HAS_LINES: bool = USES_REGISTERS && cfg!(target_arch = "x86_64");
+
+/// A list of at least this many bytes is put by lines. Of this limit and the next four, the tests of this package take lower
+/// ones.
+const PAST_CACHES: usize = if cfg!(test) { 1 << 10 } else { 1 << 24 };
+
+/// Fewer columns are not put by lines.
+const LINE_COLS: usize = if cfg!(test) { 1 } else { 12 };
+
+/// Nor are fewer columns of items of 4 bytes.
+const LINE_COLS_OF_4: usize = if cfg!(test) { 1 } else { 16 };
+
+/// Fewer rows of items of 4 bytes are not put by lines, unless all columns begin at the same cell of a line.
+const LINE_ROWS_OF_4: usize = if cfg!(test) { 1 } else { 128 };
+
+/// A column of so many bytes is put by lines even if it is not whole lines.
+const LONG_COLUMN: usize = if cfg!(test) { 1 } else { 768 };
+
+/// On x86-64, a matrix of more items of 8 bytes is not put by blocks in registers.
+const BLOCKS_LONG_ITEMS: usize = 1 << 15;
+
+/// The same, if the distance of two rows is a multiple of 4 KiB.
+const BLOCKS_FAR_ROWS: usize = 1 << 18;
+
+const IS_AARCH64: bool = cfg!(target_arch = "aarch64");
+
+/// How a whole call is put that needs no strips.
+#[derive(Clone, Copy, Debug, PartialEq, Eq)]
+pub(super) enum ShortWay {
+    Copied,
+    Block,
+    Columns,
+}
+
+/// How any other call is put, or a part.
+#[derive(Clone, Copy, Debug, PartialEq, Eq)]
+pub(super) enum Way {
+    Strips,
+    Leaves,
+    Lines,
+}
+
+/// The short way for a whole matrix of items of `size` bytes, if there is one. A call inlines this. A matrix that is not copied
+/// has items.
+#[inline(always)]
+pub(super) fn short_way_of(size: usize, width: usize, height: usize) -> Option<ShortWay> {
+    let side = side_of(size);
+    match (width, height) {
+        (0 | 1, _) => Some(ShortWay::Copied),
+        // Here, and not above, the compiler makes fewer tests for the other ways.
+        _ if side > 1 && width == side && height == side => Some(ShortWay::Block),
+        (_, 0 | 1) => Some(ShortWay::Copied),
+        _ if width * height >= TINY_MATRIX || size >= LONG_BYTES => None,
+        _ => Some(ShortWay::Columns),
+    }
+}
+
+/// The way for a matrix that has no short way, or for a region of a matrix. `first` is the address of the first cell of the
+/// output.
+#[inline(always)]
+pub(super) fn way_of(size: usize, width: usize, height: usize, region: Option<Region>, first: usize) -> Way {
+    let (rows, cols) = match region {
+        None if width * height <= LARGE_MATRIX => return Way::Strips,
+        None => (height, width),
+        Some(region) => (region.rows(), region.cols()),
+    };
+    let column = height * size;
+    // In a part of few rows, a column has hardly a whole line, and at both of its ends a part of one.
+    let fits_4 = cols >= LINE_COLS_OF_4 && (rows >= LINE_ROWS_OF_4 || column % LINE == 0);
+    let is_large = width * column >= PAST_CACHES && cols >= LINE_COLS && (size != 4 || fits_4);
+    let is_long = column >= LONG_COLUMN || size < 16 && column % LINE == 0;
+    if HAS_LINES && matches!(size, 4 | 8 | 16) && first % size == 0 && is_large && is_long {
+        Way::Lines
+    } else {
+        Way::Leaves
+    }
+}
+
+/// The strips of a matrix, and of the leaves of its parts.
+#[inline(always)]
+pub(super) fn strips_of(size: usize, width: usize, height: usize) -> Strips {
+    let long_items = if width % 512 == 0 {
+        BLOCKS_FAR_ROWS
+    } else {
+        BLOCKS_LONG_ITEMS
+    };
+    match side_of(size) {
+        side if side > 1 && (size < 8 || IS_AARCH64 || width * height <= long_items) => Strips::high(side),
+        _ => Strips::by_width(width),
+    }
+}
+
+/// The side of the blocks in which items of `size` bytes are transposed in registers, or 1 if there are none. On aarch64, which
+/// has 32 vector registers, a block of 8 by 8 items of 4 or 8 bytes takes fewer instructions than four blocks of 4 by 4, and
+/// than columns. On x86-64, which has 16 without AVX-512, it would go through memory.
+#[inline(always)]
+pub(super) const fn side_of(size: usize) -> usize {
+    match size {
+        1 | 2 if USES_REGISTERS => 8,
+        4 | 8 if USES_REGISTERS && IS_AARCH64 => 8,
+        4 | 8 if USES_REGISTERS => 4,
+        _ => 1,
+    }
+}
