@@ -10,8 +10,7 @@ before=
 built=
 build=
 few=
-debug=
-lines=
+profile=release
 while [ $# -gt 0 ]; do
     case $1 in
     --help)
@@ -36,11 +35,10 @@ while [ $# -gt 0 ]; do
         before=${2:?--before FOLDER}
         shift
         ;;
-    --debug)
-        debug=${2:?--debug LEVEL}
+    --profile)
+        profile=${2:?--profile NAME}
         shift
         ;;
-    --lines) lines=yes ;;
     --built) built=yes ;;
     --build) build=yes ;;
     --few) few=yes ;;
@@ -56,16 +54,18 @@ done
 mkdir -p "$out"
 link=(--extern "p3_util_proved=$out/libp3_util_proved.rlib" --extern "other=$out/libother.rlib")
 rust+=(--edition 2024 ${cpu:+-C target-cpu="$cpu"})
-# The options of the benchmark, which is the user's crate here, and of the package.
-level=(-C opt-level=3)
-package_level=(-C opt-level=3)
-if [ -n "$debug" ]; then
-    # Those of cargo's profile `dev`, and with --lines those that rust/README.md gives for the package.
-    dev=(-C codegen-units=256 -C debug-assertions -C overflow-checks)
-    level=("${dev[@]}" -C "opt-level=$debug")
-    package_level=("${dev[@]}" -C opt-level=0)
-    [ -z "$lines" ] || package_level=(-C codegen-units=256 -C opt-level=3)
-fi
+# The options of the benchmark, which is the user's crate here, and of the package, as cargo gives them in this profile.
+dev=(-C codegen-units=256 -C debug-assertions -C overflow-checks)
+case $profile in
+    release) level=(-C opt-level=3) ;;
+    debug | dependencies | lines) level=("${dev[@]}" -C opt-level=0) ;;
+    1 | 3) level=("${dev[@]}" -C "opt-level=$profile") ;;
+    s | z) level=(-C "opt-level=$profile") ;;
+    *) echo "unknown profile $profile: bench/run --help lists them" >&2 && exit 2 ;;
+esac
+package_level=("${level[@]}")
+[ "$profile" != dependencies ] || package_level=("${dev[@]}" -C opt-level=3)
+[ "$profile" != lines ] || package_level=(-C codegen-units=256 -C opt-level=3)
 
 # building WHAT: says on standard error what is built now.
 building() {

@@ -71,12 +71,19 @@ macro_rules! iters {
     };
 }
 
-/// A use of the pairs of a list of this length with itself, as a function of the iterator over the pairs.
+/// A use of the pairs of two iterators over a list of 4096 items, as a function of the iterator over the pairs. `$each` makes
+/// each of the two from the list.
 macro_rules! pairs {
-    ($name:literal, $items:literal, |$pairs:ident| $used:expr) => {
-        iterated!($name, $items, |library, list| {
+    ($name:literal, |$pairs:ident| $used:expr) => {
+        pairs!($name, |list| list.iter(), |$pairs| $used)
+    };
+    ($name:literal, |$list:ident| $each:expr, |$pairs:ident| $used:expr) => {
+        iterated!($name, 4096, |library, list| {
             Box::new(move || {
-                let (a, b) = (black_box(&list), black_box(&list));
+                let $list = black_box(&list);
+                let a = $each;
+                let $list = black_box(&list);
+                let b = $each;
                 let $pairs = library::zip_eq::zip_eq(a, b, ()).unwrap();
                 $used
             })
@@ -84,7 +91,9 @@ macro_rules! pairs {
     };
 }
 
-const ITERATED: [Iterated; 17] = [
+/// The calls. A program with few uses of an iterator does not show what it costs: the compiler inlines the only use of a
+/// function, and divides a program of many uses into units. So all of them are in this one.
+const ITERATED: [Iterated; 25] = [
     gets!("LinearMap::get of 1 key", 1),
     gets!("LinearMap::get of 8 keys", 8),
     gets!("LinearMap::get of 64 keys", 64),
@@ -109,29 +118,66 @@ const ITERATED: [Iterated; 17] = [
             total(chunks.map(|chunk| chunk[0] ^ chunk[7]))
         })
     }),
-    pairs!("zip_eq, map and collect", 4096, |pairs| {
+    pairs!("zip_eq, map and collect", |pairs| {
         black_box(pairs.map(|(x, y)| x.wrapping_add(*y)).collect::<Vec<_>>())[0]
     }),
-    pairs!("zip_eq and a for loop", 4096, |pairs| {
+    pairs!("zip_eq and a for loop", |pairs| {
         let mut sum = 0u64;
         for (x, y) in pairs {
             sum = sum.rotate_left(1) ^ x.wrapping_mul(*y);
         }
         sum
     }),
-    pairs!("zip_eq, map and sum", 4096, |pairs| pairs
+    pairs!("zip_eq, map and sum", |pairs| pairs
         .map(|(x, y)| (x ^ (y >> 1)) >> 32)
         .sum()),
-    pairs!("zip_eq and fold", 4096, |pairs| pairs
+    pairs!("zip_eq and fold", |pairs| pairs
         .fold(0, |sum: u64, (x, y)| sum.wrapping_add(x.wrapping_mul(*y)))),
-    pairs!("zip_eq and for_each", 4096, |pairs| {
+    pairs!("zip_eq and for_each", |pairs| {
         let mut sum = 0;
         pairs.for_each(|(x, y)| sum ^= x.wrapping_add(*y));
         sum
     }),
-    pairs!("zip_eq and all", 4096, |pairs| {
+    pairs!("zip_eq and all", |pairs| {
         let (mut pairs, last) = (pairs, black_box(0));
         u64::from(pairs.all(|(x, y)| x ^ y == last))
+    }),
+    pairs!(
+        "zip_eq over chunks, map and collect",
+        |list| list.chunks_exact(4),
+        |pairs| black_box(pairs.map(|(x, y)| x[0] ^ y[3]).collect::<Vec<_>>())[0]
+    ),
+    pairs!("zip_eq over chunks, a for loop", |list| list.chunks_exact(4), |pairs| {
+        let mut sum = 0u64;
+        for (x, y) in pairs {
+            sum = sum.rotate_left(1) ^ x[1].wrapping_mul(y[2]);
+        }
+        sum
+    }),
+    pairs!("zip_eq over chunks, map and sum", |list| list.chunks(8), |pairs| pairs
+        .map(|(x, y)| (x[0] ^ (y[7] >> 1)) >> 32)
+        .sum()),
+    pairs!("zip_eq over chunks, fold", |list| list.chunks(8), |pairs| pairs
+        .fold(0, |sum: u64, (x, y)| sum.wrapping_add(x[0].wrapping_mul(y[1])))),
+    pairs!("zip_eq over chunks, for_each", |list| list.chunks(2), |pairs| {
+        let mut sum = 0;
+        pairs.for_each(|(x, y)| sum ^= x[0].wrapping_add(y[1]));
+        sum
+    }),
+    pairs!("zip_eq over chunks, all", |list| list.chunks_exact(2), |pairs| {
+        let (mut pairs, last) = (pairs, black_box(0));
+        u64::from(pairs.all(|(x, y)| x[0] ^ y[0] == last))
+    }),
+    pairs!(
+        "zip_eq over chunks, sums of each pair",
+        |list| list.chunks_exact(16),
+        |pairs| total(pairs.map(|(x, y)| {
+            let sum: u64 = x.iter().zip(y).map(|(a, b)| (a ^ b) >> 8).sum();
+            sum ^ x[0]
+        }))
+    ),
+    pairs!("zip_eq over chunks, the greatest", |list| list.rchunks(4), |pairs| {
+        pairs.map(|(x, y)| x[0] ^ (y[1] >> 1)).max().unwrap()
     }),
 ];
 
