@@ -1,14 +1,16 @@
 #!/usr/bin/env bash
-# Runs the first of README's two commands, and compares its output with the comment after it. Then proves the examples of
-# docs/CALLING.md as a reader pastes them. A block of Rust that has `use` lines becomes a module of a crate that depends
-# only on p3_util. The first line of a block of antt says which file of proofs/ it is, in a crate app: the block of Rust
-# before it is the lib.rt of that crate. The crates are copied with what their checks left in out/, so that they are not
-# proved again.
+# Runs the first of README's two commands, and compares its output with the comment after it. If `rt ci` has built the
+# program, it is not proved and built again. Then proves the examples of docs/CALLING.md as a reader pastes them. A block
+# of Rust that has `use` lines becomes a module of a crate that depends only on p3_util. The first line of a block of antt
+# says which file of proofs/ it is, in a crate app: the block of Rust before it is the lib.rt of that crate. They are proved
+# by `rt ci`, which does not prove again what it has proved of the crates below.
 set -euo pipefail
 cd "$(dirname "$0")/.."
 
 line=$(grep -m 1 '^(cd crates/' README.md)
-printed=$(bash -c "${line%%   #*}")
+command=${line%%   #*}
+[ ! -x crates/p3_util_run/out/p3_util_run ] || command=${command/rt run --/out/p3_util_run}
+printed=$(bash -c "$command")
 [ "$printed" = "${line##*# }" ] || { printf 'FAILED  %s\nprints %s\n' "$line" "$printed" >&2 && exit 1; }
 echo "README's first command prints $printed"
 
@@ -16,7 +18,11 @@ copy=$(mktemp -d)
 trap 'rm -rf "$copy"' EXIT
 
 mkdir -p "$copy/crates/examples/src" "$copy/apps"
-cp -a crates/p3_util crates/p3_util_kernels "$copy/crates/"
+for crate in p3_util p3_util_kernels; do
+    mkdir "$copy/crates/$crate"
+    cp -r "crates/$crate"/{src,specs,proofs,must-fail} "$copy/crates/$crate/"
+done
+cp HANDLES "$copy/"
 grep -E '^(p3_util|p3_util_kernels):' crates.txt >"$copy/crates.txt"
 echo 'examples: p3_util p3_util_kernels serde_json' >>"$copy/crates.txt"
 
@@ -56,24 +62,16 @@ write(f"{copy}/crates/examples/src/lib.rt", f"//! The examples of {page}.\n#![ta
 print(f"{len(names)} examples of {page}, and {apps} with a file of proofs/")
 PYTHON
 
-# Fails if `rt fmt` would change a file of the crate in a folder, since `rt ci` would refuse that file as pasted.
-laid_out() {
-    (cd "$1" && rt fmt) >"$copy/log" 2>&1 || { tail "$copy/log"; exit 1; }
-    ! grep 'formatted' "$copy/log" || { echo "FAILED  an example of docs/CALLING.md is not as rt fmt lays it out" >&2; exit 1; }
-}
-
-# Proves the crate in a folder, or prints what is not proved.
+# Proves a crate of the copy and what it uses, or prints what is not proved.
 prove() {
-    (cd "$1" && rt check) >"$copy/log" 2>&1 || { grep -E '^fn |error|^note: `' "$copy/log" || tail "$copy/log"; exit 1; }
-    grep '^logic=' "$copy/log" | tail -n 1
+    (cd "$copy" && rt ci "$1") >"$copy/log" 2>&1 || { grep -E '^fn |error|^note: `|formatted|FAILED' "$copy/log" || tail "$copy/log"; exit 1; }
+    tail -n 1 "$copy/log"
 }
 
-laid_out "$copy/crates/examples"
-prove "$copy/crates/examples"
+prove examples
 echo 'app: p3_util p3_util_kernels serde_json' >>"$copy/crates.txt"
 for app in "$copy"/apps/*; do
     rm -rf "$copy/crates/app"
     cp -r "$app" "$copy/crates/app"
-    laid_out "$copy/crates/app"
-    prove "$copy/crates/app"
+    prove app
 done
