@@ -133,14 +133,6 @@ impl Work {
         }
     }
 
-    /// The shape, and for a transpose also the number of its items in brackets.
-    pub fn sized_shape(self) -> String {
-        match self {
-            Work::Transpose { .. } => format!("{} ({})", self.shape(), self.units()),
-            _ => self.shape(),
-        }
-    }
-
     /// Whether this is a transpose of one of these shapes, which are written as on the command line.
     fn is_among(self, shapes: &str) -> bool {
         self.is("transpose", ..) && shapes.split(',').any(|shape| shape == self.shape())

@@ -13,7 +13,6 @@ mod measure;
 mod options;
 #[cfg(parallel)]
 mod pairs;
-mod picture;
 mod table;
 mod timing;
 mod words;
@@ -67,10 +66,6 @@ fn run(options: &Options) -> Result<(), String> {
         table::slower(&rows, &options.build())
     );
     print_call(options);
-    if let Some(file) = &options.svg {
-        let svg = picture::svg(&rows, options.cpu.as_deref());
-        std::fs::write(file, svg).map_err(|e| format!("{}: {e}", file.display()))?;
-    }
     Ok(())
 }
 

@@ -32,7 +32,6 @@ pub struct Options {
     /// The most bytes that a list may have.
     pub largest: usize,
     pub wide: bool,
-    pub svg: Option<PathBuf>,
     pub cpu: Option<String>,
     /// The number of other processes that are busy during the measurement.
     pub busy: usize,
@@ -87,7 +86,6 @@ impl Options {
             runs: 9,
             largest: usize::MAX,
             wide: false,
-            svg: None,
             cpu: None,
             busy: 0,
         })
@@ -113,7 +111,6 @@ impl Options {
                 "--runs" => options.runs = number(&value()?)?,
                 "--largest" => options.largest = number::<usize>(&value()?)? << 20,
                 "--wide" => options.wide = true,
-                "--svg" => options.svg = Some(value()?.into()),
                 "--cpu" => options.cpu = Some(value()?),
                 "--busy" => options.busy = number(&value()?)?,
                 "--count" => options.mode = Mode::Count(list(&value()?, number)?),

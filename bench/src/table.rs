@@ -64,15 +64,6 @@ impl Row {
         self.ratio_of(Contender::Proved, base)
             .filter(|_| base != Contender::Copy)
     }
-
-    /// The ratio to the contender that [`Row::compared_with`] names.
-    pub fn relative(&self) -> f64 {
-        self.ratio().unwrap_or_else(|| self.copies())
-    }
-
-    pub fn compared_with(&self) -> &'static str {
-        name(self.base())
-    }
 }
 
 fn name(contender: Contender) -> &'static str {
