@@ -1,10 +1,10 @@
-"""Writes docs/contracts.txt, which lists the contracts, definitions and lemmas for callers that say what is proved.
+"""Writes docs/contracts.txt, which lists the contracts and the lemmas for callers, and names the definitions.
 
     python3 tools/contract_list.py
 
-tests/agree compares the list with the sources, so each clause, definition or lemma for callers that is removed, that
-promises less or that requires more is a changed line of the list. An axiom or a hole in a proof is not: `rt check` refuses
-both, in any file of specs/ or proofs/."""
+tests/agree compares the list with the sources. So each clause or lemma for callers that is removed, that promises less or
+that requires more is a changed line of the list, and so is a definition that is removed. An axiom or a hole in a proof is
+not: `rt check` refuses both, in any file of specs/ or proofs/."""
 import functools
 import glob
 import re
@@ -16,9 +16,9 @@ from rattle_source import declarations, read, statements
 
 LIST = "docs/contracts.txt"
 HEAD = """\
-# The public contracts and the definitions of the crates on which code may rely, and the statements of the lemmas for callers,
-# as the sources have them. docs/CALLING.md explains how to read a contract, and docs/MODEL.md says in words what is promised.
-# The crates of examples and tests, p3_util_callers, p3_util_transform and p3_util_vectors, are not listed.
+# The public contracts of the crates on which code may rely, the statements of the lemmas for callers, and the names of the
+# definitions. docs/CALLING.md explains how to read a contract, and docs/MODEL.md says in words what is promised. The crates
+# of examples and tests, p3_util_callers, p3_util_transform and p3_util_vectors, are not listed.
 #
 # Below the name of a source are its contracts. All structs are listed, with their private fields, since a clause or a
 # definition may name them. The lines below an implementation of a trait say what a clause sees of that type. Sources on the
@@ -26,9 +26,10 @@ HEAD = """\
 # So is whatever the code of the package that is written by hand may name, such as the traits that its holders implement.
 # What the root of a crate re-exports, such as `p3_util::NoRoom`, is below its src/lib.rt.
 #
-# The contracts of a crate are followed by its definitions and, in p3_util, by the lemmas for callers without their proofs.
-# Below these are the crate's imports: the modules that the names in its contracts, definitions and lemmas come from. Your
-# crate can import the same names, by `ghost use`.
+# The contracts of a crate are followed by the files of its definitions, each with the names that it defines. The file has the
+# definitions, each with a comment that says the same in words. In p3_util these are followed by the lemmas for callers
+# without their proofs. Below these are the crate's imports: the modules that the names in its contracts and lemmas come from.
+# Your crate can import the same names, by `ghost use`.
 #
 # Written by: python3 tools/contract_list.py"""
 CRATES = ["p3_util_kernels", "p3_util_registers", "p3_util_parts", "p3_util", "p3_util_run", "p3_util_c"]
@@ -43,6 +44,7 @@ LEMMAS = "Callers.antt"
 # The rows of marks and names of std that are too rare for docs/CALLING.md.
 MARKS = "tools/marks.txt"
 IMPORT = re.compile(r"^ *(?:ghost )?use ([\w.-]+)\.\{([^}]*)\};?(?: *--.*)?\n", re.M)
+DEFINED = re.compile(r"^(?: *(?:abbrev|unfoldable) pub| *pub (?:record|data)|pub(?! record| data)) (?!mod |use )(\w+)", re.M)
 EXPORT = re.compile(r"^pub use Rattle\.([\w.-]+)\.\{([^}]*)\}", re.M)
 
 
@@ -105,8 +107,8 @@ def contracts(text, seen_by=("pub",), named=frozenset()):
 
 
 def listed(path, named=None):
-    """The lines of a source, of a file of definitions or of a file of lemmas, and the names that it imports for them, each
-    with its module. If names are given, these are the lemmas that are listed."""
+    """The lines of a source or of a file of lemmas, and the names that it imports for them, each with its module. If names are
+    given, these are the lemmas that are listed. Of a file of definitions, the one line has the names that it defines."""
     with open(path, encoding="utf-8") as text:
         source = read(path) if path.endswith(".rt") else text.read()
     if path.endswith(".rt"):
@@ -117,7 +119,7 @@ def listed(path, named=None):
     elif "/proofs/" in path:
         lines = [f"  {said}" for said in statements(source, named)]
     else:
-        lines = [f"  {said}".rstrip() for said in IMPORT.sub("", source).strip().split("\n")]
+        return [line(2, ", ".join(names))] if (names := DEFINED.findall(source)) else [], set()
     said = set(re.findall(r"\w+|[^\w\s]+", "\n".join(lines)))
     names = [(module, name.strip()) for module, names in IMPORT.findall(source) for name in names.split(",")]
     return lines, {(module, name) for module, name in names if said.issuperset(name.split(" as ")[-1].replace("◌", " ").split())}

@@ -12,7 +12,7 @@ from rattle_source import DEFINITION, comment_above
 # Both are at the top of the page. Between them is the paragraph under the heading READ.
 HEAD = "What the names and marks in the contracts mean."
 END = """No function of `kernels` tests its `requires`. The repository has each definition as the checker reads it, in
-`docs/contracts.txt`."""
+the folders `specs/` of its crates."""
 # The top of the page on parts.
 PARTS = """
 What is proved of the parts of a call: the contracts of the plans by which a call is cut, and the laws about all parts.

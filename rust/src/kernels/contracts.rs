@@ -7,7 +7,7 @@
 //! of its bytes, a map as the list of its pairs, and an iterator of a map as the list of what it has not yet returned.
 //!
 //! No function of `kernels` tests its `requires`. The repository has each definition as the checker reads it, in
-//! `docs/contracts.txt`.
+//! the folders `specs/` of its crates.
 //!
 //! # A contract, word by word
 //!
