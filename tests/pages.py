@@ -1,8 +1,7 @@
 """For tests/agree: compares the pages with the code. It checks the functions that blocks of Rust quote, the clauses that
-MODEL names, the numbers in ARCHITECTURE's table and in sentences, lists of sizes, the formulas for parts, each link,
-file and name, and the rows and cells of tables. It also looks for each public function in the tests, in MODEL and in the
-callers. And it compares the modules with the files, the heads of specs with the contracts that use them, and the files that
-comments of specs and proofs name with those that are there."""
+MODEL names, the numbers in ARCHITECTURE's table and in sentences, lists of sizes, and each link, file and name. It also
+looks for each public function in the tests, in MODEL and in the callers. And it compares the heads of specs with the
+contracts that use them, and the files that comments of specs and proofs name with those that are there."""
 import functools
 import itertools
 import os
@@ -17,25 +16,19 @@ from rattle_source import read as read_source
 OUTSIDE = set("""
     as_chunks as_flattened_mut bytemuck DisjointMutPtr gcd_inner gcd_inversion_prime_field_32 get_disjoint_mut into_flattened
     p3_maybe_rayon relatively_prime_u64 transparent TransparentWrapper try_from_fn
-    axioms backend contains_key holes incremental Invariants LEMMA libraries statements tidy TURNED
+    axioms backend contains_key holes incremental Invariants LEMMA libraries precise statements tidy TURNED
 """.split())
 # These pages mention names that the repository does not have, or no longer has, so their names are not looked up.
 ELSEWHERE = {"rust/CHANGELOG.md", "docs/TRIED.md", "docs/DIFFERENCES.md"}
 LIBRARIES = "crates/p3_util(_kernels|_c|_run)?/"
 TABLE_IS_ABOUT = "rust/|" + LIBRARIES
 TABLE_ROW = r"^\| (`[A-Z_`, ]+`) \| ([\d, ^+]+) \| `([^`]+)` \|.*$"
-# How many lines the tables of a page have. A row that is lost promises less, or hides a difference, and no other check
-# would notice. Whoever adds or removes a row changes the number.
-ROWS = {"docs/MODEL.md": 77, "docs/DIFFERENCES.md": 58, "rust/README.md": 35}
 # Sentences that list sizes in bytes, each with the file that has the sizes, and how they stand there.
 SIZES = {
     "The kernels for items of {} bytes, and for rows": ("rust/src/slices/by_size.rs", r"\n +\[([\d ]+)\] \$size"),
     "by itself if a row has {} bytes": ("rust/src/slices/by_size.rs", r"\n +\[([\d ]+)\] \$size"),
     "is the size of an item in bytes: {}.": ("c/p3_util.h", r"\bp3_util_reverse_(\d+)\("),
 }
-# How many ranges a side of a reversal is cut into, and how many parts that makes, in the package and in words.
-PARTS = "rust/src/slices/parts.rs"
-RANGES_IN_CODE, RANGES, PATCHES = "1 + parts.saturating_sub(1).saturating_mul(4).isqrt()", "1 + ⌊2√(N − 1)⌋", "P(P + 1) / 2"
 FILE = r"[\w.-]+(/[\w.-]+)+/?|[\w-]+\.(md|rt|antt|sh|py|rs|h|c|tsv|svg|txt|toml)"
 
 
@@ -233,25 +226,6 @@ def check_sizes():
                 yield place(page, there.start(), f"{path} has the sizes {' '.join(wanted)}")
 
 
-def check_parts():
-    """The formulas for the number of parts of a reversal are those of the code."""
-    if f" {RANGES_IN_CODE}\n" not in read(PARTS):
-        yield f"{PARTS}: does not compute {RANGES_IN_CODE}, which tests/pages.py says in words"
-    for path in (PARTS, "docs/DECISIONS.md"):
-        text = " ".join(read(path).replace("//!", " ").replace("///", " ").split())
-        said = re.findall(r"\bP = (.*?) ranges", text) + re.findall(r"\bP ?\(P.*? / \d+", text)
-        for formula in set(said) ^ {RANGES, PATCHES}:
-            yield f"{path}: {'has' if formula in said else 'lacks'} the formula '{formula}': see tests/pages.py"
-
-
-def check_rows():
-    """The tables of the pages in ROWS have as many lines as it says."""
-    for page, wanted in ROWS.items():
-        found = len(re.findall(r"^\|", pages[page], re.M))
-        if found != wanted:
-            yield f"{page}: its tables have {found} lines, and tests/pages.py says {wanted}: if no row is lost, change it there"
-
-
 def anchors(page):
     """The anchors of a page's headings, made from the words of the headings. A heading that was there before gets a
     number."""
@@ -287,40 +261,6 @@ def check_links_and_names():
                     # A final N stands for the size of an item.
                     if len(name) > 3 and re.sub("_N$", "_8", name) not in words and not re.fullmatch("[0-9a-f]{16}", name):
                         yield place(page, token.start(), f"no name {name}. If it is not of this repository, add it to tests/pages.py")
-
-
-def check_tables():
-    """The rows of a table have one number of cells, and no table stands inside a paragraph."""
-    for page, text in pages.items():
-        inside, cells = False, None
-        for number, line in enumerate(text.splitlines(), 1):
-            inside ^= line.lstrip().startswith("```")
-            is_row = not inside and line.lstrip().startswith("|")
-            found = len(re.sub(r"`[^`]*`", "", line).split("|")) if is_row else None
-            if found and cells and found != cells:
-                yield f"{page}:{number}: a row of {found - 2} cells in a table of {cells - 2}"
-            if not inside and "|---" in line and not re.fullmatch(r"[ |:-]+", line):
-                yield f"{page}:{number}: a table inside a paragraph"
-            cells = found
-
-
-def check_modules():
-    """Each source is a module of the file above it, or of one that names its path. Otherwise it would not be compiled,
-    and its tests would not run. A file that `rust/test` compiles alone is not a module."""
-    named = {
-        os.path.normpath(os.path.join(os.path.dirname(path), other))
-        for path in tracked
-        if path.endswith(".rs")
-        for other in re.findall(r'^#\[(?:cfg_attr\(.*, )?path = "(.*)"\)?\]', read(path), re.M)
-    }
-    for path in tracked:
-        file = re.fullmatch(r"((?:crates/\w+|rust|tests/unproved)/(?:src|tests)\b.*)/(?!(?:lib|main|mod)\.)(\w+)(\.rt|\.rs|\.rt\.in)", path)
-        if not file or path in named or path.startswith("rust/tests/assembly/"):
-            continue
-        folder, name, end = file.groups()
-        above = {folder + end, *(f"{folder}/{root}{end}" for root in ("lib", "main", "mod"))}.intersection(tracked)
-        if not any(re.search(rf"^(pub(\(\w+\))? )?mod {name};", read(parent), re.M) for parent in above):
-            yield f"{path}: no file above it has it as a module"
 
 
 def public_functions():
@@ -386,6 +326,6 @@ def check_paths_in_comments():
 
 def wrong():
     """A line for each thing that is wrong."""
-    for check in (check_quotations, check_edits, check_clauses, check_constants, check_sizes, check_parts, check_rows,
-                  check_links_and_names, check_tables, check_modules, check_functions, check_specs, check_paths_in_comments):
+    for check in (check_quotations, check_edits, check_clauses, check_constants, check_sizes,
+                  check_links_and_names, check_functions, check_specs, check_paths_in_comments):
         yield from check()
