@@ -1,6 +1,6 @@
 #!/usr/bin/env bash
-# Refuses each growth in turn: a run has its Nth request for memory refused, for N from 1 until a run has no Nth
-# request.
+# Refuses each request for memory in turn: of the requests of a run, the first is refused, then in another run the second,
+# and so on.
 #
 #     tests/refused_growth.sh [program]
 #
@@ -12,67 +12,34 @@
 # release all memory that it was given. So these bodies meet their contracts, but fail here: a run that returns another
 # fault if memory runs out, a transform_and_back that makes no request and does nothing, and calls that forget the
 # program's input or values that make no whole rows. The tests of the library have no proof. They count their requests
-# and the memory they hold themselves, and `rt try` refuses one of the requests.
-set -uo pipefail
-cd "$(dirname "$0")/.." || exit
-
-# The tests that are run in this way: a crate, and the beginning of the names of its tests.
-tests=(
-    'p3_util_transform tests::refused_growth::'
-    'p3_util_run tests::refused_growth::'
-)
-[[ ${1-} != program ]] || tests=()
-
-# The tests of the library, and the largest number of requests that one of them makes.
-growth=tests/unproved/src/growth.rt.in
-most=$(sed -nE 's/.* makes_requests\w*\(&rt, ([0-9]+), .*/\1/p' "$growth" | sort -n | tail -n 1)
-[[ -n $most ]] || { echo "FAILED  $growth: no test says how many requests it makes" && exit 1; }
-[[ ${1-} != program ]] || most=0
-
-work=$(mktemp -d)
-trap 'rm -rf "$work"' EXIT
+# and the memory they hold themselves, and `rt try` refuses one of the requests. It builds anew for each number, so what
+# is built already is run with `refuse_growth.c`.
+. "$(dirname "$0")/harness.bash"
+cd "$(dirname "$0")/.."
 kit=$(dirname "$(rt doc)")
-"$kit/toolchain/bin/clang" -O1 -fPIC -c tests/refuse_growth.c -o "$work/refuse_growth.o" &&
-    "$kit/toolchain/bin/ld.lld" -shared "$work/refuse_growth.o" -o "$work/refuse_growth.so" || exit 1
-bad=0
+"$kit/toolchain/bin/clang" -O1 -fPIC -c tests/refuse_growth.c -o "$room/refuse_growth.o"
+"$kit/toolchain/bin/ld.lld" -shared "$room/refuse_growth.o" -o "$room/refuse_growth.so"
 
-# refusing N PROGRAM ARGUMENT..: runs the program and refuses its Nth growth. Its output and its error output go to
-# files, and `$work/refused` exists if there was an Nth growth. Memory that is not released is a failure.
+# refusing N PROGRAM ARGUMENT..: runs the program, and refuses its Nth request or, if N is 0, none. It sets `requests` to the
+# number of requests that the run made, or to 0 if it was ended before it could say so.
 refusing() {
-    local status
-    rm -f "$work/refused" "$work/kept"
-    timeout 60 env REFUSED_GROWTH="$1" REFUSAL="$work/refused" KEPT="$work/kept" LD_PRELOAD="$work/refuse_growth.so" \
-        "${@:2}" >"$work/out" 2>"$work/err"
-    status=$?
-    [[ ! -e $work/kept ]] || failed "${2##*/} ${*:3}" "memory was not given back, where growth $1 was refused"
+    local status=0 held
+    requests=0
+    timeout 60 env REFUSED="$1" LD_PRELOAD="$room/refuse_growth.so" "${@:2}" 9>"$room/counts" || status=$?
+    read -r requests held <"$room/counts" || return "$status"
+    ((held == 0)) || { echo "$held blocks of memory were not given back" && return 99; }
     return "$status"
 }
 
-# failed NAME TEXT: prints what went wrong in a run.
-failed() {
-    echo "FAILED  $1: $2"
-    head -c 400 "$work/out" "$work/err"
-    bad=1
-}
-
-# of_program PROGRAM INPUT STATUS OUTPUT ARGUMENT..: with ample memory the program ends with the status and prints
-# OUTPUT, which is a fault if the status is not 0.
+# of_program PROGRAM INPUT STATUS OUTPUT ERROR ARGUMENT..
 of_program() {
-    local program=$1 input=$2 wanted=$3 output=$4 name="${1##*/} ${*:5}" n=0 status
-    while :; do
-        n=$((n + 1))
-        refusing "$n" "$program" "${@:5}" <<<"$input"
-        status=$?
-        if [[ ! -e $work/refused ]]; then
-            [[ $status == "$wanted" && $(cat "$work/out" "$work/err") == "$output" ]] ||
-                failed "$name" "status $status with ample memory"
-            break
-        fi
-        [[ $status == 3 && ! -s $work/out && $(<"$work/err") == 'error: out of memory' ]] ||
-            failed "$name" "status $status where growth $n was refused"
+    local n all
+    is "${1##*/} ${*:6}" "$3" "$4" "$5" refusing 0 "$1" "${@:6}" <<<"$2"
+    all=$requests
+    ((all > 0)) || fail "it made no request"
+    for ((n = 1; n <= all; n++)); do
+        is "${1##*/} ${*:6}, request $n refused" 3 '' $'error: out of memory\n' refusing "$n" "$1" "${@:6}" <<<"$2"
     done
-    echo "$name: $((n - 1)) growths, each refused once"
-    ((n > 1)) || failed "$name" 'no growth was refused'
 }
 
 # stated CRATE TEST: the number of requests for memory that a test's comment states.
@@ -84,52 +51,39 @@ stated() {
         /^}/ { count = "" }' "crates/$1/src/${path//:://}.rt"
 }
 
-# of_test CRATE PROGRAM TEST
-of_test() {
-    local n=0 status wanted
-    wanted=$(stated "$1" "$3")
-    while :; do
-        n=$((n + 1))
-        refusing "$n" "$2" "$3" </dev/null
-        status=$?
-        ((status == 0)) || failed "$3" "status $status where growth $n was refused"
-        [[ -e $work/refused ]] || break
+# of_tests CRATE: the tests whose names begin with tests::refused_growth::.
+of_tests() {
+    local n all name names built=crates/$1/out/${1}_tests
+    [[ -x $built ]] || (cd "crates/$1" && rt test)
+    names=$("$built" --list | grep -o '^tests::refused_growth::[a-z_]*') || fail "$1: it has no such test"
+    for name in $names; do
+        ok "$name" refusing 0 "$built" "$name" </dev/null
+        all=$requests
+        [[ $all == "$(stated "$1" "$name")" ]] || fail "$name: it made $all requests, and its comment says otherwise"
+        for ((n = 1; n <= all; n++)); do
+            ok "$name, request $n refused" refusing "$n" "$built" "$name" </dev/null
+        done
     done
-    echo "$3: $((n - 1)) growths, each refused once"
-    [[ $((n - 1)) == "$wanted" ]] || failed "$3" "it made $((n - 1)) requests, and its comment states ${wanted:-no number}"
 }
 
 program=crates/p3_util_run/out/p3_util_run
-[[ -x $program ]] || (cd crates/p3_util_run && rt run -- revbits <stdin) || exit 1
+[[ -x $program ]] || (cd crates/p3_util_run && rt run -- revbits <stdin)
 for program in $program{,.by-rattle}; do
     [[ -x $program ]] || continue
-    of_program "$program" '[10,20,30,40]' 0 '[10,30,20,40]' revbits
-    of_program "$program" '[0,1,2,3,4,5,6,7]' 0 '[0,1,4,5,2,3,6,7]' revrows 2
-    of_program "$program" '[1,2,3,4,5,6]' 0 '[1,4,2,5,3,6]' transpose 3 2
-    of_program "$program" '[1,2,3]' 2 'error: length 3 is neither zero nor a power of two' revbits
-    of_program "$program" '[1,2,3]' 2 'error: length 3 is not 2 times zero or a power of two' revrows 2
-    of_program "$program" '[1,2,3]' 2 'error: 2 by 2 is not the length 3' transpose 2 2
+    of_program "$program" '[10,20,30,40]' 0 $'[10,30,20,40]\n' '' revbits
+    of_program "$program" '[0,1,2,3,4,5,6,7]' 0 $'[0,1,4,5,2,3,6,7]\n' '' revrows 2
+    of_program "$program" '[1,2,3,4,5,6]' 0 $'[1,4,2,5,3,6]\n' '' transpose 3 2
+    of_program "$program" '[1,2,3]' 2 '' $'error: length 3 is neither zero nor a power of two\n' revbits
+    of_program "$program" '[1,2,3]' 2 '' $'error: length 3 is not 2 times zero or a power of two\n' revrows 2
+    of_program "$program" '[1,2,3]' 2 '' $'error: 2 by 2 is not the length 3\n' transpose 2 2
 done
+[[ ${1-} != program ]] || exit 0
+of_tests p3_util_transform
+of_tests p3_util_run
 
-for line in "${tests[@]}"; do
-    read -r crate prefix <<<"$line"
-    built=crates/$crate/out/${crate}_tests
-    [[ -x $built ]] || (cd "crates/$crate" && rt test) || exit 1
-    if ! names=$("$built" --list | sed 's/: test$//' | grep "^$prefix"); then
-        failed "$crate" "there is no test $prefix"
-        continue
-    fi
-    for name in $names; do
-        of_test "$crate" "$built" "$name"
-    done
-done
-
+# The largest number of requests that one of the library's tests makes.
+most=$(sed -nE 's/.* makes_requests\w*\(&rt, ([0-9]+), .*/\1/p' tests/unproved/src/growth.rt.in | sort -n | tail -n 1)
+[[ -n $most ]] || fail 'no test of tests/unproved says how many requests it makes'
 for ((n = 1; n <= most; n++)); do
-    tests/unproved.sh --fail-alloc "$n" -- growth:: >"$work/all" 2>"$work/err"
-    status=$?
-    grep -v ' ok$' "$work/all" >"$work/out"
-    passed=$(grep -c '^test growth::.* ok$' "$work/all")
-    ((status == 0 && passed > 0)) || failed 'tests/unproved growth::' "status $status where request $n was refused"
-    echo "tests/unproved: request $n refused in each of $passed tests"
+    says "the tests of tests/unproved, request $n refused" 'test growth::' tests/unproved.sh --fail-alloc "$n" -- growth::
 done
-exit "$bad"
