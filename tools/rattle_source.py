@@ -12,12 +12,11 @@ TOKEN = re.compile(r"""
     (?P<space> \s+ )
   | (?P<doc> ///(?!/)[^\n]* | //![^\n]* )
   | (?P<comment> //[^\n]* )
-  | (?P<block> /\* )
   | (?P<string> [bc]?r(?P<hashes>\#*)".*?"(?P=hashes) | [bc]?"(?:\\.|[^"\\])*" )
   | (?P<char> b?'(?:\\(?:u\{[^}]*\}|x..|.)|[^\\'\n])' )
   | (?P<lifetime> '[^\W\d]\w* )
   | (?P<word> (?:r\#)?\w+ )
-  | (?P<mark> ::|->|=>|&&|\|\||==|!=|<=|>=|\.\.|. )
+  | (?P<mark> /\*|::|->|=>|&&|\|\||==|!=|<=|>=|\.\.|. )
 """, re.X | re.S)
 CLOSED_BY = {"(": ")", "[": "]", "{": "}"}
 
@@ -52,11 +51,9 @@ def scanned(text, name):
     while at < len(text):
         match = TOKEN.match(text, at)
         kind, piece = match.lastgroup, match[0]
-        if kind == "block":
-            piece = text[at:block_end(text, at)]
-        if piece == '"' or not piece:
-            raise Unknown(f"{name}:{line}: a string or a comment without an end")
-        if kind in ("space", "comment", "block"):
+        if piece in ('"', "/*"):
+            raise Unknown(f"{name}:{line}: a string without an end, or a comment that begins with /*")
+        if kind in ("space", "comment"):
             gap += piece
         else:
             yield Token(kind, piece, line, gap)
@@ -64,16 +61,6 @@ def scanned(text, name):
         at += len(piece)
         line += piece.count("\n")
     yield Token("end", "", line, gap)
-
-
-def block_end(text, at):
-    """The index after the comment at `at`, which may have comments inside, or `at` if the comment does not end."""
-    depth = 0
-    for mark in re.finditer(r"/\*|\*/", text[at:]):
-        depth += 1 if mark[0] == "/*" else -1
-        if depth == 0:
-            return at + mark.end()
-    return at
 
 
 class Source:
