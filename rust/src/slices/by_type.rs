@@ -2,7 +2,7 @@
 //! of each was checked.
 
 use super::parts::RowPlan;
-use super::ways::{LONG_BYTES, ShortWay, Way, short_way_of, side_of, strips_of, way_of};
+use super::ways::{LONG_BYTES, Limits, ShortWay, Way, short_way_of, side_of, strips_of, way_of};
 use crate::kernels::places::{Cells, Places, Source};
 use crate::kernels::reverse::{self, RowDigits, reverse_short};
 use crate::kernels::transpose::{Matrix, Order, PutRegion, Region, put_as_block, put_columns};
@@ -61,7 +61,7 @@ pub(super) fn put_region<M: Output>(cells: M, matrix: Matrix<impl Input<M::Item>
 fn run<M: Output>(cells: M, matrix: Matrix<impl Input<M::Item>>, region: Option<Region>) {
     let (size, Matrix { source, width, height }) = (const { size_of::<M::Item>() }, matrix);
     let strips = strips_of(size, width, height);
-    let way = way_of(size, width, height, region, cells.address());
+    let way = way_of(Limits::HERE, size, [width, height], region, cells.address());
     let region = region.unwrap_or(matrix.whole());
     let order = match way {
         Way::Lines => return cells.put_by_lines(matrix, region),

@@ -36,21 +36,51 @@ pub(super) const LONG_BYTES: usize = 1024;
 /// On aarch64, lines were not tried.
 const HAS_LINES: bool = USES_REGISTERS && cfg!(target_arch = "x86_64");
 
-/// A list of at least this many bytes is put by lines. Of this limit and the next four, the tests of this package take lower
-/// ones.
-const PAST_CACHES: usize = if cfg!(test) { 1 << 10 } else { 1 << 24 };
+/// A list of at least this many bytes is put by lines.
+const PAST_CACHES: usize = 1 << 24;
 
 /// Fewer columns are not put by lines.
-const LINE_COLS: usize = if cfg!(test) { 1 } else { 12 };
+const LINE_COLS: usize = 12;
 
 /// Nor are fewer columns of items of 4 bytes.
-const LINE_COLS_OF_4: usize = if cfg!(test) { 1 } else { 16 };
+const LINE_COLS_OF_4: usize = 16;
 
 /// Fewer rows of items of 4 bytes are not put by lines, unless all columns begin at the same cell of a line.
-const LINE_ROWS_OF_4: usize = if cfg!(test) { 1 } else { 128 };
+const LINE_ROWS_OF_4: usize = 128;
 
 /// A column of so many bytes is put by lines even if it is not whole lines.
-const LONG_COLUMN: usize = if cfg!(test) { 1 } else { 768 };
+const LONG_COLUMN: usize = 768;
+
+/// From which sizes on a matrix is put by lines.
+pub(super) struct Limits {
+    pub(super) bytes: usize,
+    pub(super) cols: usize,
+    pub(super) cols_of_4: usize,
+    pub(super) rows_of_4: usize,
+    pub(super) column: usize,
+}
+
+impl Limits {
+    pub(super) const OF_USERS: &Limits = &Limits {
+        bytes: PAST_CACHES,
+        cols: LINE_COLS,
+        cols_of_4: LINE_COLS_OF_4,
+        rows_of_4: LINE_ROWS_OF_4,
+        column: LONG_COLUMN,
+    };
+
+    /// With these, short lists are put by lines too.
+    const OF_TESTS: &Limits = &Limits {
+        bytes: 1 << 10,
+        cols: 1,
+        cols_of_4: 1,
+        rows_of_4: 1,
+        column: 1,
+    };
+
+    /// The limits of this build.
+    pub(super) const HERE: &Limits = if cfg!(test) { Self::OF_TESTS } else { Self::OF_USERS };
+}
 
 /// On x86-64, a matrix of more items of 8 bytes is not put by blocks in registers.
 const BLOCKS_LONG_ITEMS: usize = 1 << 15;
@@ -91,10 +121,11 @@ pub(super) fn short_way_of(size: usize, width: usize, height: usize) -> Option<S
     }
 }
 
-/// The way for a matrix that has no short way, or for a region of a matrix. `first` is the address of the first cell of the
-/// output.
+/// The way for a matrix of this width and height that has no short way, or for a region of it. `first` is the address of the
+/// first cell of the output.
 #[inline(always)]
-pub(super) fn way_of(size: usize, width: usize, height: usize, region: Option<Region>, first: usize) -> Way {
+pub(super) fn way_of(limits: &Limits, size: usize, sides: [usize; 2], region: Option<Region>, first: usize) -> Way {
+    let [width, height] = sides;
     let (rows, cols) = match region {
         None if width * height <= LARGE_MATRIX => return Way::Strips,
         None => (height, width),
@@ -102,9 +133,9 @@ pub(super) fn way_of(size: usize, width: usize, height: usize, region: Option<Re
     };
     let column = height * size;
     // In a part of few rows, a column has hardly a whole line, and at both of its ends a part of one.
-    let fits_4 = cols >= LINE_COLS_OF_4 && (rows >= LINE_ROWS_OF_4 || column % LINE == 0);
-    let is_large = width * column >= PAST_CACHES && cols >= LINE_COLS && (size != 4 || fits_4);
-    let is_long = column >= LONG_COLUMN || size < 16 && column % LINE == 0;
+    let fits_4 = cols >= limits.cols_of_4 && (rows >= limits.rows_of_4 || column % LINE == 0);
+    let is_large = width * column >= limits.bytes && cols >= limits.cols && (size != 4 || fits_4);
+    let is_long = column >= limits.column || size < 16 && column % LINE == 0;
     if HAS_LINES && matches!(size, 4 | 8 | 16) && first % size == 0 && is_large && is_long {
         Way::Lines
     } else {

@@ -4,7 +4,7 @@ use core::ops::Range;
 use std::vec::Vec;
 
 use super::super::holders::USES_REGISTERS;
-use super::super::ways::{ShortWay, Way, short_way_of, side_of, strips_of, way_of};
+use super::super::ways::{Limits, ShortWay, Way, short_way_of, side_of, strips_of, way_of};
 use crate::kernels::places::{Block, Cells, SliceSource, Source};
 use crate::kernels::transpose::{Matrix, Order, Region, Strips, transpose_matrix};
 
@@ -12,18 +12,23 @@ const IS_AARCH64: bool = cfg!(target_arch = "aarch64");
 
 const HAS_LINES: bool = USES_REGISTERS && cfg!(target_arch = "x86_64");
 
-/// The way for all columns of a matrix, as a part of a call that is cut.
-fn way_of_part(size: usize, width: usize, height: usize, first: usize) -> Way {
+/// The way for some rows and columns of a matrix, as a part of a call that is cut.
+fn way_of_part(limits: &Limits, size: usize, sides: [usize; 2], [rows, cols]: [usize; 2], first: usize) -> Way {
     let region = Region {
-        row_start: 0,
-        row_end: height,
-        col_start: 0,
-        col_end: width,
+        row_start: 1,
+        row_end: 1 + rows,
+        col_start: 5,
+        col_end: 5 + cols,
     };
-    way_of(size, width, height, Some(region), first)
+    way_of(limits, size, sides, Some(region), first)
 }
 
-/// Each row of the first table. In these tests a list of 1024 bytes is long, and so is every column.
+/// The same for all rows and columns, by the limits of these tests.
+fn way_of_all(size: usize, width: usize, height: usize, first: usize) -> Way {
+    way_of_part(Limits::HERE, size, [width, height], [height, width], first)
+}
+
+/// Each row of the first table, by the limits of these tests. With them a list of 1024 bytes is long, and so is every column.
 #[test]
 fn ways() {
     for size in [1, 2, 3, 4, 8, 12, 16, 32, 1023] {
@@ -51,17 +56,17 @@ fn ways() {
                 _ => None,
             };
             assert_eq!(short(width, height), wanted, "{size} {width} {height}");
-            assert_eq!(way_of(size, width, height, None, 1), Way::Strips);
-            assert_eq!(way_of_part(size, width, height, 1), Way::Leaves);
+            assert_eq!(way_of(Limits::HERE, size, [width, height], None, 1), Way::Strips);
+            assert_eq!(way_of_all(size, width, height, 1), Way::Leaves);
         }
     }
     for size in [1024, 1 << 20] {
         assert_eq!(short_way_of(size, 1, 5), Some(ShortWay::Copied));
         assert_eq!([short_way_of(size, 2, 2), short_way_of(size, 8, 8)], [None; 2]);
-        assert_eq!(way_of_part(size, 64, 64, 0), Way::Leaves);
+        assert_eq!(way_of_all(size, 64, 64, 0), Way::Leaves);
     }
     for size in [1, 3, 12, 1023, 1024] {
-        let whole = |width, height| way_of(size, width, height, None, 1);
+        let whole = |width, height| way_of(Limits::HERE, size, [width, height], None, 1);
         assert_eq!([whole(2, 2), whole(1024, 1024)], [Way::Strips; 2]);
         assert_eq!([whole(1025, 1024), whole(2, 524_289)], [Way::Leaves; 2]);
     }
@@ -81,6 +86,8 @@ fn strips() {
         (512, 512),
         (512, 513),
         (1024, 256),
+        (256, 129),
+        (768, 43),
     ] {
         let by_width = if width % 16 == 0 {
             Strips::low()
@@ -115,16 +122,73 @@ fn lines_of_long_lists() {
                 let is_long = matches!(size, 4 | 8 | 16) && width * height * size >= 1024 && first % size == 0;
                 let wanted = if HAS_LINES && is_long { Way::Lines } else { Way::Leaves };
                 assert_eq!(
-                    way_of_part(size, width, height, first),
+                    way_of_all(size, width, height, first),
                     wanted,
                     "{size} {width} by {height} at {first}"
                 );
                 if width * height > 1 << 20 {
-                    assert_eq!(way_of(size, width, height, None, first), wanted);
+                    assert_eq!(way_of(Limits::HERE, size, [width, height], None, first), wanted);
                 }
             }
         }
     }
+}
+
+/// The rows of the first table on lines, by the limits of a user: on both sides of each limit, and for parts that have few rows
+/// or few columns of a matrix.
+#[test]
+fn lines_of_users() {
+    // The size of an item, the width and the height of the matrix, the rows and the columns of the part.
+    let by_lines = [
+        (4, [4096, 1024], [1024, 16]),
+        (8, [2048, 1024], [1024, 12]),
+        (16, [1024, 1024], [1024, 12]),
+        (8, [1 << 18, 8], [8, 12]),
+        (8, [1 << 20, 88], [1, 12]),
+        (8, [1 << 20, 97], [1, 12]),
+        (16, [1 << 20, 48], [1, 12]),
+        (16, [1 << 20, 49], [1, 12]),
+        (4, [1 << 20, 16], [16, 16]),
+        (4, [1 << 20, 192], [1, 16]),
+        (4, [1 << 20, 193], [128, 16]),
+    ];
+    let not_by_lines = [
+        (4, [4095, 1024], [1024, 4095]),
+        (8, [2047, 1024], [1024, 2047]),
+        (16, [1023, 1024], [1024, 1023]),
+        (4, [4096, 1024], [1024, 15]),
+        (8, [2048, 1024], [1024, 11]),
+        (16, [1024, 1024], [1024, 11]),
+        (8, [1 << 20, 95], [95, 1 << 19]),
+        (8, [1 << 20, 9], [9, 1 << 19]),
+        (16, [1 << 20, 47], [47, 1 << 19]),
+        (16, [1 << 20, 44], [44, 1 << 19]),
+        (16, [1 << 20, 4], [4, 1 << 19]),
+        (4, [1 << 20, 191], [191, 1 << 19]),
+        (4, [1 << 20, 193], [127, 1 << 19]),
+        (2, [1 << 20, 1024], [1024, 1 << 19]),
+        (12, [1 << 20, 1024], [1024, 1 << 19]),
+        (32, [1 << 20, 1024], [1024, 1 << 19]),
+    ];
+    let lines = if HAS_LINES { Way::Lines } else { Way::Leaves };
+    let wanted = by_lines
+        .map(|case| (case, lines))
+        .into_iter()
+        .chain(not_by_lines.map(|case| (case, Way::Leaves)));
+    for ((size, sides, part), wanted) in wanted {
+        let of_part = |first| way_of_part(Limits::OF_USERS, size, sides, part, first);
+        assert_eq!([0, size, 4096].map(of_part), [wanted; 3], "{size} {sides:?} {part:?}");
+        assert_eq!([1, size / 2, size + 1].map(of_part), [Way::Leaves; 3]);
+    }
+    let of_call = |size, sides| way_of(Limits::OF_USERS, size, sides, None, 0);
+    assert_eq!(
+        [of_call(16, [1024, 1024]), of_call(16, [1024, 1025])],
+        [Way::Strips, lines]
+    );
+    assert_eq!(
+        [of_call(8, [1025, 1024]), of_call(8, [2048, 1024])],
+        [Way::Leaves, lines]
+    );
 }
 
 /// The cells of a transpose, which note the order of the puts.
