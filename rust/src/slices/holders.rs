@@ -64,7 +64,7 @@ impl<'a, T, D, const LAST: bool> SliceItems<'a, T, D, LAST> {
 
     /// Whether the cells of a block `may_last` be written: each column is a line of the output, and a fence follows.
     #[inline(always)]
-    fn may_last(&self, block: Block) -> bool {
+    pub(super) fn may_last(&self, block: Block) -> bool {
         let first = self.first.wrapping_add(block.to).addr();
         let distance = block.height * size_of::<T>() * usize::from(block.cols > 1);
         LAST && block.rows * size_of::<T>() == LINE && (first | distance) % LINE == 0

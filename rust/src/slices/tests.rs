@@ -441,7 +441,7 @@ struct Aligned<T>([T; 600]);
 
 /// Puts blocks of whole cache lines, and blocks that differ from those by an item or two: in the first cell, in the distance of
 /// two columns, or in the number of rows.
-fn puts_near_lines<T: Copy + PartialEq, H: for<'a> HoldCells<'a, T>>(item: impl Fn(usize) -> T) {
+fn puts_near_lines<T: Copy + PartialEq>(item: impl Fn(usize) -> T, put: impl Fn(&mut [T], &[T], Block)) {
     let line = 64 / size_of::<T>();
     let source: Vec<T> = (0..600).map(&item).collect();
     for (to, height) in (0..=line + 1).flat_map(|to| (2 * line - 2..=2 * line + 2).map(move |height| (to, height))) {
@@ -459,7 +459,7 @@ fn puts_near_lines<T: Copy + PartialEq, H: for<'a> HoldCells<'a, T>>(item: impl 
                 to,
                 height,
             };
-            H::hold_cells(&mut cells.0).put_block(&SliceSource::new(&source), block);
+            put(&mut cells.0, &source, block);
             let mut wanted = [item(999); 600];
             for (r, c) in (0..rows).flat_map(|r| (0..cols).map(move |c| (r, c))) {
                 wanted[to + c * height + r] = source[from + r * width + c];
@@ -469,11 +469,63 @@ fn puts_near_lines<T: Copy + PartialEq, H: for<'a> HoldCells<'a, T>>(item: impl 
     }
 }
 
+/// Puts a block by a holder.
+fn put_block<T: Copy, H: for<'a> HoldCells<'a, T>>(cells: &mut [T], source: &[T], block: Block) {
+    H::hold_cells(cells).put_block(&SliceSource::new(source), block);
+}
+
+/// Puts a block by a holder that stores whole lines past the caches.
+#[cfg(not(feature = "checked"))]
+fn put_past_caches<T: Copy, D: Register<T>>(cells: &mut [T], source: &[T], block: Block) {
+    let holder = SliceCells::new(cells).in_registers::<D>();
+    holder.past_caches(|mut cells| cells.put_block(&SliceSource::new(source), block));
+}
+
 #[test]
 fn blocks_near_lines() {
-    of_each_holder!(u32, Holder => puts_near_lines::<u32, Holder>(|i| i as u32));
-    of_each_holder!(u64, Holder => puts_near_lines::<u64, Holder>(|i| i as u64));
-    of_each_holder!(u128, Holder => puts_near_lines::<u128, Holder>(|i| i as u128));
+    of_each_holder!(u32, Holder => puts_near_lines(|i| i as u32, put_block::<_, Holder>));
+    of_each_holder!(u64, Holder => puts_near_lines(|i| i as u64, put_block::<_, Holder>));
+    of_each_holder!(u128, Holder => puts_near_lines(|i| i as u128, put_block::<_, Holder>));
+    #[cfg(not(feature = "checked"))]
+    if USES_REGISTERS {
+        puts_near_lines(|i| i as u32, put_past_caches::<_, Pair<Of<4>>>);
+        puts_near_lines(|i| i as u64, put_past_caches::<_, Pair<Of<8>>>);
+        puts_near_lines(|i| i as u128, put_past_caches::<_, Two<Whole>>);
+    }
+}
+
+/// A block is stored past the caches only if each of its columns is a line of the output. If it has one column, their distance
+/// does not matter. Other holders store no block so.
+#[cfg(not(feature = "checked"))]
+#[test]
+fn blocks_of_lines() {
+    fn check<T: Copy + Default, D: Register<T>>() {
+        let line = 64 / size_of::<T>();
+        let mut list = Aligned([T::default(); 600]);
+        for (to, height) in (0..=2 * line).flat_map(|to| (line - 2..=3 * line).map(move |height| (to, height))) {
+            for (rows, cols) in [line / 2, line - 1, line, line + 1, 2 * line]
+                .into_iter()
+                .flat_map(|rows| [1, 2, line].map(|cols| (rows, cols)))
+            {
+                let (from, width) = (0, line);
+                let block = Block {
+                    rows,
+                    cols,
+                    from,
+                    width,
+                    to,
+                    height,
+                };
+                let is_line = rows == line && to % line == 0 && (cols == 1 || height % line == 0);
+                assert!(!SliceCells::new(&mut list.0).in_registers::<D>().may_last(block));
+                let holder = SliceCells::new(&mut list.0).in_registers::<D>();
+                holder.past_caches(|cells| assert_eq!(cells.may_last(block), is_line, "{rows} {cols} {to} {height}"));
+            }
+        }
+    }
+    check::<u32, Pair<Of<4>>>();
+    check::<u64, Pair<Of<8>>>();
+    check::<u128, Two<Whole>>();
 }
 
 /// Whether a matrix of the items that `item` makes is transposed as defined, both by blocks and by the strips that a
@@ -721,7 +773,8 @@ mod refused {
         check::<u128, Two<Whole>>();
     }
 
-    /// A store past the caches has to be inside the list, and aligned to 16 bytes.
+    /// A store past the caches has to be inside the list, and aligned to 16 bytes. In a list of 17 items, only the first of these
+    /// two refuses a store at place 16.
     #[cfg(all(not(feature = "checked"), target_arch = "x86_64", not(ordinary_stores), not(miri)))]
     #[test]
     fn stores_past_the_caches() {
@@ -731,12 +784,14 @@ mod refused {
         struct Aligned([u32; 24]);
 
         let mut list = Aligned([0; 24]);
-        let mut places = SlicePlaces::new(&mut list.0[..20]);
-        let run = Runs::<u32, Pair<Of<4>>>::load(&places, 0);
-        for place in 0..=20 {
-            let is_wrong = place + 4 > 20 || place % 4 != 0;
-            let call = |places: &mut _| Runs::<u32, Pair<Of<4>>>::store_last(places, place, run);
-            assert_eq!(panics(|| call(&mut places)), is_wrong, "a store at {place}");
+        for len in 16..=20 {
+            let mut places = SlicePlaces::new(&mut list.0[..len]);
+            let run = Runs::<u32, Pair<Of<4>>>::load(&places, 0);
+            for place in 0..=20 {
+                let is_wrong = place + 4 > len || place % 4 != 0;
+                let call = |places: &mut _| Runs::<u32, Pair<Of<4>>>::store_last(places, place, run);
+                assert_eq!(panics(|| call(&mut places)), is_wrong, "a store at {place} of {len}");
+            }
         }
     }
 
@@ -747,6 +802,38 @@ mod refused {
             assert!(panics(|| _ = SliceSource::new(&[0, 1, 2]).at(i)), "{i}");
         }
     }
+}
+
+/// Long items are put by their indices. An index that the source does not have is refused in each build, even if the source
+/// itself would take it.
+#[test]
+fn indices_of_long_items() {
+    use std::panic::{AssertUnwindSafe, catch_unwind};
+
+    /// Of these items only the first ones are in the source.
+    #[derive(Clone, Copy)]
+    struct First(usize);
+
+    impl Source for First {
+        type Item = [u8; 1024];
+
+        fn len(&self) -> usize {
+            self.0
+        }
+
+        fn at(&self, i: usize) -> [u8; 1024] {
+            [i as u8; 1024]
+        }
+    }
+
+    let put = |len| {
+        let mut cells = std::vec![[9; 1024]; 6];
+        let matrix = Matrix::new(First(len), 3, 2);
+        let call = || super::by_type::put_region(SliceCells::new(&mut cells), matrix, None);
+        catch_unwind(AssertUnwindSafe(call)).map(|()| cells.into_iter().map(|[first, ..]| first).collect())
+    };
+    assert_eq!(put(6).ok(), Some(std::vec![0, 3, 1, 4, 2, 5]));
+    assert!(put(5).is_err());
 }
 
 /// With the feature `checked`, a share of a list gives access only to its own places, which have the same indices as in

@@ -6,6 +6,7 @@ use std::array::from_fn;
 use std::ptr::null_mut;
 
 use super::*;
+use crate::slices::parts::transpose;
 
 unsafe extern "C" {
     fn mmap(address: *mut u8, len: usize, protection: i32, flags: i32, file: i32, offset: i64) -> *mut u8;
@@ -166,15 +167,19 @@ where
         source.check(|run, k| (run, k));
     }
     if let 4 | 8 | 16 = N {
-        columns_off_a_line::<N, H>(ends_with_page);
+        columns_off_a_line::<N>(ends_with_page, put_block::<_, H>);
     }
 }
 
-/// Puts single columns that are no whole cache line. They are put item by item, so no item to the right of one is read.
-fn columns_off_a_line<const N: usize, H: for<'a> HoldCells<'a, [u8; N]>>(ends_with_page: bool) {
+/// Puts single columns that are no whole cache line, and one that is, but after whose last row the source ends. They are put
+/// item by item, so no item to the right of one is read.
+fn columns_off_a_line<const N: usize>(ends_with_page: bool, put: impl Fn(&mut [[u8; N]], &[[u8; N]], Block)) {
     let line = 64 / N;
-    for (rows, to) in (1..line).map(|to| (line, to)).chain([(line - 1, 0), (line + 1, 0)]) {
-        let mut source = Runs::<N>::new(rows + 1, 1, ends_with_page);
+    let more_rows = (1..line)
+        .map(|to| (line, to, 1))
+        .chain([(line - 1, 0, 1), (line + 1, 0, 1)]);
+    for (rows, to, more) in more_rows.chain([(line, 0, 0)]) {
+        let mut source = Runs::<N>::new(rows + more, 1, ends_with_page);
         let mut cells = Runs::<N>::new(1, 2 * line, false);
         let (cols, from, width, height) = (1, 0, GAP, 2 * line);
         let block = Block {
@@ -185,7 +190,7 @@ fn columns_off_a_line<const N: usize, H: for<'a> HoldCells<'a, [u8; N]>>(ends_wi
             to,
             height,
         };
-        H::hold_cells(cells.list()).put_block(&SliceSource::new(source.list()), block);
+        put(cells.list(), source.list(), block);
         cells.check(|_, k| match k.checked_sub(to) {
             Some(row) if row < rows => (row, 0),
             _ => (0, k),
@@ -209,11 +214,11 @@ fn lines<const N: usize, D: Register<[u8; N]>>(ends_with_page: bool) {
             to,
             height,
         };
-        let holder = SlicePlaces::new(cells.list()).in_registers::<D>();
-        holder.past_caches(|mut cells| cells.put_block(&SliceSource::new(source.list()), block));
+        put_past_caches::<_, D>(cells.list(), source.list(), block);
         cells.check(|run, k| (k, run));
         source.check(|run, k| (run, k));
     }
+    columns_off_a_line(ends_with_page, put_past_caches::<_, D>);
 }
 
 #[cfg(not(feature = "checked"))]
@@ -226,25 +231,38 @@ fn lines_touch_their_places_alone() {
     }
 }
 
-/// Transposes whole matrices, all of whose items can be read or written, but nothing beside them. In these tests a list of 1024
-/// bytes is put by lines.
+/// Transposes whole matrices, all of whose items can be read or written, but nothing beside them. In these tests the parts of a
+/// list of 1024 bytes are put by lines. The whole calls are too short for that.
 #[test]
 fn transposes_touch_their_lists_alone() {
     fn transposes<const N: usize>() {
-        let shapes = [(19, 37), (16, 64), (40, 17), (3, 131), (17, 32)];
-        for ((width, height), ends_with_page) in shapes.iter().flat_map(|shape| [(shape, false), (shape, true)]) {
+        let shapes = [(19, 37), (16, 64), (40, 17), (3, 131), (17, 32)].into_iter();
+        for ((width, height), ends_with_page) in shapes.flat_map(|shape| [(shape, false), (shape, true)]) {
             let len = width * height;
-            let (mut source, mut cells) = (
-                Runs::<N>::new(1, len, ends_with_page),
-                Runs::<N>::new(1, len, ends_with_page),
-            );
-            assert!(super::super::transpose(source.list(), cells.list(), *width, *height));
-            cells.check(|_, k| (0, k % height * width + k / height));
+            let mut source = Runs::<N>::new(1, len, ends_with_page);
+            for parts in 0..3 {
+                let mut cells = Runs::<N>::new(1, len, ends_with_page);
+                match parts {
+                    0 => assert!(crate::slices::transpose(source.list(), cells.list(), width, height)),
+                    _ => transpose(source.list(), cells.list(), width, height, 2 * parts).for_each(TransposePart::run),
+                }
+                cells.check(|_, k| (0, k % height * width + k / height));
+            }
         }
     }
     transposes::<4>();
     transposes::<8>();
     transposes::<16>();
+}
+
+/// A hint reads nothing: here no address that it names can be read, and the others are in no list.
+#[test]
+fn hints_read_nothing() {
+    let mut runs = Runs::<4>::new(2, 1, true);
+    let source = SliceSource::new(runs.list());
+    for i in [1, GAP - 1, GAP + 1, 2 * GAP, usize::MAX / 4, usize::MAX] {
+        source.expect(i);
+    }
 }
 
 #[test]

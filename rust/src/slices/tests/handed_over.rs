@@ -10,6 +10,8 @@ use std::thread::{scope, yield_now};
 use std::time::{Duration, Instant};
 use std::vec::Vec;
 
+use crate::slices::parts::{TransposePart, transpose};
+
 const WIDTH: usize = 16;
 const HEIGHT: usize = 64;
 
@@ -51,8 +53,8 @@ fn item(round: u32, place: usize) -> u32 {
     round.wrapping_mul(0x9e37_79b9) ^ place as u32
 }
 
-/// Writes the list in many rounds, each time as a whole or in parts, and reads it on another thread. The cells that were
-/// written last are read first.
+/// Writes the list in many rounds, each time in two or in four parts, and reads it on another thread. The cells that were
+/// written last are read first. As a whole, so short a list would not be put past the caches.
 #[test]
 fn transposes_are_seen_by_a_flag() {
     let (list, turn) = (UnsafeCell::new(std::vec![0; WIDTH * HEIGHT]), AtomicUsize::new(WRITES));
@@ -66,9 +68,9 @@ fn transposes_are_seen_by_a_flag() {
             } else {
                 DONE
             };
-            shared.take(WRITES, next, |list| match round % 2 {
-                0 => assert!(crate::slices::transpose(&input, list, WIDTH, HEIGHT)),
-                _ => crate::parts::transpose(&input, list, WIDTH, HEIGHT, 2).for_each(crate::parts::TransposePart::run),
+            let parts = if round % 2 == 0 { 2 } else { 4 };
+            shared.take(WRITES, next, |list| {
+                transpose(&input, list, WIDTH, HEIGHT, parts).for_each(TransposePart::run);
             });
             if next == DONE {
                 break;
