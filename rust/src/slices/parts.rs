@@ -86,7 +86,7 @@ use core::ops::Range;
 use super::{SliceItems, SliceSource, instances};
 use crate::kernels::parts::{RowPairs, TransposePlan};
 use crate::kernels::reverse::fits_rows;
-use crate::kernels::transpose::{Matrix, fits_matrix};
+use crate::kernels::transpose::{Matrix, Region, fits_matrix};
 
 /// A list of more items is cut, whatever the size of its items.
 const ONE_PART_ITEMS: usize = 1 << 16;
@@ -263,18 +263,26 @@ impl<T, P: Copy> PartsToRun<'_, T, P> {
     }
 }
 
+impl<'a, T: Copy> PartsToRun<'a, T, MatrixPlan<'a, T>> {
+    /// Calls `put` for each part, with a region if the transpose is cut.
+    #[inline]
+    fn put_each(self, put: impl Fn(SliceItems<T>, Matrix<SliceSource<T>>, Option<Region>)) {
+        // `TransposePlan::region` asks for a number below the plan's count, and its clause `inside` says that the region
+        // lies in the matrix. Both lists have as many items as the matrix: `transpose` checked that.
+        let (mut items, (matrix, plan)) = (self.items, self.plan);
+        let matrix = Matrix::new(SliceSource::new(matrix.source), matrix.width, matrix.height);
+        let is_cut = plan.count() > 1;
+        self.numbers
+            .for_each(|number| put(items.share(), matrix, is_cut.then(|| plan.region(number))));
+    }
+}
+
 impl<T: Copy> TransposePart<'_, T> {
     /// Writes the items of this part to the output.
     #[inline]
     pub fn run(self) {
-        // `TransposePlan::region` asks for a number below the plan's count, and its clause `inside` says that the region
-        // lies in the matrix. Both lists have as many items as the matrix: `transpose` checked that.
-        let (mut items, (matrix, plan)) = (self.0.items, self.0.plan);
-        let matrix = Matrix::new(SliceSource::new(matrix.source), matrix.width, matrix.height);
-        let is_cut = plan.count() > 1;
-        self.0.numbers.for_each(|number| {
-            instances::put_region(items.share(), matrix, is_cut.then(|| plan.region(number)));
-        });
+        self.0
+            .put_each(|items, matrix, region| instances::put_region(items, matrix, region));
     }
 }
 

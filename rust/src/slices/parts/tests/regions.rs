@@ -45,15 +45,29 @@ fn reads<T: Copy + Default + Send + Sync>(len: usize, call: impl FnOnce(&[T], &m
 }
 
 /// Puts the regions of some parts, with their items from `source`.
-fn put_from<T: Copy>(TransposePart(part): TransposePart<T>, source: impl Source<Item = T> + Copy) {
-    let PartsToRun {
-        mut items,
-        plan: (matrix, plan),
-        numbers,
-    } = part;
-    let matrix = Matrix::new(source, matrix.width, matrix.height);
-    let is_cut = plan.count() > 1;
-    numbers.for_each(|number| by_type::put_region(items.share(), matrix, is_cut.then(|| plan.region(number))));
+fn put_from<T: Copy>(part: TransposePart<T>, source: impl Source<Item = T> + Copy) {
+    part.0.put_each(|items, matrix, region| {
+        let matrix = Matrix::new(source, matrix.width, matrix.height);
+        by_type::put_region(items, matrix, region);
+    });
+}
+
+/// A transpose that is not cut is put as a whole call, and not as a region, which is the whole matrix.
+#[test]
+fn only_a_cut_transpose_has_regions() {
+    let (input, mut output) = ([0; 64 * 48], [0; 64 * 48]);
+    let mut count = |width, height, asked| {
+        let parts = transpose(&input, &mut output, width, height, asked);
+        let regions = parts.map(|part| {
+            let region = RefCell::new(None);
+            part.0.put_each(|_, _, found| _ = region.replace(found));
+            region.into_inner().map(|region| region.rows() * region.cols())
+        });
+        regions.collect::<Vec<_>>()
+    };
+    assert_eq!(count(64, 48, 1), [None]);
+    assert_eq!(count(64, 48, 0), [None]);
+    assert_eq!(count(64, 48, 4), [Some(16 * 48); 4]);
 }
 
 #[test]
