@@ -10,7 +10,7 @@ use p3_util_proved::zip_eq::zip_eq;
 use p3_util_proved::{apply_to_chunks, iter_array_chunks_padded, kernels};
 
 use crate::common::Owner;
-use crate::refusal::panics;
+use crate::refusal::{panics, refusal};
 
 /// Returns the answers one after another and then `None`, and counts the calls of `next`.
 struct Asked<'a> {
@@ -246,6 +246,51 @@ fn pairs_under_stated_lengths() {
         );
         assert_eq!(given, wanted);
     }
+}
+
+/// The panic names the reason, and the line of the caller of `next`.
+#[test]
+fn text_of_pairs_under_a_false_length() {
+    let mut pairs = zip_eq(Stating(&[1], 1), Stating(&[], 1), ()).unwrap();
+    let refused = refusal(|| _ = pairs.next()).unwrap();
+    let text = "one of two iterators that stated the same length is shorter";
+    assert_eq!((refused.text.as_str(), refused.file.as_str()), (text, file!()));
+}
+
+/// A list whose length can be asked for once.
+struct AskedOnce(Cell<bool>);
+
+impl Iterator for AskedOnce {
+    type Item = u8;
+
+    fn next(&mut self) -> Option<u8> {
+        None
+    }
+}
+
+impl ExactSizeIterator for AskedOnce {
+    fn len(&self) -> usize {
+        assert!(!self.0.replace(true), "asked before");
+        0
+    }
+}
+
+/// The size hint of pairs asks the first side alone for its length, so it panics if that does. The original asks for a size
+/// hint.
+#[test]
+fn size_hints_of_pairs_panic_as_lengths_do() {
+    let asked = |was_asked| AskedOnce(Cell::new(was_asked));
+    let pairs = zip_eq(asked(false), asked(false), ()).unwrap();
+    assert_eq!(refusal(|| _ = pairs.size_hint()).unwrap().text, "asked before");
+    let pairs = zip_eq([0; 0], asked(false), ()).unwrap();
+    assert_eq!(pairs.size_hint(), (0, Some(0)));
+}
+
+#[test]
+fn pairs_show_their_sides() {
+    let pairs = zip_eq([1, 2], ["a", "b"], ()).unwrap();
+    let shown = r#"ZipEq { first: IntoIter([1, 2]), second: IntoIter(["a", "b"]) }"#;
+    assert_eq!(format!("{pairs:?}"), shown);
 }
 
 /// What a caller may expect of each iterator of the package.
