@@ -1,0 +1,107 @@
+"""For docs/REVIEW.md, the ledger of what is checked by review: compares each row with the functions that it names.
+
+    python3 tools/review.py          prints the rows whose functions are not as they were read
+    python3 tools/review.py NAME..   writes that you have read again the rows that name these functions or files
+
+Run the second form only after you have read the functions of these rows, and found that they do what the row says. It writes
+into the last cell of a row the commit on top of which you read them, the date, and a checksum of their text without
+documentation. On a branch, the commit is the newest one of `main`, since those of the branch may get other names. tests/agree
+runs the first form."""
+import datetime
+import glob
+import hashlib
+import re
+import subprocess
+import sys
+
+LEDGER = "docs/REVIEW.md"
+ROW = re.compile(r"^\| ([^|\n]+) \| ([^|\n]+) \| ([^|\n]+) \|(?: ([^|\n]+))? \|$", re.M)
+READ = re.compile(r"([0-9a-f]{8}) (\d{4}-\d\d-\d\d) ([0-9a-f]{8})")
+# What begins an item of Rust, or a function of Python.
+ITEM = r"( *)(?:pub(?:\([^)]*\))? )?(?:(?:const|unsafe) )*(?:fn|struct|enum|trait|type|const|def|macro_rules!) {}\b"
+
+
+def git(*words):
+    found = subprocess.run(["git", *words], capture_output=True, text=True)
+    return found.stdout.strip() if found.returncode == 0 else None
+
+
+def items(text, name):
+    """The text of each item of this name, with its attributes and the comment above it. An item of Rust ends where its brackets
+    are closed, and a function of Python before an empty line and the next one that is not indented."""
+    lines = text.split("\n")
+    for at in (at for at, line in enumerate(lines) if re.match(ITEM.format(re.escape(name)), line)):
+        start, end, depth = at, at, 0
+        while start and re.match(r" *(#\[|//)", lines[start - 1]):
+            start -= 1
+        while end + 1 < len(lines):
+            code = re.sub(r"//.*", "", lines[end])
+            depth += sum(map(code.count, "([{")) - sum(map(code.count, ")]}"))
+            if lines[at].startswith("def ") and not lines[end + 1] or depth == 0 and re.search(r"[;}]\s*$", code):
+                break
+            end += 1
+        yield "\n".join(lines[start:end + 1])
+
+
+def named(cell):
+    """The files of a cell, each with the names of its functions. Without a name, all of the file is meant."""
+    for part in cell.split("; "):
+        file, *names = re.findall(r"`([^`]+)`", part)
+        yield file, names
+
+
+def text_of(cell):
+    """The text of all that a cell names, without documentation, and the names that are not there."""
+    texts, lost = [], []
+    for file, names in named(cell):
+        paths = [file, *glob.glob(f"rust/src/{file}"), *glob.glob(f"rust/src/slices/{file}")]
+        path = next((path for path in paths if glob.glob(path)), None)
+        text = open(path, encoding="utf-8").read() if path else ""
+        found = [list(items(text, name)) for name in names]
+        lost += [file] * (not path) + [name for name, here in zip(names, found) if not here]
+        texts += [one for here in found for one in here] if names else [text]
+    return " ".join(re.sub(r"(?m)^ *//[/!].*", "", "\n".join(texts)).split()), lost
+
+
+def sum_of(text):
+    return hashlib.sha256(text.encode()).hexdigest()[:8]
+
+
+def rows():
+    """The rows of the ledger, without the head of its table."""
+    with open(LEDGER, encoding="utf-8") as ledger:
+        return [row for row in ROW.finditer(ledger.read()) if "`" in row[2]]
+
+
+def wrong():
+    """A line for each row whose functions are not as they were read."""
+    has_history = git("rev-parse", "--is-shallow-repository") == "false"
+    for row in rows():
+        text, lost = text_of(row[2])
+        read, place = READ.fullmatch(row[4] or ""), f"{LEDGER}: the row '{row[1][:50]}..'"
+        if lost:
+            yield f"{place} names {', '.join(lost)}, which is not there"
+        elif not read or read[3] != sum_of(text):
+            yield f"{place}: what it names was changed. Read it again, and see tools/review.py"
+        elif has_history and git("merge-base", "--is-ancestor", read[1], "HEAD") is None:
+            yield f"{place}: {read[1]} is no commit before this one"
+
+
+def sign(names):
+    """Writes that the rows that name these functions or files were read."""
+    with open(LEDGER, encoding="utf-8") as ledger:
+        text = ledger.read()
+    commit, today = (git("merge-base", "HEAD", "main") or git("rev-parse", "HEAD"))[:8], datetime.date.today()
+    for row in rows():
+        if set(re.findall(r"`([^`]+)`", row[2])) & set(names):
+            read = f"{commit} {today} {sum_of(text_of(row[2])[0])}"
+            text = text.replace(row[0], f"| {row[1]} | {row[2]} | {row[3]} | {read} |")
+    with open(LEDGER, "w", encoding="utf-8") as ledger:
+        ledger.write(text)
+
+
+if __name__ == "__main__":
+    sign(sys.argv[1:])
+    found = list(wrong())
+    print("\n".join(found), end="\n" if found else "")
+    sys.exit(1 if found else 0)
