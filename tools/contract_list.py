@@ -23,7 +23,8 @@ HEAD = """\
 # Below the name of a source are its contracts. All structs are listed, with their private fields, since a clause or a
 # definition may name them. The lines below an implementation of a trait say what a clause sees of that type. Sources on the
 # parts of a call are listed with the contracts that only their crate sees, because what is proved of parts stands in these.
-# So is whatever the code of the package that is written by hand may name, such as the traits that its holders implement.
+# So is whatever the code of the package that is written by hand may name, such as the traits that its holders implement, and
+# what the lists of registers/witness.rt let the kernels on registers touch.
 # What the root of a crate re-exports, such as `p3_util::NoRoom`, is below its src/lib.rt.
 #
 # The contracts of a crate are followed by the files of its definitions, each with the names that it defines. The file has the
@@ -61,7 +62,7 @@ def function(indent, owner, declared):
 def members(outer):
     """What a trait or an implementation of a trait says, without the proofs of its laws."""
     for inner in declarations(outer.body, 4):
-        proves = outer.kind == "impl" and re.match(r"ghost (laws|full|\w+_(refl|trans)) =", inner.head)
+        proves = outer.kind == "impl" and re.match(r"ghost (laws|full|few|fits|may_both|\w+_(refl|trans)) =", inner.head)
         if inner.kind == "fn" and (inner.clauses or outer.kind == "trait"):
             yield from function(4, "", inner)
         elif inner.kind == "ghost" and not proves or inner.kind == "type" and "=" not in inner.head:
@@ -115,7 +116,9 @@ def listed(path, named=None):
         exported = re.findall(r"^pub use [^;]*;", source, re.M) if path.endswith("/src/lib.rt") else []
         lines = [line(2, re.sub(r"(?<={)\s+|,?\s+(?=})", "", said)) for said in exported]
         seen_by = ("pub", "pub(crate)") if re.match(PARTS, path) else ("pub",)
-        lines += contracts(source, seen_by, named_by_hand() if path.startswith(KERNELS) else frozenset())
+        # The private types of the witness are listed too. If one let more be touched, its proof would show less.
+        witness = re.findall(r"\w+", source) if path.endswith("/witness.rt") else ()
+        lines += contracts(source, seen_by, named_by_hand().union(witness) if path.startswith(KERNELS) else frozenset())
     elif "/proofs/" in path:
         lines = [f"  {said}" for said in statements(source, named)]
     else:
