@@ -103,7 +103,8 @@ pub(crate) trait Runs<T, D: Register<T>> {
         ensures stored { IsRunStored D.SIDE place (D.half_items run) (items self.old) (items self.new) }
         ensures holder { reach self.new ≡ reach self.old };
 
-    /// Does the same as `store`, for a run that is read or written again only after the call of the kernel.
+    /// Does the same as `store`. It is for a run that the kernel does not use again, so a holder may store it past the caches.
+    /// No clause says that the run is not used again: that would take longer, and leave the same items.
     fn store_last(&mut self, place: usize, run: D::Half)
         requires { may_last (reach self.old) place }
         ensures stored { IsRunStored D.SIDE place (D.half_items run) (items self.old) (items self.new) }

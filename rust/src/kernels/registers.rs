@@ -107,7 +107,8 @@ pub(crate) trait Runs<T, D: Register<T>> {
     /// ```
     fn store(&mut self, place: usize, run: D::Half);
 
-    /// Does the same as `store`, for a run that is read or written again only after the call of the kernel.
+    /// Does the same as `store`. It is for a run that the kernel does not use again, so a holder may store it past the caches.
+    /// No clause says that the run is not used again: that would take longer, and leave the same items.
     ///
     /// # Contract
     ///
