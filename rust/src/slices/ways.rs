@@ -9,7 +9,7 @@
 //! | a whole call, one block: `side_of` | `Block` | in registers |
 //! | a whole call, fewer than 128 items of less than 1 KiB: `TINY_MATRIX`, `LONG_BYTES` | `Columns`, which a call inlines | another call would take as long |
 //! | a whole call, up to 1048576 items: `LARGE_MATRIX` | `Strips` | the lines and pages in use stay in the caches |
-//! | 16 MiB and more: `PAST_CACHES`, items of 4 or 8 bytes at a multiple of their size, 12 columns and more of the matrix or part: `LINE_COLS`, of 4 bytes 16: `LINE_COLS_OF_4`, a column of whole cache lines or of 768 bytes and more: `LONG_COLUMN`, and of 4 bytes then 128 rows and more of the matrix or part: `LINE_ROWS_OF_4` | `Lines` | what is stored past the caches is not read first, but whole lines have to be stored. A part of a line, which a column may have at both of its ends, takes longer |
+//! | 16 MiB and more: `PAST_CACHES`, items of 4 or 8 bytes at a multiple of their size, 12 columns and more of the matrix or part: `LINE_COLS`, of 4 bytes 16: `LINE_COLS_OF_FOUR`, a column of whole cache lines or of 768 bytes and more: `LONG_COLUMN`, and of 4 bytes then 128 rows and more of the matrix or part: `LINE_ROWS_OF_FOUR` | `Lines` | what is stored past the caches is not read first, but whole lines have to be stored. A part of a line, which a column may have at both of its ends, takes longer |
 //! | the same, items of 16 bytes, a column of 768 bytes and more | `Lines` | in a shorter column the stores of single items are as fast |
 //! | all others | `Leaves`, with the same strips | a leaf stays in the caches |
 //!
@@ -43,10 +43,10 @@ const PAST_CACHES: usize = 1 << 24;
 const LINE_COLS: usize = 12;
 
 /// Nor are fewer columns of items of 4 bytes.
-const LINE_COLS_OF_4: usize = 16;
+const LINE_COLS_OF_FOUR: usize = 16;
 
 /// Fewer rows of items of 4 bytes are not put by lines, unless all columns begin at the same cell of a line.
-const LINE_ROWS_OF_4: usize = 128;
+const LINE_ROWS_OF_FOUR: usize = 128;
 
 /// A column of so many bytes is put by lines even if it is not whole lines.
 const LONG_COLUMN: usize = 768;
@@ -64,8 +64,8 @@ impl Limits {
     pub(super) const OF_USERS: &Limits = &Limits {
         bytes: PAST_CACHES,
         cols: LINE_COLS,
-        cols_of_4: LINE_COLS_OF_4,
-        rows_of_4: LINE_ROWS_OF_4,
+        cols_of_4: LINE_COLS_OF_FOUR,
+        rows_of_4: LINE_ROWS_OF_FOUR,
         column: LONG_COLUMN,
     };
 
