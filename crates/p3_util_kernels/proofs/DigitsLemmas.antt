@@ -190,5 +190,3 @@ pub rev-shl : (q s a : ℕ) → rev (q + s) (a * 2 ^ s) ≡ rev q a
 rev-shl q s a =
     let low : rev s (a * 2 ^ s) ≡ 0 = sym (rev-mod s (a * 2 ^ s)) ∙ ap (rev s) (mul-mod_left a (2 ^ s)) ∙ rev-of-zero s in
     rw (rev-add q s (a * 2 ^ s), low, shl-shr a s) (omega arith)
-
--- edit 1

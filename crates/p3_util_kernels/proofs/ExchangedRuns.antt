@@ -8,8 +8,6 @@ use Rattle.p3_util_kernels.specs.Exchanged.{RunsExchanged}
 use Rattle.p3_util_kernels.proofs.ListParts.{slice_get-append_left, slice_get-append_right, slice_get-take, slice_get-drop}
 use Rattle.p3_util_kernels.proofs.Exchange.{slice_get-swap_first, slice_get-swap_second, slice_get-swap_other}
 
--- edit 1
-
 -- the same exchange with the two runs named in the other order
 pub RunsExchanged-turned : {A : Type 0} (i j len : ℕ) (old new : List A) → RunsExchanged i j len old new → RunsExchanged j i len old new
 RunsExchanged-turned i j len old new h = record { same_length = h.same_length; first = h.second; second = h.first; others = λ p k l. h.others p l k }
@@ -98,8 +96,3 @@ RunsExchanged-slices i j len n xs front back first second apart within same is_f
                 ]
           ];
     }
-
--- edit 2
--- edit 3
--- edit 4
--- edit 5

@@ -11,9 +11,9 @@ use Rattle.p3_util_kernels.proofs.LevelsLemmas.{clog-above, clog-half, clog-le, 
 use Rattle.p3_util_kernels.proofs.RegionLemmas.{IsCut-rows, IsCut-cols}
 
 -- the splits of a region nest at most 57 levels deep if the places of its matrix fit in a usize
-pub lev-of_region : (region : Region) (width height : ℕ) → LiesInMatrix region width height → width < 2 ^ 64 → height < 2 ^ 64 → width * height < 2 ^ 64
+pub region_levels : (region : Region) (width height : ℕ) → LiesInMatrix region width height → width < 2 ^ 64 → height < 2 ^ 64 → width * height < 2 ^ 64
     → lev (rows_of region) (cols_of region) ≤ 57
-lev-of_region region width height lies wide tall fits =
+region_levels region width height lies wide tall fits =
     let items = mul-le (rows_of region) (cols_of region) height width (omega (arith, lies)) (omega (arith, lies)) in
     lev_le (rows_of region) (cols_of region) (omega (arith, lies)) (omega (arith, lies)) (omega (arith, items, mul_comm width height))
 

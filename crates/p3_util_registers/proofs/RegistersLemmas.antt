@@ -5,8 +5,6 @@ use Rattle.p3_util_kernels.specs.Stages.{item_at}
 use Rattle.p3_util_kernels.proofs.ListParts.{slice_get-append_left, slice_get-append_right}
 use Rattle.p3_util_registers.specs.Registers.{AreInterleaved, AreColumns, AreLoaded, AreReached, AreStored, IsNextStage, IsSide, IsStored}
 
--- edit 1
-
 -- the places `from` are those of `places`, in the order of a stage
 abbrev pub AreInOrder : ℕ → List ℕ → List ℕ → Type 0
 AreInOrder side places from = (s r : ℕ) → r < side → side * s + r < 8 → slice_index from (8 / side * r + s) ≡ slice_index places (side * s + r)
@@ -84,9 +82,6 @@ AreStored-none side to regs old = record {
   rows = λ c t hc ht. absurd (omega arith);
   others = λ p out. refl;
 }
-
--- edit 2
--- edit 3
 
 -- one more register is stored
 pub AreStored-more : {A : Type 0} (k side : ℕ) (to : List ℕ) (regs : List (List A)) (items old now next : List A)

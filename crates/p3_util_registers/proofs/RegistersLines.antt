@@ -75,9 +75,6 @@ IsRunStored-two side to a b old mid new full one two = record {
       ];
 }
 
--- edit 1
--- edit 2
-
 -- a column in two registers
 pub column_of_two : {A : Type 0} (n base width : ℕ) (input a b : List A) → length a ≡ n → ((r : ℕ) → r < n → slice_get a r ≡ slice_get input (base + r * width))
     → ((r : ℕ) → r < n → slice_get b r ≡ slice_get input (base + (n + r) * width)) → (r : ℕ) → r < 2 * n → slice_get (a ++ b) r ≡ slice_get input (base + r * width)

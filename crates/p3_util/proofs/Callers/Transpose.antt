@@ -13,7 +13,7 @@ use Rattle.p3_util_kernels.specs.Levels.{lev}
 use Rattle.p3_util_kernels.specs.Region.{IsInRegion, IsRegionTransposed, LiesInMatrix, cols_of, rows_of}
 use Rattle.p3_util_kernels.specs.Reversal.{IsReversal, IsRowReversal}
 use Rattle.p3_util_kernels.proofs.DigitsLemmas.{rev-lt, rev-parts}
-use Rattle.p3_util_kernels.proofs.HalvesLemmas.{lev-of_region}
+use Rattle.p3_util_kernels.proofs.HalvesLemmas.{region_levels}
 use Rattle.p3_util_kernels.proofs.ReversalLemmas.{IsReversal-from_power}
 use Rattle.p3_util_kernels.proofs.SameList.{same_places}
 use Rattle.p3_util.proofs.Callers.Rows.{part_within}
@@ -117,7 +117,7 @@ module _ {A : Type 0} (region : Region) (width height x y : ℕ) (input old new 
 -- 64 levels are enough for a region of a matrix whose places fit in a usize. It needs at most 57.
 pub levels_enough : (region : Region) (width height : ℕ) → LiesInMatrix region width height → width < 2 ^ 64 → height < 2 ^ 64
     → width * height < 2 ^ 64 → lev (rows_of region) (cols_of region) ≤ 64
-levels_enough region width height lies wide tall fits = omega (arith, lev-of_region region width height lies wide tall fits)
+levels_enough region width height lies wide tall fits = omega (arith, region_levels region width height lies wide tall fits)
 
 -- `IsRegionTransposed` says of a place that it keeps its item if it differs from all places of the
 -- region. This lemma is what the search lacks to use that: two rows of the output are the same row, or

@@ -1,6 +1,6 @@
 -- Places that stand for one item are exchanged by one exchange. The factor 1 is taken out of each
 -- place and out of the precondition on the list.
-use Rattle.std.proofs.Common.{◌≡◌, ◌*◌, arith}
+use Rattle.std.proofs.Common.{◌≡◌, ◌*◌, arith, rules}
 use Rattle.p3_util_kernels.proofs.CrossingLemmas.{runs-apart}
 use Rattle.p3_util_kernels.proofs.ExchangedRuns.{RunsExchanged-one}
 use Rattle.p3_util_kernels.proofs.grid.exchange_places.Goals as goal
@@ -15,7 +15,4 @@ returns-then-width-eq1-clause-exchanged g c =
     let j : c.args.j * 1 ≡ c.args.j = omega arith in
     let first = rw one at c.requires.first in
     let second = rw one at c.requires.second in
-    rw (one, i, j) (RunsExchanged-one c.args.i c.args.j _ _ (omega arith) (omega arith) c.exchange.ensures.exchanged)
-
--- edit 1
--- edit 2
+    rw (one, i, j) (RunsExchanged-one c.args.i c.args.j _ _ (omega arith) (omega arith) (search rules))

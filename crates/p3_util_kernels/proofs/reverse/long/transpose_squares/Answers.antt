@@ -4,8 +4,6 @@ use Rattle.p3_util_kernels.proofs.PowersLemmas.{exponent-lt}
 use Rattle.p3_util_kernels.proofs.SideBySideLemmas.{AreTransposed-more, square_room}
 use Rattle.p3_util_kernels.proofs.reverse.long.transpose_squares.Goals as goal
 
--- edit 1
-
 -- the exponents add up to at most 63, since the length of the list fits in a usize
 few : (log_stride log_size n : ℕ) → n ≡ 2 ^ (log_size + log_stride) → n < 2 ^ 64 → log_size + log_stride ≤ 63
 few log_stride log_size n whole fits = exponent-lt (log_size + log_stride) 63 (omega arith)
@@ -51,10 +49,3 @@ pub returns-clause-holder : goal.returns-clause-holder
 returns-clause-holder g c =
     let all : c.loop-square.square ≡ 2 ^ (c.args.log_stride - c.args.log_size) = omega arith in
     rw all at c.loop-square.invariant.holder
-
--- edit 2
--- edit 3
--- edit 4
--- edit 5
--- edit 6
--- edit 7

@@ -1,12 +1,10 @@
 -- The recursion of the split. Its measure is the number of levels that remain.
 use Rattle.std.proofs.Common.{arith}
 use Rattle.p3_util_kernels.specs.Region.{cols_of, rows_of}
-use Rattle.p3_util_kernels.proofs.HalvesLemmas.{lev-of_region}
+use Rattle.p3_util_kernels.proofs.HalvesLemmas.{region_levels}
 use Rattle.p3_util_kernels.proofs.LevelsLemmas.{nest_le}
 use Rattle.p3_util_kernels.proofs.RegionLemmas.{IsRegionTransposed-cut}
 use Rattle.p3_util_kernels.proofs.transpose.split.+put_split.Goals as goal
-
--- edit 1
 
 -- Each place of the region is in exactly one of its halves. So the second half leaves what the
 -- first one put, and both together put as many items as the region has.
@@ -23,12 +21,5 @@ returns-clause-bound g t c =
       arith,
       c.cut_in_half.ensures.nested,
       nest_le (rows_of c.args.region) (cols_of c.args.region),
-      lev-of_region c.args.region c.args.matrix.width c.args.matrix.height c.requires.ready.inside (omega arith) (omega arith) (omega arith),
+      region_levels c.args.region c.args.matrix.width c.args.matrix.height c.requires.ready.inside (omega arith) (omega arith) (omega arith),
     )
-
--- edit 2
--- edit 3
--- edit 4
--- edit 5
--- edit 6
--- edit 7

@@ -1,8 +1,8 @@
 -- 64 levels are enough for the splits of a region.
 use Rattle.std.proofs.Common.{arith}
-use Rattle.p3_util_kernels.proofs.HalvesLemmas.{lev-of_region}
+use Rattle.p3_util_kernels.proofs.HalvesLemmas.{region_levels}
 use Rattle.p3_util_kernels.proofs.transpose.order.OrderPutRegion.put.Goals as goal
 
 pub put_split-out-requires-clause-enough : goal.put_split-out-requires-clause-enough
 put_split-out-requires-clause-enough g c =
-    omega (arith, lev-of_region c.args.region c.args.matrix.width c.args.matrix.height c.requires.ready.inside (omega arith) (omega arith) c.requires.ready.length_fits)
+    omega (arith, region_levels c.args.region c.args.matrix.width c.args.matrix.height c.requires.ready.inside (omega arith) (omega arith) c.requires.ready.length_fits)
