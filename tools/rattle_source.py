@@ -1,11 +1,8 @@
 """Reads Rattle sources (`.rt`): their tokens, their declarations with clauses, and which function a line belongs to.
 
-    python3 tools/rattle_source.py FILE LINE        prints the name of the function that has this line
-
 `rust/erase`, the scripts of this folder and those in `tests/` import it."""
 import functools
 import re
-import sys
 from dataclasses import dataclass
 
 TOKEN = re.compile(r"""
@@ -237,8 +234,3 @@ def function_at(text, number):
     while re.match(" *#\\[", lines[number - 1]):
         number += 1
     return re.findall(rf"^ *{FUNCTION}(\w+)", "\n".join(lines[:number]), re.M)[-1]
-
-
-if __name__ == "__main__":
-    with open(sys.argv[1], encoding="utf-8") as source:
-        print(function_at(source.read(), int(sys.argv[2])))
