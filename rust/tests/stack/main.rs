@@ -1,6 +1,7 @@
 //! How much stack the calls and their parts need. A release build gets as little as a thread can have. In a build without
 //! optimization, an item that is passed on is on the stack, so such a build gets room for three copies of an item. Small
-//! items go through vector registers, of which it has many copies, so for these it gets more.
+//! items go through vector registers, of which it has many copies, so for these it gets more, and most without debug assertions,
+//! since then no function that uses registers has a frame of its own. `rust/test` makes that build with `unoptimized`.
 
 #[path = "../package/common.rs"]
 mod common;
@@ -17,14 +18,12 @@ const LEAST: usize = 1 << 16;
 /// The stack for a call on items of this many bytes.
 const fn stack_for(size: usize) -> usize {
     match size {
-        _ if cfg!(not(debug_assertions)) => LEAST,
-        ..=64 => SMALL,
+        _ if cfg!(not(any(debug_assertions, unoptimized))) => LEAST,
+        ..=64 if cfg!(debug_assertions) => 96 << 10,
+        ..=64 => 224 << 10,
         _ => LEAST + 3 * size,
     }
 }
-
-/// The stack for small items in a build without optimization.
-const SMALL: usize = 2 * LEAST;
 
 /// An item of `SIZE` bytes with this number in its first bytes, as far as it has room.
 fn item<const SIZE: usize>(number: usize) -> [u8; SIZE] {
