@@ -6,14 +6,12 @@
 #
 # With the argument `program` it runs only the program. Otherwise it runs tests too.
 #
-# It takes what `rt ci` left in crates/*/out: the program, as each compiler built it, and the tests. It builds what is
-# missing. The program has to print that it is out of memory, end with status 3 and write nothing. A test has to pass
-# whichever request is refused, and its comment has to state the number of requests that it makes. Each run has to
-# release all memory that it was given. So these bodies meet their contracts, but fail here: a run that returns another
-# fault if memory runs out, a transform_and_back that makes no request and does nothing, and calls that forget the
-# program's input or values that make no whole rows. The tests of the library have no proof. They count their requests
-# and the memory they hold themselves, and `rt try` refuses one of the requests. It builds anew for each number, so what
-# is built already is run with `refuse_growth.c`.
+# It takes the program as `rt ci` left it in crates/p3_util_run/out, built by each compiler, or builds it. The program has to
+# print that it is out of memory, end with status 3, write nothing and release all memory that it was given. The tests are
+# those of tests/unproved. They count their requests and the memory they hold themselves, and `rt try` refuses one of the
+# requests. It builds anew for each number, so the program, which is built already, is run with `refuse_growth.c`. These
+# bodies meet their contracts, but fail here: a run that returns another fault if memory runs out, a transform_and_back that
+# makes no request and does nothing, and calls that forget the program's input or values that make no whole rows.
 . "$(dirname "$0")/harness.bash"
 cd "$(dirname "$0")/.."
 kit=$(dirname "$(rt doc)")
@@ -42,30 +40,6 @@ of_program() {
     done
 }
 
-# stated CRATE TEST: the number of requests for memory that a test's comment states.
-stated() {
-    local path=${2%::*}
-    awk -v name="${2##*::}" '
-        /^\/\/\/ .*[0-9]+ requests? for memory\.$/ { count = $(NF - 3) }
-        index($0, "fn " name "(") == 1 { print count; exit }
-        /^}/ { count = "" }' "crates/$1/src/${path//:://}.rt"
-}
-
-# of_tests CRATE: the tests whose names begin with tests::refused_growth::.
-of_tests() {
-    local n all name names built=crates/$1/out/${1}_tests
-    [[ -x $built ]] || (cd "crates/$1" && rt test)
-    names=$("$built" --list | grep -o '^tests::refused_growth::[a-z_]*') || fail "$1: it has no such test"
-    for name in $names; do
-        ok "$name" refusing 0 "$built" "$name" </dev/null
-        all=$requests
-        [[ $all == "$(stated "$1" "$name")" ]] || fail "$name: it made $all requests, and its comment says otherwise"
-        for ((n = 1; n <= all; n++)); do
-            ok "$name, request $n refused" refusing "$n" "$built" "$name" </dev/null
-        done
-    done
-}
-
 program=crates/p3_util_run/out/p3_util_run
 [[ -x $program ]] || (cd crates/p3_util_run && rt run -- revbits <stdin)
 for program in $program{,.by-rattle}; do
@@ -78,12 +52,10 @@ for program in $program{,.by-rattle}; do
     of_program "$program" '[1,2,3]' 2 '' $'error: 2 by 2 is not the length 3\n' transpose 2 2
 done
 [[ ${1-} != program ]] || exit 0
-of_tests p3_util_transform
-of_tests p3_util_run
 
-# The largest number of requests that one of the library's tests makes.
-most=$(sed -nE 's/.* makes_requests\w*\(&rt, ([0-9]+), .*/\1/p' tests/unproved/src/growth.rt.in | sort -n | tail -n 1)
+# The largest number of requests that a test makes.
+most=$(grep -rhoE '(makes_requests\w*|answers)\(&rt, [0-9]+' tests/unproved | grep -oE '[0-9]+$' | sort -n | tail -n 1)
 [[ -n $most ]] || fail 'no test of tests/unproved says how many requests it makes'
 for ((n = 1; n <= most; n++)); do
-    says "the tests of tests/unproved, request $n refused" 'test growth::' tests/unproved.sh --fail-alloc "$n" -- growth::
+    says "the tests of tests/unproved, request $n refused" 'growth::' tests/unproved.sh --fail-alloc "$n" -- growth::
 done

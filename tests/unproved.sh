@@ -1,5 +1,6 @@
 #!/usr/bin/env bash
-# Runs the tests of tests/unproved without a proof, as a crate next to a copy of the crates that it tests.
+# Runs the tests of tests/unproved without a proof, in a copy of the crates: those of the library, which are a crate of their
+# own, and those of the program and of the example p3_util_transform.
 #
 #     tests/unproved.sh [FLAG..]
 #
@@ -11,27 +12,40 @@ copy=$(mktemp -d)
 trap 'rm -rf "$copy"' EXIT
 
 below='p3_util_callers p3_util_kernels p3_util p3_util_vectors'
-for crate in $below; do
+for crate in $below p3_util_run p3_util_transform; do
     mkdir -p "$copy/crates/$crate"
     cp -a "crates/$crate/src" "$copy/crates/$crate/"
     grep "^$crate:" crates.txt >>"$copy/crates.txt"
 done
 echo "p3_util_unproved: $below serde_json" >>"$copy/crates.txt"
-mkdir -p "$copy/crates/p3_util_unproved/src"
-cp -a tests/unproved/c "$copy/crates/p3_util_unproved/"
-# The gate would take a file that ends in .rt for one of the crates that it proves.
-for file in tests/unproved/src/*.rt.in; do
-    name=${file##*/}
-    cp "$file" "$copy/crates/p3_util_unproved/src/${name%.in}"
-done
 
 refused=0 last=
 for word in "$@"; do
     [[ $last != --fail-alloc ]] || refused=$word
     last=$word
 done
-written=$(cat tests/unproved/src/*.rt.in | grep -c '^#\[test\]$')
-cd "$copy/crates/p3_util_unproved"
-export RT_ALLOW_C=p3_util_unproved CFLAGS="-DREFUSED=$refused"
-rt try --test "$@" | tee "$copy/printed"
-grep -qx "tests: $written" "$copy/printed" || { echo "FAILED  $written tests are written in tests/unproved" && exit 1; }
+# On a machine with nothing else to do, the longest test takes 20 seconds, mostly since `rt try` looks for bad accesses. With
+# other work it takes many times that.
+export RT_ALLOW_C=1 CFLAGS="-DREFUSED=$refused" RT_SECONDS=${RT_SECONDS-600}
+
+# tests_of CRATE FOLDER ROOT: runs the tests of a folder, which are modules of the crate. The gate would take a file that ends in
+# .rt for one of the crates that it proves, so they end in .rt.in here.
+tests_of() {
+    local file written src=$copy/crates/$1/src
+    mkdir -p "$src/tests"
+    cp -a tests/unproved/c "$copy/crates/$1/"
+    for file in $(cd "$2" && find . -name '*.rt.in'); do
+        cp "$2/$file" "$src/${file%.in}"
+    done
+    if [[ $3 != lib.rt.in ]]; then
+        cp tests/unproved/src/memory.rt.in "$src/tests/memory.rt"
+        printf '\n#[cfg(test)]\nmod tests;\n' >>"$src/$3"
+    fi
+    written=$(find "$2" -name '*.rt.in' -exec cat {} + | grep -c '^#\[test\]$')
+    (cd "$copy/crates/$1" && rt try --test "${@:4}") | tee "$copy/printed"
+    grep -qx "tests: $written" "$copy/printed" || { echo "FAILED  $written tests are written in $2" && exit 1; }
+}
+
+tests_of p3_util_unproved tests/unproved/src lib.rt.in "$@"
+tests_of p3_util_run tests/unproved/p3_util_run main.rt "$@"
+tests_of p3_util_transform tests/unproved/p3_util_transform lib.rt "$@"

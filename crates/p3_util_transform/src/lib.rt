@@ -27,6 +27,4 @@
 
 pub mod field;
 pub mod matrix;
-#[cfg(test)]
-mod tests;
 pub mod transform;
