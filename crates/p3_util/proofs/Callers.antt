@@ -17,13 +17,13 @@ pub mod TransposeFromParts
 pub mod Views
 pub mod ZipEq
 pub use Rattle.p3_util.proofs.Callers.Bits.{rev_below, rev_twice, rev_in_parts, rev_even, rev_odd, rev_last, rev_high, half, rev_longer, power_up, exponent_most, power_in_parts, power_too_large, exponent_below, power_over, power_step, shifted_step, row_of_place, column_of_place, product_of_powers, product_large, small_power, halved_within, halved_below, bit_set}
-pub use Rattle.p3_util.proofs.Callers.Chunks.{padded_sum, padded_read, item_of_lane, cut_of_padded, pieces_counted, pieces_joined, cut_of_pieces}
-pub use Rattle.p3_util.proofs.Callers.Columns.{column_inside, column_length, column_read, column_swapped, column_others, same_row, same_column, column_outside, column_there, column_twice}
+pub use Rattle.p3_util.proofs.Callers.Chunks.{padded_sum, padded_read, item_of_lane, cut_of_padded, pieces_counted, mapped_counted, pieces_joined, cut_of_pieces}
+pub use Rattle.p3_util.proofs.Callers.Columns.{column_inside, column_length, column_read, column_swapped, column_others, other_rows, row_filled, same_row, same_column, column_outside, column_there, column_twice}
 pub use Rattle.p3_util.proofs.Callers.Compose.{by_columns, by_rows, counted_in_two}
-pub use Rattle.p3_util.proofs.Callers.Computed.{computed_list, computed_read}
+pub use Rattle.p3_util.proofs.Callers.Computed.{computed_list, computed_numbers, computed_pairs, computed_read}
 pub use Rattle.p3_util.proofs.Callers.Kept.{permuted_by_places, permuted, kept, kept_different, kept_sum}
 pub use Rattle.p3_util.proofs.Callers.LinearMap.{put_found, put_others, put_known, put_put, values_summed, value_within_sum, equal_pairs, pairs_compared}
-pub use Rattle.p3_util.proofs.Callers.Reverse.{equal_stay, reversed_by_index, reversed_even, reversed_odd, reversed_once, reversed_twice, rows_reversed_twice, reversed_by_places, reversed_longer, short_same}
+pub use Rattle.p3_util.proofs.Callers.Reverse.{equal_stay, mapped_between, reversed_by_index, reversed_even, reversed_odd, reversed_once, reversed_twice, rows_reversed_twice, reversed_by_places, reversed_longer, short_same}
 pub use Rattle.p3_util_kernels.proofs.ReversalLemmas.{reversed_place}
 pub use Rattle.p3_util.proofs.Callers.ReversedTables.{reversed_index, item_moved, ends_stay, reversed_read, even_read, odd_read, found_before}
 pub use Rattle.p3_util.proofs.Callers.Rows.{part_there, part_apart, part_within, row_moved, first_row_stays}
@@ -46,7 +46,7 @@ pub use Rattle.p3_util_kernels.proofs.LevelsLemmas.{lev_le as levels_most}
 -- Parts of rulesets, which `using` takes with their ruleset, and lemmas that a proof file names.
 pub use Rattle.p3_util.proofs.Callers.Bits.{rev_first, log_some, log_reversible, pair_below, power_of_two_test, half_length, log_of_power, large_power, below_large_power, product_reversible, product_length, bit_within, bit_cleared}
 pub use Rattle.p3_util.proofs.Callers.Chunks.{folded_sum, padded_index, padded_inside, padded_beyond, lane_item, lane_index}
-pub use Rattle.p3_util.proofs.Callers.Columns.{column_place}
+pub use Rattle.p3_util.proofs.Callers.Columns.{column_place, row_written, rows_swapped}
 pub use Rattle.p3_util.proofs.Callers.Compose.{region_of_rows, region_of_cols, square_inside, square_more, one_square, reversed_by_squares, swaps_around, rows_in_two, cols_in_two, columns_counted, rows_counted}
 pub use Rattle.p3_util.proofs.Callers.Kept.{reversed_permuted, permuted_reversal, rows_permuted, transposed_permuted, reversed_sum, reversed_alike}
 pub use Rattle.p3_util.proofs.Callers.LinearMap.{key_found, key_others, key_known, number_known, number_found, number_others, key_summed, key_within_sum, key_or_zero, text_eq, text_summed, text_within_sum, text_or_zero, number_summed, number_within_sum, number_or_zero, maps_equal}

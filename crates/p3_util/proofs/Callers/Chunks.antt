@@ -118,6 +118,11 @@ module _ {A : Type 0} where
   pub pieces_counted : (n : ℕ) (fill : A) (xs : List A) → length (padded_pieces n fill xs) ≡ piece_count n (length xs)
   pieces_counted n fill xs = length-map (pieces n xs) (padded n fill) ∙ length-pieces n xs
 
+  -- the number of values that a function has of the pieces
+  pub mapped_counted : {B : Type 0} (f : List A → B) (n : ℕ) (fill : A) (xs : List A)
+      → length (map f (padded_pieces n fill xs)) ≡ piece_count n (length xs)
+  mapped_counted f n fill xs = length-map (padded_pieces n fill xs) f ∙ pieces_counted n fill xs
+
   pub pieces_joined : (n : ℕ) (fill : A) (xs : List A) → 0 < n
       → flat (padded_pieces n fill xs) ≡ xs ++ replicate (piece_count n (length xs) * n - length xs) fill
   pieces_joined = joined-padded_pieces

@@ -1,7 +1,7 @@
 -- A column of a matrix as a list, a column that is reversed, and places of different rows and columns.
-use Rattle.std.proofs.Common.{◌≡◌, ◌≢◌, ℕ, ◌+◌, ◌*◌, ◌/◌, ◌%◌, ◌^◌, ◌<◌, inl, inr, Some, List, length, get_or, slice_get, sym, ap, ◌∙◌, arith}
+use Rattle.std.proofs.Common.{◌≡◌, ◌≢◌, ℕ, ◌+◌, ◌*◌, ◌/◌, ◌%◌, ◌^◌, ◌<◌, inl, inr, Some, List, length, get_or, set, slice_get, sym, ap, ◌∙◌, arith}
 use Rattle.std.proofs.lemmas.Option.{slice_get-get_or}
-use Rattle.std.proofs.lemmas.Bool.{cases_eq}
+use Rattle.std.proofs.lemmas.Bool.{cases_eq, cases_lt}
 use Rattle.std.proofs.lemmas.Nat.{div-add-mod', mul-add-lt, same_from_place}
 use Rattle.std.specs.List.{swap}
 use Rattle.p3_util_kernels.specs.Digits.{rev}
@@ -11,7 +11,7 @@ use Rattle.p3_util_kernels.proofs.ReversalLemmas.{reversed_place}
 use Rattle.p3_util.proofs.Callers.Reverse.{reversed_twice}
 use Rattle.p3_util.proofs.ItemsAtLemmas.{items_at-swap, length-items_at, slice_get-items_at}
 use Rattle.p3_util_kernels.proofs.DigitsLemmas.{rev-lt}
-use Rattle.p3_util_kernels.proofs.Exchange.{slice_get-swap_other}
+use Rattle.p3_util_kernels.proofs.Exchange.{slice_get-set_other, slice_get-set_same, slice_get-swap_other}
 use Rattle.p3_util_kernels.proofs.Matrix.{row_and_column}
 use Rattle.p3_util_kernels.proofs.SameList.{same_places}
 
@@ -49,6 +49,29 @@ same_row w r c r' c' hc hc' e = (same_from_place r c r' c' w hc hc' e).0
 
 pub same_column : (w r c r' c' : ℕ) → c < w → c' < w → r * w + c ≡ r' * w + c' → c ≡ c'
 same_column w r c r' c' hc hc' e = (same_from_place r c r' c' w hc hc' e).1
+
+-- a write to a place of one row, or an exchange of places of two rows, leaves the other rows
+module _ {A : Type 0} (w r c : ℕ) (xs : List A) where
+  pub row_written : (row column : ℕ) (v : A) → c < w → column < w → r ≢ row
+      → slice_get (set xs (row * w + column) v) (r * w + c) ≡ slice_get xs (r * w + c)
+  row_written row column v hc hcolumn apart =
+      slice_get-set_other xs (row * w + column) (r * w + c) v (λ e. apart (same_row w r c row column hc hcolumn e))
+
+  pub rows_swapped : (a b i j : ℕ) → c < w → i < w → j < w → r ≢ a → r ≢ b
+      → slice_get (swap xs (a * w + i) (b * w + j)) (r * w + c) ≡ slice_get xs (r * w + c)
+  rows_swapped a b i j hc hi hj from-a from-b =
+      slice_get-swap_other xs (a * w + i) (b * w + j) (r * w + c) (λ e. from-a (same_row w r c a i hc hi e)) (λ e. from-b (same_row w r c b j hc hj e))
+
+pub ruleset other_rows = (row_written, rows_swapped)
+
+-- a write to the next place of a row whose places before it hold the same item
+pub row_filled : {A : Type 0} (w row column c : ℕ) (xs : List A) (v : A) → row * w + column < length xs → c < column + 1
+    → (c < column → slice_get xs (row * w + c) ≡ Some v) → slice_get (set xs (row * w + column) v) (row * w + c) ≡ Some v
+row_filled w row column c xs v inside near before =
+    elim (cases_lt c column) [
+      | inl less ↦ slice_get-set_other xs (row * w + column) (row * w + c) v (omega arith) ∙ before less
+      | inr from ↦ let same : c ≡ column = omega arith in rw same (slice_get-set_same xs (row * w + column) v inside)
+    ]
 
 module _ {A : Type 0} where
   -- if only places of one column were written, the other columns stay

@@ -1,10 +1,11 @@
 -- Where an item of a reversal comes from, and where an item goes; that a list has only one reversal;
 -- that reversing it twice gives the list back; that a list of at most two items is its own reversal,
 -- and so is a list of equal items; and that the first and the last item stay.
-use Rattle.std.proofs.Common.{◌≡◌, ℕ, zero, suc, ◌+◌, ◌-◌, ◌*◌, ◌^◌, ◌<◌, ◌≤◌, inl, inr, Some, List, [], ◌∷◌, length, replicate, slice_get, slice_index, refl, sym, ap, ◌∙◌, arith}
+use Rattle.std.proofs.Common.{◌≡◌, ℕ, zero, suc, ◌+◌, ◌-◌, ◌*◌, ◌^◌, ◌<◌, ◌≤◌, inl, inr, Some, List, [], ◌∷◌, length, map, replicate, slice_get, slice_index, refl, sym, ap, ◌∙◌, arith}
 use Rattle.std.proofs.Math.Pow.{pow_mono}
-use Rattle.std.proofs.lemmas.List.{length-replicate}
-use Rattle.std.proofs.lemmas.Option.{slice_get-get_or}
+use Rattle.std.proofs.lemmas.List.{length-map, length-replicate}
+use Rattle.std.proofs.lemmas.Option.{slice_get-get_or, slice_get-map}
+use Rattle.std.specs.Option.{option_map}
 use Rattle.p3_util_kernels.specs.Digits.{rev, rev_word}
 use Rattle.p3_util_kernels.specs.Powers.{HasLog2}
 use Rattle.p3_util_kernels.specs.Reversal.{IsReversal, IsReversible, IsRowReversal, IsZeroOrPowerOfTwo}
@@ -82,6 +83,20 @@ module _ {A : Type 0} where
 
   pub reversed_twice : (old mid new : List A) → IsReversal old mid → IsReversal mid new → IsReversible (length old) → new ≡ old
   reversed_twice old mid new first second fits = reversed_once mid new old second (row_reversed_back 1 old mid first) (rw first.same_length fits)
+
+  -- A reversal, a step that changes each item by itself, and a reversal of what the step left: each
+  -- item is changed at its own place.
+  reversal_of_map : (f : A → A) (old new : List A) → IsReversal old new → IsReversal (map f old) (map f new)
+  reversal_of_map f old new reversal = record {
+    same_length = length-map new f ∙ reversal.same_length ∙ sym (length-map old f);
+    places = λ k i j e hi hj. slice_get-map f new (i * 1 + j) ∙ ap (option_map f) (reversal.places k i j (sym (length-map old f) ∙ e) hi hj)
+        ∙ sym (slice_get-map f old (rev k i * 1 + j));
+  }
+
+  pub mapped_between : (f : A → A) (old mid changed new : List A) → IsReversal old mid → changed ≡ map f mid → IsReversal changed new
+      → IsReversible (length old) → new ≡ map f old
+  mapped_between f old mid changed new first step second fits =
+      reversed_twice (map f old) (map f mid) new (reversal_of_map f old mid first) (rw step at second) (rw (length-map old f) fits)
 
   rows_reversed_once : (row_width rows : ℕ) (old a b : List A) → IsRowReversal row_width old a → IsRowReversal row_width old b
       → length old ≡ row_width * rows → IsZeroOrPowerOfTwo rows → a ≡ b
