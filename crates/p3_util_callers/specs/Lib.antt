@@ -1,3 +1,1 @@
-pub mod EachRow
 pub mod MapCalls
-pub mod Stages

@@ -1,18 +1,15 @@
 //! Callers of the logarithms and powers. A test before the call of a strict logarithm is enough to
 //! meet its precondition.
 
-ghost use Rattle.std.specs.Prelude.{◌≡◌, ℕ, ◌+◌, ◌-◌, ◌*◌, ◌/◌, ◌%◌, ◌^◌, ◌<◌, ◌≤◌, ◌↔◌, [], ◌∷◌, IsFalse, IsTrue, IfOk, IfSome, MatchOption, None, Some, length, string_bytes};
-ghost use Rattle.std.specs.Int.{IsPowerOfTwo, is_power_of_two};
+ghost use Rattle.std.specs.Prelude.{◌≡◌, ℕ, ◌+◌, ◌-◌, ◌*◌, ◌/◌, ◌%◌, ◌^◌, ◌<◌, ◌≤◌, IsFalse, IsTrue, IfSome, MatchOption, None};
+ghost use Rattle.std.specs.Int.{IsPowerOfTwo};
 ghost use Rattle.p3_util.specs.Digits.{rev};
-ghost use Rattle.p3_util.specs.Names.{short_name};
 ghost use Rattle.p3_util.specs.Powers.{HasLog2, IsPowerOfThree};
 
 use p3_util::bits::{
-    checked_log_size_sum, checked_pow2, is_power_of_three, log2_ceil_u64, log2_ceil_usize,
-    log2_floor_usize, log2_strict_usize, log3_strict_usize, pretty_name, reverse_bits,
-    reverse_bits_len,
+    checked_log_size_sum, checked_pow2, is_power_of_three, log2_ceil_usize, log2_floor_usize,
+    log2_strict_usize, log3_strict_usize, reverse_bits, reverse_bits_len,
 };
-use std::alloc::{AllocError, Global};
 
 /// The least power of two that is at least `len`, or `None` if that power is 2^64. A transform pads
 /// its input to this length.
@@ -26,18 +23,6 @@ pub fn padded_len(len: usize) -> Option<usize>
     checked_pow2(log2_ceil_usize(len))
 }
 
-/// A power of two that is at least `len`, for a length that is stored in 64 bits. It is less than
-/// twice `len`, so there is no smaller one. `None`, if it does not fit in a `usize`.
-pub fn padded_twice(len: u64) -> Option<usize>
-    requires { 0 < len }
-    ensures none { result ≡ None → (k : ℕ) → k < 64 → 2 ^ k < len }
-    ensures power { IfSome result (λ n. IsPowerOfTwo n) }
-    ensures enough { IfSome result (λ n. len ≤ n) }
-    ensures twice { IfSome result (λ n. n < 2 * len) }
-{
-    checked_pow2(log2_ceil_u64(len) as usize)
-}
-
 /// Whether a list of `2^k` items would be longer than `len`, for any `k`.
 #[tactic(auto, using(p3_util::proofs::Callers::power_too_large))]
 pub fn is_below_power(len: usize, k: usize) -> bool
@@ -45,17 +30,6 @@ pub fn is_below_power(len: usize, k: usize) -> bool
     ensures no { IsFalse result → 2 ^ k ≤ len }
 {
     k >= 64 || len < 1 << k
-}
-
-/// The greatest power of two that is at most `n`.
-#[tactic(auto, using(p3_util::proofs::Callers::power_in_parts))]
-pub fn power_down(n: usize) -> usize
-    requires { 0 < n }
-    ensures power { IsPowerOfTwo result }
-    ensures most { result ≤ n }
-    ensures next { n < 2 * result }
-{
-    1 << log2_floor_usize(n)
 }
 
 /// The highest bit of an index into `2^k` items that is not 0.
@@ -79,13 +53,25 @@ pub fn halvings(len: usize, last: usize) -> usize
     log2_strict_usize(len) - log2_strict_usize(last)
 }
 
-/// The power of `b` that comes after the power `x`, modulo `p`.
+/// The power of `b` that comes after the power `x`, modulo `p`. A loop that keeps more than a power
+/// calls it for one step.
 #[tactic(auto, using(p3_util::proofs::Callers::power_step))]
-pub fn next_power(x: u32, b: u32, p: u32) -> u64
-    requires { 0 < p }
-    ensures { (i : ℕ) → x ≡ b ^ i % p → result ≡ b ^ (i + 1) % p }
+pub fn next_power(x: u64, b: u32, p: u32) -> u64
+    requires { x < p }
+    ensures power { (i : ℕ) → x ≡ b ^ i % p → result ≡ b ^ (i + 1) % p }
+    ensures below { result < p }
 {
-    u64::from(x) * u64::from(b) % u64::from(p)
+    x * u64::from(b) % u64::from(p)
+}
+
+/// The same for a power with a factor, which is an item of a coset.
+#[tactic(auto, using(p3_util::proofs::Callers::shifted_step))]
+pub fn next_of_coset(x: u64, b: u32, p: u32) -> u64
+    requires { x < p }
+    ensures power { (s i : ℕ) → x ≡ s * b ^ i % p → result ≡ s * b ^ (i + 1) % p }
+    ensures below { result < p }
+{
+    x * u64::from(b) % u64::from(p)
 }
 
 /// The row and the column of item `i` of a matrix.
@@ -96,18 +82,6 @@ pub fn row_and_column(i: usize, rows: usize, cols: usize) -> (usize, usize)
     ensures column { result.1 < cols }
 {
     (i / cols, i % cols)
-}
-
-/// The logarithm of the length of `items`, if the length is a power of two.
-pub fn log2_of_len<T>(items: &[T]) -> Option<usize>
-    ensures { MatchOption result (IsFalse (is_power_of_two (length items.now)))
-        (λ k. length items.now ≡ 2 ^ k) }
-{
-    if items.len().is_power_of_two() {
-        Some(log2_strict_usize(items.len()))
-    } else {
-        None
-    }
 }
 
 /// The logarithm of `n` to base 3, if `n` is a power of three.
@@ -204,13 +178,6 @@ pub fn items_of_matrix(log_height: usize, log_width: usize) -> Option<usize>
     checked_log_size_sum(log_height, log_width).map(|(_, items)| items)
 }
 
-/// The first index of the pair that `i` belongs to.
-pub fn first_of_pair(i: usize) -> usize
-    ensures { result ≡ 2 * (i / 2) }
-{
-    i & !1
-}
-
 /// The reverse of an index into `2^k` items in a list that is padded to `2^(k + s)` items.
 #[tactic(auto, using(p3_util::proofs::Callers::rev_longer))]
 pub fn reverse_in_longer(i: usize, k: usize, s: usize) -> usize
@@ -220,24 +187,6 @@ pub fn reverse_in_longer(i: usize, k: usize, s: usize) -> usize
     ensures { result ≡ rev k i * 2 ^ s }
 {
     reverse_bits_len(i, k + s)
-}
-
-/// `Vec`, as the short name of a literal. The checker computes it if it may unfold the definitions.
-#[tactic(auto, unfolding(p3_util_kernels::specs::Names::short_name, p3_util_kernels::specs::Names::name_pieces, p3_util_kernels::specs::Names::in_front, p3_util_kernels::specs::Names::after_colons))]
-pub fn name_of_vec(alloc: Global) -> Result<String, AllocError>
-    ensures { IfOk result (λ name. string_bytes name ≡ 86 ∷ 101 ∷ 99 ∷ []) }
-{
-    pretty_name(alloc, "std::vec::Vec")
-}
-
-/// The short names of two types, such as those of a value and of an error.
-pub fn names_of(alloc: Global, one: &str, other: &str) -> Result<(String, String), AllocError>
-    ensures { IfOk result (λ names. (string_bytes names.0 ≡ short_name one.now)
-        × (string_bytes names.1 ≡ short_name other.now)) }
-{
-    let first = pretty_name(alloc, one)?;
-    let second = pretty_name(alloc, other)?;
-    Ok((first, second))
 }
 
 /// The logarithm of the number of items of a matrix whose sides are powers of two, or `None` if the

@@ -10,10 +10,8 @@ ghost use Rattle.p3_util.specs.Steps.{counted};
 ghost use Rattle.p3_util.specs.SwapCounts.{long_swaps, reversal_swaps, row_swaps, square_swaps};
 ghost use Rattle.p3_util.specs.Transpose.{IsTranspose};
 
-use p3_util::places::{Cells, Places, Swaps, Writes};
-use p3_util::transpose::{
-    Region, transpose_region_counted, transpose_region_on, transpose_square_on,
-};
+use p3_util::places::{Cells, Places, SlicePlaces, Swaps};
+use p3_util::transpose::{Region, transpose_region_counted, transpose_square_on};
 use p3_util::{
     log2_strict_usize, reverse_chunks_on, reverse_counted, reverse_index_bits_on,
     reverse_row_index_bits_on, reverse_rows_counted,
@@ -26,6 +24,8 @@ pub fn reverse_items_and_rows<S: Places>(places: &mut S, row_width: usize) -> u1
     requires rows { FitsRows (length (S.items places.old)) row_width }
     ensures count { let n = length (S.items places.old) in
         result ≡ reversal_swaps n + row_swaps n row_width }
+    ensures order { (items : List S.Item) × IsReversal (S.items places.old) items
+        × IsRowReversal row_width items (S.items places.new) }
     ensures holder { S.same_holder result places.old places.new }
 {
     // The contract of `len` says that the length fits in a usize. So the sum of the two numbers of
@@ -34,6 +34,18 @@ pub fn reverse_items_and_rows<S: Places>(places: &mut S, row_width: usize) -> u1
     let items = reverse_counted(places);
     let rows = reverse_rows_counted(places, row_width);
     items + rows
+}
+
+/// The same for a slice. The function above makes the calls over any holder, and this one makes the
+/// holder, so it knows what is in the slice afterwards.
+pub fn reverse_slice_items_and_rows<T>(vals: &mut [T], row_width: usize) -> u128
+    requires items { IsReversible (length vals.old) }
+    requires rows { FitsRows (length vals.old) row_width }
+    ensures count { let n = length vals.old in result ≡ reversal_swaps n + row_swaps n row_width }
+    ensures order { (items : List T) × IsReversal vals.old items
+        × IsRowReversal row_width items vals.new }
+{
+    reverse_items_and_rows(&mut SlicePlaces::new(vals), row_width)
 }
 
 /// Reverses the items of a holder and then the order of its rows, with one counter, and returns the
@@ -122,36 +134,4 @@ pub fn transpose_left_then_right<C: Cells>(
     let first = transpose_region_counted(input, cells, left, width, height);
     let second = transpose_region_counted(input, cells, right, width, height);
     first + second
-}
-
-/// Transposes the rows before `middle` and then the others, with one counter.
-#[tactic(auto, using(p3_util::proofs::Callers::counted_in_two))]
-pub fn transpose_top_then_bottom<C: Cells>(
-    input: &[C::Item],
-    out: &mut Writes<C>,
-    width: usize,
-    height: usize,
-    middle: usize,
-)
-    requires input_fits { length input.now ≡ width * height }
-    requires output_fits { length (C.items out.old.holder) ≡ width * height }
-    requires inside { middle ≤ height }
-    ensures order { IsTranspose width height input.now (C.items out.new.holder) }
-    ensures count { out.new.count ≡ counted out.old.count (width * height) }
-    ensures holder { C.same_holder (width * height) out.old.holder out.new.holder }
-{
-    let top = Region {
-        row_start: 0,
-        row_end: middle,
-        col_start: 0,
-        col_end: width,
-    };
-    let bottom = Region {
-        row_start: middle,
-        row_end: height,
-        col_start: 0,
-        col_end: width,
-    };
-    transpose_region_on(input, out, top, width, height);
-    transpose_region_on(input, out, bottom, width, height);
 }

@@ -1,18 +1,16 @@
-//! A slice from its last item to its first, as a holder to reorder and to write, and callers. A
-//! holder is a value that gives access to a list only by index. The file needs only `p3_util`, so
-//! it can be copied as it is.
+//! A slice from its last item to its first, as a holder to reorder, and a caller. A holder is a value
+//! that gives access to a list only by index. The file needs only `p3_util`, so it can be copied as
+//! it is.
 
-ghost use Rattle.std.specs.Prelude.{◌≡◌, ◌*◌, ◌<◌, length, reverse, slice_set, swap};
+ghost use Rattle.std.specs.Prelude.{◌≡◌, ◌<◌, length, reverse, swap};
 ghost use Rattle.std.proofs.Common.{rules};
 ghost use Rattle.p3_util.specs.Reversal.{IsReversal, IsReversible};
-ghost use Rattle.p3_util.specs.Transpose.{IsTranspose};
 
-use p3_util::places::{Cells, Places};
+use p3_util::places::Places;
 use p3_util::reverse_counted;
-use p3_util::transpose::transpose_counted;
 
-/// The items of a slice from the last to the first, to be reordered or written. When the borrow
-/// ends, its items are in the slice.
+/// The items of a slice from the last to the first, to be reordered. When the borrow ends, its items
+/// are in the slice.
 #[derive(Drop)]
 pub struct FromEndMut<'a, T> {
     items: &'a mut [T],
@@ -47,36 +45,6 @@ impl<'a, T> Places for FromEndMut<'a, T> {
     ghost same_holder_trans = { Prim.search rules };
 }
 
-impl<'a, T: Copy> Cells for FromEndMut<'a, T> {
-    type Item = T;
-
-    ghost items = { λ s. reverse s.items.now };
-
-    ghost same_holder = { λ n a b. a.items.ghost_name ≡ b.items.ghost_name };
-
-    fn len(&self) -> usize {
-        self.items.len()
-    }
-
-    fn put(&mut self, i: usize, v: T) {
-        put_from_end(self.items, i, v);
-    }
-
-    ghost same_holder_refl = { Prim.search rules };
-
-    ghost same_holder_trans = { Prim.search rules };
-}
-
-/// Writes `v` to the place that is `i` places before the last one.
-#[tactic(auto, using(p3_util::proofs::Callers::from_end_written))]
-fn put_from_end<T: Copy>(items: &mut [T], i: usize, v: T)
-    requires { i < length items.old }
-    ensures { reverse items.new ≡ slice_set (reverse items.old) i v }
-{
-    let last = items.len() - 1;
-    items[last - i] = v;
-}
-
 /// Exchanges the items that are `i` and `j` places before the last one.
 #[tactic(auto, using(p3_util::proofs::Callers::from_end_swapped))]
 fn exchange_from_end<T>(items: &mut [T], i: usize, j: usize)
@@ -95,16 +63,4 @@ pub fn reverse_from_end<T>(values: &mut [T])
 {
     let mut places = FromEndMut::new(values);
     reverse_counted(&mut places);
-}
-
-/// Writes the transpose of `input` to `values`, beginning at its end, and returns the number of
-/// writes.
-pub fn transpose_to_end<T: Copy>(input: &[T], values: &mut [T], width: usize, height: usize) -> u128
-    requires input_fits { length input.now ≡ width * height }
-    requires output_fits { length values.old ≡ width * height }
-    ensures order { IsTranspose width height input.now (reverse values.new) }
-    ensures count { result ≡ width * height }
-{
-    let mut cells = FromEndMut::new(values);
-    transpose_counted(input, &mut cells, width, height)
 }

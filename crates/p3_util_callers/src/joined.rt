@@ -6,7 +6,6 @@
 ghost use Rattle.std.specs.Prelude.{◌≡◌, ◌+◌, ◌++◌, ◌^◌, ◌<◌, length, swap};
 ghost use Rattle.std.proofs.Common.{rules};
 ghost use Rattle.p3_util.specs.Reversal.{IsReversal, IsReversible};
-ghost use Rattle.p3_util.specs.SwapCounts.{reversal_swaps};
 
 use p3_util::places::Places;
 use p3_util::reverse_counted;
@@ -100,15 +99,4 @@ pub fn reverse_joined<F>(joined: &mut Joined<F>)
     ensures back { length joined.new.back.now ≡ length joined.old.back.now }
 {
     reverse_counted(joined);
-}
-
-/// Joins two slices, reverses the list and returns the number of swaps. A proof knows this number,
-/// but not what the slices hold after the holder has ended.
-pub fn reverse_across<F>(front: &mut [F], back: &mut [F]) -> u128
-    requires fits { length front.old + length back.old < 2 ^ 64 }
-    requires power { IsReversible (length (front.old ++ back.old)) }
-    ensures { result ≡ reversal_swaps (length (front.old ++ back.old)) }
-{
-    let mut joined = Joined::new(front, back);
-    reverse_counted(&mut joined)
 }

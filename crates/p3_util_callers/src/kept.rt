@@ -3,16 +3,14 @@
 //! the same way. A function whose contract says `IsPermutation` needs a lemma. Its callers need
 //! none.
 
-ghost use Rattle.std.specs.Prelude.{◌≡◌, ℕ, ◌+◌, ◌*◌, ◌^◌, ◌<◌, ◌≤◌, ◌==◌, All, Contains, IfOk, IfSome, IsPermutation, None, count_by, length, map, slice_get, sum, zip};
+ghost use Rattle.std.specs.Prelude.{◌≡◌, ℕ, ◌+◌, ◌*◌, ◌^◌, ◌<◌, ◌≤◌, ◌==◌, All, Contains, IfSome, IsPermutation, None, count_by, length, map, slice_get, sum, zip};
 ghost use Rattle.p3_util.specs.Digits.{rev};
 ghost use Rattle.p3_util.specs.Least.{AllDiffer};
 ghost use Rattle.p3_util.specs.Reversal.{FitsRows, IsReversible};
 
 use crate::bits::power_of;
-use crate::chunks::padded_to;
 use p3_util::reverse::{reverse_slice_index_bits, reverse_slice_row_index_bits};
 use p3_util::transpose::transpose;
-use std::alloc::{AllocError, Global};
 
 /// Reverses `vals` by index bits. Each item stays below `m`.
 #[tactic(auto, using(p3_util::proofs::Callers::kept))]
@@ -43,36 +41,6 @@ pub fn reorder_different<T>(vals: &mut [T])
     reverse_slice_index_bits(vals);
 }
 
-/// Writes the transpose of `input` to `output`. Afterwards `output` has the items of `input`.
-#[tactic(auto, using(p3_util::proofs::Callers::permuted))]
-pub fn transposed<T: Copy>(input: &[T], output: &mut [T], width: usize, height: usize)
-    requires input_fits { length input.now ≡ width * height }
-    requires output_fits { length output.old ≡ width * height }
-    ensures { IsPermutation input.now output.new }
-{
-    transpose(input, output, width, height);
-}
-
-/// The same for items below `m`, which stay below `m`.
-pub fn transpose_reduced(input: &[u64], output: &mut [u64], width: usize, height: usize, m: u64)
-    requires input_fits { length input.now ≡ width * height }
-    requires output_fits { length output.old ≡ width * height }
-    requires reduced { All (λ x. x < m) input.now }
-    ensures { All (λ x. x < m) output.new }
-{
-    transposed(input, output, width, height);
-}
-
-/// `items`, which are below `m`, and then zeros, `len` items in total. All of them are below `m`.
-pub fn pad_reduced(alloc: Global, items: &[u64], len: usize, m: u64) -> Result<Vec<u64>, AllocError>
-    requires room { length items.now ≤ len }
-    requires some { 0 < m }
-    requires reduced { All (λ x. x < m) items.now }
-    ensures { IfOk result (λ v. All (λ x. x < m) v.items) }
-{
-    padded_to(alloc, items, len)
-}
-
 /// Reorders `vals`. An item is in it exactly if it was in it before, it has as many zeros as before,
 /// and its greatest item is the same.
 pub fn reorder_and_keep(vals: &mut [u64])
@@ -84,18 +52,6 @@ pub fn reorder_and_keep(vals: &mut [u64])
     ensures greatest { (m : ℕ) → All (λ x. x ≤ m) vals.old → All (λ x. x ≤ m) vals.new }
 {
     reordered(vals);
-}
-
-/// Writes the items of `input` to `output`, the last one first. A proof file names the lemma, which
-/// takes the function from a place of `output` to the place from which its item comes.
-pub fn copy_from_end<T: Copy>(input: &[T], output: &mut [T])
-    requires { length output.old ≡ length input.now }
-    ensures { IsPermutation input.now output.new }
-{
-    let len = input.len();
-    for i in 0..len {
-        output[i] = input[len - 1 - i];
-    }
 }
 
 /// Reverses two lists in the same way, which does not change the sum of the products of their
@@ -146,37 +102,6 @@ pub fn greatest_after_rows(vals: &mut [u64], width: usize) -> Option<u64>
 {
     reorder_rows_and_keep(vals, width);
     greatest(vals)
-}
-
-/// Writes the transpose of `input` to `output`. If no two items are equal in `input`, none are in
-/// `output`.
-#[tactic(auto, using(p3_util::proofs::Callers::kept_different))]
-fn transpose_different<T: Copy>(input: &[T], output: &mut [T], width: usize, height: usize)
-    requires input_fits { length input.now ≡ width * height }
-    requires output_fits { length output.old ≡ width * height }
-    requires different { AllDiffer input.now }
-    ensures { AllDiffer output.new }
-{
-    transpose(input, output, width, height);
-}
-
-/// Reverses, transposes and reverses again, with one function for each call. Different items stay
-/// different.
-pub fn reverse_transpose_reverse<T: Copy>(
-    input: &mut [T],
-    output: &mut [T],
-    width: usize,
-    height: usize,
-)
-    requires input_fits { length input.old ≡ width * height }
-    requires output_fits { length output.old ≡ width * height }
-    requires power { IsReversible (width * height) }
-    requires different { AllDiffer input.old }
-    ensures { AllDiffer output.new }
-{
-    reorder_different(input);
-    transpose_different(input, output, width, height);
-    reorder_different(output);
 }
 
 /// Writes the transpose of a matrix of `2^b` rows of `2^a` items to `output`, and reverses it by

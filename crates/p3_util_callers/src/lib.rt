@@ -19,8 +19,6 @@ pub mod pairs;
 pub mod places;
 pub mod reverse;
 pub mod reversed_tables;
-pub mod rows;
-pub mod stages;
 pub mod transpose;
 pub mod transpose_from_parts;
 pub mod views;

@@ -1,7 +1,7 @@
 //! Callers of `LinearMap`, proved only from the public contracts of the map: any list of calls, and
 //! the map's pairs as a list.
-ghost use Rattle.std.specs.Prelude.{◌≡◌, ◌≢◌, ℕ, ◌+◌, ◌^◌, ◌<◌, ◌≤◌, ◌↔◌, false, [], IsTrue, None, Some, IfOk, IfSome, OnOk, OnErr, length, nat_eq, sum};
-ghost use Rattle.std.specs.Map.{keys_of, values_of};
+ghost use Rattle.std.specs.Prelude.{◌≡◌, ◌⊎◌, IsSome, ◌≢◌, ℕ, ◌+◌, ◌^◌, ◌<◌, ◌≤◌, ◌↔◌, false, [], IsTrue, None, Some, IfOk, IfSome, OnOk, OnErr, nat_eq, sum};
+ghost use Rattle.std.specs.Map.{values_of};
 ghost use Rattle.p3_util.specs.LinearMap.{put, put_all, value_at};
 ghost use Rattle.p3_util_callers.specs.MapCalls.{answer_of, answers_of, after, pairs_after};
 
@@ -108,33 +108,12 @@ pub fn define_twice(
     Ok(())
 }
 
-/// Whether `table` defines no symbol.
-pub fn defines_nothing(table: &LinearMap<u32, u64>) -> bool
-    ensures { IsTrue result ↔ (keys_of table.now ≡ []) }
-{
-    table.is_empty()
-}
-
 /// Whether two tables have the same symbols with the same offsets, in the same order. A proof file
 /// names the lemma.
 pub fn same_tables(one: &LinearMap<u32, u64>, other: &LinearMap<u32, u64>) -> bool
     ensures { IsTrue result ↔ (one.now ≡ other.now) }
 {
     one == other
-}
-
-/// The keys of `table`, in the order in which they were first inserted.
-pub fn symbols(alloc: Global, table: &LinearMap<u32, u64>) -> Result<Vec<u32>, AllocError>
-    ensures { IfOk result (λ keys. keys.items ≡ keys_of table.now) }
-{
-    table.keys().copied().collect(alloc)
-}
-
-/// The values of `table`, in the order of their keys.
-pub fn offsets(alloc: Global, table: &LinearMap<u32, u64>) -> Result<Vec<u64>, AllocError>
-    ensures { IfOk result (λ values. values.items ≡ values_of table.now) }
-{
-    table.values().copied().collect(alloc)
 }
 
 /// Counts `word` once more, with a look-up and `insert`. The sum of all counts grows by one.
@@ -158,22 +137,17 @@ pub fn count_of<K: Eq>(counts: &LinearMap<K, u64>, word: &K) -> Option<u64>
     counts.get(word).copied()
 }
 
-/// Counts how often each word occurs.
-#[tactic(auto, using(p3_util::proofs::Callers::values_summed))]
-pub fn count_words<'a>(
-    alloc: Global,
-    words: &[&'a str],
-) -> Result<LinearMap<&'a str, u64>, AllocError>
-    ensures { IfOk result (λ counts. sum (values_of counts) ≡ length words.now) }
+/// Defines `symbol`. Afterwards the table has this symbol and those from before, and no others.
+#[tactic(auto, using(p3_util::proofs::Callers::put_known))]
+pub fn add_symbol(
+    table: &mut LinearMap<u32, u64>,
+    symbol: u32,
+    offset: u64,
+) -> Result<Option<u64>, NoRoom<(u32, u64)>>
+    ensures { OnOk result ((q : ℕ) → IsSome (value_at nat_eq table.new q)
+        ↔ ((q ≡ symbol) ⊎ IsSome (value_at nat_eq table.old q))) }
 {
-    let mut counts = LinearMap::new(alloc);
-    for word in words {
-        match counts.get_or_insert_with(*word, || 0) {
-            Ok(count) => *count += 1,
-            Err(_) => return Err(AllocError),
-        }
-    }
-    Ok(counts)
+    table.insert(symbol, offset)
 }
 
 /// The map that is made from a list of pairs.

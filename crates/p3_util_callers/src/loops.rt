@@ -2,7 +2,7 @@
 //! numbers in place, a stage of a transform, a loop that takes one item after another into a state,
 //! and a merge of maps. Then loops that fill an array, write to a holder, count rounds, go over a
 //! view, compare two lists, transpose one matrix after another, halve a number until 1 is left, and
-//! fill a table of powers and a row of a matrix.
+//! fill a table of a coset and a row of a matrix.
 
 ghost use Rattle.std.specs.Prelude.{◌≡◌, ◌≢◌, ℕ, ◌+◌, ◌-◌, ◌*◌, ◌/◌, ◌%◌, ◌^◌, ◌<◌, ◌≤◌, All, IsTrue, OnOk, Some, drop, fold, length, map, nat_eq, slice_get, slice_index, take};
 ghost use Rattle.p3_util.specs.Digits.{rev};
@@ -11,6 +11,7 @@ ghost use Rattle.p3_util.specs.LinearMap.{put_all};
 ghost use Rattle.p3_util.specs.Reversal.{IsReversal, IsReversible};
 ghost use Rattle.p3_util.specs.Transpose.{IsTranspose};
 
+use crate::bits::next_of_coset;
 use p3_util::bits::reverse_bits_len;
 use p3_util::linear_map::LinearMap;
 use p3_util::places::Cells;
@@ -27,6 +28,19 @@ pub fn reduce_each(vals: &mut [u64], m: u64)
     for i in 0..vals.len() {
         vals[i] %= m;
     }
+}
+
+/// Reverses `vals` by index bits, reduces each item and reverses again. Each item is then reduced at
+/// its own place.
+#[tactic(auto, using(p3_util::proofs::Callers::mapped_between))]
+pub fn reduce_in_reversed(vals: &mut [u64], m: u64)
+    requires power { IsReversible (length vals.old) }
+    requires some { 0 < m }
+    ensures { vals.new ≡ map (λ x. x % m) vals.old }
+{
+    reverse_slice_index_bits(vals);
+    reduce_each(vals, m);
+    reverse_slice_index_bits(vals);
 }
 
 /// Replaces the items at `2i` and `2i + 1` with their sum and their difference, modulo `m`. One
@@ -66,19 +80,6 @@ pub fn butterflies(vals: &mut [u64], m: u64)
     for i in 0..vals.len() / 2 {
         butterfly(vals, i, m);
     }
-}
-
-/// The beginning of a transform: the items are reversed by index bits, and then the first stage
-/// runs. All items stay below `m`.
-#[tactic(auto, using(p3_util::proofs::Callers::kept))]
-pub fn reverse_and_first_stage(vals: &mut [u64], m: u64)
-    requires power { IsReversible (length vals.old) }
-    requires reduced { All (λ x. x < m) vals.old }
-    requires small { m < 2 ^ 63 }
-    ensures { All (λ x. x < m) vals.new }
-{
-    reverse_slice_index_bits(vals);
-    butterflies(vals, m);
 }
 
 /// The state after it took in each lane, in order, with a loop. The invariant says that folding the
@@ -243,21 +244,22 @@ pub fn halvings_to_one(n: usize) -> usize
     count
 }
 
-/// Fills a table with the powers of two.
-pub fn powers_of_two(out: &mut [u64])
-    requires { length out.old ≤ 64 }
-    ensures { (i : ℕ) → i < length out.old → slice_index out.new i ≡ 2 ^ i }
+/// Fills a table with the items `shift * g^i` of a coset, modulo `p`. One step is a function of its
+/// own, so that the loop needs a proof file only for its invariant.
+pub fn fill_coset(out: &mut [u64], shift: u32, g: u32, p: u32)
+    requires { 0 < p }
+    ensures { (i : ℕ) → i < length out.old → slice_index out.new i ≡ shift * g ^ i % p }
 {
-    let mut power = 1u64;
+    let mut x = u64::from(shift % p);
     for i in 0..out.len() {
-        out[i] = power;
-        power = power.wrapping_mul(2);
+        out[i] = x;
+        x = next_of_coset(x, g, p);
     }
 }
 
 /// Writes `item` to each cell of row `row` of a matrix. The contract says that the rest stays by row
 /// and column, as a transpose says where an item goes.
-#[tactic(auto, using(p3_util::proofs::Callers::column_inside))]
+#[tactic(auto, using(p3_util::proofs::Callers::column_inside, p3_util::proofs::Callers::other_rows, p3_util::proofs::Callers::row_filled))]
 pub fn fill_row<T: Copy>(values: &mut [T], row: usize, width: usize, height: usize, item: T)
     requires fits { length values.old ≡ height * width }
     requires inside { row < height }

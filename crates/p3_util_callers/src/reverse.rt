@@ -1,17 +1,16 @@
 //! Callers of bit reversal. None of them has a proof by hand: a test before the call is enough, or
 //! a lemma that the function names.
 
-ghost use Rattle.std.specs.Prelude.{◌≡◌, ℕ, ◌+◌, ◌-◌, ◌*◌, ◌^◌, ◌<◌, ◌≤◌, ◌↔◌, [], ◌∷◌, IsTrue, IsFalse, IfOk, Some, drop, length, replicate, slice_get, slice_index, take};
+ghost use Rattle.std.specs.Prelude.{◌≡◌, ℕ, ◌+◌, ◌-◌, ◌*◌, ◌^◌, ◌<◌, ◌≤◌, ◌↔◌, [], ◌∷◌, IsTrue, IsFalse, Some, length, slice_get, slice_index, take};
 ghost use Rattle.std.specs.Int.{is_power_of_two};
 ghost use Rattle.p3_util.specs.Digits.{rev};
-ghost use Rattle.p3_util.specs.Reversal.{FitsRows, IsReversal, IsReversible, IsRowReversal, IsZeroOrPowerOfTwo};
+ghost use Rattle.p3_util.specs.Reversal.{FitsRows, IsReversal, IsReversible, IsZeroOrPowerOfTwo};
 
 use p3_util::places::{Places, Swaps};
 use p3_util::reverse::{
     fits_rows, reverse_index_bits_long, reverse_index_bits_short, reverse_slice_index_bits,
     reverse_slice_row_index_bits,
 };
-use std::alloc::{AllocError, Global};
 
 /// Reverses `vals` by index bits and returns `true`. If the length is neither zero nor a power of
 /// two, returns `false` and changes nothing.
@@ -68,17 +67,6 @@ pub fn reverse_unless_short<F>(vals: &mut [F])
     }
 }
 
-/// Reverses `vals` by index bits. The first and the last item stay where they are.
-#[tactic(auto, using(p3_util::proofs::Callers::ends_stay))]
-pub fn reverse_between_ends<F>(vals: &mut [F])
-    requires { IsReversible (length vals.old) }
-    ensures first { slice_get vals.new 0 ≡ slice_get vals.old 0 }
-    ensures last { slice_get vals.new (length vals.old - 1)
-        ≡ slice_get vals.old (length vals.old - 1) }
-{
-    reverse_slice_index_bits(vals);
-}
-
 /// Reverses `vals` by index bits, and returns the item that is then the last one.
 #[tactic(auto, using(p3_util::proofs::Callers::ends_stay))]
 pub fn last_after<F: Copy>(vals: &mut [F]) -> F
@@ -108,34 +96,6 @@ pub fn item_after(vals: &mut [u64], k: usize, i: usize) -> u64
 {
     reverse_slice_index_bits(vals);
     vals[i]
-}
-
-/// The items of `vals` in the order of reversed index bits.
-pub fn reversed<T>(mut vals: Vec<T>) -> Vec<T>
-    requires { IsReversible (length vals.items) }
-    ensures { IsReversal vals.items result.items }
-{
-    reverse_slice_index_bits(&mut vals);
-    vals
-}
-
-/// `len` equal items in the order of reversed index bits, which are the same list.
-#[tactic(auto, using(p3_util::proofs::Callers::equal_stay))]
-pub fn reversed_equal(alloc: Global, item: u64, len: usize) -> Result<Vec<u64>, AllocError>
-    requires { IsReversible len }
-    ensures { IfOk result (λ v. v.items ≡ replicate len item) }
-{
-    let items = vec![in alloc; item; len]?;
-    Ok(reversed(items))
-}
-
-/// The rows of `vals`, of `row_width` items each, in the order of reversed index bits.
-pub fn reversed_rows<T>(mut vals: Vec<T>, row_width: usize) -> Vec<T>
-    requires { FitsRows (length vals.items) row_width }
-    ensures { IsRowReversal row_width vals.items result.items }
-{
-    reverse_slice_row_index_bits(&mut vals, row_width);
-    vals
 }
 
 /// Reverses the order of the rows of `vals`, of `row_width` items each, twice. This leaves `vals`
@@ -173,33 +133,4 @@ pub fn reverse_by_both_paths<S: Places>(one: &mut Swaps<S>, other: &mut Swaps<S>
 {
     reverse_index_bits_short(one);
     reverse_index_bits_long(other);
-}
-
-/// Reverses the items from place `from` on by index bits. The items before it stay as they are.
-pub fn reverse_from_place<T>(xs: &mut [T], from: usize)
-    requires inside { from ≤ length xs.old }
-    requires power { IsReversible (length xs.old - from) }
-    ensures part { IsReversal (drop from xs.old) (drop from xs.new) }
-    ensures front { take from xs.new ≡ take from xs.old }
-{
-    reverse_slice_index_bits(&mut xs[from..]);
-}
-
-/// Reverses the `len` items from place `from` on by index bits.
-pub fn reverse_window<T>(xs: &mut [T], from: usize, len: usize)
-    requires inside { from + len ≤ length xs.old }
-    requires power { IsReversible len }
-    ensures { IsReversal (take len (drop from xs.old)) (take len (drop from xs.new)) }
-{
-    reverse_slice_index_bits(&mut xs[from..from + len]);
-}
-
-/// A copy of `xs` in the order of reversed index bits. It is not made with `to_vec`, which calls
-/// `clone`: nothing is known of the `clone` of a type `T: Copy`.
-pub fn reversed_copy<T: Copy>(alloc: Global, xs: &[T]) -> Result<Vec<T>, AllocError>
-    requires { IsReversible (length xs.now) }
-    ensures { IfOk result (λ v. IsReversal xs.now v.items) }
-{
-    let copy = xs.iter().copied().collect::<Vec<T>>(alloc)?;
-    Ok(reversed(copy))
 }

@@ -1,54 +1,26 @@
 //! Callers that read a table in the order of reversed index bits, or reorder a table: reads, folds
 //! and sums.
 
-ghost use Rattle.std.specs.Prelude.{◌≡◌, ℕ, ◌+◌, ◌*◌, ◌/◌, ◌^◌, ◌<◌, ◌≤◌, IfOk, IfSome, List, Some, length, map, slice_get, slice_index, sum};
-ghost use Rattle.std.specs.Int.{IsPowerOfTwo};
+ghost use Rattle.std.specs.Prelude.{◌≡◌, ℕ, ◌+◌, ◌*◌, ◌/◌, ◌^◌, ◌<◌, ◌≤◌, IfOk, IfSome, Some, length, map, slice_get, slice_index, sum};
 ghost use Rattle.std.specs.List.{range_with_len};
 ghost use Rattle.p3_util.specs.Digits.{rev};
 ghost use Rattle.p3_util.specs.Powers.{HasLog2};
-ghost use Rattle.p3_util.specs.Reversal.{IsReversal, IsReversible, IsZeroOrPowerOfTwo};
+ghost use Rattle.p3_util.specs.Reversal.{IsReversal, IsReversible};
 
-use p3_util::bits::{indices_arr, log2_strict_usize, reverse_bits, reverse_bits_len};
-use p3_util::reverse::{reverse_slice_index_bits, reverse_slice_row_index_bits};
-use p3_util::transpose::transpose;
+use p3_util::bits::{log2_strict_usize, reverse_bits_len};
+use p3_util::reverse::reverse_slice_index_bits;
 use std::alloc::{AllocError, Global};
 
 // Reads: one item of a reordered table, or all items by place.
 
 /// Puts a table of evaluations into the order of reversed index bits. Then place `i` holds the item
 /// that was at the reversed index.
-#[tactic(auto, using(p3_util::proofs::Callers::reversed_place))]
 pub fn reorder_evaluations<T>(evals: &mut [T])
     requires { IsReversible (length evals.old) }
     ensures { (k i : ℕ) → length evals.old ≡ 2 ^ k → i < 2 ^ k
         → slice_get evals.new i ≡ slice_get evals.old (rev k i) }
 {
     reverse_slice_index_bits(evals);
-}
-
-/// Reorders the table, and returns item `i` of the reordered table, which was at the reversed
-/// index.
-#[tactic(auto, using(p3_util::proofs::Callers::reversed_read))]
-pub fn evaluation_after<T: Copy>(evals: &mut [T], k: usize, i: usize) -> T
-    requires len { length evals.old ≡ 2 ^ k }
-    requires inside { i < 2 ^ k }
-    ensures { slice_get evals.old (rev k i) ≡ Some result }
-{
-    reverse_slice_index_bits(evals);
-    evals[i]
-}
-
-/// Reorders the table, and returns the item that was at `i`, which is then at the reversed index.
-#[tactic(auto, using(p3_util::proofs::Callers::reversed_read))]
-pub fn evaluation_kept<T: Copy>(evals: &mut [T], k: usize, i: usize) -> T
-    requires some { 1 ≤ k }
-    requires few { k < 64 }
-    requires len { length evals.old ≡ 2 ^ k }
-    requires inside { i < 2 ^ k }
-    ensures { slice_get evals.old i ≡ Some result }
-{
-    reverse_slice_index_bits(evals);
-    evals[reverse_bits_len(i, k)]
 }
 
 /// Reorders the table, and returns the place to which the item at `i` goes. The number of bits is
@@ -62,42 +34,6 @@ pub fn place_by_log<T>(table: &mut [T], i: usize) -> usize
     let k = log2_strict_usize(table.len());
     reverse_slice_index_bits(table);
     reverse_bits_len(i, k)
-}
-
-/// Reorders the table, and returns the item that was at `i`. The number of bits follows from the
-/// length.
-#[tactic(auto, using(p3_util::proofs::Callers::item_moved))]
-pub fn item_moved<T: Copy>(table: &mut [T], i: usize) -> T
-    requires power { HasLog2 (length table.old) }
-    requires inside { i < length table.old }
-    ensures { slice_get table.old i ≡ Some result }
-{
-    reverse_slice_index_bits(table);
-    table[reverse_bits(i, table.len())]
-}
-
-/// Item `i` of a table that was reordered before the call: the item was at the reversed index.
-#[tactic(auto, using(p3_util::proofs::Callers::reversed_read))]
-pub fn item_of_reordered<T: Copy>(table: &[T], k: usize, i: usize) -> T
-    requires len { length table.now ≡ 2 ^ k }
-    requires inside { i < 2 ^ k }
-    ensures { (evals : List T) → IsReversal evals table.now
-        → slice_get evals (rev k i) ≡ Some result }
-{
-    table[i]
-}
-
-/// The item that was at `i` in a table that was reordered before the call. The table has at least
-/// two items, and the number of digits follows from its length.
-#[tactic(auto, using(p3_util::proofs::Callers::reversed_read))]
-pub fn item_before_reorder<T: Copy>(table: &[T], i: usize) -> T
-    requires power { IsPowerOfTwo (length table.now) }
-    requires inside { i < length table.now }
-    ensures { (k : ℕ) (evals : List T) → 1 ≤ k → length table.now ≡ 2 ^ k
-        → IsReversal evals table.now
-        → slice_get evals i ≡ Some result }
-{
-    table[reverse_bits(i, table.len())]
 }
 
 /// A reordered copy of a table. The table itself does not change.
@@ -154,7 +90,6 @@ pub fn doubled_after(alloc: Global, items: &mut [u32], k: usize) -> Result<Vec<u
 }
 
 /// Reverses a table of numbers by index bits. The contract states each place.
-#[tactic(auto, using(p3_util::proofs::Callers::reversed_index))]
 pub fn reorder_numbers(values: &mut [u64], k: usize)
     requires { length values.old ≡ 2 ^ k }
     ensures { (i : ℕ) → i < 2 ^ k → slice_index values.new i ≡ slice_index values.old (rev k i) }
@@ -177,34 +112,6 @@ pub fn doubled_then_reordered(
     let mut twice = doubled_by_place(alloc, items)?;
     reorder_numbers(&mut twice, k);
     Ok(twice)
-}
-
-/// Puts the columns of a matrix of `height` rows of `width` items into the order of their reversed
-/// indices. The matrix is transposed into `scratch`, whose rows are reversed, and then transposed
-/// back.
-#[tactic(auto, using(p3_util::proofs::Callers::rev_below))]
-pub fn reverse_columns<T: Copy>(matrix: &mut [T], scratch: &mut [T], width: usize, height: usize)
-    requires matrix_fits { length matrix.old ≡ width * height }
-    requires scratch_fits { length scratch.old ≡ width * height }
-    requires power { IsZeroOrPowerOfTwo width }
-    ensures { (k row column : ℕ) → width ≡ 2 ^ k → row < height → column < width
-        → slice_get matrix.new (row * width + column)
-        ≡ slice_get matrix.old (row * width + rev k column) }
-{
-    transpose(matrix, scratch, width, height);
-    reverse_slice_row_index_bits(scratch, height);
-    transpose(scratch, matrix, height, width);
-}
-
-/// Puts a table of `2^(k + s)` evaluations into the order of reversed index bits. Its first `2^k`
-/// items are then every `2^s`-th one.
-#[tactic(auto, using(p3_util::proofs::Callers::reversed_longer))]
-pub fn coarser_first<T>(evals: &mut [T])
-    requires { IsReversible (length evals.old) }
-    ensures { (k s i : ℕ) → length evals.old ≡ 2 ^ (k + s) → i < 2 ^ k
-        → slice_get evals.new i ≡ slice_get evals.old (rev k i * 2 ^ s) }
-{
-    reverse_slice_index_bits(evals);
 }
 
 // Folds: the items at 2i and 2i + 1 come from one half of the table and from the other.
@@ -258,43 +165,6 @@ pub fn sum_after(evals: &mut [u64]) -> u64
 {
     reverse_slice_index_bits(evals);
     sum_of(evals)
-}
-
-/// The sum of the items of a table, each times a weight. The weights are taken in reversed order.
-pub fn weighted_sum(evals: &[u32], weights: &[u16], k: usize) -> u64
-    requires some { 1 ≤ k }
-    requires few { k < 64 }
-    requires len { length evals.now ≡ 2 ^ k }
-    requires weights { length weights.now ≡ 2 ^ k }
-    requires fits { sum (map (λ i. slice_index evals.now i * slice_index weights.now (rev k i))
-        (range_with_len 0 (2 ^ k))) < 2 ^ 64 }
-    ensures { result ≡ sum (map (λ i. slice_index evals.now i * slice_index weights.now (rev k i))
-        (range_with_len 0 (2 ^ k))) }
-{
-    (0..evals.len())
-        .map(|i| u64::from(evals[i]) * u64::from(weights[reverse_bits_len(i, k)]))
-        .sum()
-}
-
-/// Reorders places. Afterwards place `i` has what the reverse of `i` had.
-#[tactic(auto, using(p3_util::proofs::Callers::reversed_read))]
-fn reorder_places(places: &mut [usize])
-    requires { IsPowerOfTwo (length places.old) }
-    ensures { (k i : ℕ) → length places.old ≡ 2 ^ k → i < 2 ^ k
-        → slice_index places.new i ≡ slice_index places.old (rev k i) }
-{
-    reverse_slice_index_bits(places);
-}
-
-/// The table of the reversed indices of a list of `N` items.
-#[tactic(auto, using(p3_util::proofs::Callers::rev_below))]
-pub fn reversed_indices<const N: usize>() -> [usize; N]
-    requires { IsPowerOfTwo N }
-    ensures { (k i : ℕ) → N ≡ 2 ^ k → i < N → slice_index result i ≡ rev k i }
-{
-    let mut indices = indices_arr::<N>();
-    reorder_places(&mut indices);
-    indices
 }
 
 /// The first place of `x`.

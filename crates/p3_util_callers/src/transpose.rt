@@ -1,25 +1,20 @@
 //! Callers of the transposes.
 
-ghost use Rattle.std.specs.Prelude.{◌≡◌, ◌+◌, ◌-◌, ◌*◌, ◌^◌, ◌<◌, ◌≤◌, ◌↔◌, ℕ, IfOk, IsTrue, IsFalse, List, OnOk, length, slice_get};
-ghost use Rattle.std.specs.Int.{IsPowerOfTwo};
+ghost use Rattle.std.specs.Prelude.{◌≡◌, ◌+◌, ◌-◌, ◌*◌, ◌^◌, ◌<◌, ◌≤◌, ◌↔◌, ℕ, IsTrue, IsFalse, length, slice_get};
 ghost use Rattle.p3_util.specs.Levels.{lev, nest};
 ghost use Rattle.p3_util.specs.Region.{IsRegionTransposed, LiesInMatrix, cols_of, items_of, rows_of};
-ghost use Rattle.p3_util.specs.Reversal.{IsReversal};
 ghost use Rattle.p3_util.specs.Square.{IsSquareTransposed};
-ghost use Rattle.p3_util.specs.Stages.{IsStageOne, IsStageTwo};
 ghost use Rattle.p3_util.specs.Steps.{counted};
 ghost use Rattle.p3_util.specs.SwapCounts.{square_swaps};
 ghost use Rattle.p3_util.specs.Transpose.{IsTranspose};
 
 use p3_util::bits::log2_ceil_usize;
 use p3_util::places::{Cells, Places, SliceCells, SlicePlaces, Source, Swaps, Writes};
-use p3_util::reverse::reverse_slice_row_index_bits;
 use p3_util::transpose::{
-    Region, butterfly_stage1, butterfly_stage2, fits_matrix, fits_square, transpose,
-    transpose_region_counted, transpose_region_on, transpose_source_region_on,
-    transpose_source_split_on, transpose_split_on, transpose_square_counted, transpose_square_on,
+    Region, fits_matrix, fits_square, transpose, transpose_counted, transpose_region_counted,
+    transpose_region_on, transpose_source_region_on, transpose_source_split_on, transpose_split_on,
+    transpose_square_counted, transpose_square_on,
 };
-use std::alloc::{AllocError, Global};
 
 /// Transposes `matrix`, of `height` rows of `width` items, by way of `scratch`, and returns `true`,
 /// if both have `width * height` items. Otherwise returns `false` and changes nothing.
@@ -42,6 +37,21 @@ pub fn transpose_by_way_of<T: Copy>(
     true
 }
 
+/// Writes the transpose of `input` to `output`, and returns the number of writes.
+pub fn transpose_and_count<T: Copy>(
+    input: &[T],
+    output: &mut [T],
+    width: usize,
+    height: usize,
+) -> u128
+    requires input_fits { length input.now ≡ width * height }
+    requires output_fits { length output.old ≡ width * height }
+    ensures order { IsTranspose width height input.now output.new }
+    ensures count { result ≡ width * height }
+{
+    transpose_counted(input, &mut SliceCells::new(output), width, height)
+}
+
 /// Transposes `matrix` into `scratch` and back. This leaves `matrix` as it was and its transpose in
 /// `scratch`.
 #[tactic(auto, using(p3_util::proofs::Callers::transposed_back))]
@@ -58,37 +68,6 @@ pub fn transpose_there_and_back<T: Copy>(
 {
     transpose(matrix, scratch, width, height);
     transpose(scratch, matrix, height, width);
-}
-
-/// The same by way of a vector. A single `as_mut_slice` serves both calls, since with a loan for
-/// each call the proof search loses the items.
-#[tactic(auto, using(p3_util::proofs::Callers::transposed_back))]
-pub fn transpose_by_vector_and_back<T: Copy + Default>(
-    alloc: Global,
-    matrix: &mut [T],
-    width: usize,
-    height: usize,
-) -> Result<(), AllocError>
-    requires { length matrix.old ≡ width * height }
-    ensures { OnOk result (matrix.new ≡ matrix.old) }
-{
-    let mut scratch = vec![in alloc; T::default(); matrix.len()]?;
-    let items = scratch.as_mut_slice();
-    transpose(matrix, items, width, height);
-    transpose(items, matrix, height, width);
-    Ok(())
-}
-
-/// Only the way back: `transposed` is the transpose of a matrix, and `output` becomes that matrix.
-#[tactic(auto, using(p3_util::proofs::Callers::transposed_back))]
-pub fn transpose_back<T: Copy>(transposed: &[T], output: &mut [T], width: usize, height: usize)
-    requires transposed_fits { length transposed.now ≡ width * height }
-    requires output_fits { length output.old ≡ width * height }
-    ensures { (matrix : List T) → length matrix ≡ width * height
-        → IsTranspose height width matrix transposed.now
-        → output.new ≡ matrix }
-{
-    transpose(transposed, output, width, height);
 }
 
 /// Writes the transpose of one matrix to two slices. Afterwards both have the same items.
@@ -116,17 +95,6 @@ pub fn transpose_one_row<T: Copy>(input: &[T], output: &mut [T])
     ensures { output.new ≡ input.now }
 {
     transpose(input, output, input.len(), 1);
-}
-
-/// The same for a matrix whose width turns out to be 1.
-#[tactic(auto, using(p3_util::proofs::Callers::line_alone))]
-pub fn transpose_one_column<T: Copy>(input: &[T], output: &mut [T], width: usize, height: usize)
-    requires one { width ≡ 1 }
-    requires input_fits { length input.now ≡ width * height }
-    requires output_fits { length output.old ≡ width * height }
-    ensures { output.new ≡ input.now }
-{
-    transpose(input, output, width, height);
 }
 
 /// Transposes a region without rows, which changes nothing.
@@ -228,25 +196,6 @@ pub fn levels_of(rows: usize, cols: usize) -> u32
     (tall + wide) as u32
 }
 
-/// Writes the transpose of `region`, a block of the matrix `input`, to a slice, and returns the
-/// number of writes.
-pub fn transpose_block<T: Copy>(
-    input: &[T],
-    output: &mut [T],
-    region: Region,
-    width: usize,
-    height: usize,
-) -> u128
-    requires input_fits { length input.now ≡ width * height }
-    requires output_fits { length output.old ≡ width * height }
-    requires inside { LiesInMatrix region width height }
-    ensures transposed { IsRegionTransposed region width height input.now output.old output.new }
-    ensures count { result ≡ items_of region }
-{
-    let mut cells = SliceCells::new(output);
-    transpose_region_counted(input, &mut cells, region, width, height)
-}
-
 /// Transposes a matrix of four rows of four items into `scratch` and back. The sides are literals,
 /// which are passed as arguments to another function.
 pub fn transpose_four_and_back<T: Copy>(matrix: &mut [T; 16], scratch: &mut [T; 16])
@@ -267,31 +216,6 @@ pub fn transpose_with_first<T: Copy>(input: &[T], output: &mut [T], width: usize
         → slice_get output.new y ≡ slice_get input.now (y * width) }
 {
     transpose(input, output, width, height);
-}
-
-/// Writes the transpose of `region` to `output`, and leaves all cells outside of it as they were:
-/// above it, below it, on its left and on its right.
-#[tactic(auto, using(p3_util::proofs::Callers::region_others))]
-pub fn transpose_inside<T: Copy>(
-    input: &[T],
-    output: &mut [T],
-    region: Region,
-    width: usize,
-    height: usize,
-)
-    requires input_fits { length input.now ≡ width * height }
-    requires output_fits { length output.old ≡ width * height }
-    requires inside { LiesInMatrix region width height }
-    ensures above { (x y : ℕ) → y < region.row_start → y < height
-        → slice_get output.new (x * height + y) ≡ slice_get output.old (x * height + y) }
-    ensures below { (x y : ℕ) → region.row_end ≤ y → y < height
-        → slice_get output.new (x * height + y) ≡ slice_get output.old (x * height + y) }
-    ensures left { (x y : ℕ) → x < region.col_start → y < height
-        → slice_get output.new (x * height + y) ≡ slice_get output.old (x * height + y) }
-    ensures right { (x y : ℕ) → region.col_end ≤ x → y < height
-        → slice_get output.new (x * height + y) ≡ slice_get output.old (x * height + y) }
-{
-    transpose_block(input, output, region, width, height);
 }
 
 /// Writes the transpose of the first `rows` rows of a source, and counts the writes.
@@ -369,15 +293,6 @@ where
     out.writes()
 }
 
-/// Transposes a block of 4 by 4 items in its two stages. Each stage exchanges one bit of the row
-/// number with one bit of the column number.
-pub fn transpose_in_stages<T: Copy>(block: [[T; 4]; 4]) -> [[T; 4]; 4]
-    ensures { (middle : List (List T)) × IsStageOne block middle × IsStageTwo middle result }
-{
-    let middle = butterfly_stage1(block);
-    butterfly_stage2(middle)
-}
-
 /// Transposes a square in place twice. This leaves the list as it was. A proof file names the lemma.
 pub fn transpose_square_twice<S: Places>(
     m: &mut Swaps<S>,
@@ -393,35 +308,6 @@ pub fn transpose_square_twice<S: Places>(
 {
     transpose_square_on(m, base, log_stride, log_size);
     transpose_square_on(m, base, log_stride, log_size);
-}
-
-/// Reverses `values` by index bits into `scratch`, by way of a matrix: its rows are reversed, it is
-/// transposed, and the rows of the transpose are reversed. A proof file names the lemma.
-pub fn reverse_by_sides<T: Copy>(values: &mut [T], scratch: &mut [T], width: usize, height: usize)
-    requires wide { IsPowerOfTwo width }
-    requires tall { IsPowerOfTwo height }
-    requires values_fit { length values.old ≡ width * height }
-    requires scratch_fits { length scratch.old ≡ width * height }
-    ensures { IsReversal values.old scratch.new }
-{
-    reverse_slice_row_index_bits(values, width);
-    transpose(values, scratch, width, height);
-    reverse_slice_row_index_bits(scratch, height);
-}
-
-/// The transpose of `matrix` as a vector.
-pub fn transposed_copy<T: Copy + Default>(
-    alloc: Global,
-    matrix: &[T],
-    width: usize,
-    height: usize,
-) -> Result<Vec<T>, AllocError>
-    requires { length matrix.now ≡ width * height }
-    ensures { IfOk result (λ v. IsTranspose width height matrix.now v.items) }
-{
-    let mut scratch = vec![in alloc; T::default(); matrix.len()]?;
-    transpose(matrix, &mut scratch, width, height);
-    Ok(scratch)
 }
 
 /// Transposes the columns before `middle`, and those after it. Afterwards the output has what both

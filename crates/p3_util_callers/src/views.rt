@@ -1,15 +1,11 @@
 //! Callers of the views over rows whose length is a parameter or a literal, and of the functions
 //! that move the items of vectors.
 
-ghost use Rattle.std.specs.Prelude.{◌≡◌, ◌+◌, ◌*◌, ◌%◌, ◌^◌, ◌<◌, ◌↔◌, [], IfOk, IfSome, IsTrue, IsFalse, MatchOption, Some, length, slice_get, slice_index_or, slice_set, vec_len};
+ghost use Rattle.std.specs.Prelude.{◌≡◌, ◌+◌, ◌*◌, ◌%◌, ◌^◌, ◌<◌, ◌↔◌, [], IfOk, IsTrue, IsFalse, Some, length, slice_get, slice_index_or, vec_len};
 ghost use Rattle.p3_util.specs.Flat.{flat};
-ghost use Rattle.p3_util.specs.Reversal.{FitsRows, IsReversal, IsRowReversal, IsZeroOrPowerOfTwo};
-ghost use Rattle.p3_util.specs.Transpose.{IsTranspose};
+ghost use Rattle.p3_util.specs.Reversal.{IsReversal, IsZeroOrPowerOfTwo};
 
-use crate::reverse::reversed_rows;
-use p3_util::places::Cells;
-use p3_util::reverse::{fits_rows, reverse_counted, reverse_rows_counted};
-use p3_util::transpose::transpose_source_counted;
+use p3_util::reverse::{fits_rows, reverse_counted};
 use p3_util::{
     as_base_slice, as_base_slice_mut, flat_len, flatten_to_base, reconstitute_from_base,
 };
@@ -46,35 +42,6 @@ pub fn reverse_items_where_they_fit<T, const N: usize>(rows: &mut [[T; N]]) -> b
     fits
 }
 
-/// Reverses the order of the rows by way of their items.
-pub fn reverse_rows<T, const N: usize>(rows: &mut [[T; N]])
-    requires fits { length rows.old * N < 2 ^ 64 }
-    requires power { FitsRows (length (flat rows.old)) N }
-    ensures { IsRowReversal N (flat rows.old) (flat rows.new) }
-{
-    let mut view = as_base_slice_mut(rows);
-    reverse_rows_counted(&mut view, N);
-}
-
-/// Writes the transpose of the items of `input` to the items of `output`, both taken as one list,
-/// and returns the number of writes.
-pub fn transpose_between_views<T: Copy, const N: usize, const M: usize>(
-    input: &[[T; N]],
-    output: &mut [[T; M]],
-    width: usize,
-    height: usize,
-) -> u128
-    requires input_counts { length input.now * N < 2 ^ 64 }
-    requires output_counts { length output.old * M < 2 ^ 64 }
-    requires input_fits { length input.now * N ≡ width * height }
-    requires output_fits { length output.old * M ≡ width * height }
-    ensures order { IsTranspose width height (flat input.now) (flat output.new) }
-    ensures count { result ≡ width * height }
-{
-    let mut cells = as_base_slice_mut(output);
-    transpose_source_counted(&as_base_slice(input), &mut cells, width, height)
-}
-
 /// Reverses the items of a vector of rows, by way of its slice.
 pub fn reverse_items_in_vec<T, const N: usize>(rows: &mut Vec<[T; N]>)
     requires fits { vec_len rows.old * N < 2 ^ 64 }
@@ -95,17 +62,6 @@ pub fn item_of_row<T: Copy, const N: usize>(rows: &[[T; N]], r: usize, c: usize)
     as_base_slice(rows)[r * N + c]
 }
 
-/// Writes `item` to row `row` and column `column`.
-#[tactic(auto, using(p3_util::proofs::Callers::column_inside))]
-pub fn put_at<T: Copy, const N: usize>(rows: &mut [[T; N]], row: usize, column: usize, item: T)
-    requires fits { length rows.old * N < 2 ^ 64 }
-    requires row_inside { row < length rows.old }
-    requires column_inside { column < N }
-    ensures { flat rows.new ≡ slice_set (flat rows.old) (row * N + column) item }
-{
-    as_base_slice_mut(rows).put(row * N + column, item);
-}
-
 /// Makes elements of an extension field of the numbers, four numbers each, and flattens them again,
 /// which returns the same numbers.
 pub fn reconstituted_and_back(alloc: Global, numbers: Vec<u64>) -> Result<Vec<u64>, AllocError>
@@ -119,25 +75,4 @@ pub fn reconstituted_and_back(alloc: Global, numbers: Vec<u64>) -> Result<Vec<u6
         return Err(AllocError);
     };
     Ok(again)
-}
-
-/// The items of `rows` after the order of the rows was reversed by index bits. If they do not fill
-/// rows of `N` items whose number is zero or a power of two, `None`. Without items there is always a
-/// list, for `N = 0` too, whatever the number of `rows` is. The items are moved first, and then
-/// reversed as rows.
-pub fn items_of_reversed<T: Default + Drop, const N: usize>(
-    alloc: Global,
-    rows: Vec<[T; N]>,
-) -> Result<Option<Vec<T>>, AllocError>
-    requires { vec_len rows * N < 2 ^ 64 }
-    ensures { IfOk result (λ r. MatchOption r (¬ FitsRows (vec_len rows * N) N)
-        (λ moved. IsRowReversal N (flat rows.items) moved.items)) }
-{
-    let Ok(items) = flatten_to_base(alloc, rows) else {
-        return Err(AllocError);
-    };
-    if !fits_rows(items.len(), N) {
-        return Ok(None);
-    }
-    Ok(Some(reversed_rows(items, N)))
 }

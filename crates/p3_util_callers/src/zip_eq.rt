@@ -1,12 +1,12 @@
 //! Callers of the zip of iterators of equal lengths. They collect the pairs or iterate over them.
 
-ghost use Rattle.std.specs.Prelude.{◌≡◌, ◌≢◌, ℕ, ◌+◌, ◌*◌, ◌%◌, ◌^◌, ◌<◌, ◌↔◌, IfOk, IfSome, Some, fold, length, map, slice_get, sum, zip};
+ghost use Rattle.std.specs.Prelude.{◌≡◌, ◌≢◌, ℕ, ◌+◌, ◌*◌, ◌%◌, ◌<◌, ◌↔◌, IfOk, IfSome, Some, fold, length, map, slice_get, sum, zip};
 
 use p3_util::zip_eq::zip_eq;
 use std::alloc::{AllocError, Global};
 
 /// Why values and weights were not paired.
-#[derive(Debug, PartialEq, Eq, Drop)]
+#[derive(Drop)]
 pub enum PairError {
     Unequal,
     Memory,
@@ -32,17 +32,6 @@ pub fn weighted(
     pairs.collect(alloc).map_err(|_| PairError::Memory)
 }
 
-/// The pairs of two lists, or `None` if the lengths differ, collected with `?`.
-pub fn paired(alloc: Global, xs: &[u16], ys: &[u16]) -> Result<Option<Vec<(u16, u16)>>, AllocError>
-    ensures { IfOk result (λ r. IfSome r (λ v. v.items ≡ zip xs.now ys.now)) }
-{
-    let Ok(pairs) = zip_eq(xs.iter().copied(), ys.iter().copied(), ()) else {
-        return Ok(None);
-    };
-    let all = pairs.collect::<Vec<(u16, u16)>>(alloc)?;
-    Ok(Some(all))
-}
-
 /// The pairs of two lists, with a contract that states each place: the pair at a place consists of
 /// the two items at it.
 ///
@@ -56,21 +45,6 @@ pub fn paired_by_place(alloc: Global, xs: &[u16], ys: &[u16]) -> Result<Vec<(u16
         → slice_get v.items i ≡ Some (x, y)) }
 {
     zip_eq(xs.iter().copied(), ys.iter().copied(), AllocError)?.collect(alloc)
-}
-
-/// The sum of the products of the pairs, which are collected first. The precondition says that the
-/// sum fits.
-///
-/// # Errors
-///
-/// `AllocError` if the lengths differ or there is no memory for the pairs.
-pub fn inner_product(alloc: Global, xs: &[u16], ys: &[u16]) -> Result<u64, AllocError>
-    requires { sum (map (λ p. p.0 * p.1) (zip xs.now ys.now)) < 2 ^ 64 }
-    ensures { IfOk result (λ s. s ≡ sum (map (λ p. p.0 * p.1) (zip xs.now ys.now))) }
-{
-    let pairs = zip_eq(xs.iter().copied(), ys.iter().copied(), AllocError)?;
-    let all = pairs.collect::<Vec<(u16, u16)>>(alloc)?;
-    Ok(all.iter().map(|p| p.0 as u64 * p.1 as u64).sum())
 }
 
 /// A fold of the products modulo `m` if the lengths are equal. The state is reduced first, since
