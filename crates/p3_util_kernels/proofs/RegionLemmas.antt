@@ -55,6 +55,24 @@ IsRegionTransposed-cut width height input whole first second old mid new low cut
       ∙ s.others p (λ x y k. out x y (inside whole first x y cut.first_inside k));
 }
 
+-- some rows of a region are put, and then the rows below them, and the same of columns
+module _ {A : Type 0} (region : Region) (width height : ℕ) (input old now new : List A) (mid end : ℕ) where
+  pub IsRegionTransposed-rows : region.row_start ≤ mid → mid ≤ end → end ≤ height
+      → IsRegionTransposed (record region { row_end = mid }) width height input old now
+      → IsRegionTransposed (record region { row_start = mid; row_end = end }) width height input now new
+      → IsRegionTransposed (record region { row_end = end }) width height input old new
+  IsRegionTransposed-rows from to low =
+      let done = record region { row_end = end } in
+      IsRegionTransposed-cut width height input done _ _ old now new low (IsCut-rows done mid from to)
+
+  pub IsRegionTransposed-cols : region.col_start ≤ mid → mid ≤ end → region.row_end ≤ height
+      → IsRegionTransposed (record region { col_end = mid }) width height input old now
+      → IsRegionTransposed (record region { col_start = mid; col_end = end }) width height input now new
+      → IsRegionTransposed (record region { col_end = end }) width height input old new
+  IsRegionTransposed-cols from to low =
+      let done = record region { col_end = end } in
+      IsRegionTransposed-cut width height input done _ _ old now new low (IsCut-cols done mid from to)
+
 -- A cell of the region has the item of its row and column, and each other cell stays. Both say the
 -- bounds of the region one by one.
 module _ {A : Type 0} (region : Region) (width height : ℕ) (input old new : List A) where

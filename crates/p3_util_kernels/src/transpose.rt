@@ -20,22 +20,21 @@ ghost use Rattle.p3_util_kernels.specs.Region.{IsRegionTransposed, LiesInMatrix,
 ghost use Rattle.p3_util_kernels.specs.Steps.{counted};
 ghost use Rattle.p3_util_kernels.specs.Transpose.{IsTranspose};
 
-// `regions` defines matrices and regions. `strips` puts a region strip by strip: begin at
-// `Strips::by_shape` if you want to change the strips. `order` is what the caller of a kernel chooses:
-// a large region is put as `split` does, which halves it until its parts are small or narrow, or as
-// `lines` does, which only the plain Rust package chooses. `square` transposes a square in place, for the long path of a bit reversal.
-// No kernel uses `butterfly`.
+// `regions` defines matrices and regions. `ways` has the ways to put a region, which contain each
+// other. `strips` puts a region strip by strip in such ways: begin at `Strips::by_shape` if you want to
+// change the strips. `order` is what the caller of a kernel chooses: columns, strips, or the leaves of
+// `split`, which halves a region until its parts are small or narrow. `square` transposes a square in
+// place, for the long path of a bit reversal. No kernel uses `butterfly`.
 mod butterfly;
 mod order;
 mod regions;
 mod split;
 mod square;
 mod strips;
+mod ways;
 
 use crate::places::{Cells, SliceCells, SliceSource, Source, Writes};
 pub use butterfly::{butterfly_4x4, butterfly_stage1, butterfly_stage2};
-#[doc(hidden)]
-pub use order::PutRegion;
 pub(crate) use order::{LARGE_MATRIX, Order, TINY_MATRIX};
 #[doc(hidden)]
 pub use regions::Matrix;
@@ -43,10 +42,11 @@ pub use regions::Region;
 pub use split::{transpose_source_split_on, transpose_split_on};
 pub(crate) use square::transpose_square;
 pub use square::{fits_square, transpose_square_counted, transpose_square_on};
-use strips::put_strips;
-pub(crate) use strips::{Strips, put_columns};
 #[doc(hidden)]
-pub use strips::{UNIT, put_as_block, put_rest};
+pub use strips::UNIT;
+pub(crate) use strips::{HIGH_ROWS, Strips};
+#[doc(hidden)]
+pub use ways::{Apart, Columns, InCols, PutRegion, put_as_block};
 
 /// How many levels of splits a transpose is given. No matrix needs as many.
 const ENOUGH_LEVELS: u32 = 64;
@@ -311,7 +311,7 @@ fn put_region<M: Cells, R: Source<Item = M::Item> + Copy>(
         ≡ slice_get (M.items out) (x * matrix.height + y) }
     ensures holder { M.same_holder (items_of region) out result }
 {
-    put_strips(out, matrix, region, Strips::by_shape(matrix))
+    Strips::by_shape(matrix).put(out, matrix, region)
 }
 
 /// Runs the kernel on a holder of the slice and returns the slice. The kernel takes the holder by
@@ -345,7 +345,7 @@ fn transpose_by_shape<M: Cells, R: Source<Item = M::Item> + Copy>(out: M, matrix
     ensures holder { M.same_holder (matrix.width * matrix.height) out result }
 {
     match Order::by_shape(matrix) {
-        Order::Columns => transpose_matrix(out, matrix, Order::Columns),
+        Order::Columns => transpose_matrix(out, matrix, Columns),
         _ => transpose_longer(out, matrix),
     }
 }

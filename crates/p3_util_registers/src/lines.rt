@@ -10,7 +10,7 @@ ghost use Rattle.p3_util_registers.specs.Lines.{IsPutTo, cells_before, items_to,
 ghost use Rattle.p3_util_kernels.specs.Region.{IsReady, IsRegionTransposed, items_of, rows_of};
 
 use p3_util_kernels::places::{Cells, Source};
-use p3_util_kernels::transpose::{Matrix, PutRegion, Region, put_as_block, put_rest};
+use p3_util_kernels::transpose::{Apart, Columns, InCols, Matrix, PutRegion, Region, put_as_block};
 
 /// Lines are put in so many columns at a time. The memory pages that these columns are on are few
 /// enough for the processor to keep all of their addresses.
@@ -104,86 +104,62 @@ impl Lines {
 }
 
 impl PutRegion for Lines {
+    #[inline(always)]
     fn put<M: Cells, R: Source<Item = M::Item> + Copy>(
         self,
         out: M,
         matrix: Matrix<R>,
         region: Region,
     ) -> M {
-        if region.row_end > MOST_ROWS {
-            return put_rest(out, matrix, region);
+        let chunk = Chunk(self);
+        InCols::<LINE_COLUMNS, _, _>(chunk, chunk).put(out, matrix, region)
+    }
+}
+
+/// Puts a region by these lines in one chunk: its rows of lines from top to bottom, each from left to right. In the rows of
+/// lines at the top and at the bottom, a column may have a part of a line. There each column is put by itself, or all columns
+/// are put column after column, if they begin at the same cell of a line.
+#[derive(Clone, Copy)]
+struct Chunk(Lines);
+
+impl PutRegion for Chunk {
+    #[inline(never)]
+    fn put<M: Cells, R: Source<Item = M::Item> + Copy>(
+        self,
+        out: M,
+        matrix: Matrix<R>,
+        region: Region,
+    ) -> M {
+        let lines = self.0;
+        if region.row_end > MOST_ROWS || region.col_start == region.col_end {
+            return Apart(Columns).put(out, matrix, region);
         }
-        put_chunks(out, matrix, region, self)
-    }
-}
-
-/// Puts `region` by lines, chunk after chunk.
-fn put_chunks<M: Cells, R: Source<Item = M::Item> + Copy>(
-    out: M,
-    matrix: Matrix<R>,
-    region: Region,
-    lines: Lines,
-) -> M
-    requires few_rows { region.row_end ≤ MOST_ROWS }
-    requires ready { IsReady region matrix.width matrix.height
-        (R.items matrix.source) (M.items out) }
-    ensures transposed { IsRegionTransposed region matrix.width matrix.height
-        (R.items matrix.source) (M.items out) (M.items result) }
-    ensures holder { M.same_holder (items_of region) out result }
-{
-    let mut out = out;
-    let mut col = region.col_start;
-    while col < region.col_end {
-        let end = region.col_end.min(col.saturating_add(LINE_COLUMNS));
-        out = put_chunk(out, matrix, region.with_cols(col, end), lines);
-        col = end;
-    }
-    out
-}
-
-/// Puts a chunk: its rows of lines from top to bottom, each from left to right. In the rows of lines at the top and at the
-/// bottom, a column may have a part of a line. There each column is put by itself, or all columns are put column after column,
-/// if they begin at the same cell of a line.
-#[inline(always)]
-fn put_chunk<M: Cells, R: Source<Item = M::Item> + Copy>(
-    out: M,
-    matrix: Matrix<R>,
-    region: Region,
-    lines: Lines,
-) -> M
-    requires few_rows { region.row_end ≤ MOST_ROWS }
-    requires some_cols { region.col_start < region.col_end }
-    requires ready { IsReady region matrix.width matrix.height
-        (R.items matrix.source) (M.items out) }
-    ensures transposed { IsRegionTransposed region matrix.width matrix.height
-        (R.items matrix.source) (M.items out) (M.items result) }
-    ensures holder { M.same_holder (items_of region) out result }
-{
-    let skew = matrix.height & (lines.cells - 1);
-    let most = lines.most_before(region, skew);
-    let mut out = out;
-    let mut done = 0;
-    while done < region.rows() + most {
-        let next = done + lines.cells;
-        if most <= done && next <= region.rows() {
-            out = put_row(out, matrix, region, lines, skew, done);
-        } else if skew == 0 {
-            let from = lines.limit(region, skew, region.col_start, done);
-            let to = lines.limit(region, skew, region.col_start, next);
-            out = put_rest(out, matrix, region.with_rows(from, to));
-        } else {
-            for col in region.col_start..region.col_end {
-                let from = lines.limit(region, skew, col, done);
-                let to = lines.limit(region, skew, col, next);
-                if from < to {
-                    let part = region.with_rows(from, to).with_cols(col, col + 1);
-                    out = put_as_block(out, matrix, part);
+        let skew = matrix.height & (lines.cells - 1);
+        let most = lines.most_before(region, skew);
+        let mut out = out;
+        let mut done = 0;
+        while done < region.rows() + most {
+            let next = done + lines.cells;
+            if most <= done && next <= region.rows() {
+                out = put_row(out, matrix, region, lines, skew, done);
+            } else if skew == 0 {
+                let from = lines.limit(region, skew, region.col_start, done);
+                let to = lines.limit(region, skew, region.col_start, next);
+                out = Apart(Columns).put(out, matrix, region.with_rows(from, to));
+            } else {
+                for col in region.col_start..region.col_end {
+                    let from = lines.limit(region, skew, col, done);
+                    let to = lines.limit(region, skew, col, next);
+                    if from < to {
+                        let part = region.with_rows(from, to).with_cols(col, col + 1);
+                        out = put_as_block(out, matrix, part);
+                    }
                 }
             }
+            done = next;
         }
-        done = next;
+        out
     }
-    out
 }
 
 /// Puts a row of lines that are whole in every column. Each column is put as far as `done` rows after the line of its first

@@ -214,13 +214,6 @@ pub trait Cells {
     /// ```
     fn put(&mut self, i: usize, v: Self::Item);
 
-    /// Only for speed: whether the holder has a way of its own to put blocks of `side` rows and `side`
-    /// columns. If it has none, no matrix is put by such blocks.
-    #[inline(always)]
-    fn has_blocks(&self, _side: usize) -> bool {
-        true
-    }
-
     /// Only for speed: puts the transpose of a block. For each row r and column c of the block, the
     /// item at index `from + r * width + c` of `source` is put into cell `to + c * height + r`. All
     /// other cells keep their items. The columns of the block must not overlap in the cells. A

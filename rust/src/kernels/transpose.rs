@@ -16,30 +16,30 @@
 //! one write. The order of the writes, and the choice of strips on which this order depends, are
 //! only tested.
 
-// `regions` defines matrices and regions. `strips` puts a region strip by strip: begin at
-// `Strips::by_shape` if you want to change the strips. `order` is what the caller of a kernel chooses:
-// a large region is put as `split` does, which halves it until its parts are small or narrow, or as
-// `lines` does, which only the plain Rust package chooses. `square` transposes a square in place, for the long path of a bit reversal.
-// No kernel uses `butterfly`.
+// `regions` defines matrices and regions. `ways` has the ways to put a region, which contain each
+// other. `strips` puts a region strip by strip in such ways: begin at `Strips::by_shape` if you want to
+// change the strips. `order` is what the caller of a kernel chooses: columns, strips, or the leaves of
+// `split`, which halves a region until its parts are small or narrow. `square` transposes a square in
+// place, for the long path of a bit reversal. No kernel uses `butterfly`.
 mod butterfly;
 mod order;
 mod regions;
 mod split;
 mod square;
 mod strips;
+mod ways;
 
 use crate::kernels::places::{Cells, SliceCells, SliceSource, Source, Writes};
 pub use butterfly::{butterfly_4x4, butterfly_stage1, butterfly_stage2};
-pub(crate) use order::PutRegion;
 pub(crate) use order::{LARGE_MATRIX, Order, TINY_MATRIX};
 pub(crate) use regions::Matrix;
 pub use regions::Region;
 pub use split::{transpose_source_split_on, transpose_split_on};
 pub(crate) use square::transpose_square;
 pub use square::{fits_square, transpose_square_counted, transpose_square_on};
-use strips::put_strips;
-pub(crate) use strips::{Strips, put_columns};
-pub(crate) use strips::{UNIT, put_as_block, put_rest};
+pub(crate) use strips::UNIT;
+pub(crate) use strips::{HIGH_ROWS, Strips};
+pub(crate) use ways::{Apart, Columns, InCols, PutRegion, put_as_block};
 
 /// How many levels of splits a transpose is given. No matrix needs as many.
 const ENOUGH_LEVELS: u32 = 64;
@@ -400,7 +400,7 @@ fn put_region<M: Cells, R: Source<Item = M::Item> + Copy>(
     matrix: Matrix<R>,
     region: Region,
 ) -> M {
-    put_strips(out, matrix, region, Strips::by_shape(matrix))
+    Strips::by_shape(matrix).put(out, matrix, region)
 }
 
 /// Runs the kernel on a holder of the slice and returns the slice. The kernel takes the holder by
@@ -442,7 +442,7 @@ fn transpose_items<T: Copy, R: Source<Item = T> + Copy>(
 #[inline(always)]
 fn transpose_by_shape<M: Cells, R: Source<Item = M::Item> + Copy>(out: M, matrix: Matrix<R>) -> M {
     match Order::by_shape(matrix) {
-        Order::Columns => transpose_matrix(out, matrix, Order::Columns),
+        Order::Columns => transpose_matrix(out, matrix, Columns),
         _ => transpose_longer(out, matrix),
     }
 }

@@ -5,7 +5,7 @@ use super::parts::RowPlan;
 use super::ways::{LONG_BYTES, Limits, ShortWay, Way, short_way_of, side_of, strips_of, way_of};
 use crate::kernels::places::{Cells, Places, Source};
 use crate::kernels::reverse::{self, RowDigits, reverse_short};
-use crate::kernels::transpose::{Matrix, Order, PutRegion, Region, put_as_block, put_columns};
+use crate::kernels::transpose::{Columns, Matrix, Order, PutRegion, Region, put_as_block};
 
 /// Reverses items by index bits. Their number is zero or a power of two.
 #[inline(never)]
@@ -29,7 +29,7 @@ pub(super) fn put<M: Output>(source: impl Input<M::Item>, cells: M, width: usize
         Some(ShortWay::Block) if const { side_of(size_of::<M::Item>()) > 1 } => put_block(source, cells, width, height),
         Some(ShortWay::Columns) if const { size_of::<M::Item>() < LONG_BYTES } => {
             let matrix = Matrix::new(source, width, height);
-            let _ = put_columns(cells, matrix, matrix.whole());
+            let _ = Columns.put(cells, matrix, matrix.whole());
         }
         _ => put_apart(source, cells, width, height),
     }
@@ -56,11 +56,22 @@ pub(super) fn put_region<M: Output>(cells: M, matrix: Matrix<impl Input<M::Item>
     }
 }
 
-/// Puts a region, or a matrix that has no short way. Long items are put by their indices.
+/// Puts a region, or a matrix that has no short way. The side of the squares is a constant, so that an instance has no code
+/// for other squares.
 #[inline(always)]
 fn run<M: Output>(cells: M, matrix: Matrix<impl Input<M::Item>>, region: Option<Region>) {
+    match const { side_of(size_of::<M::Item>()) } {
+        4 => run_by::<4, M>(cells, matrix, region),
+        8 => run_by::<8, M>(cells, matrix, region),
+        _ => run_by::<1, M>(cells, matrix, region),
+    }
+}
+
+/// Long items are put by their indices.
+#[inline(always)]
+fn run_by<const SIDE: usize, M: Output>(cells: M, matrix: Matrix<impl Input<M::Item>>, region: Option<Region>) {
     let (size, Matrix { source, width, height }) = (const { size_of::<M::Item>() }, matrix);
-    let strips = strips_of(size, width, height);
+    let strips = strips_of::<SIDE>(size, width, height);
     let way = way_of(Limits::HERE, size, [width, height], region, cells.address());
     let region = region.unwrap_or(matrix.whole());
     let order = match way {

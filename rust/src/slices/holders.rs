@@ -242,11 +242,6 @@ const FAR_BYTES: usize = 1 << 23;
 impl<T: Copy, D: squares::Register<T>, const LAST: bool> Cells for SliceItems<'_, T, D, LAST> {
     type Item = T;
 
-    #[inline(always)]
-    fn has_blocks(&self, side: usize) -> bool {
-        D::SIDE > 1 && side == side_of(size_of::<T>())
-    }
-
     fn len(&self) -> usize {
         self.len
     }
@@ -282,7 +277,7 @@ impl<T: Copy, D: squares::Register<T>, const LAST: bool> Cells for SliceItems<'_
                 let items = SliceItems::<T, D>::of(items.as_ptr().cast_mut(), items.len());
                 squares::line_blocks::put_by_lines::<T, D, _, _>(self, &items, block);
             }
-            Some(items) if const { D::SIDE > 1 } && cols == rows && Self::has_blocks(self, rows) => {
+            Some(items) if const { D::SIDE > 1 } && cols == rows && rows == const { side_of(size_of::<T>()) } => {
                 let items = SliceItems::<T, D>::of(items.as_ptr().cast_mut(), items.len());
                 squares::put_by_squares::<T, D, _, _>(self, &items, block);
             }

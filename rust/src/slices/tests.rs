@@ -16,10 +16,11 @@ use super::holders::SliceItems;
 use super::holders::{Items, Register as Vector, USES_REGISTERS};
 use super::holders::{SliceItems as SliceCells, SliceItems as SlicePlaces, SliceSource};
 use super::parts::{ReversalPart, TransposePart};
+use super::ways::HighStrips;
 use crate::kernels::places::{Block, Cells, Places, Source};
 #[cfg(not(feature = "checked"))]
 use crate::kernels::registers::{Pair, Paired, Register, Single, Two};
-use crate::kernels::transpose::{Matrix, Order, Strips, transpose_matrix, transpose_square};
+use crate::kernels::transpose::{Matrix, transpose_matrix, transpose_square};
 
 /// Makes the holder of a list that is tested.
 trait Hold<'a, T> {
@@ -539,7 +540,11 @@ fn is_transposed<T: Copy + PartialEq + 'static>(width: usize, height: usize, ite
     of_each_holder!(T, Holder => for side in [4, 8] {
         let mut output = blank.clone();
         let matrix = Matrix::new(SliceSource::new(&input), width, height);
-        let _ = transpose_matrix(Holder::hold_cells(&mut output), matrix, Order::Strips(Strips::high(side)));
+        let cells = Holder::hold_cells(&mut output);
+        let _ = match side {
+            4 => transpose_matrix(cells, matrix, HighStrips::<4>::Squares),
+            _ => transpose_matrix(cells, matrix, HighStrips::<8>::Squares),
+        };
         assert!(output == expected, "{width} by {height}, by blocks of {side} by {side}");
     });
     let mut by_call = blank.clone();

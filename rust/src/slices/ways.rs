@@ -25,7 +25,7 @@
 //! of them fit no matrix.
 
 use super::holders::USES_REGISTERS;
-use crate::kernels::transpose::{LARGE_MATRIX, Region, Strips, TINY_MATRIX};
+use crate::kernels::transpose::{HIGH_ROWS, LARGE_MATRIX, Region, Strips, TINY_MATRIX};
 
 /// The bytes of a cache line.
 pub(super) const LINE: usize = 64;
@@ -143,17 +143,21 @@ pub(super) fn way_of(limits: &Limits, size: usize, sides: [usize; 2], region: Op
     }
 }
 
-/// The strips of a matrix, and of the leaves of its parts.
+/// The strips of the package, which are high if they are put by squares of `SIDE` by `SIDE` items.
+pub(super) type HighStrips<const SIDE: usize> = Strips<SIDE, HIGH_ROWS>;
+
+/// The strips of a matrix, and of the leaves of its parts. `SIDE` is `side_of` these items.
 #[inline(always)]
-pub(super) fn strips_of(size: usize, width: usize, height: usize) -> Strips {
+pub(super) fn strips_of<const SIDE: usize>(size: usize, width: usize, height: usize) -> HighStrips<SIDE> {
     let long_items = if width % 512 == 0 {
         BLOCKS_FAR_ROWS
     } else {
         BLOCKS_LONG_ITEMS
     };
-    match side_of(size) {
-        side if side > 1 && (size < 8 || IS_AARCH64 || width * height <= long_items) => Strips::high(side),
-        _ => Strips::by_width(width),
+    if SIDE > 1 && (size < 8 || IS_AARCH64 || width * height <= long_items) {
+        Strips::Squares
+    } else {
+        Strips::by_width(width)
     }
 }
 

@@ -207,11 +207,6 @@ impl<C: Cells> Cells for Writes<C> {
     }
 
     #[inline(always)]
-    fn has_blocks(&self, side: usize) -> bool {
-        self.holder.has_blocks(side)
-    }
-
-    #[inline(always)]
     fn put_block<R: Source<Item = Self::Item>>(&mut self, source: &R, block: Block) {
         self.holder.put_block(source, block);
         let items = block.rows as u128 * block.cols as u128;

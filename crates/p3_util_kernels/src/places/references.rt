@@ -66,11 +66,6 @@ impl<C: Cells> Cells for &mut C {
     }
 
     #[inline(always)]
-    fn has_blocks(&self, side: usize) -> bool {
-        C::has_blocks(self, side)
-    }
-
-    #[inline(always)]
     fn put_block<R: Source<Item = Self::Item>>(&mut self, source: &R, block: Block) {
         C::put_block(self, source, block);
     }

@@ -64,11 +64,6 @@ impl<C: Cells> Cells for PutSteps<C> {
         self.cells.put(i, v);
     }
 
-    // Whatever the holder of a part answers, these laws are true of it.
-    fn has_blocks(&self, side: usize) -> bool {
-        self.cells.has_blocks(side)
-    }
-
     ghost same_holder_refl = { λ a. no_puts (C.items a.cells) };
 
     ghost same_holder_trans = { λ m n all a b c. more_puts m n all (C.items a.cells)

@@ -5,7 +5,8 @@ use crate::kernels::places::{Cells, Source};
 use crate::kernels::transpose::ENOUGH_LEVELS;
 use crate::kernels::transpose::regions::{Matrix, Region};
 use crate::kernels::transpose::split::put_split;
-use crate::kernels::transpose::strips::{Strips, put_columns, put_strips};
+use crate::kernels::transpose::strips::{Strips, UNIT};
+use crate::kernels::transpose::ways::{Columns, PutRegion};
 
 /// A matrix of fewer items is put column after column.
 pub(crate) const TINY_MATRIX: usize = 128;
@@ -13,40 +14,18 @@ pub(crate) const TINY_MATRIX: usize = 128;
 /// The greatest number of items of a matrix that is not split.
 pub(crate) const LARGE_MATRIX: usize = 1_048_576;
 
-/// A way to put a region: an [`Order`], or `Lines` of the crate `p3_util_registers`. The caller of a
-/// kernel chooses it. The contract is the same for all of them.
-pub(crate) trait PutRegion: Copy {
-    /// Puts `region` in this way.
-    ///
-    /// # Contract
-    ///
-    /// ```text
-    /// requires ready { IsReady region matrix.width matrix.height
-    ///     (R.items matrix.source) (M.items out) }
-    /// ensures transposed { IsRegionTransposed region matrix.width matrix.height
-    ///     (R.items matrix.source) (M.items out) (M.items result) }
-    /// ensures holder { M.same_holder (items_of region) out result }
-    /// ```
-    fn put<M: Cells, R: Source<Item = M::Item> + Copy>(
-        self,
-        out: M,
-        matrix: Matrix<R>,
-        region: Region,
-    ) -> M;
-}
-
 /// An order in which a matrix or a region of it is put.
-#[derive(Clone, Copy, PartialEq, Eq)]
-pub(crate) enum Order {
+#[derive(Clone, Copy)]
+pub(crate) enum Order<const SIDE: usize, const ROWS: usize> {
     /// Column after column, each from its first row to its last.
     Columns,
     /// Strip by strip.
-    Strips(Strips),
+    Strips(Strips<SIDE, ROWS>),
     /// Leaf by leaf, as the region is split, and each leaf strip by strip.
-    Leaves(Strips),
+    Leaves(Strips<SIDE, ROWS>),
 }
 
-impl Order {
+impl Order<4, UNIT> {
     /// The order for a whole matrix, chosen by its shape alone. Every call in Rattle uses this
     /// choice. The plain Rust package knows the size of an item and has a choice of its own.
     ///
@@ -56,7 +35,7 @@ impl Order {
     /// ensures length_fits { length (R.items matrix.source) < 2 ^ 64 }
     /// ```
     #[inline(always)]
-    pub(crate) fn by_shape<R: Source + Copy>(matrix: Matrix<R>) -> Order {
+    pub(crate) fn by_shape<R: Source + Copy>(matrix: Matrix<R>) -> Self {
         let strips = Strips::by_shape(matrix);
         // A matrix without items may have very many columns, which have no rows.
         let items = matrix.source.len();
@@ -70,7 +49,7 @@ impl Order {
     }
 }
 
-impl PutRegion for Order {
+impl<const SIDE: usize, const ROWS: usize> PutRegion for Order<SIDE, ROWS> {
     #[inline(always)]
     fn put<M: Cells, R: Source<Item = M::Item> + Copy>(
         self,
@@ -79,10 +58,8 @@ impl PutRegion for Order {
         region: Region,
     ) -> M {
         match self {
-            // A region without rows has no item.
-            Order::Columns if region.row_start == region.row_end => out,
-            Order::Columns => put_columns(out, matrix, region),
-            Order::Strips(strips) => put_strips(out, matrix, region, strips),
+            Order::Columns => Columns.put(out, matrix, region),
+            Order::Strips(strips) => strips.put(out, matrix, region),
             Order::Leaves(strips) => {
                 let (out, _) = put_split(out, matrix, region, ENOUGH_LEVELS, strips);
                 out

@@ -4,7 +4,8 @@
 
 use crate::kernels::places::{Cells, SliceSource, Source, Writes};
 use crate::kernels::transpose::regions::{Matrix, Region};
-use crate::kernels::transpose::strips::{Strips, put_strips};
+use crate::kernels::transpose::strips::Strips;
+use crate::kernels::transpose::ways::PutRegion;
 
 /// A part is a leaf if neither of its sides is greater than this.
 const LEAF_SIDE: usize = 128;
@@ -139,8 +140,7 @@ fn put_split_resumed<C: Cells, R: Source<Item = C::Item> + Copy>(
 }
 
 /// The kernel of [`transpose_source_split_on`]. Splits `region` into leaves, with splits that nest
-/// at most `levels` deep, and puts each leaf in the strips `strips`. Also returns how deep
-/// the splits nest.
+/// at most `levels` deep, and puts each leaf in the way `leaf`. Also returns how deep the splits nest.
 ///
 /// # Contract
 ///
@@ -155,19 +155,19 @@ fn put_split_resumed<C: Cells, R: Source<Item = C::Item> + Copy>(
 /// ensures nested { result.1 ≡ nest (rows_of region) (cols_of region) }
 /// ensures bound { result.1 ≤ 57 }
 /// ```
-pub(crate) fn put_split<M: Cells, R: Source<Item = M::Item> + Copy>(
+pub(crate) fn put_split<M: Cells, R: Source<Item = M::Item> + Copy, W: PutRegion>(
     out: M,
     matrix: Matrix<R>,
     region: Region,
     levels: u32,
-    strips: Strips,
+    leaf: W,
 ) -> (M, u32) {
     if is_leaf(region) {
-        return (put_strips(out, matrix, region, strips), 0);
+        return (leaf.put(out, matrix, region), 0);
     }
     let (first, second) = cut_in_half(region);
-    let (out, nested) = put_split(out, matrix, first, levels - 1, strips);
-    let (out, nested_after) = put_split(out, matrix, second, levels - 1, strips);
+    let (out, nested) = put_split(out, matrix, first, levels - 1, leaf);
+    let (out, nested_after) = put_split(out, matrix, second, levels - 1, leaf);
     (out, 1 + nested.max(nested_after))
 }
 

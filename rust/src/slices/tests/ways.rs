@@ -4,9 +4,9 @@ use core::ops::Range;
 use std::vec::Vec;
 
 use super::super::holders::USES_REGISTERS;
-use super::super::ways::{Limits, ShortWay, Way, short_way_of, side_of, strips_of, way_of};
+use super::super::ways::{HighStrips, Limits, ShortWay, Way, short_way_of, side_of, strips_of, way_of};
 use crate::kernels::places::{Block, Cells, SliceSource, Source};
-use crate::kernels::transpose::{Matrix, Order, Region, Strips, transpose_matrix};
+use crate::kernels::transpose::{Matrix, PutRegion, Region, Strips, transpose_matrix};
 
 const IS_AARCH64: bool = cfg!(target_arch = "aarch64");
 
@@ -89,11 +89,7 @@ fn strips() {
         (256, 129),
         (768, 43),
     ] {
-        let by_width = if width % 16 == 0 {
-            Strips::low()
-        } else {
-            Strips::high(1)
-        };
+        let by_width = if width % 16 == 0 { "low" } else { "high" };
         for size in [0, 1, 2, 3, 4, 8, 12, 16, 32, 64] {
             let most = match size {
                 1 | 2 | 4 => usize::MAX,
@@ -103,13 +99,25 @@ fn strips() {
                 _ => 0,
             };
             let by_blocks = USES_REGISTERS && width * height <= most;
-            let wanted = if by_blocks {
-                Strips::high(side_of(size))
-            } else {
-                by_width
+            let strips = match side_of(size) {
+                4 => name(strips_of::<4>(size, width, height)),
+                8 => name(strips_of::<8>(size, width, height)),
+                side => {
+                    assert_eq!(side, 1);
+                    name(strips_of::<1>(size, width, height))
+                }
             };
-            assert!(strips_of(size, width, height) == wanted, "{size} {width} {height}");
+            let wanted = if by_blocks { "squares" } else { by_width };
+            assert_eq!(strips, wanted, "{size} {width} {height}");
         }
+    }
+}
+
+fn name<const SIDE: usize>(strips: HighStrips<SIDE>) -> &'static str {
+    match strips {
+        Strips::High => "high",
+        Strips::Low => "low",
+        Strips::Squares => "squares",
     }
 }
 
@@ -235,14 +243,14 @@ fn by_strips_of_blocks(width: usize, height: usize, side: usize) -> Vec<(usize, 
 }
 
 /// Checks that a transpose by these strips puts the items in this order of their columns and rows.
-fn check_order(strips: Strips, (width, height): (usize, usize), order: Vec<(usize, usize)>) {
+fn check_order(strips: impl PutRegion, (width, height): (usize, usize), order: Vec<(usize, usize)>) {
     let input: Vec<usize> = (0..width * height).collect();
     let blank = Noted {
         items: input.clone(),
         puts: Vec::new(),
     };
     let matrix = Matrix::new(SliceSource::new(&input), width, height);
-    let Noted { items, puts } = transpose_matrix(blank, matrix, Order::Strips(strips));
+    let Noted { items, puts } = transpose_matrix(blank, matrix, strips);
     let places = puts.iter().map(|place| (place / height, place % height));
     assert!(places.eq(order), "{width} by {height}");
     let transposed = |place: usize| place % height * width + place / height;
@@ -266,8 +274,8 @@ fn strips_of_blocks_in_order() {
         (7, 263),
     ] {
         let order = |side| by_strips_of_blocks(width, height, side);
-        check_order(Strips::high(4), (width, height), order(4));
-        check_order(Strips::high(8), (width, height), order(8));
+        check_order(HighStrips::<4>::Squares, (width, height), order(4));
+        check_order(HighStrips::<8>::Squares, (width, height), order(8));
     }
 }
 
@@ -320,7 +328,10 @@ fn put_by_blocks(width: usize, height: usize, side: usize, changed: bool) -> ByB
         blocks: 0,
     };
     let matrix = Matrix::new(SliceSource::new(&input), width, height);
-    transpose_matrix(blank, matrix, Order::Strips(Strips::high(side)))
+    match side {
+        4 => transpose_matrix(blank, matrix, HighStrips::<4>::Squares),
+        _ => transpose_matrix(blank, matrix, HighStrips::<8>::Squares),
+    }
 }
 
 #[test]

@@ -6,7 +6,7 @@ use std::vec::Vec;
 
 use super::super::super::by_type;
 use super::super::super::holders::USES_REGISTERS;
-use super::super::super::ways::strips_of;
+use super::super::super::ways::{side_of, strips_of};
 use super::super::*;
 use crate::kernels::places::Source;
 use crate::kernels::transpose::{Order, transpose_matrix};
@@ -81,6 +81,17 @@ fn each_item_is_read_once() {
     }
 }
 
+/// Puts a matrix by the strips that suit the size of its items.
+fn put_by_strips<T: Copy>(output: &mut [T], matrix: Matrix<impl Source<Item = T> + Copy>) {
+    let (size, Matrix { width, height, .. }) = (size_of::<T>(), matrix);
+    let cells = SliceItems::new(output);
+    let _ = match side_of(size) {
+        4 => transpose_matrix(cells, matrix, strips_of::<4>(size, width, height)),
+        8 => transpose_matrix(cells, matrix, strips_of::<8>(size, width, height)),
+        _ => transpose_matrix(cells, matrix, strips_of::<1>(size, width, height)),
+    };
+}
+
 /// The parts use the strips that suit the size of the items and the whole matrix. For a small matrix of large items these
 /// are not the strips that the kernels choose. Nor are they for items of up to 8 bytes, if blocks of them are transposed in
 /// registers.
@@ -93,12 +104,11 @@ fn strips_of_the_parts() {
         let by_strips = |by_size: bool| {
             reads::<T>(width * height, |_, output, source| {
                 let matrix = Matrix::new(source, width, height);
-                let order = if by_size {
-                    Order::Strips(strips_of(size_of::<T>(), width, height))
+                if by_size {
+                    put_by_strips(output, matrix);
                 } else {
-                    Order::by_shape(matrix)
-                };
-                let _ = transpose_matrix(SliceItems::new(output), matrix, order);
+                    let _ = transpose_matrix(SliceItems::new(output), matrix, Order::by_shape(matrix));
+                }
             })
         };
         assert!(by_parts == by_strips(true), "{width} by {height}");
@@ -125,11 +135,7 @@ fn strips_of_calls_on_slices() {
         });
         let by_strips = reads::<T>(width * height, |_, output, source| {
             let matrix = Matrix::new(source, width, height);
-            let _ = transpose_matrix(
-                SliceItems::new(output),
-                matrix,
-                Order::Strips(strips_of(size_of::<T>(), width, height)),
-            );
+            put_by_strips(output, matrix);
         });
         assert!(by_call == by_strips, "{width} by {height}");
     }

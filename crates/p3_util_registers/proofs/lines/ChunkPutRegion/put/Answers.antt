@@ -3,12 +3,12 @@ use Rattle.std.proofs.Common.{◌≡◌, ℕ, ◌+◌, ◌-◌, ◌<◌, ◌≤�
 use Rattle.p3_util_registers.specs.Lines.{items_to, limit}
 use Rattle.p3_util_kernels.specs.Region.{items_of}
 use Rattle.p3_util_registers.proofs.LinesLemmas.{IsPutTo-all, IsPutTo-none, IsPutTo-same, ahead, ahead-here, ahead-left, ahead-right, ahead-still, further, items_to-all, items_to-none, items_to-same, limit-all, limit-more, limit-none}
-use Rattle.p3_util_registers.proofs.lines.put_chunk.Goals as goal
-use Rattle.p3_util_registers.proofs.lines.put_chunk.Goals.{then-from-to, else-from-to}
+use Rattle.p3_util_registers.proofs.lines.ChunkPutRegion.put.Goals as goal
+use Rattle.p3_util_registers.proofs.lines.ChunkPutRegion.put.Goals.{then-from-to, else-from-to}
 
 pub loop-done-init : goal.loop-done-init
 loop-done-init g c =
-    let none = limit-none c.args.region c.args.lines.cells c.args.lines.before _ c.requires.ready.inside.rows_in_order in
+    let none = limit-none c.args.region c.args.self.0.cells c.args.self.0.before _ c.requires.ready.inside.rows_in_order in
     record {
       put = IsPutTo-none c.args.region _ _ _ _ _ none;
       holder = rw (items_to-none c.args.region _ none) (g.met.M.Cells.same_holder_refl _);
@@ -25,7 +25,7 @@ loop-col-init g c = record {
 pub loop-col-preserved : goal.loop-col-preserved
 loop-col-preserved g c =
     let region = c.args.region in
-    let lines = c.args.lines in
+    let lines = c.args.self.0 in
     let skew = bit_and c.args.matrix.height (lines.cells - 1) in
     let order = c.requires.ready.inside.rows_in_order in
     let done = c.loop-done.done in
@@ -67,7 +67,7 @@ loop-done-preserved-then-next-rows g c = record {
 pub loop-done-preserved-then-skew-eq0 : goal.loop-done-preserved-then-skew-eq0
 loop-done-preserved-then-skew-eq0 g c =
     let region = c.args.region in
-    let lines = c.args.lines in
+    let lines = c.args.self.0 in
     let skew = bit_and c.args.matrix.height (lines.cells - 1) in
     let order = c.requires.ready.inside.rows_in_order in
     let done = c.loop-done.done in
@@ -78,17 +78,17 @@ loop-done-preserved-then-skew-eq0 g c =
     let first : (x : ℕ) → region.col_start ≤ x → x < region.col_end → ahead region.col_start f next x ≡ f x = λ x from to. ahead-right region.col_start f next x from in
     let last : (x : ℕ) → region.col_start ≤ x → x < region.col_end → next x ≡ ahead region.col_end f next x = λ x from to. sym (ahead-left region.col_end f next x to) in
     let step = further region c.args.matrix.width c.args.matrix.height (g.R.Source.items c.args.matrix.source) _ _ lines.cells lines.before skew done (done + lines.cells) from to region.col_start region.col_end order (omega arith) (omega arith) (omega arith) (omega arith) (omega arith)
-    (inl c.if-skew-eq0.true) c.limit-from.ensures c.limit-to.ensures (rw c.with_rows.ensures at c.put_rest-out.ensures.transposed) in
+    (inl c.if-skew-eq0.true) c.limit-from.ensures c.limit-to.ensures (rw c.with_rows.ensures at c.put-out.ensures.transposed) in
     record {
       put = IsPutTo-same region _ _ _ (ahead region.col_end f next) next _ _ last (step.0 _ (IsPutTo-same region _ _ _ f (ahead region.col_start f next) _ _ first c.loop-done.invariant.put));
       holder = rw (items_to-same region (ahead region.col_end f next) next last)
-          (g.met.M.Cells.same_holder_trans _ _ _ _ _ _ (rw (items_to-same region f (ahead region.col_start f next) first) c.loop-done.invariant.holder) (rw c.with_rows.ensures at c.put_rest-out.ensures.holder) step.1);
+          (g.met.M.Cells.same_holder_trans _ _ _ _ _ _ (rw (items_to-same region f (ahead region.col_start f next) first) c.loop-done.invariant.holder) (rw c.with_rows.ensures at c.put-out.ensures.holder) step.1);
     }
 
 pub loop-done-preserved : goal.loop-done-preserved
 loop-done-preserved g c =
     let region = c.args.region in
-    let lines = c.args.lines in
+    let lines = c.args.self.0 in
     let skew = bit_and c.args.matrix.height (lines.cells - 1) in
     let f : ℕ → ℕ = limit region lines.cells lines.before skew c.loop-done.done in
     let next : ℕ → ℕ = limit region lines.cells lines.before skew (c.loop-done.done + lines.cells) in
@@ -102,13 +102,13 @@ loop-done-preserved g c =
 pub returns-clause-transposed : goal.returns-clause-transposed
 returns-clause-transposed g c =
     IsPutTo-all c.args.region _ _ _ _ _ _
-    (λ x. limit-all c.args.region c.args.lines.cells c.args.lines.before _ c.requires.ready.inside.rows_in_order c.most_before-most.result c.loop-done.done x (c.most_before-most.ensures.most x) (omega arith))
+    (λ x. limit-all c.args.region c.args.self.0.cells c.args.self.0.before _ c.requires.ready.inside.rows_in_order c.most_before-most.result c.loop-done.done x (c.most_before-most.ensures.most x) (omega arith))
     c.loop-done.invariant.put
 
 pub returns-clause-holder : goal.returns-clause-holder
 returns-clause-holder g c =
     let region = c.args.region in
-    let lines = c.args.lines in
+    let lines = c.args.self.0 in
     let skew = bit_and c.args.matrix.height (lines.cells - 1) in
     let last : ℕ → ℕ = limit region lines.cells lines.before skew c.loop-done.done in
     let all : items_to region last ≡ items_of region =

@@ -1,6 +1,6 @@
 use Rattle.std.proofs.Common.{◌-◌, ◌*◌, ◌≤◌}
 use Rattle.p3_util_kernels.specs.Region.{IsRegionTransposed, cols_of}
-use Rattle.p3_util_kernels.proofs.transpose.strips.put_strips_of.Given as goal
+use Rattle.p3_util_kernels.proofs.transpose.ways.InRowsPutRegion.put.Given as goal
 
 -- the rows before `row` are put
 abbrev pub invariant-loop-row : goal.invariant-loop-row

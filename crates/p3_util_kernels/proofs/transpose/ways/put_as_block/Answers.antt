@@ -1,6 +1,6 @@
 -- The block is the region: its items are in the lists, and once it is put, the region is transposed.
 use Rattle.p3_util_kernels.proofs.BlockPutLemmas.{BlockFits-region, IsRegionTransposed-block}
-use Rattle.p3_util_kernels.proofs.transpose.strips.put_as_block.Goals as goal
+use Rattle.p3_util_kernels.proofs.transpose.ways.put_as_block.Goals as goal
 
 pub put_block-requires : goal.put_block-requires
 put_block-requires g c = rw (c.rows.ensures, c.cols.ensures) (BlockFits-region c.args.region c.args.matrix.width c.args.matrix.height _ _ c.requires.ready)

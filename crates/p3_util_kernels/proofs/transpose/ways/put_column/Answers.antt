@@ -2,8 +2,8 @@
 -- column is added.
 use Rattle.std.proofs.Common.{◌≡◌, ◌+◌, ◌-◌, ◌*◌, ◌/◌, arith}
 use Rattle.p3_util_kernels.proofs.ColumnsLemmas.{HoldsColumn-some, IsColumnPut-more}
-use Rattle.p3_util_kernels.specs.declared.transpose.strips.TheConstants.{COLUMN_ITEMS}
-use Rattle.p3_util_kernels.proofs.transpose.strips.put_column.Goals as goal
+use Rattle.p3_util_kernels.specs.declared.transpose.ways.TheConstants.{COLUMN_ITEMS}
+use Rattle.p3_util_kernels.proofs.transpose.ways.put_column.Goals as goal
 
 pub put_items-out-requires : goal.put_items-out-requires
 put_items-out-requires g c = record {

@@ -2,11 +2,11 @@
 use Rattle.std.proofs.Common.{◌≡◌, ◌+◌, ◌-◌, arith}
 use Rattle.p3_util_kernels.proofs.ColumnsLemmas.{HoldsColumn-region, IsRegionTransposed-column}
 use Rattle.p3_util_kernels.proofs.RegionLemmas.{IsCut-cols, IsRegionTransposed-cut}
-use Rattle.p3_util_kernels.proofs.transpose.strips.put_columns.Goals as goal
+use Rattle.p3_util_kernels.proofs.transpose.ways.ColumnsPutRegion.put.Goals as goal
 
 pub put_column-out-requires : goal.put_column-out-requires
 put_column-out-requires g c = record {
-  column = rw c.rows.ensures (HoldsColumn-region c.args.region _ c.args.matrix.height c.loop-col.col _ _ _ c.requires.some_rows c.loop-col-test.true c.loop-col.invariant.transposed.same_length c.requires.ready);
+  column = rw c.rows.ensures (HoldsColumn-region c.args.region _ c.args.matrix.height c.loop-col.col _ _ _ (omega arith) c.loop-col-test.true c.loop-col.invariant.transposed.same_length c.requires.ready);
 }
 
 pub loop-col-preserved : goal.loop-col-preserved

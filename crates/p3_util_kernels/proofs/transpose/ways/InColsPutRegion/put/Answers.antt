@@ -1,0 +1,43 @@
+-- Each turn of the loop puts one more part. Then follow the columns that remain.
+use Rattle.std.proofs.Common.{◌≡◌, ◌+◌, ◌-◌, ◌*◌, ◌/◌, ◌≤◌, arith}
+use Rattle.std.proofs.Math.Nat.{div-mul-le_self, mul-le-mul_right}
+use Rattle.p3_util_kernels.proofs.RegionLemmas.{IsCut-cols, IsRegionTransposed-cols}
+use Rattle.p3_util_kernels.proofs.transpose.ways.InColsPutRegion.put.Goals as goal
+
+pub loop-part-preserved : goal.loop-part-preserved
+loop-part-preserved g c =
+    let cols = c.max-cols.result in
+    let col = c.args.region.col_start + c.loop-part.part * cols in
+    let more : c.args.region.col_start + (c.loop-part.part + 1) * cols ≡ col + cols = omega arith in
+    let next : (c.loop-part.part + 1) * cols ≤ c.cols.result / cols * cols = mul-le-mul_right cols (omega arith) in
+    let inside : col + cols ≤ c.args.region.col_end = omega (arith, next, c.cols.ensures, div-mul-le_self c.cols.result cols) in
+    let cut = IsCut-cols (record c.args.region { col_end = col + cols }) col (omega arith) (omega arith) in
+    let before : col - c.args.region.col_start ≡ c.loop-part.part * cols = omega arith in
+    let after : col + cols - c.args.region.col_start ≡ (c.loop-part.part + 1) * cols = omega arith in
+    record {
+      transposed = rw more (IsRegionTransposed-cols c.args.region _ _ _ _ _ _ col (col + cols) (omega arith) (omega arith) (omega arith)
+          c.loop-part.invariant.transposed (rw c.with_cols.ensures at c.put-out.ensures.transposed));
+      holder = g.met.M.Cells.same_holder_trans _ _ _ _ _ _ c.loop-part.invariant.holder (rw c.with_cols.ensures at c.put-out.ensures.holder) (rw (before, after) at cut.items);
+    }
+
+pub returns-then-col-region-clause-transposed : goal.returns-then-col-region-clause-transposed
+returns-then-col-region-clause-transposed g c =
+    let done : c.loop-part.part ≡ c.cols.result / c.max-cols.result = omega arith in
+    IsRegionTransposed-cols c.args.region _ _ _ _ _ _ _ c.args.region.col_end (omega arith) (omega arith) (omega arith)
+    (rw done at c.loop-part.invariant.transposed) (rw c.with_cols-then-col-region.ensures at c.put.ensures.transposed)
+
+pub returns-then-col-region-clause-holder : goal.returns-then-col-region-clause-holder
+returns-then-col-region-clause-holder g c =
+    let done : c.loop-part.part ≡ c.cols.result / c.max-cols.result = omega arith in
+    let put = c.cols.result / c.max-cols.result * c.max-cols.result in
+    let col = c.args.region.col_start + put in
+    let before : col - c.args.region.col_start ≡ put = omega arith in
+    g.met.M.Cells.same_holder_trans _ _ _ _ _ _ (rw done at c.loop-part.invariant.holder) (rw c.with_cols-then-col-region.ensures at c.put.ensures.holder)
+    (rw before at (IsCut-cols c.args.region col (omega arith) (omega arith)).items)
+
+pub returns-clause-transposed : goal.returns-clause-transposed
+returns-clause-transposed g c =
+    let done : c.loop-part.part ≡ c.cols.result / c.max-cols.result = omega arith in
+    let end : c.args.region.col_start + c.loop-part.part * c.max-cols.result ≡ c.args.region.col_end =
+    rw done (omega (arith, c.cols.ensures, div-mul-le_self c.cols.result c.max-cols.result)) in
+    rw end at c.loop-part.invariant.transposed

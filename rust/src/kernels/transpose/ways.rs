@@ -1,0 +1,286 @@
+// rust/erase writes this file from crates/p3_util_kernels/src/transpose/ways.rt. Make changes there.
+//! Ways to put a region, which contain each other.
+//!
+//! - The item in row y and column x of the matrix is at `y * width + x` of its source. It is put
+//!   into cell `x * height + y`.
+//! - A *region* is a rectangle in the matrix: the items that lie in some neighbouring rows and in
+//!   some neighbouring columns. To *put* a region, or a part of one, is to put each of its items
+//!   into its cell.
+//! - A *way* to put a region is a [`PutRegion`]. [`InRows`] and [`InCols`] cut the region into parts
+//!   and put these in ways of their own. [`Columns`] puts item after item, and [`Blocks`] hands blocks
+//!   to the holder. So `InRows<24, Columns, Columns>` puts a region 24 rows at a time, and each of
+//!   these parts column after column. The contract is the same for all ways.
+//!
+//! Each way takes the holder by value and returns it. This keeps the holder in registers in the
+//! loops.
+
+use crate::kernels::places::{Block, Cells, Source};
+use crate::kernels::transpose::regions::{Matrix, Region};
+
+/// A column is put by loops over this many items each. The compiler knows how long these loops are.
+const COLUMN_ITEMS: usize = 8;
+
+/// A way to put a region. The caller of a kernel chooses it. The contract is the same for all of
+/// them.
+pub(crate) trait PutRegion: Copy {
+    /// Puts `region` in this way.
+    ///
+    /// # Contract
+    ///
+    /// ```text
+    /// requires ready { IsReady region matrix.width matrix.height
+    ///     (R.items matrix.source) (M.items out) }
+    /// ensures transposed { IsRegionTransposed region matrix.width matrix.height
+    ///     (R.items matrix.source) (M.items out) (M.items result) }
+    /// ensures holder { M.same_holder (items_of region) out result }
+    /// ```
+    fn put<M: Cells, R: Source<Item = M::Item> + Copy>(
+        self,
+        out: M,
+        matrix: Matrix<R>,
+        region: Region,
+    ) -> M;
+}
+
+/// `InRows(whole, rest)` puts `ROWS` rows at a time, from top to bottom. Parts of `ROWS` rows are put
+/// in the way `whole`, and the last one in the way `rest` if it has fewer rows.
+#[derive(Clone, Copy)]
+pub(crate) struct InRows<const ROWS: usize, W, V>(pub(crate) W, pub(crate) V);
+
+impl<const ROWS: usize, W: PutRegion, V: PutRegion> PutRegion for InRows<ROWS, W, V> {
+    #[inline(always)]
+    fn put<M: Cells, R: Source<Item = M::Item> + Copy>(
+        self,
+        out: M,
+        matrix: Matrix<R>,
+        region: Region,
+    ) -> M {
+        let InRows(whole, rest) = self;
+        let most = ROWS.max(1);
+        let mut out = out;
+        let mut row = region.row_start;
+        while row < region.row_end {
+            let rows = most.min(region.row_end - row);
+            // If the compiler knows how many rows a part has, it knows the lengths of its loops.
+            if rows == most {
+                out = whole.put(out, matrix, region.with_rows(row, row + most));
+            } else {
+                out = rest.put(out, matrix, region.with_rows(row, row + rows));
+            }
+            row += rows;
+        }
+        out
+    }
+}
+
+/// `InCols(whole, rest)` puts `COLS` columns at a time, from left to right, in the way `whole`, and
+/// then the columns that remain in the way `rest`.
+#[derive(Clone, Copy)]
+pub(crate) struct InCols<const COLS: usize, W, V>(pub W, pub V);
+
+impl<const COLS: usize, W: PutRegion, V: PutRegion> PutRegion for InCols<COLS, W, V> {
+    #[inline(always)]
+    fn put<M: Cells, R: Source<Item = M::Item> + Copy>(
+        self,
+        out: M,
+        matrix: Matrix<R>,
+        region: Region,
+    ) -> M {
+        let InCols(whole, rest) = self;
+        let cols = COLS.max(1);
+        let mut out = out;
+        let parts = region.cols() / cols;
+        for part in 0..parts {
+            let col = region.col_start + part * cols;
+            out = whole.put(out, matrix, region.with_cols(col, col + cols));
+        }
+        let col = region.col_start + parts * cols;
+        if col < region.col_end {
+            return rest.put(out, matrix, region.with_cols(col, region.col_end));
+        }
+        out
+    }
+}
+
+/// `Blocks(rest)` puts blocks of `ROWS` rows, from top to bottom, in the holder's own way. They have
+/// all columns of the region. The rows that remain are put in the way `rest`.
+#[derive(Clone, Copy)]
+pub(crate) struct Blocks<const ROWS: usize, V>(pub(crate) V);
+
+impl<const ROWS: usize, V: PutRegion> PutRegion for Blocks<ROWS, V> {
+    #[inline(always)]
+    fn put<M: Cells, R: Source<Item = M::Item> + Copy>(
+        self,
+        out: M,
+        matrix: Matrix<R>,
+        region: Region,
+    ) -> M {
+        let Blocks(rest) = self;
+        if region.col_start == region.col_end {
+            return out;
+        }
+        let rows = ROWS.max(1);
+        let mut out = out;
+        let parts = region.rows() / rows;
+        for part in 0..parts {
+            let row = region.row_start + part * rows;
+            out = put_as_block(out, matrix, region.with_rows(row, row + rows));
+        }
+        let row = region.row_start + parts * rows;
+        if row < region.row_end {
+            return rest.put(out, matrix, region.with_rows(row, region.row_end));
+        }
+        out
+    }
+}
+
+/// Puts a region in this way, by a function that is not inlined. So its loops take no registers from
+/// those of the caller.
+#[derive(Clone, Copy)]
+pub(crate) struct Apart<W>(pub W);
+
+impl<W: PutRegion> PutRegion for Apart<W> {
+    #[inline(never)]
+    fn put<M: Cells, R: Source<Item = M::Item> + Copy>(
+        self,
+        out: M,
+        matrix: Matrix<R>,
+        region: Region,
+    ) -> M {
+        self.0.put(out, matrix, region)
+    }
+}
+
+/// Puts a region as one block, in the holder's own way.
+///
+/// # Contract
+///
+/// ```text
+/// requires some_rows { region.row_start < region.row_end }
+/// requires some_cols { region.col_start < region.col_end }
+/// requires ready { IsReady region matrix.width matrix.height
+///     (R.items matrix.source) (M.items out) }
+/// ensures transposed { IsRegionTransposed region matrix.width matrix.height
+///     (R.items matrix.source) (M.items out) (M.items result) }
+/// ensures holder { M.same_holder (items_of region) out result }
+/// ```
+#[inline(always)]
+pub(crate) fn put_as_block<M: Cells, R: Source<Item = M::Item> + Copy>(
+    out: M,
+    matrix: Matrix<R>,
+    region: Region,
+) -> M {
+    let Matrix {
+        source,
+        width,
+        height,
+    } = matrix;
+    let block = Block {
+        rows: region.rows(),
+        cols: region.cols(),
+        from: region.row_start * width + region.col_start,
+        width,
+        to: region.col_start * height + region.row_start,
+        height,
+    };
+    let mut out = out;
+    out.put_block(&source, block);
+    out
+}
+
+/// Puts a region column after column.
+#[derive(Clone, Copy)]
+pub(crate) struct Columns;
+
+impl PutRegion for Columns {
+    #[inline(always)]
+    fn put<M: Cells, R: Source<Item = M::Item> + Copy>(
+        self,
+        out: M,
+        matrix: Matrix<R>,
+        region: Region,
+    ) -> M {
+        if region.row_start == region.row_end {
+            // A region without rows has no item, however many columns it has.
+            return out;
+        }
+        let mut out = out;
+        for col in region.col_start..region.col_end {
+            let from = region.row_start * matrix.width + col;
+            let to = col * matrix.height + region.row_start;
+            out = put_column(out, matrix, from, to, region.rows());
+        }
+        out
+    }
+}
+
+/// Puts a column of `rows` items into consecutive cells from `to` on. The column begins at index
+/// `from` of the source. Most items are put by loops of `COLUMN_ITEMS` items, and the rest by one
+/// more loop.
+///
+/// # Contract
+///
+/// ```text
+/// requires column { HoldsColumn rows from matrix.width to (R.items matrix.source) (M.items out) }
+/// ensures put { IsColumnPut rows from matrix.width to (R.items matrix.source) (M.items out)
+///     (M.items result) }
+/// ensures holder { M.same_holder rows out result }
+/// ```
+#[inline(always)]
+fn put_column<M: Cells, R: Source<Item = M::Item> + Copy>(
+    out: M,
+    matrix: Matrix<R>,
+    from: usize,
+    to: usize,
+    rows: usize,
+) -> M {
+    let mut out = out;
+    for group in 0..rows / COLUMN_ITEMS {
+        let done = group * COLUMN_ITEMS;
+        out = put_items(
+            out,
+            matrix,
+            from + done * matrix.width,
+            to + done,
+            COLUMN_ITEMS,
+        );
+    }
+    let done = rows / COLUMN_ITEMS * COLUMN_ITEMS;
+    if done < rows {
+        out = put_items(
+            out,
+            matrix,
+            from + done * matrix.width,
+            to + done,
+            rows - done,
+        );
+    }
+    out
+}
+
+/// Does the same as [`put_column`], in one loop.
+///
+/// # Contract
+///
+/// ```text
+/// requires column { HoldsColumn rows from matrix.width to (R.items matrix.source) (M.items out) }
+/// ensures put { IsColumnPut rows from matrix.width to (R.items matrix.source) (M.items out)
+///     (M.items result) }
+/// ensures holder { M.same_holder rows out result }
+/// ```
+#[inline(always)]
+fn put_items<M: Cells, R: Source<Item = M::Item> + Copy>(
+    out: M,
+    matrix: Matrix<R>,
+    from: usize,
+    to: usize,
+    rows: usize,
+) -> M {
+    let mut out = out;
+    let mut t = 0;
+    while t < rows {
+        out.put(to + t, matrix.source.at(from + t * matrix.width));
+        t += 1;
+    }
+    out
+}
