@@ -4,7 +4,7 @@
 //! | File | What it may do | What it trusts |
 //! |---|---|---|
 //! | this one | check a precondition, make a holder, and give out each part once | the contracts of the kernels |
-//! | `ways.rs` | choose how a matrix is put | nothing: each way is right for every matrix |
+//! | `choice.rs` | choose how a matrix is put | nothing: each way is right for every matrix |
 //! | `by_size.rs`, `by_type.rs` | choose the instance of a kernel | that the precondition was checked |
 //! | `holders.rs` | unsafe code: move items by index, without a check | that each index meets the contract of its step |
 //! | `holders/bytes.rs` | unsafe code: move the bytes of an item, or of a run of items | that they are within the list |
@@ -25,11 +25,11 @@ use holders::{SliceItems, SliceSource};
 #[cfg(not(feature = "checked"))]
 mod by_size;
 mod by_type;
+mod choice;
 #[cfg_attr(feature = "checked", path = "slices/checked.rs")]
 #[cfg_attr(not(feature = "checked"), allow(unsafe_code))]
 mod holders;
 pub mod parts;
-mod ways;
 
 #[cfg(not(feature = "checked"))]
 use by_size as instances;

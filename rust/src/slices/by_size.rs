@@ -9,9 +9,9 @@
 //! If the processor does not move unaligned bytes as fast as aligned ones, each type has kernels of its own.
 
 use super::by_type;
+use super::choice::LONG_BYTES;
 use super::holders::{Bytes, Items, MOVES_BYTES, Register, SliceItems, SliceSource, USES_REGISTERS};
 use super::parts::RowPlan;
-use super::ways::LONG_BYTES;
 use crate::kernels::registers::{Pair, Two};
 use crate::kernels::transpose::{Matrix, Region};
 

@@ -1,8 +1,8 @@
 //! Kernels on holders of slices, compiled for each type of item. This file calls kernels, and trusts that the precondition
 //! of each was checked.
 
+use super::choice::{Choice, LONG_BYTES, Limits, ShortChoice, choice_of, short_choice_of, side_of, strips_of};
 use super::parts::RowPlan;
-use super::ways::{LONG_BYTES, Limits, ShortWay, Way, short_way_of, side_of, strips_of, way_of};
 use crate::kernels::places::{Cells, Places, Source};
 use crate::kernels::reverse::{self, RowDigits, reverse_short};
 use crate::kernels::transpose::{Columns, Matrix, Order, PutRegion, Region, put_as_block};
@@ -24,10 +24,12 @@ pub(super) fn reverse_rows(items: impl Places, row_width: usize) {
 #[inline(always)]
 pub(super) fn put<M: Output>(source: impl Input<M::Item>, cells: M, width: usize, height: usize) {
     let size = const { size_of::<M::Item>() };
-    match short_way_of(size, width, height) {
-        Some(ShortWay::Copied) => cells.copy(source),
-        Some(ShortWay::Block) if const { side_of(size_of::<M::Item>()) > 1 } => put_block(source, cells, width, height),
-        Some(ShortWay::Columns) if const { size_of::<M::Item>() < LONG_BYTES } => {
+    match short_choice_of(size, width, height) {
+        Some(ShortChoice::Copied) => cells.copy(source),
+        Some(ShortChoice::Block) if const { side_of(size_of::<M::Item>()) > 1 } => {
+            put_block(source, cells, width, height)
+        }
+        Some(ShortChoice::Columns) if const { size_of::<M::Item>() < LONG_BYTES } => {
             let matrix = Matrix::new(source, width, height);
             let _ = Columns.put(cells, matrix, matrix.whole());
         }
@@ -56,7 +58,7 @@ pub(super) fn put_region<M: Output>(cells: M, matrix: Matrix<impl Input<M::Item>
     }
 }
 
-/// Puts a region, or a matrix that has no short way. The side of the squares is a constant, so that an instance has no code
+/// Puts a region, or a matrix that has no short choice. The side of the squares is a constant, so that an instance has no code
 /// for other squares.
 #[inline(always)]
 fn run<M: Output>(cells: M, matrix: Matrix<impl Input<M::Item>>, region: Option<Region>) {
@@ -72,12 +74,12 @@ fn run<M: Output>(cells: M, matrix: Matrix<impl Input<M::Item>>, region: Option<
 fn run_by<const SIDE: usize, M: Output>(cells: M, matrix: Matrix<impl Input<M::Item>>, region: Option<Region>) {
     let (size, Matrix { source, width, height }) = (const { size_of::<M::Item>() }, matrix);
     let strips = strips_of::<SIDE>(size, width, height);
-    let way = way_of(Limits::HERE, size, [width, height], region, cells.address());
+    let choice = choice_of(Limits::HERE, size, [width, height], region, cells.address());
     let region = region.unwrap_or(matrix.whole());
-    let order = match way {
-        Way::Lines => return cells.put_by_lines(matrix, region),
-        Way::Leaves => Order::Leaves(strips),
-        Way::Strips => Order::Strips(strips),
+    let order = match choice {
+        Choice::Lines => return cells.put_by_lines(matrix, region),
+        Choice::Leaves => Order::Leaves(strips),
+        Choice::Strips => Order::Strips(strips),
     };
     if const { size_of::<M::Item>() < LONG_BYTES } {
         let _ = order.put(cells, matrix, region);
@@ -132,7 +134,7 @@ impl<R: Source + Copy> Input<R::Item> for R {}
 
 /// The cells of a slice.
 pub(super) trait Output: Cells + Sized {
-    /// The address of the first cell, or 0 if no way depends on it.
+    /// The address of the first cell, or 0 if no choice depends on it.
     fn address(&self) -> usize {
         0
     }

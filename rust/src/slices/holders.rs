@@ -16,7 +16,7 @@ pub(crate) use registers::USES_REGISTERS;
 pub(super) use registers::{Items, Register};
 
 use super::by_type::{Input, Output};
-use super::ways::{LINE, side_of};
+use super::choice::{LINE, side_of};
 use crate::kernels::lines::Lines;
 use crate::kernels::places::{Block, Cells, Places, Source};
 use crate::kernels::registers::{self as squares, Runs, Single, Two};

@@ -8,6 +8,7 @@ use std::fmt::Debug;
 use std::num::NonZero;
 use std::vec::Vec;
 
+use super::choice::HighStrips;
 #[cfg(not(feature = "checked"))]
 use super::holders::Bytes;
 #[cfg(not(feature = "checked"))]
@@ -16,7 +17,6 @@ use super::holders::SliceItems;
 use super::holders::{Items, Register as Vector, USES_REGISTERS};
 use super::holders::{SliceItems as SliceCells, SliceItems as SlicePlaces, SliceSource};
 use super::parts::{ReversalPart, TransposePart};
-use super::ways::HighStrips;
 use crate::kernels::places::{Block, Cells, Places, Source};
 #[cfg(not(feature = "checked"))]
 use crate::kernels::registers::{Pair, Paired, Register, Single, Two};
@@ -659,7 +659,7 @@ mod handed_over;
 #[cfg(not(feature = "checked"))]
 mod lines;
 
-mod ways;
+mod choice;
 
 #[cfg(any(debug_assertions, feature = "checked"))]
 mod refused {

@@ -5,8 +5,8 @@ use core::cell::RefCell;
 use std::vec::Vec;
 
 use super::super::super::by_type;
+use super::super::super::choice::{side_of, strips_of};
 use super::super::super::holders::USES_REGISTERS;
-use super::super::super::ways::{side_of, strips_of};
 use super::super::*;
 use crate::kernels::places::Source;
 use crate::kernels::transpose::{Order, transpose_matrix};

@@ -3,8 +3,8 @@
 use core::ops::Range;
 use std::vec::Vec;
 
+use super::super::choice::{Choice, HighStrips, Limits, ShortChoice, choice_of, short_choice_of, side_of, strips_of};
 use super::super::holders::USES_REGISTERS;
-use super::super::ways::{HighStrips, Limits, ShortWay, Way, short_way_of, side_of, strips_of, way_of};
 use crate::kernels::places::{Block, Cells, SliceSource, Source};
 use crate::kernels::transpose::{Matrix, PutRegion, Region, Strips, transpose_matrix};
 
@@ -12,32 +12,32 @@ const IS_AARCH64: bool = cfg!(target_arch = "aarch64");
 
 const HAS_LINES: bool = USES_REGISTERS && cfg!(target_arch = "x86_64");
 
-/// The way for some rows and columns of a matrix, as a part of a call that is cut.
-fn way_of_part(limits: &Limits, size: usize, sides: [usize; 2], [rows, cols]: [usize; 2], first: usize) -> Way {
+/// How some rows and columns of a matrix are put, as a part of a call that is cut.
+fn choice_of_part(limits: &Limits, size: usize, sides: [usize; 2], [rows, cols]: [usize; 2], first: usize) -> Choice {
     let region = Region {
         row_start: 1,
         row_end: 1 + rows,
         col_start: 5,
         col_end: 5 + cols,
     };
-    way_of(limits, size, sides, Some(region), first)
+    choice_of(limits, size, sides, Some(region), first)
 }
 
 /// The same for all rows and columns, by the limits of these tests.
-fn way_of_all(size: usize, width: usize, height: usize, first: usize) -> Way {
-    way_of_part(Limits::HERE, size, [width, height], [height, width], first)
+fn choice_of_all(size: usize, width: usize, height: usize, first: usize) -> Choice {
+    choice_of_part(Limits::HERE, size, [width, height], [height, width], first)
 }
 
 /// Each row of the first table, by the limits of these tests. With them a list of 1024 bytes is long, and so is every column.
 #[test]
-fn ways() {
+fn choices() {
     for size in [1, 2, 3, 4, 8, 12, 16, 32, 1023] {
-        let short = |width, height| short_way_of(size, width, height);
+        let short = |width, height| short_choice_of(size, width, height);
         for other in [0, 1, 2, 127, 128, 1 << 30] {
             for few in [0, 1] {
                 assert_eq!(
                     [short(few, other), short(other, few)],
-                    [Some(ShortWay::Copied); 2],
+                    [Some(ShortChoice::Copied); 2],
                     "{size} {other}"
                 );
             }
@@ -51,24 +51,24 @@ fn ways() {
                     _ => false,
                 };
             let wanted = match width * height {
-                _ if is_block => Some(ShortWay::Block),
-                ..128 => Some(ShortWay::Columns),
+                _ if is_block => Some(ShortChoice::Block),
+                ..128 => Some(ShortChoice::Columns),
                 _ => None,
             };
             assert_eq!(short(width, height), wanted, "{size} {width} {height}");
-            assert_eq!(way_of(Limits::HERE, size, [width, height], None, 1), Way::Strips);
-            assert_eq!(way_of_all(size, width, height, 1), Way::Leaves);
+            assert_eq!(choice_of(Limits::HERE, size, [width, height], None, 1), Choice::Strips);
+            assert_eq!(choice_of_all(size, width, height, 1), Choice::Leaves);
         }
     }
     for size in [1024, 1 << 20] {
-        assert_eq!(short_way_of(size, 1, 5), Some(ShortWay::Copied));
-        assert_eq!([short_way_of(size, 2, 2), short_way_of(size, 8, 8)], [None; 2]);
-        assert_eq!(way_of_all(size, 64, 64, 0), Way::Leaves);
+        assert_eq!(short_choice_of(size, 1, 5), Some(ShortChoice::Copied));
+        assert_eq!([short_choice_of(size, 2, 2), short_choice_of(size, 8, 8)], [None; 2]);
+        assert_eq!(choice_of_all(size, 64, 64, 0), Choice::Leaves);
     }
     for size in [1, 3, 12, 1023, 1024] {
-        let whole = |width, height| way_of(Limits::HERE, size, [width, height], None, 1);
-        assert_eq!([whole(2, 2), whole(1024, 1024)], [Way::Strips; 2]);
-        assert_eq!([whole(1025, 1024), whole(2, 524_289)], [Way::Leaves; 2]);
+        let whole = |width, height| choice_of(Limits::HERE, size, [width, height], None, 1);
+        assert_eq!([whole(2, 2), whole(1024, 1024)], [Choice::Strips; 2]);
+        assert_eq!([whole(1025, 1024), whole(2, 524_289)], [Choice::Leaves; 2]);
     }
 }
 
@@ -128,14 +128,18 @@ fn lines_of_long_lists() {
         for (width, height) in [(16, 16), (19, 37), (5, 30), (2000, 2000)] {
             for first in [0, size, 64 - size, 4096 + 2 * size, 1, size / 2] {
                 let is_long = matches!(size, 4 | 8 | 16) && width * height * size >= 1024 && first % size == 0;
-                let wanted = if HAS_LINES && is_long { Way::Lines } else { Way::Leaves };
+                let wanted = if HAS_LINES && is_long {
+                    Choice::Lines
+                } else {
+                    Choice::Leaves
+                };
                 assert_eq!(
-                    way_of_all(size, width, height, first),
+                    choice_of_all(size, width, height, first),
                     wanted,
                     "{size} {width} by {height} at {first}"
                 );
                 if width * height > 1 << 20 {
-                    assert_eq!(way_of(Limits::HERE, size, [width, height], None, first), wanted);
+                    assert_eq!(choice_of(Limits::HERE, size, [width, height], None, first), wanted);
                 }
             }
         }
@@ -178,24 +182,24 @@ fn lines_of_users() {
         (12, [1 << 20, 1024], [1024, 1 << 19]),
         (32, [1 << 20, 1024], [1024, 1 << 19]),
     ];
-    let lines = if HAS_LINES { Way::Lines } else { Way::Leaves };
+    let lines = if HAS_LINES { Choice::Lines } else { Choice::Leaves };
     let wanted = by_lines
         .map(|case| (case, lines))
         .into_iter()
-        .chain(not_by_lines.map(|case| (case, Way::Leaves)));
+        .chain(not_by_lines.map(|case| (case, Choice::Leaves)));
     for ((size, sides, part), wanted) in wanted {
-        let of_part = |first| way_of_part(Limits::OF_USERS, size, sides, part, first);
+        let of_part = |first| choice_of_part(Limits::OF_USERS, size, sides, part, first);
         assert_eq!([0, size, 4096].map(of_part), [wanted; 3], "{size} {sides:?} {part:?}");
-        assert_eq!([1, size / 2, size + 1].map(of_part), [Way::Leaves; 3]);
+        assert_eq!([1, size / 2, size + 1].map(of_part), [Choice::Leaves; 3]);
     }
-    let of_call = |size, sides| way_of(Limits::OF_USERS, size, sides, None, 0);
+    let of_call = |size, sides| choice_of(Limits::OF_USERS, size, sides, None, 0);
     assert_eq!(
         [of_call(16, [1024, 1024]), of_call(16, [1024, 1025])],
-        [Way::Strips, lines]
+        [Choice::Strips, lines]
     );
     assert_eq!(
         [of_call(8, [1025, 1024]), of_call(8, [2048, 1024])],
-        [Way::Leaves, lines]
+        [Choice::Leaves, lines]
     );
 }
 

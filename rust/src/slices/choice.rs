@@ -1,9 +1,9 @@
-//! How a matrix, or a part of it, is put. [`short_way_of`] and [`way_of`] choose it, once for each call and each part, and
+//! How a matrix, or a part of it, is put. [`short_choice_of`] and [`choice_of`] choose it, once for each call and each part, and
 //! nothing else does. The kernels put a matrix in any way, and their contracts are the same for all of them.
 //!
 //! The first line that fits says how a matrix is put. A *whole call* puts the whole matrix, and so does a single part.
 //!
-//! | Matrix | [`ShortWay`], [`Way`] | Why |
+//! | Matrix | [`ShortChoice`], [`Choice`] | Why |
 //! |---|---|---|
 //! | a whole call, fewer than two rows or columns | `Copied` | its items keep their order |
 //! | a whole call, one block: `side_of` | `Block` | in registers |
@@ -92,7 +92,7 @@ const IS_AARCH64: bool = cfg!(target_arch = "aarch64");
 
 /// How a whole call is put that needs no strips.
 #[derive(Clone, Copy, Debug, PartialEq, Eq)]
-pub(super) enum ShortWay {
+pub(super) enum ShortChoice {
     Copied,
     Block,
     Columns,
@@ -100,34 +100,40 @@ pub(super) enum ShortWay {
 
 /// How any other call is put, or a part.
 #[derive(Clone, Copy, Debug, PartialEq, Eq)]
-pub(super) enum Way {
+pub(super) enum Choice {
     Strips,
     Leaves,
     Lines,
 }
 
-/// The short way for a whole matrix of items of `size` bytes, if there is one. A call inlines this. A matrix that is not copied
+/// How a whole matrix of items of `size` bytes is put if it needs no strips. A call inlines this. A matrix that is not copied
 /// has items.
 #[inline(always)]
-pub(super) fn short_way_of(size: usize, width: usize, height: usize) -> Option<ShortWay> {
+pub(super) fn short_choice_of(size: usize, width: usize, height: usize) -> Option<ShortChoice> {
     let side = side_of(size);
     match (width, height) {
-        (0 | 1, _) => Some(ShortWay::Copied),
-        // Here, and not above, the compiler makes fewer tests for the other ways.
-        _ if side > 1 && width == side && height == side => Some(ShortWay::Block),
-        (_, 0 | 1) => Some(ShortWay::Copied),
+        (0 | 1, _) => Some(ShortChoice::Copied),
+        // Here, and not above, the compiler makes fewer tests for the other choices.
+        _ if side > 1 && width == side && height == side => Some(ShortChoice::Block),
+        (_, 0 | 1) => Some(ShortChoice::Copied),
         _ if width * height >= TINY_MATRIX || size >= LONG_BYTES => None,
-        _ => Some(ShortWay::Columns),
+        _ => Some(ShortChoice::Columns),
     }
 }
 
-/// The way for a matrix of this width and height that has no short way, or for a region of it. `first` is the address of the
+/// How a matrix of this width and height is put that has no short choice, or a region of it. `first` is the address of the
 /// first cell of the output.
 #[inline(always)]
-pub(super) fn way_of(limits: &Limits, size: usize, sides: [usize; 2], region: Option<Region>, first: usize) -> Way {
+pub(super) fn choice_of(
+    limits: &Limits,
+    size: usize,
+    sides: [usize; 2],
+    region: Option<Region>,
+    first: usize,
+) -> Choice {
     let [width, height] = sides;
     let (rows, cols) = match region {
-        None if width * height <= LARGE_MATRIX => return Way::Strips,
+        None if width * height <= LARGE_MATRIX => return Choice::Strips,
         None => (height, width),
         Some(region) => (region.rows(), region.cols()),
     };
@@ -137,9 +143,9 @@ pub(super) fn way_of(limits: &Limits, size: usize, sides: [usize; 2], region: Op
     let is_large = width * column >= limits.bytes && cols >= limits.cols && (size != 4 || fits_4);
     let is_long = column >= limits.column || size < 16 && column % LINE == 0;
     if HAS_LINES && matches!(size, 4 | 8 | 16) && first % size == 0 && is_large && is_long {
-        Way::Lines
+        Choice::Lines
     } else {
-        Way::Leaves
+        Choice::Leaves
     }
 }
 
