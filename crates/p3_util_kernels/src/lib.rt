@@ -4,8 +4,9 @@
 #![tactic(auto)]
 
 pub mod bits;
+pub(crate) mod grid;
 #[doc(hidden)]
-pub mod grid;
+pub mod kernel;
 pub mod laws;
 pub mod places;
 pub mod reverse;

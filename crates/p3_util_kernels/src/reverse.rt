@@ -24,14 +24,12 @@ ghost use Rattle.p3_util_kernels.specs.SwapCounts.{reversal_swaps, row_swaps};
 // `rows` has the short path, which is that of rows of any width, and `long` has the long path. The
 // module `grid` makes the exchanges of both.
 mod long;
-mod rows;
+pub(crate) mod rows;
 
 use crate::places::{Places, SlicePlaces, Swaps};
 pub use long::reverse_index_bits_long;
 use long::reverse_long;
-pub(crate) use rows::reverse_short;
-#[doc(hidden)]
-pub use rows::{RowDigits, reverse_rows};
+pub(crate) use rows::{RowDigits, reverse_rows, reverse_short};
 pub use rows::{reverse_chunks_on, reverse_index_bits_short, reverse_row_index_bits_on};
 
 /// A call that counts its swaps takes the short path for at most this many items, and the long path

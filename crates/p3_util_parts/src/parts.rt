@@ -20,11 +20,9 @@ ghost use Rattle.p3_util_kernels.specs.Reversal.{FitsRows};
 mod laws;
 mod transpose;
 
-use p3_util_kernels::bits::pow2;
-use p3_util_kernels::grid::{TILE, exchange_quadrants, exchange_region};
+use p3_util_kernels::kernel::{Matrix, RowDigits, TILE, exchange_quadrants, exchange_region, pow2};
 use p3_util_kernels::places::Places;
-use p3_util_kernels::reverse::RowDigits;
-use p3_util_kernels::transpose::{Matrix, Region};
+use p3_util_kernels::transpose::Region;
 pub(crate) use transpose::TransposePlan;
 
 /// The numbers below `len`, cut into parts of `step` consecutive numbers. The last part may have

@@ -9,8 +9,9 @@ ghost use Rattle.std.specs.Prelude.{◌≡◌, ℕ, ◌+◌, ◌^◌, ◌<◌, �
 ghost use Rattle.p3_util_registers.specs.Lines.{IsPutTo, cells_before, items_to, limit};
 ghost use Rattle.p3_util_kernels.specs.Region.{IsReady, IsRegionTransposed, items_of, rows_of};
 
+use p3_util_kernels::kernel::{Apart, Columns, InCols, Matrix, PutRegion, put_as_block};
 use p3_util_kernels::places::{Cells, Source};
-use p3_util_kernels::transpose::{Apart, Columns, InCols, Matrix, PutRegion, Region, put_as_block};
+use p3_util_kernels::transpose::Region;
 
 /// Lines are put in so many columns at a time. The memory pages that these columns are on are few
 /// enough for the processor to keep all of their addresses.

@@ -6,8 +6,9 @@
 //! of lines begin in different rows of the matrix. The first and the last row of lines have the parts of lines at the ends of
 //! the columns.
 
+use crate::kernels::kernel::{Apart, Columns, InCols, Matrix, PutRegion, put_as_block};
 use crate::kernels::places::{Cells, Source};
-use crate::kernels::transpose::{Apart, Columns, InCols, Matrix, PutRegion, Region, put_as_block};
+use crate::kernels::transpose::Region;
 
 /// Lines are put in so many columns at a time. The memory pages that these columns are on are few
 /// enough for the processor to keep all of their addresses.

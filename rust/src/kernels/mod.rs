@@ -2,6 +2,7 @@
 
 pub mod bits;
 pub(crate) mod grid;
+pub(crate) mod kernel;
 pub(crate) mod lines;
 pub(crate) mod parts;
 pub mod places;

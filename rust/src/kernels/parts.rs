@@ -13,11 +13,9 @@
 
 mod transpose;
 
-use crate::kernels::bits::pow2;
-use crate::kernels::grid::{TILE, exchange_quadrants, exchange_region};
+use crate::kernels::kernel::{Matrix, RowDigits, TILE, exchange_quadrants, exchange_region, pow2};
 use crate::kernels::places::Places;
-use crate::kernels::reverse::RowDigits;
-use crate::kernels::transpose::{Matrix, Region};
+use crate::kernels::transpose::Region;
 pub(crate) use transpose::TransposePlan;
 
 /// The numbers below `len`, cut into parts of `step` consecutive numbers. The last part may have

@@ -23,11 +23,11 @@
 // place, for the long path of a bit reversal. No kernel uses `butterfly`.
 mod butterfly;
 mod order;
-mod regions;
+pub(crate) mod regions;
 mod split;
 mod square;
-mod strips;
-mod ways;
+pub(crate) mod strips;
+pub(crate) mod ways;
 
 use crate::kernels::places::{Cells, SliceCells, SliceSource, Source, Writes};
 pub use butterfly::{butterfly_4x4, butterfly_stage1, butterfly_stage2};
@@ -37,9 +37,8 @@ pub use regions::Region;
 pub use split::{transpose_source_split_on, transpose_split_on};
 pub(crate) use square::transpose_square;
 pub use square::{fits_square, transpose_square_counted, transpose_square_on};
-pub(crate) use strips::UNIT;
 pub(crate) use strips::{HIGH_ROWS, Strips};
-pub(crate) use ways::{Apart, Columns, InCols, PutRegion, put_as_block};
+pub(crate) use ways::{Columns, PutRegion, put_as_block};
 
 /// How many levels of splits a transpose is given. No matrix needs as many.
 const ENOUGH_LEVELS: u32 = 64;

@@ -39,8 +39,8 @@ ghost use Rattle.p3_util_kernels.specs.SwapCounts.{row_swaps};
 ghost use Rattle.p3_util_kernels.specs.Transpose.{IsTranspose};
 
 use crate::parts::{RowPairs, TransposePlan};
+use p3_util_kernels::kernel::{Matrix, PutRegion};
 use p3_util_kernels::places::{Cells, Places, Source};
-use p3_util_kernels::transpose::{Matrix, PutRegion};
 
 /// A holder whose `same_holder n a b` says that some n puts turn the items of `a` into those of
 /// `b`.

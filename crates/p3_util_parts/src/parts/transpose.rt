@@ -5,7 +5,8 @@ ghost use Rattle.p3_util_parts.specs.Parts.{IsLeastStep, part_of_matrix, parts_i
 ghost use Rattle.p3_util_kernels.specs.Region.{IsRegionTransposed, LiesInMatrix, items_of};
 
 use crate::parts::Cut;
-use p3_util_kernels::transpose::{Matrix, Region, UNIT};
+use p3_util_kernels::kernel::{Matrix, UNIT};
+use p3_util_kernels::transpose::Region;
 
 /// The transpose of a matrix of `height` rows of `width` items, cut into regions of neighbouring
 /// rows or of neighbouring columns.

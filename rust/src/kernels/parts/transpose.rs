@@ -2,7 +2,8 @@
 //! The regions that the transpose of a matrix is cut into.
 
 use crate::kernels::parts::Cut;
-use crate::kernels::transpose::{Matrix, Region, UNIT};
+use crate::kernels::kernel::{Matrix, UNIT};
+use crate::kernels::transpose::Region;
 
 /// The transpose of a matrix of `height` rows of `width` items, cut into regions of neighbouring
 /// rows or of neighbouring columns.
