@@ -1,5 +1,4 @@
-//! The calls on integers that check a condition and then call the proved function. Calls without a condition are the
-//! proved functions themselves.
+//! The calls on integers that check a condition and then call the proved function.
 
 use crate::kernels::bits as proved;
 
@@ -13,15 +12,13 @@ use crate::kernels::bits as proved;
 /// If `n` is not a power of two.
 ///
 /// # Contract
-///
 #[doc = include_str!("kernels/contracts/log2_strict_usize.txt")]
 #[inline]
 #[must_use]
 #[track_caller]
 pub const fn log2_strict_usize(n: usize) -> usize {
-    // The call below is proved for every power of two. This check is also a hint to the compiler, which learns from it
-    // what `1 << log2_strict_usize(n)` is. Rust 1.85 does not learn this from `n.is_power_of_two()`. If `n` is 0, the
-    // shift by 64 is a shift by 0. It gives 1, which is not `n`.
+    // From this check the compiler learns what `1 << log2_strict_usize(n)` is. Rust 1.85 does not learn it from
+    // `n.is_power_of_two()`. If `n` is 0, the shift by 64 is a shift by 0. It gives 1, which is not `n`.
     assert!(1_usize.wrapping_shl(n.trailing_zeros()) == n, "Not a power of two");
     proved::log2_strict_usize(n)
 }
@@ -33,7 +30,6 @@ pub const fn log2_strict_usize(n: usize) -> usize {
 /// If `n` is not a power of three.
 ///
 /// # Contract
-///
 #[doc = include_str!("kernels/contracts/log3_strict_usize.txt")]
 #[inline]
 #[must_use]
@@ -47,16 +43,13 @@ pub const fn log3_strict_usize(n: usize) -> usize {
     proved::log3_strict_usize(n)
 }
 
-/// Reverses the k low binary digits of `x` and drops the others, for an `n` of 2^k.
-///
-/// An `n` of 1 reverses all 64 digits, as a `bit_len` of 0 does in [`reverse_bits_len`].
+/// Reverses the k low binary digits of `x` and drops the others, for an `n` of 2^k. An `n` of 1 reverses all 64 digits.
 ///
 /// # Panics
 ///
 /// With debug assertions, if `n` is not a power of two. Without them, the lowest set digit of `n` is used.
 ///
 /// # Contract
-///
 #[doc = include_str!("kernels/contracts/reverse_bits.txt")]
 #[inline]
 #[track_caller]
@@ -65,16 +58,13 @@ pub const fn reverse_bits(x: usize, n: usize) -> usize {
     proved::reverse_bits(x, n)
 }
 
-/// Reverses the `bit_len` low binary digits of `x` and drops the others.
-///
-/// A `bit_len` of 0 reverses all 64 digits.
+/// Reverses the `bit_len` low binary digits of `x` and drops the others. A `bit_len` of 0 reverses all 64 digits.
 ///
 /// # Panics
 ///
 /// With debug assertions, if `bit_len` is above 64. Without them, `bit_len % 64` is used.
 ///
 /// # Contract
-///
 #[doc = include_str!("kernels/contracts/reverse_bits_len.txt")]
 #[inline]
 #[track_caller]

@@ -1,15 +1,5 @@
 //! Bit reversal, transposes and the other small functions of `p3-util` 0.8.0, under its names, built on proved sources.
 //!
-//! The module [`kernels`] has the proved code. It was proved as Rust with contracts, and its documentation still has
-//! these contracts: [`kernels::contracts`] says how to read one. The functions next to this module are those of the
-//! original, and [`reverse_slice_row_index_bits`]. If a function needs a condition, such as a length that is a power of
-//! two, it checks that condition and panics if it does not hold. [`reverse_bits`] and [`reverse_bits_len`] check theirs
-//! only with debug assertions. Then the function calls the proved function to which its documentation links, or runs the
-//! kernel of that function on a slice. Functions without a condition are proved functions, or call one, except for
-//! [`assert_send`] and [`assert_sync`], whose bounds the compiler checks.
-//!
-//! The examples call this crate `p3_util_proved`. With the line that README gives for `Cargo.toml`, it is `p3_util`.
-//!
 //! ```
 //! use p3_util_proved::{reverse_slice_index_bits, transpose::transpose};
 //!
@@ -22,34 +12,17 @@
 //! assert_eq!(columns, [0, 1, 4, 5, 2, 3, 6, 7]);
 //! ```
 //!
-//! There are also calls that cut an iterator into chunks and pair two iterators of equal length, and a map that keeps
-//! its keys in the order of insertion:
+//! [`reverse_slice_index_bits`], [`reverse_slice_row_index_bits`] and [`transpose::transpose`] reorder slices. [`parts`]
+//! cuts these calls into parts for threads of your own. [`linear_map`] has a map for few keys.
 //!
-//! ```
-//! use p3_util_proved::linear_map::LinearMap;
-//! use p3_util_proved::zip_eq::zip_eq;
-//! use p3_util_proved::{apply_to_chunks, iter_array_chunks_padded};
+//! If a function needs a condition, such as a length that is a power of two, it checks that condition and panics if it
+//! does not hold. [`reverse_bits`] and [`reverse_bits_len`] check theirs only with debug assertions. Then proved code
+//! does the work: [`kernels`] has it, with its contracts, and also takes lists of your own.
 //!
-//! let mut sums = vec![];
-//! apply_to_chunks::<2, _, _>([1, 2, 3, 4, 5], |chunk| sums.push(chunk.iter().sum::<u8>()));
-//! assert_eq!(sums, [3, 7, 5]);
-//!
-//! let words = iter_array_chunks_padded([1, 2, 3], 0);
-//! assert!(words.eq([[1, 2], [3, 0]]));
-//!
-//! let pairs = zip_eq(["x", "y", "x"], sums, "lengths differ")?;
-//! let map: LinearMap<&str, u8> = pairs.collect();
-//! assert!(map.iter().eq(&[("x", 5), ("y", 7)]));
-//! # Ok::<(), &str>(())
-//! ```
-//!
-//! # Features
-//!
-//! - `checked`: the kernels check each index of a slice, and this crate has no unsafe code. Results are the same. If
-//!   one crate of a program enables the feature, cargo enables it for the whole program.
-//!
-//! No feature is on by default. The crate is `no_std` with `alloc`, has no dependency and no build script, and starts
-//! no thread. [`parts`] cuts a call into parts for threads of your own.
+//! The crate is `no_std` with `alloc` and starts no thread. With the feature `checked`, which is off by default, the
+//! kernels check each index of a slice, and the crate has no unsafe code. Results are the same. If one crate of a
+//! program enables the feature, cargo enables it for all. The line that README gives for `Cargo.toml` names this crate
+//! `p3_util`.
 #![no_std]
 #![cfg_attr(feature = "checked", forbid(unsafe_code))]
 #![cfg_attr(not(feature = "checked"), deny(unsafe_code))]
@@ -65,13 +38,10 @@ use alloc::string::String;
 use core::any::type_name;
 
 mod bits;
-/// All of the proved code, the map and the iterators included, with its contracts as documentation. Seven functions that have
-/// the name of one at the package's root are private here. That one tests their precondition and shows their contract.
+/// The proved code, with its contracts as documentation: [`contracts`](kernels::contracts) says how to read one.
 ///
 /// Here a reversal or a transpose also takes a list of your own, by a *holder*: a value that gives access to a list by
-/// index. A *kernel* is a private function that does the work of such a call on any holder. Calls that count tell you how
-/// many swaps or writes they make, and their contracts give the exact number. [`places`](kernels::places) has the traits
-/// for holders. [`contracts`](kernels::contracts) says what the names in a contract mean.
+/// index. Calls that count tell you how many swaps or writes they make, and their contracts give the exact number.
 ///
 /// No function here checks its precondition. If the precondition does not hold, a call may leave the list in another
 /// order, panic or never end, but it never touches memory outside the lists. Check the precondition before you call. In
@@ -88,74 +58,44 @@ mod bits;
 /// | `transpose_split_on`, `transpose_source_split_on` | the same as for a region; 64 `levels` are always enough |
 /// | `transpose_square_on`, `transpose_square_counted` | `fits_square(len, base, log_stride, log_size)` |
 ///
-/// To reverse a container of your own, implement [`Places`](kernels::places::Places) for it. This call also counts the
-/// swaps:
+/// A reversal needs [`Places`](kernels::places::Places). A transpose reads from a [`Source`](kernels::places::Source) and
+/// writes to [`Cells`](kernels::places::Cells):
 ///
 /// ```
-/// use p3_util_proved::kernels::{places::Places, reverse::reverse_counted};
+/// use p3_util_proved::kernels::places::{Cells, Places, Source};
+/// use p3_util_proved::kernels::{reverse::reverse_counted, transpose::transpose_source_counted};
 ///
 /// /// Every second item of a slice.
-/// struct Even<'a>(&'a mut [u32]);
+/// struct Even<'a>(&'a mut [usize]);
 ///
 /// impl Places for Even<'_> {
-///     type Item = u32;
-///
-///     fn len(&self) -> usize {
-///         self.0.len() / 2
-///     }
-///
-///     fn exchange(&mut self, i: usize, j: usize) {
-///         self.0.swap(2 * i, 2 * j);
-///     }
+///     type Item = usize;
+///     fn len(&self) -> usize { self.0.len() / 2 }
+///     fn exchange(&mut self, i: usize, j: usize) { self.0.swap(2 * i, 2 * j) }
 /// }
 ///
-/// let mut list: Vec<u32> = (0..16).collect();
-/// assert_eq!(reverse_counted(&mut Even(&mut list)), 2);
-/// assert_eq!(list[..8], [0, 1, 8, 3, 4, 5, 12, 7]);
-/// ```
-///
-/// A transpose reads from a [`Source`](kernels::places::Source) and writes to [`Cells`](kernels::places::Cells). In
-/// this example, an item of the input is computed when it is read, and the output is a list of columns. The call also
-/// counts the writes:
-///
-/// ```
-/// use p3_util_proved::kernels::places::{Cells, Source};
-/// use p3_util_proved::kernels::transpose::transpose_source_counted;
+/// impl Cells for Even<'_> {
+///     type Item = usize;
+///     fn len(&self) -> usize { self.0.len() / 2 }
+///     fn put(&mut self, i: usize, v: usize) { self.0[2 * i] = v }
+/// }
 ///
 /// /// The squares of the numbers below a bound.
 /// struct Squares(usize);
 ///
 /// impl Source for Squares {
 ///     type Item = usize;
-///
-///     fn len(&self) -> usize {
-///         self.0
-///     }
-///
-///     fn at(&self, i: usize) -> usize {
-///         i * i
-///     }
+///     fn len(&self) -> usize { self.0 }
+///     fn at(&self, i: usize) -> usize { i * i }
 /// }
 ///
-/// /// Columns of two items, one after the other.
-/// struct Columns([Vec<usize>; 3]);
+/// let mut list: Vec<usize> = (0..16).collect();
+/// assert_eq!(reverse_counted(&mut Even(&mut list)), 2);
+/// assert_eq!(list[..8], [0, 1, 8, 3, 4, 5, 12, 7]);
 ///
-/// impl Cells for Columns {
-///     type Item = usize;
-///
-///     fn len(&self) -> usize {
-///         6
-///     }
-///
-///     fn put(&mut self, i: usize, v: usize) {
-///         self.0[i / 2][i % 2] = v;
-///     }
-/// }
-///
-/// // The input has two rows of three items.
-/// let mut columns = Columns([vec![0; 2], vec![0; 2], vec![0; 2]]);
-/// assert_eq!(transpose_source_counted(&Squares(6), &mut columns, 3, 2), 6);
-/// assert_eq!(columns.0, [[0, 9], [1, 16], [4, 25]]);
+/// // The input has two rows of three items, which are computed when they are read.
+/// assert_eq!(transpose_source_counted(&Squares(6), &mut Even(&mut list[..12]), 3, 2), 6);
+/// assert_eq!(list[..12], [0, 1, 9, 3, 1, 5, 16, 7, 4, 9, 25, 11]);
 /// ```
 #[allow(clippy::len_without_is_empty, reason = "a kernel asks a holder for its length alone")]
 #[allow(clippy::manual_is_multiple_of, reason = "the proofs are of `%`")]
@@ -202,8 +142,7 @@ pub const fn assert_sync<T: Sync>() {}
 
 /// Reverses the order of `vals` by index bits.
 ///
-/// With 2^k items, index `i` gets the item from the index that has the k bits of `i` in reversed order. No item is cloned or
-/// dropped.
+/// With 2^k items, index `i` gets the item from the index that has the k bits of `i` in reversed order.
 ///
 /// ```
 /// use p3_util_proved::reverse_slice_index_bits;
@@ -222,8 +161,8 @@ pub const fn assert_sync<T: Sync>() {}
 /// ```
 ///
 /// # Contract of the kernel
-///
 #[doc = include_str!("kernels/contracts/reverse_slice_index_bits.txt")]
+#[doc(alias = "reverse")]
 #[inline]
 #[track_caller]
 pub fn reverse_slice_index_bits<F: Send + Sync>(vals: &mut [F]) {
@@ -232,7 +171,6 @@ pub fn reverse_slice_index_bits<F: Send + Sync>(vals: &mut [F]) {
     }
 }
 
-/// Panics with a message about the length, which is neither zero nor a power of two.
 #[cold]
 #[inline(never)]
 #[track_caller]
@@ -242,8 +180,7 @@ fn refuse_items(len: usize) -> ! {
 
 /// Reverses the order of the rows of `vals` by index bits. Each row has `row_width` items.
 ///
-/// With 2^k rows, the row at index `r` comes from the index that has the k bits of `r` in reversed order. No item is cloned
-/// or dropped.
+/// With 2^k rows, the row at index `r` comes from the index that has the k bits of `r` in reversed order.
 ///
 /// ```
 /// let mut rows = [0, 1, 10, 11, 20, 21, 30, 31];
@@ -256,8 +193,8 @@ fn refuse_items(len: usize) -> ! {
 /// If the length is not `row_width` times zero or a power of two. With a `row_width` of 0 the length must be 0.
 ///
 /// # Contract of the kernel
-///
 #[doc = include_str!("kernels/contracts/reverse_slice_row_index_bits.txt")]
+#[doc(alias = "reverse")]
 #[inline]
 #[track_caller]
 pub fn reverse_slice_row_index_bits<F>(vals: &mut [F], row_width: usize) {
@@ -266,7 +203,6 @@ pub fn reverse_slice_row_index_bits<F>(vals: &mut [F], row_width: usize) {
     }
 }
 
-/// Panics with a message that says why the length does not fit the row width.
 #[cold]
 #[inline(never)]
 #[track_caller]
@@ -278,10 +214,20 @@ fn refuse_rows(len: usize, row_width: usize) -> ! {
     }
 }
 
-/// Cuts the items of `iter` up to its first `None` into arrays of `N` items.
+/// Cuts the items of `iter` up to its first `None` into arrays of `N` items. If `N` is 0, there is no array.
 ///
-/// If `N` does not divide their number, the last array is filled with `default`. If `N` is 0, there is no array. This
-/// is the proved [`kernels::chunks::iter_array_chunks_padded`].
+/// If `N` does not divide their number, the last array is filled with `default`. In [`apply_to_chunks`] the last chunk is
+/// shorter instead. This is the proved [`kernels::chunks::iter_array_chunks_padded`].
+///
+/// ```
+/// use p3_util_proved::{apply_to_chunks, iter_array_chunks_padded};
+///
+/// assert!(iter_array_chunks_padded([1, 2, 3], 0).eq([[1, 2], [3, 0]]));
+///
+/// let mut sums = vec![];
+/// apply_to_chunks::<2, _, _>([1, 2, 3, 4, 5], |chunk| sums.push(chunk.iter().sum::<u8>()));
+/// assert_eq!(sums, [3, 7, 5]);
+/// ```
 #[inline]
 pub fn iter_array_chunks_padded<T: Copy, const N: usize>(
     iter: impl IntoIterator<Item = T>,
@@ -292,11 +238,9 @@ pub fn iter_array_chunks_padded<T: Copy, const N: usize>(
 
 /// The short name of `T`: `alloc::vec::Vec<core::option::Option<u32>>` becomes `Vec<Option<u32>>`.
 ///
-/// This is what [`kernels::bits::pretty_name`] returns for the name that the compiler gives.
-///
 /// # Panics
 ///
-/// If memory runs out.
+/// If memory runs out. The proved [`kernels::bits::pretty_name`] returns an error then.
 #[track_caller]
 pub fn pretty_name<T>() -> String {
     memory::granted(kernels::bits::pretty_name(memory::Global, type_name::<T>())).into()

@@ -1,5 +1,4 @@
-//! A map that keeps its pairs in the order of insertion. It finds a key by comparing it with one stored key after the
-//! other.
+//! A map that keeps its pairs in the order of insertion.
 
 use core::alloc::Layout;
 use core::fmt::{self, Debug, Formatter};
@@ -15,9 +14,8 @@ use crate::memory::{Global, granted};
 /// A lookup compares one stored key after the other with the given one, as in `stored == given`, until one is equal. So
 /// a lookup takes time proportional to the number of pairs, and inserting n new keys takes time proportional to n^2.
 ///
-/// Each method calls the method of the same name of the proved [`kernels::linear_map::LinearMap`](proved::LinearMap),
-/// whose contract says what it does. If memory runs out, the proved method returns an error, and the method here
-/// panics.
+/// Each method calls the one of the same name of the proved [`kernels::linear_map::LinearMap`](proved::LinearMap), whose
+/// contract says what it does. If memory runs out, that one returns an error, and the method here panics.
 ///
 /// ```
 /// use p3_util_proved::linear_map::LinearMap;
@@ -40,8 +38,7 @@ impl<K: Eq, V> LinearMap<K, V> {
     ///
     /// # Panics
     ///
-    /// With `capacity overflow`, as the original does, if `capacity` pairs take more than `isize::MAX` bytes, and if
-    /// memory runs out.
+    /// With `capacity overflow` if `capacity` pairs take more than `isize::MAX` bytes, and if memory runs out.
     #[track_caller]
     pub fn with_capacity(capacity: usize) -> Self {
         assert!(Layout::array::<(K, V)>(capacity).is_ok(), "capacity overflow");
@@ -61,21 +58,14 @@ impl<K: Eq, V> LinearMap<K, V> {
     /// Stores the value `v` for the key `k`, and returns the value that was stored for an equal key before.
     ///
     /// If there was an equal key, that key stays, at its place in the order. Otherwise the new pair goes to the end.
-    ///
-    /// # Panics
-    ///
-    /// If memory runs out.
+    /// Panics if memory runs out.
     #[track_caller]
     pub fn insert(&mut self, k: K, v: V) -> Option<V> {
         granted(self.0.insert(k, v))
     }
 
     /// A mutable reference to the value of `k`. A new key is added at the end, with the value that `f` returns. For a
-    /// known key `f` is not called.
-    ///
-    /// # Panics
-    ///
-    /// If memory runs out.
+    /// known key `f` is not called. Panics if memory runs out.
     #[track_caller]
     #[doc(alias = "entry")]
     pub fn get_or_insert_with(&mut self, k: K, f: impl FnOnce() -> V) -> &mut V {
@@ -111,11 +101,7 @@ impl<K: Eq, V> Default for LinearMap<K, V> {
     }
 }
 
-/// Inserts the pairs one after the other.
-///
-/// # Panics
-///
-/// If memory runs out.
+/// Inserts the pairs one after the other. Panics if memory runs out.
 impl<K: Eq, V> FromIterator<(K, V)> for LinearMap<K, V> {
     #[track_caller]
     fn from_iter<I: IntoIterator<Item = (K, V)>>(pairs: I) -> Self {
@@ -123,11 +109,7 @@ impl<K: Eq, V> FromIterator<(K, V)> for LinearMap<K, V> {
     }
 }
 
-/// The value of the pair whose key equals `k`.
-///
-/// # Panics
-///
-/// If there is no such pair.
+/// The value of the pair whose key equals `k`. Panics if there is no such pair.
 impl<K: Eq, V> Index<&K> for LinearMap<K, V> {
     type Output = V;
 

@@ -1,5 +1,4 @@
-//! The types that the proved sources use instead of `Vec` and `String`. Their calls return an error if memory runs out,
-//! and the error types implement the traits that Rust expects of an error.
+//! `Vec` and `String` as the proved sources use them: a call that needs memory returns an error if there is none.
 
 use core::error::Error;
 use core::fmt::{self, Debug, Display, Formatter};
@@ -34,15 +33,10 @@ impl<G: Debug> Error for NoRoom<G> {}
 /// The error of a call for which there was no memory, with the item that was not added.
 #[derive(Debug)]
 pub struct PushError<T> {
-    /// The item that was not added.
     pub value: T,
 }
 
-/// Returns the value of a successful call that allocates.
-///
-/// # Panics
-///
-/// If the call failed because there was no memory.
+/// The value of a call that allocates. Panics if there was no memory.
 #[track_caller]
 pub(crate) fn granted<T, E>(answer: Result<T, E>) -> T {
     match answer {
@@ -51,8 +45,7 @@ pub(crate) fn granted<T, E>(answer: Result<T, E>) -> T {
     }
 }
 
-/// A string whose calls return an error if there is no memory for it to grow. It is read as a `str`, and `into` turns
-/// it into the `String` of `alloc`.
+/// A string whose calls return an error if there is no memory. `into` turns it into the `String` of `alloc`.
 #[derive(Clone, PartialEq, Eq)]
 pub struct String(alloc::string::String);
 
@@ -104,29 +97,25 @@ impl From<String> for alloc::string::String {
     }
 }
 
-/// A vector whose calls return an error if there is no memory for it to grow.
+/// A vector whose calls return an error if there is no memory.
 #[derive(Debug, PartialEq, Eq)]
 pub struct Vec<T>(alloc::vec::Vec<T>);
 
 impl<T> Vec<T> {
-    /// An empty vector. It allocates nothing.
     pub fn new(_: Global) -> Self {
         Vec(alloc::vec::Vec::new())
     }
 
-    /// An empty vector with room for `items` items.
     pub fn with_capacity(_: Global, items: usize) -> Result<Self, AllocError> {
         let mut list = Vec::new(Global);
         list.0.try_reserve_exact(items).map_err(|_| AllocError)?;
         Ok(list)
     }
 
-    /// Makes room for `items` more items.
     pub fn reserve(&mut self, items: usize) -> Result<(), AllocError> {
         self.0.try_reserve(items).map_err(|_| AllocError)
     }
 
-    /// Appends `value`.
     pub fn push(&mut self, value: T) -> Result<(), PushError<T>> {
         match self.reserve(1) {
             Ok(()) => {
@@ -142,7 +131,6 @@ impl<T> Vec<T> {
         self.0.push(value);
     }
 
-    /// The items as a slice.
     pub fn as_slice(&self) -> &[T] {
         &self.0
     }

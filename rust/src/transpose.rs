@@ -26,7 +26,6 @@ use crate::slices;
 /// ```
 ///
 /// # Contract of the kernel
-///
 #[doc = include_str!("kernels/contracts/transpose.txt")]
 #[inline]
 #[track_caller]
@@ -36,8 +35,7 @@ pub fn transpose<T: Copy + Send + Sync>(input: &[T], output: &mut [T], width: us
     }
 }
 
-/// Panics with the original's message about the first length that is not `width * height`. Here the product is computed
-/// without overflow.
+/// Panics with the original's message about the first length that is not `width * height`.
 #[cold]
 #[inline(never)]
 #[track_caller]

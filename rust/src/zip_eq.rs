@@ -7,8 +7,7 @@ use crate::kernels::zip_eq as proved;
 
 /// Pairs the items of `a` and `b` in order, or returns `err` if their lengths differ.
 ///
-/// This is the proved [`kernels::zip_eq::zip_eq`](proved::zip_eq), with the original's type parameters, and with the
-/// original's panic in [`ZipEq`].
+/// This is the proved [`kernels::zip_eq::zip_eq`](proved::zip_eq), except for the original's panic in [`ZipEq`].
 ///
 /// ```
 /// use p3_util_proved::zip_eq::zip_eq;
@@ -31,14 +30,11 @@ where
 
 /// The iterator that [`zip_eq`] returns.
 ///
-/// Each call of `next` calls the proved `next_of_each`, which calls `next` of both iterators. The proved
-/// [`kernels::zip_eq::ZipEq`](proved::ZipEq) does the same, and ends with the shorter side.
-///
 /// # Panics
 ///
-/// If one of the two iterators ends before the other, so that one of them stated a false length. Since a loop does not go
-/// on after that, the compiler makes faster loops than with the proved iterator. The panic is reported at the line of a
-/// `for` loop, or at a line of std if a method such as `collect` calls `next`.
+/// If one of the two iterators ends before the other, so that one of them stated a false length. The proved
+/// [`kernels::zip_eq::ZipEq`](proved::ZipEq) ends with the shorter one. The compiler makes faster loops of this one, since
+/// a loop does not go on after the panic.
 #[derive(Clone)]
 #[must_use = "iterators are lazy and do nothing unless consumed"]
 pub struct ZipEq<A, B>(proved::ZipEq<A, B>);
