@@ -1,84 +1,26 @@
 //! Transposes and reversals in parts, for threads of your own. This package starts none.
 //!
-//! A call is cut into parts. They may run in any order, at the same time, each on any thread. All parts together have
-//! the same effect as the call. Nothing is allocated.
+//! The parts of a call may run in any order, at the same time, each on any thread. All parts together have the same
+//! effect as the call. Nothing is allocated.
 //!
 //! ```
-//! use std::thread::scope;
-//!
-//! use p3_util_proved::parts;
-//!
-//! let matrix: Vec<u32> = (0..6000).collect();
-//! let mut columns = vec![0; 6000];
-//! scope(|threads| {
-//!     for part in parts::transpose(&matrix, &mut columns, 60, 100, 4) {
-//!         threads.spawn(|| part.run());
-//!     }
-//! });
-//! assert_eq!(columns[..3], [0, 60, 120]);
-//!
 //! let mut list: Vec<u32> = (0..1 << 20).collect();
-//! scope(|threads| {
-//!     for part in parts::reversal(&mut list, 16) {
+//! std::thread::scope(|threads| {
+//!     for part in p3_util_proved::parts::reversal(&mut list, 16) {
 //!         threads.spawn(|| part.run());
 //!     }
 //! });
 //! assert_eq!(list[..3], [0, 1 << 19, 1 << 18]);
 //! ```
 //!
-//! With rayon, run the parts by `parts.par_bridge().for_each(ReversalPart::run)`, or by
-//! `parts.collect::<Vec<_>>().into_par_iter().for_each(ReversalPart::run)`. The first way needs no list of the parts:
-//! each thread takes the next part behind a lock. Both ways return when all parts are done.
+//! Parts differ in size, so ask for about four parts for each thread. With rayon, run them by
+//! `parts.par_bridge().for_each(ReversalPart::run)`, which returns when all parts are done. Threads that already wait for
+//! work make a reversal faster from about 2^17 items of 4 bytes on, and threads started for the call from 2 to 4 MiB on.
 //!
-//! # How many parts
-//!
-//! With the argument `parts` you ask for a number of parts, 0 for 1. A transpose has at most as many. A reversal is cut like a
-//! square, by a grid. If you ask for N parts, each side is cut into at most P = 1 + ⌊2√(N − 1)⌋ ranges, and each patch of the
-//! grid on or above the diagonal is a part. These are P(P + 1) / 2 parts, about two for each that you ask for. There are
-//! twice as many if there are two squares, and fewer if a side is too short for P ranges.
-//!
-//! ```
-//! use p3_util_proved::parts::reversal;
-//!
-//! // The number of items, how many parts are asked for, and how many parts there are.
-//! let table = [
-//!     (1 << 20, 16, 36),
-//!     (1 << 21, 16, 72),
-//!     (1 << 20, 64, 136),
-//!     (1 << 20, 256, 528),
-//! ];
-//! # if cfg!(not(feature = "checked")) {
-//! for (items, asked, parts) in table {
-//!     let mut list = vec![0u8; items];
-//!     assert_eq!(reversal(&mut list, asked).len(), parts);
-//! }
-//! # }
-//! ```
-//!
-//! Four parts for each thread are a good number to ask for. Parts differ in size: a patch on a diagonal has about half as
-//! many exchanges as a patch above it. Threads that already wait for work, such as those of rayon's pool, make a reversal
-//! faster from about 2^17 items of 4 bytes on. If you start threads for the call, they do from 2 to 4 MiB on.
-//!
-//! - A transpose is cut along its longer side, at multiples of 16 rows or columns.
-//! - A reversal of up to [`one_part_reversal`] items is one part. A longer one, of 2^k items, is cut like a square of
-//!   2^(k / 2) rows and columns, or like two squares if k is odd, at multiples of 8.
-//! - A reversal of rows is cut in the same way, at multiples of 8 if a row has as many bytes as an item that has kernels in
-//!   this package, and otherwise at any number.
-//! - A list that is empty, or whose items have no bytes, has no parts.
-//! - With the feature `checked` a transpose is cut along its columns, and a reversal is one part.
-//!
-//! # What is not run
-//!
-//! A part that is dropped without being run leaves its cells, or its pairs of items, as they are. The loop
-//! `for _part in parts {}` drops all parts, and the compiler does not warn about this. Whatever you drop, forget or run in
-//! another order, and wherever a panic comes from, memory is safe, and a reversal leaves each item once.
-//!
-//! # Why this is safe
-//!
-//! It is proved that no two parts make a step at the same index, and that the steps of all parts, interleaved in any way,
-//! have the effect of the call. A part runs at most once, because `run` consumes it, and borrows the list until then. The
-//! section "Threads" of the package's README says exactly what is proved, and what is checked by review.
-//! [`kernels::contracts::parts`](crate::kernels::contracts::parts) has the contracts.
+//! A part that is dropped without being run leaves its cells, or its pairs of items, as they are. The compiler does not
+//! warn about `for _part in parts {}`, which drops all of them. Whatever you drop, forget or run in another order, and
+//! wherever a panic comes from, memory is safe, and a reversal leaves each item once. README says under "Threads" what is
+//! proved and what is reviewed, and [`kernels::contracts::parts`](crate::kernels::contracts::parts) has the contracts.
 use core::fmt;
 use core::iter::FusedIterator;
 use core::ops::Range;
@@ -97,7 +39,7 @@ const ONE_PART_BYTES: usize = 1 << 21;
 /// The greatest number of items of this type that [`reversal`] and [`row_reversal`] leave as one part.
 ///
 /// It is 2^16, or the number of items that 2^21 bytes hold if that is less. Up to about that number, the call takes
-/// less time than its parts on the threads of a pool.
+/// less time than its parts on the threads of a pool. With the feature `checked` each reversal is one part.
 ///
 /// ```
 /// use p3_util_proved::parts::one_part_reversal;
@@ -107,8 +49,6 @@ const ONE_PART_BYTES: usize = 1 << 21;
 /// assert_eq!(one_part_reversal::<[u64; 8]>(), 1 << 15);
 /// # }
 /// ```
-///
-/// With the feature `checked` each reversal is one part, however many items it has.
 #[must_use]
 pub const fn one_part_reversal<F>() -> usize {
     if cfg!(feature = "checked") {
@@ -124,8 +64,7 @@ pub const fn one_part_reversal<F>() -> usize {
 #[must_use = "a part that is not run leaves its cells as they are"]
 pub struct TransposeParts<'a, T>(PartsToRun<'a, T, MatrixPlan<'a, T>>);
 
-/// A part of a transpose. It is `Send` if its items are `Send` and `Sync`. It is `Sync` if they are, and it cannot be
-/// cloned.
+/// A part of a transpose. It is `Send` if its items are `Send` and `Sync`, and it is `Sync` if they are.
 #[must_use = "a part that is not run leaves its cells as they are"]
 pub struct TransposePart<'a, T>(PartsToRun<'a, T, MatrixPlan<'a, T>>);
 
@@ -133,30 +72,27 @@ pub struct TransposePart<'a, T>(PartsToRun<'a, T, MatrixPlan<'a, T>>);
 #[must_use = "a part that is not run leaves the list neither as it was nor reversed"]
 pub struct ReversalParts<'a, F>(PartsToRun<'a, F, RowPlan>);
 
-/// A part of a reversal. It is `Send` if its items are, and `Sync` if they are. It cannot be cloned.
+/// A part of a reversal. It is `Send` if its items are, and `Sync` if they are.
 #[must_use = "a part that is not run leaves the list neither as it was nor reversed"]
 pub struct ReversalPart<'a, F>(PartsToRun<'a, F, RowPlan>);
 
-/// The greatest number of ranges that a side is cut into if the caller asks for `parts` parts. P ranges of a side make
-/// P(P + 1) / 2 patches. These are about two for each part that the caller asks for, so that threads that take one patch
-/// after the other end at about the same time. More patches would be smaller, and small patches make less use of the
-/// caches.
+/// The greatest number of ranges that a side is cut into if the caller asks for `parts` parts. There are about two patches
+/// for each such part, so that threads that take one patch after the other end at about the same time. More patches would
+/// be smaller, and small patches make less use of the caches.
 const fn parts_of_side(parts: usize) -> usize {
     1 + parts.saturating_sub(1).saturating_mul(4).isqrt()
 }
 
 /// The parts of a call that have these numbers, and the list. No other `PartsToRun` of the call has one of these numbers.
 ///
-/// [`transpose`] and [`cut`] set the fields together: `items` is the list that `plan` was made for,
-/// and `numbers` are below the number of parts of `plan`. The fields are private, and `PartsToRun` is not `Clone`, so
-/// this stays true.
+/// [`transpose`] and [`cut`] set the fields together: `items` is the list that `plan` was made for, and `numbers` are below
+/// the number of its parts. This stays true, since the fields are private and there is no `Clone`.
 struct PartsToRun<'a, T, P> {
     items: SliceItems<'a, T>,
     plan: P,
     numbers: Range<usize>,
 }
 
-/// A matrix, and the plan by which it is transposed in regions.
 type MatrixPlan<'a, T> = (Matrix<&'a [T]>, TransposePlan);
 
 /// A reversal of rows of `width` places, of `place` bytes each. If it is cut, its parts are patches of `pairs`.
@@ -184,7 +120,17 @@ impl RowPlan {
     }
 }
 
-/// Cuts [`transpose::transpose`](crate::transpose::transpose) into at most `parts` parts.
+/// Cuts [`transpose::transpose`](crate::transpose::transpose) into at most `parts` parts, 0 for 1.
+///
+/// The longer side is cut, at multiples of 16 rows or columns. With the feature `checked` the columns are cut. A list that
+/// is empty, or whose items have no bytes, has no parts.
+///
+/// ```
+/// let matrix: Vec<u32> = (0..6000).collect();
+/// let mut columns = vec![0; 6000];
+/// p3_util_proved::parts::transpose(&matrix, &mut columns, 60, 100, 4).for_each(|part| part.run());
+/// assert_eq!(columns[..3], [0, 60, 120]);
+/// ```
 ///
 /// # Panics
 ///
@@ -210,10 +156,23 @@ pub fn transpose<'a, T: Copy + Send + Sync>(
     TransposeParts(PartsToRun { items, plan, numbers })
 }
 
-/// Cuts [`reverse_slice_index_bits`](crate::reverse_slice_index_bits) into parts. `parts` determines [how
-/// many](self#how-many-parts).
+/// Cuts [`reverse_slice_index_bits`](crate::reverse_slice_index_bits) into about twice as many parts as you ask for.
 ///
-/// Items go to other threads, but no two threads share one, so they need not be `Sync`.
+/// A list of up to [`one_part_reversal`] items is one part, and one that is empty, or whose items have no bytes, has none.
+/// A longer one, of 2^k items, is cut like a square of 2^(k / 2) rows and columns, or like two squares if k is odd. If
+/// you ask for N parts, 0 for 1, each side is cut into at most P = 1 + ⌊2√(N − 1)⌋ ranges, and each patch of a square on
+/// or above its diagonal is a part. These are P(P + 1) / 2 parts for each square, and fewer if its sides are too short:
+///
+/// ```
+/// # if cfg!(not(feature = "checked")) {
+/// use p3_util_proved::parts::reversal;
+///
+/// let mut list = vec![0u8; 1 << 21];
+/// assert_eq!(reversal(&mut list, 16).len(), 72);
+/// let square = &mut list[..1 << 20];
+/// assert_eq!([16, 64, 256].map(|parts| reversal(square, parts).len()), [36, 136, 528]);
+/// # }
+/// ```
 ///
 /// # Panics
 ///
@@ -224,10 +183,7 @@ pub fn reversal<F: Send>(vals: &mut [F], parts: usize) -> ReversalParts<'_, F> {
     row_reversal(vals, 1, parts)
 }
 
-/// Cuts [`reverse_slice_row_index_bits`](crate::reverse_slice_row_index_bits) into parts. `parts` determines [how
-/// many](self#how-many-parts).
-///
-/// Items go to other threads, but no two threads share one, so they need not be `Sync`.
+/// Cuts [`reverse_slice_row_index_bits`](crate::reverse_slice_row_index_bits) into parts, as [`reversal`] does.
 ///
 /// # Panics
 ///
@@ -243,8 +199,7 @@ pub fn row_reversal<F: Send>(vals: &mut [F], row_width: usize, parts: usize) -> 
 }
 
 /// The parts of a reversal, or `None` if the length does not fit the row width. Each side of a square is cut into at most
-/// `parts` parts. A list of up to `one_part` items is one part. A list that is empty, or whose items have no bytes, has
-/// no part.
+/// `parts` ranges. A list of up to `one_part` items is one part.
 pub(super) fn cut<F>(vals: &mut [F], row_width: usize, parts: usize, one_part: usize) -> Option<ReversalParts<'_, F>> {
     let len = vals.len();
     let (plan, count) = RowPlan::new(len, size_of::<F>(), row_width, parts, one_part)?;
@@ -253,7 +208,6 @@ pub(super) fn cut<F>(vals: &mut [F], row_width: usize, parts: usize, one_part: u
 }
 
 impl<T, P: Copy> PartsToRun<'_, T, P> {
-    /// Removes the first part and returns it.
     fn split_first(&mut self) -> Option<Self> {
         // `Range::next` yields each number once, so no two parts have the same number, and parts with different numbers
         // have no place in common. Therefore the part may have a share of `items` while other parts have theirs.
@@ -300,7 +254,6 @@ impl<F> ReversalPart<'_, F> {
     }
 }
 
-/// What the parts of both calls have in common.
 macro_rules! iterators {
     ($($parts:ident $part:ident)*) => {$(
         impl<'a, T> Iterator for $parts<'a, T> {
