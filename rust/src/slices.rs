@@ -1,22 +1,10 @@
-//! Runs the kernels on slices, as whole calls and in parts. This file checks the preconditions that the holders trust.
-//! Nothing outside this folder can make a holder.
+//! Runs the kernels on slices, as whole calls and in parts. This file and `parts.rs` check the preconditions that the
+//! holders trust. Nothing outside this folder can make a holder.
 //!
-//! | File | What it may do | What it trusts |
-//! |---|---|---|
-//! | this one | check a precondition, make a holder, and give out each part once | the contracts of the kernels |
-//! | `choice.rs` | choose how a matrix is put | nothing: each way is right for every matrix |
-//! | `by_size.rs`, `by_type.rs` | choose the instance of a kernel | that the precondition was checked |
-//! | `holders.rs` | unsafe code: move items by index, without a check | that each index meets the contract of its step |
-//! | `holders/bytes.rs` | unsafe code: move the bytes of an item, or of a run of items | that they are within the list |
-//! | `holders/registers.rs` | unsafe code: interleave and halve registers | nothing: each of its functions is defined for all registers |
-//! | `holders/cache.rs` | unsafe code: instructions on the caches | nothing: they change no memory |
-//!
-//! It is proved that a kernel whose own precondition holds meets the preconditions of the steps of every holder. So the
-//! holders check no index. Those of `checked.rs`, which the feature `checked` puts in their place, check each one.
-//!
-//! The parts of a call share one list, see `SliceItems`. Proved code (`kernels/parts.rs`) decides which parts a call has
-//! and what each part does. The section "Threads" of the package's README says what is proved of them, and what is
-//! checked by review.
+//! It is proved that a kernel whose own precondition holds meets the preconditions of the steps of every holder. So
+//! `holders.rs` and its folder, which have all the unsafe code, check no index. With the feature `checked`, the holders of
+//! `checked.rs` are used instead, which check each one. `choice.rs` chooses how a matrix is put: each choice is right
+//! for every matrix. `by_size.rs` and `by_type.rs` choose the instance of a kernel.
 
 use crate::kernels::reverse::fits_rows;
 use crate::kernels::transpose::fits_matrix;
@@ -46,8 +34,7 @@ pub(crate) fn reverse<F>(vals: &mut [F]) -> bool {
     fits
 }
 
-/// Reverses the order of the rows of `vals`, of `row_width` items each, by index bits if the number of rows is zero or
-/// a power of two. Returns whether it is.
+/// Reverses rows of `row_width` items each by index bits, if their number is zero or a power of two. Returns whether it is.
 #[inline]
 pub(crate) fn reverse_rows<F>(vals: &mut [F], row_width: usize) -> bool {
     let fits = fits_rows(vals.len(), row_width);
@@ -57,8 +44,7 @@ pub(crate) fn reverse_rows<F>(vals: &mut [F], row_width: usize) -> bool {
     fits
 }
 
-/// Transposes `input`, a matrix of `height` rows of `width` items, into `output` if both lists have `width * height`
-/// items. Returns whether they have.
+/// Transposes `input` into `output` if both lists have `width * height` items. Returns whether they have.
 #[inline]
 pub(crate) fn transpose<T: Copy>(input: &[T], output: &mut [T], width: usize, height: usize) -> bool {
     let fits = fits_matrix(input.len(), output.len(), width, height);

@@ -1,10 +1,9 @@
 //! Kernels that are compiled for each size of item, and not for each type. Only `slices.rs` uses this file.
 //!
-//! A kernel moves items and never looks at one. So all that an instance of a kernel has to know of the type is how many
-//! bytes an item has. The instances for the sizes in the table of `by_size!`, and for rows, are compiled in this package:
-//! those of `reverse_places`, `exchange_places` and `put_bytes` name every size, and are not generic. A crate that uses the
-//! package calls them. It compiles kernels of its own only for items of other sizes: rustc, from 1.85 on, does not compile a
-//! generic function again that is not inlined and that the package has compiled for the same types.
+//! A kernel never looks at an item, so an instance only has to know how many bytes an item has. Those for the sizes in the
+//! table of `by_size!`, and for rows, are compiled in this package, because `reverse_places`, `exchange_places` and
+//! `put_bytes` are not generic and name every size. From 1.85 on, rustc does not compile a generic function again in a
+//! crate that uses the package, if it is not inlined and the package has it for the same types.
 //!
 //! If the processor does not move unaligned bytes as fast as aligned ones, each type has kernels of its own.
 
@@ -41,7 +40,6 @@ macro_rules! by_size {
     };
 }
 
-/// Reverses items by index bits.
 #[inline(always)]
 pub(super) fn reverse<F>(items: SliceItems<F>) {
     if const { MOVES_BYTES && size_of::<F>() >= LONG_BYTES } {
@@ -54,7 +52,6 @@ pub(super) fn reverse<F>(items: SliceItems<F>) {
     );
 }
 
-/// Reverses the order of rows of `row_width` items by index bits.
 #[inline(always)]
 pub(super) fn reverse_rows<F>(items: SliceItems<F>, row_width: usize) {
     if MOVES_BYTES {
@@ -64,7 +61,6 @@ pub(super) fn reverse_rows<F>(items: SliceItems<F>, row_width: usize) {
     }
 }
 
-/// Puts a matrix.
 #[inline(always)]
 pub(super) fn put<T: Copy>(source: SliceSource<T>, cells: SliceItems<T>, width: usize, height: usize) {
     by_size!(
@@ -94,7 +90,6 @@ pub(super) fn place(size: usize, row: usize) -> usize {
     }
 }
 
-/// Makes the exchanges of part `number`.
 #[inline(always)]
 pub(super) fn exchange<F>(items: SliceItems<F>, plan: RowPlan, number: usize) {
     if const { by_size!(size_of::<F>()) } || plan.place != size_of::<F>() {
@@ -104,7 +99,6 @@ pub(super) fn exchange<F>(items: SliceItems<F>, plan: RowPlan, number: usize) {
     }
 }
 
-/// The same matrix, with its items as bytes.
 #[inline(always)]
 fn in_bytes<T: Copy, const N: usize>(matrix: Matrix<SliceSource<T>>) -> Matrix<SliceSource<Bytes<N>>> {
     Matrix::new(matrix.source.in_bytes(), matrix.width, matrix.height)

@@ -1,5 +1,4 @@
-//! Moves bytes of items: single items, and runs of them. What a byte means, or whether it was ever written, does not matter
-//! here.
+//! Moves the bytes of items, whatever they mean, and whether or not they were ever written.
 
 use core::mem::MaybeUninit;
 use core::sync::atomic::{Ordering, compiler_fence};
@@ -21,20 +20,17 @@ pub(crate) const MOVES_BYTES: bool = cfg!(not(unaligned_is_slow))
 /// An item of `N` bytes, of which only the size is known, or a row of such items.
 ///
 /// A copy of a `MaybeUninit` keeps each byte as it is, also if it was never written, and keeps the provenance of each
-/// pointer. That is true of the parts in which an item is copied too: each of them is a `MaybeUninit`. Its alignment
-/// is 1, which is weaker than that of any item, so a reference to these bytes is aligned wherever the item is. What
-/// moves here is always the bytes of whole items, within the list of these items. So each place has an item
-/// afterwards.
+/// pointer. So does a copy in parts: each part is a `MaybeUninit`. With an alignment of 1, a reference to these bytes is
+/// aligned wherever the item is. Only whole items move, within their list, so each place has an item afterwards.
 pub(crate) type Bytes<const N: usize> = [MaybeUninit<u8>; N];
 
-/// Some bytes at any address. At such a place, they are read and written like an item that is aligned.
+/// Some bytes at any address, which are read and written like an item that is aligned.
 #[derive(Clone, Copy)]
 #[repr(C, packed)]
 pub(super) struct Unaligned<P>(pub(super) P);
 
-/// Writes an item. Its bytes are written from the lowest address on, in parts of 16 bytes, and then one of 8, 4, 2 and 1 bytes
-/// for each digit of the size that is set. The compiler would write the upper part first, or parts that overlap. That takes
-/// longer, most of all if the item lies in two cache lines. With debug assertions, the parts would take longer.
+/// Writes an item in the order of [`move_bytes`]. The compiler would write the upper part first, or parts that overlap. That
+/// takes longer, most of all if the item lies in two cache lines, except with debug assertions.
 ///
 /// # Safety
 ///
@@ -56,8 +52,7 @@ pub(super) unsafe fn write_item<T>(to: *mut T, item: T) {
     }
 }
 
-/// Writes the parts of 16 bytes of an item. Within [`write_item`], these calls would make the reversal of 64 items of 3 and 5
-/// bytes slower, which have no such parts.
+/// Writes the parts of 16 bytes. Within [`write_item`], these calls would slow down the reversal of 64 items of 3 or 5 bytes.
 #[inline(always)]
 unsafe fn write_registers<T>(from: *mut u8, to: *mut u8) {
     // SAFETY: this is what the caller promises.
@@ -83,7 +78,7 @@ unsafe fn write_register<T, const AT: usize>(from: *mut u8, to: *mut u8) {
     }
 }
 
-/// Exchanges two runs of `len` bytes. This is compiled once for all types.
+/// Exchanges two runs of `len` bytes.
 ///
 /// # Safety
 ///
@@ -94,9 +89,9 @@ pub(super) unsafe fn swap_bytes(x: *mut u8, y: *mut u8, len: usize) {
     unsafe { move_bytes::<true>(x, y, 0, len) }
 }
 
-/// Copies the `len` bytes at `from` to `to`, except for the first `done`, which is a multiple of 16. If `BACK` is true, it also
-/// copies those at `to` to `from`. It moves parts of 16 bytes, and then one of 8, 4, 2 and 1 bytes for each digit of `len` that
-/// is set, from the lowest address on. Parts of single bytes would take longer: there may be up to 15 at the end.
+/// Copies the `len` bytes at `from` to `to`, except for the first `done`, which is a multiple of 16. If `BACK` is true, it
+/// also copies those at `to` to `from`. From the lowest address on, it moves parts of 16 bytes, and then one of 8, 4, 2 and
+/// 1 bytes for each digit of `len` that is set: up to 15 single bytes would take longer.
 ///
 /// # Safety
 ///
@@ -117,8 +112,7 @@ pub(super) unsafe fn move_bytes<const BACK: bool>(from: *mut u8, to: *mut u8, do
     }
 }
 
-/// Does the same as [`move_bytes`] for one part, if its size is a digit of `len` that is set. Returns how many bytes it moved.
-/// Some of them may never have been written.
+/// Does the same for one part, if its size is a digit of `len` that is set. Returns how many bytes it moved.
 #[inline(always)]
 unsafe fn move_part<P, const BACK: bool>(from: *mut u8, to: *mut u8, len: usize) -> usize {
     if len & size_of::<P>() == 0 {

@@ -1,12 +1,11 @@
-//! The vector registers of x86-64 and of aarch64, in which tiles and blocks of items of 1, 2, 4 and 8 bytes are
-//! transposed. This file says how a register is interleaved with another, and how it is halved. `holders.rs` reads and
-//! writes halves. Proved code (`kernels/registers.rs`) decides which ones, and at which places.
+//! How vector registers of x86-64 and aarch64 are interleaved and halved, to transpose tiles and blocks of items of 1, 2, 4
+//! and 8 bytes. `holders.rs` reads and writes halves. Proved code (`kernels/registers.rs`) decides which, and where.
 //!
-//! A register holds whole items. Items may be pointers, or have bytes that were never written, so a register must never
-//! be read as a number. It is a [`MaybeUninit`]: a copy of it keeps each byte as it is, and keeps the provenance of
-//! each pointer. The shuffles of `core::arch` take numbers. Therefore a shuffle here is one assembly instruction. It
-//! has the same effect as Rust code that moves such bytes one by one, and touches no memory. Items are read and written by
-//! Rust code, so a race detector sees these accesses. Only a store past the caches is assembly too.
+//! Items may be pointers, or have bytes that were never written, so a register must never be read as a number. It is a
+//! [`MaybeUninit`], and a copy of it keeps each byte, and the provenance of each pointer. The shuffles of `core::arch` take
+//! numbers. Therefore a shuffle here is one assembly instruction. It has the effect of Rust code that moves the bytes one
+//! by one, and touches no memory. Rust code reads and writes items, so a race detector sees these accesses. Only a store
+//! past the caches is assembly too.
 
 use core::mem::{MaybeUninit, transmute};
 
@@ -28,8 +27,7 @@ mod processor {
     pub(super) const HAS_REGISTERS: bool = true;
 }
 
-/// On other targets a register is only a name for 16 bytes. A half is an integer: where floats are not in vector registers,
-/// a move may change the bits of one that is no number.
+/// Only a name for 16 bytes. A half is an integer: where floats are not in vector registers, a move may change a NaN.
 #[cfg(not(any(
     all(target_arch = "aarch64", target_feature = "neon", target_endian = "little"),
     all(target_arch = "x86_64", target_feature = "sse2")
@@ -53,9 +51,8 @@ pub(crate) type Half = MaybeUninit<processor::Half>;
 #[derive(Clone, Copy)]
 pub(crate) struct Items<const N: usize>(Register);
 
-/// Defines the registers of items of some sizes. A line has the number of bytes of an item and the name of such parts of
-/// a register on aarch64. The next two have the name of a function, and the names of its one instruction on x86-64 and on
-/// aarch64.
+/// Defines registers. A line has the bytes of an item and aarch64's name of such parts of a register. Then it has the name
+/// of each function, and of its one instruction on x86-64 and on aarch64.
 macro_rules! registers {
     ($($bytes:literal $parts:literal $($name:ident $x86:literal $arm:literal)*;)*) => {$(
         impl registers::Register<Bytes<$bytes>> for Items<$bytes> {
