@@ -24,7 +24,7 @@ pub use Rattle.p3_util.proofs.Callers.Computed.{computed_list, computed_numbers,
 pub use Rattle.p3_util.proofs.Callers.Kept.{permuted_by_places, permuted, kept, kept_different, kept_sum}
 pub use Rattle.p3_util.proofs.Callers.LinearMap.{put_found, put_others, put_known, put_put, values_summed, value_within_sum, equal_pairs, pairs_compared}
 pub use Rattle.p3_util.proofs.Callers.Reverse.{equal_stay, mapped_between, reversed_by_index, reversed_even, reversed_odd, reversed_once, reversed_twice, rows_reversed_twice, reversed_by_places, reversed_longer, short_same}
-pub use Rattle.p3_util_kernels.proofs.ReversalLemmas.{reversed_place}
+pub use Rattle.p3_util_kernels.proofs.ReverseLemmas.Reversal.{reversed_place}
 pub use Rattle.p3_util.proofs.Callers.ReversedTables.{reversed_index, item_moved, ends_stay, reversed_read, even_read, odd_read, found_before}
 pub use Rattle.p3_util.proofs.Callers.Rows.{part_there, part_apart, part_within, row_moved, first_row_stays}
 pub use Rattle.p3_util.proofs.Callers.Square.{square_back, whole_square}
@@ -35,14 +35,14 @@ pub use Rattle.p3_util.proofs.Callers.ZipEq.{zip_place, length_zip, zip_swap, re
 -- last place of a square has every place of it
 pub use Rattle.p3_util.proofs.DiagonalLemmas.{SwapsAcross-item as item_across, square_place}
 -- two lists of one length with the same item at each place
-pub use Rattle.p3_util_kernels.proofs.SameList.{same_places}
+pub use Rattle.p3_util_kernels.proofs.PlacesLemmas.SameList.{same_places}
 -- a list that is counted from its end
 pub use Rattle.p3_util.proofs.ItemsAtLemmas.{from_end-swap as from_end_swapped, from_end-set as from_end_written}
 -- two lists joined to one: an exchange in the first, in the second or across both
 pub use Rattle.p3_util.proofs.TwoLists.{in-front as joined_front, in-back as joined_back, swap-sym as swap_turned}
 pub use Rattle.p3_util.proofs.JoinedLists.{across as joined_across}
 -- the splits of a transpose nest at most 57 levels deep
-pub use Rattle.p3_util_kernels.proofs.LevelsLemmas.{lev_le as levels_most}
+pub use Rattle.p3_util_kernels.proofs.TransposeLemmas.Levels.{lev_le as levels_most}
 -- Parts of rulesets, which `using` takes with their ruleset, and lemmas that a proof file names.
 pub use Rattle.p3_util.proofs.Callers.Bits.{rev_first, log_some, log_reversible, pair_below, power_of_two_test, half_length, log_of_power, large_power, below_large_power, product_reversible, product_length, bit_within, bit_cleared}
 pub use Rattle.p3_util.proofs.Callers.Chunks.{folded_sum, padded_index, padded_inside, padded_beyond, lane_item, lane_index}

@@ -10,9 +10,9 @@ use Rattle.p3_util.specs.Diagonal.{SwapsAcross}
 use Rattle.p3_util_kernels.specs.Halves.{IsCut}
 use Rattle.p3_util_kernels.specs.Region.{IsInRegion}
 use Rattle.p3_util_kernels.specs.Square.{IsSquareTransposed}
-use Rattle.p3_util_kernels.proofs.Exchange.{slice_get-swap_first, slice_get-swap_second, slice_get-swap_other}
-use Rattle.p3_util_kernels.proofs.MirroredLemmas.{Mirrored-cut, Mirrored-none}
-use Rattle.p3_util_kernels.proofs.RegionLemmas.{IsCut-cols, IsCut-rows}
+use Rattle.p3_util_kernels.proofs.PlacesLemmas.Exchange.{slice_get-swap_first, slice_get-swap_second, slice_get-swap_other}
+use Rattle.p3_util_kernels.proofs.GridLemmas.Mirrored.{Mirrored-cut, Mirrored-none}
+use Rattle.p3_util_kernels.proofs.TransposeLemmas.Region.{IsCut-cols, IsCut-rows}
 
 -- a list that has the last place of a square has every place of it
 pub square_place : (base stride a b last n : ℕ) → a ≤ last → b ≤ last → base + last * stride + last < n → base + a * stride + b < n

@@ -7,9 +7,9 @@ use Rattle.std.proofs.lemmas.List.{get_or-reverse, length-reverse, length-take-l
 use Rattle.std.proofs.lemmas.List.Edits.{length-swap}
 use Rattle.std.proofs.lemmas.Option.{slice_get-get_or}
 use Rattle.p3_util.specs.ItemsAt.{items_at}
-use Rattle.p3_util_kernels.proofs.ListParts.{slice_get-append_left, slice_get-append_right, slice_get-drop, slice_get-take}
-use Rattle.p3_util_kernels.proofs.Exchange.{slice_get-set_other, slice_get-set_same, slice_get-swap_first, slice_get-swap_other, slice_get-swap_second}
-use Rattle.p3_util_kernels.proofs.SameList.{same_places}
+use Rattle.p3_util_kernels.proofs.PlacesLemmas.ListParts.{slice_get-append_left, slice_get-append_right, slice_get-drop, slice_get-take}
+use Rattle.p3_util_kernels.proofs.PlacesLemmas.Exchange.{slice_get-set_other, slice_get-set_same, slice_get-swap_first, slice_get-swap_other, slice_get-swap_second}
+use Rattle.p3_util_kernels.proofs.PlacesLemmas.SameList.{same_places}
 
 module _ {A : Type 0} (place : ℕ → ℕ) where
   pub length-items_at : (n : ℕ) (xs : List A) → ((k : ℕ) → k < n → place k < length xs) → length (items_at place n xs) ≡ n

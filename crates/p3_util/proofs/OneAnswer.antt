@@ -10,7 +10,7 @@ use Rattle.p3_util.specs.declared.array_serialization.ArrayError.{ArrayError}
 use Rattle.p3_util.specs.declared.array_serialization.ArrayError.TheVariants.{NotArray, Element, Length}
 use Rattle.p3_util.specs.JsonArray.{Refusal, listed, IsCause, AreReadAs, IsListAnswer, IsArrayAnswer}
 use Rattle.p3_util.proofs.JsonLists.{same_elements, read_at}
-use Rattle.p3_util_kernels.proofs.ListParts.{slice_get-take}
+use Rattle.p3_util_kernels.proofs.PlacesLemmas.ListParts.{slice_get-take}
 
 module _ {T : Type 0} (reading : Data → Result T Refusal) (wants_memory : Bool) (never : IsTrue wants_memory → ⊥) where
   -- an item that is read gives no cause for a refusal

@@ -13,7 +13,7 @@ use Rattle.std.specs.Prelude.{◌==◌}
 use Rattle.std.specs.List.{flat_map, range_with_len}
 use Rattle.p3_util.specs.Flat.{IsFlat, flat}
 use Rattle.p3_util.specs.Pieces.{piece_count, piece, pieces}
-use Rattle.p3_util_kernels.proofs.ListParts.{slice_get-drop, slice_get-take}
+use Rattle.p3_util_kernels.proofs.PlacesLemmas.ListParts.{slice_get-drop, slice_get-take}
 
 pub eq_zero-false : (n : ℕ) → 0 < n → (n == 0) ≡ false
 eq_zero-false n some = search (rules, tests)

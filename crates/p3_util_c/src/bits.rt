@@ -73,7 +73,7 @@ pub extern "C" fn p3_util_reverse_bits_len(x: usize, bit_len: usize, reversed: &
 }
 
 /// Whether `n` is a power of two.
-#[tactic(auto, using(p3_util_kernels::proofs::PowersLemmas::power_of_two_test))]
+#[tactic(auto, using(p3_util_kernels::proofs::BitsLemmas::Powers::power_of_two_test))]
 fn is_power_of_two(n: usize) -> bool
     ensures { IsTrue result ↔ IsPowerOfTwo n }
 {

@@ -79,7 +79,7 @@ pub const fn log2_ceil_usize(n: usize) -> usize
 }
 
 /// The logarithm of `n` to base 2, rounded down: the greatest `e` with `2^e <= n`. It is 0 for 0.
-#[tactic(auto, using(crate::proofs::PowersLemmas::exponents))]
+#[tactic(auto, using(crate::proofs::BitsLemmas::Powers::exponents))]
 #[inline]
 #[must_use]
 pub const fn log2_floor_usize(n: usize) -> usize
@@ -176,7 +176,7 @@ pub const fn is_power_of_three(n: usize) -> bool
 
 /// The table of all powers of three that fit in a `usize`. The highest set bits of any two of them
 /// are at different positions.
-#[tactic(auto, using(crate::proofs::Tables::powers))]
+#[tactic(auto, using(crate::proofs::BitsLemmas::Tables::powers))]
 #[inline]
 const fn powers_of_three() -> &'static [usize; 41]
     ensures powers { (e : ℕ) → e < 41 → slice_index result.now e ≡ 3 ^ e }

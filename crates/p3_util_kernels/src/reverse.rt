@@ -58,7 +58,7 @@ pub const fn fits_rows(len: usize, row_width: usize) -> bool
 ///
 /// With 2^k items, index `i` gets the item from the index that has the k bits of `i` in reversed
 /// order. A second call restores the original order. No item is cloned or dropped.
-#[tactic(auto, using(crate::proofs::ReversalLemmas::reversed_place))]
+#[tactic(auto, using(crate::proofs::ReverseLemmas::Reversal::reversed_place))]
 pub fn reverse_slice_index_bits<F>(vals: &mut [F])
     requires { IsReversible (length vals.old) }
     ensures order { IsReversal vals.old vals.new }
@@ -74,7 +74,7 @@ pub fn reverse_slice_index_bits<F>(vals: &mut [F])
 /// With 2^k items, index `i` gets the item from the index that has the k bits of `i` in reversed
 /// order. A list of n items takes at most 3n/2 swaps, which are counted from 0. The length must be
 /// zero or a power of two, which `fits_rows(places.len(), 1)` checks.
-#[tactic(auto, using(crate::proofs::SwapCountsLemmas::reversal_bound, crate::proofs::ReversalLemmas::reversed_place))]
+#[tactic(auto, using(crate::proofs::ReverseLemmas::SwapCounts::reversal_bound, crate::proofs::ReverseLemmas::Reversal::reversed_place))]
 #[inline(always)]
 pub fn reverse_counted<S: Places>(places: &mut S) -> u128
     requires { IsReversible (length (S.items places.old)) }
@@ -111,7 +111,7 @@ pub fn reverse_slice_row_index_bits<F>(vals: &mut [F], row_width: usize)
 /// With 2^k rows, the row at index `r` comes from the index that has the k bits of `r` in reversed
 /// order. The swaps are counted from 0. The number of rows must be zero or a power of two, which
 /// [`fits_rows`] checks.
-#[tactic(auto, using(crate::proofs::SwapCountsLemmas::rows_bound))]
+#[tactic(auto, using(crate::proofs::ReverseLemmas::SwapCounts::rows_bound))]
 #[inline(always)]
 pub fn reverse_rows_counted<S: Places>(places: &mut S, row_width: usize) -> u128
     requires { FitsRows (length (S.items places.old)) row_width }
@@ -133,7 +133,7 @@ pub fn reverse_rows_counted<S: Places>(places: &mut S, row_width: usize) -> u128
 ///
 /// A list of n items takes at most 3n/2 swaps. The length must be zero or a power of two, which
 /// `fits_rows(m.len(), 1)` checks.
-#[tactic(auto, using(crate::proofs::SwapCountsLemmas::reversal_bound, crate::proofs::ReversalLemmas::reversed_place))]
+#[tactic(auto, using(crate::proofs::ReverseLemmas::SwapCounts::reversal_bound, crate::proofs::ReverseLemmas::Reversal::reversed_place))]
 pub fn reverse_index_bits_on<S: Places>(m: &mut Swaps<S>)
     requires { IsReversible (length (S.items m.old.holder)) }
     ensures order { IsReversal (S.items m.old.holder) (S.items m.new.holder) }

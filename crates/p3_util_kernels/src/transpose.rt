@@ -68,7 +68,7 @@ pub const fn fits_matrix(input_len: usize, output_len: usize, width: usize, heig
 /// The item at `y * width + x` of `input` is put at `x * height + y` of `output`. If you transpose
 /// `output`, as a matrix of `width` rows of `height` items, you get `input` again. [`transpose_on`]
 /// writes the items in the same order.
-#[tactic(auto, using(crate::proofs::Matrix::transpose_turned))]
+#[tactic(auto, using(crate::proofs::TransposeLemmas::Matrix::transpose_turned))]
 pub fn transpose<T: Copy>(input: &[T], output: &mut [T], width: usize, height: usize)
     requires input_fits { length input.now ≡ width * height }
     requires output_fits { length output.old ≡ width * height }
@@ -283,7 +283,7 @@ where
 
 /// The kernel of [`transpose_source_region_on`]. It says by the bounds of the region, too, which
 /// cells it puts and which stay.
-#[tactic(auto, using(crate::proofs::RegionLemmas::region_put))]
+#[tactic(auto, using(crate::proofs::TransposeLemmas::Region::region_put))]
 #[inline(always)]
 fn put_region<M: Cells, R: Source<Item = M::Item> + Copy>(
     out: M,

@@ -3,8 +3,8 @@
 use Rattle.std.proofs.Common.{◌≡◌, ◌≢◌, ℕ, Bool, cond, ◌==◌, ◌+◌, ◌*◌, ◌/◌, ◌%◌, ◌<◌, IsTrue, List, length, slice_get, inl, inr, sym, subst, ◌∙◌, ap, arith}
 use Rattle.std.proofs.lemmas.Bool.{cases_eq}
 use Rattle.p3_util_kernels.specs.Least.{AllDiffer, AreOnceAmong, after_swaps, count_below, places_swapped}
-use Rattle.p3_util_kernels.proofs.Counts.{count-twice}
-use Rattle.p3_util_kernels.proofs.WrittenPlaces.{AreOnceAmong-weaker, Changed, swaps-places, swaps-written, written-at}
+use Rattle.p3_util_kernels.proofs.LawsLemmas.Counts.{count-twice}
+use Rattle.p3_util_kernels.proofs.PlacesLemmas.WrittenPlaces.{AreOnceAmong-weaker, Changed, swaps-places, swaps-written, written-at}
 
 -- whenever n exchanges turn `old` into `new`, their places all differ, change, and have the property
 -- `among`

@@ -12,11 +12,11 @@ use Rattle.p3_util_parts.specs.Parts.{part_of_matrix, parts_in}
 use Rattle.p3_util_parts.specs.PartSteps.{IsInPatch}
 use Rattle.p3_util_kernels.specs.Region.{IsInRegion}
 use Rattle.p3_util_parts.proofs.PatchesLemmas.{patch-alone, patch-same, patch-sides, patch-turned}
-use Rattle.p3_util_kernels.proofs.CrossingLemmas.{same_item}
+use Rattle.p3_util_kernels.proofs.ReverseLemmas.Crossing.{same_item}
 use Rattle.p3_util_parts.proofs.CutParts.{number-covered, part-same}
-use Rattle.p3_util_kernels.proofs.DigitsLemmas.{rev-lt}
-use Rattle.p3_util_kernels.proofs.GridRows.{place-row}
-use Rattle.p3_util_kernels.proofs.SideBySideLemmas.{in_row}
+use Rattle.p3_util_kernels.proofs.BitsLemmas.Digits.{rev-lt}
+use Rattle.p3_util_kernels.proofs.GridLemmas.Rows.{place-row}
+use Rattle.p3_util_kernels.proofs.ReverseLemmas.SideBySide.{in_row}
 
 -- the parts of a matrix
 module _ (width height : ℕ) (len step : ℕ) where

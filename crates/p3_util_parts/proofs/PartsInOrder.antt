@@ -18,14 +18,14 @@ use Rattle.p3_util_kernels.specs.Region.{IsInRegion, IsRegionTransposed, items_o
 use Rattle.p3_util_kernels.specs.Reversal.{IsRowReversal}
 use Rattle.p3_util_kernels.specs.SwapCounts.{row_swaps, short_swaps}
 use Rattle.p3_util_kernels.specs.Transpose.{IsTranspose}
-use Rattle.p3_util_kernels.proofs.CrossingLemmas.{IsRowReversal-crossed}
+use Rattle.p3_util_kernels.proofs.ReverseLemmas.Crossing.{IsRowReversal-crossed}
 use Rattle.p3_util_parts.proofs.CutParts.{start-end, start-next}
-use Rattle.p3_util_kernels.proofs.LevelsLemmas.{clog_power}
+use Rattle.p3_util_kernels.proofs.TransposeLemmas.Levels.{clog_power}
 use Rattle.p3_util_parts.proofs.PartPlaces.{InPairs, pairs-apart, pairs-exchanged, pairs-turned, place}
 use Rattle.p3_util_parts.proofs.PatchesLemmas.{patch-covered}
 use Rattle.p3_util_parts.proofs.PatchSums.{patch-swaps, patch_swaps, patches-sum, sum_below-next, sum_below-zero}
-use Rattle.p3_util_kernels.proofs.RegionLemmas.{IsCut-cols, IsCut-rows, IsRegionTransposed-cut}
-use Rattle.p3_util_kernels.proofs.SquareCounts.{squares-short}
+use Rattle.p3_util_kernels.proofs.TransposeLemmas.Region.{IsCut-cols, IsCut-rows, IsRegionTransposed-cut}
+use Rattle.p3_util_kernels.proofs.ReverseLemmas.SquareCounts.{squares-short}
 
 -- the rows or columns of a matrix that are before part n
 abbrev before : (width height : ℕ) (by_rows : Bool) (len step n : ℕ) → Region

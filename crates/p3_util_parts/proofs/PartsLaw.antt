@@ -22,18 +22,18 @@ use Rattle.p3_util_kernels.specs.SwapCounts.{row_swaps}
 use Rattle.p3_util_kernels.specs.Transpose.{IsTranspose}
 use Rattle.p3_util_parts.proofs.PatchesLemmas.{patch-covered}
 use Rattle.p3_util_parts.proofs.PatchSteps.{pairs-steps}
-use Rattle.p3_util_kernels.proofs.Counts.{count-all}
-use Rattle.p3_util_kernels.proofs.CrossingLemmas.{IsRowReversal-crossed}
+use Rattle.p3_util_kernels.proofs.LawsLemmas.Counts.{count-all}
+use Rattle.p3_util_kernels.proofs.ReverseLemmas.Crossing.{IsRowReversal-crossed}
 use Rattle.p3_util_parts.proofs.CutParts.{part-inside, side-cut}
-use Rattle.p3_util_kernels.proofs.Exchange.{slice_get-set_other, slice_get-set_same}
+use Rattle.p3_util_kernels.proofs.PlacesLemmas.Exchange.{slice_get-set_other, slice_get-set_same}
 use Rattle.p3_util_parts.proofs.InterleavedSteps.{after-length, all-changed, of-part, puts-are, swaps-are}
-use Rattle.p3_util_kernels.proofs.LeastLemmas.{count-moved, row_moves, rows-differ-where}
-use Rattle.p3_util_kernels.proofs.LevelsLemmas.{clog_power}
-use Rattle.p3_util_kernels.proofs.Matrix.{each_place}
+use Rattle.p3_util_kernels.proofs.LawsLemmas.Least.{count-moved, row_moves, rows-differ-where}
+use Rattle.p3_util_kernels.proofs.TransposeLemmas.Levels.{clog_power}
+use Rattle.p3_util_kernels.proofs.TransposeLemmas.Matrix.{each_place}
 use Rattle.p3_util_parts.proofs.PartPlaces.{pairs-apart, pairs-exchanged, pairs-inside, part-apart, part-covers, place}
 use Rattle.p3_util_parts.proofs.RegionSteps.{region-stays}
-use Rattle.p3_util_kernels.proofs.ReversalLemmas.{IsRowReversal-none}
-use Rattle.p3_util_kernels.proofs.WrittenPlaces.{AreOnceAmong-weaker, puts-places, puts-written, swaps-places, swaps-written, written-count}
+use Rattle.p3_util_kernels.proofs.ReverseLemmas.Reversal.{IsRowReversal-none}
+use Rattle.p3_util_kernels.proofs.PlacesLemmas.WrittenPlaces.{AreOnceAmong-weaker, puts-places, puts-written, swaps-places, swaps-written, written-count}
 
 -- the list of the numbers below n
 numbers-length : (n : ℕ) → length (numbers_below n) ≡ n

@@ -11,11 +11,11 @@ use Rattle.p3_util_parts.specs.PartSteps.{IsInPatch}
 use Rattle.p3_util_kernels.specs.Region.{items_of, rows_of}
 use Rattle.p3_util_kernels.specs.SwapCounts.{square_swaps}
 use Rattle.p3_util_parts.proofs.PatchesLemmas.{patch-above, patch-diagonal}
-use Rattle.p3_util_kernels.proofs.Counts.{count-all, count-first, count-same, count-times}
-use Rattle.p3_util_kernels.proofs.Matrix.{row_and_column, same_number}
+use Rattle.p3_util_kernels.proofs.LawsLemmas.Counts.{count-all, count-first, count-same, count-times}
+use Rattle.p3_util_kernels.proofs.TransposeLemmas.Matrix.{row_and_column, same_number}
 use Rattle.p3_util_parts.proofs.MirrorSteps.{mirror-stays}
 use Rattle.p3_util_parts.proofs.PartPlaces.{InPairs, pairs-inside, pairs-same, pairs-turned, place}
-use Rattle.p3_util_kernels.proofs.Pairs.{square_swaps-next}
+use Rattle.p3_util_kernels.proofs.GridLemmas.Pairs.{square_swaps-next}
 use Rattle.p3_util_parts.proofs.RegionSteps.{column, in_region, row}
 
 module _ (digits width step number : ℕ) (some : 0 < step) (middle : ℕ) (region : Region) (patch : IsPatch digits step number middle region) where

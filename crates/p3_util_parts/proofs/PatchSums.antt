@@ -10,8 +10,8 @@ use Rattle.p3_util_parts.specs.Parts.{number_of_pair, pairs_of, parts_in, start_
 use Rattle.p3_util_parts.specs.Patches.{IsPatch, patches_of, swaps_of_patch}
 use Rattle.p3_util_kernels.specs.SwapCounts.{square_swaps}
 use Rattle.p3_util_parts.proofs.CutParts.{pair-alone, pair-below, pair-number, start-below, start-end, start-next, start-rising}
-use Rattle.p3_util_kernels.proofs.DigitsLemmas.{sum_below-same, sum_below-scale}
-use Rattle.p3_util_kernels.proofs.Pairs.{mul-parts_left, pairs-add}
+use Rattle.p3_util_kernels.proofs.BitsLemmas.Digits.{sum_below-same, sum_below-scale}
+use Rattle.p3_util_kernels.proofs.GridLemmas.Pairs.{mul-parts_left, pairs-add}
 
 sum_below-none : (n : ℕ) → sum_below n (λ k. 0) ≡ 0
 unfolding sum_below

@@ -6,9 +6,9 @@ use Rattle.p3_util_kernels.specs.declared.transpose.regions.Region.{Region}
 use Rattle.p3_util_kernels.specs.Least.{AreOnceAmong, after_puts, places_put}
 use Rattle.p3_util_parts.specs.PartSteps.{IsPlaceOfRegion, NoItemInCommon}
 use Rattle.p3_util_kernels.specs.Region.{IsInRegion, IsRegionTransposed, LiesInMatrix, cols_of, items_of, rows_of}
-use Rattle.p3_util_kernels.proofs.Counts.{count-all}
-use Rattle.p3_util_kernels.proofs.Matrix.{row_and_column, same_number}
-use Rattle.p3_util_kernels.proofs.WrittenPlaces.{AreOnceAmong-weaker, puts-places, puts-written, written-at}
+use Rattle.p3_util_kernels.proofs.LawsLemmas.Counts.{count-all}
+use Rattle.p3_util_kernels.proofs.TransposeLemmas.Matrix.{row_and_column, same_number}
+use Rattle.p3_util_kernels.proofs.PlacesLemmas.WrittenPlaces.{AreOnceAmong-weaker, puts-places, puts-written, written-at}
 
 module _ (region : Region) where
   -- the column and the row of item i, if items are counted column by column

@@ -5,7 +5,7 @@ use Rattle.std.proofs.lemmas.Bool.{cases_lt}
 use Rattle.p3_util_kernels.specs.declared.places.Block.{Block}
 use Rattle.p3_util_kernels.specs.BlockPut.{BlockFits, IsBlockPut}
 use Rattle.p3_util_registers.specs.Registers.{AreApart, AreColumns, AreReached, AreStored, ColumnsPut, IsSide, RowsReached}
-use Rattle.p3_util_kernels.proofs.BlockPutLemmas.{in_block}
+use Rattle.p3_util_kernels.proofs.PlacesLemmas.Blocks.{in_block}
 use Rattle.p3_util_registers.proofs.RegistersTiles.{AreApart-rows, AreReached-rows, SquaresMoved-rows}
 
 -- what is in one column is before the next one

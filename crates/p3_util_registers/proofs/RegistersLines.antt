@@ -5,7 +5,7 @@ use Rattle.p3_util_kernels.specs.Stages.{item_at}
 use Rattle.p3_util_kernels.specs.declared.places.Block.{Block}
 use Rattle.p3_util_registers.specs.RegisterLines.{AreLines}
 use Rattle.p3_util_registers.specs.Registers.{AreInterleaved, AreLoaded, ColumnsPut, IsNextStage, IsRunStored, IsStored}
-use Rattle.p3_util_kernels.proofs.ListParts.{slice_get-append_left, slice_get-append_right}
+use Rattle.p3_util_kernels.proofs.PlacesLemmas.ListParts.{slice_get-append_left, slice_get-append_right}
 use Rattle.p3_util_registers.proofs.RegistersTiles.{outside}
 
 module _ {A : Type 0} (from width : ℕ) (rows : List ℕ) (list : List A) (a b d : List (List A)) (at : (r : ℕ) → r < 8 → slice_index rows r ≡ from + r * width) where

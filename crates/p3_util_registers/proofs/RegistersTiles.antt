@@ -3,7 +3,7 @@ use Rattle.std.proofs.Common.{◌≡◌, ◌≢◌, ℕ, ◌+◌, ◌-◌, ◌%�
 use Rattle.std.proofs.lemmas.Bool.{cases_eq, cases_lt}
 use Rattle.p3_util_kernels.specs.Exchanged.{AreTiles, IsTile, TileTurned, TilesExchanged}
 use Rattle.p3_util_registers.specs.Registers.{AreApart, AreColumns, AreReached, AreStored, IsSide, RowsExchanged, RowsReached, SquaresTurned, sum_of}
-use Rattle.p3_util_kernels.proofs.ExchangedTiles.{one_row, places-apart}
+use Rattle.p3_util_kernels.proofs.PlacesLemmas.Tiles.{one_row, places-apart}
 
 -- a place is outside a run if it is not in it
 pub outside : (p start count : ℕ) → (start ≤ p → p < start + count → ⊥) → (p < start) ⊎ (start + count ≤ p)

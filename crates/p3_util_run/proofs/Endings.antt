@@ -3,8 +3,8 @@ use Rattle.std.proofs.Common.{◌≡◌, ◌↔◌, ◌⊎◌, inl, inr, ℕ, Li
 use Rattle.std.specs.Prelude.{IsSomeAnd, ⊤}
 use Rattle.std.specs.Io.KnownBytes.{Appends}
 use Rattle.std.proofs.KnownBytes.{Consumes-whole}
-use Rattle.p3_util_kernels.proofs.Matrix.{IsTranspose-unique}
-use Rattle.p3_util_kernels.proofs.ReversalLemmas.{IsReversal-unique, IsRowReversal-unique}
+use Rattle.p3_util_kernels.proofs.TransposeLemmas.Matrix.{IsTranspose-unique}
+use Rattle.p3_util_kernels.proofs.ReverseLemmas.Reversal.{IsReversal-unique, IsRowReversal-unique}
 use Rattle.p3_util_run.proofs.NumberLists.{array_of_injective}
 use Rattle.p3_util_run.specs.Arrays.{IsArrayOf, array_of, line_of}
 use Rattle.p3_util_run.specs.Program.{Answers, Fault, Fits, IsDefined, IsRearranged, IsSettled, misfit, Out, ReadsAll, Refuses}

@@ -12,7 +12,7 @@ use Rattle.p3_util_transform.specs.declared.field.TheConstants.{HALF, PRIME}
 use Rattle.p3_util_transform.proofs.Inverse.{IsRoot-inverse}
 use Rattle.p3_util_transform.proofs.Remainders.{minus_one-odd, mod-add, mod-by_multiples, mod-mul, one-power, pow-mul}
 use Rattle.p3_util_transform.proofs.Sums.{sum_below-halves, sum_below-mod}
-use Rattle.p3_util_kernels.proofs.DigitsLemmas.{sum_below-same, sum_below-scale}
+use Rattle.p3_util_kernels.proofs.BitsLemmas.Digits.{sum_below-same, sum_below-scale}
 
 -- sums of sums, sums of ones, and sums in which only one term is not 0
 sum_below-add : (n : ℕ) (f g : ℕ → ℕ) → sum_below n (λ i. f i + g i) ≡ sum_below n f + sum_below n g

@@ -2,7 +2,7 @@
 use Rattle.std.proofs.Common.{◌≡◌, ◌≢◌, ℕ, suc, ◌+◌, ◌*◌, ◌/◌, ◌%◌, ◌^◌, ◌<◌, true, ◌==◌, get_or, refl, sym, ap, ◌∙◌, arith, eqb-true}
 use Rattle.std.proofs.Math.Nat.{pow-suc}
 use Rattle.std.proofs.lemmas.Nat.{pow-add, mul-pow, mul-mod_first, mul-mod_second, pow-mod}
-use Rattle.p3_util_kernels.proofs.Tables.{all_below, all_below-at}
+use Rattle.p3_util_kernels.proofs.BitsLemmas.Tables.{all_below, all_below-at}
 use Rattle.p3_util_transform.specs.declared.field.TheConstants.{PRIME, ROOTS}
 
 squares_pass : all_below (λ k. get_or ROOTS k 0 == get_or ROOTS (k + 1) 0 ^ 2 % PRIME) 27 ≡ true

@@ -6,7 +6,7 @@ use Rattle.p3_util.specs.Digits.{rev, sum_below}
 use Rattle.p3_util_transform.specs.Stages.{part}
 use Rattle.p3_util_transform.proofs.Remainders.{minus_one-square, minus_one-times, mod-add, mod-mul, one-power, pow-mul}
 use Rattle.p3_util_transform.proofs.Sums.{rev-double, sum_below-halves, sum_below-mod}
-use Rattle.p3_util_kernels.proofs.DigitsLemmas.{rev-zero, sum_below-same, sum_below-scale}
+use Rattle.p3_util_kernels.proofs.BitsLemmas.Digits.{rev-zero, sum_below-same, sum_below-scale}
 
 rev-even : (m b : ℕ) → rev (suc m) (2 * b) ≡ rev m b
 rev-even m b =

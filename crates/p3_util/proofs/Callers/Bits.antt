@@ -10,11 +10,11 @@ use Rattle.p3_util_kernels.specs.Digits.{rev}
 use Rattle.p3_util_kernels.specs.Powers.{HasLog2}
 use Rattle.p3_util_kernels.specs.Levels.{clog}
 use Rattle.p3_util_kernels.specs.Reversal.{IsReversible}
-use Rattle.p3_util_kernels.proofs.DigitsLemmas.{rev-parts, rev-of-zero, rev-rev-below, rev-shl, rev-suc, rev-zero, rev-lt}
-use Rattle.p3_util_kernels.proofs.LevelsLemmas.{clog_power}
-use Rattle.p3_util_kernels.proofs.Logs.{power_of_two}
-use Rattle.p3_util_kernels.proofs.Matrix.{row_and_column}
-use Rattle.p3_util_kernels.proofs.PowersLemmas.{exponent-le, power_of_two_test as power_test}
+use Rattle.p3_util_kernels.proofs.BitsLemmas.Digits.{rev-parts, rev-of-zero, rev-rev-below, rev-shl, rev-suc, rev-zero, rev-lt}
+use Rattle.p3_util_kernels.proofs.TransposeLemmas.Levels.{clog_power}
+use Rattle.p3_util_kernels.proofs.BitsLemmas.Logs.{power_of_two}
+use Rattle.p3_util_kernels.proofs.TransposeLemmas.Matrix.{row_and_column}
+use Rattle.p3_util_kernels.proofs.BitsLemmas.Powers.{exponent-le, power_of_two_test as power_test}
 
 -- The k low digits of a number, reversed, are a number of k digits. Reversing a number of k digits
 -- twice gives it back. The reverse of a number in two parts, high digits and low digits, follows

@@ -14,7 +14,7 @@ use Rattle.p3_util.specs.Flat.{flat}
 use Rattle.p3_util.specs.Pieces.{padded, padded_pieces, piece_count, pieces}
 use Rattle.p3_util.proofs.PaddedRuns.{joined-padded_pieces}
 use Rattle.p3_util.proofs.PiecesLemmas.{div_ceil-upper, joined-pieces, length-pieces, slice_get-pieces}
-use Rattle.p3_util_kernels.proofs.ListParts.{slice_get-append_left, slice_get-append_right}
+use Rattle.p3_util_kernels.proofs.PlacesLemmas.ListParts.{slice_get-append_left, slice_get-append_right}
 
 -- If each step over a piece adds the sum of the piece to what `total` reads, the steps over all
 -- pieces add the sum of all items.

@@ -7,13 +7,13 @@ use Rattle.std.specs.List.{swap}
 use Rattle.p3_util_kernels.specs.Digits.{rev}
 use Rattle.p3_util_kernels.specs.Reversal.{IsReversal, IsReversible}
 use Rattle.p3_util.specs.ItemsAt.{IsSameOutside, column_of}
-use Rattle.p3_util_kernels.proofs.ReversalLemmas.{reversed_place}
+use Rattle.p3_util_kernels.proofs.ReverseLemmas.Reversal.{reversed_place}
 use Rattle.p3_util.proofs.Callers.Reverse.{reversed_twice}
 use Rattle.p3_util.proofs.ItemsAtLemmas.{items_at-swap, length-items_at, slice_get-items_at}
-use Rattle.p3_util_kernels.proofs.DigitsLemmas.{rev-lt}
-use Rattle.p3_util_kernels.proofs.Exchange.{slice_get-set_other, slice_get-set_same, slice_get-swap_other}
-use Rattle.p3_util_kernels.proofs.Matrix.{row_and_column}
-use Rattle.p3_util_kernels.proofs.SameList.{same_places}
+use Rattle.p3_util_kernels.proofs.BitsLemmas.Digits.{rev-lt}
+use Rattle.p3_util_kernels.proofs.PlacesLemmas.Exchange.{slice_get-set_other, slice_get-set_same, slice_get-swap_other}
+use Rattle.p3_util_kernels.proofs.TransposeLemmas.Matrix.{row_and_column}
+use Rattle.p3_util_kernels.proofs.PlacesLemmas.SameList.{same_places}
 
 -- a place of a column is a place of the matrix
 pub column_inside : (width height column row : ℕ) → column < width → row < height → row * width + column < height * width

@@ -10,10 +10,10 @@ use Rattle.p3_util_kernels.specs.Square.{IsSquareTransposed}
 use Rattle.p3_util_kernels.specs.SideBySide.{AreTransposed}
 use Rattle.p3_util_kernels.specs.Steps.{counted}
 use Rattle.p3_util_kernels.specs.Transpose.{IsTranspose}
-use Rattle.p3_util_kernels.proofs.LongPath.{IsReversal-composed}
-use Rattle.p3_util_kernels.proofs.Pairs.{mul-parts_left, mul-parts_right}
-use Rattle.p3_util_kernels.proofs.RegionLemmas.{IsCut-cols, IsCut-rows, IsRegionTransposed-cut}
-use Rattle.p3_util_kernels.proofs.SideBySideLemmas.{AreTransposed-more, square_room}
+use Rattle.p3_util_kernels.proofs.ReverseLemmas.LongPath.{IsReversal-composed}
+use Rattle.p3_util_kernels.proofs.GridLemmas.Pairs.{mul-parts_left, mul-parts_right}
+use Rattle.p3_util_kernels.proofs.TransposeLemmas.Region.{IsCut-cols, IsCut-rows, IsRegionTransposed-cut}
+use Rattle.p3_util_kernels.proofs.ReverseLemmas.SideBySide.{AreTransposed-more, square_room}
 use Rattle.p3_util.proofs.Callers.Transpose.{outside_stays}
 
 module _ {A : Type 0} where

@@ -14,13 +14,13 @@ use Rattle.p3_util_kernels.specs.Digits.{rev}
 use Rattle.p3_util_kernels.specs.Least.{AllDiffer}
 use Rattle.p3_util_kernels.specs.Reversal.{IsRowReversal, IsReversal, IsReversible, IsZeroOrPowerOfTwo}
 use Rattle.p3_util_kernels.specs.Transpose.{IsTranspose}
-use Rattle.p3_util_kernels.proofs.Exchange.{slice_get-swap_first, slice_get-swap_other, slice_get-swap_second}
-use Rattle.p3_util_kernels.proofs.ListParts.{slice_get-append_left, slice_get-append_right, slice_get-drop, slice_get-take}
-use Rattle.p3_util_kernels.proofs.DigitsLemmas.{rev-lt, rev-rev-below}
-use Rattle.p3_util_kernels.proofs.Lengths.{zero_or_power}
-use Rattle.p3_util_kernels.proofs.ReversalLemmas.{reversed_place}
+use Rattle.p3_util_kernels.proofs.PlacesLemmas.Exchange.{slice_get-swap_first, slice_get-swap_other, slice_get-swap_second}
+use Rattle.p3_util_kernels.proofs.PlacesLemmas.ListParts.{slice_get-append_left, slice_get-append_right, slice_get-drop, slice_get-take}
+use Rattle.p3_util_kernels.proofs.BitsLemmas.Digits.{rev-lt, rev-rev-below}
+use Rattle.p3_util_kernels.proofs.ReverseLemmas.Lengths.{zero_or_power}
+use Rattle.p3_util_kernels.proofs.ReverseLemmas.Reversal.{reversed_place}
 use Rattle.p3_util.proofs.Callers.ZipEq.{zip_length, zip_place}
-use Rattle.p3_util_kernels.proofs.Matrix.{row_and_column, same_number}
+use Rattle.p3_util_kernels.proofs.TransposeLemmas.Matrix.{row_and_column, same_number}
 use Rattle.std.proofs.Math.Nat.{mod-add-div'}
 use Rattle.std.proofs.lemmas.Nat.{mul-add-lt, same_from_place}
 

@@ -6,10 +6,10 @@ use Rattle.std.proofs.lemmas.Option.{slice_get-get_or, slice_get_within}
 use Rattle.p3_util_kernels.specs.Digits.{rev, rev_word}
 use Rattle.p3_util_kernels.specs.Powers.{HasLog2}
 use Rattle.p3_util_kernels.specs.Reversal.{IsReversal, IsReversible}
-use Rattle.p3_util_kernels.proofs.Logs.{power_of_two}
-use Rattle.p3_util_kernels.proofs.DigitsLemmas.{rev-lt, rev-rev-below}
+use Rattle.p3_util_kernels.proofs.BitsLemmas.Logs.{power_of_two}
+use Rattle.p3_util_kernels.proofs.BitsLemmas.Digits.{rev-lt, rev-rev-below}
 use Rattle.p3_util.proofs.Callers.Bits.{log_reversible, log_some, pair_below, rev_even, rev_odd, half_length}
-use Rattle.p3_util_kernels.proofs.ReversalLemmas.{reversed_place}
+use Rattle.p3_util_kernels.proofs.ReverseLemmas.Reversal.{reversed_place}
 use Rattle.p3_util.proofs.Callers.Reverse.{bits_moved, first_stays, last_stays, place_moved, word_below, word_moved}
 
 module _ {A : Type 0} where

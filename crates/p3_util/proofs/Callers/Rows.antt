@@ -7,9 +7,9 @@ use Rattle.std.proofs.lemmas.Nat.{pow_pos}
 use Rattle.std.proofs.Math.Nat.{mul-le-mul_right}
 use Rattle.p3_util_kernels.specs.Digits.{rev}
 use Rattle.p3_util_kernels.specs.Reversal.{IsRowReversal, IsZeroOrPowerOfTwo}
-use Rattle.p3_util_kernels.proofs.DigitsLemmas.{rev-lt}
-use Rattle.p3_util_kernels.proofs.ListParts.{slice_get-append_left, slice_get-append_right, slice_get-drop, slice_get-take}
-use Rattle.p3_util_kernels.proofs.SameList.{same_places}
+use Rattle.p3_util_kernels.proofs.BitsLemmas.Digits.{rev-lt}
+use Rattle.p3_util_kernels.proofs.PlacesLemmas.ListParts.{slice_get-append_left, slice_get-append_right, slice_get-drop, slice_get-take}
+use Rattle.p3_util_kernels.proofs.PlacesLemmas.SameList.{same_places}
 use Rattle.p3_util.proofs.Callers.Bits.{rev_first}
 
 -- A list after a write to the k items from place a on, for example through `&mut xs[a..a + k]`.

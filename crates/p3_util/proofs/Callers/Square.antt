@@ -7,7 +7,7 @@ use Rattle.std.proofs.Math.Nat.{mod-add-div'}
 use Rattle.std.proofs.Math.Pow.{pow_mono}
 use Rattle.p3_util_kernels.specs.Square.{IsSquareTransposed}
 use Rattle.p3_util_kernels.specs.Transpose.{IsTranspose}
-use Rattle.p3_util_kernels.proofs.SameList.{same_places}
+use Rattle.p3_util_kernels.proofs.PlacesLemmas.SameList.{same_places}
 
 module _ {A : Type 0} (base log_stride log_size : ℕ) (old mid new : List A) where
   row : ℕ → ℕ

@@ -3,7 +3,7 @@
 -- way of a transpose.
 use Rattle.std.proofs.Common.{◌≡◌, ℕ, ◌+◌, ◌*◌, ◌/◌, ◌%◌, ◌^◌, ◌<◌, ◌≤◌, ◌⊎◌, inl, inr, List, length, take, drop, slice_get, refl, sym, ap, ◌∙◌, arith}
 use Rattle.p3_util_kernels.specs.Transpose.{IsTranspose}
-use Rattle.p3_util_kernels.proofs.Matrix.{IsTranspose-unique, transpose_turned}
+use Rattle.p3_util_kernels.proofs.TransposeLemmas.Matrix.{IsTranspose-unique, transpose_turned}
 use Rattle.std.proofs.lemmas.Bool.{cases_lt}
 use Rattle.std.proofs.lemmas.Nat.{mod_below, pow-add, pow_pos, same_from_place}
 use Rattle.std.proofs.Math.Nat.{div-lt_iff_lt-mul, mod-add-div', mul-le-mul_right}
@@ -12,10 +12,10 @@ use Rattle.p3_util_kernels.specs.declared.transpose.regions.Region.{Region}
 use Rattle.p3_util_kernels.specs.Levels.{lev}
 use Rattle.p3_util_kernels.specs.Region.{IsInRegion, IsRegionTransposed, LiesInMatrix, cols_of, rows_of}
 use Rattle.p3_util_kernels.specs.Reversal.{IsReversal, IsRowReversal}
-use Rattle.p3_util_kernels.proofs.DigitsLemmas.{rev-lt, rev-parts}
-use Rattle.p3_util_kernels.proofs.HalvesLemmas.{region_levels}
-use Rattle.p3_util_kernels.proofs.ReversalLemmas.{IsReversal-from_power}
-use Rattle.p3_util_kernels.proofs.SameList.{same_places}
+use Rattle.p3_util_kernels.proofs.BitsLemmas.Digits.{rev-lt, rev-parts}
+use Rattle.p3_util_kernels.proofs.TransposeLemmas.Halves.{region_levels}
+use Rattle.p3_util_kernels.proofs.ReverseLemmas.Reversal.{IsReversal-from_power}
+use Rattle.p3_util_kernels.proofs.PlacesLemmas.SameList.{same_places}
 use Rattle.p3_util.proofs.Callers.Rows.{part_within}
 
 module _ {A : Type 0} where

@@ -8,8 +8,8 @@ use Rattle.p3_util_kernels.specs.Region.{IsRegionTransposed, rows_of}
 use Rattle.p3_util_kernels.specs.Square.{IsSquareTransposed}
 use Rattle.p3_util_kernels.specs.SwapCounts.{square_swaps}
 use Rattle.p3_util.proofs.DiagonalLemmas.{IsSquareTransposed-from_across, SwapsAcross-quadrants, cut_exchanged}
-use Rattle.p3_util_kernels.proofs.Pairs.{mul-parts_left, pairs-add}
-use Rattle.p3_util_kernels.proofs.RegionLemmas.{IsCut-rows}
+use Rattle.p3_util_kernels.proofs.GridLemmas.Pairs.{mul-parts_left, pairs-add}
+use Rattle.p3_util_kernels.proofs.TransposeLemmas.Region.{IsCut-rows}
 
 -- if the items of a column are put at consecutive cells, that column of the region is transposed
 pub region_of_column : {A : Type 0} (region : Region) (width height col : ℕ) (input items old new : List A)

@@ -39,7 +39,7 @@ pub const fn reverse_bits_len(x: usize, bit_len: usize) -> usize
     reversed >> ((64 - bit_len) % 64)
 }
 
-#[tactic(auto, using(crate::proofs::DigitsLemmas::rev_64))]
+#[tactic(auto, using(crate::proofs::BitsLemmas::Digits::rev_64))]
 #[inline]
 const fn reverse_u64(x: u64) -> u64
     ensures { result ≡ rev 64 x }
@@ -47,7 +47,7 @@ const fn reverse_u64(x: u64) -> u64
     ((reverse_u32((x & 0xffff_ffff) as u32) as u64) << 32) | (reverse_u32((x >> 32) as u32) as u64)
 }
 
-#[tactic(auto, using(crate::proofs::DigitsLemmas::rev_32))]
+#[tactic(auto, using(crate::proofs::BitsLemmas::Digits::rev_32))]
 #[inline]
 const fn reverse_u32(x: u32) -> u32
     ensures { result ≡ rev 32 x }
@@ -55,7 +55,7 @@ const fn reverse_u32(x: u32) -> u32
     ((reverse_u16((x & 0xffff) as u16) as u32) << 16) | reverse_u16((x >> 16) as u16) as u32
 }
 
-#[tactic(auto, using(crate::proofs::DigitsLemmas::rev_16))]
+#[tactic(auto, using(crate::proofs::BitsLemmas::Digits::rev_16))]
 #[inline]
 const fn reverse_u16(x: u16) -> u16
     ensures { result ≡ rev 16 x }
@@ -66,7 +66,7 @@ const fn reverse_u16(x: u16) -> u16
 /// Reverses a byte digit by digit. If halves went down to single digits instead, the compiler would
 /// make the same instructions, but it would take seven times as long to evaluate a constant table
 /// of reversed numbers.
-#[tactic(auto, using(crate::proofs::Tables::reversed_byte))]
+#[tactic(auto, using(crate::proofs::BitsLemmas::Tables::reversed_byte))]
 #[inline]
 const fn reverse_u8(x: u8) -> u8
     ensures { result ≡ rev 8 x }

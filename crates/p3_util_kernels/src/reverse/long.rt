@@ -31,7 +31,7 @@ use crate::transpose::transpose_square;
 /// [`reverse_index_bits_short`](crate::reverse::reverse_index_bits_short) takes at most n/2, but
 /// the order of the swaps here suits lists that do not fit in a cache. The length must be at least
 /// 4, and a power of two, which std's `is_power_of_two` checks.
-#[tactic(auto, using(crate::proofs::SwapCountsLemmas::long_bound, crate::proofs::ReversalLemmas::reversed_place))]
+#[tactic(auto, using(crate::proofs::ReverseLemmas::SwapCounts::long_bound, crate::proofs::ReverseLemmas::Reversal::reversed_place))]
 pub fn reverse_index_bits_long<S: Places>(m: &mut Swaps<S>)
     requires fits { IsReversible (length (S.items m.old.holder)) }
     requires not_short { 4 ≤ length (S.items m.old.holder) }

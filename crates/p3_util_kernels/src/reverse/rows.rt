@@ -97,7 +97,7 @@ impl RowDigits {
 /// which [`fits_rows`] checks.
 ///
 /// [`fits_rows`]: crate::reverse::fits_rows
-#[tactic(auto, using(crate::proofs::SwapCountsLemmas::rows_bound))]
+#[tactic(auto, using(crate::proofs::ReverseLemmas::SwapCounts::rows_bound))]
 pub fn reverse_row_index_bits_on<S: Places>(m: &mut Swaps<S>, row_width: usize)
     requires { FitsRows (length (S.items m.old.holder)) row_width }
     ensures order { IsRowReversal row_width (S.items m.old.holder) (S.items m.new.holder) }
@@ -120,7 +120,7 @@ pub fn reverse_row_index_bits_on<S: Places>(m: &mut Swaps<S>, row_width: usize)
 /// zero or a power of two, which `fits_rows(m.len(), 1)` checks.
 ///
 /// [`reverse_slice_index_bits`]: crate::reverse::reverse_slice_index_bits
-#[tactic(auto, using(crate::proofs::SwapCountsLemmas::short_bound, crate::proofs::ReversalLemmas::reversed_place))]
+#[tactic(auto, using(crate::proofs::ReverseLemmas::SwapCounts::short_bound, crate::proofs::ReverseLemmas::Reversal::reversed_place))]
 pub fn reverse_index_bits_short<S: Places>(m: &mut Swaps<S>)
     requires { IsReversible (length (S.items m.old.holder)) }
     ensures order { IsReversal (S.items m.old.holder) (S.items m.new.holder) }
@@ -142,7 +142,7 @@ pub fn reverse_index_bits_short<S: Places>(m: &mut Swaps<S>)
 /// the h bits of x in reversed order. A list of n items takes at most n/2 swaps. The length must be
 /// `2^(h + c)`. To check the length, compare it with the power that
 /// [`checked_log_size_sum`](crate::bits::checked_log_size_sum) returns for the two exponents.
-#[tactic(auto, using(crate::proofs::SwapCountsLemmas::chunks_bound))]
+#[tactic(auto, using(crate::proofs::ReverseLemmas::SwapCounts::chunks_bound))]
 pub fn reverse_chunks_on<S: Places>(m: &mut Swaps<S>, lb_num_chunks: usize, lb_chunk_size: usize)
     requires { length (S.items m.old.holder) ≡ 2 ^ (lb_num_chunks + lb_chunk_size) }
     ensures order { IsRowReversal (2 ^ lb_chunk_size) (S.items m.old.holder)
@@ -159,7 +159,7 @@ pub fn reverse_chunks_on<S: Places>(m: &mut Swaps<S>, lb_num_chunks: usize, lb_c
 }
 
 /// The kernel of [`reverse_index_bits_short`].
-#[tactic(auto, using(crate::proofs::Lengths::rows_of_one))]
+#[tactic(auto, using(crate::proofs::ReverseLemmas::Lengths::rows_of_one))]
 #[inline(always)]
 pub(crate) fn reverse_short<M: Places>(m: M) -> M
     requires { IsReversible (length (M.items m)) }

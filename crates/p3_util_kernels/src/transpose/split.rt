@@ -139,7 +139,7 @@ pub(crate) fn put_split<M: Cells, R: Source<Item = M::Item> + Copy, W: PutRegion
 }
 
 /// Whether `region` is put without a split.
-#[tactic(auto, using(crate::proofs::LevelsLemmas::leaves))]
+#[tactic(auto, using(crate::proofs::TransposeLemmas::Levels::leaves))]
 fn is_leaf(region: Region) -> bool
     requires rows_in_order { region.row_start ≤ region.row_end }
     requires cols_in_order { region.col_start ≤ region.col_end }
@@ -152,7 +152,7 @@ fn is_leaf(region: Region) -> bool
 }
 
 /// Halves the longer side of `region`. If both sides are equal, the rows are halved.
-#[tactic(auto, using(crate::proofs::HalvesLemmas::halved))]
+#[tactic(auto, using(crate::proofs::TransposeLemmas::Halves::halved))]
 fn cut_in_half(region: Region) -> (Region, Region)
     requires rows_in_order { region.row_start ≤ region.row_end }
     requires cols_in_order { region.col_start ≤ region.col_end }

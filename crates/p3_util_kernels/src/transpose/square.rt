@@ -68,7 +68,7 @@ pub fn transpose_square_on<S: Places>(
 /// from 0.
 ///
 /// The square and the preconditions are as for [`transpose_square_on`].
-#[tactic(auto, using(crate::proofs::SquareCounts::square_swaps_fit))]
+#[tactic(auto, using(crate::proofs::ReverseLemmas::SquareCounts::square_swaps_fit))]
 pub fn transpose_square_counted<S: Places>(
     places: &mut S,
     base: usize,

@@ -1,5 +1,5 @@
 -- The entry of the table is the exponent, by the lemmas on the tables.
-use Rattle.p3_util_kernels.proofs.Tables.{exponent_found, exponent_bound}
+use Rattle.p3_util_kernels.proofs.BitsLemmas.Tables.{exponent_found, exponent_bound}
 use Rattle.p3_util_kernels.proofs.bits.exponent_of_three.Goals as goal
 
 pub returns-clause-found : goal.returns-clause-found

@@ -3,7 +3,7 @@ use Rattle.std.proofs.Common.{ℕ, subst, sym, arith}
 use Rattle.std.specs.Prelude.{◌↔◌, IsTrue, ◌==◌}
 use mathlib.Core.Bool.{not}
 use Rattle.p3_util_kernels.specs.Powers.{IsPowerOfThree}
-use Rattle.p3_util_kernels.proofs.PowersLemmas.{three-pos}
+use Rattle.p3_util_kernels.proofs.BitsLemmas.Powers.{three-pos}
 use Rattle.p3_util_kernels.proofs.bits.is_power_of_three.Goals as goal
 
 pub returns-else-n-ne0 : goal.returns-else-n-ne0

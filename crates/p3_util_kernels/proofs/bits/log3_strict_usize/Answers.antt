@@ -1,7 +1,7 @@
 -- The table gives the exponent, and a power of three has only one.
 use Rattle.std.proofs.Common.{sym, ◌∙◌, arith}
-use Rattle.p3_util_kernels.proofs.Logs.{power_of_three}
-use Rattle.p3_util_kernels.proofs.PowersLemmas.{three-only, three-pos, three-strict}
+use Rattle.p3_util_kernels.proofs.BitsLemmas.Logs.{power_of_three}
+use Rattle.p3_util_kernels.proofs.BitsLemmas.Powers.{three-only, three-pos, three-strict}
 use Rattle.p3_util_kernels.proofs.bits.log3_strict_usize.Goals as goal
 
 pub ilog2-top-requires : goal.ilog2-top-requires

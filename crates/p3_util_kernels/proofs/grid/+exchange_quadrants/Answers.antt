@@ -1,8 +1,8 @@
 -- The quadrants make the square, and their pairs are those of the square.
 use Rattle.std.proofs.Common.{◌≡◌, ◌+◌, ◌-◌, refl, arith, rules}
-use Rattle.p3_util_kernels.proofs.GridLemmas.{SwapsInGrid-quadrants}
-use Rattle.p3_util_kernels.proofs.LevelsLemmas.{clog-above, clog-rest, clog-tiles}
-use Rattle.p3_util_kernels.proofs.Pairs.{pairs-add}
+use Rattle.p3_util_kernels.proofs.GridLemmas.Parts.{SwapsInGrid-quadrants}
+use Rattle.p3_util_kernels.proofs.TransposeLemmas.Levels.{clog-above, clog-rest, clog-tiles}
+use Rattle.p3_util_kernels.proofs.GridLemmas.Pairs.{pairs-add}
 use Rattle.p3_util_kernels.proofs.grid.+exchange_quadrants.Goals as goal
 
 -- both parts of the side nest less deep

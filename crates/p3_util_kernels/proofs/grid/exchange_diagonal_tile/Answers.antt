@@ -4,8 +4,8 @@ use Rattle.std.proofs.Common.{◌≡◌, ◌+◌, ◌-◌, ◌*◌, ◌∙◌, s
 use Rattle.p3_util_kernels.specs.declared.transpose.regions.Region.{Region}
 use Rattle.p3_util_kernels.specs.Grid.{row_place}
 use Rattle.p3_util_kernels.specs.SwapCounts.{square_swaps}
-use Rattle.p3_util_kernels.proofs.GridLemmas.{IsTile-grid, SwapsInGrid-corner, SwapsInGrid-item, SwapsInGrid-none, SwapsInGrid-turned, grid_fits, grid_room, one_place}
-use Rattle.p3_util_kernels.proofs.Pairs.{square_swaps-next}
+use Rattle.p3_util_kernels.proofs.GridLemmas.Parts.{IsTile-grid, SwapsInGrid-corner, SwapsInGrid-item, SwapsInGrid-none, SwapsInGrid-turned, grid_fits, grid_room, one_place}
+use Rattle.p3_util_kernels.proofs.GridLemmas.Pairs.{square_swaps-next}
 use Rattle.p3_util_kernels.proofs.grid.exchange_diagonal_tile.Goals as goal
 
 -- single items

@@ -2,8 +2,8 @@
 use Rattle.std.proofs.Common.{◌≡◌, ◌+◌, ◌-◌, ◌*◌, arith}
 use Rattle.p3_util_kernels.specs.declared.transpose.regions.Region.{Region}
 use Rattle.p3_util_kernels.specs.Region.{cols_of}
-use Rattle.p3_util_kernels.proofs.GridLemmas.{cut_exchanged}
-use Rattle.p3_util_kernels.proofs.RegionLemmas.{IsCut-rows}
+use Rattle.p3_util_kernels.proofs.GridLemmas.Parts.{cut_exchanged}
+use Rattle.p3_util_kernels.proofs.TransposeLemmas.Region.{IsCut-rows}
 use Rattle.p3_util_kernels.proofs.grid.exchange_leaf.Goals as goal
 
 pub loop-row-preserved : goal.loop-row-preserved

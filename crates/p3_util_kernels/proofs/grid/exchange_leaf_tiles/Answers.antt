@@ -2,8 +2,8 @@
 use Rattle.std.proofs.Common.{◌≡◌, ◌+◌, ◌-◌, ◌*◌, arith}
 use Rattle.p3_util_kernels.specs.declared.transpose.regions.Region.{Region}
 use Rattle.p3_util_kernels.specs.Region.{rows_of}
-use Rattle.p3_util_kernels.proofs.GridLemmas.{cut_exchanged}
-use Rattle.p3_util_kernels.proofs.RegionLemmas.{IsCut-cols}
+use Rattle.p3_util_kernels.proofs.GridLemmas.Parts.{cut_exchanged}
+use Rattle.p3_util_kernels.proofs.TransposeLemmas.Region.{IsCut-cols}
 use Rattle.p3_util_kernels.proofs.grid.exchange_leaf_tiles.Goals as goal
 
 pub loop-tile-preserved : goal.loop-tile-preserved

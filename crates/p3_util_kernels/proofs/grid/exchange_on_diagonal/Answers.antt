@@ -1,7 +1,7 @@
 -- Each turn of the loop exchanges one more row to the right of the diagonal.
 use Rattle.std.proofs.Common.{◌≡◌, ◌+◌, ◌-◌, suc, arith}
-use Rattle.p3_util_kernels.proofs.GridLemmas.{SwapsInGrid-corner}
-use Rattle.p3_util_kernels.proofs.Pairs.{square_swaps-next}
+use Rattle.p3_util_kernels.proofs.GridLemmas.Parts.{SwapsInGrid-corner}
+use Rattle.p3_util_kernels.proofs.GridLemmas.Pairs.{square_swaps-next}
 use Rattle.p3_util_kernels.proofs.grid.exchange_on_diagonal.Goals as goal
 
 pub loop-row-preserved : goal.loop-row-preserved

@@ -1,8 +1,8 @@
 -- Places that stand for one item are exchanged by one exchange. The factor 1 is taken out of each
 -- place and out of the precondition on the list.
 use Rattle.std.proofs.Common.{◌≡◌, ◌*◌, arith, rules}
-use Rattle.p3_util_kernels.proofs.CrossingLemmas.{runs-apart}
-use Rattle.p3_util_kernels.proofs.ExchangedRuns.{RunsExchanged-one}
+use Rattle.p3_util_kernels.proofs.ReverseLemmas.Crossing.{runs-apart}
+use Rattle.p3_util_kernels.proofs.PlacesLemmas.Runs.{RunsExchanged-one}
 use Rattle.p3_util_kernels.proofs.grid.exchange_places.Goals as goal
 
 pub exchange_runs-requires-clause-apart : goal.exchange_runs-requires-clause-apart

@@ -1,6 +1,6 @@
 -- Each turn of the loop exchanges one more place of the row.
 use Rattle.std.proofs.Common.{◌≡◌, ◌+◌, ◌-◌, ◌*◌, arith}
-use Rattle.p3_util_kernels.proofs.GridLemmas.{SwapsInGrid-item, one_place}
+use Rattle.p3_util_kernels.proofs.GridLemmas.Parts.{SwapsInGrid-item, one_place}
 use Rattle.p3_util_kernels.proofs.grid.exchange_row.Goals as goal
 
 pub exchange_places-m-requires-clause-apart : goal.exchange_places-m-requires-clause-apart

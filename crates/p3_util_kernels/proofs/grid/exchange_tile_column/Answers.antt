@@ -1,8 +1,8 @@
 -- Each turn of the loop exchanges one more tile.
 use Rattle.std.proofs.Common.{◌≡◌, ◌+◌, ◌*◌, arith}
 use Rattle.p3_util_kernels.specs.declared.transpose.regions.Region.{Region}
-use Rattle.p3_util_kernels.proofs.GridLemmas.{AreTiles-grid, SwapsInGrid-tile, cut_exchanged}
-use Rattle.p3_util_kernels.proofs.RegionLemmas.{IsCut-rows}
+use Rattle.p3_util_kernels.proofs.GridLemmas.Parts.{AreTiles-grid, SwapsInGrid-tile, cut_exchanged}
+use Rattle.p3_util_kernels.proofs.TransposeLemmas.Region.{IsCut-rows}
 use Rattle.p3_util_kernels.proofs.grid.exchange_tile_column.Goals as goal
 
 pub loop-tile-preserved : goal.loop-tile-preserved

@@ -2,8 +2,8 @@ use Rattle.std.proofs.Common.{◌≡◌, ◌+◌, ◌-◌, ◌*◌, ◌/◌, ◌
 use Rattle.std.proofs.lemmas.Nat.{pow-add, pow_pos, shl-shr}
 use Rattle.std.proofs.Math.Nat.{mod-eq_of_lt, mul-le-mul_right}
 use Rattle.p3_util_kernels.specs.Digits.{rev}
-use Rattle.p3_util_kernels.proofs.DigitsLemmas.{rev-shl, rev_word-above}
-use Rattle.p3_util_kernels.proofs.Tables.{reversed_six}
+use Rattle.p3_util_kernels.proofs.BitsLemmas.Digits.{rev-shl, rev_word-above}
+use Rattle.p3_util_kernels.proofs.BitsLemmas.Tables.{reversed_six}
 use Rattle.p3_util_kernels.specs.declared.grid.TheConstants.{REVERSED_SIX}
 use Rattle.p3_util_kernels.proofs.grid.reverse_digits.Goals as goal
 

@@ -1,5 +1,5 @@
--- The laws on the least numbers of steps are the lemmas of `LeastLemmas`.
-use Rattle.p3_util_kernels.proofs.LeastLemmas.{swaps-change, puts-change, palindromes, least-reversal, least-square, least-puts, reversal-differs, square-differs}
+-- The laws on the least numbers of steps are the lemmas of `LawsLemmas.Least`.
+use Rattle.p3_util_kernels.proofs.LawsLemmas.Least.{swaps-change, puts-change, palindromes, least-reversal, least-square, least-puts, reversal-differs, square-differs}
 use Rattle.p3_util_kernels.proofs.laws.least_runs_of.Goals as goal
 
 pub returns : goal.returns

@@ -1,6 +1,6 @@
 -- The number of rows decides, by the lemmas on lengths of rows.
 use Rattle.std.proofs.Common.{eqb-true}
-use Rattle.p3_util_kernels.proofs.Lengths.{FitsRows-one, FitsRows-quotient, FitsRows-whole}
+use Rattle.p3_util_kernels.proofs.ReverseLemmas.Lengths.{FitsRows-one, FitsRows-quotient, FitsRows-whole}
 use Rattle.p3_util_kernels.proofs.reverse.fits_rows.Goals as goal
 
 pub returns-then-len-row_width-eq0-clause-rows : goal.returns-then-len-row_width-eq0-clause-rows

@@ -1,6 +1,6 @@
 -- Reversing twice gives the list back.
 use Rattle.std.proofs.Common.{rules}
-use Rattle.p3_util_kernels.proofs.ReversalLemmas.{row_reversed_back}
+use Rattle.p3_util_kernels.proofs.ReverseLemmas.Reversal.{row_reversed_back}
 use Rattle.p3_util_kernels.proofs.reverse.reverse_slice_row_index_bits.Goals as goal
 
 pub returns-clause-inverse : goal.returns-clause-inverse

@@ -1,5 +1,5 @@
 -- The cells outside of the region stay.
-use Rattle.p3_util_kernels.proofs.RegionLemmas.{region_stay}
+use Rattle.p3_util_kernels.proofs.TransposeLemmas.Region.{region_stay}
 use Rattle.p3_util_kernels.proofs.transpose.put_region.Goals as goal
 
 pub returns-clause-stay : goal.returns-clause-stay

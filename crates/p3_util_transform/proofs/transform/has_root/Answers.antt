@@ -2,7 +2,7 @@
 use Rattle.std.proofs.Common.{◌≡◌, ◌≤◌, ◌*◌, ◌%◌, ◌^◌, ◌∙◌, eqb-true, sym, ap, arith}
 use Rattle.std.proofs.lemmas.Bool.{eq-eqb}
 use Rattle.std.proofs.lemmas.Nat.{one_shl}
-use Rattle.p3_util_kernels.proofs.PowersLemmas.{exponent-le}
+use Rattle.p3_util_kernels.proofs.BitsLemmas.Powers.{exponent-le}
 use Rattle.p3_util_transform.proofs.transform.has_root.Goals as goal
 
 pub returns-then-levels-le-MOST_STAGES : goal.returns-then-levels-le-MOST_STAGES

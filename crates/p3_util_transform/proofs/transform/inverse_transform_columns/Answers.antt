@@ -1,7 +1,7 @@
 -- The list that is written back holds the inverse transform.
 use Rattle.std.proofs.Common.{◌≡◌, length, sym, ap, ◌∙◌, rules}
 use Rattle.p3_util_transform.proofs.Inverse.{IsInverseTransformed-same}
-use Rattle.p3_util_kernels.proofs.PowersLemmas.{exponent-same}
+use Rattle.p3_util_kernels.proofs.BitsLemmas.Powers.{exponent-same}
 use Rattle.p3_util_transform.proofs.StagesLemmas.{written_back}
 use Rattle.p3_util_transform.proofs.transform.inverse_transform_columns.Goals as goal
 

@@ -1,6 +1,6 @@
 -- The height has only one logarithm, the one for which the precondition has the bound.
 use Rattle.std.proofs.Common.{◌≡◌, sym, ap, ◌∙◌, arith}
-use Rattle.p3_util_kernels.proofs.PowersLemmas.{exponent-same}
+use Rattle.p3_util_kernels.proofs.BitsLemmas.Powers.{exponent-same}
 use Rattle.p3_util_transform.proofs.transform.levels_of.Goals as goal
 
 pub returns-clause-bound : goal.returns-clause-bound

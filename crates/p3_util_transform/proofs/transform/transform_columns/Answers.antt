@@ -1,7 +1,7 @@
 -- The list that is written back holds the transform.
 use Rattle.std.proofs.Common.{◌≡◌, ◌^◌, length, get_or, sym, ap, ◌∙◌, rules}
 use Rattle.p3_util_transform.specs.declared.field.TheConstants.{ROOTS}
-use Rattle.p3_util_kernels.proofs.PowersLemmas.{exponent-same}
+use Rattle.p3_util_kernels.proofs.BitsLemmas.Powers.{exponent-same}
 use Rattle.p3_util_transform.proofs.StagesLemmas.{IsTransformed-same, written_back}
 use Rattle.p3_util_transform.proofs.transform.transform_columns.Goals as goal
 

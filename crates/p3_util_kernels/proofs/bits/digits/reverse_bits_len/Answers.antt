@@ -1,6 +1,6 @@
 -- The shifted digits are the reversed low digits, by the laws of digit reversal.
 use Rattle.std.proofs.Common.{◌∙◌, arith}
-use Rattle.p3_util_kernels.proofs.DigitsLemmas.{rev_word-shr, rev-rev, rev-lt, rev_word-above, rev_word-twice}
+use Rattle.p3_util_kernels.proofs.BitsLemmas.Digits.{rev_word-shr, rev-rev, rev-lt, rev_word-above, rev_word-twice}
 use Rattle.p3_util_kernels.proofs.bits.digits.reverse_bits_len.Goals as goal
 
 pub returns-clause-reversed : goal.returns-clause-reversed

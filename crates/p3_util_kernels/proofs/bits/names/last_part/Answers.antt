@@ -1,7 +1,7 @@
 -- Each turn of the loop passes one more `::`. After the loop there is none.
 use Rattle.std.proofs.Common.{rules, sym, ◌∙◌, ap}
 use Rattle.p3_util_kernels.specs.Names.{last_part}
-use Rattle.p3_util_kernels.proofs.NamesLemmas.{last_part-after, last_part-whole}
+use Rattle.p3_util_kernels.proofs.BitsLemmas.Names.{last_part-after, last_part-whole}
 use Rattle.p3_util_kernels.proofs.bits.names.last_part.Goals as goal
 
 pub loop-after-preserved : goal.loop-after-preserved

@@ -1,6 +1,6 @@
 use Rattle.std.proofs.Common.{◌≡◌, List, ℕ, ◌++◌, rules, arith, length, sym, ◌∙◌, ap, append_assoc, string_bytes}
 use Rattle.p3_util_kernels.specs.Names.{short_name, last_part}
-use Rattle.p3_util_kernels.proofs.NamesLemmas.{length-last_part, short_name-unmarked, short_name-marked, cut_after_mark}
+use Rattle.p3_util_kernels.proofs.BitsLemmas.Names.{length-last_part, short_name-unmarked, short_name-marked, cut_after_mark}
 use Rattle.p3_util_kernels.proofs.bits.names.pretty_name.Goals as goal
 
 -- the text joined so far, with one more part

@@ -2,7 +2,7 @@
 use Rattle.std.proofs.Common.{◌≤◌, ◌+◌, ◌*◌, ap, refl, arith, ◌^◌}
 use Rattle.p3_util_kernels.specs.declared.grid.Grid.{Grid}
 use Rattle.p3_util_kernels.specs.Grid.{IsInFirstRow, row_place}
-use Rattle.p3_util_kernels.proofs.GridDistances.{AreRowDistances-in_order, AreRowDistances-reversed, last_fits, three}
+use Rattle.p3_util_kernels.proofs.GridLemmas.Distances.{AreRowDistances-in_order, AreRowDistances-reversed, last_fits, three}
 use Rattle.p3_util_kernels.proofs.grid.Grid.row_distances.Goals as goal
 
 -- the first place of the grid

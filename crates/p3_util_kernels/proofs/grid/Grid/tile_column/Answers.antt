@@ -1,7 +1,7 @@
 -- The last of the 8 rows fits in a usize, and each distance is that of one digit.
 use Rattle.std.proofs.Common.{ℕ, ◌≡◌, ◌+◌, ◌<◌, arith}
 use Rattle.p3_util_kernels.specs.Grid.{row_place}
-use Rattle.p3_util_kernels.proofs.GridDistances.{eight, last_fits}
+use Rattle.p3_util_kernels.proofs.GridLemmas.Distances.{eight, last_fits}
 use Rattle.p3_util_kernels.proofs.grid.Grid.tile_column.Goals as goal
 
 pub overflow_add-middle : goal.overflow_add-middle

@@ -1,6 +1,6 @@
 -- Each turn of the inner loop puts one more item of the block.
 use Rattle.std.proofs.Common.{◌≡◌, ◌+◌, ◌*◌, refl, arith}
-use Rattle.p3_util_kernels.proofs.BlockPutLemmas.{IsBlockPut-more}
+use Rattle.p3_util_kernels.proofs.PlacesLemmas.Blocks.{IsBlockPut-more}
 use Rattle.p3_util_kernels.proofs.places.Cells.put_block.Goals as goal
 
 pub loop-r-init : goal.loop-r-init

@@ -1,8 +1,8 @@
 -- Each turn of the inner loop exchanges one more item of a row, and each turn of the outer loop one
 -- more row.
 use Rattle.std.proofs.Common.{◌≡◌, ◌+◌, ◌-◌, ◌*◌, suc, refl, arith}
-use Rattle.p3_util_kernels.proofs.ExchangedTiles.{TileTurned-more, TileTurned-row}
-use Rattle.p3_util_kernels.proofs.Pairs.{square_swaps-next}
+use Rattle.p3_util_kernels.proofs.PlacesLemmas.Tiles.{TileTurned-more, TileTurned-row}
+use Rattle.p3_util_kernels.proofs.GridLemmas.Pairs.{square_swaps-next}
 use Rattle.p3_util_kernels.proofs.places.Places.turn_tile.Goals as goal
 
 pub loop-col-init : goal.loop-col-init

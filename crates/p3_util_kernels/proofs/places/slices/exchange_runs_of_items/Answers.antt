@@ -1,6 +1,6 @@
 -- The exchange between the two parts of the slice is one of runs in the slice.
 use Rattle.std.proofs.Common.{arith}
-use Rattle.p3_util_kernels.proofs.ExchangedRuns.{RunsExchanged-ordered, RunsExchanged-slices}
+use Rattle.p3_util_kernels.proofs.PlacesLemmas.Runs.{RunsExchanged-ordered, RunsExchanged-slices}
 use Rattle.p3_util_kernels.proofs.places.slices.exchange_runs_of_items.Goals as goal
 
 pub returns : goal.returns

@@ -1,5 +1,5 @@
 use Rattle.std.proofs.Common.{◌≡◌, ◌+◌, ◌-◌, ◌/◌, ◌∙◌, refl, sym, arith}
-use Rattle.p3_util_kernels.proofs.LongPath.{IsReversal-composed}
+use Rattle.p3_util_kernels.proofs.ReverseLemmas.LongPath.{IsReversal-composed}
 use Rattle.p3_util_kernels.proofs.reverse.long.reverse_long.Goals as goal
 
 pub returns-clause-order : goal.returns-clause-order

@@ -1,7 +1,7 @@
 -- The loop over the squares. Each turn transposes one more square.
 use Rattle.std.proofs.Common.{◌≡◌, ℕ, ◌+◌, ◌-◌, ◌^◌, ◌<◌, ◌≤◌, ◌∙◌, arith}
-use Rattle.p3_util_kernels.proofs.PowersLemmas.{exponent-lt}
-use Rattle.p3_util_kernels.proofs.SideBySideLemmas.{AreTransposed-more, square_room}
+use Rattle.p3_util_kernels.proofs.BitsLemmas.Powers.{exponent-lt}
+use Rattle.p3_util_kernels.proofs.ReverseLemmas.SideBySide.{AreTransposed-more, square_room}
 use Rattle.p3_util_kernels.proofs.reverse.long.transpose_squares.Goals as goal
 
 -- the exponents add up to at most 63, since the length of the list fits in a usize

@@ -5,11 +5,11 @@ use Rattle.p3_util_kernels.specs.Crossing.{HoldsRows, IsRowItem, row_of}
 use Rattle.p3_util_kernels.specs.Levels.{clog}
 use Rattle.p3_util_kernels.specs.Reversal.{FitsRows, IsRowReversal}
 use Rattle.p3_util_kernels.specs.SwapCounts.{short_swaps, square_swaps}
-use Rattle.p3_util_kernels.proofs.CrossingLemmas.{IsRowReversal-crossed}
-use Rattle.p3_util_kernels.proofs.GridRows.{AreCrossed-more, HoldsGrid-rows}
-use Rattle.p3_util_kernels.proofs.Lengths.{IsDigitsOfRows-from, no_digits}
-use Rattle.p3_util_kernels.proofs.ReversalLemmas.{IsRowReversal-none}
-use Rattle.p3_util_kernels.proofs.SquareCounts.{squares-short}
+use Rattle.p3_util_kernels.proofs.ReverseLemmas.Crossing.{IsRowReversal-crossed}
+use Rattle.p3_util_kernels.proofs.GridLemmas.Rows.{AreCrossed-more, HoldsGrid-rows}
+use Rattle.p3_util_kernels.proofs.ReverseLemmas.Lengths.{IsDigitsOfRows-from, no_digits}
+use Rattle.p3_util_kernels.proofs.ReverseLemmas.Reversal.{IsRowReversal-none}
+use Rattle.p3_util_kernels.proofs.ReverseLemmas.SquareCounts.{squares-short}
 use Rattle.p3_util_kernels.proofs.reverse.rows.exchange_pairs.Goals as goal
 
 -- a list whose row indices have two digits or more has rows

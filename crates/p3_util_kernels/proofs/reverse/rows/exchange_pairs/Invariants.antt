@@ -1,6 +1,6 @@
 use Rattle.std.proofs.Common.{◌-◌, ◌*◌, ◌^◌}
 use Rattle.p3_util_kernels.specs.SwapCounts.{square_swaps}
-use Rattle.p3_util_kernels.proofs.CrossingLemmas.{AreCrossed}
+use Rattle.p3_util_kernels.proofs.ReverseLemmas.Crossing.{AreCrossed}
 use Rattle.p3_util_kernels.proofs.reverse.rows.exchange_pairs.Given as goal
 
 -- the pairs of the grids before this one are exchanged

@@ -1,8 +1,8 @@
 -- The chunks are rows of a list, and the number of chunks has the exponent that the code computes.
 use Rattle.std.proofs.Common.{◌≡◌, ◌+◌, ◌*◌, ◌^◌, sym, arith}
 use Rattle.p3_util_kernels.specs.SwapCounts.{short_swaps}
-use Rattle.p3_util_kernels.proofs.Lengths.{chunks_counted, chunks_fit}
-use Rattle.p3_util_kernels.proofs.PowersLemmas.{exponent-lt}
+use Rattle.p3_util_kernels.proofs.ReverseLemmas.Lengths.{chunks_counted, chunks_fit}
+use Rattle.p3_util_kernels.proofs.BitsLemmas.Powers.{exponent-lt}
 use Rattle.p3_util_kernels.proofs.reverse.rows.reverse_chunks.Goals as goal
 
 pub chunks-requires : goal.chunks-requires

@@ -1,5 +1,5 @@
 -- The two stages make the transpose of the block.
-use Rattle.p3_util_kernels.proofs.StagesLemmas.{IsBlockTransposed-from_stages}
+use Rattle.p3_util_kernels.proofs.TransposeLemmas.Stages.{IsBlockTransposed-from_stages}
 use Rattle.p3_util_kernels.proofs.transpose.butterfly.butterfly_4x4.Goals as goal
 
 pub returns : goal.returns

@@ -1,9 +1,9 @@
 -- The recursion of the split. Its measure is the number of levels that remain.
 use Rattle.std.proofs.Common.{arith}
 use Rattle.p3_util_kernels.specs.Region.{cols_of, rows_of}
-use Rattle.p3_util_kernels.proofs.HalvesLemmas.{region_levels}
-use Rattle.p3_util_kernels.proofs.LevelsLemmas.{nest_le}
-use Rattle.p3_util_kernels.proofs.RegionLemmas.{IsRegionTransposed-cut}
+use Rattle.p3_util_kernels.proofs.TransposeLemmas.Halves.{region_levels}
+use Rattle.p3_util_kernels.proofs.TransposeLemmas.Levels.{nest_le}
+use Rattle.p3_util_kernels.proofs.TransposeLemmas.Region.{IsRegionTransposed-cut}
 use Rattle.p3_util_kernels.proofs.transpose.split.+put_split.Goals as goal
 
 -- Each place of the region is in exactly one of its halves. So the second half leaves what the

@@ -1,5 +1,5 @@
 -- The square is a grid. The whole grid, exchanged across its diagonal, is its transpose.
-use Rattle.p3_util_kernels.proofs.GridSquares.{HoldsGrid-square, IsSquareTransposed-grid}
+use Rattle.p3_util_kernels.proofs.GridLemmas.Squares.{HoldsGrid-square, IsSquareTransposed-grid}
 use Rattle.p3_util_kernels.proofs.transpose.square.transpose_square.Goals as goal
 
 pub exchange_square-requires : goal.exchange_square-requires

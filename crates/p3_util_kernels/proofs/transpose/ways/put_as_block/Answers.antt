@@ -1,5 +1,5 @@
 -- The block is the region: its items are in the lists, and once it is put, the region is transposed.
-use Rattle.p3_util_kernels.proofs.BlockPutLemmas.{BlockFits-region, IsRegionTransposed-block}
+use Rattle.p3_util_kernels.proofs.PlacesLemmas.Blocks.{BlockFits-region, IsRegionTransposed-block}
 use Rattle.p3_util_kernels.proofs.transpose.ways.put_as_block.Goals as goal
 
 pub put_block-requires : goal.put_block-requires

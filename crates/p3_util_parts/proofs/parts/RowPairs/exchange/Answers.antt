@@ -5,7 +5,7 @@ use Rattle.p3_util_parts.specs.Patches.{IsPatch}
 use Rattle.p3_util_kernels.specs.Grid.{square_at}
 use Rattle.p3_util_kernels.specs.Region.{rows_of}
 use Rattle.p3_util_parts.proofs.PatchesLemmas.{patch-above}
-use Rattle.p3_util_kernels.proofs.GridRows.{HoldsGrid-rows}
+use Rattle.p3_util_kernels.proofs.GridLemmas.Rows.{HoldsGrid-rows}
 use Rattle.p3_util_parts.proofs.parts.RowPairs.exchange.Goals as goal
 
 -- the grid of a patch is one of those of the rows

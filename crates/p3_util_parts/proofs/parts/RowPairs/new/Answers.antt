@@ -1,6 +1,6 @@
 -- A list that has items has rows.
 use Rattle.std.proofs.Common.{arith}
-use Rattle.p3_util_kernels.proofs.Lengths.{IsDigitsOfRows-from}
+use Rattle.p3_util_kernels.proofs.ReverseLemmas.Lengths.{IsDigitsOfRows-from}
 use Rattle.p3_util_parts.proofs.parts.RowPairs.new.Goals as goal
 
 pub returns-clause-rows : goal.returns-clause-rows

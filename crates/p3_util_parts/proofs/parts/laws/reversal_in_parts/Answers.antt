@@ -1,6 +1,6 @@
 -- The law for a reversal.
 use Rattle.p3_util_parts.proofs.PartsLaw.{parts-apart, swaps-reverse, swaps-stay}
-use Rattle.p3_util_kernels.proofs.WrittenPlaces.{AreOnceAmong-weaker}
+use Rattle.p3_util_kernels.proofs.PlacesLemmas.WrittenPlaces.{AreOnceAmong-weaker}
 use Rattle.p3_util_parts.proofs.parts.laws.reversal_in_parts.Goals as goal
 
 pub returns-clause-stay : goal.returns-clause-stay

@@ -1,6 +1,6 @@
 -- The law for a transpose.
 use Rattle.p3_util_parts.proofs.PartsLaw.{puts-count, puts-stay, puts-transpose, regions-apart}
-use Rattle.p3_util_kernels.proofs.WrittenPlaces.{AreOnceAmong-weaker}
+use Rattle.p3_util_kernels.proofs.PlacesLemmas.WrittenPlaces.{AreOnceAmong-weaker}
 use Rattle.p3_util_parts.proofs.parts.laws.transpose_in_parts.Goals as goal
 
 pub returns-clause-stay : goal.returns-clause-stay

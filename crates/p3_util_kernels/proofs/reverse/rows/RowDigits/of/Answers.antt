@@ -1,7 +1,7 @@
 -- A list without items has no digits. Otherwise the number of rows is a power of two, whose
 -- exponent is the number of digits.
 use Rattle.std.proofs.Common.{inl, refl, sym}
-use Rattle.p3_util_kernels.proofs.Lengths.{IsDigitsOfRows-from, no_digits}
+use Rattle.p3_util_kernels.proofs.ReverseLemmas.Lengths.{IsDigitsOfRows-from, no_digits}
 use Rattle.p3_util_kernels.proofs.reverse.rows.RowDigits.of.Goals as goal
 
 pub returns-then-len-eq0-clause-digits : goal.returns-then-len-eq0-clause-digits

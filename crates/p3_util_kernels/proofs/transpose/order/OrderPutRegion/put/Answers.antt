@@ -1,6 +1,6 @@
 -- 64 levels are enough for the splits of a region.
 use Rattle.std.proofs.Common.{arith}
-use Rattle.p3_util_kernels.proofs.HalvesLemmas.{region_levels}
+use Rattle.p3_util_kernels.proofs.TransposeLemmas.Halves.{region_levels}
 use Rattle.p3_util_kernels.proofs.transpose.order.OrderPutRegion.put.Goals as goal
 
 pub put_split-out-requires-clause-enough : goal.put_split-out-requires-clause-enough

@@ -1,6 +1,6 @@
 -- The strip is cut into the rows of its squares and the rows below.
 use Rattle.std.proofs.Common.{◌≡◌, ◌+◌, arith}
-use Rattle.p3_util_kernels.proofs.RegionLemmas.{IsRegionTransposed-cut}
+use Rattle.p3_util_kernels.proofs.TransposeLemmas.Region.{IsRegionTransposed-cut}
 use Rattle.p3_util_kernels.proofs.transpose.strips.SquaresPutRegion.put.Goals as goal
 
 pub returns-then-row-region-clause-transposed : goal.returns-then-row-region-clause-transposed

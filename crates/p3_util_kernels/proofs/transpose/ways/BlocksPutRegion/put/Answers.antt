@@ -1,7 +1,7 @@
 -- Each turn of the loop puts one more block. Then follow the rows that remain.
 use Rattle.std.proofs.Common.{◌≡◌, ◌+◌, ◌-◌, ◌*◌, ◌/◌, ◌≤◌, arith}
 use Rattle.std.proofs.Math.Nat.{div-mul-le_self, mul-le-mul_right}
-use Rattle.p3_util_kernels.proofs.RegionLemmas.{IsCut-rows, IsRegionTransposed-rows}
+use Rattle.p3_util_kernels.proofs.TransposeLemmas.Region.{IsCut-rows, IsRegionTransposed-rows}
 use Rattle.p3_util_kernels.proofs.transpose.ways.BlocksPutRegion.put.Goals as goal
 
 pub loop-part-preserved : goal.loop-part-preserved

@@ -1,7 +1,7 @@
 -- Each turn of the loop adds one more column to the region.
 use Rattle.std.proofs.Common.{◌≡◌, ◌+◌, ◌-◌, arith}
-use Rattle.p3_util_kernels.proofs.ColumnsLemmas.{HoldsColumn-region, IsRegionTransposed-column}
-use Rattle.p3_util_kernels.proofs.RegionLemmas.{IsCut-cols, IsRegionTransposed-cut}
+use Rattle.p3_util_kernels.proofs.TransposeLemmas.Columns.{HoldsColumn-region, IsRegionTransposed-column}
+use Rattle.p3_util_kernels.proofs.TransposeLemmas.Region.{IsCut-cols, IsRegionTransposed-cut}
 use Rattle.p3_util_kernels.proofs.transpose.ways.ColumnsPutRegion.put.Goals as goal
 
 pub put_column-out-requires : goal.put_column-out-requires

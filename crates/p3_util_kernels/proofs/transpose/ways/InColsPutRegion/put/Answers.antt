@@ -1,7 +1,7 @@
 -- Each turn of the loop puts one more part. Then follow the columns that remain.
 use Rattle.std.proofs.Common.{◌≡◌, ◌+◌, ◌-◌, ◌*◌, ◌/◌, ◌≤◌, arith}
 use Rattle.std.proofs.Math.Nat.{div-mul-le_self, mul-le-mul_right}
-use Rattle.p3_util_kernels.proofs.RegionLemmas.{IsCut-cols, IsRegionTransposed-cols}
+use Rattle.p3_util_kernels.proofs.TransposeLemmas.Region.{IsCut-cols, IsRegionTransposed-cols}
 use Rattle.p3_util_kernels.proofs.transpose.ways.InColsPutRegion.put.Goals as goal
 
 pub loop-part-preserved : goal.loop-part-preserved

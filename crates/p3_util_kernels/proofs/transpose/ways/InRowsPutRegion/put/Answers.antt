@@ -1,7 +1,7 @@
 -- Each turn of the loop puts one more part, in one of two ways.
 use Rattle.std.proofs.Common.{◌≡◌, ◌+◌, arith}
 use Rattle.p3_util_kernels.specs.Region.{IsRegionTransposed, items_of}
-use Rattle.p3_util_kernels.proofs.RegionLemmas.{IsCut-rows, IsRegionTransposed-rows}
+use Rattle.p3_util_kernels.proofs.TransposeLemmas.Region.{IsCut-rows, IsRegionTransposed-rows}
 use Rattle.p3_util_kernels.proofs.transpose.ways.InRowsPutRegion.put.Goals.{then-rows-most, else-rows-most}
 use Rattle.p3_util_kernels.proofs.transpose.ways.InRowsPutRegion.put.Goals as goal
 

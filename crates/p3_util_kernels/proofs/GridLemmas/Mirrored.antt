@@ -4,7 +4,7 @@ use Rattle.p3_util_kernels.specs.declared.transpose.regions.Region.{Region}
 use Rattle.p3_util_kernels.specs.Halves.{IsCut}
 use Rattle.p3_util_kernels.specs.Mirrored.{Mirrored}
 use Rattle.p3_util_kernels.specs.Region.{IsInRegion}
-use Rattle.p3_util_kernels.proofs.RegionLemmas.{inside}
+use Rattle.p3_util_kernels.proofs.TransposeLemmas.Region.{inside}
 
 -- A pair is on the line of its greater number, and its smaller number is its row on that line. Each
 -- place has only one line and one row.

@@ -8,7 +8,7 @@ use Rattle.p3_util_kernels.specs.declared.places.Block.{Block}
 use Rattle.p3_util_kernels.specs.declared.transpose.regions.Region.{Region}
 use Rattle.p3_util_kernels.specs.BlockPut.{BlockFits, IsBlockPut, block_items}
 use Rattle.p3_util_kernels.specs.Region.{IsReady, IsRegionTransposed, cols_of, rows_of}
-use Rattle.p3_util_kernels.proofs.Exchange.{slice_get-set_other, slice_get-set_same}
+use Rattle.p3_util_kernels.proofs.PlacesLemmas.Exchange.{slice_get-set_other, slice_get-set_same}
 
 module _ (block : Block) (input_len output_len : ℕ) (fits : BlockFits block input_len output_len) where
   -- the cell of the item in row r and column c, and the index of this item

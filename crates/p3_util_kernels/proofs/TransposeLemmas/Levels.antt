@@ -7,7 +7,7 @@ use Rattle.std.proofs.lemmas.Nat.{pow-add, mul-le}
 use Rattle.std.proofs.Math.Pow.{pow_mono}
 use Rattle.p3_util_kernels.specs.Digits.{sum_below}
 use Rattle.p3_util_kernels.specs.Levels.{clog, lev, nest}
-use Rattle.p3_util_kernels.proofs.PowersLemmas.{below_power, exponent-le, power-even}
+use Rattle.p3_util_kernels.proofs.BitsLemmas.Powers.{below_power, exponent-le, power-even}
 
 -- the least exponent whose power is at least n
 least_power : (n bound : ℕ) → n ≤ 2 ^ bound → (k : ℕ) × (n ≤ 2 ^ k) × ((e : ℕ) → e < k → 2 ^ e < n)

@@ -5,7 +5,7 @@ use Rattle.std.proofs.Math.Nat.{pow-le-pow_right}
 use Rattle.p3_util_kernels.specs.Digits.{rev, sum_below}
 use Rattle.p3_util_kernels.specs.declared.grid.TheConstants.{REVERSED_SIX}
 use Rattle.p3_util_kernels.specs.declared.bits.TheConstants.{POWERS_OF_THREE, EXPONENTS_OF_THREE}
-use Rattle.p3_util_kernels.proofs.PowersLemmas.{three-apart, three-fits, three-greatest}
+use Rattle.p3_util_kernels.proofs.BitsLemmas.Powers.{three-apart, three-fits, three-greatest}
 
 -- each number below n passes the test
 unfoldable pub all_below : (ℕ → Bool) → ℕ → Bool

@@ -6,8 +6,8 @@ use Rattle.std.proofs.lemmas.Bool.Decides.{nat_tests}
 use Rattle.std.proofs.lemmas.List.Elements.{All-cons, All-head, All-nil, All-weaker}
 use Rattle.std.proofs.lemmas.List.Kept.{AllPairs-cons}
 use Rattle.p3_util_kernels.specs.Least.{AreOnceAmong, after_puts, after_swaps, count_below, places_put, places_swapped}
-use Rattle.p3_util_kernels.proofs.Counts.{count-none, count-once, count-some, count-some_passes, count-split}
-use Rattle.p3_util_kernels.proofs.Exchange.{slice_get-set_other}
+use Rattle.p3_util_kernels.proofs.LawsLemmas.Counts.{count-none, count-once, count-some, count-some_passes, count-split}
+use Rattle.p3_util_kernels.proofs.PlacesLemmas.Exchange.{slice_get-set_other}
 
 -- `new` is `old` after these places were written one after another, each with any item
 unfoldable pub Written : {A : Type 0} → List ℕ → List A → List A → Type 0

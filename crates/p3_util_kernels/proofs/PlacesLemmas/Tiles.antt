@@ -4,7 +4,7 @@ use Rattle.std.specs.List.{swap}
 use Rattle.std.proofs.lemmas.Bool.{cases_eq, cases_lt}
 use Rattle.std.proofs.lemmas.List.Edits.{length-swap}
 use Rattle.p3_util_kernels.specs.Exchanged.{AreTiles, IsTile, TileTurned, TilesExchanged}
-use Rattle.p3_util_kernels.proofs.Exchange.{slice_get-swap_first, slice_get-swap_second, slice_get-swap_other}
+use Rattle.p3_util_kernels.proofs.PlacesLemmas.Exchange.{slice_get-swap_first, slice_get-swap_second, slice_get-swap_other}
 
 -- a place of a tile has only one row and one column
 pub one_row : (z : List ℕ) (a b r c : ℕ) → ((a b : ℕ) → a < b → b < 8 → (slice_index z a + 8 ≤ slice_index z b) ⊎ (slice_index z b + 8 ≤ slice_index z a))

@@ -5,8 +5,8 @@ use Rattle.std.proofs.Math.ListN.{length-take}
 use Rattle.std.proofs.lemmas.Bool.{cases_lt}
 use Rattle.std.proofs.lemmas.List.Edits.{length-swap}
 use Rattle.p3_util_kernels.specs.Exchanged.{RunsExchanged}
-use Rattle.p3_util_kernels.proofs.ListParts.{slice_get-append_left, slice_get-append_right, slice_get-take, slice_get-drop}
-use Rattle.p3_util_kernels.proofs.Exchange.{slice_get-swap_first, slice_get-swap_second, slice_get-swap_other}
+use Rattle.p3_util_kernels.proofs.PlacesLemmas.ListParts.{slice_get-append_left, slice_get-append_right, slice_get-take, slice_get-drop}
+use Rattle.p3_util_kernels.proofs.PlacesLemmas.Exchange.{slice_get-swap_first, slice_get-swap_second, slice_get-swap_other}
 
 -- the same exchange with the two runs named in the other order
 pub RunsExchanged-turned : {A : Type 0} (i j len : ℕ) (old new : List A) → RunsExchanged i j len old new → RunsExchanged j i len old new

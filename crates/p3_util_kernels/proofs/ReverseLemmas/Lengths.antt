@@ -7,8 +7,8 @@ use Rattle.std.proofs.lemmas.Nat.Bits.{bit_at_and, bit_at-zero}
 use Rattle.std.proofs.lemmas.Nat.{div-add-mod', div-mul-add, mod-mul-add, pow-add, pow_pos}
 use Rattle.p3_util_kernels.specs.Levels.{clog}
 use Rattle.p3_util_kernels.specs.Reversal.{IsZeroOrPowerOfTwo, IsReversible, FitsRows}
-use Rattle.p3_util_kernels.proofs.LevelsLemmas.{clog_power, clog-zero}
-use Rattle.p3_util_kernels.proofs.PowersLemmas.{exponent-lt, exponent-same, highest, power_of_two_test}
+use Rattle.p3_util_kernels.proofs.TransposeLemmas.Levels.{clog_power, clog-zero}
+use Rattle.p3_util_kernels.proofs.BitsLemmas.Powers.{exponent-lt, exponent-same, highest, power_of_two_test}
 
 -- if 2 ^ j is the greatest power of two that is at most n, digit j of n is 1
 highest_bit : (n j : ℕ) → 2 ^ j ≤ n → n < 2 ^ suc j → bit_at n j ≡ 1

@@ -5,7 +5,7 @@ use Rattle.std.proofs.Math.Pow.{pow_mono}
 use Rattle.p3_util_kernels.specs.declared.grid.Grid.{Grid}
 use Rattle.p3_util_kernels.specs.Grid.{HoldsGrid, SwapsInGrid, row_place, square_at}
 use Rattle.p3_util_kernels.specs.Square.{IsSquareTransposed}
-use Rattle.p3_util_kernels.proofs.GridDistances.{in_order}
+use Rattle.p3_util_kernels.proofs.GridLemmas.Distances.{in_order}
 
 -- the square of `2 ^ log_size` rows that begins at place `base`
 abbrev pub square_grid : (base log_stride log_size : ℕ) → Grid

@@ -1,8 +1,8 @@
 -- Squares that lie side by side are transposed one after another.
 use Rattle.std.proofs.Common.{◌≡◌, ℕ, ◌+◌, ◌-◌, ◌*◌, ◌^◌, ◌<◌, ◌≤◌, List, slice_get, sym, ap, ◌∙◌, arith}
 use Rattle.std.proofs.lemmas.Nat.{pow-add, pow_pos, mul-add-lt, same_from_place}
-use Rattle.p3_util_kernels.proofs.DigitsLemmas.{middle-below}
-use Rattle.p3_util_kernels.proofs.Matrix.{each_place}
+use Rattle.p3_util_kernels.proofs.BitsLemmas.Digits.{middle-below}
+use Rattle.p3_util_kernels.proofs.TransposeLemmas.Matrix.{each_place}
 use Rattle.p3_util_kernels.specs.Square.{IsSquareTransposed}
 use Rattle.p3_util_kernels.specs.SideBySide.{AreTransposed}
 

@@ -3,7 +3,7 @@ use Rattle.std.proofs.Common.{◌≡◌, ℕ, ◌+◌, ◌*◌, ◌/◌, ◌%◌
 use Rattle.std.proofs.lemmas.Nat.{div-add-mod', div_below, mod_below}
 use Rattle.std.proofs.Math.Nat.{mul_comm, pos_of_ne-zero}
 use Rattle.p3_util_kernels.specs.Transpose.{IsTranspose}
-use Rattle.p3_util_kernels.proofs.SameList.{same_places}
+use Rattle.p3_util_kernels.proofs.PlacesLemmas.SameList.{same_places}
 
 -- a number below a product has a row and a column, and no other number has the same row and column
 pub row_and_column : (i rows cols : ℕ) → i < rows * cols → (i / cols < rows) × (i % cols < cols)

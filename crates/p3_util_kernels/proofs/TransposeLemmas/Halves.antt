@@ -7,8 +7,8 @@ use Rattle.p3_util_kernels.specs.declared.transpose.regions.Region.{Region}
 use Rattle.p3_util_kernels.specs.Halves.{AreHalves}
 use Rattle.p3_util_kernels.specs.Levels.{clog, lev}
 use Rattle.p3_util_kernels.specs.Region.{LiesInMatrix, cols_of, rows_of}
-use Rattle.p3_util_kernels.proofs.LevelsLemmas.{clog-above, clog-half, clog-le, lev_le}
-use Rattle.p3_util_kernels.proofs.RegionLemmas.{IsCut-rows, IsCut-cols}
+use Rattle.p3_util_kernels.proofs.TransposeLemmas.Levels.{clog-above, clog-half, clog-le, lev_le}
+use Rattle.p3_util_kernels.proofs.TransposeLemmas.Region.{IsCut-rows, IsCut-cols}
 
 -- the splits of a region nest at most 57 levels deep if the places of its matrix fit in a usize
 pub region_levels : (region : Region) (width height : ℕ) → LiesInMatrix region width height → width < 2 ^ 64 → height < 2 ^ 64 → width * height < 2 ^ 64

@@ -7,10 +7,10 @@ use Rattle.p3_util_kernels.specs.declared.grid.Grid.{Grid}
 use Rattle.p3_util_kernels.specs.Crossing.{HoldsRows, IsRowItem, row_of}
 use Rattle.p3_util_kernels.specs.Digits.{rev}
 use Rattle.p3_util_kernels.specs.Grid.{HoldsGrid, SwapsInGrid, grid_of_rows, row_place, square_at}
-use Rattle.p3_util_kernels.proofs.CrossingLemmas.{AreCrossed, same_item, turned as turned_item}
-use Rattle.p3_util_kernels.proofs.DigitsLemmas.{rev-lt, rev-rev-below}
-use Rattle.p3_util_kernels.proofs.GridDistances.{turned}
-use Rattle.p3_util_kernels.proofs.SideBySideLemmas.{row_length}
+use Rattle.p3_util_kernels.proofs.ReverseLemmas.Crossing.{AreCrossed, same_item, turned as turned_item}
+use Rattle.p3_util_kernels.proofs.BitsLemmas.Digits.{rev-lt, rev-rev-below}
+use Rattle.p3_util_kernels.proofs.GridLemmas.Distances.{turned}
+use Rattle.p3_util_kernels.proofs.ReverseLemmas.SideBySide.{row_length}
 
 module _ (half c row_width middle : ℕ) (within : half ≤ c) (below : middle < 2 ^ (c - half)) where
   abbrev grid : Grid

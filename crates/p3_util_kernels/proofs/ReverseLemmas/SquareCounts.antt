@@ -4,7 +4,7 @@ use Rattle.std.proofs.Math.Nat.{mul-le-mul_left}
 use Rattle.std.proofs.Math.Pow.{pow_mono}
 use Rattle.std.proofs.lemmas.Nat.{pow-add}
 use Rattle.p3_util_kernels.specs.SwapCounts.{short_swaps, square_swaps}
-use Rattle.p3_util_kernels.proofs.Pairs.{twice-pairs}
+use Rattle.p3_util_kernels.proofs.GridLemmas.Pairs.{twice-pairs}
 
 two-squares : (q d : ℕ) → d ≤ 1 → 2 ^ d * square_swaps (2 ^ q) ≡ short_swaps (q + (d + q))
 two-squares q d few =

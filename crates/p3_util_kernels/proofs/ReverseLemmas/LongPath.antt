@@ -4,9 +4,9 @@ use Rattle.std.proofs.lemmas.Nat.{pow-add}
 use Rattle.p3_util_kernels.specs.Digits.{rev}
 use Rattle.p3_util_kernels.specs.Reversal.{IsReversal, IsRowReversal}
 use Rattle.p3_util_kernels.specs.SideBySide.{AreTransposed}
-use Rattle.p3_util_kernels.proofs.DigitsLemmas.{rev-lt, rev-around}
-use Rattle.p3_util_kernels.proofs.ReversalLemmas.{IsReversal-from_power}
-use Rattle.p3_util_kernels.proofs.SideBySideLemmas.{each_part, in_row}
+use Rattle.p3_util_kernels.proofs.BitsLemmas.Digits.{rev-lt, rev-around}
+use Rattle.p3_util_kernels.proofs.ReverseLemmas.Reversal.{IsReversal-from_power}
+use Rattle.p3_util_kernels.proofs.ReverseLemmas.SideBySide.{each_part, in_row}
 
 -- A list of 2 ^ size chunks of 2 ^ stride items, which form one square or two. If its chunks are
 -- reversed, then each square is transposed, and then the chunks are reversed again, the list is

@@ -6,9 +6,9 @@ use Rattle.p3_util_kernels.specs.Crossing.{IsRowItem, row_of}
 use Rattle.p3_util_kernels.specs.Digits.{rev}
 use Rattle.p3_util_kernels.specs.Mirrored.{Mirrored}
 use Rattle.p3_util_kernels.specs.Reversal.{IsRowReversal}
-use Rattle.p3_util_kernels.proofs.DigitsLemmas.{rev-lt, rev-rev-below, rev-around}
-use Rattle.p3_util_kernels.proofs.Lengths.{rows-same}
-use Rattle.p3_util_kernels.proofs.SideBySideLemmas.{each_part, in_row}
+use Rattle.p3_util_kernels.proofs.BitsLemmas.Digits.{rev-lt, rev-rev-below, rev-around}
+use Rattle.p3_util_kernels.proofs.ReverseLemmas.Lengths.{rows-same}
+use Rattle.p3_util_kernels.proofs.ReverseLemmas.SideBySide.{each_part, in_row}
 
 -- the places of two different rows do not overlap
 pub runs-apart : (row_width i j : ℕ) → i ≢ j → (i * row_width + row_width ≤ j * row_width) ⊎ (j * row_width + row_width ≤ i * row_width)

@@ -3,8 +3,8 @@ use Rattle.std.proofs.Common.{◌≡◌, ℕ, zero, suc, true, ◌==◌, ◌-◌
 use Rattle.std.proofs.lemmas.Bool.{and_parts, or_cases, eqb-true, eqb-false, not-true, false≢true}
 use Rattle.std.specs.Int.{IsPowerOfTwo, is_power_of_two}
 use Rattle.p3_util_kernels.specs.Powers.{HasLog2, HasLog3, IsPowerOfThree, any_below}
-use Rattle.p3_util_kernels.proofs.Lengths.{unshared}
-use Rattle.p3_util_kernels.proofs.PowersLemmas.{power_of_two_test}
+use Rattle.p3_util_kernels.proofs.ReverseLemmas.Lengths.{unshared}
+use Rattle.p3_util_kernels.proofs.BitsLemmas.Powers.{power_of_two_test}
 
 some-power : (n : ℕ) → n ≢ 0 → bit_and n (n - 1) ≡ 0 → IsPowerOfTwo n
 some-power n nonzero none = elim (unshared n none) [ inl z ↦ absurd (nonzero z) | inr power ↦ power ]

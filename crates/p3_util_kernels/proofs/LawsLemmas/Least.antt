@@ -9,11 +9,11 @@ use Rattle.p3_util_kernels.specs.Reversal.{IsRowReversal}
 use Rattle.p3_util_kernels.specs.SwapCounts.{short_swaps}
 use Rattle.p3_util_kernels.specs.Transpose.{IsTranspose}
 use Rattle.p3_util_kernels.specs.Least.{after_swaps, count_below, places_put, places_swapped, AllDiffer, DifferWhere, SwapsChange, PutsChange, Palindromes, LeastReversal, LeastSquare, LeastPuts, ReversalDiffers, SquareDiffers}
-use Rattle.p3_util_kernels.proofs.Counts.{count-all, count-not, count-off_diagonal, count-rows, count-times}
-use Rattle.p3_util_kernels.proofs.WrittenPlaces.{puts-places, puts-written, swaps-places, swaps-written, written-change}
-use Rattle.p3_util_kernels.proofs.DigitsLemmas.{middle-below, rev-around, rev-lt, rev-rev-below}
-use Rattle.p3_util_kernels.proofs.Matrix.{each_place}
-use Rattle.p3_util_kernels.proofs.Pairs.{mul-pred, twice-pairs}
+use Rattle.p3_util_kernels.proofs.LawsLemmas.Counts.{count-all, count-not, count-off_diagonal, count-rows, count-times}
+use Rattle.p3_util_kernels.proofs.PlacesLemmas.WrittenPlaces.{puts-places, puts-written, swaps-places, swaps-written, written-change}
+use Rattle.p3_util_kernels.proofs.BitsLemmas.Digits.{middle-below, rev-around, rev-lt, rev-rev-below}
+use Rattle.p3_util_kernels.proofs.TransposeLemmas.Matrix.{each_place}
+use Rattle.p3_util_kernels.proofs.GridLemmas.Pairs.{mul-pred, twice-pairs}
 
 -- one exchange changes at most two places
 pub swaps-change : {A : Type 0} → SwapsChange A

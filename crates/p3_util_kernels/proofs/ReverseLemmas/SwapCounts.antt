@@ -7,9 +7,9 @@ use Rattle.std.proofs.lemmas.Bool.{cases_eq}
 use Rattle.p3_util_kernels.specs.Levels.{clog}
 use Rattle.p3_util_kernels.specs.Reversal.{FitsRows, IsReversible, IsZeroOrPowerOfTwo}
 use Rattle.p3_util_kernels.specs.SwapCounts.{short_swaps, long_swaps, square_swaps, reversal_swaps, row_swaps}
-use Rattle.p3_util_kernels.proofs.Lengths.{zero_or_power}
-use Rattle.p3_util_kernels.proofs.LevelsLemmas.{clog_power, clog-zero}
-use Rattle.p3_util_kernels.proofs.Pairs.{twice-pairs}
+use Rattle.p3_util_kernels.proofs.ReverseLemmas.Lengths.{zero_or_power}
+use Rattle.p3_util_kernels.proofs.TransposeLemmas.Levels.{clog_power, clog-zero}
+use Rattle.p3_util_kernels.proofs.GridLemmas.Pairs.{twice-pairs}
 
 -- each swap takes two places, and there are no more places than items
 pub short_swaps-le : (k : ℕ) → 2 * short_swaps k ≤ 2 ^ k

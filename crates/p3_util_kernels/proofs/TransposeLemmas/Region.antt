@@ -4,7 +4,7 @@ use Rattle.std.proofs.lemmas.Nat.{same_from_place}
 use Rattle.p3_util_kernels.specs.declared.transpose.regions.Region.{Region}
 use Rattle.p3_util_kernels.specs.Halves.{IsCut, IsPart}
 use Rattle.p3_util_kernels.specs.Region.{IsInRegion, IsRegionTransposed, cols_of, rows_of}
-use Rattle.p3_util_kernels.proofs.Pairs.{mul-parts_left, mul-parts_right}
+use Rattle.p3_util_kernels.proofs.GridLemmas.Pairs.{mul-parts_left, mul-parts_right}
 
 -- a place in a part is in the whole
 pub inside : (whole part : Region) (x y : ℕ) → IsPart whole part → IsInRegion part x y → IsInRegion whole x y

@@ -4,11 +4,11 @@ use Rattle.std.proofs.Math.Nat.{mul-pos}
 use Rattle.std.proofs.lemmas.Nat.{pow_pos}
 use Rattle.p3_util_kernels.specs.Digits.{rev}
 use Rattle.p3_util_kernels.specs.Reversal.{FitsRows, IsReversal, IsRowReversal, IsZeroOrPowerOfTwo}
-use Rattle.p3_util_kernels.proofs.DigitsLemmas.{rev-lt, rev-rev-below}
-use Rattle.p3_util_kernels.proofs.Lengths.{FitsRows-one}
-use Rattle.p3_util_kernels.proofs.Matrix.{each_place}
-use Rattle.p3_util_kernels.proofs.PowersLemmas.{exponent-same}
-use Rattle.p3_util_kernels.proofs.SameList.{same_places}
+use Rattle.p3_util_kernels.proofs.BitsLemmas.Digits.{rev-lt, rev-rev-below}
+use Rattle.p3_util_kernels.proofs.ReverseLemmas.Lengths.{FitsRows-one}
+use Rattle.p3_util_kernels.proofs.TransposeLemmas.Matrix.{each_place}
+use Rattle.p3_util_kernels.proofs.BitsLemmas.Powers.{exponent-same}
+use Rattle.p3_util_kernels.proofs.PlacesLemmas.SameList.{same_places}
 
 -- a list of 2 ^ k items is reversed if each place has the item that was at the reverse of the place
 pub IsReversal-from_power : {A : Type 0} (k : ℕ) (old new : List A) → length old ≡ 2 ^ k → length new ≡ length old

@@ -5,8 +5,8 @@ use Rattle.std.proofs.lemmas.Bool.Decides.{nat_tests}
 use Rattle.std.proofs.lemmas.Nat.{div-mul-add, mod-mul-add}
 use Rattle.p3_util_kernels.specs.Digits.{sum_below}
 use Rattle.p3_util_kernels.specs.Least.{count_below}
-use Rattle.p3_util_kernels.proofs.DigitsLemmas.{sum_below-same}
-use Rattle.p3_util_kernels.proofs.Pairs.{mul-pred}
+use Rattle.p3_util_kernels.proofs.BitsLemmas.Digits.{sum_below-same}
+use Rattle.p3_util_kernels.proofs.GridLemmas.Pairs.{mul-pred}
 
 -- what a number adds to the count: 1 if it passes the test, and otherwise 0
 abbrev pub one : Bool → ℕ

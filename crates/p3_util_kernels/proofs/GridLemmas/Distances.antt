@@ -5,9 +5,9 @@ use Rattle.p3_util_kernels.specs.declared.grid.Grid.{Grid}
 use Rattle.p3_util_kernels.specs.declared.grid.RowDistances.{RowDistances}
 use Rattle.p3_util_kernels.specs.Digits.{rev, sum_below}
 use Rattle.p3_util_kernels.specs.Grid.{AreRowDistances, IsInFirstRow, PlacesFit, row_place}
-use Rattle.p3_util_kernels.proofs.DigitsLemmas.{rev-of-zero, rev-parts}
-use Rattle.p3_util_kernels.proofs.PowersLemmas.{exponent-le}
-use Rattle.p3_util_kernels.proofs.Tables.{all_below, all_below-at}
+use Rattle.p3_util_kernels.proofs.BitsLemmas.Digits.{rev-of-zero, rev-parts}
+use Rattle.p3_util_kernels.proofs.BitsLemmas.Powers.{exponent-le}
+use Rattle.p3_util_kernels.proofs.BitsLemmas.Tables.{all_below, all_below-at}
 
 -- the three digits of a number below 8
 rev_three : (t : ℕ) → t < 8 → rev 3 t ≡ t % 2 * 4 + t / 2 % 2 * 2 + t / 4

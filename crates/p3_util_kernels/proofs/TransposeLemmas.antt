@@ -1,0 +1,7 @@
+-- Lemmas on transposes, of whole matrices and of regions.
+pub mod Columns
+pub mod Halves
+pub mod Levels
+pub mod Matrix
+pub mod Region
+pub mod Stages
