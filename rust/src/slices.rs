@@ -24,12 +24,18 @@ use by_size as instances;
 #[cfg(feature = "checked")]
 use by_type as instances;
 
+// With `checked`, a whole list is no range of another one, so no index has to be moved.
+#[cfg(feature = "checked")]
+use crate::kernels::places::SlicePlaces as WholeList;
+#[cfg(not(feature = "checked"))]
+use holders::SliceItems as WholeList;
+
 /// Reverses `vals` by index bits if their number is zero or a power of two. Returns whether it is.
 #[inline]
 pub(crate) fn reverse<F>(vals: &mut [F]) -> bool {
     let fits = fits_rows(vals.len(), 1);
     if fits && size_of::<F>() > 0 {
-        instances::reverse(SliceItems::new(vals));
+        instances::reverse(WholeList::new(vals));
     }
     fits
 }
@@ -39,7 +45,7 @@ pub(crate) fn reverse<F>(vals: &mut [F]) -> bool {
 pub(crate) fn reverse_rows<F>(vals: &mut [F], row_width: usize) -> bool {
     let fits = fits_rows(vals.len(), row_width);
     if fits && size_of_val(vals) > 0 {
-        instances::reverse_rows(SliceItems::new(vals), row_width);
+        instances::reverse_rows(WholeList::new(vals), row_width);
     }
     fits
 }
