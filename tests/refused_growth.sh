@@ -53,9 +53,11 @@ for program in $program{,.by-rattle}; do
 done
 [[ ${1-} != program ]] || exit 0
 
-# The largest number of requests that a test makes.
-most=$(grep -rhoE '(makes_requests\w*|answers)\(&rt, [0-9]+' tests/unproved | grep -oE '[0-9]+$' | sort -n | tail -n 1)
-[[ -n $most ]] || fail 'no test of tests/unproved says how many requests it makes'
-for ((n = 1; n <= most; n++)); do
-    says "the tests of tests/unproved, request $n refused" 'growth::' tests/unproved.sh --fail-alloc "$n" -- growth::
+for folder in tests/unproved/{src,p3_util_run,p3_util_transform}; do
+    # The largest number of requests that a test makes.
+    most=$(grep -rhoE '(makes_requests\w*|answers)\(&rt, [0-9]+' "$folder" | grep -oE '[0-9]+$' | sort -n | tail -n 1)
+    [[ -n $most ]] || fail "no test of $folder says how many requests it makes"
+    for ((n = 1; n <= most; n++)); do
+        UNPROVED=${folder##*/} says "$folder, request $n refused" 'growth::' tests/unproved.sh --fail-alloc "$n" -- growth::
+    done
 done

@@ -5,7 +5,8 @@
 #     tests/unproved.sh [FLAG..]
 #
 # FLAGs are those of `rt try`, for example `-- views`, which runs the tests whose names contain `views`. With
-# `--fail-alloc N` the Nth request for memory is refused in each test.
+# `--fail-alloc N` the Nth request for memory is refused in each test. The variable UNPROVED may name one folder of
+# tests/unproved, whose tests are run alone.
 set -euo pipefail
 cd "$(dirname "$0")/.."
 copy=$(mktemp -d)
@@ -17,6 +18,7 @@ for crate in $below p3_util_run p3_util_transform; do
     cp -a "crates/$crate/src" "$copy/crates/$crate/"
     grep "^$crate:" crates.txt >>"$copy/crates.txt"
 done
+mkdir -p "$copy/crates/p3_util_unproved/src"
 echo "p3_util_unproved: $below serde_json" >>"$copy/crates.txt"
 
 refused=0 last=
@@ -28,10 +30,11 @@ done
 # other work it takes many times that.
 export RT_ALLOW_C=1 CFLAGS="-DREFUSED=$refused" RT_SECONDS=${RT_SECONDS-600}
 
-# tests_of CRATE FOLDER ROOT: runs the tests of a folder, which are modules of the crate. The gate would take a file that ends in
-# .rt for one of the crates that it proves, so they end in .rt.in here.
+# tests_of CRATE FOLDER ROOT FLAG..: runs the tests of a folder, which are modules of the crate. The gate would take a file
+# that ends in .rt for one of the crates that it proves, so they end in .rt.in here.
 tests_of() {
     local file written src=$copy/crates/$1/src
+    [[ tests/unproved/${UNPROVED-${2##*/}} = "$2" ]] || return 0
     mkdir -p "$src/tests"
     cp -a tests/unproved/c "$copy/crates/$1/"
     for file in $(cd "$2" && find . -name '*.rt.in'); do
