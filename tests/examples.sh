@@ -14,10 +14,11 @@ printed=$(bash -c "$command")
 [ "$printed" = "${line##*# }" ] || { printf 'FAILED  %s\nprints %s\n' "$line" "$printed" >&2 && exit 1; }
 echo "README's first command prints $printed"
 
-copy=$(mktemp -d)
-trap 'rm -rf "$copy"' EXIT
+room=$(mktemp -d)
+trap 'rm -rf "$room"' EXIT
+copy=$room/copy
 
-mkdir -p "$copy/crates/examples/src" "$copy/apps"
+mkdir -p "$copy/crates/examples/src" "$room/apps"
 for crate in p3_util p3_util_kernels; do
     mkdir "$copy/crates/$crate"
     cp -r "crates/$crate"/{src,specs,proofs,must-fail} "$copy/crates/$crate/"
@@ -26,12 +27,12 @@ cp HANDLES "$copy/"
 grep -E '^(p3_util|p3_util_kernels):' crates.txt >"$copy/crates.txt"
 echo 'examples: p3_util p3_util_kernels serde_json' >>"$copy/crates.txt"
 
-python3 - docs/CALLING.md "$copy" <<'PYTHON'
+python3 - docs/CALLING.md "$copy" "$room/apps" <<'PYTHON'
 import os
 import re
 import sys
 
-page, copy = sys.argv[1:]
+page, copy, app_folder = sys.argv[1:]
 with open(page, encoding="utf-8") as text:
     blocks = re.findall(r"^```(\w+)\n(.*?)^```", text.read(), re.M | re.S)
 
@@ -49,8 +50,8 @@ for (kind, block), (behind, _) in zip(blocks, blocks[1:] + [("", "")]):
         if not head or not re.search(r"^(ghost )?use ", in_front, re.M):
             raise SystemExit(f"FAILED  {page}: a block of antt says no file, or has no block of Rust in front:\n{block}")
         apps += 1
-        write(f"{copy}/apps/{apps}/src/lib.rt", f"//! An example of {page}.\n#![tactic(auto)]\n\n{in_front}")
-        write(f"{copy}/apps/{apps}/proofs/{head.group(1)}", block)
+        write(f"{app_folder}/{apps}/src/lib.rt", f"//! An example of {page}.\n#![tactic(auto)]\n\n{in_front}")
+        write(f"{app_folder}/{apps}/proofs/{head.group(1)}", block)
     elif kind == "rust" and behind != "antt" and re.search(r"^use ", block, re.M):
         names.append("page_" + re.search(r"^pub fn (\w+)", block, re.M).group(1))
         write(f"{copy}/crates/examples/src/{names[-1]}.rt", f"//! An example of {page}.\n{block}")
@@ -62,16 +63,16 @@ write(f"{copy}/crates/examples/src/lib.rt", f"//! The examples of {page}.\n#![ta
 print(f"{len(names)} examples of {page}, and {apps} with a file of proofs/")
 PYTHON
 
-# Proves a crate of the copy and what it uses, or prints what is not proved.
+# Proves the crates of the copy, or prints what is not proved.
 prove() {
-    (cd "$copy" && rt ci "$1") >"$copy/log" 2>&1 || { grep -E '^fn |error|^note: `|formatted|FAILED' "$copy/log" || tail "$copy/log"; exit 1; }
-    tail -n 1 "$copy/log"
+    (cd "$copy" && rt ci) >"$room/log" 2>&1 || { grep -E '^fn |error|^note: `|formatted|FAILED' "$room/log" || tail "$room/log"; exit 1; }
+    tail -n 1 "$room/log"
 }
 
-prove examples
+prove
 echo 'app: p3_util p3_util_kernels serde_json' >>"$copy/crates.txt"
-for app in "$copy"/apps/*; do
+for app in "$room"/apps/*; do
     rm -rf "$copy/crates/app"
     cp -r "$app" "$copy/crates/app"
-    prove app
+    prove
 done
