@@ -650,10 +650,13 @@ fn shuffles() {
     }
 }
 
+// The two modules with unsafe code are in the folder of the holders, like all of it.
 #[cfg(all(target_os = "linux", not(miri), not(feature = "checked")))]
+#[path = "holders/tests/guarded.rs"]
 mod guarded;
 
 #[cfg(not(any(miri, feature = "checked")))]
+#[path = "holders/tests/handed_over.rs"]
 mod handed_over;
 
 #[cfg(not(feature = "checked"))]
