@@ -122,7 +122,7 @@ pub use kernels::bits::{
 #[doc(inline)]
 pub use kernels::chunks::apply_to_chunks;
 #[doc(inline)]
-pub use slices::parts;
+pub use slices::{parts, reverse_slice_index_bits, reverse_slice_row_index_bits};
 
 /// Does nothing, but a call compiles only if `T` is `Send`.
 ///
@@ -140,76 +140,13 @@ pub const fn assert_send<T: Send>() {}
 #[inline]
 pub const fn assert_sync<T: Sync>() {}
 
-/// Reverses the order of `vals` by index bits.
-///
-/// With 2^k items, index `i` gets the item from the index that has the k bits of `i` in reversed order.
-///
-/// ```
-/// use p3_util_proved::reverse_slice_index_bits;
-///
-/// let mut list = ["000", "001", "010", "011", "100", "101", "110", "111"];
-/// reverse_slice_index_bits(&mut list);
-/// assert_eq!(list, ["000", "100", "010", "110", "001", "101", "011", "111"]);
-/// ```
-///
-/// # Panics
-///
-/// If the length is neither zero nor a power of two:
-///
-/// ```should_panic
-/// p3_util_proved::reverse_slice_index_bits(&mut [0, 1, 2, 3, 4, 5]);
-/// ```
-///
-/// # Contract of the kernel
-#[doc = include_str!("kernels/contracts/reverse_slice_index_bits.txt")]
-#[doc(alias = "reverse")]
-#[inline]
-#[track_caller]
-pub fn reverse_slice_index_bits<F: Send + Sync>(vals: &mut [F]) {
-    if !slices::reverse(vals) {
-        refuse_items(vals.len());
-    }
-}
-
-#[cold]
-#[inline(never)]
-#[track_caller]
-fn refuse_items(len: usize) -> ! {
-    panic!("Not a power of two: {len} items")
-}
-
-/// Reverses the order of the rows of `vals` by index bits. Each row has `row_width` items.
-///
-/// With 2^k rows, the row at index `r` comes from the index that has the k bits of `r` in reversed order.
-///
-/// ```
-/// let mut rows = [0, 1, 10, 11, 20, 21, 30, 31];
-/// p3_util_proved::reverse_slice_row_index_bits(&mut rows, 2);
-/// assert_eq!(rows, [0, 1, 20, 21, 10, 11, 30, 31]);
-/// ```
-///
-/// # Panics
-///
-/// If the length is not `row_width` times zero or a power of two. With a `row_width` of 0 the length must be 0.
-///
-/// # Contract of the kernel
-#[doc = include_str!("kernels/contracts/reverse_slice_row_index_bits.txt")]
-#[doc(alias = "reverse")]
-#[inline]
-#[track_caller]
-pub fn reverse_slice_row_index_bits<F>(vals: &mut [F], row_width: usize) {
-    if !slices::reverse_rows(vals, row_width) {
-        refuse_rows(vals.len(), row_width);
-    }
-}
-
 #[cold]
 #[inline(never)]
 #[track_caller]
 fn refuse_rows(len: usize, row_width: usize) -> ! {
     match row_width {
         0 => panic!("length {len} is not zero, and a row has no items"),
-        1 => refuse_items(len),
+        1 => panic!("Not a power of two: {len} items"),
         _ => panic!("length {len} is not {row_width} times zero or a power of two"),
     }
 }

@@ -1,5 +1,5 @@
-//! Runs the kernels on slices, as whole calls and in parts. This file and `parts.rs` check the preconditions that the
-//! holders trust. Nothing outside this folder can make a holder.
+//! The calls on slices, whole and in parts. This file and `parts.rs` check the preconditions that the holders trust.
+//! Nothing outside this folder can make a holder.
 //!
 //! It is proved that a kernel whose own precondition holds meets the preconditions of the steps of every holder. So
 //! `holders.rs` and its folder, which have all the unsafe code, check no index. With the feature `checked`, the holders of
@@ -30,34 +30,102 @@ use crate::kernels::places::SlicePlaces as WholeList;
 #[cfg(not(feature = "checked"))]
 use holders::SliceItems as WholeList;
 
-/// Reverses `vals` by index bits if their number is zero or a power of two. Returns whether it is.
+/// Reverses the order of `vals` by index bits.
+///
+/// With 2^k items, index `i` gets the item from the index that has the k bits of `i` in reversed order.
+///
+/// ```
+/// use p3_util_proved::reverse_slice_index_bits;
+///
+/// let mut list = ["000", "001", "010", "011", "100", "101", "110", "111"];
+/// reverse_slice_index_bits(&mut list);
+/// assert_eq!(list, ["000", "100", "010", "110", "001", "101", "011", "111"]);
+/// ```
+///
+/// # Panics
+///
+/// If the length is neither zero nor a power of two:
+///
+/// ```should_panic
+/// p3_util_proved::reverse_slice_index_bits(&mut [0, 1, 2, 3, 4, 5]);
+/// ```
+///
+/// # Contract of the kernel
+#[doc = include_str!("kernels/contracts/reverse_slice_index_bits.txt")]
+#[doc(alias = "reverse")]
 #[inline]
-pub(crate) fn reverse<F>(vals: &mut [F]) -> bool {
-    let fits = fits_rows(vals.len(), 1);
-    if fits && size_of::<F>() > 0 {
+#[track_caller]
+pub fn reverse_slice_index_bits<F: Send + Sync>(vals: &mut [F]) {
+    if !fits_rows(vals.len(), 1) {
+        crate::refuse_rows(vals.len(), 1);
+    }
+    if size_of::<F>() > 0 {
         instances::reverse(WholeList::new(vals));
     }
-    fits
 }
 
-/// Reverses rows of `row_width` items each by index bits, if their number is zero or a power of two. Returns whether it is.
+/// Reverses the order of the rows of `vals` by index bits. Each row has `row_width` items.
+///
+/// With 2^k rows, the row at index `r` comes from the index that has the k bits of `r` in reversed order.
+///
+/// ```
+/// let mut rows = [0, 1, 10, 11, 20, 21, 30, 31];
+/// p3_util_proved::reverse_slice_row_index_bits(&mut rows, 2);
+/// assert_eq!(rows, [0, 1, 20, 21, 10, 11, 30, 31]);
+/// ```
+///
+/// # Panics
+///
+/// If the length is not `row_width` times zero or a power of two. With a `row_width` of 0 the length must be 0.
+///
+/// # Contract of the kernel
+#[doc = include_str!("kernels/contracts/reverse_slice_row_index_bits.txt")]
+#[doc(alias = "reverse")]
 #[inline]
-pub(crate) fn reverse_rows<F>(vals: &mut [F], row_width: usize) -> bool {
-    let fits = fits_rows(vals.len(), row_width);
-    if fits && size_of_val(vals) > 0 {
+#[track_caller]
+pub fn reverse_slice_row_index_bits<F>(vals: &mut [F], row_width: usize) {
+    if !fits_rows(vals.len(), row_width) {
+        crate::refuse_rows(vals.len(), row_width);
+    }
+    if size_of_val(vals) > 0 {
         instances::reverse_rows(WholeList::new(vals), row_width);
     }
-    fits
 }
 
-/// Transposes `input` into `output` if both lists have `width * height` items. Returns whether they have.
+/// Transposes `input`, a matrix of `height` rows of `width` items, into `output`.
+///
+/// The item at `input[y * width + x]` goes to `output[x * height + y]`.
+///
+/// ```
+/// use p3_util_proved::transpose::transpose;
+///
+/// // Two rows of three items become three rows of two.
+/// let input = [1, 2, 3, 4, 5, 6];
+/// let mut output = [0; 6];
+/// transpose(&input, &mut output, 3, 2);
+/// assert_eq!(output, [1, 4, 2, 5, 3, 6]);
+/// ```
+///
+/// # Panics
+///
+/// If one of the lengths is not `width * height`, or if that product overflows:
+///
+/// ```should_panic
+/// // The output has room for five items.
+/// p3_util_proved::transpose::transpose(&[1, 2, 3, 4, 5, 6], &mut [0; 5], 3, 2);
+/// ```
+///
+/// # Contract of the kernel
+#[doc = include_str!("kernels/contracts/transpose.txt")]
 #[inline]
-pub(crate) fn transpose<T: Copy>(input: &[T], output: &mut [T], width: usize, height: usize) -> bool {
-    let fits = fits_matrix(input.len(), output.len(), width, height);
-    if fits && size_of::<T>() > 0 {
+#[track_caller]
+pub fn transpose<T: Copy + Send + Sync>(input: &[T], output: &mut [T], width: usize, height: usize) {
+    if !fits_matrix(input.len(), output.len(), width, height) {
+        crate::transpose::refuse(input.len(), output.len(), width, height);
+    }
+    if size_of::<T>() > 0 {
         instances::put(SliceSource::new(input), SliceItems::new(output), width, height);
     }
-    fits
 }
 
 #[cfg(test)]

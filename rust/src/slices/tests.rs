@@ -6,6 +6,7 @@ use std::boxed::Box;
 use std::cmp::Ordering;
 use std::fmt::Debug;
 use std::num::NonZero;
+use std::panic::{AssertUnwindSafe, catch_unwind};
 use std::vec::Vec;
 
 use super::choice::HighStrips;
@@ -271,7 +272,7 @@ fn reverses_rows<T: Debug + PartialEq>(item: impl Fn(usize) -> T) {
     for width in (1..=34).chain([64, 65]) {
         for bits in 0..=7 {
             let mut list: Vec<T> = (0..width << bits).map(&item).collect();
-            assert!(super::reverse_rows(&mut list, width));
+            super::reverse_slice_row_index_bits(&mut list, width);
             let reversed = |row: usize| (0..bits).fold(0, |rev, bit| rev << 1 | row >> bit & 1);
             for (place, got) in list.iter().enumerate() {
                 let wanted = item(reversed(place / width) * width + place % width);
@@ -292,7 +293,12 @@ fn rows_of_all_widths() {
     reverses_rows(parts::<8>);
     reverses_rows(Box::new);
     let mut list = [0; 48];
-    assert!(!super::reverse_rows(&mut list, 16) && !super::reverse_rows(&mut list[..33], 2));
+    assert!(panics(|| super::reverse_slice_row_index_bits(&mut list, 16)));
+    assert!(panics(|| super::reverse_slice_row_index_bits(&mut list[..33], 2)));
+}
+
+fn panics(call: impl FnOnce()) -> bool {
+    catch_unwind(AssertUnwindSafe(call)).is_err()
 }
 
 /// Floats that are equal if their bits are.
@@ -531,7 +537,11 @@ fn blocks_of_lines() {
 
 /// Whether a matrix of the items that `item` makes is transposed as defined, both by blocks and by the strips that a
 /// call chooses.
-fn is_transposed<T: Copy + PartialEq + 'static>(width: usize, height: usize, item: impl Fn(usize) -> T) -> bool {
+fn is_transposed<T: Copy + PartialEq + Send + Sync + 'static>(
+    width: usize,
+    height: usize,
+    item: impl Fn(usize) -> T,
+) -> bool {
     let input: Vec<T> = (0..width * height).map(&item).collect();
     let expected: Vec<T> = (0..width * height)
         .map(|place| item(place % height * width + place / height))
@@ -548,7 +558,8 @@ fn is_transposed<T: Copy + PartialEq + 'static>(width: usize, height: usize, ite
         assert!(output == expected, "{width} by {height}, by blocks of {side} by {side}");
     });
     let mut by_call = blank.clone();
-    super::transpose(&input, &mut by_call, width, height) && by_call == expected
+    super::transpose(&input, &mut by_call, width, height);
+    by_call == expected
 }
 
 #[test]
@@ -666,13 +677,7 @@ mod choice;
 
 #[cfg(any(debug_assertions, feature = "checked"))]
 mod refused {
-    use std::panic::{AssertUnwindSafe, catch_unwind};
-
     use super::*;
-
-    fn panics(call: impl FnOnce()) -> bool {
-        catch_unwind(AssertUnwindSafe(call)).is_err()
-    }
 
     #[test]
     fn exchanges() {
@@ -849,8 +854,6 @@ fn indices_of_long_items() {
 #[cfg(feature = "checked")]
 #[test]
 fn shares() {
-    use std::panic::{AssertUnwindSafe, catch_unwind};
-
     let mut list = [0, 1, 2, 3, 4];
     let mut items = SliceCells::in_shares(&mut list, 3);
     let (mut first, mut second) = (items.share(), items.share());
@@ -859,19 +862,12 @@ fn shares() {
     second.put(3, 8);
     second.exchange(3, 4);
     assert_eq!([Cells::len(&first), Cells::len(&second), Places::len(&second)], [5; 3]);
-    let is_refused = |call: &mut dyn FnMut()| catch_unwind(AssertUnwindSafe(call)).is_err();
     let refuses = |share: &mut SliceCells<i32>, inside: usize, outside: &[usize]| {
         for outside in outside {
-            assert!(is_refused(&mut || share.put(*outside, 9)), "{outside}");
-            assert!(
-                is_refused(&mut || share.exchange(inside, *outside)),
-                "{inside} {outside}"
-            );
-            assert!(
-                is_refused(&mut || share.exchange(*outside, inside)),
-                "{outside} {inside}"
-            );
-            assert!(is_refused(&mut || share.exchange(*outside, *outside)), "{outside}");
+            assert!(panics(|| share.put(*outside, 9)), "{outside}");
+            assert!(panics(|| share.exchange(inside, *outside)), "{inside} {outside}");
+            assert!(panics(|| share.exchange(*outside, inside)), "{outside} {inside}");
+            assert!(panics(|| share.exchange(*outside, *outside)), "{outside}");
         }
     };
     refuses(&mut first, 1, &[3, 4, 5, usize::MAX]);
@@ -902,7 +898,7 @@ fn places_of_parts() {
 
 /// Reverses items, rows and parts of the items that `item` makes. Then each item is dropped, which it would be twice or
 /// never if it was at two places or at none.
-fn reverses<T: Debug + PartialEq>(item: impl Fn(usize) -> T) {
+fn reverses<T: Debug + PartialEq + Send + Sync>(item: impl Fn(usize) -> T) {
     for (bits, width) in (0..=8).flat_map(|bits| [1, 2, 3, 5, 8].map(|width| (bits, width))) {
         let reversed = |row: usize| (0..bits).fold(0, |rev, bit| rev << 1 | row >> bit & 1);
         let check = |list: &[T], wanted: &dyn Fn(usize) -> usize| {
@@ -910,7 +906,7 @@ fn reverses<T: Debug + PartialEq>(item: impl Fn(usize) -> T) {
             assert!(list.iter().enumerate().all(is), "2^{bits} rows of {width}: {list:?}");
         };
         let mut list: Vec<T> = (0..width << bits).map(&item).collect();
-        assert!(super::reverse_rows(&mut list, width));
+        super::reverse_slice_row_index_bits(&mut list, width);
         check(&list, &reversed);
         // With the feature `checked` each reversal is one part.
         let one_part = if cfg!(feature = "checked") { usize::MAX } else { 0 };
@@ -923,7 +919,7 @@ fn reverses<T: Debug + PartialEq>(item: impl Fn(usize) -> T) {
             .for_each(ReversalPart::run);
         check(&list, &reversed);
         if width == 1 {
-            assert!(super::reverse(&mut list));
+            super::reverse_slice_index_bits(&mut list);
             check(&list, &|row| row);
         }
     }
@@ -937,7 +933,7 @@ fn transposes<T: Copy + Debug + PartialEq + Send + Sync>(item: impl Fn(usize) ->
         for parts in 0..3 {
             let mut output = std::vec![item(0); input.len()];
             match parts {
-                0 => assert!(super::transpose(&input, &mut output, width, height)),
+                0 => super::transpose(&input, &mut output, width, height),
                 _ => super::parts::transpose(&input, &mut output, width, height, parts).for_each(TransposePart::run),
             }
             assert!(

@@ -102,7 +102,7 @@ fn whole_calls() {
     for (width, height) in [(1030, 1040), (16400, 64), (64, 16400), (1025, 1025), (1031, 1029)] {
         let input: Vec<u32> = (0..width as u32 * height as u32).collect();
         let mut output = std::vec![0; input.len()];
-        assert!(crate::slices::transpose(&input, &mut output, width, height));
+        crate::slices::transpose(&input, &mut output, width, height);
         let wanted = |place: usize| input[place % height * width + place / height];
         assert!(output.iter().enumerate().all(|(place, got)| *got == wanted(place)));
     }

@@ -243,7 +243,7 @@ fn transposes_touch_their_lists_alone() {
             for parts in 0..3 {
                 let mut cells = Runs::<N>::new(1, len, ends_with_page);
                 match parts {
-                    0 => assert!(crate::slices::transpose(source.list(), cells.list(), width, height)),
+                    0 => crate::slices::transpose(source.list(), cells.list(), width, height),
                     _ => transpose(source.list(), cells.list(), width, height, 2 * parts).for_each(TransposePart::run),
                 }
                 cells.check(|_, k| (0, k % height * width + k / height));
