@@ -39,10 +39,7 @@ pub struct PushError<T> {
 /// The value of a call that allocates. Panics if there was no memory.
 #[track_caller]
 pub(crate) fn granted<T, E>(answer: Result<T, E>) -> T {
-    match answer {
-        Ok(value) => value,
-        Err(_) => panic!("out of memory"),
-    }
+    answer.ok().expect("out of memory")
 }
 
 /// A string whose calls return an error if there is no memory. `into` turns it into the `String` of `alloc`.
@@ -117,13 +114,11 @@ impl<T> Vec<T> {
     }
 
     pub fn push(&mut self, value: T) -> Result<(), PushError<T>> {
-        match self.reserve(1) {
-            Ok(()) => {
-                self.push_reserved(value);
-                Ok(())
-            }
-            Err(AllocError) => Err(PushError { value }),
+        if self.reserve(1).is_err() {
+            return Err(PushError { value });
         }
+        self.push_reserved(value);
+        Ok(())
     }
 
     /// Appends `value`. There must be room for it.

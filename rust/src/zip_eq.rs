@@ -56,11 +56,7 @@ impl<A: ExactSizeIterator, B: ExactSizeIterator> Iterator for ZipEq<A, B> {
     }
 }
 
-impl<A: ExactSizeIterator, B: ExactSizeIterator> ExactSizeIterator for ZipEq<A, B> {
-    fn len(&self) -> usize {
-        self.0.len()
-    }
-}
+impl<A: ExactSizeIterator, B: ExactSizeIterator> ExactSizeIterator for ZipEq<A, B> {}
 
 impl<A: ExactSizeIterator + FusedIterator, B: ExactSizeIterator + FusedIterator> FusedIterator for ZipEq<A, B> {}
 
