@@ -52,30 +52,23 @@ pub(super) unsafe fn write_item<T>(to: *mut T, item: T) {
     }
 }
 
-/// Writes the parts of 16 bytes. Within [`write_item`], these calls would slow down the reversal of 64 items of 3 or 5 bytes.
+/// Writes the parts of 16 bytes. Within [`write_item`], this would slow down the reversal of 64 items of 3 or 5 bytes.
 #[inline(always)]
 unsafe fn write_registers<T>(from: *mut u8, to: *mut u8) {
-    // SAFETY: this is what the caller promises.
-    unsafe {
-        // With `opt-level = "s"`, a loop would not be unrolled.
-        write_register::<T, 0>(from, to);
-        write_register::<T, 16>(from, to);
-        write_register::<T, 32>(from, to);
-        write_register::<T, 48>(from, to);
+    // With `opt-level = "s"`, a loop would not be unrolled.
+    macro_rules! write_each {
+        ($($at:literal)*) => {$(
+            if const { $at + 16 <= size_of::<T>() } {
+                // SAFETY: the item has these 16 bytes, and the caller promises that they may be written.
+                unsafe { move_part::<registers::Register, false>(from.add($at), to.add($at), 16) };
+                // Without the fence, the compiler would join two parts of an item. With AVX, two registers are one.
+                if const { size_of::<T>() >= 32 && ($at % 32 == 16 || cfg!(not(target_feature = "avx"))) } {
+                    compiler_fence(Ordering::SeqCst);
+                }
+            }
+        )*};
     }
-}
-
-/// Writes the 16 bytes of an item from byte `AT` on, if it has so many.
-#[inline(always)]
-unsafe fn write_register<T, const AT: usize>(from: *mut u8, to: *mut u8) {
-    if const { AT + 16 <= size_of::<T>() } {
-        // SAFETY: this part is within the item.
-        unsafe { move_part::<registers::Register, false>(from.add(AT), to.add(AT), 16) };
-        // Without the fence, the compiler would join two parts of an item. With AVX, two registers are one.
-        if const { size_of::<T>() >= 32 && (AT % 32 == 16 || cfg!(not(target_feature = "avx"))) } {
-            compiler_fence(Ordering::SeqCst);
-        }
-    }
+    write_each!(0 16 32 48);
 }
 
 /// Exchanges two runs of `len` bytes.

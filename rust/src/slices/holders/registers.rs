@@ -64,18 +64,20 @@ macro_rules! registers {
             #[allow(unused)] // Without `USES_REGISTERS`, nothing is shuffled.
             fn $name(self, other: Self) -> Self {
                 let (a, b, mut to) = (self.0, other.0, self.0);
-                // SAFETY (of all three): the instruction reads two registers, writes one, and does nothing else. Any 16
-                // bytes are a register. With AVX it has three operands, because an older instruction is slow if it comes
-                // between those of AVX.
-                #[cfg(all(target_arch = "x86_64", target_feature = "sse2", not(target_feature = "avx")))]
-                unsafe { core::arch::asm!(concat!($x86, " {}, {}"), inlateout(xmm_reg) to, in(xmm_reg) b,
-                    options(pure, nomem, nostack, preserves_flags)) }
-                #[cfg(all(target_arch = "x86_64", target_feature = "avx"))]
-                unsafe { core::arch::asm!(concat!("v", $x86, " {}, {}, {}"), lateout(xmm_reg) to, in(xmm_reg) a, in(xmm_reg) b,
-                    options(pure, nomem, nostack, preserves_flags)) }
-                #[cfg(all(target_arch = "aarch64", target_feature = "neon", target_endian = "little"))]
-                unsafe { core::arch::asm!(concat!($arm, " {0:v}.", $parts, ", {1:v}.", $parts, ", {2:v}.", $parts),
-                    lateout(vreg) to, in(vreg) a, in(vreg) b, options(pure, nomem, nostack, preserves_flags)) }
+                // SAFETY: the one of these instructions that the processor has reads two registers, writes one, and does
+                // nothing else. Any 16 bytes are a register. With AVX it has three operands, because an older instruction is
+                // slow if it comes between those of AVX.
+                unsafe {
+                    #[cfg(all(target_arch = "x86_64", target_feature = "sse2", not(target_feature = "avx")))]
+                    core::arch::asm!(concat!($x86, " {}, {}"), inlateout(xmm_reg) to, in(xmm_reg) b,
+                        options(pure, nomem, nostack, preserves_flags));
+                    #[cfg(all(target_arch = "x86_64", target_feature = "avx"))]
+                    core::arch::asm!(concat!("v", $x86, " {}, {}, {}"), lateout(xmm_reg) to, in(xmm_reg) a, in(xmm_reg) b,
+                        options(pure, nomem, nostack, preserves_flags));
+                    #[cfg(all(target_arch = "aarch64", target_feature = "neon", target_endian = "little"))]
+                    core::arch::asm!(concat!($arm, " {0:v}.", $parts, ", {1:v}.", $parts, ", {2:v}.", $parts),
+                        lateout(vreg) to, in(vreg) a, in(vreg) b, options(pure, nomem, nostack, preserves_flags));
+                }
                 Items(to)
             })*
 
