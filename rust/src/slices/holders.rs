@@ -30,22 +30,18 @@ pub(super) mod registers;
 ///
 /// Other parts of a call may have such a holder of the same list at the same time. So no function of this type
 /// makes a reference to the whole list, or to a place or a run that it does not change. A reference to something
-/// that another part changes is undefined behaviour, even if nothing is read through the reference. No test and no
-/// race detector would notice that.
+/// that another part changes is undefined behaviour, even if nothing is read through the reference.
 ///
 /// Tiles and blocks of items are transposed in registers `D`, each of which is two rows of a square, if these have more than
 /// one item. If `LAST` is true, the holder stores whole cache lines past the caches.
-pub(super) struct SliceItems<'a, T, D = Two<Alone>, const LAST: bool = false> {
+pub(super) struct SliceItems<'a, T, D = Two<()>, const LAST: bool = false> {
     first: *mut T,
     len: usize,
     slice: PhantomData<(&'a mut [T], D)>,
 }
 
 /// No register: items are moved one by one.
-#[derive(Clone, Copy)]
-pub(super) struct Alone;
-
-impl<T> Single<T> for Alone {}
+impl<T> Single<T> for () {}
 
 // SAFETY: a `SliceItems` is made from a `&mut [T]`, and may do to the items only what that reference may do.
 unsafe impl<T: Send> Send for SliceItems<'_, T> {}
@@ -68,6 +64,13 @@ impl<'a, T, D, const LAST: bool> SliceItems<'a, T, D, LAST> {
         let first = self.first.wrapping_add(block.to).addr();
         let distance = block.height * size_of::<T>() * usize::from(block.cols > 1);
         LAST && block.rows * size_of::<T>() == LINE && (first | distance) % LINE == 0
+    }
+
+    /// Runs a kernel that puts a call or a part by lines. Only this function makes a holder that stores past the caches.
+    #[inline(always)]
+    pub(super) fn past_caches(self, kernel: impl FnOnce(SliceItems<'a, T, D, true>)) {
+        kernel(SliceItems::of(self.first, self.len));
+        cache::fence();
     }
 }
 
@@ -122,15 +125,6 @@ impl<T: Copy, D: squares::Register<T>> Output for SliceItems<'_, T, D> {
             let lines = Lines::new(LINE / size_of::<T>(), self.address() % LINE / size_of::<T>());
             self.past_caches(|cells| _ = lines.put(cells, matrix, region));
         }
-    }
-}
-
-impl<'a, T, D> SliceItems<'a, T, D> {
-    /// Runs a kernel that puts a call or a part by lines. Only this function makes a holder that stores past the caches.
-    #[inline(always)]
-    pub(super) fn past_caches(self, kernel: impl FnOnce(SliceItems<'a, T, D, true>)) {
-        kernel(SliceItems::of(self.first, self.len));
-        cache::fence();
     }
 }
 
@@ -271,14 +265,13 @@ impl<T: Copy, D: squares::Register<T>, const LAST: bool> Cells for SliceItems<'_
         let Block { rows, cols, from, .. } = block;
         // Whether the list has `D::SIDE` items of each row, from the block's first column on.
         let inside = |len| cols == rows || cols == 1 && from + (rows - 1) * block.width + D::SIDE <= len;
-        match source.as_slice() {
-            // These items are only read: the functions of `squares` have a shared reference to them.
-            Some(items) if LAST && self.may_last(block) && inside(items.len()) => {
-                let items = SliceItems::<T, D>::of(items.as_ptr().cast_mut(), items.len());
+        // These items are only read: the functions of `squares` have a shared reference to them.
+        let items_of = |items: &[T]| SliceItems::<T, D>::of(items.as_ptr().cast_mut(), items.len());
+        match source.as_slice().map(items_of) {
+            Some(items) if LAST && self.may_last(block) && inside(items.len) => {
                 squares::line_blocks::put_by_lines::<T, D, _, _>(self, &items, block);
             }
             Some(items) if const { D::SIDE > 1 } && cols == rows && rows == const { side_of(size_of::<T>()) } => {
-                let items = SliceItems::<T, D>::of(items.as_ptr().cast_mut(), items.len());
                 squares::put_by_squares::<T, D, _, _>(self, &items, block);
             }
             _ => {
