@@ -1,7 +1,7 @@
 //! Kernels on holders of slices, compiled for each type of item. This file calls kernels, and trusts that the precondition
 //! of each was checked.
 
-use super::choice::{Choice, LONG_BYTES, Limits, ShortChoice, choice_of, short_choice_of, side_of, strips_of};
+use super::choice::{Choice, IS_TEST, LONG_BYTES, ShortChoice, choice_of, short_choice_of, side_of, strips_of};
 use super::parts::RowPlan;
 use crate::kernels::places::{Cells, Places, Source};
 use crate::kernels::reverse::{self, RowDigits, reverse_short};
@@ -74,7 +74,7 @@ fn run<M: Output>(cells: M, matrix: Matrix<impl Input<M::Item>>, region: Option<
 fn run_by<const SIDE: usize, M: Output>(cells: M, matrix: Matrix<impl Input<M::Item>>, region: Option<Region>) {
     let (size, Matrix { source, width, height }) = (const { size_of::<M::Item>() }, matrix);
     let strips = strips_of::<SIDE>(size, width, height);
-    let choice = choice_of(Limits::HERE, size, [width, height], region, cells.address());
+    let choice = choice_of(IS_TEST, size, [width, height], region, cells.address());
     let region = region.unwrap_or(matrix.whole());
     let order = match choice {
         Choice::Lines => return cells.put_by_lines(matrix, region),

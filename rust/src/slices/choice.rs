@@ -36,51 +36,15 @@ pub(super) const LONG_BYTES: usize = 1024;
 /// On aarch64, lines were not tried.
 const HAS_LINES: bool = USES_REGISTERS && cfg!(target_arch = "x86_64");
 
-/// A list of at least this many bytes is put by lines.
+// The limits of lines, by bytes, columns, rows, and bytes of a column: see the table.
 const PAST_CACHES: usize = 1 << 24;
-
-/// Fewer columns are not put by lines.
 const LINE_COLS: usize = 12;
-
-/// Nor are fewer columns of items of 4 bytes.
 const LINE_COLS_OF_FOUR: usize = 16;
-
-/// Fewer rows of items of 4 bytes are not put by lines, unless all columns begin at the same cell of a line.
 const LINE_ROWS_OF_FOUR: usize = 128;
-
-/// A column of so many bytes is put by lines even if it is not whole lines.
 const LONG_COLUMN: usize = 768;
 
-/// From which sizes on a matrix is put by lines.
-pub(super) struct Limits {
-    pub(super) bytes: usize,
-    pub(super) cols: usize,
-    pub(super) cols_of_4: usize,
-    pub(super) rows_of_4: usize,
-    pub(super) column: usize,
-}
-
-impl Limits {
-    pub(super) const OF_USERS: &Limits = &Limits {
-        bytes: PAST_CACHES,
-        cols: LINE_COLS,
-        cols_of_4: LINE_COLS_OF_FOUR,
-        rows_of_4: LINE_ROWS_OF_FOUR,
-        column: LONG_COLUMN,
-    };
-
-    /// With these, short lists are put by lines too.
-    const OF_TESTS: &Limits = &Limits {
-        bytes: 1 << 10,
-        cols: 1,
-        cols_of_4: 1,
-        rows_of_4: 1,
-        column: 1,
-    };
-
-    /// The limits of this build.
-    pub(super) const HERE: &Limits = if cfg!(test) { Self::OF_TESTS } else { Self::OF_USERS };
-}
+/// Most tests have lower limits, by which short lists are put by lines too.
+pub(super) const IS_TEST: bool = cfg!(test);
 
 /// On x86-64, a matrix of more items of 8 bytes is not put by blocks in registers.
 const BLOCKS_LONG_ITEMS: usize = 1 << 15;
@@ -124,24 +88,20 @@ pub(super) fn short_choice_of(size: usize, width: usize, height: usize) -> Optio
 /// How a matrix of this width and height is put that has no short choice, or a region of it. `first` is the address of the
 /// first cell of the output.
 #[inline(always)]
-pub(super) fn choice_of(
-    limits: &Limits,
-    size: usize,
-    sides: [usize; 2],
-    region: Option<Region>,
-    first: usize,
-) -> Choice {
+pub(super) fn choice_of(is_test: bool, size: usize, sides: [usize; 2], region: Option<Region>, first: usize) -> Choice {
     let [width, height] = sides;
     let (rows, cols) = match region {
         None if width * height <= LARGE_MATRIX => return Choice::Strips,
         None => (height, width),
         Some(region) => (region.rows(), region.cols()),
     };
+    let limit = |of_users: usize, of_tests: usize| if is_test { of_tests } else { of_users };
     let column = height * size;
     // In a part of few rows, a column has hardly a whole line, and at both of its ends a part of one.
-    let fits_4 = cols >= limits.cols_of_4 && (rows >= limits.rows_of_4 || column % LINE == 0);
-    let is_large = width * column >= limits.bytes && cols >= limits.cols && (size != 4 || fits_4);
-    let is_long = column >= limits.column || size < 16 && column % LINE == 0;
+    let fits_4 = cols >= limit(LINE_COLS_OF_FOUR, 1) && (rows >= limit(LINE_ROWS_OF_FOUR, 1) || column % LINE == 0);
+    let has_columns = cols >= limit(LINE_COLS, 1) && (size != 4 || fits_4);
+    let is_large = width * column >= limit(PAST_CACHES, 1 << 10) && has_columns;
+    let is_long = column >= limit(LONG_COLUMN, 1) || size < 16 && column % LINE == 0;
     if HAS_LINES && matches!(size, 4 | 8 | 16) && first % size == 0 && is_large && is_long {
         Choice::Lines
     } else {
