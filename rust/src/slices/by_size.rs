@@ -1,9 +1,9 @@
 //! Kernels that are compiled for each size of item, and not for each type. Only `slices.rs` uses this file.
 //!
 //! A kernel never looks at an item, so an instance only has to know how many bytes an item has. Those for the sizes in the
-//! table of `by_size!`, and for rows, are compiled in this package, because `reverse_places`, `exchange_places` and
-//! `put_bytes` are not generic and name every size. From 1.85 on, rustc does not compile a generic function again in a
-//! crate that uses the package, if it is not inlined and the package has it for the same types.
+//! table of `by_size!`, and for rows, are compiled in this package, because the functions of a `ByteList` are not generic and
+//! name every size. From 1.85 on, rustc does not compile a generic function again in a crate that uses the package, if it is
+//! not inlined and the package has it for the same types.
 //!
 //! If the processor does not move unaligned bytes as fast as aligned ones, each type has kernels of its own.
 
@@ -55,34 +55,33 @@ pub(super) fn reverse<F>(items: SliceItems<F>) {
 #[inline(always)]
 pub(super) fn reverse_rows<F>(items: SliceItems<F>, row_width: usize) {
     if MOVES_BYTES {
-        reverse_places(items.in_bytes(), row_width * size_of::<F>());
+        reverse_rows_of_bytes(items.in_bytes(), row_width * size_of::<F>());
     } else {
         by_type::reverse_rows(items, row_width);
     }
 }
 
 #[inline(always)]
-pub(super) fn put<T: Copy>(source: SliceSource<T>, cells: SliceItems<T>, width: usize, height: usize) {
+pub(super) fn transpose<T: Copy>(source: SliceSource<T>, cells: SliceItems<T>, width: usize, height: usize) {
     by_size!(
         const { size_of::<T>() },
-        holder = cells => by_type::put(source.in_bytes(), holder, width, height),
-        _ => by_type::put(source, cells, width, height)
+        holder = cells => by_type::transpose(source.in_bytes(), holder, width, height),
+        _ => by_type::transpose(source, cells, width, height)
     );
 }
 
-/// Puts a region of a matrix, or all of it.
 #[inline(always)]
-pub(super) fn put_region<T: Copy>(cells: SliceItems<T>, matrix: Matrix<SliceSource<T>>, region: Option<Region>) {
+pub(super) fn transpose_region<T: Copy>(cells: SliceItems<T>, matrix: Matrix<SliceSource<T>>, region: Option<Region>) {
     if const { by_size!(size_of::<T>()) } {
-        put_bytes(cells.in_bytes(), in_bytes(matrix), region, size_of::<T>());
+        transpose_bytes(cells.in_bytes(), in_bytes(matrix), region, size_of::<T>());
     } else {
-        by_type::put_region(cells, matrix, region);
+        by_type::transpose_region(cells, matrix, region);
     }
 }
 
 /// How many bytes a place has in a reversal of rows of `row` bytes each. If the table has this size, a row is a place.
 /// Otherwise an item is one if a row has only this item and the item is not long. All other rows are runs of bytes.
-pub(super) fn place(size: usize, row: usize) -> usize {
+pub(super) fn bytes_of_place(size: usize, row: usize) -> usize {
     match row {
         _ if by_size!(row) => row,
         _ if !MOVES_BYTES || row == size && size < LONG_BYTES => size.max(1),
@@ -91,11 +90,11 @@ pub(super) fn place(size: usize, row: usize) -> usize {
 }
 
 #[inline(always)]
-pub(super) fn exchange<F>(items: SliceItems<F>, plan: RowPlan, number: usize) {
-    if const { by_size!(size_of::<F>()) } || plan.place != size_of::<F>() {
-        exchange_places(items.in_bytes(), plan, number);
+pub(super) fn run_reversal<F>(items: SliceItems<F>, plan: RowPlan, number: usize) {
+    if const { by_size!(size_of::<F>()) } || plan.bytes != size_of::<F>() {
+        run_reversal_of_bytes(items.in_bytes(), plan, number);
     } else {
-        by_type::exchange(items, plan, number);
+        by_type::run_reversal(items, plan, number);
     }
 }
 
@@ -104,35 +103,37 @@ fn in_bytes<T: Copy, const N: usize>(matrix: Matrix<SliceSource<T>>) -> Matrix<S
     Matrix::new(matrix.source.in_bytes(), matrix.width, matrix.height)
 }
 
-/// Reverses the order of places of `bytes` bytes each by index bits.
+/// A list of items or rows that are taken as bytes.
+type ByteList<'a> = SliceItems<'a, Bytes<1>>;
+
+/// Reverses the order of rows of `row` bytes each by index bits.
 #[inline(never)]
-fn reverse_places(list: SliceItems<Bytes<1>>, bytes: usize) {
+fn reverse_rows_of_bytes(list: ByteList, row: usize) {
     by_size!(
-        bytes,
+        row,
         holder = list => by_type::reverse(holder),
-        _ => by_type::reverse_rows(list, bytes)
+        _ => by_type::reverse_rows(list, row)
     );
 }
 
 /// Makes the exchanges of a part. A place has a size in the table.
 #[inline(never)]
-fn exchange_places(list: SliceItems<Bytes<1>>, plan: RowPlan, number: usize) {
+fn run_reversal_of_bytes(list: ByteList, plan: RowPlan, number: usize) {
     match plan.pairs {
-        None => reverse_places(list, plan.width * plan.place),
+        None => reverse_rows_of_bytes(list, plan.width * plan.bytes),
         Some(pairs) => by_size!(
-            plan.place,
+            plan.bytes,
             holder = list => _ = pairs.exchange(holder, number),
             _ => unreachable!("these items have kernels of their type")
         ),
     }
 }
 
-/// Puts a region of items of a size in the table.
 #[inline(never)]
-fn put_bytes(cells: SliceItems<Bytes<1>>, matrix: Matrix<SliceSource<Bytes<1>>>, region: Option<Region>, size: usize) {
+fn transpose_bytes(cells: ByteList, matrix: Matrix<SliceSource<Bytes<1>>>, region: Option<Region>, size: usize) {
     by_size!(
         size,
-        holder = cells => by_type::put_region(holder, in_bytes(matrix), region),
+        holder = cells => by_type::transpose_region(holder, in_bytes(matrix), region),
         _ => unreachable!("this size has no kernels here")
     );
 }

@@ -22,38 +22,38 @@ pub(super) fn reverse_rows(items: impl Places, row_width: usize) {
 /// Puts a matrix. A user's crate has this, and puts columns itself, since a call would take as long. The arguments of the calls
 /// are those of the user's own, and in the same registers, so that they need no room on the stack.
 #[inline(always)]
-pub(super) fn put<M: Output>(source: impl Input<M::Item>, cells: M, width: usize, height: usize) {
+pub(super) fn transpose<M: Output>(source: impl Input<M::Item>, cells: M, width: usize, height: usize) {
     let size = const { size_of::<M::Item>() };
     match short_choice_of(size, width, height) {
         Some(ShortChoice::Copied) => cells.copy(source),
         Some(ShortChoice::Block) if const { side_of(size_of::<M::Item>()) > 1 } => {
-            put_block(source, cells, width, height)
+            transpose_block(source, cells, width, height)
         }
         Some(ShortChoice::Columns) if const { size_of::<M::Item>() < LONG_BYTES } => {
             let matrix = Matrix::new(source, width, height);
             let _ = Columns.put(cells, matrix, matrix.whole());
         }
-        _ => put_apart(source, cells, width, height),
+        _ => transpose_apart(source, cells, width, height),
     }
 }
 
 #[inline(never)]
-fn put_block<M: Output>(source: impl Input<M::Item>, cells: M, width: usize, height: usize) {
+fn transpose_block<M: Output>(source: impl Input<M::Item>, cells: M, width: usize, height: usize) {
     let matrix = Matrix::new(source, width, height);
     let _ = put_as_block(cells, matrix, matrix.whole());
 }
 
 #[inline(never)]
-fn put_apart<M: Output>(source: impl Input<M::Item>, cells: M, width: usize, height: usize) {
+fn transpose_apart<M: Output>(source: impl Input<M::Item>, cells: M, width: usize, height: usize) {
     let matrix = Matrix::new(source, width, height);
     run(cells, matrix, None);
 }
 
 /// Puts a region of a matrix, or all of it.
 #[inline(never)]
-pub(super) fn put_region<M: Output>(cells: M, matrix: Matrix<impl Input<M::Item>>, region: Option<Region>) {
+pub(super) fn transpose_region<M: Output>(cells: M, matrix: Matrix<impl Input<M::Item>>, region: Option<Region>) {
     match region {
-        None => put(matrix.source, cells, matrix.width, matrix.height),
+        None => transpose(matrix.source, cells, matrix.width, matrix.height),
         Some(_) => run(cells, matrix, region),
     }
 }
@@ -148,12 +148,12 @@ pub(super) trait Output: Cells + Sized {
 }
 
 #[cfg(feature = "checked")]
-pub(super) fn place(size: usize, _row: usize) -> usize {
+pub(super) fn bytes_of_place(size: usize, _row: usize) -> usize {
     size.max(1)
 }
 
 /// Makes the exchanges of part `number`. A reversal that is not cut is one part.
-pub(super) fn exchange(items: impl Places, plan: RowPlan, number: usize) {
+pub(super) fn run_reversal(items: impl Places, plan: RowPlan, number: usize) {
     match plan.pairs {
         None if plan.width == 1 => reverse(items),
         None => reverse_rows(items, plan.width),

@@ -334,7 +334,6 @@ impl<'a, T: Copy> SliceSource<'a, T> {
         SliceSource { items }
     }
 
-    /// The bytes of the same items, `N` at a time.
     #[inline(always)]
     pub(super) fn in_bytes<const N: usize>(self) -> SliceSource<'a, Bytes<N>> {
         // SAFETY: this many groups of `N` bytes are within the slice. No item changes as long as the slice is

@@ -51,10 +51,8 @@ const ONE_PART_BYTES: usize = 1 << 21;
 /// ```
 #[must_use]
 pub const fn one_part_reversal<F>() -> usize {
-    if cfg!(feature = "checked") {
-        return usize::MAX;
-    }
     match ONE_PART_BYTES.checked_div(size_of::<F>()) {
+        _ if cfg!(feature = "checked") => usize::MAX,
         Some(items) if items < ONE_PART_ITEMS => items,
         _ => ONE_PART_ITEMS,
     }
@@ -76,14 +74,13 @@ pub struct ReversalParts<'a, F>(PartsToRun<'a, F, RowPlan>);
 #[must_use = "a part that is not run leaves the list neither as it was nor reversed"]
 pub struct ReversalPart<'a, F>(PartsToRun<'a, F, RowPlan>);
 
-/// The greatest number of ranges that a side is cut into if the caller asks for `parts` parts. There are about two patches
-/// for each such part, so that threads that take one patch after the other end at about the same time. More patches would
-/// be smaller, and small patches make less use of the caches.
+/// Into how many ranges a side is cut at most if the caller asks for `parts` parts. There are about two patches for each such
+/// part, so that threads end at about the same time. More patches would be smaller, and make less use of the caches.
 const fn parts_of_side(parts: usize) -> usize {
     1 + parts.saturating_sub(1).saturating_mul(4).isqrt()
 }
 
-/// The parts of a call that have these numbers, and the list. No other `PartsToRun` of the call has one of these numbers.
+/// The list of a call, and the parts that have these numbers. No other `PartsToRun` of the call has one of these numbers.
 ///
 /// [`transpose`] and [`cut`] set the fields together: `items` is the list that `plan` was made for, and `numbers` are below
 /// the number of its parts. This stays true, since the fields are private and there is no `Clone`.
@@ -95,28 +92,29 @@ struct PartsToRun<'a, T, P> {
 
 type MatrixPlan<'a, T> = (Matrix<&'a [T]>, TransposePlan);
 
-/// A reversal of rows of `width` places, of `place` bytes each. If it is cut, its parts are patches of `pairs`.
+/// A reversal of rows of `width` places, of `bytes` bytes each. If it is cut, its parts are patches of `pairs`.
 #[derive(Clone, Copy)]
 #[cfg_attr(feature = "checked", allow(dead_code, reason = "there, a place is an item"))]
 pub(super) struct RowPlan {
-    pub(super) place: usize,
+    pub(super) bytes: usize,
     pub(super) width: usize,
     pub(super) pairs: Option<RowPairs>,
 }
 
 impl RowPlan {
     /// The plan for `len` items of `size` bytes, and the number of its parts. See [`cut`].
-    fn new(len: usize, size: usize, row_width: usize, parts: usize, one_part: usize) -> Option<(RowPlan, usize)> {
+    #[track_caller]
+    fn new(len: usize, size: usize, row_width: usize, ranges: usize, is_cut: bool) -> (RowPlan, usize) {
         if !fits_rows(len, row_width) {
-            return None;
+            crate::refuse_rows(len, row_width);
         }
         let row = if len * size == 0 { 0 } else { row_width * size };
-        let place = instances::place(size, row);
+        let bytes = instances::bytes_of_place(size, row);
         // A row consists of whole places, so the rows fit in these too.
-        let (places, width) = (len * size / place, row / place);
-        let pairs = (len > one_part && row > 0).then(|| RowPairs::new(places, width, parts));
+        let (places, width) = (len * size / bytes, row / bytes);
+        let pairs = (is_cut && row > 0).then(|| RowPairs::new(places, width, ranges));
         let count = pairs.map_or(usize::from(row > 0), RowPairs::count);
-        Some((RowPlan { place, width, pairs }, count))
+        (RowPlan { bytes, width, pairs }, count)
     }
 }
 
@@ -150,8 +148,8 @@ pub fn transpose<'a, T: Copy + Send + Sync>(
     let plan = TransposePlan::new(width, height, parts, cfg!(not(feature = "checked")));
     let count = if size_of::<T>() == 0 { 0 } else { plan.count() };
     // If the columns are cut, each region fills a run of this many cells. The last region may fill fewer.
-    let share = if count == 0 { 0 } else { plan.items(0) };
-    let (items, matrix) = (SliceItems::in_shares(output, share), Matrix::new(input, width, height));
+    let cells = if count == 0 { 0 } else { plan.items(0) };
+    let (items, matrix) = (SliceItems::in_shares(output, cells), Matrix::new(input, width, height));
     let (plan, numbers) = ((matrix, plan), 0..count);
     TransposeParts(PartsToRun { items, plan, numbers })
 }
@@ -191,20 +189,17 @@ pub fn reversal<F: Send>(vals: &mut [F], parts: usize) -> ReversalParts<'_, F> {
 #[track_caller]
 #[must_use = "the list is reversed by the parts, and none has run yet"]
 pub fn row_reversal<F: Send>(vals: &mut [F], row_width: usize, parts: usize) -> ReversalParts<'_, F> {
-    let len = vals.len();
-    match cut(vals, row_width, parts_of_side(parts), one_part_reversal::<F>()) {
-        Some(parts) => parts,
-        None => crate::refuse_rows(len, row_width),
-    }
+    let is_cut = vals.len() > one_part_reversal::<F>();
+    cut(vals, row_width, parts_of_side(parts), is_cut)
 }
 
-/// The parts of a reversal, or `None` if the length does not fit the row width. Each side of a square is cut into at most
-/// `parts` ranges. A list of up to `one_part` items is one part.
-pub(super) fn cut<F>(vals: &mut [F], row_width: usize, parts: usize, one_part: usize) -> Option<ReversalParts<'_, F>> {
+/// The parts of a reversal. Each side of a square is cut into at most `ranges` ranges, or the list is one part.
+#[track_caller]
+pub(super) fn cut<F>(vals: &mut [F], row_width: usize, ranges: usize, is_cut: bool) -> ReversalParts<'_, F> {
     let len = vals.len();
-    let (plan, count) = RowPlan::new(len, size_of::<F>(), row_width, parts, one_part)?;
+    let (plan, count) = RowPlan::new(len, size_of::<F>(), row_width, ranges, is_cut);
     let (items, numbers) = (SliceItems::in_shares(vals, len), 0..count);
-    Some(ReversalParts(PartsToRun { items, plan, numbers }))
+    ReversalParts(PartsToRun { items, plan, numbers })
 }
 
 impl<T, P: Copy> PartsToRun<'_, T, P> {
@@ -217,26 +212,22 @@ impl<T, P: Copy> PartsToRun<'_, T, P> {
     }
 }
 
-impl<'a, T: Copy> PartsToRun<'a, T, MatrixPlan<'a, T>> {
-    /// Calls `put` for each part, with a region if the transpose is cut.
-    #[inline]
-    fn put_each(self, put: impl Fn(SliceItems<T>, Matrix<SliceSource<T>>, Option<Region>)) {
-        // `TransposePlan::region` asks for a number below the plan's count, and its clause `inside` says that the region
-        // lies in the matrix. Both lists have as many items as the matrix: `transpose` checked that.
-        let (mut items, (matrix, plan)) = (self.items, self.plan);
-        let matrix = Matrix::new(SliceSource::new(matrix.source), matrix.width, matrix.height);
-        let is_cut = plan.count() > 1;
-        self.numbers
-            .for_each(|number| put(items.share(), matrix, is_cut.then(|| plan.region(number))));
-    }
-}
-
 impl<T: Copy> TransposePart<'_, T> {
     /// Writes the items of this part to the output.
     #[inline]
     pub fn run(self) {
-        self.0
-            .put_each(|items, matrix, region| instances::put_region(items, matrix, region));
+        let (Matrix { source, width, height }, _) = self.0.plan;
+        let (matrix, region) = (Matrix::new(SliceSource::new(source), width, height), self.region());
+        instances::transpose_region(self.0.items, matrix, region);
+    }
+
+    /// The region of this part, if the transpose is cut.
+    #[inline]
+    fn region(&self) -> Option<Region> {
+        // `TransposePlan::region` asks for a number below the plan's count, and its clause `inside` says that the region
+        // lies in the matrix. Both lists have as many items as the matrix: `transpose` checked that.
+        let (_, plan) = self.0.plan;
+        (plan.count() > 1).then(|| plan.region(self.0.numbers.start))
     }
 }
 
@@ -244,13 +235,10 @@ impl<F> ReversalPart<'_, F> {
     /// Exchanges the items of this part.
     #[inline]
     pub fn run(self) {
-        let (mut items, plan) = (self.0.items, self.0.plan);
         // If the reversal is not cut, its one part is the call, for which `RowPlan::new` checked the rows. Otherwise, the
         // clause `below` of `RowPairs::exchange` holds because `numbers` are below the plan's count, and `ready` because
         // the pairs are those of the rows of `items`.
-        self.0
-            .numbers
-            .for_each(|number| instances::exchange(items.share(), plan, number));
+        instances::run_reversal(self.0.items, self.0.plan, self.0.numbers.start);
     }
 }
 

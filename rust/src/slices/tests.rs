@@ -842,7 +842,7 @@ fn indices_of_long_items() {
     let put = |len| {
         let mut cells = std::vec![[9; 1024]; 6];
         let matrix = Matrix::new(First(len), 3, 2);
-        let call = || super::by_type::put_region(SliceCells::new(&mut cells), matrix, None);
+        let call = || super::by_type::transpose_region(SliceCells::new(&mut cells), matrix, None);
         catch_unwind(AssertUnwindSafe(call)).map(|()| cells.into_iter().map(|[first, ..]| first).collect())
     };
     assert_eq!(put(6).ok(), Some(std::vec![0, 3, 1, 4, 2, 5]));
@@ -881,7 +881,7 @@ fn shares() {
 #[test]
 fn places_of_parts() {
     fn place<const N: usize>(row_width: usize) -> usize {
-        super::instances::place(N, row_width * N)
+        super::instances::bytes_of_place(N, row_width * N)
     }
     let moves_bytes = cfg!(all(
         any(target_arch = "x86_64", target_arch = "aarch64"),
@@ -909,14 +909,9 @@ fn reverses<T: Debug + PartialEq + Send + Sync>(item: impl Fn(usize) -> T) {
         super::reverse_slice_row_index_bits(&mut list, width);
         check(&list, &reversed);
         // With the feature `checked` each reversal is one part.
-        let one_part = if cfg!(feature = "checked") { usize::MAX } else { 0 };
-        super::parts::cut(&mut list, width, 2, one_part)
-            .unwrap()
-            .for_each(ReversalPart::run);
+        super::parts::cut(&mut list, width, 2, cfg!(not(feature = "checked"))).for_each(ReversalPart::run);
         check(&list, &|row| row);
-        super::parts::cut(&mut list, width, 1, usize::MAX)
-            .unwrap()
-            .for_each(ReversalPart::run);
+        super::parts::cut(&mut list, width, 1, false).for_each(ReversalPart::run);
         check(&list, &reversed);
         if width == 1 {
             super::reverse_slice_index_bits(&mut list);

@@ -364,16 +364,18 @@ fn shares_of_transposes() {
     }
 }
 
-/// Up to a given length, a list is one part.
+/// A list of rows is one part if it is not cut, as up to a given number of items.
 #[test]
 fn lists_up_to_one_part() {
-    let count = |len, row_width, one_part| {
+    let count = |len, row_width, is_cut| {
         let mut list = std::vec![0u8; len];
-        cut(&mut list, row_width, 5, one_part).unwrap().len()
+        cut(&mut list, row_width, 5, is_cut).len()
     };
-    assert_eq!([count(0, 1, 0), count(0, 1, 9), count(0, 0, 0)], [0, 0, 0]);
-    assert_eq!([count(1 << 12, 1, 4095), count(1 << 12, 1, 4096)], [10, 1]);
-    assert_eq!([count(3 << 9, 3, 1535), count(3 << 9, 3, 1536)], [20, 1]);
+    assert_eq!([count(0, 1, true), count(0, 1, false), count(0, 0, true)], [0, 0, 0]);
+    assert_eq!([count(1 << 12, 1, true), count(1 << 12, 1, false)], [10, 1]);
+    assert_eq!([count(3 << 9, 3, true), count(3 << 9, 3, false)], [20, 1]);
+    let are_cut = [1 << 16, 1 << 17].map(|len| row_reversal(&mut std::vec![0u8; len], 4, 5).len() > 1);
+    assert_eq!(are_cut, [false, cfg!(not(feature = "checked"))]);
 }
 
 /// A list of up to 2^16 items is one part. If an item has more than 32 bytes, a list is one part up to as many items as

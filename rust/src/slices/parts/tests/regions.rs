@@ -44,12 +44,11 @@ fn reads<T: Copy + Default + Send + Sync>(len: usize, call: impl FnOnce(&[T], &m
     reads.into_inner()
 }
 
-/// Puts the regions of some parts, with their items from `source`.
-fn put_from<T: Copy>(part: TransposePart<T>, source: impl Source<Item = T> + Copy) {
-    part.0.put_each(|items, matrix, region| {
-        let matrix = Matrix::new(source, matrix.width, matrix.height);
-        by_type::put_region(items, matrix, region);
-    });
+/// Runs a part, with its items from `source`.
+fn run_from<T: Copy>(part: TransposePart<T>, source: impl Source<Item = T> + Copy) {
+    let (region, (matrix, _)) = (part.region(), part.0.plan);
+    let matrix = Matrix::new(source, matrix.width, matrix.height);
+    by_type::transpose_region(part.0.items, matrix, region);
 }
 
 /// A transpose that is not cut is put as a whole call, and not as a region, which is the whole matrix.
@@ -58,11 +57,7 @@ fn only_a_cut_transpose_has_regions() {
     let (input, mut output) = ([0; 64 * 48], [0; 64 * 48]);
     let mut count = |width, height, asked| {
         let parts = transpose(&input, &mut output, width, height, asked);
-        let regions = parts.map(|part| {
-            let region = RefCell::new(None);
-            part.0.put_each(|_, _, found| _ = region.replace(found));
-            region.into_inner().map(|region| region.rows() * region.cols())
-        });
+        let regions = parts.map(|part| part.region().map(|region| region.rows() * region.cols()));
         regions.collect::<Vec<_>>()
     };
     assert_eq!(count(64, 48, 1), [None]);
@@ -74,7 +69,7 @@ fn only_a_cut_transpose_has_regions() {
 fn each_item_is_read_once() {
     for (width, height, asked) in [(64, 64, 1), (64, 64, 4), (100, 40, 3), (40, 100, 3), (5, 3, 9)] {
         let mut read = reads::<usize>(width * height, |items, output, source| {
-            transpose(items, output, width, height, asked).for_each(|part| put_from(part, source));
+            transpose(items, output, width, height, asked).for_each(|part| run_from(part, source));
         });
         read.sort_unstable();
         assert!(read.into_iter().eq(0..width * height), "{width} by {height}");
@@ -99,7 +94,7 @@ fn put_by_strips<T: Copy>(output: &mut [T], matrix: Matrix<impl Source<Item = T>
 fn strips_of_the_parts() {
     fn check<T: Copy + Default + Send + Sync>(width: usize, height: usize) -> bool {
         let by_parts = reads::<T>(width * height, |items, output, source| {
-            transpose(items, output, width, height, 1).for_each(|part| put_from(part, source));
+            transpose(items, output, width, height, 1).for_each(|part| run_from(part, source));
         });
         let by_strips = |by_size: bool| {
             reads::<T>(width * height, |_, output, source| {
@@ -131,7 +126,7 @@ fn strips_of_calls_on_slices() {
     fn check<T: Copy + Default + Send + Sync>(width: usize, height: usize) {
         let by_call = reads::<T>(width * height, |_, output, source| {
             let matrix = Matrix::new(source, width, height);
-            by_type::put_region(SliceItems::new(output), matrix, None);
+            by_type::transpose_region(SliceItems::new(output), matrix, None);
         });
         let by_strips = reads::<T>(width * height, |_, output, source| {
             let matrix = Matrix::new(source, width, height);
