@@ -19,7 +19,7 @@ ghost use Rattle.p3_util_kernels.specs.Reversal.{FitsRows, IsReversal, IsReversi
 ghost use Rattle.p3_util_kernels.specs.Digits.{rev};
 ghost use Rattle.p3_util_kernels.specs.Levels.{clog};
 ghost use Rattle.p3_util_kernels.specs.Steps.{counted};
-ghost use Rattle.p3_util_kernels.specs.SwapCounts.{reversal_swaps, row_swaps};
+ghost use Rattle.p3_util_kernels.specs.SwapCounts.{long_swaps, reversal_swaps, row_swaps, short_swaps};
 
 // `rows` has the short path, which is that of rows of any width, and `long` has the long path. The
 // module `grid` makes the exchanges of both.
@@ -27,10 +27,9 @@ mod long;
 pub(crate) mod rows;
 
 use crate::places::{Places, SlicePlaces, Swaps};
-pub use long::reverse_index_bits_long;
 use long::reverse_long;
+use rows::reverse_chunks;
 pub(crate) use rows::{RowDigits, reverse_rows, reverse_short};
-pub use rows::{reverse_chunks_on, reverse_index_bits_short, reverse_row_index_bits_on};
 
 /// A call that counts its swaps takes the short path for at most this many items, and the long path
 /// for more.
@@ -146,6 +145,92 @@ pub fn reverse_index_bits_on<S: Places>(m: &mut Swaps<S>)
         m.old.holder m.new.holder }
 {
     m.count = reverse_index_bits(Swaps::resumed(&mut m.holder, m.count)).swaps();
+}
+
+/// Reverses `m` by index bits, as [`reverse_slice_index_bits`] does.
+///
+/// Each pair of items whose indices are each other's reverse is swapped once. The length must be
+/// zero or a power of two, which `fits_rows(m.len(), 1)` checks.
+#[tactic(auto, using(crate::proofs::ReverseLemmas::SwapCounts::short_bound, crate::proofs::ReverseLemmas::Reversal::reversed_place))]
+pub fn reverse_index_bits_short<S: Places>(m: &mut Swaps<S>)
+    requires { IsReversible (length (S.items m.old.holder)) }
+    ensures order { IsReversal (S.items m.old.holder) (S.items m.new.holder) }
+    ensures at { (k i : ℕ) → length (S.items m.old.holder) ≡ 2 ^ k → i < 2 ^ k
+        → slice_get (S.items m.new.holder) i ≡ slice_get (S.items m.old.holder) (rev k i) }
+    ensures count { m.new.count ≡ counted m.old.count
+        (short_swaps (clog (length (S.items m.old.holder)))) }
+    ensures bound { let n = length (S.items m.old.holder) in short_swaps (clog n) ≤ n / 2 }
+    ensures holder { S.same_holder (short_swaps (clog (length (S.items m.old.holder))))
+        m.old.holder m.new.holder }
+{
+    m.count = reverse_short(Swaps::resumed(&mut m.holder, m.count)).swaps();
+}
+
+/// Reverses `m` by index bits, as [`reverse_slice_index_bits`] does, in three passes over chunks and
+/// squares.
+///
+/// A list of n items takes at most 3n/2 swaps. [`reverse_index_bits_short`] takes at most n/2, but
+/// the order of the swaps here suits lists that do not fit in a cache. The length must be at least
+/// 4, and a power of two, which std's `is_power_of_two` checks.
+#[tactic(auto, using(crate::proofs::ReverseLemmas::SwapCounts::long_bound, crate::proofs::ReverseLemmas::Reversal::reversed_place))]
+pub fn reverse_index_bits_long<S: Places>(m: &mut Swaps<S>)
+    requires fits { IsReversible (length (S.items m.old.holder)) }
+    requires not_short { 4 ≤ length (S.items m.old.holder) }
+    ensures order { IsReversal (S.items m.old.holder) (S.items m.new.holder) }
+    ensures at { (k i : ℕ) → length (S.items m.old.holder) ≡ 2 ^ k → i < 2 ^ k
+        → slice_get (S.items m.new.holder) i ≡ slice_get (S.items m.old.holder) (rev k i) }
+    ensures count { m.new.count ≡ counted m.old.count
+        (long_swaps (clog (length (S.items m.old.holder)))) }
+    ensures bound { let n = length (S.items m.old.holder) in long_swaps (clog n) ≤ 3 * n / 2 }
+    ensures holder { S.same_holder (long_swaps (clog (length (S.items m.old.holder))))
+        m.old.holder m.new.holder }
+{
+    m.count = reverse_long(Swaps::resumed(&mut m.holder, m.count)).swaps();
+}
+
+/// Reverses the order of the rows of `m` by index bits.
+///
+/// Each row has `row_width` items. With 2^k rows, the row at index `r` comes from the index that
+/// has the k bits of `r` in reversed order. The number of rows must be zero or a power of two,
+/// which [`fits_rows`] checks.
+#[tactic(auto, using(crate::proofs::ReverseLemmas::SwapCounts::rows_bound))]
+pub fn reverse_row_index_bits_on<S: Places>(m: &mut Swaps<S>, row_width: usize)
+    requires { FitsRows (length (S.items m.old.holder)) row_width }
+    ensures order { IsRowReversal row_width (S.items m.old.holder) (S.items m.new.holder) }
+    ensures at { (k r j : ℕ) → length (S.items m.old.holder) ≡ row_width * 2 ^ k → r < 2 ^ k
+        → j < row_width → slice_get (S.items m.new.holder) (r * row_width + j)
+        ≡ slice_get (S.items m.old.holder) (rev k r * row_width + j) }
+    ensures count { m.new.count ≡ counted m.old.count
+        (row_swaps (length (S.items m.old.holder)) row_width) }
+    ensures bound { let n = length (S.items m.old.holder) in row_swaps n row_width ≤ n / 2 }
+    ensures holder { S.same_holder (row_swaps (length (S.items m.old.holder)) row_width)
+        m.old.holder m.new.holder }
+{
+    let rows = RowDigits::of(m.len(), row_width);
+    m.count = reverse_rows(Swaps::resumed(&mut m.holder, m.count), rows).swaps();
+}
+
+/// Reverses the order of chunks by index bits.
+///
+/// There are `2^h` chunks of `2^c` items, where h is `lb_num_chunks` and c is `lb_chunk_size`.
+/// Place `i` gets the item from place `rev(h, i / 2^c) * 2^c + i mod 2^c`, where `rev(h, x)` has
+/// the h bits of x in reversed order. A list of n items takes at most n/2 swaps. The length must be
+/// `2^(h + c)`. To check the length, compare it with the power that
+/// [`checked_log_size_sum`](crate::bits::checked_log_size_sum) returns for the two exponents.
+#[tactic(auto, using(crate::proofs::ReverseLemmas::SwapCounts::chunks_bound))]
+pub fn reverse_chunks_on<S: Places>(m: &mut Swaps<S>, lb_num_chunks: usize, lb_chunk_size: usize)
+    requires { length (S.items m.old.holder) ≡ 2 ^ (lb_num_chunks + lb_chunk_size) }
+    ensures order { IsRowReversal (2 ^ lb_chunk_size) (S.items m.old.holder)
+        (S.items m.new.holder) }
+    ensures count { m.new.count ≡ counted m.old.count
+        (short_swaps lb_num_chunks * 2 ^ lb_chunk_size) }
+    ensures bound { short_swaps lb_num_chunks * 2 ^ lb_chunk_size
+        ≤ length (S.items m.old.holder) / 2 }
+    ensures holder { S.same_holder (short_swaps lb_num_chunks * 2 ^ lb_chunk_size)
+        m.old.holder m.new.holder }
+{
+    let counter = Swaps::resumed(&mut m.holder, m.count);
+    m.count = reverse_chunks(counter, lb_num_chunks, lb_chunk_size).swaps();
 }
 
 /// Runs the kernel on a holder of the slice and returns the slice. The kernel takes the holder by

@@ -16,12 +16,14 @@
 //! one write. The order of the writes, and the choice of strips on which this order depends, are
 //! only tested.
 
-// `regions` defines matrices and regions. `ways` has the ways to put a region, which contain each
-// other. `strips` puts a region strip by strip in such ways: begin at `Strips::by_shape` if you want to
-// change the strips. `order` is what the caller of a kernel chooses: columns, strips, or the leaves of
-// `split`, which halves a region until its parts are small or narrow. `square` transposes a square in
-// place, for the long path of a bit reversal. No kernel uses `butterfly`.
+// `counted` has the calls over any holder and over counters. `regions` defines matrices and regions.
+// `ways` has the ways to put a region, which contain each other. `strips` puts a region strip by strip
+// in such ways: begin at `Strips::by_shape` if you want to change the strips. `order` is what the caller
+// of a kernel chooses: columns, strips, or the leaves of `split`, which halves a region until its parts
+// are small or narrow. `square` transposes a square in place, for the long path of a bit reversal. No
+// kernel uses `butterfly`.
 mod butterfly;
+mod counted;
 mod order;
 pub(crate) mod regions;
 mod split;
@@ -29,14 +31,18 @@ mod square;
 pub(crate) mod strips;
 pub(crate) mod ways;
 
-use crate::kernels::places::{Cells, SliceCells, SliceSource, Source, Writes};
+use crate::kernels::places::{Cells, SliceCells, SliceSource, Source};
 pub use butterfly::{butterfly_4x4, butterfly_stage1, butterfly_stage2};
+pub use counted::{
+    fits_square, transpose_counted, transpose_on, transpose_region_counted, transpose_region_on,
+    transpose_source_counted, transpose_source_on, transpose_source_region_counted,
+    transpose_source_region_on, transpose_source_split_on, transpose_split_on,
+    transpose_square_counted, transpose_square_on,
+};
 pub(crate) use order::{LARGE_MATRIX, Order, TINY_MATRIX};
 pub(crate) use regions::Matrix;
 pub use regions::Region;
-pub use split::{transpose_source_split_on, transpose_split_on};
 pub(crate) use square::transpose_square;
-pub use square::{fits_square, transpose_square_counted, transpose_square_on};
 pub(crate) use strips::{HIGH_ROWS, Strips};
 pub(crate) use ways::{Columns, PutRegion, put_as_block};
 
@@ -85,289 +91,6 @@ pub const fn fits_matrix(input_len: usize, output_len: usize, width: usize, heig
 #[allow(dead_code)]
 pub(crate) fn transpose<T: Copy>(input: &[T], output: &mut [T], width: usize, height: usize) {
     let _ = transpose_items(Matrix::new(SliceSource::new(input), width, height), output);
-}
-
-/// Writes the transpose of `input`, a matrix of `height` rows of `width` items, to `cells`, and
-/// returns the number of writes.
-///
-/// The item at `y * width + x` of `input` is written to cell `x * height + y`. The writes are
-/// counted from 0, and there are exactly `width * height`. Both lengths must be `width * height`,
-/// which [`fits_matrix`] checks.
-///
-/// # Contract
-///
-/// [`contracts`](crate::kernels::contracts) explains how to read this contract, and its names
-/// [`IsTranspose`](crate::kernels::contracts#IsTranspose),
-/// [`same_holder`](crate::kernels::contracts#same_holder).
-///
-/// ```text
-/// requires input_fits { length input.now ≡ width * height }
-/// requires output_fits { length (C.items cells.old) ≡ width * height }
-/// ensures order { IsTranspose width height input.now (C.items cells.new) }
-/// ensures count { result ≡ width * height }
-/// ensures holder { C.same_holder result cells.old cells.new }
-/// ```
-pub fn transpose_counted<C: Cells>(
-    input: &[C::Item],
-    cells: &mut C,
-    width: usize,
-    height: usize,
-) -> u128 {
-    transpose_source_counted(&SliceSource::new(input), cells, width, height)
-}
-
-/// Writes the transpose of any source to `cells`, as [`transpose_counted`] does for a slice.
-///
-/// Both lengths must be `width * height`, which [`fits_matrix`] checks.
-///
-/// # Contract
-///
-/// [`contracts`](crate::kernels::contracts) explains how to read this contract, and its names
-/// [`IsTranspose`](crate::kernels::contracts#IsTranspose),
-/// [`same_holder`](crate::kernels::contracts#same_holder).
-///
-/// ```text
-/// requires input_fits { length (R.items input.now) ≡ width * height }
-/// requires output_fits { length (C.items cells.old) ≡ width * height }
-/// ensures order { IsTranspose width height (R.items input.now) (C.items cells.new) }
-/// ensures count { result ≡ width * height }
-/// ensures holder { C.same_holder result cells.old cells.new }
-/// ```
-pub fn transpose_source_counted<R, C>(input: &R, cells: &mut C, width: usize, height: usize) -> u128
-where
-    C: Cells,
-    R: Source<Item = C::Item>,
-{
-    let matrix = Matrix::new(input, width, height);
-    transpose_by_shape(Writes::new(cells), matrix).writes()
-}
-
-/// Writes the transpose of `input` to `out`, as [`transpose`] does, in exactly `width * height`
-/// writes.
-///
-/// Both lengths must be `width * height`, which [`fits_matrix`] checks. If 16 divides `width`, a
-/// matrix of 128 to 1024 items is written 16 rows at a time, in blocks of 4 by 4 items. Rows that
-/// fill no block are written column after column. The contract does not say so, but tests of the
-/// order of the writes show it.
-///
-/// # Contract
-///
-/// [`contracts`](crate::kernels::contracts) explains how to read this contract, and its names
-/// [`counted`](crate::kernels::contracts#counted),
-/// [`IsTranspose`](crate::kernels::contracts#IsTranspose),
-/// [`same_holder`](crate::kernels::contracts#same_holder).
-///
-/// ```text
-/// requires input_fits { length input.now ≡ width * height }
-/// requires output_fits { length (C.items out.old.holder) ≡ width * height }
-/// ensures order { IsTranspose width height input.now (C.items out.new.holder) }
-/// ensures count { out.new.count ≡ counted out.old.count (width * height) }
-/// ensures holder { C.same_holder (width * height) out.old.holder out.new.holder }
-/// ```
-pub fn transpose_on<C: Cells>(input: &[C::Item], out: &mut Writes<C>, width: usize, height: usize) {
-    transpose_source_on(&SliceSource::new(input), out, width, height);
-}
-
-/// Writes the transpose of any source to `out`, as [`transpose_on`] does for a slice.
-///
-/// Both lengths must be `width * height`, which [`fits_matrix`] checks.
-///
-/// # Contract
-///
-/// [`contracts`](crate::kernels::contracts) explains how to read this contract, and its names
-/// [`counted`](crate::kernels::contracts#counted),
-/// [`IsTranspose`](crate::kernels::contracts#IsTranspose),
-/// [`same_holder`](crate::kernels::contracts#same_holder).
-///
-/// ```text
-/// requires input_fits { length (R.items input.now) ≡ width * height }
-/// requires output_fits { length (C.items out.old.holder) ≡ width * height }
-/// ensures order { IsTranspose width height (R.items input.now) (C.items out.new.holder) }
-/// ensures count { out.new.count ≡ counted out.old.count (width * height) }
-/// ensures holder { C.same_holder (width * height) out.old.holder out.new.holder }
-/// ```
-pub fn transpose_source_on<R, C>(input: &R, out: &mut Writes<C>, width: usize, height: usize)
-where
-    C: Cells,
-    R: Source<Item = C::Item>,
-{
-    let matrix = Matrix::new(input, width, height);
-    let counter = Writes::resumed(&mut out.holder, out.count);
-    out.count = transpose_by_shape(counter, matrix).writes();
-}
-
-/// Writes the transpose of `region` to `out`, with one write for each item.
-///
-/// The region is a part of `input`, a matrix of `height` rows of `width` items. For each row y and
-/// column x of the region, the item at `y * width + x` of `input` is written to cell
-/// `x * height + y`. All other cells keep their items. Both lengths must be `width * height`, which
-/// [`fits_matrix`] checks. The region must lie in the matrix, which [`Region::fits`] checks.
-///
-/// # Contract
-///
-/// [`contracts`](crate::kernels::contracts) explains how to read this contract, and its names
-/// [`counted`](crate::kernels::contracts#counted),
-/// [`IsRegionTransposed`](crate::kernels::contracts#IsRegionTransposed),
-/// [`items_of`](crate::kernels::contracts#items_of),
-/// [`LiesInMatrix`](crate::kernels::contracts#LiesInMatrix),
-/// [`same_holder`](crate::kernels::contracts#same_holder).
-///
-/// ```text
-/// requires input_fits { length input.now ≡ width * height }
-/// requires output_fits { length (C.items out.old.holder) ≡ width * height }
-/// requires inside { LiesInMatrix region width height }
-/// ensures transposed { IsRegionTransposed region width height input.now
-///     (C.items out.old.holder) (C.items out.new.holder) }
-/// ensures put { (x y : ℕ) → region.row_start ≤ y → y < region.row_end
-///     → region.col_start ≤ x → x < region.col_end
-///     → slice_get (C.items out.new.holder) (x * height + y)
-///     ≡ slice_get input.now (y * width + x) }
-/// ensures stay { (x y : ℕ) → y < height
-///     → ((y < region.row_start) ⊎ (region.row_end ≤ y) ⊎ (x < region.col_start)
-///     ⊎ (region.col_end ≤ x))
-///     → slice_get (C.items out.new.holder) (x * height + y)
-///     ≡ slice_get (C.items out.old.holder) (x * height + y) }
-/// ensures count { out.new.count ≡ counted out.old.count (items_of region) }
-/// ensures holder { C.same_holder (items_of region) out.old.holder out.new.holder }
-/// ```
-pub fn transpose_region_on<C: Cells>(
-    input: &[C::Item],
-    out: &mut Writes<C>,
-    region: Region,
-    width: usize,
-    height: usize,
-) {
-    transpose_source_region_on(&SliceSource::new(input), out, region, width, height);
-}
-
-/// Writes the transpose of a region of any source to `out`, as [`transpose_region_on`] does for a
-/// slice. The preconditions are the same.
-///
-/// # Contract
-///
-/// [`contracts`](crate::kernels::contracts) explains how to read this contract, and its names
-/// [`counted`](crate::kernels::contracts#counted),
-/// [`IsRegionTransposed`](crate::kernels::contracts#IsRegionTransposed),
-/// [`items_of`](crate::kernels::contracts#items_of),
-/// [`LiesInMatrix`](crate::kernels::contracts#LiesInMatrix),
-/// [`same_holder`](crate::kernels::contracts#same_holder).
-///
-/// ```text
-/// requires input_fits { length (R.items input.now) ≡ width * height }
-/// requires output_fits { length (C.items out.old.holder) ≡ width * height }
-/// requires inside { LiesInMatrix region width height }
-/// ensures transposed { IsRegionTransposed region width height (R.items input.now)
-///     (C.items out.old.holder) (C.items out.new.holder) }
-/// ensures put { (x y : ℕ) → region.row_start ≤ y → y < region.row_end
-///     → region.col_start ≤ x → x < region.col_end
-///     → slice_get (C.items out.new.holder) (x * height + y)
-///     ≡ slice_get (R.items input.now) (y * width + x) }
-/// ensures stay { (x y : ℕ) → y < height
-///     → ((y < region.row_start) ⊎ (region.row_end ≤ y) ⊎ (x < region.col_start)
-///     ⊎ (region.col_end ≤ x))
-///     → slice_get (C.items out.new.holder) (x * height + y)
-///     ≡ slice_get (C.items out.old.holder) (x * height + y) }
-/// ensures count { out.new.count ≡ counted out.old.count (items_of region) }
-/// ensures holder { C.same_holder (items_of region) out.old.holder out.new.holder }
-/// ```
-pub fn transpose_source_region_on<R, C>(
-    input: &R,
-    out: &mut Writes<C>,
-    region: Region,
-    width: usize,
-    height: usize,
-)
-where
-    C: Cells,
-    R: Source<Item = C::Item>,
-{
-    let matrix = Matrix::new(input, width, height);
-    let counter = Writes::resumed(&mut out.holder, out.count);
-    out.count = put_region(counter, matrix, region).writes();
-}
-
-/// Writes the transpose of `region` to `cells`, and returns the number of writes, which are counted
-/// from 0.
-///
-/// The region and the preconditions are as for [`transpose_region_on`].
-///
-/// # Contract
-///
-/// [`contracts`](crate::kernels::contracts) explains how to read this contract, and its names
-/// [`IsRegionTransposed`](crate::kernels::contracts#IsRegionTransposed),
-/// [`items_of`](crate::kernels::contracts#items_of),
-/// [`LiesInMatrix`](crate::kernels::contracts#LiesInMatrix),
-/// [`same_holder`](crate::kernels::contracts#same_holder).
-///
-/// ```text
-/// requires input_fits { length input.now ≡ width * height }
-/// requires output_fits { length (C.items cells.old) ≡ width * height }
-/// requires inside { LiesInMatrix region width height }
-/// ensures transposed { IsRegionTransposed region width height input.now (C.items cells.old)
-///     (C.items cells.new) }
-/// ensures put { (x y : ℕ) → region.row_start ≤ y → y < region.row_end
-///     → region.col_start ≤ x → x < region.col_end
-///     → slice_get (C.items cells.new) (x * height + y) ≡ slice_get input.now (y * width + x) }
-/// ensures stay { (x y : ℕ) → y < height
-///     → ((y < region.row_start) ⊎ (region.row_end ≤ y) ⊎ (x < region.col_start)
-///     ⊎ (region.col_end ≤ x))
-///     → slice_get (C.items cells.new) (x * height + y)
-///     ≡ slice_get (C.items cells.old) (x * height + y) }
-/// ensures count { result ≡ items_of region }
-/// ensures holder { C.same_holder result cells.old cells.new }
-/// ```
-pub fn transpose_region_counted<C: Cells>(
-    input: &[C::Item],
-    cells: &mut C,
-    region: Region,
-    width: usize,
-    height: usize,
-) -> u128 {
-    transpose_source_region_counted(&SliceSource::new(input), cells, region, width, height)
-}
-
-/// Writes the transpose of a region of any source to `cells`, as [`transpose_region_counted`] does
-/// for a slice. The preconditions are the same.
-///
-/// # Contract
-///
-/// [`contracts`](crate::kernels::contracts) explains how to read this contract, and its names
-/// [`IsRegionTransposed`](crate::kernels::contracts#IsRegionTransposed),
-/// [`items_of`](crate::kernels::contracts#items_of),
-/// [`LiesInMatrix`](crate::kernels::contracts#LiesInMatrix),
-/// [`same_holder`](crate::kernels::contracts#same_holder).
-///
-/// ```text
-/// requires input_fits { length (R.items input.now) ≡ width * height }
-/// requires output_fits { length (C.items cells.old) ≡ width * height }
-/// requires inside { LiesInMatrix region width height }
-/// ensures transposed { IsRegionTransposed region width height (R.items input.now)
-///     (C.items cells.old) (C.items cells.new) }
-/// ensures put { (x y : ℕ) → region.row_start ≤ y → y < region.row_end
-///     → region.col_start ≤ x → x < region.col_end
-///     → slice_get (C.items cells.new) (x * height + y)
-///     ≡ slice_get (R.items input.now) (y * width + x) }
-/// ensures stay { (x y : ℕ) → y < height
-///     → ((y < region.row_start) ⊎ (region.row_end ≤ y) ⊎ (x < region.col_start)
-///     ⊎ (region.col_end ≤ x))
-///     → slice_get (C.items cells.new) (x * height + y)
-///     ≡ slice_get (C.items cells.old) (x * height + y) }
-/// ensures count { result ≡ items_of region }
-/// ensures holder { C.same_holder result cells.old cells.new }
-/// ```
-pub fn transpose_source_region_counted<R, C>(
-    input: &R,
-    cells: &mut C,
-    region: Region,
-    width: usize,
-    height: usize,
-) -> u128
-where
-    C: Cells,
-    R: Source<Item = C::Item>,
-{
-    let matrix = Matrix::new(input, width, height);
-    put_region(Writes::new(cells), matrix, region).writes()
 }
 
 /// The kernel of [`transpose_source_region_on`]. It says by the bounds of the region, too, which

@@ -10,44 +10,18 @@
 //! change places. The third pass does the same as the first one, and so reverses the bits that were
 //! those of the column.
 
-ghost use Rattle.std.specs.Prelude.{◌≡◌, ℕ, ◌+◌, ◌-◌, ◌*◌, ◌/◌, ◌^◌, ◌<◌, ◌≤◌, length, slice_get};
-ghost use Rattle.p3_util_kernels.specs.Digits.{rev};
+ghost use Rattle.std.specs.Prelude.{◌≡◌, ℕ, ◌+◌, ◌-◌, ◌*◌, ◌/◌, ◌^◌, ◌<◌, ◌≤◌, length};
 ghost use Rattle.p3_util_kernels.specs.Levels.{clog};
 ghost use Rattle.p3_util_kernels.specs.Reversal.{IsReversal, IsReversible};
-ghost use Rattle.p3_util_kernels.specs.Steps.{counted};
 ghost use Rattle.p3_util_kernels.specs.SwapCounts.{long_swaps, square_swaps};
 ghost use Rattle.p3_util_kernels.specs.SideBySide.{AreTransposed};
 
 use crate::bits::{log2_strict_usize, pow2};
-use crate::places::{Places, Swaps};
+use crate::places::Places;
 use crate::reverse::rows::reverse_chunks;
 use crate::transpose::transpose_square;
 
-/// Reverses `m` by index bits, as
-/// [`reverse_slice_index_bits`](crate::reverse::reverse_slice_index_bits) does, in three passes
-/// over chunks and squares.
-///
-/// A list of n items takes at most 3n/2 swaps.
-/// [`reverse_index_bits_short`](crate::reverse::reverse_index_bits_short) takes at most n/2, but
-/// the order of the swaps here suits lists that do not fit in a cache. The length must be at least
-/// 4, and a power of two, which std's `is_power_of_two` checks.
-#[tactic(auto, using(crate::proofs::ReverseLemmas::SwapCounts::long_bound, crate::proofs::ReverseLemmas::Reversal::reversed_place))]
-pub fn reverse_index_bits_long<S: Places>(m: &mut Swaps<S>)
-    requires fits { IsReversible (length (S.items m.old.holder)) }
-    requires not_short { 4 ≤ length (S.items m.old.holder) }
-    ensures order { IsReversal (S.items m.old.holder) (S.items m.new.holder) }
-    ensures at { (k i : ℕ) → length (S.items m.old.holder) ≡ 2 ^ k → i < 2 ^ k
-        → slice_get (S.items m.new.holder) i ≡ slice_get (S.items m.old.holder) (rev k i) }
-    ensures count { m.new.count ≡ counted m.old.count
-        (long_swaps (clog (length (S.items m.old.holder)))) }
-    ensures bound { let n = length (S.items m.old.holder) in long_swaps (clog n) ≤ 3 * n / 2 }
-    ensures holder { S.same_holder (long_swaps (clog (length (S.items m.old.holder))))
-        m.old.holder m.new.holder }
-{
-    m.count = reverse_long(Swaps::resumed(&mut m.holder, m.count)).swaps();
-}
-
-/// The kernel of [`reverse_index_bits_long`].
+/// The kernel of [`reverse_index_bits_long`](crate::reverse::reverse_index_bits_long).
 #[inline(never)]
 pub(crate) fn reverse_long<M: Places>(m: M) -> M
     requires fits { IsReversible (length (M.items m)) }

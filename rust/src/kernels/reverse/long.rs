@@ -12,47 +12,11 @@
 //! those of the column.
 
 use crate::kernels::bits::{log2_strict_usize, pow2};
-use crate::kernels::places::{Places, Swaps};
+use crate::kernels::places::Places;
 use crate::kernels::reverse::rows::reverse_chunks;
 use crate::kernels::transpose::transpose_square;
 
-/// Reverses `m` by index bits, as
-/// [`reverse_slice_index_bits`](crate::kernels::reverse::reverse_slice_index_bits) does, in three passes
-/// over chunks and squares.
-///
-/// A list of n items takes at most 3n/2 swaps.
-/// [`reverse_index_bits_short`](crate::kernels::reverse::reverse_index_bits_short) takes at most n/2, but
-/// the order of the swaps here suits lists that do not fit in a cache. The length must be at least
-/// 4, and a power of two, which std's `is_power_of_two` checks.
-///
-/// # Contract
-///
-/// [`contracts`](crate::kernels::contracts) explains how to read this contract, and its names
-/// [`clog`](crate::kernels::contracts#clog),
-/// [`counted`](crate::kernels::contracts#counted),
-/// [`IsReversal`](crate::kernels::contracts#IsReversal),
-/// [`IsReversible`](crate::kernels::contracts#IsReversible),
-/// [`long_swaps`](crate::kernels::contracts#long_swaps),
-/// [`rev`](crate::kernels::contracts#rev),
-/// [`same_holder`](crate::kernels::contracts#same_holder).
-///
-/// ```text
-/// requires fits { IsReversible (length (S.items m.old.holder)) }
-/// requires not_short { 4 ≤ length (S.items m.old.holder) }
-/// ensures order { IsReversal (S.items m.old.holder) (S.items m.new.holder) }
-/// ensures at { (k i : ℕ) → length (S.items m.old.holder) ≡ 2 ^ k → i < 2 ^ k
-///     → slice_get (S.items m.new.holder) i ≡ slice_get (S.items m.old.holder) (rev k i) }
-/// ensures count { m.new.count ≡ counted m.old.count
-///     (long_swaps (clog (length (S.items m.old.holder)))) }
-/// ensures bound { let n = length (S.items m.old.holder) in long_swaps (clog n) ≤ 3 * n / 2 }
-/// ensures holder { S.same_holder (long_swaps (clog (length (S.items m.old.holder))))
-///     m.old.holder m.new.holder }
-/// ```
-pub fn reverse_index_bits_long<S: Places>(m: &mut Swaps<S>) {
-    m.count = reverse_long(Swaps::resumed(&mut m.holder, m.count)).swaps();
-}
-
-/// The kernel of [`reverse_index_bits_long`].
+/// The kernel of [`reverse_index_bits_long`](crate::kernels::reverse::reverse_index_bits_long).
 ///
 /// # Contract
 ///

@@ -2,9 +2,8 @@
 //! Puts a large region: halves its longer side, and does the same with each half, until the parts
 //! are leaves. A *leaf* is a part that is small or narrow. It is put strip by strip.
 
-use crate::kernels::places::{Cells, SliceSource, Source, Writes};
+use crate::kernels::places::{Cells, Source};
 use crate::kernels::transpose::regions::{Matrix, Region};
-use crate::kernels::transpose::strips::Strips;
 use crate::kernels::transpose::ways::PutRegion;
 
 /// A part is a leaf if neither of its sides is greater than this.
@@ -14,133 +13,9 @@ const LEAF_SIDE: usize = 128;
 /// is.
 const NARROW_SIDE: usize = 2;
 
-/// Writes the transpose of `region` to `out`, as
-/// [`transpose_region_on`](crate::kernels::transpose::transpose_region_on) does, but splits the region
-/// first.
-///
-/// Returns how deep the splits nest, which is at most 57.
-///
-/// There is no split if both sides of the region are at most 128 or one of them is at most 2.
-/// Otherwise the longer side is halved. If both sides are equal, the rows are halved. Each half is
-/// then split and written in the same way. `levels` limits how deep the splits may nest, and must
-/// be enough for the region. 64 levels are enough for every region of a matrix. The other
-/// preconditions are those of [`transpose_region_on`](crate::kernels::transpose::transpose_region_on).
-///
-/// # Contract
-///
-/// [`contracts`](crate::kernels::contracts) explains how to read this contract, and its names
-/// [`cols_of`](crate::kernels::contracts#cols_of),
-/// [`counted`](crate::kernels::contracts#counted),
-/// [`IsRegionTransposed`](crate::kernels::contracts#IsRegionTransposed),
-/// [`items_of`](crate::kernels::contracts#items_of),
-/// [`lev`](crate::kernels::contracts#lev),
-/// [`LiesInMatrix`](crate::kernels::contracts#LiesInMatrix),
-/// [`nest`](crate::kernels::contracts#nest),
-/// [`rows_of`](crate::kernels::contracts#rows_of),
-/// [`same_holder`](crate::kernels::contracts#same_holder).
-///
-/// ```text
-/// requires input_fits { length input.now ≡ width * height }
-/// requires output_fits { length (C.items out.old.holder) ≡ width * height }
-/// requires inside { LiesInMatrix region width height }
-/// requires enough { lev (rows_of region) (cols_of region) ≤ levels }
-/// ensures transposed { IsRegionTransposed region width height input.now
-///     (C.items out.old.holder) (C.items out.new.holder) }
-/// ensures count { out.new.count ≡ counted out.old.count (items_of region) }
-/// ensures nested { result ≡ nest (rows_of region) (cols_of region) }
-/// ensures bound { result ≤ 57 }
-/// ensures holder { C.same_holder (items_of region) out.old.holder out.new.holder }
-/// ```
-pub fn transpose_split_on<C: Cells>(
-    input: &[C::Item],
-    out: &mut Writes<C>,
-    region: Region,
-    width: usize,
-    height: usize,
-    levels: u32,
-) -> u32 {
-    transpose_source_split_on(&SliceSource::new(input), out, region, width, height, levels)
-}
-
-/// Writes the transpose of a region of any source to `out`, as [`transpose_split_on`] does for a
-/// slice. The preconditions are the same.
-///
-/// # Contract
-///
-/// [`contracts`](crate::kernels::contracts) explains how to read this contract, and its names
-/// [`cols_of`](crate::kernels::contracts#cols_of),
-/// [`counted`](crate::kernels::contracts#counted),
-/// [`IsRegionTransposed`](crate::kernels::contracts#IsRegionTransposed),
-/// [`items_of`](crate::kernels::contracts#items_of),
-/// [`lev`](crate::kernels::contracts#lev),
-/// [`LiesInMatrix`](crate::kernels::contracts#LiesInMatrix),
-/// [`nest`](crate::kernels::contracts#nest),
-/// [`rows_of`](crate::kernels::contracts#rows_of),
-/// [`same_holder`](crate::kernels::contracts#same_holder).
-///
-/// ```text
-/// requires input_fits { length (R.items input.now) ≡ width * height }
-/// requires output_fits { length (C.items out.old.holder) ≡ width * height }
-/// requires inside { LiesInMatrix region width height }
-/// requires enough { lev (rows_of region) (cols_of region) ≤ levels }
-/// ensures transposed { IsRegionTransposed region width height (R.items input.now)
-///     (C.items out.old.holder) (C.items out.new.holder) }
-/// ensures count { out.new.count ≡ counted out.old.count (items_of region) }
-/// ensures nested { result ≡ nest (rows_of region) (cols_of region) }
-/// ensures bound { result ≤ 57 }
-/// ensures holder { C.same_holder (items_of region) out.old.holder out.new.holder }
-/// ```
-pub fn transpose_source_split_on<R, C>(
-    input: &R,
-    out: &mut Writes<C>,
-    region: Region,
-    width: usize,
-    height: usize,
-    levels: u32,
-) -> u32
-where
-    C: Cells,
-    R: Source<Item = C::Item>,
-{
-    let matrix = Matrix::new(input, width, height);
-    let (_, count, nested) = put_split_resumed(&mut out.holder, out.count, matrix, region, levels);
-    out.count = count;
-    nested
-}
-
-/// Splits and puts `region`, with a counter that starts at `count`. Returns the holder inside the
-/// counter, the new count, and how deep the splits nest.
-///
-/// # Contract
-///
-/// ```text
-/// requires input_fits { length (R.items matrix.source) ≡ matrix.width * matrix.height }
-/// requires output_fits { length (C.items cells) ≡ matrix.width * matrix.height }
-/// requires inside { LiesInMatrix region matrix.width matrix.height }
-/// requires enough { lev (rows_of region) (cols_of region) ≤ levels }
-/// ensures transposed { IsRegionTransposed region matrix.width matrix.height
-///     (R.items matrix.source)
-///     (C.items cells) (C.items result.0) }
-/// ensures count { result.1 ≡ counted count (items_of region) }
-/// ensures holder { C.same_holder (items_of region) cells result.0 }
-/// ensures nested { result.2 ≡ nest (rows_of region) (cols_of region) }
-/// ensures bound { result.2 ≤ 57 }
-/// ```
-fn put_split_resumed<C: Cells, R: Source<Item = C::Item> + Copy>(
-    cells: C,
-    count: u128,
-    matrix: Matrix<R>,
-    region: Region,
-    levels: u32,
-) -> (C, u128, u32) {
-    let counter = Writes::resumed(cells, count);
-    let (done, nested) = put_split(counter, matrix, region, levels, Strips::by_shape(matrix));
-    let count = done.writes();
-    (done.into_inner(), count, nested)
-}
-
-/// The kernel of [`transpose_source_split_on`]. Splits `region` into leaves, with splits that nest
-/// at most `levels` deep, and puts each leaf in the way `leaf`. Also returns how deep the splits nest.
+/// The kernel of [`transpose_source_split_on`](crate::kernels::transpose::transpose_source_split_on). Splits
+/// `region` into leaves, with splits that nest at most `levels` deep, and puts each leaf in the way
+/// `leaf`. Also returns how deep the splits nest.
 ///
 /// # Contract
 ///
