@@ -3,7 +3,7 @@
 //! of its steps.
 
 ghost use Rattle.std.specs.Prelude.{◌≡◌, ◌+◌, ◌-◌, ◌*◌, ◌/◌, ◌^◌, ◌<◌, ◌≤◌, List, length};
-ghost use Rattle.p3_util.specs.Levels.{clog};
+ghost use Rattle.p3_util.specs.Logarithms.{clog};
 ghost use Rattle.p3_util.specs.Reversal.{FitsRows, IsReversal, IsReversible, IsRowReversal};
 ghost use Rattle.p3_util.specs.SideBySide.{AreTransposed};
 ghost use Rattle.p3_util.specs.Steps.{counted};

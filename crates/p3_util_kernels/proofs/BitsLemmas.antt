@@ -1,6 +1,8 @@
--- Lemmas on numbers: binary digits, powers, logarithms and names.
+-- Lemmas on numbers: binary digits, sums, powers, logarithms and names.
 pub mod Digits
-pub mod Logs
+pub mod HasLogs
+pub mod Logarithms
 pub mod Names
 pub mod Powers
+pub mod Sums
 pub mod Tables

@@ -1,15 +1,11 @@
 -- The bits of a number and their reversal, defined by quotients, remainders and powers.
 -- Source: the documentation and the tests of `reverse_bits_len` of p3-util 0.8.0.
-use Rattle.std.specs.Prelude.{ℕ, zero, suc, ◌+◌, ◌-◌, ◌*◌, ◌/◌, ◌%◌, ◌^◌}
+use Rattle.std.specs.Prelude.{ℕ, zero, suc, ◌-◌, ◌*◌, ◌/◌, ◌%◌, ◌^◌}
+use Rattle.p3_util_kernels.specs.Sums.{sum_below}
 
 -- bit i of x, counted from the lowest one: `x / 2 ^ i % 2`
 abbrev pub bit : ℕ → ℕ → ℕ
 bit x i = (x / 2 ^ i) % 2
-
--- `f 0 + f 1 + .. + f (n - 1)`
-unfoldable pub sum_below : (n : ℕ) → (ℕ → ℕ) → ℕ
-sum_below zero f = 0
-sum_below (suc n) f = sum_below n f + f n
 
 -- the k low bits of x in reversed order: bit i of x, which is `bit x i`, becomes bit `k - 1 - i`
 unfoldable pub rev : (k x : ℕ) → ℕ

@@ -2,7 +2,8 @@
 -- rearranged.
 -- Source: new.
 use Rattle.std.specs.Prelude.{ℕ, Bool, ◌==◌, ◌≡◌, ◌≢◌, ◌↔◌, ◌+◌, ◌-◌, ◌*◌, ◌/◌, ◌^◌, ◌<◌, ◌≤◌, IsTrue, if◌then◌else◌, List, [], ◌∷◌, All, AllPairs, length, slice_get, slice_set, swap}
-use Rattle.p3_util_kernels.specs.Digits.{rev, sum_below}
+use Rattle.p3_util_kernels.specs.Digits.{rev}
+use Rattle.p3_util_kernels.specs.Sums.{sum_below}
 use Rattle.p3_util_kernels.specs.Reversal.{IsReversal}
 use Rattle.p3_util_kernels.specs.SwapCounts.{short_swaps, square_swaps}
 use Rattle.p3_util_kernels.specs.Transpose.{IsTranspose}
@@ -18,6 +19,19 @@ after_swaps xs (pair ∷ steps) = after_swaps (swap xs pair.0 pair.1) steps
 unfoldable pub after_puts : {A : Type 0} → List A → List (ℕ × A) → List A
 after_puts xs [] = xs
 after_puts xs (put ∷ steps) = after_puts (slice_set xs put.0 put.1) steps
+
+-- some n steps turn the list `old` into `new`, where `after xs steps` is the list xs after the
+-- steps
+abbrev pub StepsLead : {A S : Type 0} → (List A → List S → List A) → ℕ → List A → List A → Type 0
+StepsLead {A} {S} after n old new = (steps : List S) × (length steps ≡ n) × (after old steps ≡ new)
+
+-- `PutsLead n old new` says that some n writes turn the list `old` into `new`, by `after_puts`
+abbrev pub PutsLead : {A : Type 0} → ℕ → List A → List A → Type 0
+PutsLead = StepsLead after_puts
+
+-- `SwapsLead n old new` says that some n exchanges turn the list `old` into `new`, by `after_swaps`
+abbrev pub SwapsLead : {A : Type 0} → ℕ → List A → List A → Type 0
+SwapsLead = StepsLead after_swaps
 
 -- the places of a list of exchanges, in order, two for each exchange
 unfoldable pub places_swapped : List (ℕ × ℕ) → List ℕ

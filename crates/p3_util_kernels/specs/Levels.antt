@@ -1,12 +1,7 @@
 -- How deep the splits of a transpose nest, as closed forms of the region's sides.
 -- Source: a closed form.
-use Rattle.std.specs.Prelude.{ℕ, ◌+◌, ◌-◌, ◌^◌, ◌&&◌, nat_lt, if◌then◌else◌}
-use Rattle.p3_util_kernels.specs.Digits.{sum_below}
-
--- the least e with `n ≤ 2 ^ e`. This is the number of powers of two below n.
--- Source: the documentation of `log2_ceil_usize` of p3-util 0.8.0.
-unfoldable pub clog : ℕ → ℕ
-clog n = sum_below n (λ e. if nat_lt (2 ^ e) n then 1 else 0)
+use Rattle.std.specs.Prelude.{ℕ, ◌+◌, ◌-◌, ◌&&◌, nat_lt, if◌then◌else◌}
+use Rattle.p3_util_kernels.specs.Logarithms.{clog}
 
 -- how often a region of r rows and c columns can be halved at its longer side until both sides are
 -- at most 128, which is 2 ^ 7: `(clog r - 7) + (clog c - 7)`, where a negative difference counts as

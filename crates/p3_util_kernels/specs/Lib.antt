@@ -7,6 +7,7 @@ pub mod Grid
 pub mod Halves
 pub mod Least
 pub mod Levels
+pub mod Logarithms
 pub mod Mirrored
 pub mod Names
 pub mod Powers
@@ -16,5 +17,6 @@ pub mod SideBySide
 pub mod Square
 pub mod Stages
 pub mod Steps
+pub mod Sums
 pub mod SwapCounts
 pub mod Transpose

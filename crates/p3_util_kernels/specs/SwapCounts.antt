@@ -1,7 +1,7 @@
 -- How many swaps a bit reversal makes, as closed forms.
 -- Source: a closed form.
 use Rattle.std.specs.Prelude.{ℕ, ◌+◌, ◌-◌, ◌*◌, ◌/◌, ◌^◌, nat_le, if◌then◌else◌}
-use Rattle.p3_util_kernels.specs.Levels.{clog}
+use Rattle.p3_util_kernels.specs.Logarithms.{clog}
 
 -- the number of pairs of different k-bit numbers that are each other's reverse. Of the `2 ^ k`
 -- numbers, `2 ^ ceil(k / 2)` are their own reverse, so there are `(2 ^ k - 2 ^ ceil(k / 2)) / 2`

@@ -3,7 +3,7 @@
 
 ghost use Rattle.std.specs.Prelude.{◌≡◌, ℕ, ◌+◌, ◌*◌, ◌^◌, ◌<◌, ◌≤◌, ◌↔◌, IsTrue, SomeIff, length, slice_index};
 ghost use Rattle.p3_util_kernels.specs.Powers.{HasLog2, HasLog3, IsPowerOfThree};
-ghost use Rattle.p3_util_kernels.specs.Levels.{clog};
+ghost use Rattle.p3_util_kernels.specs.Logarithms.{clog};
 
 mod digits;
 mod names;

@@ -7,7 +7,7 @@ use Rattle.std.proofs.lemmas.List.Edits.{length-swap}
 use Rattle.std.proofs.lemmas.Option.{get_or_from_slice_get, same_Some, slice_get_within}
 use Rattle.p3_util_parts.specs.Interleaved.{IsInterleaved}
 use Rattle.p3_util_kernels.specs.Least.{AreOnceAmong, after_puts, after_swaps, places_put, places_swapped}
-use Rattle.p3_util_parts.specs.PartSteps.{NoPlaceInCommon}
+use Rattle.p3_util_parts.specs.PlacesOfParts.{NoPlaceInCommon}
 use Rattle.p3_util_kernels.proofs.PlacesLemmas.Exchange.{slice_get-set_other, slice_get-set_same, slice_get-swap_first, slice_get-swap_other, slice_get-swap_second}
 use Rattle.p3_util_kernels.proofs.PlacesLemmas.WrittenPlaces.{AreOnceAmong-cons, AreOnceAmong-nil, AreOnceAmong-split, AreOnceAmong-weaker}
 

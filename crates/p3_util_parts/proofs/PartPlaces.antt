@@ -9,7 +9,7 @@ use Rattle.p3_util_kernels.specs.Digits.{rev}
 use Rattle.p3_util_kernels.specs.Grid.{SwapsInGrid, grid_of_rows}
 use Rattle.p3_util_kernels.specs.Mirrored.{Mirrored}
 use Rattle.p3_util_parts.specs.Parts.{part_of_matrix, parts_in}
-use Rattle.p3_util_parts.specs.PartSteps.{IsInPatch}
+use Rattle.p3_util_parts.specs.PlacesOfParts.{IsInPatch}
 use Rattle.p3_util_kernels.specs.Region.{IsInRegion}
 use Rattle.p3_util_parts.proofs.PatchesLemmas.{patch-alone, patch-same, patch-sides, patch-turned}
 use Rattle.p3_util_kernels.proofs.ReverseLemmas.Crossing.{same_item}

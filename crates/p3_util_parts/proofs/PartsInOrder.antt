@@ -6,7 +6,7 @@ use Rattle.std.proofs.Math.Nat.{mul_comm, mul-div_cancel_left, mul-pos}
 use Rattle.p3_util_parts.specs.declared.parts.RowPairs.{RowPairs}
 use Rattle.p3_util_parts.specs.declared.parts.transpose.TransposePlan.{TransposePlan}
 use Rattle.p3_util_kernels.specs.declared.transpose.regions.Region.{Region}
-use Rattle.p3_util_kernels.specs.Digits.{sum_below}
+use Rattle.p3_util_kernels.specs.Sums.{sum_below}
 use Rattle.p3_util_kernels.specs.Grid.{SwapsInGrid, grid_of_rows}
 use Rattle.p3_util_kernels.specs.Halves.{IsCut}
 use Rattle.p3_util_parts.specs.Interleaved.{region_of}
@@ -20,7 +20,7 @@ use Rattle.p3_util_kernels.specs.SwapCounts.{row_swaps, short_swaps}
 use Rattle.p3_util_kernels.specs.Transpose.{IsTranspose}
 use Rattle.p3_util_kernels.proofs.ReverseLemmas.Crossing.{IsRowReversal-crossed}
 use Rattle.p3_util_parts.proofs.CutParts.{start-end, start-next}
-use Rattle.p3_util_kernels.proofs.TransposeLemmas.Levels.{clog_power}
+use Rattle.p3_util_kernels.proofs.BitsLemmas.Logarithms.{clog_power}
 use Rattle.p3_util_parts.proofs.PartPlaces.{InPairs, pairs-apart, pairs-exchanged, pairs-turned, place}
 use Rattle.p3_util_parts.proofs.PatchesLemmas.{patch-covered}
 use Rattle.p3_util_parts.proofs.PatchSums.{patch-swaps, patch_swaps, patches-sum, sum_below-next, sum_below-zero}

@@ -14,7 +14,8 @@ use Rattle.p3_util_parts.specs.declared.parts.transpose.TransposePlan.{Transpose
 use Rattle.p3_util_parts.specs.Interleaved.{AreOfParts, IsInterleaved, IsMadeAlone, IsPutAlone, numbers_below, puts_of, region_of}
 use Rattle.p3_util_kernels.specs.Least.{AllDiffer, AreOnceAmong, after_puts, after_swaps, places_put, places_swapped}
 use Rattle.p3_util_parts.specs.Parts.{parts_in}
-use Rattle.p3_util_parts.specs.PartSteps.{IsPlaceOfPart, IsPlaceOfRegion, NoItemInCommon, NoPlaceInCommon, SwapsLead}
+use Rattle.p3_util_parts.specs.PlacesOfParts.{IsPlaceOfPart, IsPlaceOfRegion, NoItemInCommon, NoPlaceInCommon}
+use Rattle.p3_util_kernels.specs.Least.{SwapsLead}
 use Rattle.p3_util_parts.specs.Plans.{IsPartMade, IsReversalPlan, parts_of}
 use Rattle.p3_util_kernels.specs.Region.{LiesInMatrix}
 use Rattle.p3_util_kernels.specs.Reversal.{IsRowReversal}
@@ -28,7 +29,7 @@ use Rattle.p3_util_parts.proofs.CutParts.{part-inside, side-cut}
 use Rattle.p3_util_kernels.proofs.PlacesLemmas.Exchange.{slice_get-set_other, slice_get-set_same}
 use Rattle.p3_util_parts.proofs.InterleavedSteps.{after-length, all-changed, of-part, puts-are, swaps-are}
 use Rattle.p3_util_kernels.proofs.LawsLemmas.Least.{count-moved, row_moves, rows-differ-where}
-use Rattle.p3_util_kernels.proofs.TransposeLemmas.Levels.{clog_power}
+use Rattle.p3_util_kernels.proofs.BitsLemmas.Logarithms.{clog_power}
 use Rattle.p3_util_kernels.proofs.TransposeLemmas.Matrix.{each_place}
 use Rattle.p3_util_parts.proofs.PartPlaces.{pairs-apart, pairs-exchanged, pairs-inside, part-apart, part-covers, place}
 use Rattle.p3_util_parts.proofs.RegionSteps.{region-stays}

@@ -7,7 +7,7 @@ use Rattle.p3_util_kernels.specs.declared.transpose.regions.Region.{Region}
 use Rattle.p3_util_parts.specs.Patches.{IsPatch, swaps_of_patch}
 use Rattle.p3_util_kernels.specs.Least.{AllDiffer, AreOnceAmong, after_swaps, count_below, places_swapped}
 use Rattle.p3_util_kernels.specs.Mirrored.{Mirrored}
-use Rattle.p3_util_parts.specs.PartSteps.{IsInPatch}
+use Rattle.p3_util_parts.specs.PlacesOfParts.{IsInPatch}
 use Rattle.p3_util_kernels.specs.Region.{items_of, rows_of}
 use Rattle.p3_util_kernels.specs.SwapCounts.{square_swaps}
 use Rattle.p3_util_parts.proofs.PatchesLemmas.{patch-above, patch-diagonal}

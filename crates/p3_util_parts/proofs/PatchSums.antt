@@ -5,12 +5,12 @@ use Rattle.std.proofs.lemmas.Bool.{both_ways, cases_Bool, cases_eq, cases_lt, eq
 use Rattle.std.proofs.lemmas.Nat.{div_below, div-add-mod', div-mul-add, mod-mul-add, mod_below}
 use Rattle.std.proofs.Math.Nat.{mul-le-mul_right, pos_of_ne-zero}
 use Rattle.p3_util_kernels.specs.declared.transpose.regions.Region.{Region}
-use Rattle.p3_util_kernels.specs.Digits.{sum_below}
+use Rattle.p3_util_kernels.specs.Sums.{sum_below}
 use Rattle.p3_util_parts.specs.Parts.{number_of_pair, pairs_of, parts_in, start_of}
 use Rattle.p3_util_parts.specs.Patches.{IsPatch, patches_of, swaps_of_patch}
 use Rattle.p3_util_kernels.specs.SwapCounts.{square_swaps}
 use Rattle.p3_util_parts.proofs.CutParts.{pair-alone, pair-below, pair-number, start-below, start-end, start-next, start-rising}
-use Rattle.p3_util_kernels.proofs.BitsLemmas.Digits.{sum_below-same, sum_below-scale}
+use Rattle.p3_util_kernels.proofs.BitsLemmas.Sums.{sum_below-same, sum_below-scale}
 use Rattle.p3_util_kernels.proofs.GridLemmas.Pairs.{mul-parts_left, pairs-add}
 
 sum_below-none : (n : ℕ) → sum_below n (λ k. 0) ≡ 0

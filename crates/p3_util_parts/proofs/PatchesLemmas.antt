@@ -6,7 +6,7 @@ use Rattle.std.proofs.lemmas.Nat.{le-div, mul-add-lt, same_from_place}
 use Rattle.std.proofs.Math.Nat.{div-mul-le_self, mul-le-mul, mul-le-mul_left, pow-le-pow_right}
 use Rattle.p3_util_kernels.specs.declared.transpose.regions.Region.{Region}
 use Rattle.p3_util_parts.specs.Patches.{IsPatch, patches_of}
-use Rattle.p3_util_parts.specs.PartSteps.{IsInPatch}
+use Rattle.p3_util_parts.specs.PlacesOfParts.{IsInPatch}
 use Rattle.p3_util_parts.specs.Parts.{number_of_pair, pairs_of, parts_in, start_of}
 use Rattle.p3_util_parts.proofs.CutParts.{number-covered, pair-alone, pair-below, part-same, start-below, start-rising}
 

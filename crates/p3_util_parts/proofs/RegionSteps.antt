@@ -4,7 +4,7 @@ use Rattle.std.proofs.Common.{◌≡◌, ◌≢◌, ℕ, ◌+◌, ◌*◌, ◌/�
 use Rattle.std.proofs.lemmas.Nat.{mul-add-lt, same_from_place}
 use Rattle.p3_util_kernels.specs.declared.transpose.regions.Region.{Region}
 use Rattle.p3_util_kernels.specs.Least.{AreOnceAmong, after_puts, places_put}
-use Rattle.p3_util_parts.specs.PartSteps.{IsPlaceOfRegion, NoItemInCommon}
+use Rattle.p3_util_parts.specs.PlacesOfParts.{IsPlaceOfRegion, NoItemInCommon}
 use Rattle.p3_util_kernels.specs.Region.{IsInRegion, IsRegionTransposed, LiesInMatrix, cols_of, items_of, rows_of}
 use Rattle.p3_util_kernels.proofs.LawsLemmas.Counts.{count-all}
 use Rattle.p3_util_kernels.proofs.TransposeLemmas.Matrix.{row_and_column, same_number}

@@ -3,10 +3,10 @@ use Rattle.std.proofs.Common.{◌≡◌, ℕ, zero, suc, ◌+◌, ◌-◌, ◌*�
 use Rattle.std.proofs.lemmas.Bool.{cases_lt}
 use Rattle.std.proofs.lemmas.Nat.{same_from_place}
 use Rattle.p3_util_kernels.specs.declared.transpose.regions.Region.{Region}
-use Rattle.p3_util_kernels.specs.Digits.{sum_below}
+use Rattle.p3_util_kernels.specs.Sums.{sum_below}
 use Rattle.p3_util_registers.specs.Lines.{IsPutTo, cells_before, items_to, limit}
 use Rattle.p3_util_kernels.specs.Region.{IsInRegion, IsRegionTransposed, cols_of, items_of, rows_of}
-use Rattle.p3_util_kernels.proofs.BitsLemmas.Digits.{sum_below-same}
+use Rattle.p3_util_kernels.proofs.BitsLemmas.Sums.{sum_below-same}
 
 -- b, or a if n is zero
 pick : (n a b : ℕ) → ℕ

@@ -1,7 +1,7 @@
 -- A region that is put by the cache lines of its output. These definitions serve only private contracts.
 use Rattle.std.specs.Prelude.{ℕ, ◌≡◌, ◌≢◌, ◌+◌, ◌-◌, ◌*◌, ◌%◌, ◌^◌, ◌<◌, List, bit_and, length, min, slice_get}
 use Rattle.p3_util_kernels.specs.declared.transpose.regions.Region.{Region}
-use Rattle.p3_util_kernels.specs.Digits.{sum_below}
+use Rattle.p3_util_kernels.specs.Sums.{sum_below}
 use Rattle.p3_util_kernels.specs.Region.{IsInRegion, cols_of, rows_of}
 
 -- How many cells come before the first cell of column x of a region in its line. A line has `cells` cells. Where a line

@@ -1,7 +1,6 @@
 -- Rows of items in registers, and squares of rows that are transposed by interleaving registers.
 -- Source: new.
 use Rattle.std.specs.Prelude.{ℕ, ◌≡◌, ◌≢◌, ◌+◌, ◌-◌, ◌*◌, ◌/◌, ◌%◌, ◌<◌, ◌≤◌, ◌⊎◌, List, [], ◌∷◌, length, slice_get, slice_index}
-use Rattle.std.proofs.Common.{◌++◌, length-append, arith}
 use Rattle.p3_util_kernels.specs.Stages.{item_at}
 use Rattle.p3_util_kernels.specs.declared.places.Block.{Block}
 use Rattle.p3_util_registers.specs.declared.registers.Four.{Four}
@@ -93,7 +92,3 @@ pub record ColumnsPut {A : Type 0} (from to : ℕ) (block : Block) (input old ne
   pub same_length : length new ≡ length old
   pub places : (r c : ℕ) → r < block.rows → from ≤ c → c < to → slice_get new (block.to + c * block.height + r) ≡ slice_get input (block.from + r * block.width + c)
   pub others : (p : ℕ) → ((r c : ℕ) → r < block.rows → from ≤ c → c < to → p ≢ block.to + c * block.height + r) → slice_get new p ≡ slice_get old p
-
--- two registers of 2 * half items have twice as many items
-pub length_of_pair : {A : Type 0} (a b : List A) (half : ℕ) → length a ≡ 2 * half → length b ≡ 2 * half → length (a ++ b) ≡ 2 * (2 * half)
-length_of_pair a b half first second = omega (arith, length-append a b, first, second)

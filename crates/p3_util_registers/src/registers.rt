@@ -30,8 +30,9 @@
 //! register, and lists that meet [`Runs`].
 
 ghost use Rattle.std.specs.Prelude.{◌≡◌, ℕ, ◌+◌, ◌-◌, ◌*◌, ◌/◌, ◌%◌, ◌^◌, ◌<◌, ◌≤◌, ◌⊎◌, List, [], ◌∷◌, ◌++◌, length, refl, slice_get, slice_index};
+ghost use Rattle.std.proofs.Common.{arith, length-append};
 ghost use Rattle.p3_util_kernels.specs.BlockPut.{BlockFits, IsBlockPut, block_items};
-ghost use Rattle.p3_util_registers.specs.Registers.{AreApart, AreColumns, AreInterleaved, AreLoaded, AreReached, AreStored, ColumnsPut, IsNextStage, IsSide, IsRunStored, IsStored, RowsExchanged, RowsReached, SquaresTurned, items_of_four, length_of_pair};
+ghost use Rattle.p3_util_registers.specs.Registers.{AreApart, AreColumns, AreInterleaved, AreLoaded, AreReached, AreStored, ColumnsPut, IsNextStage, IsSide, IsRunStored, IsStored, RowsExchanged, RowsReached, SquaresTurned, items_of_four};
 ghost use Rattle.p3_util_kernels.specs.Exchanged.{AreTiles, IsTile, TileTurned, TilesExchanged};
 
 pub(crate) mod line_blocks;
@@ -707,5 +708,5 @@ impl<T, R: Paired<T>> Register<T> for Pair<R> {
         (self.0, self.1)
     }
 
-    ghost full = { λ pair. length_of_pair (R.items pair.0) (R.items pair.1) R.SIDE (R.full pair.0) (R.full pair.1) };
+    ghost full = { λ pair. omega (arith, length-append (R.items pair.0) (R.items pair.1), R.full pair.0, R.full pair.1) };
 }

@@ -3,7 +3,7 @@
 use Rattle.std.proofs.Common.{◌≡◌, ℕ, ◌+◌, ◌-◌, ◌*◌, ◌%◌, ◌^◌, ◌<◌, List, length, get_or, refl, sym, ap, ◌∙◌, arith}
 use Rattle.std.proofs.Math.Nat.{mod-add-mod, mod-mod}
 use Rattle.std.proofs.lemmas.Nat.{mul-add-lt, pow_pos, pow-add, pow-mod}
-use Rattle.p3_util.specs.Digits.{sum_below}
+use Rattle.p3_util.specs.Sums.{sum_below}
 use Rattle.p3_util_transform.specs.Stages.{IsRoot}
 use Rattle.p3_util_transform.specs.Transform.{IsInverseTransformed, IsTransformed}
 use Rattle.p3_util_transform.specs.declared.field.TheConstants.{HALF, PRIME, ROOTS}

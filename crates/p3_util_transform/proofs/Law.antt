@@ -4,7 +4,7 @@ use Rattle.std.proofs.Math.Nat.{mod-eq_of_lt, mod-mod, mul-mod_left, mul_assoc, 
 use Rattle.std.proofs.lemmas.Bool.{cases_eq, cases_lt}
 use Rattle.std.proofs.lemmas.List.{ext_get_or, get_or_past}
 use Rattle.std.proofs.lemmas.Nat.{div-add-mod', div_below, mod_below, mul-mod_first, mul-pow, pow-add, pow-mod, pow_pos}
-use Rattle.p3_util.specs.Digits.{sum_below}
+use Rattle.p3_util.specs.Sums.{sum_below}
 use Rattle.p3_util_transform.specs.Matrix.{Matrix}
 use Rattle.p3_util_transform.specs.Stages.{AreBelowPrime, IsRoot}
 use Rattle.p3_util_transform.specs.Transform.{IsInverseTransformed, IsTransformed}
@@ -12,7 +12,7 @@ use Rattle.p3_util_transform.specs.declared.field.TheConstants.{HALF, PRIME}
 use Rattle.p3_util_transform.proofs.Inverse.{IsRoot-inverse}
 use Rattle.p3_util_transform.proofs.Remainders.{minus_one-odd, mod-add, mod-by_multiples, mod-mul, one-power, pow-mul}
 use Rattle.p3_util_transform.proofs.Sums.{sum_below-halves, sum_below-mod}
-use Rattle.p3_util_kernels.proofs.BitsLemmas.Digits.{sum_below-same, sum_below-scale}
+use Rattle.p3_util_kernels.proofs.BitsLemmas.Sums.{sum_below-same, sum_below-scale}
 
 -- sums of sums, sums of ones, and sums in which only one term is not 0
 sum_below-add : (n : ℕ) (f g : ℕ → ℕ) → sum_below n (λ i. f i + g i) ≡ sum_below n f + sum_below n g

@@ -2,11 +2,13 @@
 use Rattle.std.proofs.Common.{◌≡◌, ℕ, suc, ◌+◌, ◌-◌, ◌*◌, ◌%◌, ◌^◌, ◌<◌, refl, sym, ap, ◌∙◌, arith}
 use Rattle.std.proofs.Math.Nat.{mod-mod, mul_comm, pow-suc, pow-zero}
 use Rattle.std.proofs.lemmas.Nat.{pow-add, mul-pow}
-use Rattle.p3_util.specs.Digits.{rev, sum_below}
+use Rattle.p3_util.specs.Digits.{rev}
+use Rattle.p3_util.specs.Sums.{sum_below}
 use Rattle.p3_util_transform.specs.Stages.{part}
 use Rattle.p3_util_transform.proofs.Remainders.{minus_one-square, minus_one-times, mod-add, mod-mul, one-power, pow-mul}
 use Rattle.p3_util_transform.proofs.Sums.{rev-double, sum_below-halves, sum_below-mod}
-use Rattle.p3_util_kernels.proofs.BitsLemmas.Digits.{rev-zero, sum_below-same, sum_below-scale}
+use Rattle.p3_util_kernels.proofs.BitsLemmas.Digits.{rev-zero}
+use Rattle.p3_util_kernels.proofs.BitsLemmas.Sums.{sum_below-same, sum_below-scale}
 
 rev-even : (m b : ℕ) → rev (suc m) (2 * b) ≡ rev m b
 rev-even m b =

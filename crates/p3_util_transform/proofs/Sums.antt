@@ -2,7 +2,8 @@
 -- in `p3_util_kernels`.
 use Rattle.std.proofs.Common.{◌≡◌, ℕ, zero, suc, ◌+◌, ◌*◌, ◌%◌, ◌^◌, ◌<◌, refl, arith}
 use Rattle.p3_util_kernels.proofs.BitsLemmas.Digits.{rev-one, rev-parts}
-use Rattle.p3_util.specs.Digits.{rev, sum_below}
+use Rattle.p3_util.specs.Digits.{rev}
+use Rattle.p3_util.specs.Sums.{sum_below}
 use Rattle.p3_util_transform.proofs.Remainders.{mod-add}
 
 -- sums of terms with equal remainders

@@ -1,6 +1,7 @@
 -- What the steps of a transform guarantee to each other.
 use Rattle.std.specs.Prelude.{ℕ, ◌≡◌, ◌+◌, ◌-◌, ◌*◌, ◌%◌, ◌^◌, ◌<◌, List, length, slice_index}
-use Rattle.p3_util.specs.Digits.{rev, sum_below}
+use Rattle.p3_util.specs.Digits.{rev}
+use Rattle.p3_util.specs.Sums.{sum_below}
 use Rattle.p3_util_transform.specs.declared.field.TheConstants.{PRIME}
 
 -- each number is below the prime, and so is 0, which stands for items beyond the end

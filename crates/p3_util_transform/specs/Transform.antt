@@ -1,6 +1,6 @@
 -- The transform of the columns of a matrix, by sums, powers and remainders.
 use Rattle.std.specs.Prelude.{ℕ, ◌≡◌, ◌+◌, ◌-◌, ◌*◌, ◌%◌, ◌^◌, ◌<◌, ◌≤◌, List, length, slice_index, EachIndex}
-use Rattle.p3_util.specs.Digits.{sum_below}
+use Rattle.p3_util.specs.Sums.{sum_below}
 use Rattle.p3_util_transform.specs.Matrix.{Matrix}
 use Rattle.p3_util_transform.specs.declared.field.TheConstants.{HALF, MOST_STAGES, PRIME, ROOTS}
 

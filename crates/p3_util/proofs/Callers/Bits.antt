@@ -8,11 +8,11 @@ use Rattle.std.proofs.Math.Pow.{pow_mono}
 use Rattle.std.specs.Int.{is_power_of_two}
 use Rattle.p3_util_kernels.specs.Digits.{rev}
 use Rattle.p3_util_kernels.specs.Powers.{HasLog2}
-use Rattle.p3_util_kernels.specs.Levels.{clog}
+use Rattle.p3_util_kernels.specs.Logarithms.{clog}
 use Rattle.p3_util_kernels.specs.Reversal.{IsReversible}
 use Rattle.p3_util_kernels.proofs.BitsLemmas.Digits.{rev-parts, rev-of-zero, rev-rev-below, rev-shl, rev-suc, rev-zero, rev-lt}
-use Rattle.p3_util_kernels.proofs.TransposeLemmas.Levels.{clog_power}
-use Rattle.p3_util_kernels.proofs.BitsLemmas.Logs.{power_of_two}
+use Rattle.p3_util_kernels.proofs.BitsLemmas.Logarithms.{clog_power}
+use Rattle.p3_util_kernels.proofs.BitsLemmas.HasLogs.{power_of_two}
 use Rattle.p3_util_kernels.proofs.TransposeLemmas.Matrix.{row_and_column}
 use Rattle.p3_util_kernels.proofs.BitsLemmas.Powers.{exponent-le, power_of_two_test as power_test}
 

@@ -12,7 +12,7 @@ use Rattle.p3_util_kernels.specs.Reversal.{IsReversal, IsReversible, IsRowRevers
 use Rattle.std.proofs.lemmas.Nat.{pow_pos}
 use Rattle.p3_util_kernels.proofs.BitsLemmas.Digits.{rev-lt, rev-of-zero, rev-rev-below, rev-suc, rev-zero}
 use Rattle.p3_util_kernels.proofs.ReverseLemmas.Lengths.{zero_or_power}
-use Rattle.p3_util_kernels.proofs.BitsLemmas.Logs.{power_of_two}
+use Rattle.p3_util_kernels.proofs.BitsLemmas.HasLogs.{power_of_two}
 use Rattle.p3_util_kernels.proofs.PlacesLemmas.SameList.{same_places}
 use Rattle.p3_util_kernels.proofs.ReverseLemmas.Reversal.{IsReversal-unique, row_reversed_back, IsRowReversal-unique, IsReversal-from_power, reversed_place}
 use Rattle.p3_util.proofs.Callers.Bits.{pair_below, rev_even, rev_odd, rev_first, rev_last, rev_longer}

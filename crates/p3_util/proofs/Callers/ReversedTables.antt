@@ -6,7 +6,7 @@ use Rattle.std.proofs.lemmas.Option.{slice_get-get_or, slice_get_within}
 use Rattle.p3_util_kernels.specs.Digits.{rev, rev_word}
 use Rattle.p3_util_kernels.specs.Powers.{HasLog2}
 use Rattle.p3_util_kernels.specs.Reversal.{IsReversal, IsReversible}
-use Rattle.p3_util_kernels.proofs.BitsLemmas.Logs.{power_of_two}
+use Rattle.p3_util_kernels.proofs.BitsLemmas.HasLogs.{power_of_two}
 use Rattle.p3_util_kernels.proofs.BitsLemmas.Digits.{rev-lt, rev-rev-below}
 use Rattle.p3_util.proofs.Callers.Bits.{log_reversible, log_some, pair_below, rev_even, rev_odd, half_length}
 use Rattle.p3_util_kernels.proofs.ReverseLemmas.Reversal.{reversed_place}

@@ -1,32 +1,17 @@
--- Laws of binary digits, of sums over the numbers below a bound, and of the reversal of digits.
+-- Laws of binary digits, and of the reversal of digits.
 use Rattle.std.proofs.Common.{◌≡◌, ℕ, zero, suc, ◌+◌, ◌-◌, ◌*◌, ◌/◌, ◌%◌, ◌^◌, ◌<◌, ◌≤◌, refl, sym, ◌∙◌, ap, arith, bit_and, bit_or}
 use Rattle.std.proofs.Math.Nat.{pow-suc, div-one, mod-eq_of_lt, mul-mod_left}
 use Rattle.std.proofs.lemmas.Nat.{pow_pos, pow-add, shr_split, shr-shr, mod_below, div-mul-add, mod-mul-add, mul-add-lt, and_mask, shl_whole, or_shifted, shl-shr}
 use Rattle.std.proofs.lemmas.Nat.Bits.{bit_at-lt, bit_at-suc, bit_at-zero, bit_at_cat_low, same_from_bits_below}
-use Rattle.p3_util_kernels.specs.Digits.{bit, sum_below, rev, rev_word}
+use Rattle.p3_util_kernels.specs.Digits.{bit, rev, rev_word}
+use Rattle.p3_util_kernels.specs.Sums.{sum_below}
+use Rattle.p3_util_kernels.proofs.BitsLemmas.Sums.{sum_below-same, sum_below-scale}
 
 -- the digits below place k are those of x % 2 ^ k
 pub bit-mod : (x k i : ℕ) → i < k → bit (x % 2 ^ k) i ≡ bit x i
 bit-mod x k i h =
     let e : bit (x / 2 ^ k * 2 ^ k + x % 2 ^ k) i ≡ bit (x % 2 ^ k) i = bit_at_cat_low (x / 2 ^ k) k (x % 2 ^ k) i h in
     sym e ∙ ap (λ n. bit n i) (shr_split x k)
-
--- sums of equal terms are equal
-pub sum_below-same : (n : ℕ) (f g : ℕ → ℕ) → ((i : ℕ) → i < n → f i ≡ g i) → sum_below n f ≡ sum_below n g
-unfolding sum_below
-sum_below-same zero f g h = refl
-sum_below-same (suc n) f g h =
-    let below : sum_below n f ≡ sum_below n g = sum_below-same n f g (λ i less. h i (omega arith)) in
-    let last : f n ≡ g n = h n (omega arith) in
-    cc
-
--- a common factor can be taken out of a sum
-pub sum_below-scale : (c n : ℕ) (f : ℕ → ℕ) → sum_below n (λ i. c * f i) ≡ c * sum_below n f
-unfolding sum_below
-sum_below-scale c zero f = omega arith
-sum_below-scale c (suc n) f =
-    let below : sum_below n (λ i. c * f i) ≡ c * sum_below n f = sum_below-scale c n f in
-    rw below (grind arith)
 
 -- reversing no digits gives 0
 pub rev-zero : (x : ℕ) → rev zero x ≡ 0

@@ -3,7 +3,8 @@ use Rattle.std.proofs.Common.{◌≡◌, ℕ, zero, suc, true, false, ◌==◌, 
 use Rattle.std.proofs.lemmas.Nat.{div-add-mod'}
 use Rattle.p3_util_kernels.specs.declared.grid.Grid.{Grid}
 use Rattle.p3_util_kernels.specs.declared.grid.RowDistances.{RowDistances}
-use Rattle.p3_util_kernels.specs.Digits.{rev, sum_below}
+use Rattle.p3_util_kernels.specs.Digits.{rev}
+use Rattle.p3_util_kernels.specs.Sums.{sum_below}
 use Rattle.p3_util_kernels.specs.Grid.{AreRowDistances, IsInFirstRow, PlacesFit, row_place}
 use Rattle.p3_util_kernels.proofs.BitsLemmas.Digits.{rev-of-zero, rev-parts}
 use Rattle.p3_util_kernels.proofs.BitsLemmas.Powers.{exponent-le}

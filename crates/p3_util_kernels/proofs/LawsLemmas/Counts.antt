@@ -3,9 +3,9 @@ use Rattle.std.proofs.Common.{◌≡◌, ℕ, zero, suc, Bool, true, false, cond
 use Rattle.std.proofs.lemmas.Bool.{both_ways, cases_Bool, cases_eq, false_from_ne_true}
 use Rattle.std.proofs.lemmas.Bool.Decides.{nat_tests}
 use Rattle.std.proofs.lemmas.Nat.{div-mul-add, mod-mul-add}
-use Rattle.p3_util_kernels.specs.Digits.{sum_below}
+use Rattle.p3_util_kernels.specs.Sums.{sum_below}
 use Rattle.p3_util_kernels.specs.Least.{count_below}
-use Rattle.p3_util_kernels.proofs.BitsLemmas.Digits.{sum_below-same}
+use Rattle.p3_util_kernels.proofs.BitsLemmas.Sums.{sum_below-same}
 use Rattle.p3_util_kernels.proofs.GridLemmas.Pairs.{mul-pred}
 
 -- what a number adds to the count: 1 if it passes the test, and otherwise 0

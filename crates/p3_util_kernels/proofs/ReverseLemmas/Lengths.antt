@@ -5,9 +5,9 @@ use Rattle.std.proofs.Math.Nat.{le-mul_of_pos_right, mul-div_cancel_left, pow-su
 use Rattle.std.proofs.lemmas.Bool.{cases_eq, or_cases}
 use Rattle.std.proofs.lemmas.Nat.Bits.{bit_at_and, bit_at-zero}
 use Rattle.std.proofs.lemmas.Nat.{div-add-mod', div-mul-add, mod-mul-add, pow-add, pow_pos}
-use Rattle.p3_util_kernels.specs.Levels.{clog}
+use Rattle.p3_util_kernels.specs.Logarithms.{clog}
 use Rattle.p3_util_kernels.specs.Reversal.{IsZeroOrPowerOfTwo, IsReversible, FitsRows}
-use Rattle.p3_util_kernels.proofs.TransposeLemmas.Levels.{clog_power, clog-zero}
+use Rattle.p3_util_kernels.proofs.BitsLemmas.Logarithms.{clog_power, clog-zero}
 use Rattle.p3_util_kernels.proofs.BitsLemmas.Powers.{exponent-lt, exponent-same, highest, power_of_two_test}
 
 -- if 2 ^ j is the greatest power of two that is at most n, digit j of n is 1

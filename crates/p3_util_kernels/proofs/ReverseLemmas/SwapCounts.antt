@@ -4,11 +4,11 @@ use Rattle.std.proofs.Math.Nat.{mul-le-mul_left}
 use Rattle.std.proofs.lemmas.Nat.{pow-add}
 use Rattle.std.proofs.Math.Nat.{mul-div_cancel_left}
 use Rattle.std.proofs.lemmas.Bool.{cases_eq}
-use Rattle.p3_util_kernels.specs.Levels.{clog}
+use Rattle.p3_util_kernels.specs.Logarithms.{clog}
 use Rattle.p3_util_kernels.specs.Reversal.{FitsRows, IsReversible, IsZeroOrPowerOfTwo}
 use Rattle.p3_util_kernels.specs.SwapCounts.{short_swaps, long_swaps, square_swaps, reversal_swaps, row_swaps}
 use Rattle.p3_util_kernels.proofs.ReverseLemmas.Lengths.{zero_or_power}
-use Rattle.p3_util_kernels.proofs.TransposeLemmas.Levels.{clog_power, clog-zero}
+use Rattle.p3_util_kernels.proofs.BitsLemmas.Logarithms.{clog_power, clog-zero}
 use Rattle.p3_util_kernels.proofs.GridLemmas.Pairs.{twice-pairs}
 
 -- each swap takes two places, and there are no more places than items

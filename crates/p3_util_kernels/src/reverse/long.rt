@@ -11,7 +11,7 @@
 //! those of the column.
 
 ghost use Rattle.std.specs.Prelude.{◌≡◌, ℕ, ◌+◌, ◌-◌, ◌*◌, ◌/◌, ◌^◌, ◌<◌, ◌≤◌, length};
-ghost use Rattle.p3_util_kernels.specs.Levels.{clog};
+ghost use Rattle.p3_util_kernels.specs.Logarithms.{clog};
 ghost use Rattle.p3_util_kernels.specs.Reversal.{IsReversal, IsReversible};
 ghost use Rattle.p3_util_kernels.specs.SwapCounts.{long_swaps, square_swaps};
 ghost use Rattle.p3_util_kernels.specs.SideBySide.{AreTransposed};

@@ -20,7 +20,7 @@
 
 ghost use Rattle.std.specs.Prelude.{◌≡◌, ℕ, ◌+◌, ◌-◌, ◌*◌, ◌/◌, ◌^◌, ◌<◌, ◌≤◌, length};
 ghost use Rattle.p3_util_kernels.specs.Grid.{grid_of_rows};
-ghost use Rattle.p3_util_kernels.specs.Levels.{clog};
+ghost use Rattle.p3_util_kernels.specs.Logarithms.{clog};
 ghost use Rattle.p3_util_kernels.specs.Reversal.{FitsRows, IsReversal, IsReversible, IsRowReversal};
 ghost use Rattle.p3_util_kernels.specs.SwapCounts.{row_swaps, short_swaps};
 

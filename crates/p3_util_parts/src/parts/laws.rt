@@ -29,9 +29,11 @@ ghost use Rattle.std.specs.Prelude.{◌≡◌, ◌≢◌, ℕ, ◌+◌, ◌*◌,
 ghost use Rattle.p3_util_parts.specs.Interleaved.{AreOfParts, IsInterleaved, IsMadeAlone, IsPutAlone, numbers_below, puts_of, region_of};
 ghost use Rattle.p3_util_kernels.specs.Crossing.{HoldsRows};
 ghost use Rattle.p3_util_kernels.specs.Least.{AreOnceAmong, after_puts, after_swaps, places_put, places_swapped};
-ghost use Rattle.p3_util_parts.specs.PartSteps.{IsPlaceOfPart, IsPlaceOfRegion, NoItemInCommon, NoPlaceInCommon};
-ghost use Rattle.p3_util_parts.specs.PartSteps.{PutsLead, more_puts, no_puts, one_put};
-ghost use Rattle.p3_util_parts.specs.PartSteps.{SwapsLead, more_swaps, no_swaps, one_swap};
+ghost use Rattle.p3_util_parts.specs.PlacesOfParts.{IsPlaceOfPart, IsPlaceOfRegion, NoItemInCommon, NoPlaceInCommon};
+ghost use Rattle.p3_util_kernels.specs.Least.{PutsLead};
+ghost use Rattle.p3_util_kernels.proofs.LawsLemmas.Steps.{more_puts, no_puts, one_put};
+ghost use Rattle.p3_util_kernels.specs.Least.{SwapsLead};
+ghost use Rattle.p3_util_kernels.proofs.LawsLemmas.Steps.{more_swaps, no_swaps, one_swap};
 ghost use Rattle.p3_util_parts.specs.Parts.{parts_in, start_of};
 ghost use Rattle.p3_util_parts.specs.Plans.{IsReversalPlan, parts_of};
 ghost use Rattle.p3_util_kernels.specs.Reversal.{IsRowReversal};

@@ -1,7 +1,7 @@
 -- The place of the lowest digit 1 of a power of two is its exponent.
 use Rattle.std.proofs.Common.{◌^◌, ◌≤◌, ◌∙◌, ap, sym, arith}
-use Rattle.p3_util_kernels.proofs.TransposeLemmas.Levels.{clog_power}
-use Rattle.p3_util_kernels.proofs.BitsLemmas.Logs.{power_of_two}
+use Rattle.p3_util_kernels.proofs.BitsLemmas.Logarithms.{clog_power}
+use Rattle.p3_util_kernels.proofs.BitsLemmas.HasLogs.{power_of_two}
 use Rattle.p3_util_kernels.proofs.BitsLemmas.Powers.{exponent-lt, lowest-power}
 use Rattle.p3_util_kernels.proofs.bits.log2_strict_usize.Goals as goal
 

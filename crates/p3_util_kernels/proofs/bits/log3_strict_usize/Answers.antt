@@ -1,6 +1,6 @@
 -- The table gives the exponent, and a power of three has only one.
 use Rattle.std.proofs.Common.{sym, ◌∙◌, arith}
-use Rattle.p3_util_kernels.proofs.BitsLemmas.Logs.{power_of_three}
+use Rattle.p3_util_kernels.proofs.BitsLemmas.HasLogs.{power_of_three}
 use Rattle.p3_util_kernels.proofs.BitsLemmas.Powers.{three-only, three-pos, three-strict}
 use Rattle.p3_util_kernels.proofs.bits.log3_strict_usize.Goals as goal
 

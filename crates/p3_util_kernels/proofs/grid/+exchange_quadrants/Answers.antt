@@ -1,7 +1,7 @@
 -- The quadrants make the square, and their pairs are those of the square.
 use Rattle.std.proofs.Common.{◌≡◌, ◌+◌, ◌-◌, refl, arith, rules}
 use Rattle.p3_util_kernels.proofs.GridLemmas.Parts.{SwapsInGrid-quadrants}
-use Rattle.p3_util_kernels.proofs.TransposeLemmas.Levels.{clog-above, clog-rest, clog-tiles}
+use Rattle.p3_util_kernels.proofs.BitsLemmas.Logarithms.{clog-above, clog-rest, clog-tiles}
 use Rattle.p3_util_kernels.proofs.GridLemmas.Pairs.{pairs-add}
 use Rattle.p3_util_kernels.proofs.grid.+exchange_quadrants.Goals as goal
 

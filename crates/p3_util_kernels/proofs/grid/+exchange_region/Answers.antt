@@ -2,7 +2,7 @@
 use Rattle.std.proofs.Common.{◌≡◌, ◌-◌, ◌*◌, ℕ, ap, refl, arith, rules}
 use Rattle.p3_util_kernels.specs.Region.{cols_of, rows_of}
 use Rattle.p3_util_kernels.proofs.GridLemmas.Parts.{cut_exchanged}
-use Rattle.p3_util_kernels.proofs.TransposeLemmas.Levels.{clog-above, clog-rest, clog-tiles}
+use Rattle.p3_util_kernels.proofs.BitsLemmas.Logarithms.{clog-above, clog-rest, clog-tiles}
 use Rattle.p3_util_kernels.proofs.grid.+exchange_region.Goals as goal
 
 -- both halves nest less deep

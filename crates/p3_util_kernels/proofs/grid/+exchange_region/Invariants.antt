@@ -1,5 +1,5 @@
 use Rattle.std.proofs.Common.{◌+◌, ◌-◌}
-use Rattle.p3_util_kernels.specs.Levels.{clog}
+use Rattle.p3_util_kernels.specs.Logarithms.{clog}
 use Rattle.p3_util_kernels.specs.Region.{cols_of, rows_of}
 use Rattle.p3_util_kernels.proofs.grid.+exchange_region.Given as goal
 

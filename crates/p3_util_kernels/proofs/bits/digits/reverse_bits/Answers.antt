@@ -1,7 +1,7 @@
 use Rattle.std.proofs.Common.{ℕ, zero, suc, ◌≡◌, ◌^◌, ◌<◌, ◌∙◌, ap, arith}
 use Rattle.p3_util_kernels.specs.Digits.{rev, rev_word}
 use Rattle.p3_util_kernels.proofs.BitsLemmas.Digits.{rev-lt, rev-of-zero, rev_word-above, rev_word-zero}
-use Rattle.p3_util_kernels.proofs.BitsLemmas.Logs.{power_of_two}
+use Rattle.p3_util_kernels.proofs.BitsLemmas.HasLogs.{power_of_two}
 use Rattle.p3_util_kernels.proofs.BitsLemmas.Powers.{lowest-power}
 use Rattle.p3_util_kernels.proofs.bits.digits.reverse_bits.Goals as goal
 

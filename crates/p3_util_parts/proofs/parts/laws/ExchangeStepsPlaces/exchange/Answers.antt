@@ -1,5 +1,5 @@
 -- One exchange makes one step of the holder.
-use Rattle.p3_util_parts.specs.PartSteps.{one_swap}
+use Rattle.p3_util_kernels.proofs.LawsLemmas.Steps.{one_swap}
 use Rattle.p3_util_parts.proofs.parts.laws.ExchangeStepsPlaces.exchange.Goals as goal
 
 pub returns-clause-holder : goal.returns-clause-holder

@@ -1,5 +1,5 @@
 -- One write makes one step of the holder.
-use Rattle.p3_util_parts.specs.PartSteps.{one_put}
+use Rattle.p3_util_kernels.proofs.LawsLemmas.Steps.{one_put}
 use Rattle.p3_util_parts.proofs.parts.laws.PutStepsCells.put.Goals as goal
 
 pub returns-clause-holder : goal.returns-clause-holder

@@ -1,0 +1,35 @@
+-- The places of the parts of a call. These definitions serve private contracts: those of
+-- `src/parts/laws.rt`.
+-- Source: new.
+use Rattle.std.specs.Prelude.{◌≡◌, ◌≢◌, ℕ, ◌+◌, ◌-◌, ◌*◌, ◌/◌, ◌<◌, min, max, List, length, slice_get}
+use Rattle.p3_util_parts.specs.declared.parts.RowPairs.{RowPairs}
+use Rattle.p3_util_kernels.specs.declared.transpose.regions.Region.{Region}
+use Rattle.p3_util_parts.specs.Patches.{IsPatch}
+use Rattle.p3_util_kernels.specs.Crossing.{row_of}
+use Rattle.p3_util_kernels.specs.Region.{IsInRegion}
+
+-- no place has both properties
+abbrev pub NoPlaceInCommon : (ℕ → Type 0) → (ℕ → Type 0) → Type 0
+NoPlaceInCommon first second = (p : ℕ) → first p → second p → ⊥
+
+-- no item of one list is equal to an item of the other
+abbrev pub NoItemInCommon : {A : Type 0} → List A → List A → Type 0
+NoItemInCommon xs ys = (i j : ℕ) → i < length xs → j < length ys → slice_get xs i ≢ slice_get ys j
+
+-- p is the place of an item of the region in the transpose of a matrix of `height` rows
+abbrev pub IsPlaceOfRegion : (region : Region) (height p : ℕ) → Type 0
+IsPlaceOfRegion region height p = (x y : ℕ) × IsInRegion region x y × (p ≡ x * height + y)
+
+-- row a and column b of the grid of `middle` lie in the patch with this number or in its mirror
+-- image
+abbrev pub IsInPatch : (digits step number middle a b : ℕ) → Type 0
+IsInPatch digits step number middle a b =
+    (region : Region) × IsPatch digits step number middle region × IsInRegion region (max a b) (min a b)
+
+-- p is a place of part `number` of the plan: a place in one of the rows that the patch with this
+-- number exchanges. A row that stays where it is counts as a pair with itself
+abbrev pub IsPlaceOfPart : (plan : RowPairs) (number p : ℕ) → Type 0
+IsPlaceOfPart plan number p =
+    let half = plan.rows.digits / 2 in
+    (m t x y : ℕ) × (t < plan.rows.width) × IsInPatch plan.rows.digits plan.cut.step number m x y
+    × (p ≡ row_of half (plan.rows.digits - half) m x y * plan.rows.width + t)
