@@ -17,4 +17,4 @@ SwapsAcross base stride region old new =
 -- the list has the place of row `last` and column `last`, and its length fits in a usize
 pub record HoldsSquare {A : Type 0} (base stride last : ℕ) (items : List A) : Type 0 where
   pub room : base + last * stride + last < length items
-  pub length_fits : length items < 2 ^ 64
+  pub len_fits : length items < 2 ^ 64

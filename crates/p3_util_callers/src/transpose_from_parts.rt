@@ -31,7 +31,7 @@ const BLOCKED_SIDE: usize = 16;
 
 /// Does nothing at run time. A function calls it with the length of a list, so that its proof knows
 /// that this length fits in a `usize`.
-fn length_fits(_len: usize) {}
+fn len_fits(_len: usize) {}
 
 /// The greatest number of rows of the regions that make up a matrix.
 const REGION_ROWS: usize = 128;
@@ -41,7 +41,7 @@ fn four_items<R: Source>(input: &R, at: usize) -> [R::Item; 4]
     requires { at + 4 ≤ length (R.items input.now) }
     ensures { (j : ℕ) → j < 4 → slice_get result j ≡ slice_get (R.items input.now) (at + j) }
 {
-    length_fits(input.len());
+    len_fits(input.len());
     [
         input.at(at),
         input.at(at + 1),
@@ -64,7 +64,7 @@ fn read_block<R: Source>(
     ensures { (r c : ℕ) → r < 4 → c < 4
         → item_at result r c ≡ slice_get (R.items input.now) ((row + r) * width + (col + c)) }
 {
-    length_fits(input.len());
+    len_fits(input.len());
     [
         four_items(input, row * width + col),
         four_items(input, (row + 1) * width + col),
@@ -90,7 +90,7 @@ fn put_four<C: Cells>(cells: &mut C, to: usize, items: [C::Item; 4])
         → slice_get (C.items cells.new) p ≡ slice_get (C.items cells.old) p }
     ensures holder { C.same_holder 4 cells.old cells.new }
 {
-    length_fits(cells.len());
+    len_fits(cells.len());
     for t in 0..4 {
         cells.put(to + t, items[t]);
     }
@@ -118,7 +118,7 @@ where
         (C.items cells.old) (C.items cells.new) }
     ensures holder { C.same_holder 16 cells.old cells.new }
 {
-    length_fits(cells.len());
+    len_fits(cells.len());
     let (row, col) = (block.row_start, block.col_start);
     let turned = butterfly_4x4(read_block(input, row, col, width, height));
     for k in 0..4 {
@@ -396,7 +396,7 @@ pub fn transpose_by_quadrants<S: Places>(
     ensures holder { let s = 2 ^ log_size in S.same_holder (s * (s - 1) / 2)
         m.old.holder m.new.holder }
 {
-    length_fits(m.len());
+    len_fits(m.len());
     if log_size == 0 {
         return;
     }

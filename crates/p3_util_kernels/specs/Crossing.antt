@@ -26,4 +26,4 @@ pub record HoldsRows {A : Type 0} (row_width digits : ℕ) (items : List A) : Ty
   pub wide : 0 < row_width
   pub few : digits < 64
   pub rows : length items ≡ row_width * 2 ^ digits
-  pub length_fits : length items < 2 ^ 64
+  pub len_fits : length items < 2 ^ 64

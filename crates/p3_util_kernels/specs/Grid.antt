@@ -55,7 +55,7 @@ pub record HoldsGrid {A : Type 0} (grid : Grid) (items : List A) : Type 0 where
   pub room : (a : ℕ) → a < 2 ^ grid.digits → (row_place grid a + 2 ^ grid.digits) * grid.width ≤ length items
   pub apart : (a b : ℕ) → a < b → b < 2 ^ grid.digits
       → (row_place grid a + 2 ^ grid.digits ≤ row_place grid b) ⊎ (row_place grid b + 2 ^ grid.digits ≤ row_place grid a)
-  pub length_fits : length items < 2 ^ 64
+  pub len_fits : length items < 2 ^ 64
 
 -- There are `2 ^ (half + c)` rows of `row_width` items. This is the grid of those rows whose index has
 -- `middle` between its `half` high and its `half` low bits: row x and column y of the grid are the row

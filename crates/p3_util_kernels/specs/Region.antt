@@ -46,4 +46,4 @@ pub record IsReady {A : Type 0} (region : Region) (width height : ℕ) (input ou
   pub inside : LiesInMatrix region width height
   pub input_fits : length input ≡ width * height
   pub output_fits : length out ≡ width * height
-  pub length_fits : width * height < 2 ^ 64
+  pub len_fits : width * height < 2 ^ 64

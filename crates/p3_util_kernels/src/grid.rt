@@ -133,7 +133,7 @@ fn exchange_places<M: Places>(m: M, width: usize, i: usize, j: usize) -> M
     requires apart { i ≢ j }
     requires first { i * width + width ≤ length (M.items m) }
     requires second { j * width + width ≤ length (M.items m) }
-    requires length_fits { length (M.items m) < 2 ^ 64 }
+    requires len_fits { length (M.items m) < 2 ^ 64 }
     ensures exchanged { RunsExchanged (i * width) (j * width) width (M.items m) (M.items result) }
     ensures holder { M.same_holder width m result }
 {

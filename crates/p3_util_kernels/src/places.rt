@@ -96,7 +96,7 @@ pub trait Places {
         ensures exchanged { TilesExchanged 64 x y (items self.old) (items self.new) }
         ensures holder { same_holder 64 self.old self.new }
     {
-        length_fits(self.len());
+        len_fits(self.len());
         for r in 0..8 {
             for c in 0..8 {
                 self.exchange(x[r] + c, y[c] + r);
@@ -114,7 +114,7 @@ pub trait Places {
         ensures turned { TileTurned 64 x (items self.old) (items self.new) }
         ensures holder { same_holder 28 self.old self.new }
     {
-        length_fits(self.len());
+        len_fits(self.len());
         for row in 0..8 {
             for col in row + 1..8 {
                 self.exchange(x[row] + col, x[col] + row);
@@ -139,7 +139,7 @@ pub trait Places {
         ensures exchanged { RunsExchanged i j len (items self.old) (items self.new) }
         ensures holder { same_holder len self.old self.new }
     {
-        length_fits(self.len());
+        len_fits(self.len());
         for t in 0..len {
             self.exchange(i + t, j + t);
         }
@@ -195,8 +195,8 @@ pub trait Cells {
             to,
             height,
         } = block;
-        length_fits(source.len());
-        length_fits(Self::len(self));
+        len_fits(source.len());
+        len_fits(Self::len(self));
         for c in 0..cols {
             for r in 0..rows {
                 self.put(to + c * height + r, source.at(from + r * width + c));
@@ -247,4 +247,4 @@ pub trait Source {
 /// Does nothing at run time. A function calls it with the length of a list, so that its proof knows
 /// that this length fits in a `usize`.
 #[inline(always)]
-pub(crate) fn length_fits(_len: usize) {}
+pub(crate) fn len_fits(_len: usize) {}

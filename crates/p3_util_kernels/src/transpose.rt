@@ -95,7 +95,7 @@ fn put_region<M: Cells, R: Source<Item = M::Item> + Copy>(
     requires inside { LiesInMatrix region matrix.width matrix.height }
     requires input_fits { length (R.items matrix.source) ≡ matrix.width * matrix.height }
     requires output_fits { length (M.items out) ≡ matrix.width * matrix.height }
-    requires length_fits { length (R.items matrix.source) < 2 ^ 64 }
+    requires len_fits { length (R.items matrix.source) < 2 ^ 64 }
     ensures transposed { IsRegionTransposed region matrix.width matrix.height
         (R.items matrix.source) (M.items out) (M.items result) }
     ensures put { (x y : ℕ) → region.row_start ≤ y → y < region.row_end
@@ -170,7 +170,7 @@ pub(crate) fn transpose_matrix<M: Cells, R: Source<Item = M::Item> + Copy, O: Pu
 ) -> M
     requires input_fits { length (R.items matrix.source) ≡ matrix.width * matrix.height }
     requires output_fits { length (M.items out) ≡ matrix.width * matrix.height }
-    requires length_fits { length (R.items matrix.source) < 2 ^ 64 }
+    requires len_fits { length (R.items matrix.source) < 2 ^ 64 }
     ensures order { IsTranspose matrix.width matrix.height (R.items matrix.source)
         (M.items result) }
     ensures holder { M.same_holder (matrix.width * matrix.height) out result }

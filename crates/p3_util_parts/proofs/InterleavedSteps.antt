@@ -103,11 +103,11 @@ module _ {A S : Type 0} {after : List A → List S → List A} {places : List S 
   StayIn part lists = (k : ℕ) (steps : List S) → slice_get lists k ≡ Some steps → AreOnceAmong (part k) (places steps)
 
   -- no place belongs to two parts
-  abbrev pub AreApart : (part : ℕ → ℕ → Type 0) → Type 0
-  AreApart part = (k l : ℕ) → k ≢ l → NoPlaceInCommon (part k) (part l)
+  abbrev pub HaveOwnPlaces : (part : ℕ → ℕ → Type 0) → Type 0
+  HaveOwnPlaces part = (k l : ℕ) → k ≢ l → NoPlaceInCommon (part k) (part l)
 
   -- the first step of list k is taken; the lists without it have none of its places
-  first-taken : (part : ℕ → ℕ → Type 0) → AreApart part → (lists : List (List S)) (k : ℕ) (s : S) (rest : List S) → StayIn part lists → slice_get lists k ≡ Some (s ∷ rest)
+  first-taken : (part : ℕ → ℕ → Type 0) → HaveOwnPlaces part → (lists : List (List S)) (k : ℕ) (s : S) (rest : List S) → StayIn part lists → slice_get lists k ≡ Some (s ∷ rest)
       → are.once s × ((p : ℕ) → are.at s p → part k p) × StayIn (λ l q. part l q × ((p : ℕ) → are.at s p → p ≢ q)) (slice_set lists k rest)
   first-taken part apart lists k s rest own e =
       let (once, here, then) = are.split (part k) s rest (own k (s ∷ rest) e) in (
@@ -128,7 +128,7 @@ module _ {A S : Type 0} {after : List A → List S → List A} {places : List S 
   weaker part stronger lists into own k steps e = AreOnceAmong-weaker (stronger k) (part k) (places steps) (into k) (own k steps e)
 
   -- an interleaving names each place once, too
-  pub once-interleaved : (all : List S) (lists : List (List S)) (part : ℕ → ℕ → Type 0) → AreApart part → StayIn part lists → IsInterleaved lists all
+  pub once-interleaved : (all : List S) (lists : List (List S)) (part : ℕ → ℕ → Type 0) → HaveOwnPlaces part → StayIn part lists → IsInterleaved lists all
       → AreOnceAmong (λ p. (k : ℕ) × part k p) (places all)
   unfolding IsInterleaved
   once-interleaved [] lists part apart own done = are.no_places (λ p. (k : ℕ) × part k p)
@@ -139,7 +139,7 @@ module _ {A S : Type 0} {after : List A → List S → List A} {places : List S 
       (once-interleaved all (slice_set lists k rest) (λ l q. part l q × ((p : ℕ) → are.at s p → p ≢ q)) (λ i j other p at at'. apart i j other p at.0 at'.0) then next))
 
   -- At the places of part k an interleaving leaves what list k alone would leave there.
-  module _ (part : ℕ → ℕ → Type 0) (apart : AreApart part) (k n : ℕ) (below : (p : ℕ) → part k p → p < n) where
+  module _ (part : ℕ → ℕ → Type 0) (apart : HaveOwnPlaces part) (k n : ℕ) (below : (p : ℕ) → part k p → p < n) where
     same-at : (all : List S) (lists : List (List S)) (xs ys : List A) → length xs ≡ n → length ys ≡ n → StayIn part lists → IsInterleaved lists all
         → ((p : ℕ) → part k p → slice_get xs p ≡ slice_get ys p) → (p : ℕ) → part k p → slice_get (after xs all) p ≡ slice_get (after ys (get_or lists k [])) p
     unfolding IsInterleaved
@@ -170,7 +170,7 @@ module _ {A S : Type 0} {after : List A → List S → List A} {places : List S 
         ]
 
   -- The places of list k belong to part k, and its steps alone change them.
-  module _ (part : ℕ → ℕ → Type 0) (apart : AreApart part) (xs : List A) (below : (k p : ℕ) → part k p → p < length xs) (lists : List (List S))
+  module _ (part : ℕ → ℕ → Type 0) (apart : HaveOwnPlaces part) (xs : List A) (below : (k p : ℕ) → part k p → p < length xs) (lists : List (List S))
       (own : StayIn (λ k p. part k p × (slice_get xs p ≢ slice_get (after xs (get_or lists k [])) p)) lists) (all : List S) (is : IsInterleaved lists all) where
     pub of-part : (k p : ℕ) → part k p → slice_get (after xs all) p ≡ slice_get (after xs (get_or lists k [])) p
     of-part k = same-at part apart k (length xs) (below k) all lists xs xs refl refl (weaker part _ lists (λ k p at. at.0) own) is (λ q g. refl)

@@ -4,9 +4,9 @@ use Rattle.std.proofs.Math.Nat.{lt_of_mul-lt-mul_left, mul-le-mul_right}
 use Rattle.std.proofs.lemmas.Bool.{cases_lt}
 use Rattle.p3_util_kernels.specs.declared.places.Block.{Block}
 use Rattle.p3_util_kernels.specs.BlockPut.{BlockFits, IsBlockPut}
-use Rattle.p3_util_registers.specs.Registers.{AreApart, AreColumns, AreReached, AreStored, ColumnsPut, IsSide, RowsReached}
+use Rattle.p3_util_registers.specs.Registers.{AreDisjoint, AreColumns, AreReached, AreStored, ColumnsPut, IsSide, RowsReached}
 use Rattle.p3_util_kernels.proofs.PlacesLemmas.Blocks.{in_block}
-use Rattle.p3_util_registers.proofs.RegistersTiles.{AreApart-rows, AreReached-rows, SquaresMoved-rows}
+use Rattle.p3_util_registers.proofs.RegistersTiles.{AreDisjoint-rows, AreReached-rows, SquaresMoved-rows}
 
 -- what is in one column is before the next one
 column_before : (a b height : ℕ) → a < b → a * height + height ≤ b * height
@@ -45,8 +45,8 @@ module _ (side : ℕ) (block : Block) (col input_len len : ℕ) (is : IsSide sid
         AreReached-rows block.rows side known is (omega arith) (λ s. col) cols tops to (λ c h. below) (λ c h. is_top c (in_all c h)) at_row may
         (λ r c h k. rw (at_cols r (in_all r h), (row_in_block block.rows r known).1 h) (all r c h k))
 
-    pub AreApart-block_to : AreApart block.rows side to
-    AreApart-block_to = AreApart-rows block.rows side known is (omega arith) (λ s. col) cols tops to (λ c h. below) (λ c h. is_top c (in_all c h)) at_row apart
+    pub AreDisjoint-block_to : AreDisjoint block.rows side to
+    AreDisjoint-block_to = AreDisjoint-rows block.rows side known is (omega arith) (λ s. col) cols tops to (λ c h. below) (λ c h. is_top c (in_all c h)) at_row apart
 
     pub ColumnsPut-step : {A : Type 0} (from : List ℕ) (columns : List (List A)) (input old new : List A) → ((c : ℕ) → c < 8 → slice_index from c ≡ slice_index rows c + slice_index tops c)
         → AreColumns side from input columns → AreStored block.rows side to columns old new → ColumnsPut col (col + side) block input old new

@@ -2,7 +2,7 @@
 use Rattle.std.proofs.Common.{◌≡◌, ◌≢◌, ℕ, ◌+◌, ◌*◌, ◌/◌, ◌%◌, ◌<◌, ◌≤◌, ◌⊎◌, List, length, slice_get, slice_index, inl, inr, refl, sym, ap, ◌∙◌, arith}
 use Rattle.std.proofs.lemmas.Bool.{cases_eq, cases_lt}
 use Rattle.p3_util_kernels.specs.Stages.{item_at}
-use Rattle.p3_util_registers.specs.Registers.{AreApart, AreStored, IsRunStored}
+use Rattle.p3_util_registers.specs.Registers.{AreDisjoint, AreStored, IsRunStored}
 
 -- Run `run 0`, then run `run 1` and so on, n in all, hold the halves of registers with these numbers.
 -- All other items stay where they are
@@ -29,7 +29,7 @@ pub second_half : {A : Type 0} (side : ℕ) (half items : List A) → ((t : ℕ)
 second_half side half items same t h = let at : side * 1 + t ≡ side + t = omega arith in rw at (same t h)
 
 -- `back` says when a run is stored
-module _ (count side : ℕ) (to : List ℕ) (apart : AreApart count side to) (run back : ℕ → ℕ)
+module _ (count side : ℕ) (to : List ℕ) (apart : AreDisjoint count side to) (run back : ℕ → ℕ)
     (inside : (i : ℕ) → i < count → run i < count) (is_back : (i : ℕ) → i < count → back (run i) ≡ i) where
   away : (i n : ℕ) → i < n → n < count → (t : ℕ) → t < side
       → (slice_index to (run i) + t < slice_index to (run n)) ⊎ (slice_index to (run n) + side ≤ slice_index to (run i) + t)

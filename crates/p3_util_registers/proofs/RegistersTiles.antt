@@ -2,7 +2,7 @@
 use Rattle.std.proofs.Common.{◌≡◌, ◌≢◌, ℕ, ◌+◌, ◌-◌, ◌%◌, ◌<◌, ◌≤◌, ◌⊎◌, List, length, slice_get, slice_index, inl, inr, refl, sym, ap, ◌∙◌, arith}
 use Rattle.std.proofs.lemmas.Bool.{cases_eq, cases_lt}
 use Rattle.p3_util_kernels.specs.Exchanged.{AreTiles, IsTile, TileTurned, TilesExchanged}
-use Rattle.p3_util_registers.specs.Registers.{AreApart, AreColumns, AreReached, AreStored, IsSide, RowsExchanged, RowsReached, SquaresTurned, sum_of}
+use Rattle.p3_util_registers.specs.Registers.{AreDisjoint, AreColumns, AreReached, AreStored, IsSide, RowsExchanged, RowsReached, SquaresTurned, sum_of}
 use Rattle.p3_util_kernels.proofs.PlacesLemmas.Tiles.{one_row, places-apart}
 
 -- a place is outside a run if it is not in it
@@ -59,8 +59,8 @@ module _ (n side : ℕ) (known : (n ≡ 4) ⊎ (n ≡ 8)) (is : IsSide side) (sm
   pub AreReached-rows : (may : ℕ → Type 0) → RowsReached n side (slice_index x) may → AreReached n to may
   AreReached-rows may all j h = rw (at j h) (all (top (j - j % side) + j % side) (j - j % side) (omega (arith, row_below side is j, low j h)) (square_up side is n j known small h))
 
-  pub AreApart-rows : ((a b : ℕ) → a < b → b < n → (slice_index x a + n ≤ slice_index x b) ⊎ (slice_index x b + n ≤ slice_index x a)) → AreApart n side to
-  AreApart-rows apart a b h k =
+  pub AreDisjoint-rows : ((a b : ℕ) → a < b → b < n → (slice_index x a + n ≤ slice_index x b) ⊎ (slice_index x b + n ≤ slice_index x a)) → AreDisjoint n side to
+  AreDisjoint-rows apart a b h k =
       let at_a = at a (omega arith) in
       let at_b = at b k in
       let up_a = square_up side is n a known small (omega arith) in

@@ -28,8 +28,8 @@ abbrev pub RowsReached : ℕ → ℕ → (ℕ → ℕ) → (ℕ → Type 0) → 
 RowsReached n side row may = (r c : ℕ) → r < n → c + side ≤ n → may (row r + c)
 
 -- no two of the first n runs overlap
-abbrev pub AreApart : ℕ → ℕ → List ℕ → Type 0
-AreApart n side to = (a b : ℕ) → a < b → b < n → (slice_index to a + side ≤ slice_index to b) ⊎ (slice_index to b + side ≤ slice_index to a)
+abbrev pub AreDisjoint : ℕ → ℕ → List ℕ → Type 0
+AreDisjoint n side to = (a b : ℕ) → a < b → b < n → (slice_index to a + side ≤ slice_index to b) ⊎ (slice_index to b + side ≤ slice_index to a)
 
 -- Each of four registers has two of the runs of a list, interleaved
 abbrev pub AreLoaded : {A : Type 0} → ℕ → List ℕ → List A → List (List A) → Type 0

@@ -32,7 +32,7 @@
 ghost use Rattle.std.specs.Prelude.{◌≡◌, ℕ, ◌+◌, ◌-◌, ◌*◌, ◌/◌, ◌%◌, ◌^◌, ◌<◌, ◌≤◌, ◌⊎◌, List, [], ◌∷◌, ◌++◌, length, refl, slice_get, slice_index};
 ghost use Rattle.std.proofs.Common.{arith, length-append};
 ghost use Rattle.p3_util_kernels.specs.BlockPut.{BlockFits, IsBlockPut, block_items};
-ghost use Rattle.p3_util_registers.specs.Registers.{AreApart, AreColumns, AreInterleaved, AreLoaded, AreReached, AreStored, ColumnsPut, IsNextStage, IsSide, IsRunStored, IsStored, RowsExchanged, RowsReached, SquaresTurned, items_of_four};
+ghost use Rattle.p3_util_registers.specs.Registers.{AreDisjoint, AreColumns, AreInterleaved, AreLoaded, AreReached, AreStored, ColumnsPut, IsNextStage, IsSide, IsRunStored, IsStored, RowsExchanged, RowsReached, SquaresTurned, items_of_four};
 ghost use Rattle.p3_util_kernels.specs.Exchanged.{AreTiles, IsTile, TileTurned, TilesExchanged};
 
 pub(crate) mod line_blocks;
@@ -76,7 +76,7 @@ pub(crate) trait Register<T>: Copy {
 
 /// A list in which a run of items, half a register, can be read or written at once.
 ///
-/// A holder also says which runs may be touched, by `may` and `may_last`. A function that is generic
+/// A holder also says which runs may be touched, by `may` and `may_stream`. A function that is generic
 /// over this trait is proved for whatever these say, so it touches no run but those for which its own
 /// `requires` asks.
 pub(crate) trait Runs<T, D: Register<T>> {
@@ -84,14 +84,14 @@ pub(crate) trait Runs<T, D: Register<T>> {
 
     ghost Reach: { Type 0 };
 
-    /// What `may` and `may_last` depend on, such as the length of the list. No store changes it.
+    /// What `may` and `may_stream` depend on, such as the length of the list. No store changes it.
     ghost reach: { Self → Reach };
 
     /// The run from this place on may be read and written.
     ghost may: { Reach → ℕ → Type 0 };
 
-    /// It may also be written by `store_last`, which may need an aligned place and a fence later on.
-    ghost may_last: { Reach → ℕ → Type 0 };
+    /// It may also be streamed, which may need an aligned place and a fence later on.
+    ghost may_stream: { Reach → ℕ → Type 0 };
 
     /// Reads the run from `place` on.
     fn load(&self, place: usize) -> D::Half
@@ -106,17 +106,17 @@ pub(crate) trait Runs<T, D: Register<T>> {
 
     /// Does the same as `store`. It is for a run that the kernel does not use again, so a holder may store it past the caches.
     /// No clause says that the run is not used again: that would take longer, and leave the same items.
-    fn store_last(&mut self, place: usize, run: D::Half)
-        requires { may_last (reach self.old) place }
+    fn stream(&mut self, place: usize, run: D::Half)
+        requires { may_stream (reach self.old) place }
         ensures stored { IsRunStored D.SIDE place (D.half_items run) (items self.old) (items self.new) }
         ensures holder { reach self.new ≡ reach self.old }
     {
         self.store(place, run);
     }
 
-    ghost may_both: { (r : Reach) (p : ℕ) → may_last r p → may r p };
+    ghost may_both: { (r : Reach) (p : ℕ) → may_stream r p → may r p };
 
-    ghost fits: { (a : Self) → length (items a) < 2 ^ 63 };
+    ghost len_fits: { (a : Self) → length (items a) < 2 ^ 63 };
 }
 
 /// Four registers.
@@ -230,7 +230,7 @@ fn store<T, D: Register<T>, M: Runs<T, D>>(
 )
     requires known { (count ≡ 4) ⊎ (count ≡ 8) }
     requires reached { AreReached count to (M.may (M.reach list.old)) }
-    requires apart { AreApart count D.SIDE to }
+    requires apart { AreDisjoint count D.SIDE to }
     ensures stored { AreStored count D.SIDE to (items_of_four D.items four) (M.items list.old) (M.items list.new) }
     ensures holder { M.reach list.new ≡ M.reach list.old }
 {
@@ -348,7 +348,7 @@ fn exchange_band<T, D: Register<T>, M: Runs<T, D>>(
     requires tiles { AreTiles x y (length (M.items list.old)) }
     requires reached_x { RowsReached 8 D.SIDE (slice_index x) (M.may (M.reach list.old)) }
     requires reached_y { RowsReached 8 D.SIDE (slice_index y) (M.may (M.reach list.old)) }
-    requires fits { length (M.items list.old) < 2 ^ 63 }
+    requires len_fits { length (M.items list.old) < 2 ^ 63 }
     ensures exchanged { RowsExchanged row (row + D.SIDE) x y (M.items list.old) (M.items list.new) }
     ensures holder { M.reach list.new ≡ M.reach list.old }
 {
@@ -427,7 +427,7 @@ fn turn_squares<T, D: Register<T>, M: Runs<T, D>>(list: &mut M, x: [usize; 8], s
     requires whole { sum % D.SIDE ≡ 0 }
     requires tile { IsTile x (length (M.items list.old)) }
     requires reached { RowsReached 8 D.SIDE (slice_index x) (M.may (M.reach list.old)) }
-    requires fits { length (M.items list.old) < 2 ^ 63 }
+    requires len_fits { length (M.items list.old) < 2 ^ 63 }
     ensures turned { SquaresTurned sum (sum + D.SIDE) D.SIDE x (M.items list.old) (M.items list.new) }
     ensures holder { M.reach list.new ≡ M.reach list.old }
 {
@@ -508,8 +508,8 @@ fn put_squares<T, D: Register<T>, S: Runs<T, D>, M: Runs<T, D>>(
     requires block { BlockFits block (length (S.items source.now)) (length (M.items cells.old)) }
     requires reads { RowsReached block.rows D.SIDE (λ r. block.from + r * block.width) (S.may (S.reach source.now)) }
     requires writes { RowsReached block.rows D.SIDE (λ c. block.to + c * block.height) (M.may (M.reach cells.old)) }
-    requires source_fits { length (S.items source.now) < 2 ^ 63 }
-    requires cells_fit { length (M.items cells.old) < 2 ^ 63 }
+    requires source_len_fits { length (S.items source.now) < 2 ^ 63 }
+    requires cells_len_fits { length (M.items cells.old) < 2 ^ 63 }
     ensures put { ColumnsPut col (col + D.SIDE) block (S.items source.now) (M.items cells.old) (M.items cells.new) }
     ensures holder { M.reach cells.new ≡ M.reach cells.old }
 {
@@ -532,7 +532,7 @@ fn store_columns<T, D: Register<T>, M: Runs<T, D>>(
     requires known { (count ≡ 4) ⊎ (count ≡ 8) }
     requires squares { 2 * side ≤ count }
     requires reached { AreReached count to (M.may (M.reach list.old)) }
-    requires apart { AreApart count D.SIDE to }
+    requires apart { AreDisjoint count D.SIDE to }
     ensures stored { AreStored count D.SIDE to (items_of_four D.items four) (M.items list.old) (M.items list.new) }
     ensures holder { M.reach list.new ≡ M.reach list.old }
 {
@@ -583,8 +583,8 @@ fn put_twice<T, D: Register<T>, S: Runs<T, D>, M: Runs<T, D>>(
     requires block { BlockFits block (length (S.items source.now)) (length (M.items cells.old)) }
     requires reads { RowsReached block.rows D.SIDE (λ r. block.from + r * block.width) (S.may (S.reach source.now)) }
     requires writes { RowsReached block.rows D.SIDE (λ c. block.to + c * block.height) (M.may (M.reach cells.old)) }
-    requires source_fits { length (S.items source.now) < 2 ^ 63 }
-    requires cells_fit { length (M.items cells.old) < 2 ^ 63 }
+    requires source_len_fits { length (S.items source.now) < 2 ^ 63 }
+    requires cells_len_fits { length (M.items cells.old) < 2 ^ 63 }
     ensures put { ColumnsPut col (col + 2 * D.SIDE) block (S.items source.now) (M.items cells.old) (M.items cells.new) }
     ensures holder { M.reach cells.new ≡ M.reach cells.old }
 {

@@ -139,7 +139,7 @@ impl Grid {
 /// requires apart { i ≢ j }
 /// requires first { i * width + width ≤ length (M.items m) }
 /// requires second { j * width + width ≤ length (M.items m) }
-/// requires length_fits { length (M.items m) < 2 ^ 64 }
+/// requires len_fits { length (M.items m) < 2 ^ 64 }
 /// ensures exchanged { RunsExchanged (i * width) (j * width) width (M.items m) (M.items result) }
 /// ensures holder { M.same_holder width m result }
 /// ```

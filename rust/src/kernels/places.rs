@@ -113,7 +113,7 @@ pub trait Places {
     /// ```
     #[inline(always)]
     fn exchange_tiles(&mut self, x: [usize; 8], y: [usize; 8]) {
-        length_fits(self.len());
+        len_fits(self.len());
         for r in 0..8 {
             for c in 0..8 {
                 self.exchange(x[r] + c, y[c] + r);
@@ -140,7 +140,7 @@ pub trait Places {
     /// ```
     #[inline(always)]
     fn turn_tile(&mut self, x: [usize; 8]) {
-        length_fits(self.len());
+        len_fits(self.len());
         for row in 0..8 {
             for col in row + 1..8 {
                 self.exchange(x[row] + col, x[col] + row);
@@ -173,7 +173,7 @@ pub trait Places {
     /// ```
     #[inline(always)]
     fn exchange_runs(&mut self, i: usize, j: usize, len: usize) {
-        length_fits(self.len());
+        len_fits(self.len());
         for t in 0..len {
             self.exchange(i + t, j + t);
         }
@@ -246,8 +246,8 @@ pub trait Cells {
             to,
             height,
         } = block;
-        length_fits(source.len());
-        length_fits(Self::len(self));
+        len_fits(source.len());
+        len_fits(Self::len(self));
         for c in 0..cols {
             for r in 0..rows {
                 self.put(to + c * height + r, source.at(from + r * width + c));
@@ -311,4 +311,4 @@ pub trait Source {
 /// Does nothing at run time. A function calls it with the length of a list, so that its proof knows
 /// that this length fits in a `usize`.
 #[inline(always)]
-pub(crate) fn length_fits(_len: usize) {}
+pub(crate) fn len_fits(_len: usize) {}

@@ -82,7 +82,7 @@ pub(crate) trait Register<T>: Copy {
 
 /// A list in which a run of items, half a register, can be read or written at once.
 ///
-/// A holder also says which runs may be touched, by `may` and `may_last`. A function that is generic
+/// A holder also says which runs may be touched, by `may` and `may_stream`. A function that is generic
 /// over this trait is proved for whatever these say, so it touches no run but those for which its own
 /// `requires` asks.
 pub(crate) trait Runs<T, D: Register<T>> {
@@ -113,11 +113,11 @@ pub(crate) trait Runs<T, D: Register<T>> {
     /// # Contract
     ///
     /// ```text
-    /// requires { may_last (reach self.old) place }
+    /// requires { may_stream (reach self.old) place }
     /// ensures stored { IsRunStored D.SIDE place (D.half_items run) (items self.old) (items self.new) }
     /// ensures holder { reach self.new ≡ reach self.old }
     /// ```
-    fn store_last(&mut self, place: usize, run: D::Half) {
+    fn stream(&mut self, place: usize, run: D::Half) {
         self.store(place, run);
     }
 }
@@ -254,7 +254,7 @@ fn store_two<T, D: Register<T>, M: Runs<T, D>>(list: &mut M, first: usize, secon
 /// ```text
 /// requires known { (count ≡ 4) ⊎ (count ≡ 8) }
 /// requires reached { AreReached count to (M.may (M.reach list.old)) }
-/// requires apart { AreApart count D.SIDE to }
+/// requires apart { AreDisjoint count D.SIDE to }
 /// ensures stored { AreStored count D.SIDE to (items_of_four D.items four) (M.items list.old) (M.items list.new) }
 /// ensures holder { M.reach list.new ≡ M.reach list.old }
 /// ```
@@ -396,7 +396,7 @@ fn in_band(x: [usize; 8], side: usize, top: usize) -> [usize; 8] {
 /// requires tiles { AreTiles x y (length (M.items list.old)) }
 /// requires reached_x { RowsReached 8 D.SIDE (slice_index x) (M.may (M.reach list.old)) }
 /// requires reached_y { RowsReached 8 D.SIDE (slice_index y) (M.may (M.reach list.old)) }
-/// requires fits { length (M.items list.old) < 2 ^ 63 }
+/// requires len_fits { length (M.items list.old) < 2 ^ 63 }
 /// ensures exchanged { RowsExchanged row (row + D.SIDE) x y (M.items list.old) (M.items list.new) }
 /// ensures holder { M.reach list.new ≡ M.reach list.old }
 /// ```
@@ -496,7 +496,7 @@ fn opposites(side: usize, sum: usize) -> [usize; 8] {
 /// requires whole { sum % D.SIDE ≡ 0 }
 /// requires tile { IsTile x (length (M.items list.old)) }
 /// requires reached { RowsReached 8 D.SIDE (slice_index x) (M.may (M.reach list.old)) }
-/// requires fits { length (M.items list.old) < 2 ^ 63 }
+/// requires len_fits { length (M.items list.old) < 2 ^ 63 }
 /// ensures turned { SquaresTurned sum (sum + D.SIDE) D.SIDE x (M.items list.old) (M.items list.new) }
 /// ensures holder { M.reach list.new ≡ M.reach list.old }
 /// ```
@@ -588,8 +588,8 @@ fn starts(first: usize, stride: usize, count: usize) -> [usize; 8] {
 /// requires block { BlockFits block (length (S.items source.now)) (length (M.items cells.old)) }
 /// requires reads { RowsReached block.rows D.SIDE (λ r. block.from + r * block.width) (S.may (S.reach source.now)) }
 /// requires writes { RowsReached block.rows D.SIDE (λ c. block.to + c * block.height) (M.may (M.reach cells.old)) }
-/// requires source_fits { length (S.items source.now) < 2 ^ 63 }
-/// requires cells_fit { length (M.items cells.old) < 2 ^ 63 }
+/// requires source_len_fits { length (S.items source.now) < 2 ^ 63 }
+/// requires cells_len_fits { length (M.items cells.old) < 2 ^ 63 }
 /// ensures put { ColumnsPut col (col + D.SIDE) block (S.items source.now) (M.items cells.old) (M.items cells.new) }
 /// ensures holder { M.reach cells.new ≡ M.reach cells.old }
 /// ```
@@ -615,7 +615,7 @@ fn put_squares<T, D: Register<T>, S: Runs<T, D>, M: Runs<T, D>>(
 /// requires known { (count ≡ 4) ⊎ (count ≡ 8) }
 /// requires squares { 2 * side ≤ count }
 /// requires reached { AreReached count to (M.may (M.reach list.old)) }
-/// requires apart { AreApart count D.SIDE to }
+/// requires apart { AreDisjoint count D.SIDE to }
 /// ensures stored { AreStored count D.SIDE to (items_of_four D.items four) (M.items list.old) (M.items list.new) }
 /// ensures holder { M.reach list.new ≡ M.reach list.old }
 /// ```
@@ -671,8 +671,8 @@ fn store_columns<T, D: Register<T>, M: Runs<T, D>>(
 /// requires block { BlockFits block (length (S.items source.now)) (length (M.items cells.old)) }
 /// requires reads { RowsReached block.rows D.SIDE (λ r. block.from + r * block.width) (S.may (S.reach source.now)) }
 /// requires writes { RowsReached block.rows D.SIDE (λ c. block.to + c * block.height) (M.may (M.reach cells.old)) }
-/// requires source_fits { length (S.items source.now) < 2 ^ 63 }
-/// requires cells_fit { length (M.items cells.old) < 2 ^ 63 }
+/// requires source_len_fits { length (S.items source.now) < 2 ^ 63 }
+/// requires cells_len_fits { length (M.items cells.old) < 2 ^ 63 }
 /// ensures put { ColumnsPut col (col + 2 * D.SIDE) block (S.items source.now) (M.items cells.old) (M.items cells.new) }
 /// ensures holder { M.reach cells.new ≡ M.reach cells.old }
 /// ```

@@ -102,7 +102,7 @@ pub(crate) fn transpose<T: Copy>(input: &[T], output: &mut [T], width: usize, he
 /// requires inside { LiesInMatrix region matrix.width matrix.height }
 /// requires input_fits { length (R.items matrix.source) ≡ matrix.width * matrix.height }
 /// requires output_fits { length (M.items out) ≡ matrix.width * matrix.height }
-/// requires length_fits { length (R.items matrix.source) < 2 ^ 64 }
+/// requires len_fits { length (R.items matrix.source) < 2 ^ 64 }
 /// ensures transposed { IsRegionTransposed region matrix.width matrix.height
 ///     (R.items matrix.source) (M.items out) (M.items result) }
 /// ensures put { (x y : ℕ) → region.row_start ≤ y → y < region.row_end
@@ -193,7 +193,7 @@ fn transpose_longer<M: Cells, R: Source<Item = M::Item> + Copy>(out: M, matrix: 
 /// ```text
 /// requires input_fits { length (R.items matrix.source) ≡ matrix.width * matrix.height }
 /// requires output_fits { length (M.items out) ≡ matrix.width * matrix.height }
-/// requires length_fits { length (R.items matrix.source) < 2 ^ 64 }
+/// requires len_fits { length (R.items matrix.source) < 2 ^ 64 }
 /// ensures order { IsTranspose matrix.width matrix.height (R.items matrix.source)
 ///     (M.items result) }
 /// ensures holder { M.same_holder (matrix.width * matrix.height) out result }

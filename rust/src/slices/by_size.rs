@@ -9,7 +9,7 @@
 
 use super::by_type;
 use super::choice::LONG_BYTES;
-use super::holders::{Bytes, Items, MOVES_BYTES, Register, SliceItems, SliceSource, USES_REGISTERS};
+use super::holders::{Bytes, Items, MOVES_BYTES, SliceItems, SliceSource, USES_REGISTERS, Vector};
 use super::parts::RowPlan;
 use crate::kernels::registers::{Pair, Two};
 use crate::kernels::transpose::{Matrix, Region};
@@ -18,7 +18,7 @@ use crate::kernels::transpose::{Matrix, Region};
 /// it is, and otherwise `other`. In `call`, `holder` is the holder of the list as items of this size.
 macro_rules! by_size {
     ($size:expr $(, $($form:tt)*)?) => {
-        by_size!(@ [1: Items<1>, 2: Pair<Items<2>>, 4: Pair<Items<4>>, 8: Pair<Items<8>>, 16: Two<Register>]
+        by_size!(@ [1: Items<1>, 2: Pair<Items<2>>, 4: Pair<Items<4>>, 8: Pair<Items<8>>, 16: Two<Vector>]
             [1 2 4 8 12 16 20 32 64] $size $(, $($form)*)?)
     };
     (@ [$($short:literal: $rows:ty),*] [$($bytes:literal)*] $size:expr) => {

@@ -13,7 +13,7 @@ use core::sync::atomic::{Ordering, compiler_fence};
 pub(super) use bytes::{Bytes, MOVES_BYTES};
 use bytes::{Unaligned, move_bytes, swap_bytes, write_item};
 pub(crate) use registers::USES_REGISTERS;
-pub(super) use registers::{Items, Register};
+pub(super) use registers::{Items, Vector};
 
 use super::by_type::{Input, Output};
 use super::choice::{LINE, side_of};
@@ -50,7 +50,7 @@ unsafe impl<T: Send> Send for SliceItems<'_, T> {}
 // the feature `checked`.
 unsafe impl<T: Sync> Sync for SliceItems<'_, T> {}
 
-impl<'a, T, D, const LAST: bool> SliceItems<'a, T, D, LAST> {
+impl<'a, T, D, const STREAM: bool> SliceItems<'a, T, D, STREAM> {
     /// The `len` items from `first` on. Whoever uses the holder has borrowed them.
     #[inline(always)]
     fn of(first: *mut T, len: usize) -> Self {
@@ -58,12 +58,12 @@ impl<'a, T, D, const LAST: bool> SliceItems<'a, T, D, LAST> {
         SliceItems { first, len, slice }
     }
 
-    /// Whether the cells of a block `may_last` be written: each column is a line of the output, and a fence follows.
+    /// Whether the cells of a block may be streamed: each column is a line of the output, and a fence follows.
     #[inline(always)]
-    pub(super) fn may_last(&self, block: Block) -> bool {
+    pub(super) fn may_stream(&self, block: Block) -> bool {
         let first = self.first.wrapping_add(block.to).addr();
         let distance = block.height * size_of::<T>() * usize::from(block.cols > 1);
-        LAST && block.rows * size_of::<T>() == LINE && (first | distance) % LINE == 0
+        STREAM && block.rows * size_of::<T>() == LINE && (first | distance) % LINE == 0
     }
 
     /// Runs a kernel that puts a call or a part by lines. Only this function makes a holder that stores past the caches.
@@ -233,7 +233,7 @@ impl<F, D: squares::Register<F>> Places for SliceItems<'_, F, D> {
 /// A list of at least this many bytes does not fit in a cache.
 const FAR_BYTES: usize = 1 << 23;
 
-impl<T: Copy, D: squares::Register<T>, const LAST: bool> Cells for SliceItems<'_, T, D, LAST> {
+impl<T: Copy, D: squares::Register<T>, const STREAM: bool> Cells for SliceItems<'_, T, D, STREAM> {
     type Item = T;
 
     fn len(&self) -> usize {
@@ -286,12 +286,12 @@ impl<T: Copy, D: squares::Register<T>, const LAST: bool> Cells for SliceItems<'_
 }
 
 /// Runs of the items, which fill half a register `D`. Here a run `may` be read and written if all of it is among the places
-/// of the step that is made, which are within the list by the precondition of the step's method. It `may_last` be written
+/// of the step that is made, which are within the list by the precondition of the step's method. The holder `may_stream` it
 /// if it also begins at a multiple of 16 bytes, and a fence follows before the call or the part ends. A run of a source, which
 /// is only read, `may` be anywhere in the list. The functions of `kernels/registers.rs` are proved to touch no other run,
-/// whatever `may` and `may_last` are. So that method may call them if it names no place but those of its step, and no run
+/// whatever `may` and `may_stream` are. So that method may call them if it names no place but those of its step, and no run
 /// that ends after the source.
-impl<T, E, D: squares::Register<T>, const LAST: bool> Runs<T, D> for SliceItems<'_, T, E, LAST> {
+impl<T, E, D: squares::Register<T>, const STREAM: bool> Runs<T, D> for SliceItems<'_, T, E, STREAM> {
     #[inline(always)]
     fn load(&self, place: usize) -> D::Half {
         debug_assert!(place + size_of::<D::Half>() / size_of::<T>() <= self.len);
@@ -310,14 +310,14 @@ impl<T, E, D: squares::Register<T>, const LAST: bool> Runs<T, D> for SliceItems<
     /// No race detector sees assembly, so `rust/test` makes ordinary stores for one (`ordinary_stores`).
     #[cfg(all(target_arch = "x86_64", target_feature = "sse2", not(ordinary_stores)))]
     #[inline(always)]
-    fn store_last(&mut self, place: usize, run: D::Half) {
+    fn stream(&mut self, place: usize, run: D::Half) {
         debug_assert!(place + 16 / size_of::<T>() <= self.len && size_of::<D::Half>() == 16);
         debug_assert!(self.first.wrapping_add(place).addr() % 16 == 0);
         let to = self.first.wrapping_add(place);
-        // SAFETY: a run is a register here. It `may_last` be written, by the `requires` of `Runs::store_last`: `may_last` of
-        // the holder tests that.
+        // SAFETY: a run is a register here. The holder `may_stream` it, by the `requires` of `Runs::stream`: the method
+        // `may_stream` tests that.
         unsafe {
-            let run: Register = core::mem::transmute_copy(&run);
+            let run: Vector = core::mem::transmute_copy(&run);
             core::arch::asm!("movntdq [{}], {}", in(reg) to, in(xmm_reg) run, options(nostack, preserves_flags))
         }
     }

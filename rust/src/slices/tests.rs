@@ -15,7 +15,7 @@ use super::holders::Bytes;
 #[cfg(not(feature = "checked"))]
 use super::holders::SliceItems;
 #[cfg(not(feature = "checked"))]
-use super::holders::{Items, Register as Vector, USES_REGISTERS};
+use super::holders::{Items, USES_REGISTERS, Vector};
 use super::holders::{SliceItems as SliceCells, SliceItems as SlicePlaces, SliceSource};
 use super::parts::{ReversalPart, TransposePart};
 use crate::kernels::places::{Block, Cells, Places, Source};
@@ -524,9 +524,9 @@ fn blocks_of_lines() {
                     height,
                 };
                 let is_line = rows == line && to % line == 0 && (cols == 1 || height % line == 0);
-                assert!(!SliceCells::new(&mut list.0).in_registers::<D>().may_last(block));
+                assert!(!SliceCells::new(&mut list.0).in_registers::<D>().may_stream(block));
                 let holder = SliceCells::new(&mut list.0).in_registers::<D>();
-                holder.past_caches(|cells| assert_eq!(cells.may_last(block), is_line, "{rows} {cols} {to} {height}"));
+                holder.past_caches(|cells| assert_eq!(cells.may_stream(block), is_line, "{rows} {cols} {to} {height}"));
             }
         }
     }
@@ -802,7 +802,7 @@ mod refused {
             let run = Runs::<u32, Pair<Of<4>>>::load(&places, 0);
             for place in 0..=20 {
                 let is_wrong = place + 4 > len || place % 4 != 0;
-                let call = |places: &mut _| Runs::<u32, Pair<Of<4>>>::store_last(places, place, run);
+                let call = |places: &mut _| Runs::<u32, Pair<Of<4>>>::stream(places, place, run);
                 assert_eq!(panics(|| call(&mut places)), is_wrong, "a store at {place} of {len}");
             }
         }

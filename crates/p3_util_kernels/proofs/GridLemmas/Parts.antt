@@ -28,7 +28,7 @@ module _ {A : Type 0} (grid : Grid) (items : List A) (holds : HoldsGrid grid ite
     few = holds.few;
     rows = λ a less.
         let wide : (row_place grid a + 2 ^ grid.digits) * 1 ≤ (row_place grid a + 2 ^ grid.digits) * grid.width = mul-le-mul_left (row_place grid a + 2 ^ grid.digits) (omega (arith, holds.wide)) in
-        omega (arith, wide, holds.room a less, holds.length_fits);
+        omega (arith, wide, holds.room a less, holds.len_fits);
   }
 
   -- two rows do not overlap

@@ -52,7 +52,7 @@ module _ (half c row_width middle : ℕ) (within : half ≤ c) (below : middle <
                     absurd (omega arith)
               ]
         ];
-    length_fits = rows.length_fits;
+    len_fits = rows.len_fits;
   }
 
   -- the pairs in the grids before this one are exchanged, and then those in this grid

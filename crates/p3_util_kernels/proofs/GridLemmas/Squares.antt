@@ -30,7 +30,7 @@ module _ (base log_stride log_size : ℕ) (within : log_size ≤ log_stride) whe
     apart = λ a b less h.
         let rows : (a + 1) * 2 ^ log_stride ≤ b * 2 ^ log_stride = mul-le-mul_right (2 ^ log_stride) (omega arith) in
         inl (omega (arith, rows, side, in_order grid a refl, in_order grid b refl));
-    length_fits = fits;
+    len_fits = fits;
   }
 
   -- the whole square, exchanged across its diagonal, is its transpose

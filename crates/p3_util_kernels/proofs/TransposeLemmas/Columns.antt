@@ -51,8 +51,8 @@ module _ {A : Type 0} (region : Region) (width height col : ℕ) (input : List A
       record {
         inside = λ t ht. omega (arith, h.input_fits, mul-add-lt (region.row_start + t) width col height (omega (arith, inside.cols_inside)) (omega (arith, inside.rows_inside)));
         room = omega (arith, same, h.output_fits, last);
-        input_fits = omega (arith, h.input_fits, h.length_fits);
-        out_fits = omega (arith, same, h.output_fits, h.length_fits);
+        input_fits = omega (arith, h.input_fits, h.len_fits);
+        out_fits = omega (arith, same, h.output_fits, h.len_fits);
       }
 
   pub IsRegionTransposed-column : (old new : List A) → region.row_start ≤ region.row_end

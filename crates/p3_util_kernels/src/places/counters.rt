@@ -10,7 +10,7 @@ ghost use Rattle.std.proofs.Common.{rules};
 ghost use Rattle.p3_util_kernels.specs.Exchanged.{AreTiles, IsTile, RunsExchanged, TileTurned, TilesExchanged};
 ghost use Rattle.p3_util_kernels.specs.Steps.{counted};
 
-use crate::places::{Block, Cells, Places, Source, length_fits};
+use crate::places::{Block, Cells, Places, Source, len_fits};
 
 /// A counter around a holder of places. It counts exchanges. The count stops at `u128::MAX`.
 #[derive(Debug, Drop)]
@@ -37,7 +37,7 @@ impl<S: Places> Swaps<S> {
         ensures count { result.count ≡ count }
         ensures len_fits { length (S.items holder) < 2 ^ 64 }
     {
-        length_fits(holder.len());
+        len_fits(holder.len());
         Swaps { holder, count }
     }
 
@@ -103,7 +103,7 @@ impl<C: Cells> Writes<C> {
         ensures count { result.count ≡ count }
         ensures len_fits { length (C.items holder) < 2 ^ 64 }
     {
-        length_fits(holder.len());
+        len_fits(holder.len());
         Writes { holder, count }
     }
 

@@ -31,7 +31,7 @@ impl Order<4, UNIT> {
     /// choice. The plain Rust package knows the size of an item and has a choice of its own.
     #[inline(always)]
     pub(crate) fn by_shape<R: Source + Copy>(matrix: Matrix<R>) -> Self
-        ensures length_fits { length (R.items matrix.source) < 2 ^ 64 }
+        ensures len_fits { length (R.items matrix.source) < 2 ^ 64 }
     {
         let strips = Strips::by_shape(matrix);
         // A matrix without items may have very many columns, which have no rows.

@@ -18,7 +18,7 @@ pub(crate) struct TransposePlan {
     cut: Cut,
     pub ghost side: { 0 < cut.len → cut.len ≡ if by_rows then height else width },
     pub ghost all: { cut.len ≡ 0 → width * height ≡ 0 },
-    pub ghost fits: { width * height < 2 ^ 64 },
+    pub ghost len_fits: { width * height < 2 ^ 64 },
 }
 
 impl TransposePlan {

@@ -56,7 +56,7 @@ impl<T: Copy> Paired<T> for Duo<T> {
 /// The run from `place` on.
 fn run_at<T: Copy>(items: &[T], place: usize) -> Duo<T>
     requires inside { place + 2 ≤ length items.now }
-    requires fits { length items.now < 2 ^ 63 }
+    requires len_fits { length items.now < 2 ^ 63 }
     ensures { (t : ℕ) → t < 2 → slice_get (result.0 ∷ result.1 ∷ []) t ≡ slice_get items.now (place + t) }
 {
     Duo(items[place], items[place + 1])
@@ -65,18 +65,18 @@ fn run_at<T: Copy>(items: &[T], place: usize) -> Duo<T>
 /// Writes the run from `place` on.
 fn put_run<T: Copy>(items: &mut [T], place: usize, run: Duo<T>)
     requires inside { place + 2 ≤ length items.old }
-    requires fits { length items.old < 2 ^ 63 }
+    requires len_fits { length items.old < 2 ^ 63 }
     ensures { IsRunStored 2 place (run.0 ∷ run.1 ∷ []) items.old items.new }
 {
     items[place] = run.0;
     items[place + 1] = run.1;
 }
 
-/// A borrowed list of fewer than 2^63 items. Each run within it may be touched. `store_last` may write those that
+/// A borrowed list of fewer than 2^63 items. Each run within it may be touched. `stream` may write those that
 /// begin at an even place.
 struct Short<'a, T> {
     items: &'a mut [T],
-    ghost fits: { length items.now < 2 ^ 63 },
+    ghost len_fits: { length items.now < 2 ^ 63 },
 }
 
 impl<'a, T: Copy> Runs<T, Pair<Duo<T>>> for Short<'a, T> {
@@ -88,7 +88,7 @@ impl<'a, T: Copy> Runs<T, Pair<Duo<T>>> for Short<'a, T> {
 
     ghost may = { λ reach place. place + 2 ≤ reach.1 };
 
-    ghost may_last = { λ reach place. (place + 2 ≤ reach.1) × (place % 2 ≡ 0) };
+    ghost may_stream = { λ reach place. (place + 2 ≤ reach.1) × (place % 2 ≡ 0) };
 
     fn load(&self, place: usize) -> Duo<T> {
         run_at(self.items, place)
@@ -100,7 +100,7 @@ impl<'a, T: Copy> Runs<T, Pair<Duo<T>>> for Short<'a, T> {
 
     ghost may_both = { λ reach place both. both.0 };
 
-    ghost fits = { λ s. s.fits };
+    ghost len_fits = { λ s. s.len_fits };
 }
 
 impl<'a, T: Copy> Places for Short<'a, T> {
@@ -143,11 +143,11 @@ fn block_put<T: Copy>(cells: &mut Short<T>, source: &Short<T>, block: Block)
 }
 
 /// One tile of a borrowed list of fewer than 2^63 items: 8 items from each place of `rows` on. Only runs within these
-/// may be touched, and `store_last` may write the run at place 0 alone.
+/// may be touched, and `stream` may write the run at place 0 alone.
 struct OneTile<'a, T> {
     items: &'a mut [T],
     rows: [usize; 8],
-    ghost fits: { length items.now < 2 ^ 63 },
+    ghost len_fits: { length items.now < 2 ^ 63 },
 }
 
 impl<'a, T: Copy> Runs<T, Pair<Duo<T>>> for OneTile<'a, T> {
@@ -159,7 +159,7 @@ impl<'a, T: Copy> Runs<T, Pair<Duo<T>>> for OneTile<'a, T> {
 
     ghost may = { λ reach p. (p + 2 ≤ reach.1.0) × ((r : ℕ) × ((c : ℕ) × ((r < 8) × ((c + 2 ≤ 8) × (p ≡ slice_index reach.1.1 r + c))))) };
 
-    ghost may_last = { λ reach p. ((p + 2 ≤ reach.1.0) × ((r : ℕ) × ((c : ℕ) × ((r < 8) × ((c + 2 ≤ 8) × (p ≡ slice_index reach.1.1 r + c)))))) × (p ≡ 0) };
+    ghost may_stream = { λ reach p. ((p + 2 ≤ reach.1.0) × ((r : ℕ) × ((c : ℕ) × ((r < 8) × ((c + 2 ≤ 8) × (p ≡ slice_index reach.1.1 r + c)))))) × (p ≡ 0) };
 
     fn load(&self, place: usize) -> Duo<T> {
         run_at(self.items, place)
@@ -171,7 +171,7 @@ impl<'a, T: Copy> Runs<T, Pair<Duo<T>>> for OneTile<'a, T> {
 
     ghost may_both = { λ reach p both. both.0 };
 
-    ghost fits = { λ s. s.fits };
+    ghost len_fits = { λ s. s.len_fits };
 }
 
 /// Turns the tile.
@@ -187,7 +187,7 @@ fn turned_alone<T: Copy>(tile: &mut OneTile<T>)
 struct OneColumn<'a, T> {
     items: &'a mut [T],
     to: usize,
-    ghost fits: { length items.now < 2 ^ 63 },
+    ghost len_fits: { length items.now < 2 ^ 63 },
 }
 
 impl<'a, T: Copy> Runs<T, Pair<Duo<T>>> for OneColumn<'a, T> {
@@ -199,7 +199,7 @@ impl<'a, T: Copy> Runs<T, Pair<Duo<T>>> for OneColumn<'a, T> {
 
     ghost may = { λ reach p. (p + 2 ≤ reach.1.0) × ((k : ℕ) × ((k < 4) × (p ≡ reach.1.1 + k * 2))) };
 
-    ghost may_last = { λ reach p. (p + 2 ≤ reach.1.0) × ((k : ℕ) × ((k < 4) × (p ≡ reach.1.1 + k * 2))) };
+    ghost may_stream = { λ reach p. (p + 2 ≤ reach.1.0) × ((k : ℕ) × ((k < 4) × (p ≡ reach.1.1 + k * 2))) };
 
     fn load(&self, place: usize) -> Duo<T> {
         run_at(self.items, place)
@@ -211,16 +211,16 @@ impl<'a, T: Copy> Runs<T, Pair<Duo<T>>> for OneColumn<'a, T> {
 
     ghost may_both = { λ reach p both. both };
 
-    ghost fits = { λ s. s.fits };
+    ghost len_fits = { λ s. s.len_fits };
 }
 
 /// Two items of each of 8 rows, of a borrowed list of fewer than 2^63 items. No other item may be read. As in [`OneTile`],
-/// `store_last` may write the run at place 0 alone.
+/// `stream` may write the run at place 0 alone.
 struct TwoColumns<'a, T> {
     items: &'a mut [T],
     from: usize,
     width: usize,
-    ghost fits: { length items.now < 2 ^ 63 },
+    ghost len_fits: { length items.now < 2 ^ 63 },
 }
 
 impl<'a, T: Copy> Runs<T, Pair<Duo<T>>> for TwoColumns<'a, T> {
@@ -232,7 +232,7 @@ impl<'a, T: Copy> Runs<T, Pair<Duo<T>>> for TwoColumns<'a, T> {
 
     ghost may = { λ reach p. (p + 2 ≤ reach.1.0) × ((r : ℕ) × ((r < 8) × (p ≡ reach.1.1.0 + r * reach.1.1.1))) };
 
-    ghost may_last = { λ reach p. ((p + 2 ≤ reach.1.0) × ((r : ℕ) × ((r < 8) × (p ≡ reach.1.1.0 + r * reach.1.1.1)))) × (p ≡ 0) };
+    ghost may_stream = { λ reach p. ((p + 2 ≤ reach.1.0) × ((r : ℕ) × ((r < 8) × (p ≡ reach.1.1.0 + r * reach.1.1.1)))) × (p ≡ 0) };
 
     fn load(&self, place: usize) -> Duo<T> {
         run_at(self.items, place)
@@ -244,7 +244,7 @@ impl<'a, T: Copy> Runs<T, Pair<Duo<T>>> for TwoColumns<'a, T> {
 
     ghost may_both = { λ reach p both. both.0 };
 
-    ghost fits = { λ s. s.fits };
+    ghost len_fits = { λ s. s.len_fits };
 }
 
 /// Puts a line of one column. Its `inside` says that each row has an item to the right of the column.

@@ -116,7 +116,7 @@
 //! ```text
 //! struct TransposePlan { pub width: usize, pub height: usize, by_rows: bool, cut: Cut, pub ghost side: { 0 < cut.len →
 //!     cut.len ≡ if by_rows then height else width }, pub ghost all: { cut.len ≡ 0 → width * height ≡ 0 }, pub ghost
-//!     fits: { width * height < 2 ^ 64 } }
+//!     len_fits: { width * height < 2 ^ 64 } }
 //! fn TransposePlan::new(width: usize, height: usize, parts: usize, may_cut_rows: bool) -> TransposePlan
 //!   requires: width * height < 2 ^ 64
 //!   ensures width: result.width ≡ width

@@ -6,7 +6,7 @@
 //! the `_on` calls lend the holder inside to a kernel. The kernel itself cannot reach the fields of
 //! a counter, since it is generic over its holder.
 
-use crate::kernels::places::{Block, Cells, Places, Source, length_fits};
+use crate::kernels::places::{Block, Cells, Places, Source, len_fits};
 
 /// A counter around a holder of places. It counts exchanges. The count stops at `u128::MAX`.
 #[derive(Debug)]
@@ -42,7 +42,7 @@ impl<S: Places> Swaps<S> {
     /// ```
     #[inline(always)]
     pub(crate) fn resumed(holder: S, count: u128) -> Self {
-        length_fits(holder.len());
+        len_fits(holder.len());
         Swaps { holder, count }
     }
 
@@ -143,7 +143,7 @@ impl<C: Cells> Writes<C> {
     /// ```
     #[inline(always)]
     pub(crate) fn resumed(holder: C, count: u128) -> Self {
-        length_fits(holder.len());
+        len_fits(holder.len());
         Writes { holder, count }
     }
 

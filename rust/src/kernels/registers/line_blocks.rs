@@ -13,7 +13,7 @@ use crate::kernels::places::Block;
 /// ```text
 /// requires side { (D.SIDE ≡ 2) ⊎ (D.SIDE ≡ 4) }
 /// requires inside { (r : ℕ) → r < 8 → from + r * width + D.SIDE ≤ length (S.items list.now) }
-/// requires list_fits { length (S.items list.now) < 2 ^ 63 }
+/// requires len_fits { length (S.items list.now) < 2 ^ 63 }
 /// requires reached { (r : ℕ) → r < 8 → S.may (S.reach list.now) (from + r * width) }
 /// ensures { AreLines D.SIDE from width (S.items list.now) (items_of_four D.items result) }
 /// ```
@@ -30,21 +30,16 @@ fn load_lines<T, D: Register<T>, S: Runs<T, D>>(list: &S, from: usize, width: us
 ///
 /// ```text
 /// requires apart { (first + D.SIDE ≤ second) ⊎ (second + D.SIDE ≤ first) }
-/// requires first { M.may_last (M.reach list.old) first }
-/// requires second { M.may_last (M.reach list.old) second }
+/// requires first { M.may_stream (M.reach list.old) first }
+/// requires second { M.may_stream (M.reach list.old) second }
 /// ensures stored { IsStored D.SIDE first second (D.items rows) (M.items list.old) (M.items list.new) }
 /// ensures holder { M.reach list.new ≡ M.reach list.old }
 /// ```
 #[inline(always)]
-fn store_two_last<T, D: Register<T>, M: Runs<T, D>>(
-    list: &mut M,
-    first: usize,
-    second: usize,
-    rows: D,
-) {
+fn stream_two<T, D: Register<T>, M: Runs<T, D>>(list: &mut M, first: usize, second: usize, rows: D) {
     let (a, b) = rows.halves();
-    list.store_last(first, a);
-    list.store_last(second, b);
+    list.stream(first, a);
+    list.stream(second, b);
 }
 
 /// Stores two registers, one after the other, where column `col` of a block is put.
@@ -55,8 +50,8 @@ fn store_two_last<T, D: Register<T>, M: Runs<T, D>>(
 /// requires some_side { 0 < D.SIDE }
 /// requires line { block.rows ≡ 4 * D.SIDE }
 /// requires room { (r : ℕ) → r < block.rows → block.to + col * block.height + r < length (M.items list.old) }
-/// requires list_fits { length (M.items list.old) < 2 ^ 63 }
-/// requires reached { (k : ℕ) → k < 4 → M.may_last (M.reach list.old) (block.to + col * block.height + k * D.SIDE) }
+/// requires len_fits { length (M.items list.old) < 2 ^ 63 }
+/// requires reached { (k : ℕ) → k < 4 → M.may_stream (M.reach list.old) (block.to + col * block.height + k * D.SIDE) }
 /// ensures stored { IsRunStored block.rows (block.to + col * block.height) (D.items a ++ D.items b)
 ///     (M.items list.old) (M.items list.new) }
 /// ensures holder { M.reach list.new ≡ M.reach list.old }
@@ -65,8 +60,8 @@ fn store_two_last<T, D: Register<T>, M: Runs<T, D>>(
 fn put_line<T, D: Register<T>, M: Runs<T, D>>(list: &mut M, block: Block, col: usize, a: D, b: D) {
     let side = D::SIDE;
     let to = block.to + col * block.height;
-    store_two_last(list, to, to + side, a);
-    store_two_last(list, to + 2 * side, to + 3 * side, b);
+    stream_two(list, to, to + side, a);
+    stream_two(list, to + 2 * side, to + 3 * side, b);
 }
 
 /// Puts `D::SIDE` columns of a block, from column `col` on. Each is stored from its first cell to its last.
@@ -79,9 +74,9 @@ fn put_line<T, D: Register<T>, M: Runs<T, D>>(list: &mut M, block: Block, col: u
 /// requires below { col + D.SIDE ≤ block.cols }
 /// requires block { BlockFits block (length (S.items source.now)) (length (M.items cells.old)) }
 /// requires reads { ColumnsReached D.SIDE block (S.may (S.reach source.now)) }
-/// requires writes { LinesReached D.SIDE block (M.may_last (M.reach cells.old)) }
-/// requires source_fits { length (S.items source.now) < 2 ^ 63 }
-/// requires cells_fit { length (M.items cells.old) < 2 ^ 63 }
+/// requires writes { LinesReached D.SIDE block (M.may_stream (M.reach cells.old)) }
+/// requires source_len_fits { length (S.items source.now) < 2 ^ 63 }
+/// requires cells_len_fits { length (M.items cells.old) < 2 ^ 63 }
 /// ensures put { ColumnsPut col (col + D.SIDE) block (S.items source.now) (M.items cells.old) (M.items cells.new) }
 /// ensures holder { M.reach cells.new ≡ M.reach cells.old }
 /// ```
@@ -118,9 +113,9 @@ fn put_some_lines<T, D: Register<T>, S: Runs<T, D>, M: Runs<T, D>>(
 /// requires inside { (r : ℕ) → r < block.rows → block.from + r * block.width + D.SIDE ≤ length (S.items source.now) }
 /// requires room { block.to + block.rows ≤ length (M.items cells.old) }
 /// requires reads { ColumnsReached D.SIDE block (S.may (S.reach source.now)) }
-/// requires writes { LinesReached D.SIDE block (M.may_last (M.reach cells.old)) }
-/// requires source_fits { length (S.items source.now) < 2 ^ 63 }
-/// requires cells_fit { length (M.items cells.old) < 2 ^ 63 }
+/// requires writes { LinesReached D.SIDE block (M.may_stream (M.reach cells.old)) }
+/// requires source_len_fits { length (S.items source.now) < 2 ^ 63 }
+/// requires cells_len_fits { length (M.items cells.old) < 2 ^ 63 }
 /// ensures put { ColumnsPut 0 block.cols block (S.items source.now) (M.items cells.old) (M.items cells.new) }
 /// ensures holder { M.reach cells.new ≡ M.reach cells.old }
 /// ```
@@ -150,9 +145,9 @@ fn put_one_line<T, D: Register<T>, S: Runs<T, D>, M: Runs<T, D>>(
 /// requires below { col < block.cols }
 /// requires block { BlockFits block (length (S.items source.now)) (length (M.items cells.old)) }
 /// requires reads { ColumnsReached D.SIDE block (S.may (S.reach source.now)) }
-/// requires writes { LinesReached D.SIDE block (M.may_last (M.reach cells.old)) }
-/// requires source_fits { length (S.items source.now) < 2 ^ 63 }
-/// requires cells_fit { length (M.items cells.old) < 2 ^ 63 }
+/// requires writes { LinesReached D.SIDE block (M.may_stream (M.reach cells.old)) }
+/// requires source_len_fits { length (S.items source.now) < 2 ^ 63 }
+/// requires cells_len_fits { length (M.items cells.old) < 2 ^ 63 }
 /// ensures put { ColumnsPut col (col + 1) block (S.items source.now) (M.items cells.old) (M.items cells.new) }
 /// ensures holder { M.reach cells.new ≡ M.reach cells.old }
 /// ```
@@ -181,7 +176,7 @@ fn put_four<T, D: Register<T>, S: Runs<T, D>, M: Runs<T, D>>(
 /// requires inside { (r : ℕ) → r < block.rows → block.from + r * block.width + D.SIDE ≤ length (S.items source.now) }
 /// requires block { BlockFits block (length (S.items source.now)) (length (M.items cells.old)) }
 /// requires reads { ColumnsReached D.SIDE block (S.may (S.reach source.now)) }
-/// requires writes { LinesReached D.SIDE block (M.may_last (M.reach cells.old)) }
+/// requires writes { LinesReached D.SIDE block (M.may_stream (M.reach cells.old)) }
 /// ensures put { IsBlockPut (block_items block) block (S.items source.now) (M.items cells.old) (M.items cells.new) }
 /// ensures holder { M.reach cells.new ≡ M.reach cells.old }
 /// ```

@@ -32,7 +32,7 @@ impl Order<4, UNIT> {
     /// # Contract
     ///
     /// ```text
-    /// ensures length_fits { length (R.items matrix.source) < 2 ^ 64 }
+    /// ensures len_fits { length (R.items matrix.source) < 2 ^ 64 }
     /// ```
     #[inline(always)]
     pub(crate) fn by_shape<R: Source + Copy>(matrix: Matrix<R>) -> Self {

@@ -96,7 +96,7 @@ pub(super) unsafe fn move_bytes<const BACK: bool>(from: *mut u8, to: *mut u8, do
     // SAFETY: each part is within the `len` bytes.
     unsafe {
         while len - done >= 16 {
-            done += move_part::<registers::Register, BACK>(from.add(done), to.add(done), 16);
+            done += move_part::<registers::Vector, BACK>(from.add(done), to.add(done), 16);
         }
         done += move_part::<registers::Half, BACK>(from.add(done), to.add(done), len);
         done += move_part::<MaybeUninit<u32>, BACK>(from.add(done), to.add(done), len);

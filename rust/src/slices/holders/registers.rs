@@ -14,7 +14,7 @@ use crate::kernels::registers;
 
 #[cfg(all(target_arch = "aarch64", target_feature = "neon", target_endian = "little"))]
 mod processor {
-    pub(super) use core::arch::aarch64::uint8x16_t as Vector;
+    pub(super) use core::arch::aarch64::uint8x16_t as Raw;
     pub(super) type Half = f64;
     pub(super) const HAS_REGISTERS: bool = true;
 }
@@ -22,7 +22,7 @@ mod processor {
 /// As a float, a half stays in a vector register.
 #[cfg(all(target_arch = "x86_64", target_feature = "sse2"))]
 mod processor {
-    pub(super) use core::arch::x86_64::__m128i as Vector;
+    pub(super) use core::arch::x86_64::__m128i as Raw;
     pub(super) type Half = f64;
     pub(super) const HAS_REGISTERS: bool = true;
 }
@@ -33,7 +33,7 @@ mod processor {
     all(target_arch = "x86_64", target_feature = "sse2")
 )))]
 mod processor {
-    pub(super) type Vector = u128;
+    pub(super) type Raw = u128;
     pub(super) type Half = u64;
     pub(super) const HAS_REGISTERS: bool = false;
 }
@@ -42,14 +42,14 @@ mod processor {
 pub(crate) const USES_REGISTERS: bool = processor::HAS_REGISTERS && MOVES_BYTES && cfg!(not(miri));
 
 /// 16 bytes.
-pub(crate) type Register = MaybeUninit<processor::Vector>;
+pub(crate) type Vector = MaybeUninit<processor::Raw>;
 
 /// 8 bytes.
 pub(crate) type Half = MaybeUninit<processor::Half>;
 
 /// A register of items of `N` bytes.
 #[derive(Clone, Copy)]
-pub(crate) struct Items<const N: usize>(Register);
+pub(crate) struct Items<const N: usize>(Vector);
 
 /// Defines registers. A line has the bytes of an item and aarch64's name of such parts of a register. Then it has the name
 /// of each function, and of its one instruction on x86-64 and on aarch64.
@@ -83,7 +83,7 @@ macro_rules! registers {
 
             #[inline(always)]
             fn from_half(first: Half) -> Self {
-                let mut register = Register::uninit();
+                let mut register = Vector::uninit();
                 // SAFETY: a register is two halves, whose bytes may be unwritten.
                 unsafe { *register.as_mut_ptr().cast() = first }
                 Items(register)
@@ -92,7 +92,7 @@ macro_rules! registers {
             #[inline(always)]
             fn halves(self) -> (Half, Half) {
                 // SAFETY: a register is two halves.
-                let [first, second] = unsafe { transmute::<Register, [Half; 2]>(self.0) };
+                let [first, second] = unsafe { transmute::<Vector, [Half; 2]>(self.0) };
                 (first, second)
             }
         }
@@ -109,4 +109,4 @@ registers! {
 }
 
 /// A register is an item of 16 bytes.
-impl registers::Single<Bytes<16>> for Register {}
+impl registers::Single<Bytes<16>> for Vector {}

@@ -15,7 +15,7 @@ pub exchange_quadrants-requires-clause-ready : goal.exchange_quadrants-requires-
 exchange_quadrants-requires-clause-ready g c =
     let same = c.transpose_square_on.ensures.transposed.same_length in
     let side : 2 * 2 ^ (c.args.log_size - 1) ≡ 2 ^ c.args.log_size = omega (arith, twice_half c.args.log_size c.if-log_size-eq0.false) in
-    rw (c.power-half.ensures, c.power-stride.ensures, side) (record { room = rw same c.requires.room; length_fits = rw same (omega arith) })
+    rw (c.power-half.ensures, c.power-stride.ensures, side) (record { room = rw same c.requires.room; len_fits = rw same (omega arith) })
 
 -- where the last quadrant begins, and that the list has room for it
 pub transpose_square_on-requires-2-clause-room : goal.transpose_square_on-requires-2-clause-room

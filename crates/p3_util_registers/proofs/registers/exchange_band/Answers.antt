@@ -3,7 +3,7 @@ use Rattle.std.proofs.Common.{inl, inr, refl, arith}
 use Rattle.std.proofs.Math.ListN.{replicate}
 use Rattle.std.proofs.lemmas.List.{get_or-replicate}
 use Rattle.p3_util_registers.specs.Registers.{items_of_four}
-use Rattle.p3_util_registers.proofs.RegistersTiles.{AreApart-rows, RowsExchanged-band}
+use Rattle.p3_util_registers.proofs.RegistersTiles.{AreDisjoint-rows, RowsExchanged-band}
 use Rattle.p3_util_registers.proofs.registers.exchange_band.Goals as goal
 
 pub store-requires-clause-apart : goal.store-requires-clause-apart
@@ -14,7 +14,7 @@ store-requires-clause-apart g c a b h k =
 
 pub store-requires-2-clause-apart : goal.store-requires-2-clause-apart
 store-requires-2-clause-apart g c =
-    AreApart-rows 8 _ (inr refl) c.requires.some_side (omega (arith, c.requires.below)) (λ s. c.args.row) c.args.x (replicate 8 c.args.row) _ (λ j h. c.requires.below)
+    AreDisjoint-rows 8 _ (inr refl) c.requires.some_side (omega (arith, c.requires.below)) (λ s. c.args.row) c.args.x (replicate 8 c.args.row) _ (λ j h. c.requires.below)
     (λ j h. get_or-replicate 8 j c.args.row 0 h) (λ k h. rw (get_or-replicate 8 k c.args.row 0 h) ((rw c.SIDE.ensures at c.in_band-in_x.ensures) k h)) c.requires.tiles.first_apart
 
 pub returns-clause-exchanged : goal.returns-clause-exchanged

@@ -3,14 +3,14 @@ use Rattle.std.proofs.Common.{arith}
 use Rattle.std.proofs.Math.ListN.{replicate}
 use Rattle.std.proofs.lemmas.List.{get_or-replicate}
 use Rattle.p3_util_registers.specs.Registers.{items_of_four}
-use Rattle.p3_util_registers.proofs.RegistersBlocks.{AreReached-block_to, AreApart-block_to, ColumnsPut-step}
+use Rattle.p3_util_registers.proofs.RegistersBlocks.{AreReached-block_to, AreDisjoint-block_to, ColumnsPut-step}
 use Rattle.p3_util_registers.proofs.registers.put_squares.Goals as goal
 
 pub starts-requires-clause-fits : goal.starts-requires-clause-fits
-starts-requires-clause-fits g c r h = omega (arith, c.requires.source_fits, c.requires.block.inside r c.args.col h (omega (arith, c.requires.square)))
+starts-requires-clause-fits g c r h = omega (arith, c.requires.source_len_fits, c.requires.block.inside r c.args.col h (omega (arith, c.requires.square)))
 
 pub starts-requires-2-clause-fits : goal.starts-requires-2-clause-fits
-starts-requires-2-clause-fits g c r h = omega (arith, c.requires.cells_fit, c.requires.block.room c.args.col r (omega arith) (omega (arith, c.requires.square)))
+starts-requires-2-clause-fits g c r h = omega (arith, c.requires.cells_len_fits, c.requires.block.room c.args.col r (omega arith) (omega (arith, c.requires.square)))
 
 pub store-requires-clause-reached : goal.store-requires-clause-reached
 store-requires-clause-reached g c =
@@ -19,7 +19,7 @@ store-requires-clause-reached g c =
 
 pub store-requires-clause-apart : goal.store-requires-clause-apart
 store-requires-clause-apart g c =
-    AreApart-block_to _ c.args.block c.args.col _ _ c.requires.some_side c.requires.known c.requires.below c.requires.square c.requires.block _ _ (replicate 8 c.args.col) (λ j h. get_or-replicate 8 j c.args.col 0 h)
+    AreDisjoint-block_to _ c.args.block c.args.col _ _ c.requires.some_side c.requires.known c.requires.below c.requires.square c.requires.block _ _ (replicate 8 c.args.col) (λ j h. get_or-replicate 8 j c.args.col 0 h)
     c.starts.ensures.are c.starts-2.ensures.are _ (λ k h. rw (get_or-replicate 8 k c.args.col 0 h) ((rw c.SIDE.ensures at c.in_band-to.ensures) k h))
 
 pub returns-clause-put : goal.returns-clause-put

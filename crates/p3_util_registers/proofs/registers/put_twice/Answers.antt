@@ -3,24 +3,24 @@ use Rattle.std.proofs.Common.{◌≡◌, ◌+◌, ◌*◌, arith}
 use Rattle.std.proofs.Math.ListN.{replicate}
 use Rattle.std.proofs.lemmas.List.{get_or-replicate}
 use Rattle.p3_util_registers.specs.Registers.{items_of_four}
-use Rattle.p3_util_registers.proofs.RegistersBlocks.{AreApart-block_to, ColumnsPut-joined, ColumnsPut-step}
+use Rattle.p3_util_registers.proofs.RegistersBlocks.{AreDisjoint-block_to, ColumnsPut-joined, ColumnsPut-step}
 use Rattle.p3_util_registers.proofs.registers.put_twice.Goals as goal
 
 pub starts-from-requires-clause-fits : goal.starts-from-requires-clause-fits
-starts-from-requires-clause-fits g c r h = omega (arith, c.requires.source_fits, c.requires.block.inside r 0 h (omega (arith, c.requires.square)))
+starts-from-requires-clause-fits g c r h = omega (arith, c.requires.source_len_fits, c.requires.block.inside r 0 h (omega (arith, c.requires.square)))
 
 pub starts-to-requires-clause-fits : goal.starts-to-requires-clause-fits
-starts-to-requires-clause-fits g c r h = omega (arith, c.requires.cells_fit, c.requires.block.room 0 r (omega arith) (omega (arith, c.requires.square)))
+starts-to-requires-clause-fits g c r h = omega (arith, c.requires.cells_len_fits, c.requires.block.room 0 r (omega arith) (omega (arith, c.requires.square)))
 
 pub store_columns-requires-clause-apart : goal.store_columns-requires-clause-apart
 store_columns-requires-clause-apart g c =
-    AreApart-block_to _ c.args.block c.args.col _ _ c.requires.some_side c.requires.known (omega (arith, c.requires.below)) c.requires.square c.requires.block _ _ (replicate 8 c.args.col)
+    AreDisjoint-block_to _ c.args.block c.args.col _ _ c.requires.some_side c.requires.known (omega (arith, c.requires.below)) c.requires.square c.requires.block _ _ (replicate 8 c.args.col)
     (λ j h. get_or-replicate 8 j c.args.col 0 h) c.starts-from.ensures.are c.starts-to.ensures.are _ (λ k h. rw (get_or-replicate 8 k c.args.col 0 h) ((rw c.SIDE-side.ensures at c.in_band.ensures) k h))
 
 pub store_columns-requires-2-clause-apart : goal.store_columns-requires-2-clause-apart
 store_columns-requires-2-clause-apart g c =
     let next = c.args.col + c.SIDE-side.result in
-    AreApart-block_to _ c.args.block next _ _ c.requires.some_side c.requires.known (omega (arith, c.SIDE-side.ensures, c.requires.below)) c.requires.square c.requires.block _ _ (replicate 8 next)
+    AreDisjoint-block_to _ c.args.block next _ _ c.requires.some_side c.requires.known (omega (arith, c.SIDE-side.ensures, c.requires.below)) c.requires.square c.requires.block _ _ (replicate 8 next)
     (λ j h. get_or-replicate 8 j next 0 h) c.starts-from.ensures.are c.starts-to.ensures.are _ (λ k h. rw (get_or-replicate 8 k next 0 h, c.SIDE-side.ensures) ((rw c.SIDE-side.ensures at c.in_band-2.ensures) k h))
 
 pub returns-clause-put : goal.returns-clause-put

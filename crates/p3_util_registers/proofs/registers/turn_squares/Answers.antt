@@ -1,7 +1,7 @@
 -- The squares of one sum are read before one of them is written.
 use Rattle.std.proofs.Common.{inr, refl}
 use Rattle.p3_util_registers.specs.Registers.{items_of_four}
-use Rattle.p3_util_registers.proofs.RegistersTiles.{AreApart-rows, AreReached-rows, SquaresTurned-step, opposite, opposite_up, side_most}
+use Rattle.p3_util_registers.proofs.RegistersTiles.{AreDisjoint-rows, AreReached-rows, SquaresTurned-step, opposite, opposite_up, side_most}
 use Rattle.p3_util_registers.proofs.registers.turn_squares.Goals as goal
 
 pub store-requires-clause-reached : goal.store-requires-clause-reached
@@ -13,7 +13,7 @@ store-requires-clause-reached g c =
 pub store-requires-clause-apart : goal.store-requires-clause-apart
 store-requires-clause-apart g c =
     let is = c.requires.some_side in
-    AreApart-rows 8 _ (inr refl) is (side_most _ is) (opposite c.args.sum) c.args.x _ _ (λ j h. opposite_up _ is _ j c.requires.sum c.requires.whole)
+    AreDisjoint-rows 8 _ (inr refl) is (side_most _ is) (opposite c.args.sum) c.args.x _ _ (λ j h. opposite_up _ is _ j c.requires.sum c.requires.whole)
     (rw c.SIDE-side.ensures at c.opposites-tops.ensures) (rw c.SIDE-side.ensures at c.in_rows.ensures) c.requires.tile.apart
 
 pub returns-clause-turned : goal.returns-clause-turned

@@ -18,11 +18,11 @@ ready : {A : Type 0} (row_width digits : ℕ) (xs : List A) → FitsRows (length
 ready row_width digits xs fits counted small several =
     let some : length xs ≡ 0 → ⊥ = λ e. absurd (omega (arith, counted, no_digits (length xs) row_width e)) in
     let rows = IsDigitsOfRows-from (length xs) row_width digits some fits counted in
-    record { wide = rows.wide; few = rows.few small; rows = rows.whole; length_fits = small }
+    record { wide = rows.wide; few = rows.few small; rows = rows.whole; len_fits = small }
 
 -- the same for a list of the same length
 kept : {A : Type 0} (row_width digits : ℕ) (xs ys : List A) → length ys ≡ length xs → HoldsRows row_width digits xs → HoldsRows row_width digits ys
-kept row_width digits xs ys same rows = record { wide = rows.wide; few = rows.few; rows = same ∙ rows.rows; length_fits = rw same rows.length_fits }
+kept row_width digits xs ys same rows = record { wide = rows.wide; few = rows.few; rows = same ∙ rows.rows; len_fits = rw same rows.len_fits }
 
 -- if all pairs are exchanged, the rows are reversed, also if there are no rows
 reversed : {A : Type 0} (row_width digits : ℕ) (xs ys : List A) → FitsRows (length xs) row_width → digits ≡ clog (length xs / row_width) → length ys ≡ length xs

@@ -11,7 +11,7 @@ pub exchange-m-requires-clause-ready : goal.exchange-m-requires-clause-ready
 exchange-m-requires-clause-ready g c =
     let same = made-length c.args.plan c.loop-part.part _ _ c.loop-part.invariant.made in
     let ready = c.requires.ready in
-    record { wide = ready.wide; few = ready.few; rows = same ∙ ready.rows; length_fits = rw same ready.length_fits }
+    record { wide = ready.wide; few = ready.few; rows = same ∙ ready.rows; len_fits = rw same ready.len_fits }
 
 pub loop-part-preserved : goal.loop-part-preserved
 loop-part-preserved g c =

@@ -19,12 +19,12 @@ load_lines-top-requires-clause-reached g c r h =
 pub overflow_mul-block : goal.overflow_mul-block
 overflow_mul-block g c =
     let half = other c.requires.some_side c.SIDE-side.ensures c.if-side-eq2.false in
-    omega (arith, c.requires.source_fits, c.requires.block.inside 8 0 (omega (arith, half, c.requires.lines)) (omega (arith, half, c.requires.below)))
+    omega (arith, c.requires.source_len_fits, c.requires.block.inside 8 0 (omega (arith, half, c.requires.lines)) (omega (arith, half, c.requires.below)))
 
 pub overflow_add-from-2 : goal.overflow_add-from-2
 overflow_add-from-2 g c =
     let half = other c.requires.some_side c.SIDE-side.ensures c.if-side-eq2.false in
-    omega (arith, c.requires.source_fits, c.requires.block.inside 8 c.args.col (omega (arith, half, c.requires.lines)) (omega (arith, half, c.requires.below)))
+    omega (arith, c.requires.source_len_fits, c.requires.block.inside 8 c.args.col (omega (arith, half, c.requires.lines)) (omega (arith, half, c.requires.below)))
 
 pub load_lines-bottom-requires-clause-inside : goal.load_lines-bottom-requires-clause-inside
 load_lines-bottom-requires-clause-inside g c r h =

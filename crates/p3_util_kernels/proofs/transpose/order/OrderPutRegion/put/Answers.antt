@@ -5,4 +5,4 @@ use Rattle.p3_util_kernels.proofs.transpose.order.OrderPutRegion.put.Goals as go
 
 pub put_split-out-requires-clause-enough : goal.put_split-out-requires-clause-enough
 put_split-out-requires-clause-enough g c =
-    omega (arith, region_levels c.args.region c.args.matrix.width c.args.matrix.height c.requires.ready.inside (omega arith) (omega arith) c.requires.ready.length_fits)
+    omega (arith, region_levels c.args.region c.args.matrix.width c.args.matrix.height c.requires.ready.inside (omega arith) (omega arith) c.requires.ready.len_fits)
