@@ -104,7 +104,7 @@ impl Grid {
     /// The places of one column in the 8 rows of a tile. `first` is the place in the first of these
     /// rows.
     #[inline(always)]
-    fn tile_column(self, first: usize) -> [usize; 8]
+    fn tile_rows(self, first: usize) -> [usize; 8]
         requires fits { PlacesFit self }
         requires tile { IsInFirstRow self first }
         ensures { (x y : ℕ) → x % 8 ≡ 0 → x + 8 ≤ 2 ^ self.digits → first ≡ row_place self x + y
@@ -188,10 +188,10 @@ fn exchange_tile_column<M: Places>(m: M, grid: Grid, col: usize, region: Region)
         let next = tile * TILE + TILE;
         // After the last tile the next one is below the region, and within the grid too.
         let below = grid.start(next);
-        let next_rows = grid.tile_column(below + col);
-        m.expect_tiles(next_rows, grid.tile_column(start + next));
-        let rows = grid.tile_column(first + col);
-        let cols = grid.tile_column(start + tile * TILE);
+        let next_rows = grid.tile_rows(below + col);
+        m.expect_tiles(next_rows, grid.tile_rows(start + next));
+        let rows = grid.tile_rows(first + col);
+        let cols = grid.tile_rows(start + tile * TILE);
         m.exchange_tiles(rows, cols);
         first = below;
     }
@@ -318,7 +318,7 @@ fn exchange_diagonal_tile<M: Places>(m: M, grid: Grid, start: usize) -> M
     ensures exchanged { SwapsInGrid grid (square_at start 8) (M.items m) (M.items result) }
     ensures holder { M.same_holder (grid.width * square_swaps 8) m result }
 {
-    let places = grid.tile_column(grid.start(start) + start);
+    let places = grid.tile_rows(grid.start(start) + start);
     let mut m = m;
     if grid.width == 1 {
         m.turn_tile(places);

@@ -12,4 +12,4 @@ pub use crate::transpose::regions::Matrix;
 #[doc(hidden)]
 pub use crate::transpose::strips::UNIT;
 #[doc(hidden)]
-pub use crate::transpose::ways::{Apart, Columns, InCols, PutRegion, put_as_block};
+pub use crate::transpose::ways::{Columns, InCols, Outlined, PutRegion, put_as_block};

@@ -144,14 +144,14 @@ fn transpose_by_shape<M: Cells, R: Source<Item = M::Item> + Copy>(out: M, matrix
 {
     match Order::by_shape(matrix) {
         Order::Columns => transpose_matrix(out, matrix, Columns),
-        _ => transpose_longer(out, matrix),
+        _ => transpose_outlined(out, matrix),
     }
 }
 
 /// Does the same as [`transpose_by_shape`]. It is not inlined, so that calls for tiny matrices stay
 /// short.
 #[inline(never)]
-fn transpose_longer<M: Cells, R: Source<Item = M::Item> + Copy>(out: M, matrix: Matrix<R>) -> M
+fn transpose_outlined<M: Cells, R: Source<Item = M::Item> + Copy>(out: M, matrix: Matrix<R>) -> M
     requires input_fits { length (R.items matrix.source) ≡ matrix.width * matrix.height }
     requires output_fits { length (M.items out) ≡ matrix.width * matrix.height }
     ensures order { IsTranspose matrix.width matrix.height (R.items matrix.source)

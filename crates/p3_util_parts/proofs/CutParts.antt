@@ -10,19 +10,19 @@ use Rattle.p3_util_parts.specs.Parts.{number_of_pair, pairs_of, part_of_matrix, 
 use Rattle.p3_util_kernels.specs.Region.{LiesInMatrix}
 
 -- a part begins below the length, and there are no more parts than the length has numbers
-pub start-below : (len step : ℕ) → 0 < step → (k : ℕ) → k < parts_in len step → k * step < len
-start-below len step some k below =
-    let next : suc k * step ≤ parts_in len step * step = mul-le-mul_right step below in
-    omega (arith, (div_ceil_times len step some).1, next)
+pub start-below : (len part_len : ℕ) → 0 < part_len → (k : ℕ) → k < parts_in len part_len → k * part_len < len
+start-below len part_len some k below =
+    let next : suc k * part_len ≤ parts_in len part_len * part_len = mul-le-mul_right part_len below in
+    omega (arith, (div_ceil_times len part_len some).1, next)
 
 -- if there is a part, the length is not 0
-pub side-cut : (len step : ℕ) → 0 < step → (k : ℕ) → k < parts_in len step → 0 < len
-side-cut len step some k below = omega (arith, start-below len step some k below)
+pub side-cut : (len part_len : ℕ) → 0 < part_len → (k : ℕ) → k < parts_in len part_len → 0 < len
+side-cut len part_len some k below = omega (arith, start-below len part_len some k below)
 
-pub parts-within : (len step : ℕ) → 0 < step → parts_in len step ≤ len
-parts-within len step some =
-    let whole : len / step * step + len % step ≡ len = div-add-mod' len step in
-    let each : len / step * 1 ≤ len / step * step = mul-le-mul_left (len / step) some in
+pub parts-within : (len part_len : ℕ) → 0 < part_len → parts_in len part_len ≤ len
+parts-within len part_len some =
+    let whole : len / part_len * part_len + len % part_len ≡ len = div-add-mod' len part_len in
+    let each : len / part_len * 1 ≤ len / part_len * part_len = mul-le-mul_left (len / part_len) some in
     omega arith
 
 -- a quotient that is rounded up is the least number that is enough
@@ -32,45 +32,45 @@ div_ceil-least a b n some enough =
     let less : div_ceil a b < n + 1 = lt_of_mul-lt-mul_right b next in
     omega arith
 
-module _ (len unit units step : ℕ) (some : 0 < unit) (most : 0 < units) (fits : len < 2 ^ 64) (step_is : step ≡ min (units * unit) (2 ^ 64 - 1)) where
-  step-some : 0 < step
+module _ (len unit units part_len : ℕ) (some : 0 < unit) (most : 0 < units) (fits : len < 2 ^ 64) (part_len_is : part_len ≡ min (units * unit) (2 ^ 64 - 1)) where
+  step-some : 0 < part_len
   step-some = let positive : 1 * 1 ≤ units * unit = mul-le-mul most some in omega (arith, positive)
 
-  -- if the step is a multiple of `unit` or at least the length, all parts begin at multiples of
+  -- if `part_len` is a multiple of `unit` or at least the length, all parts begin at multiples of
   -- `unit`
-  pub start-aligned : (k : ℕ) → k < parts_in len step → start_of len step k % unit ≡ 0
+  pub start-aligned : (k : ℕ) → k < parts_in len part_len → start_of len part_len k % unit ≡ 0
   start-aligned k below =
-      let inside : k * step < len = start-below len step step-some k below in
+      let inside : k * part_len < len = start-below len part_len step-some k below in
       elim (cases_lt (units * unit) (2 ^ 64)) [
         | inl small ↦
-            let whole : step ≡ units * unit = omega arith in
-            let start : start_of len step k ≡ k * units * unit = omega (arith, ap (λ s. k * s) whole) in
+            let whole : part_len ≡ units * unit = omega arith in
+            let start : start_of len part_len k ≡ k * units * unit = omega (arith, ap (λ s. k * s) whole) in
             rw start (mul-mod_left (k * units) unit)
         | inr large ↦
-            let alone : k * step < 1 * step = omega arith in
-            let before : k < 1 = lt_of_mul-lt-mul_right step alone in
+            let alone : k * part_len < 1 * part_len = omega arith in
+            let before : k < 1 = lt_of_mul-lt-mul_right part_len alone in
             let first : k ≡ 0 = omega arith in
-            let start : start_of len step k ≡ 0 * unit = omega (arith, ap (λ j. j * step) first) in
+            let start : start_of len part_len k ≡ 0 * unit = omega (arith, ap (λ j. j * part_len) first) in
             rw start (mul-mod_left 0 unit)
       ]
 
   -- there are at most as many parts as the caller asked for
-  pub parts-few : (parts : ℕ) → 0 < parts → units ≡ max (div_ceil (div_ceil len unit) parts) 1 → parts_in len step ≤ parts
+  pub parts-few : (parts : ℕ) → 0 < parts → units ≡ max (div_ceil (div_ceil len unit) parts) 1 → parts_in len part_len ≤ parts
   parts-few parts asked units_are =
       let a : len ≤ div_ceil len unit * unit = (div_ceil_times len unit some).0 in
       let b : div_ceil len unit ≤ div_ceil (div_ceil len unit) parts * parts = (div_ceil_times (div_ceil len unit) parts asked).0 in
       let c : div_ceil (div_ceil len unit) parts * parts ≤ units * parts = mul-le-mul_right parts (omega arith) in
       let d : div_ceil len unit * unit ≤ units * parts * unit = mul-le-mul_right unit (omega arith) in
-      let enough : len ≤ parts * step =
+      let enough : len ≤ parts * part_len =
       elim (cases_lt (units * unit) (2 ^ 64)) [
-        | inl small ↦ let whole : step ≡ units * unit = omega arith in rw whole (omega arith)
-        | inr large ↦ let one : 1 * step ≤ parts * step = mul-le-mul_right step asked in omega arith
+        | inl small ↦ let whole : part_len ≡ units * unit = omega arith in rw whole (omega arith)
+        | inr large ↦ let one : 1 * part_len ≤ parts * part_len = mul-le-mul_right part_len asked in omega arith
       ] in
-      div_ceil-least len step parts step-some enough
+      div_ceil-least len part_len parts step-some enough
 
-  -- a step of fewer whole units would make too many parts
+  -- a `part_len` of fewer whole units would make too many parts
   pub parts-least : (parts : ℕ) → 0 < parts → units ≡ max (div_ceil (div_ceil len unit) parts) 1
-      → (n : ℕ) → 0 < n → parts_in len (n * unit) ≤ parts → step ≤ n * unit
+      → (n : ℕ) → 0 < n → parts_in len (n * unit) ≤ parts → part_len ≤ n * unit
   parts-least parts asked units_are n whole few =
       let positive : 1 * 1 ≤ n * unit = mul-le-mul whole some in
       let a : len ≤ parts_in len (n * unit) * (n * unit) = (div_ceil_times len (n * unit) (omega arith)).0 in
@@ -81,42 +81,42 @@ module _ (len unit units step : ℕ) (some : 0 < unit) (most : 0 < units) (fits 
       omega (arith, e)
 
 -- the last part ends where the length does
-pub start-end : (len step : ℕ) → 0 < step → start_of len step (parts_in len step) ≡ len
-start-end len step some = omega (arith, (div_ceil_times len step some).0)
+pub start-end : (len part_len : ℕ) → 0 < part_len → start_of len part_len (parts_in len part_len) ≡ len
+start-end len part_len some = omega (arith, (div_ceil_times len part_len some).0)
 
-pub start-next : (len step k : ℕ) → start_of len step k ≤ start_of len step (k + 1)
-start-next len step k = let more : k * step ≤ (k + 1) * step = mul-le-mul_right step (omega arith) in omega (arith, more)
+pub start-next : (len part_len k : ℕ) → start_of len part_len k ≤ start_of len part_len (k + 1)
+start-next len part_len k = let more : k * part_len ≤ (k + 1) * part_len = mul-le-mul_right part_len (omega arith) in omega (arith, more)
 
 -- a part ends before a later part begins, or where it begins
-pub start-rising : (len step k l : ℕ) → k < l → start_of len step (k + 1) ≤ start_of len step l
-start-rising len step k l less = let rows : suc k * step ≤ l * step = mul-le-mul_right step less in omega (arith, rows)
+pub start-rising : (len part_len k l : ℕ) → k < l → start_of len part_len (k + 1) ≤ start_of len part_len l
+start-rising len part_len k l less = let rows : suc k * part_len ≤ l * part_len = mul-le-mul_right part_len less in omega (arith, rows)
 
 -- a number is in only one part
-pub part-same : (len step k l v : ℕ) → start_of len step k ≤ v → v < start_of len step (k + 1) → start_of len step l ≤ v → v < start_of len step (l + 1) → k ≡ l
-part-same len step k l v k_from k_to l_from l_to =
+pub part-same : (len part_len k l v : ℕ) → start_of len part_len k ≤ v → v < start_of len part_len (k + 1) → start_of len part_len l ≤ v → v < start_of len part_len (l + 1) → k ≡ l
+part-same len part_len k l v k_from k_to l_from l_to =
     elim (cases_lt k l) [
-      | inl before ↦ absurd (omega (arith, start-rising len step k l before, k_to, l_from))
+      | inl before ↦ absurd (omega (arith, start-rising len part_len k l before, k_to, l_from))
       | inr from ↦ elim (cases_lt l k) [
-        | inl after ↦ absurd (omega (arith, start-rising len step l k after, l_to, k_from))
+        | inl after ↦ absurd (omega (arith, start-rising len part_len l k after, l_to, k_from))
         | inr to ↦ omega (arith, from, to)
       ]
     ]
 
 -- each number below the length is in a part
-pub number-covered : (len step v : ℕ) → 0 < step → v < len
-    → (v / step < parts_in len step) × (start_of len step (v / step) ≤ v) × (v < start_of len step (v / step + 1))
-number-covered len step v some below =
-    let whole : v / step * step + v % step ≡ v = div-add-mod' v step in
-    let low : v % step < step = mod_below v step some in
-    let inside : v / step * step < parts_in len step * step = omega (arith, (div_ceil_times len step some).0, whole) in
-    (lt_of_mul-lt-mul_right step inside, omega arith, omega arith)
+pub number-covered : (len part_len v : ℕ) → 0 < part_len → v < len
+    → (v / part_len < parts_in len part_len) × (start_of len part_len (v / part_len) ≤ v) × (v < start_of len part_len (v / part_len + 1))
+number-covered len part_len v some below =
+    let whole : v / part_len * part_len + v % part_len ≡ v = div-add-mod' v part_len in
+    let low : v % part_len < part_len = mod_below v part_len some in
+    let inside : v / part_len * part_len < parts_in len part_len * part_len = omega (arith, (div_ceil_times len part_len some).0, whole) in
+    (lt_of_mul-lt-mul_right part_len inside, omega arith, omega arith)
 
 -- a part of a matrix lies in it
-pub part-inside : (width height : ℕ) (by_rows : Bool) (len step k : ℕ) → len ≡ (if by_rows then height else width)
-    → LiesInMatrix (part_of_matrix width height by_rows len step k) width height
-part-inside width height true len step k side =
+pub part-inside : (width height : ℕ) (by_rows : Bool) (len part_len k : ℕ) → len ≡ (if by_rows then height else width)
+    → LiesInMatrix (part_of_matrix width height by_rows len part_len k) width height
+part-inside width height true len part_len k side =
     record { rows_in_order = omega arith; rows_inside = omega arith; cols_in_order = omega arith; cols_inside = omega arith }
-part-inside width height false len step k side =
+part-inside width height false len part_len k side =
     record { rows_in_order = omega arith; rows_inside = omega arith; cols_in_order = omega arith; cols_inside = omega arith }
 
 -- the number of a pair, counted from the last pair

@@ -28,68 +28,68 @@ use Rattle.p3_util_kernels.proofs.TransposeLemmas.Region.{IsCut-cols, IsCut-rows
 use Rattle.p3_util_kernels.proofs.ReverseLemmas.SquareCounts.{squares-short}
 
 -- the rows or columns of a matrix that are before part n
-abbrev before : (width height : ℕ) (by_rows : Bool) (len step n : ℕ) → Region
-before width height by_rows len step n =
-    if by_rows then record { row_start = 0; row_end = start_of len step n; col_start = 0; col_end = width }
-    else record { row_start = 0; row_end = height; col_start = 0; col_end = start_of len step n }
+abbrev before : (width height : ℕ) (by_rows : Bool) (len part_len n : ℕ) → Region
+before width height by_rows len part_len n =
+    if by_rows then record { row_start = 0; row_end = start_of len part_len n; col_start = 0; col_end = width }
+    else record { row_start = 0; row_end = height; col_start = 0; col_end = start_of len part_len n }
 
-before-next : (width height : ℕ) (by_rows : Bool) (len step n : ℕ)
-    → IsCut (before width height by_rows len step (n + 1)) (before width height by_rows len step n) (part_of_matrix width height by_rows len step n)
-before-next width height true len step n =
-    IsCut-rows (before width height true len step (n + 1)) (start_of len step n) (omega arith) (start-next len step n)
-before-next width height false len step n =
-    IsCut-cols (before width height false len step (n + 1)) (start_of len step n) (omega arith) (start-next len step n)
+before-next : (width height : ℕ) (by_rows : Bool) (len part_len n : ℕ)
+    → IsCut (before width height by_rows len part_len (n + 1)) (before width height by_rows len part_len n) (part_of_matrix width height by_rows len part_len n)
+before-next width height true len part_len n =
+    IsCut-rows (before width height true len part_len (n + 1)) (start_of len part_len n) (omega arith) (start-next len part_len n)
+before-next width height false len part_len n =
+    IsCut-cols (before width height false len part_len (n + 1)) (start_of len part_len n) (omega arith) (start-next len part_len n)
 
-before-low : (width height : ℕ) (by_rows : Bool) (len step n : ℕ) → (0 < len → len ≡ (if by_rows then height else width))
-    → (before width height by_rows len step n).row_end ≤ height
-before-low width height true len step n side = elim (cases_eq len 0) [ inl none ↦ omega (arith, none) | inr some ↦ omega (arith, side (omega (arith, some))) ]
-before-low width height false len step n side = omega arith
+before-low : (width height : ℕ) (by_rows : Bool) (len part_len n : ℕ) → (0 < len → len ≡ (if by_rows then height else width))
+    → (before width height by_rows len part_len n).row_end ≤ height
+before-low width height true len part_len n side = elim (cases_eq len 0) [ inl none ↦ omega (arith, none) | inr some ↦ omega (arith, side (omega (arith, some))) ]
+before-low width height false len part_len n side = omega arith
 
 -- before the first part there is nothing
-before-none : (width height : ℕ) (by_rows : Bool) (len step x y : ℕ) → IsInRegion (before width height by_rows len step 0) x y → ⊥
-before-none width height true len step x y at = omega (arith, at.row_to)
-before-none width height false len step x y at = omega (arith, at.col_to)
+before-none : (width height : ℕ) (by_rows : Bool) (len part_len x y : ℕ) → IsInRegion (before width height by_rows len part_len 0) x y → ⊥
+before-none width height true len part_len x y at = omega (arith, at.row_to)
+before-none width height false len part_len x y at = omega (arith, at.col_to)
 
-before-zero : (width height : ℕ) (by_rows : Bool) (len step n : ℕ) → start_of len step n ≡ 0 → items_of (before width height by_rows len step n) ≡ 0
-before-zero width height true len step n none = rw none (omega arith)
-before-zero width height false len step n none = rw none (omega arith)
+before-zero : (width height : ℕ) (by_rows : Bool) (len part_len n : ℕ) → start_of len part_len n ≡ 0 → items_of (before width height by_rows len part_len n) ≡ 0
+before-zero width height true len part_len n none = rw none (omega arith)
+before-zero width height false len part_len n none = rw none (omega arith)
 
-before-all : (width height : ℕ) (by_rows : Bool) (len step : ℕ) → 0 < step → (if by_rows then height else width) ≡ len
-    → before width height by_rows len step (parts_in len step) ≡ record { row_start = 0; row_end = height; col_start = 0; col_end = width }
-before-all width height true len step some side = rw (start-end len step some, side) refl
-before-all width height false len step some side = rw (start-end len step some, side) refl
+before-all : (width height : ℕ) (by_rows : Bool) (len part_len : ℕ) → 0 < part_len → (if by_rows then height else width) ≡ len
+    → before width height by_rows len part_len (parts_in len part_len) ≡ record { row_start = 0; row_end = height; col_start = 0; col_end = width }
+before-all width height true len part_len some side = rw (start-end len part_len some, side) refl
+before-all width height false len part_len some side = rw (start-end len part_len some, side) refl
 
 -- the region that the first n parts of the plan put
 abbrev pub put_of : (plan : TransposePlan) (n : ℕ) → Region
-put_of plan n = before plan.width plan.height plan.by_rows plan.cut.len plan.cut.step n
+put_of plan n = before plan.width plan.height plan.by_rows plan.cut.len plan.cut.part_len n
 
 module _ (plan : TransposePlan) where
   pub put-none : {A : Type 0} (input xs : List A) → IsRegionTransposed (put_of plan 0) plan.width plan.height input xs xs
   put-none input xs = record {
     same_length = refl;
-    places = λ x y at. absurd (before-none plan.width plan.height plan.by_rows plan.cut.len plan.cut.step x y at);
+    places = λ x y at. absurd (before-none plan.width plan.height plan.by_rows plan.cut.len plan.cut.part_len x y at);
     others = λ p out. refl;
   }
 
   pub put-more : {A : Type 0} (n : ℕ) (input xs ys zs : List A) → IsRegionTransposed (put_of plan n) plan.width plan.height input xs ys
       → IsRegionTransposed (region_of plan n) plan.width plan.height input ys zs → IsRegionTransposed (put_of plan (n + 1)) plan.width plan.height input xs zs
   put-more n input xs ys zs = IsRegionTransposed-cut plan.width plan.height input (put_of plan (n + 1)) (put_of plan n) (region_of plan n) xs ys zs
-      (before-low plan.width plan.height plan.by_rows plan.cut.len plan.cut.step (n + 1) plan.side) (before-next plan.width plan.height plan.by_rows plan.cut.len plan.cut.step n)
+      (before-low plan.width plan.height plan.by_rows plan.cut.len plan.cut.part_len (n + 1) plan.side) (before-next plan.width plan.height plan.by_rows plan.cut.len plan.cut.part_len n)
 
   pub puts-zero : items_of (put_of plan 0) ≡ 0
-  puts-zero = before-zero plan.width plan.height plan.by_rows plan.cut.len plan.cut.step 0 (omega arith)
+  puts-zero = before-zero plan.width plan.height plan.by_rows plan.cut.len plan.cut.part_len 0 (omega arith)
 
   pub puts-more : (n : ℕ) → items_of (put_of plan n) + items_of (region_of plan n) ≡ items_of (put_of plan (n + 1))
-  puts-more n = (before-next plan.width plan.height plan.by_rows plan.cut.len plan.cut.step n).items
+  puts-more n = (before-next plan.width plan.height plan.by_rows plan.cut.len plan.cut.part_len n).items
 
   -- all parts together have all items
   pub put-all : {A : Type 0} (input old new : List A) → length old ≡ plan.width * plan.height
-      → IsRegionTransposed (put_of plan (parts_in plan.cut.len plan.cut.step)) plan.width plan.height input old new
-      → IsTranspose plan.width plan.height input new × (items_of (put_of plan (parts_in plan.cut.len plan.cut.step)) ≡ plan.width * plan.height)
+      → IsRegionTransposed (put_of plan (parts_in plan.cut.len plan.cut.part_len)) plan.width plan.height input old new
+      → IsTranspose plan.width plan.height input new × (items_of (put_of plan (parts_in plan.cut.len plan.cut.part_len)) ≡ plan.width * plan.height)
   put-all input old new fits done =
       elim (cases_eq plan.cut.len 0) [
         | inl none ↦
-            let empty = before-zero plan.width plan.height plan.by_rows plan.cut.len plan.cut.step (parts_in plan.cut.len plan.cut.step) (omega (arith, none)) in (
+            let empty = before-zero plan.width plan.height plan.by_rows plan.cut.len plan.cut.part_len (parts_in plan.cut.len plan.cut.part_len) (omega (arith, none)) in (
               record {
                 same_length = done.same_length ∙ fits;
                 places = λ x y hx hy. absurd (omega (arith, plan.all none, mul-pos {m = plan.width} {n = plan.height} (omega (arith, hx)) (omega (arith, hy))));
@@ -97,7 +97,7 @@ module _ (plan : TransposePlan) where
               empty ∙ sym (plan.all none),
             )
         | inr some ↦
-            let whole = before-all plan.width plan.height plan.by_rows plan.cut.len plan.cut.step plan.cut.some_step (sym (plan.side (omega (arith, some)))) in
+            let whole = before-all plan.width plan.height plan.by_rows plan.cut.len plan.cut.part_len plan.cut.some_part_len (sym (plan.side (omega (arith, some)))) in
             let put = rw whole at done in
             let rows : plan.height - 0 ≡ plan.height = omega arith in
             let cols : plan.width - 0 ≡ plan.width = omega arith in (
@@ -114,13 +114,13 @@ abbrev pub AreMade : {A : Type 0} → (plan : RowPairs) (n : ℕ) (old new : Lis
 AreMade plan n old new =
     let digits = plan.rows.digits in
     let width = plan.rows.width in
-    let step = plan.cut.step in
-    let some = plan.cut.some_step in
-    Mirrored {M = ℕ × ℕ} (place digits width step some) (λ m x y. (k : ℕ) × (k < n) × InPairs digits width step some k m x y) old new
+    let part_len = plan.cut.part_len in
+    let some = plan.cut.some_part_len in
+    Mirrored {M = ℕ × ℕ} (place digits width part_len some) (λ m x y. (k : ℕ) × (k < n) × InPairs digits width part_len some k m x y) old new
 
 -- the number of exchanges for the first n parts
 abbrev pub swaps_made : (plan : RowPairs) (n : ℕ) → ℕ
-swaps_made plan n = plan.rows.width * sum_below n (patch_swaps plan.rows.digits plan.cut.step plan.cut.some_step)
+swaps_made plan n = plan.rows.width * sum_below n (patch_swaps plan.rows.digits plan.cut.part_len plan.cut.some_part_len)
 
 pub made-none : {A : Type 0} (plan : RowPairs) (xs : List A) → AreMade plan 0 xs xs
 made-none plan xs = record { same_length = refl; crossed = λ m x y h. absurd (omega (arith, h.1)); others = λ p out. refl }
@@ -132,39 +132,39 @@ pub made-length : {A : Type 0} (plan : RowPairs) (n : ℕ) (old new : List A) �
 made-length plan n old new made = made.same_length
 
 -- one more part
-pub made-more : {A : Type 0} (plan : RowPairs) (n middle : ℕ) (region : Region) (xs ys zs : List A) → IsPatch plan.rows.digits plan.cut.step n middle region
+pub made-more : {A : Type 0} (plan : RowPairs) (n middle : ℕ) (region : Region) (xs ys zs : List A) → IsPatch plan.rows.digits plan.cut.part_len n middle region
     → AreMade plan n xs ys → SwapsInGrid (grid_of_rows (plan.rows.digits / 2) (plan.rows.digits - plan.rows.digits / 2) plan.rows.width middle) region ys zs
     → AreMade plan (n + 1) xs zs
 made-more plan n middle region xs ys zs patch done crossed =
     let digits = plan.rows.digits in
     let width = plan.rows.width in
-    let step = plan.cut.step in
-    let some = plan.cut.some_step in
-    let apart = pairs-apart digits width step some in
-    let next = pairs-exchanged digits width step some n middle region ys zs patch crossed in
+    let part_len = plan.cut.part_len in
+    let some = plan.cut.some_part_len in
+    let apart = pairs-apart digits width part_len some in
+    let next = pairs-exchanged digits width part_len some n middle region ys zs patch crossed in
     record {
       same_length = next.same_length ∙ done.same_length;
       crossed = λ m x y h.
           elim (cases_lt h.0 n) [
             | inl before ↦
-                next.others (place digits width step some m x y) (λ o v w s e. let same : h.0 ≡ n = apart h.0 n m o x y v w h.2 s e in omega (arith, before, same))
+                next.others (place digits width part_len some m x y) (λ o v w s e. let same : h.0 ≡ n = apart h.0 n m o x y v w h.2 s e in omega (arith, before, same))
                 ∙ done.crossed m x y (h.0, before, h.2)
             | inr last ↦
                 let one : h.0 ≡ n = omega (arith, last, h.1) in
-                let here : InPairs digits width step some n m x y = rw one at h.2 in
+                let here : InPairs digits width part_len some n m x y = rw one at h.2 in
                 next.crossed m x y here
-                ∙ done.others (place digits width step some m y x)
-                (λ o v w s e. let same : n ≡ s.0 = apart n s.0 m o y x v w (pairs-turned digits width step some n m x y here) s.2 e in omega (arith, s.1, same))
+                ∙ done.others (place digits width part_len some m y x)
+                (λ o v w s e. let same : n ≡ s.0 = apart n s.0 m o y x v w (pairs-turned digits width part_len some n m x y here) s.2 e in omega (arith, s.1, same))
           ];
       others = λ p out.
           next.others p (λ m x y s. out m x y (n, omega arith, s)) ∙ done.others p (λ m x y s. out m x y (s.0, omega (arith, s.1), s.2));
     }
 
-pub swaps-more : (plan : RowPairs) (n middle : ℕ) (region : Region) → IsPatch plan.rows.digits plan.cut.step n middle region
+pub swaps-more : (plan : RowPairs) (n middle : ℕ) (region : Region) → IsPatch plan.rows.digits plan.cut.part_len n middle region
     → swaps_made plan n + plan.rows.width * swaps_of_patch region ≡ swaps_made plan (n + 1)
 swaps-more plan n middle region patch =
-    let here = patch-swaps plan.rows.digits plan.cut.step plan.cut.some_step n middle region patch in
-    let next = sum_below-next n (patch_swaps plan.rows.digits plan.cut.step plan.cut.some_step) in
+    let here = patch-swaps plan.rows.digits plan.cut.part_len plan.cut.some_part_len n middle region patch in
+    let next = sum_below-next n (patch_swaps plan.rows.digits plan.cut.part_len plan.cut.some_part_len) in
     rw (here, next) (omega arith)
 
 -- all parts
@@ -178,7 +178,7 @@ made-all plan old new of made =
     let rest : digits - digits / 2 - digits / 2 ≡ digits % 2 = omega arith in
     IsRowReversal-crossed half c (omega arith) plan.rows.width old new (omega arith) (rw whole of.1) made.same_length
     (λ m x y item.
-    let (k, less, at) = patch-covered digits plan.cut.step plan.cut.some_step m.0 x y (rw rest at item.middle) item.high item.low in
+    let (k, less, at) = patch-covered digits plan.cut.part_len plan.cut.some_part_len m.0 x y (rw rest at item.middle) item.high item.low in
     made.crossed m x y (k, less, (item.item, at)))
 
 -- a plan takes as many exchanges as the reversal that is not cut
@@ -187,6 +187,6 @@ swaps-all plan len of =
     let digits : ℕ = plan.rows.digits in
     let width : ℕ = plan.rows.width in
     let rest : digits - digits / 2 - digits / 2 ≡ digits % 2 = omega arith in
-    let all = patches-sum digits plan.cut.step plan.cut.some_step ∙ rw rest at (squares-short digits) in
+    let all = patches-sum digits plan.cut.part_len plan.cut.some_part_len ∙ rw rest at (squares-short digits) in
     let rows : len / width ≡ 2 ^ digits = ap (λ n. n / width) of.1 ∙ mul-div_cancel_left (2 ^ digits) of.0 in
     ap (λ n. width * n) (all ∙ ap short_swaps (sym (clog_power (len / width) digits rows)))

@@ -79,20 +79,20 @@ module _ (plan : TransposePlan) where
   items = plan.width * plan.height
 
   abbrev count : ℕ
-  count = parts_in plan.cut.len plan.cut.step
+  count = parts_in plan.cut.len plan.cut.part_len
 
   side : (k : ℕ) → k < count → plan.cut.len ≡ (if plan.by_rows then plan.height else plan.width)
-  side k less = plan.side (side-cut plan.cut.len plan.cut.step plan.cut.some_step k less)
+  side k less = plan.side (side-cut plan.cut.len plan.cut.part_len plan.cut.some_part_len k less)
 
   inside : (k : ℕ) → k < count → LiesInMatrix (region_of plan k) plan.width plan.height
-  inside k less = part-inside plan.width plan.height plan.by_rows plan.cut.len plan.cut.step k (side k less)
+  inside k less = part-inside plan.width plan.height plan.by_rows plan.cut.len plan.cut.part_len k (side k less)
 
   abbrev part : ℕ → ℕ → Type 0
   part k p = (k < count) × IsPlaceOfRegion (region_of plan k) plan.height p
 
   pub regions-apart : (i j : ℕ) → i ≢ j → i < count → NoPlaceInCommon (IsPlaceOfRegion (region_of plan i) plan.height) (IsPlaceOfRegion (region_of plan j) plan.height)
   regions-apart i j other less p (x, y, at, e) (v, w, at', e') =
-      other (part-apart plan.width plan.height plan.cut.len plan.cut.step plan.by_rows (side i less) i j x y v w at at' (sym e ∙ e'))
+      other (part-apart plan.width plan.height plan.cut.len plan.cut.part_len plan.by_rows (side i less) i j x y v w at at' (sym e ∙ e'))
 
   place-below : (k p : ℕ) → part k p → p < items
   place-below k p (less, (x, y, at, e)) =
@@ -123,7 +123,7 @@ module _ (plan : TransposePlan) where
             | inl none ↦ absurd (omega (arith, plan.all none, mul-pos {m = plan.width} {n = plan.height} (omega (arith, hx)) (omega (arith, hy))))
             | inr some ↦ omega (arith, some)
           ] in
-          let (k, less, at) = part-covers plan.width plan.height plan.cut.len plan.cut.step plan.cut.some_step plan.by_rows (plan.side some) x y hx hy in
+          let (k, less, at) = part-covers plan.width plan.height plan.cut.len plan.cut.part_len plan.cut.some_part_len plan.by_rows (plan.side some) x y hx hy in
           of-part puts-are part apart blank (λ k p at. omega (arith, blank_fits, place-below k p at)) lists own all is k (x * plan.height + y) (less, (x, y, at, refl))
           ∙ (alone.1 k (get_or lists k []) (slice_get-get_or lists k [] (omega (arith, less, alone.0)))).1.places x y at
 
@@ -186,13 +186,13 @@ pub swaps-stay : (plan : RowPairs) (len k : ℕ) (steps : List (ℕ × ℕ)) →
     → AreOnceAmong (λ p. IsPlaceOfPart plan k p × (slice_get (numbers_below len) p ≢ slice_get (after_swaps (numbers_below len) steps) p)) (places_swapped steps)
 swaps-stay plan len k steps of (middle, region, patch, crossed, many) =
     let rows = plan.rows in
-    let some = plan.cut.some_step in
-    pairs-steps rows.digits rows.width plan.cut.step k some middle region patch (numbers_below len) _ steps (numbers-length len ∙ of.1) (numbers-differ len) refl
-    (pairs-exchanged rows.digits rows.width plan.cut.step some k middle region (numbers_below len) _ patch crossed) many
+    let some = plan.cut.some_part_len in
+    pairs-steps rows.digits rows.width plan.cut.part_len k some middle region patch (numbers_below len) _ steps (numbers-length len ∙ of.1) (numbers-differ len) refl
+    (pairs-exchanged rows.digits rows.width plan.cut.part_len some k middle region (numbers_below len) _ patch crossed) many
 
 pub parts-apart : (plan : RowPairs) (i j : ℕ) → i ≢ j → NoPlaceInCommon (IsPlaceOfPart plan i) (IsPlaceOfPart plan j)
 parts-apart plan i j other p (m, t, x, y, less, at, e) (n, u, v, w, less', at', e') =
-    other (pairs-apart plan.rows.digits plan.rows.width plan.cut.step plan.cut.some_step i j (m, t) (n, u) x y v w (less, at) (less', at') (sym e ∙ e'))
+    other (pairs-apart plan.rows.digits plan.rows.width plan.cut.part_len plan.cut.some_part_len i j (m, t) (n, u) x y v w (less, at) (less', at') (sym e ∙ e'))
 
 -- patches of pairs of rows, on the list of numbers
 module _ (plan : RowPairs) (len : ℕ) (of : IsReversalPlan len plan) (lists : List (List (ℕ × ℕ))) (all : List (ℕ × ℕ))
@@ -212,7 +212,7 @@ module _ (plan : RowPairs) (len : ℕ) (of : IsReversalPlan len plan) (lists : L
 
   pair-inside : (k p : ℕ) → IsPlaceOfPart plan k p → p < length (numbers_below len)
   pair-inside k p (m, t, x, y, less, at, e) =
-      rw e (pairs-inside digits width plan.cut.step plan.cut.some_step (length (numbers_below len)) k (m, t) x y (numbers-length len ∙ of.1) (less, at))
+      rw e (pairs-inside digits width plan.cut.part_len plan.cut.some_part_len (length (numbers_below len)) k (m, t) x y (numbers-length len ∙ of.1) (less, at))
 
   all-reversed : IsRowReversal width (numbers_below len) (after_swaps (numbers_below len) all)
   all-reversed =
@@ -223,11 +223,11 @@ module _ (plan : RowPairs) (len : ℕ) (of : IsReversalPlan len plan) (lists : L
       IsRowReversal-crossed half c (omega arith) width (numbers_below len) (after_swaps (numbers_below len) all) (omega arith) (rw whole (numbers-length len ∙ of.1))
       (after-length swaps-are all (numbers_below len))
       (λ m x y item.
-      let (k, less, at) = patch-covered digits plan.cut.step plan.cut.some_step m.0 x y (rw rest at item.middle) item.high item.low in
+      let (k, less, at) = patch-covered digits plan.cut.part_len plan.cut.some_part_len m.0 x y (rw rest at item.middle) item.high item.low in
       let (middle, region, patch, crossed, many) = alone.1 k (get_or lists k []) (slice_get-get_or lists k [] (omega (arith, less, alone.0))) in
       of-part swaps-are (IsPlaceOfPart plan) (parts-apart plan) (numbers_below len) pair-inside lists own-pairs all is k
-      (place digits width plan.cut.step plan.cut.some_step m x y) (m.0, m.1, x, y, item.item, at, refl)
-      ∙ (pairs-exchanged digits width plan.cut.step plan.cut.some_step k middle region (numbers_below len) _ patch crossed).crossed m x y (item.item, at))
+      (place digits width plan.cut.part_len plan.cut.some_part_len m x y) (m.0, m.1, x, y, item.item, at, refl)
+      ∙ (pairs-exchanged digits width plan.cut.part_len plan.cut.some_part_len k middle region (numbers_below len) _ patch crossed).crossed m x y (item.item, at))
 
   all-counted : length all ≡ row_swaps len width
   all-counted =

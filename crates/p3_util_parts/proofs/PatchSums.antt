@@ -160,12 +160,12 @@ pairs-sum n f =
     let low : (last * n + first) % n ≡ first = mod-mul-add last n first start in
     (last * n + first, omega (arith, more), rw (high, low) (le-leb first last (omega arith)), rw (high, low) (pair-number n k _ first last less refl refl refl)))
 
-module _ (side step : ℕ) (some : 0 < step) where
+module _ (side part_len : ℕ) (some : 0 < part_len) where
   abbrev n : ℕ
-  n = parts_in side step
+  n = parts_in side part_len
 
   abbrev start : ℕ → ℕ
-  start k = start_of side step k
+  start k = start_of side part_len k
 
   -- the number of exchanges of the patch of parts i and j, and of the patches of the pair with this number
   abbrev swaps_of_pair : ℕ → ℕ → ℕ
@@ -194,9 +194,9 @@ module _ (side step : ℕ) (some : 0 < step) where
       (λ k less.
       elim (cases_lt k j) [
         | inl above ↦
-            let apart : start k ≢ start j = λ e. omega (arith, e, start-rising side step k j above, start-below side step some k less) in
+            let apart : start k ≢ start j = λ e. omega (arith, e, start-rising side part_len k j above, start-below side part_len some k less) in
             let here : (if nat_le k j then swaps_of_pair k j else 0) ≡ (start (k + 1) - start k) * len = rw (le-leb k j (omega arith), ne_eqb (start k) (start j) apart) refl in
-            omega (arith, here, in_column k (omega arith), in_column (k + 1) (omega arith), mul-parts_left (start k) (start (k + 1) - start k) (start (k + 1)) len (omega (arith, start-next side step k)))
+            omega (arith, here, in_column k (omega arith), in_column (k + 1) (omega arith), mul-parts_left (start k) (start (k + 1) - start k) (start (k + 1)) len (omega (arith, start-next side part_len k)))
         | inr from ↦
             elim (cases_eq k j) [
               | inl same ↦
@@ -209,7 +209,7 @@ module _ (side step : ℕ) (some : 0 < step) where
                   omega (arith, here, beyond k right, beyond (k + 1) (omega (arith, right)))
             ]
       ]) in
-      let whole : start j + len ≡ start (j + 1) = omega (arith, start-next side step j) in
+      let whole : start j + len ≡ start (j + 1) = omega (arith, start-next side part_len j) in
       let grown : square_swaps (start (j + 1)) ≡ square_swaps (start j) + start j * len + square_swaps len = rw whole at (pairs-add (start j) len) in
       let first : before 0 ≡ 0 = in_column 0 (omega arith) ∙ (let none : start 0 ≡ 0 = omega arith in ap (λ m. m * len) none ∙ omega arith) in
       omega (arith, sum, first, beyond n below, grown)
@@ -228,28 +228,28 @@ module _ (side step : ℕ) (some : 0 < step) where
             (number-swaps (q % n) (q / n) (omega (arith, upper)) (div_below q n n (pos_of_ne-zero (λ none. omega (arith, less, ap (λ m. m * n) none))) less))
       ]) in
       let columns = sum_below-steps n (λ j. sum_below n (λ i. if nat_le i j then swaps_of_pair i j else 0)) (λ j. square_swaps (start j)) column-swaps in
-      let end = start-end side step some in
+      let end = start-end side part_len some in
       let none : square_swaps (start 0) ≡ 0 = let zero_first : start 0 ≡ 0 = omega arith in rw zero_first refl in
       sym (pairs-sum n swaps_of_number) ∙ pairs ∙ rows ∙ omega (arith, rw end at columns, none)
 
 -- the patches of all grids
-module _ (digits step : ℕ) (some : 0 < step) where
+module _ (digits part_len : ℕ) (some : 0 < part_len) where
   abbrev grids : ℕ
   grids = 2 ^ (digits % 2)
 
   abbrev pub patch_swaps : ℕ → ℕ
-  patch_swaps number = swaps_of_number (2 ^ (digits / 2)) step some (number / grids)
+  patch_swaps number = swaps_of_number (2 ^ (digits / 2)) part_len some (number / grids)
 
-  pub patch-swaps : (k middle : ℕ) (region : Region) → IsPatch digits step k middle region → swaps_of_patch region ≡ patch_swaps k
+  pub patch-swaps : (k middle : ℕ) (region : Region) → IsPatch digits part_len k middle region → swaps_of_patch region ≡ patch_swaps k
   patch-swaps k middle region patch =
-      let n : ℕ = parts_in (2 ^ (digits / 2)) step in
+      let n : ℕ = parts_in (2 ^ (digits / 2)) part_len in
       let number : k / grids ≡ number_of_pair n patch.row patch.col = ap (λ m. m / grids) patch.number_is ∙ div-mul-add (number_of_pair n patch.row patch.col) grids middle patch.middle_below in
-      rw (number, patch.region_is) (sym (number-swaps (2 ^ (digits / 2)) step some patch.row patch.col patch.in_order patch.below))
+      rw (number, patch.region_is) (sym (number-swaps (2 ^ (digits / 2)) part_len some patch.row patch.col patch.in_order patch.below))
 
-  pub patches-sum : sum_below (patches_of digits step) patch_swaps ≡ grids * square_swaps (2 ^ (digits / 2))
+  pub patches-sum : sum_below (patches_of digits part_len) patch_swaps ≡ grids * square_swaps (2 ^ (digits / 2))
   patches-sum =
       let side : ℕ = 2 ^ (digits / 2) in
-      let n : ℕ = pairs_of (parts_in side step) in
-      sum-rows n grids (λ r i. swaps_of_number side step some r)
-      ∙ sum_below-same n (λ r. sum_below grids (λ i. swaps_of_number side step some r)) (λ r. grids * swaps_of_number side step some r) (λ r less. sum-constant grids (swaps_of_number side step some r))
-      ∙ sum_below-scale grids n (swaps_of_number side step some) ∙ ap (λ m. grids * m) (square-sum side step some)
+      let n : ℕ = pairs_of (parts_in side part_len) in
+      sum-rows n grids (λ r i. swaps_of_number side part_len some r)
+      ∙ sum_below-same n (λ r. sum_below grids (λ i. swaps_of_number side part_len some r)) (λ r. grids * swaps_of_number side part_len some r) (λ r less. sum-constant grids (swaps_of_number side part_len some r))
+      ∙ sum_below-scale grids n (swaps_of_number side part_len some) ∙ ap (λ m. grids * m) (square-sum side part_len some)

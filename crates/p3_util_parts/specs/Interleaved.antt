@@ -27,7 +27,7 @@ numbers_below n = range_with_len 0 n
 
 -- the region of part k of the plan
 abbrev pub region_of : (plan : TransposePlan) (k : ℕ) → Region
-region_of plan k = part_of_matrix plan.width plan.height plan.by_rows plan.cut.len plan.cut.step k
+region_of plan k = part_of_matrix plan.width plan.height plan.by_rows plan.cut.len plan.cut.part_len k
 
 -- The writes `steps`, made on `old` without those of any other part, put the transpose of the
 -- region of part k. There is one write for each item of the region

@@ -13,29 +13,29 @@ pub record FollowEachOther (count len : ℕ) (start : ℕ → ℕ) : Type 0 wher
   pub last : start count ≡ len
   pub rising : (k : ℕ) → k < count → start k < start (k + 1)
 
--- the number of parts when the numbers below `len` are cut into parts of `step` numbers. The last
--- part may have fewer
-abbrev pub parts_in : (len step : ℕ) → ℕ
-parts_in len step = div_ceil len step
+-- the number of parts when the numbers below `len` are cut into parts of `part_len` numbers. The
+-- last part may have fewer
+abbrev pub parts_in : (len part_len : ℕ) → ℕ
+parts_in len part_len = div_ceil len part_len
 
--- Parts of `step` numbers are no longer than necessary. Take any positive multiple L of `unit`. If
--- parts of L numbers cut the numbers below `len` into at most `parts` parts, then L is at least
--- `step`. If `parts` is 0, it counts as 1.
-abbrev pub IsLeastStep : (parts unit len step : ℕ) → Type 0
-IsLeastStep parts unit len step = (units : ℕ) → 0 < units → parts_in len (units * unit) ≤ max parts 1 → step ≤ units * unit
+-- Parts of `part_len` numbers are no longer than necessary. Take any positive multiple L of `unit`.
+-- If parts of L numbers cut the numbers below `len` into at most `parts` parts, then L is at least
+-- `part_len`. If `parts` is 0, it counts as 1.
+abbrev pub IsLeastPartLen : (parts unit len part_len : ℕ) → Type 0
+IsLeastPartLen parts unit len part_len = (units : ℕ) → 0 < units → parts_in len (units * unit) ≤ max parts 1 → part_len ≤ units * unit
 
--- where part k begins when the numbers below `len` are cut into parts of `step` numbers: at
--- `k * step`, or at `len` if that is less
-abbrev pub start_of : (len step k : ℕ) → ℕ
-start_of len step k = min (k * step) len
+-- where part k begins when the numbers below `len` are cut into parts of `part_len` numbers: at
+-- `k * part_len`, or at `len` if that is less
+abbrev pub start_of : (len part_len k : ℕ) → ℕ
+start_of len part_len k = min (k * part_len) len
 
 -- the region of part k when a matrix of `height` rows of `width` items is cut. If `by_rows` is
--- true, its `len` rows are cut into parts of `step` rows, and the region has all columns. Otherwise
--- its `len` columns are cut in the same way, and the region has all rows
-abbrev pub part_of_matrix : (width height : ℕ) (by_rows : Bool) (len step k : ℕ) → Region
-part_of_matrix width height by_rows len step k =
-    if by_rows then record { row_start = start_of len step k; row_end = start_of len step (k + 1); col_start = 0; col_end = width }
-    else record { row_start = 0; row_end = height; col_start = start_of len step k; col_end = start_of len step (k + 1) }
+-- true, its `len` rows are cut into parts of `part_len` rows, and the region has all columns.
+-- Otherwise its `len` columns are cut in the same way, and the region has all rows
+abbrev pub part_of_matrix : (width height : ℕ) (by_rows : Bool) (len part_len k : ℕ) → Region
+part_of_matrix width height by_rows len part_len k =
+    if by_rows then record { row_start = start_of len part_len k; row_end = start_of len part_len (k + 1); col_start = 0; col_end = width }
+    else record { row_start = 0; row_end = height; col_start = start_of len part_len k; col_end = start_of len part_len (k + 1) }
 
 -- the number of pairs of n parts, if each part makes a pair with itself and with each later part:
 -- `n * (n + 1) / 2`

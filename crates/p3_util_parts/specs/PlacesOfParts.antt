@@ -22,14 +22,14 @@ IsPlaceOfRegion region height p = (x y : ℕ) × IsInRegion region x y × (p ≡
 
 -- row a and column b of the grid of `middle` lie in the patch with this number or in its mirror
 -- image
-abbrev pub IsInPatch : (digits step number middle a b : ℕ) → Type 0
-IsInPatch digits step number middle a b =
-    (region : Region) × IsPatch digits step number middle region × IsInRegion region (max a b) (min a b)
+abbrev pub IsInPatch : (digits part_len number middle a b : ℕ) → Type 0
+IsInPatch digits part_len number middle a b =
+    (region : Region) × IsPatch digits part_len number middle region × IsInRegion region (max a b) (min a b)
 
 -- p is a place of part `number` of the plan: a place in one of the rows that the patch with this
 -- number exchanges. A row that stays where it is counts as a pair with itself
 abbrev pub IsPlaceOfPart : (plan : RowPairs) (number p : ℕ) → Type 0
 IsPlaceOfPart plan number p =
     let half = plan.rows.digits / 2 in
-    (m t x y : ℕ) × (t < plan.rows.width) × IsInPatch plan.rows.digits plan.cut.step number m x y
+    (m t x y : ℕ) × (t < plan.rows.width) × IsInPatch plan.rows.digits plan.cut.part_len number m x y
     × (p ≡ row_of half (plan.rows.digits - half) m x y * plan.rows.width + t)

@@ -11,9 +11,9 @@ IsReversalPlan len plan = (0 < plan.rows.width) × (len ≡ plan.rows.width * 2 
 
 -- the number of parts of a plan
 abbrev pub parts_of : (plan : RowPairs) → ℕ
-parts_of plan = patches_of plan.rows.digits plan.cut.step
+parts_of plan = patches_of plan.rows.digits plan.cut.part_len
 
 -- Part `number` of the plan turns `old` into `new`, and `Steps` holds for the number of its
 -- exchanges. The part exchanges the pairs of rows of a patch.
 abbrev pub IsPartMade : {A : Type 0} → (plan : RowPairs) (number : ℕ) (old new : List A) (Steps : ℕ → Type 0) → Type 0
-IsPartMade plan number old new Steps = IsPatchExchanged plan.rows.digits plan.rows.width plan.cut.step number old new Steps
+IsPartMade plan number old new Steps = IsPatchExchanged plan.rows.digits plan.rows.width plan.cut.part_len number old new Steps

@@ -13,7 +13,7 @@
 ghost use Rattle.std.specs.Prelude.{length, ◌≡◌, ℕ, ◌+◌, ◌-◌, ◌*◌, ◌/◌, ◌%◌, ◌^◌, ◌<◌, ◌≤◌, ◌==◌, if◌then◌else◌, max};
 ghost use Rattle.p3_util_parts.specs.Patches.{IsPatch, IsPatchExchanged, patches_of};
 ghost use Rattle.p3_util_kernels.specs.Crossing.{HoldsRows};
-ghost use Rattle.p3_util_parts.specs.Parts.{FollowEachOther, IsLeastStep, number_of_pair, pairs_of, part_of_matrix, parts_in, start_of};
+ghost use Rattle.p3_util_parts.specs.Parts.{FollowEachOther, IsLeastPartLen, number_of_pair, pairs_of, part_of_matrix, parts_in, start_of};
 ghost use Rattle.p3_util_kernels.specs.Region.{LiesInMatrix};
 ghost use Rattle.p3_util_kernels.specs.Reversal.{FitsRows};
 
@@ -25,13 +25,13 @@ use p3_util_kernels::places::Places;
 use p3_util_kernels::transpose::Region;
 pub(crate) use transpose::TransposePlan;
 
-/// The numbers below `len`, cut into parts of `step` consecutive numbers. The last part may have
-/// fewer.
+/// The numbers below `len`, cut into parts of `part_len` consecutive numbers. The last part may
+/// have fewer.
 #[derive(Clone, Copy, Debug)]
 pub(crate) struct Cut {
     len: usize,
-    step: usize,
-    pub ghost some_step: { 0 < step },
+    part_len: usize,
+    pub ghost some_part_len: { 0 < part_len },
 }
 
 impl Cut {
@@ -40,43 +40,43 @@ impl Cut {
     pub(crate) fn new(len: usize, parts: usize, unit: usize) -> Cut
         requires { 0 < unit }
         ensures len { result.len ≡ len }
-        ensures few { parts_in result.len result.step ≤ max parts 1 }
-        ensures units { (k : ℕ) → k < parts_in result.len result.step
-            → start_of result.len result.step k % unit ≡ 0 }
-        ensures least { IsLeastStep parts unit result.len result.step }
+        ensures few { parts_in result.len result.part_len ≤ max parts 1 }
+        ensures units { (k : ℕ) → k < parts_in result.len result.part_len
+            → start_of result.len result.part_len k % unit ≡ 0 }
+        ensures least { IsLeastPartLen parts unit result.len result.part_len }
     {
         let units = len.div_ceil(unit).div_ceil(parts.max(1));
         Cut {
             len,
-            step: units.max(1).saturating_mul(unit),
+            part_len: units.max(1).saturating_mul(unit),
         }
     }
 
     /// The number of parts, which is 0 if `len` is 0.
     pub(crate) fn count(self) -> usize
-        ensures count { result ≡ parts_in self.len self.step }
-        ensures parts { FollowEachOther result self.len (start_of self.len self.step) }
+        ensures count { result ≡ parts_in self.len self.part_len }
+        ensures parts { FollowEachOther result self.len (start_of self.len self.part_len) }
     {
-        self.len.div_ceil(self.step)
+        self.len.div_ceil(self.part_len)
     }
 
     /// The first number of part `k`, and the number after its last one.
     pub(crate) fn part(self, k: usize) -> (usize, usize)
-        requires { k < parts_in self.len self.step }
-        ensures from { result.0 ≡ start_of self.len self.step k }
-        ensures to { result.1 ≡ start_of self.len self.step (k + 1) }
+        requires { k < parts_in self.len self.part_len }
+        ensures from { result.0 ≡ start_of self.len self.part_len k }
+        ensures to { result.1 ≡ start_of self.len self.part_len (k + 1) }
     {
-        let from = k * self.step;
-        (from, from + self.step.min(self.len - from))
+        let from = k * self.part_len;
+        (from, from + self.part_len.min(self.len - from))
     }
 
     /// Part `k` of a matrix. This cut divides the rows of the matrix if `by_rows` is true, and its
     /// columns otherwise.
     pub(crate) fn region<R>(self, matrix: &Matrix<R>, by_rows: bool, k: usize) -> Region
         requires side { self.len ≡ if by_rows then matrix.now.height else matrix.now.width }
-        requires below { k < parts_in self.len self.step }
+        requires below { k < parts_in self.len self.part_len }
         ensures region { result ≡ part_of_matrix matrix.now.width matrix.now.height by_rows
-            self.len self.step k }
+            self.len self.part_len k }
         ensures inside { LiesInMatrix result matrix.now.width matrix.now.height }
     {
         let whole = matrix.whole();
@@ -90,8 +90,8 @@ impl Cut {
 
     /// The number of pairs of parts: each part with itself and with each later one.
     pub(crate) fn pairs(self) -> usize
-        requires { parts_in self.len self.step < 2 ^ 32 }
-        ensures { result ≡ pairs_of (parts_in self.len self.step) }
+        requires { parts_in self.len self.part_len < 2 ^ 32 }
+        ensures { result ≡ pairs_of (parts_in self.len self.part_len) }
     {
         let count = self.count();
         count * (count + 1) / 2
@@ -101,11 +101,11 @@ impl Cut {
     /// parts lay in a circle, those of the parts that are farthest from each other first. The pairs
     /// of a part with itself come last.
     pub(crate) fn pair(self, number: usize) -> (usize, usize)
-        requires few { parts_in self.len self.step < 2 ^ 32 }
-        requires below { number < pairs_of (parts_in self.len self.step) }
+        requires few { parts_in self.len self.part_len < 2 ^ 32 }
+        requires below { number < pairs_of (parts_in self.len self.part_len) }
         ensures in_order { result.0 ≤ result.1 }
-        ensures below { result.1 < parts_in self.len self.step }
-        ensures number { number_of_pair (parts_in self.len self.step) result.0 result.1 ≡ number }
+        ensures below { result.1 < parts_in self.len self.part_len }
+        ensures number { number_of_pair (parts_in self.len self.part_len) result.0 result.1 ≡ number }
     {
         let count = self.count();
         let number = self.pairs() - 1 - number;
@@ -124,7 +124,7 @@ pub(crate) struct RowPairs {
     cut: Cut,
     pub ghost digits: { rows.digits < 64 },
     pub ghost side: { cut.len ≡ 2 ^ (rows.digits / 2) },
-    pub ghost few: { parts_in cut.len cut.step < 2 ^ 32 },
+    pub ghost few: { parts_in cut.len cut.part_len < 2 ^ 32 },
 }
 
 impl RowPairs {
@@ -135,9 +135,9 @@ impl RowPairs {
         requires { FitsRows len row_width }
         ensures width { result.rows.width ≡ row_width }
         ensures rows { 0 < len → (0 < row_width) × (len ≡ row_width * 2 ^ result.rows.digits) }
-        ensures few { parts_in result.cut.len result.cut.step ≤ max parts 1 }
-        ensures least { IsLeastStep parts (if row_width == 1 then TILE else 1) result.cut.len
-            result.cut.step }
+        ensures few { parts_in result.cut.len result.cut.part_len ≤ max parts 1 }
+        ensures least { IsLeastPartLen parts (if row_width == 1 then TILE else 1) result.cut.len
+            result.cut.part_len }
     {
         let rows = RowDigits::of(len, row_width);
         let unit = if row_width == 1 { TILE } else { 1 };
@@ -147,7 +147,7 @@ impl RowPairs {
 
     /// The number of patches that are on the diagonal of their grid or above it.
     pub(crate) fn count(self) -> usize
-        ensures { result ≡ patches_of self.rows.digits self.cut.step }
+        ensures { result ≡ patches_of self.rows.digits self.cut.part_len }
     {
         self.cut.pairs() * pow2(self.rows.digits % 2)
     }
@@ -156,8 +156,8 @@ impl RowPairs {
     /// columns in that grid. The patches on the diagonals come last. They have half as many pairs as
     /// the others.
     fn patch(self, number: usize) -> (usize, Region)
-        requires { number < patches_of self.rows.digits self.cut.step }
-        ensures { IsPatch self.rows.digits self.cut.step number result.0 result.1 }
+        requires { number < patches_of self.rows.digits self.cut.part_len }
+        ensures { IsPatch self.rows.digits self.cut.part_len number result.0 result.1 }
     {
         let grids = pow2(self.rows.digits % 2);
         let (first, second) = self.cut.pair(number / grids);
@@ -173,10 +173,10 @@ impl RowPairs {
     }
 
     /// Exchanges the two rows of each pair in patch `number`.
-    pub(crate) fn exchange<M: Places>(self, m: M, number: usize) -> M
-        requires below { number < patches_of self.rows.digits self.cut.step }
+    pub(crate) fn exchange_patch<M: Places>(self, m: M, number: usize) -> M
+        requires below { number < patches_of self.rows.digits self.cut.part_len }
         requires ready { HoldsRows self.rows.width self.rows.digits (M.items m) }
-        ensures { IsPatchExchanged self.rows.digits self.rows.width self.cut.step number
+        ensures { IsPatchExchanged self.rows.digits self.rows.width self.cut.part_len number
             (M.items m) (M.items result) (λ n. M.same_holder n m result) }
     {
         let (middle, region) = self.patch(number);

@@ -1,6 +1,6 @@
 //! Puts a region by *lines*: by the cache lines of the output, from the first cell of a line to its last.
 //!
-//! The region is put chunk after chunk. A *chunk* has 1024 columns, and is put by rows of lines, from top to bottom. A *row of
+//! The region is put panel after panel. A *panel* has 1024 columns, and is put by rows of lines, from top to bottom. A *row of
 //! lines* has one line of each of these columns. If the height of the matrix is no multiple of a line, the columns of a row
 //! of lines begin in different rows of the matrix. The first and the last row of lines have the parts of lines at the ends of
 //! the columns.
@@ -9,7 +9,7 @@ ghost use Rattle.std.specs.Prelude.{◌≡◌, ℕ, ◌+◌, ◌^◌, ◌<◌, �
 ghost use Rattle.p3_util_registers.specs.Lines.{IsPutTo, cells_before, items_to, limit};
 ghost use Rattle.p3_util_kernels.specs.Region.{IsReady, IsRegionTransposed, items_of, rows_of};
 
-use p3_util_kernels::kernel::{Apart, Columns, InCols, Matrix, PutRegion, put_as_block};
+use p3_util_kernels::kernel::{Columns, InCols, Matrix, Outlined, PutRegion, put_as_block};
 use p3_util_kernels::places::{Cells, Source};
 use p3_util_kernels::transpose::Region;
 
@@ -112,18 +112,18 @@ impl PutRegion for Lines {
         matrix: Matrix<R>,
         region: Region,
     ) -> M {
-        let chunk = Chunk(self);
-        InCols::<LINE_COLUMNS, _, _>(chunk, chunk).put(out, matrix, region)
+        let panel = Panel(self);
+        InCols::<LINE_COLUMNS, _, _>(panel, panel).put(out, matrix, region)
     }
 }
 
-/// Puts a region by these lines in one chunk: its rows of lines from top to bottom, each from left to right. In the rows of
+/// Puts a region by these lines in one panel: its rows of lines from top to bottom, each from left to right. In the rows of
 /// lines at the top and at the bottom, a column may have a part of a line. There each column is put by itself, or all columns
 /// are put column after column, if they begin at the same cell of a line.
 #[derive(Clone, Copy)]
-struct Chunk(Lines);
+struct Panel(Lines);
 
-impl PutRegion for Chunk {
+impl PutRegion for Panel {
     #[inline(never)]
     fn put<M: Cells, R: Source<Item = M::Item> + Copy>(
         self,
@@ -133,7 +133,7 @@ impl PutRegion for Chunk {
     ) -> M {
         let lines = self.0;
         if region.row_end > MOST_ROWS || region.col_start == region.col_end {
-            return Apart(Columns).put(out, matrix, region);
+            return Outlined(Columns).put(out, matrix, region);
         }
         let skew = matrix.height & (lines.cells - 1);
         let most = lines.most_before(region, skew);
@@ -146,7 +146,7 @@ impl PutRegion for Chunk {
             } else if skew == 0 {
                 let from = lines.limit(region, skew, region.col_start, done);
                 let to = lines.limit(region, skew, region.col_start, next);
-                out = Apart(Columns).put(out, matrix, region.with_rows(from, to));
+                out = Outlined(Columns).put(out, matrix, region.with_rows(from, to));
             } else {
                 for col in region.col_start..region.col_end {
                     let from = lines.limit(region, skew, col, done);

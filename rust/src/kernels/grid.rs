@@ -113,7 +113,7 @@ impl Grid {
     ///     → (t : ℕ) → t < 8 → slice_index result t ≡ row_place self (x + t) + y }
     /// ```
     #[inline(always)]
-    fn tile_column(self, first: usize) -> [usize; 8] {
+    fn tile_rows(self, first: usize) -> [usize; 8] {
         // If 8 divides `x`, row `x + t` begins as far from row `x` as these distances say, one for each
         // binary digit of `t` that is set.
         let RowDistances { one, two, four } = self.row_distances();
@@ -204,10 +204,10 @@ fn exchange_tile_column<M: Places>(m: M, grid: Grid, col: usize, region: Region)
         let next = tile * TILE + TILE;
         // After the last tile the next one is below the region, and within the grid too.
         let below = grid.start(next);
-        let next_rows = grid.tile_column(below + col);
-        m.expect_tiles(next_rows, grid.tile_column(start + next));
-        let rows = grid.tile_column(first + col);
-        let cols = grid.tile_column(start + tile * TILE);
+        let next_rows = grid.tile_rows(below + col);
+        m.expect_tiles(next_rows, grid.tile_rows(start + next));
+        let rows = grid.tile_rows(first + col);
+        let cols = grid.tile_rows(start + tile * TILE);
         m.exchange_tiles(rows, cols);
         first = below;
     }
@@ -357,7 +357,7 @@ fn exchange_on_diagonal<M: Places>(m: M, grid: Grid, start: usize, size: usize) 
 /// ```
 #[inline(always)]
 fn exchange_diagonal_tile<M: Places>(m: M, grid: Grid, start: usize) -> M {
-    let places = grid.tile_column(grid.start(start) + start);
+    let places = grid.tile_rows(grid.start(start) + start);
     let mut m = m;
     if grid.width == 1 {
         m.turn_tile(places);

@@ -18,12 +18,12 @@ use crate::kernels::places::Places;
 use crate::kernels::transpose::Region;
 pub(crate) use transpose::TransposePlan;
 
-/// The numbers below `len`, cut into parts of `step` consecutive numbers. The last part may have
-/// fewer.
+/// The numbers below `len`, cut into parts of `part_len` consecutive numbers. The last part may
+/// have fewer.
 #[derive(Clone, Copy, Debug)]
 pub(crate) struct Cut {
     len: usize,
-    step: usize,
+    part_len: usize,
 }
 
 impl Cut {
@@ -35,16 +35,16 @@ impl Cut {
     /// ```text
     /// requires { 0 < unit }
     /// ensures len { result.len ≡ len }
-    /// ensures few { parts_in result.len result.step ≤ max parts 1 }
-    /// ensures units { (k : ℕ) → k < parts_in result.len result.step
-    ///     → start_of result.len result.step k % unit ≡ 0 }
-    /// ensures least { IsLeastStep parts unit result.len result.step }
+    /// ensures few { parts_in result.len result.part_len ≤ max parts 1 }
+    /// ensures units { (k : ℕ) → k < parts_in result.len result.part_len
+    ///     → start_of result.len result.part_len k % unit ≡ 0 }
+    /// ensures least { IsLeastPartLen parts unit result.len result.part_len }
     /// ```
     pub(crate) fn new(len: usize, parts: usize, unit: usize) -> Cut {
         let units = len.div_ceil(unit).div_ceil(parts.max(1));
         Cut {
             len,
-            step: units.max(1).saturating_mul(unit),
+            part_len: units.max(1).saturating_mul(unit),
         }
     }
 
@@ -53,11 +53,11 @@ impl Cut {
     /// # Contract
     ///
     /// ```text
-    /// ensures count { result ≡ parts_in self.len self.step }
-    /// ensures parts { FollowEachOther result self.len (start_of self.len self.step) }
+    /// ensures count { result ≡ parts_in self.len self.part_len }
+    /// ensures parts { FollowEachOther result self.len (start_of self.len self.part_len) }
     /// ```
     pub(crate) fn count(self) -> usize {
-        self.len.div_ceil(self.step)
+        self.len.div_ceil(self.part_len)
     }
 
     /// The first number of part `k`, and the number after its last one.
@@ -65,13 +65,13 @@ impl Cut {
     /// # Contract
     ///
     /// ```text
-    /// requires { k < parts_in self.len self.step }
-    /// ensures from { result.0 ≡ start_of self.len self.step k }
-    /// ensures to { result.1 ≡ start_of self.len self.step (k + 1) }
+    /// requires { k < parts_in self.len self.part_len }
+    /// ensures from { result.0 ≡ start_of self.len self.part_len k }
+    /// ensures to { result.1 ≡ start_of self.len self.part_len (k + 1) }
     /// ```
     pub(crate) fn part(self, k: usize) -> (usize, usize) {
-        let from = k * self.step;
-        (from, from + self.step.min(self.len - from))
+        let from = k * self.part_len;
+        (from, from + self.part_len.min(self.len - from))
     }
 
     /// Part `k` of a matrix. This cut divides the rows of the matrix if `by_rows` is true, and its
@@ -81,9 +81,9 @@ impl Cut {
     ///
     /// ```text
     /// requires side { self.len ≡ if by_rows then matrix.now.height else matrix.now.width }
-    /// requires below { k < parts_in self.len self.step }
+    /// requires below { k < parts_in self.len self.part_len }
     /// ensures region { result ≡ part_of_matrix matrix.now.width matrix.now.height by_rows
-    ///     self.len self.step k }
+    ///     self.len self.part_len k }
     /// ensures inside { LiesInMatrix result matrix.now.width matrix.now.height }
     /// ```
     pub(crate) fn region<R>(self, matrix: &Matrix<R>, by_rows: bool, k: usize) -> Region {
@@ -101,8 +101,8 @@ impl Cut {
     /// # Contract
     ///
     /// ```text
-    /// requires { parts_in self.len self.step < 2 ^ 32 }
-    /// ensures { result ≡ pairs_of (parts_in self.len self.step) }
+    /// requires { parts_in self.len self.part_len < 2 ^ 32 }
+    /// ensures { result ≡ pairs_of (parts_in self.len self.part_len) }
     /// ```
     pub(crate) fn pairs(self) -> usize {
         let count = self.count();
@@ -116,11 +116,11 @@ impl Cut {
     /// # Contract
     ///
     /// ```text
-    /// requires few { parts_in self.len self.step < 2 ^ 32 }
-    /// requires below { number < pairs_of (parts_in self.len self.step) }
+    /// requires few { parts_in self.len self.part_len < 2 ^ 32 }
+    /// requires below { number < pairs_of (parts_in self.len self.part_len) }
     /// ensures in_order { result.0 ≤ result.1 }
-    /// ensures below { result.1 < parts_in self.len self.step }
-    /// ensures number { number_of_pair (parts_in self.len self.step) result.0 result.1 ≡ number }
+    /// ensures below { result.1 < parts_in self.len self.part_len }
+    /// ensures number { number_of_pair (parts_in self.len self.part_len) result.0 result.1 ≡ number }
     /// ```
     pub(crate) fn pair(self, number: usize) -> (usize, usize) {
         let count = self.count();
@@ -151,9 +151,9 @@ impl RowPairs {
     /// requires { FitsRows len row_width }
     /// ensures width { result.rows.width ≡ row_width }
     /// ensures rows { 0 < len → (0 < row_width) × (len ≡ row_width * 2 ^ result.rows.digits) }
-    /// ensures few { parts_in result.cut.len result.cut.step ≤ max parts 1 }
-    /// ensures least { IsLeastStep parts (if row_width == 1 then TILE else 1) result.cut.len
-    ///     result.cut.step }
+    /// ensures few { parts_in result.cut.len result.cut.part_len ≤ max parts 1 }
+    /// ensures least { IsLeastPartLen parts (if row_width == 1 then TILE else 1) result.cut.len
+    ///     result.cut.part_len }
     /// ```
     pub(crate) fn new(len: usize, row_width: usize, parts: usize) -> RowPairs {
         let rows = RowDigits::of(len, row_width);
@@ -167,7 +167,7 @@ impl RowPairs {
     /// # Contract
     ///
     /// ```text
-    /// ensures { result ≡ patches_of self.rows.digits self.cut.step }
+    /// ensures { result ≡ patches_of self.rows.digits self.cut.part_len }
     /// ```
     pub(crate) fn count(self) -> usize {
         self.cut.pairs() * pow2(self.rows.digits % 2)
@@ -180,8 +180,8 @@ impl RowPairs {
     /// # Contract
     ///
     /// ```text
-    /// requires { number < patches_of self.rows.digits self.cut.step }
-    /// ensures { IsPatch self.rows.digits self.cut.step number result.0 result.1 }
+    /// requires { number < patches_of self.rows.digits self.cut.part_len }
+    /// ensures { IsPatch self.rows.digits self.cut.part_len number result.0 result.1 }
     /// ```
     fn patch(self, number: usize) -> (usize, Region) {
         let grids = pow2(self.rows.digits % 2);
@@ -202,12 +202,12 @@ impl RowPairs {
     /// # Contract
     ///
     /// ```text
-    /// requires below { number < patches_of self.rows.digits self.cut.step }
+    /// requires below { number < patches_of self.rows.digits self.cut.part_len }
     /// requires ready { HoldsRows self.rows.width self.rows.digits (M.items m) }
-    /// ensures { IsPatchExchanged self.rows.digits self.rows.width self.cut.step number
+    /// ensures { IsPatchExchanged self.rows.digits self.rows.width self.cut.part_len number
     ///     (M.items m) (M.items result) (λ n. M.same_holder n m result) }
     /// ```
-    pub(crate) fn exchange<M: Places>(self, m: M, number: usize) -> M {
+    pub(crate) fn exchange_patch<M: Places>(self, m: M, number: usize) -> M {
         let (middle, region) = self.patch(number);
         let grid = self.rows.grid(middle);
         if region.row_start == region.col_start {

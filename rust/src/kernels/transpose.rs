@@ -165,7 +165,7 @@ fn transpose_items<T: Copy, R: Source<Item = T> + Copy>(
 fn transpose_by_shape<M: Cells, R: Source<Item = M::Item> + Copy>(out: M, matrix: Matrix<R>) -> M {
     match Order::by_shape(matrix) {
         Order::Columns => transpose_matrix(out, matrix, Columns),
-        _ => transpose_longer(out, matrix),
+        _ => transpose_outlined(out, matrix),
     }
 }
 
@@ -182,7 +182,7 @@ fn transpose_by_shape<M: Cells, R: Source<Item = M::Item> + Copy>(out: M, matrix
 /// ensures holder { M.same_holder (matrix.width * matrix.height) out result }
 /// ```
 #[inline(never)]
-fn transpose_longer<M: Cells, R: Source<Item = M::Item> + Copy>(out: M, matrix: Matrix<R>) -> M {
+fn transpose_outlined<M: Cells, R: Source<Item = M::Item> + Copy>(out: M, matrix: Matrix<R>) -> M {
     transpose_matrix(out, matrix, Order::by_shape(matrix))
 }
 

@@ -157,6 +157,6 @@ pub(super) fn run_reversal(items: impl Places, plan: RowPlan, number: usize) {
     match plan.pairs {
         None if plan.width == 1 => reverse(items),
         None => reverse_rows(items, plan.width),
-        Some(pairs) => _ = pairs.exchange(items, number),
+        Some(pairs) => _ = pairs.exchange_patch(items, number),
     }
 }

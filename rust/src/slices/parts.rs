@@ -236,7 +236,7 @@ impl<F> ReversalPart<'_, F> {
     #[inline]
     pub fn run(self) {
         // If the reversal is not cut, its one part is the call, for which `RowPlan::new` checked the rows. Otherwise, the
-        // clause `below` of `RowPairs::exchange` holds because `numbers` are below the plan's count, and `ready` because
+        // clause `below` of `RowPairs::exchange_patch` holds because `numbers` are below the plan's count, and `ready` because
         // the pairs are those of the rows of `items`.
         instances::run_reversal(self.0.items, self.0.plan, self.0.numbers.start);
     }

@@ -29,11 +29,11 @@ pub(crate) fn reverse_long<M: Places>(m: M) -> M
     ensures order { IsReversal (M.items m) (M.items result) }
     ensures holder { M.same_holder (long_swaps (clog (length (M.items m)))) m result }
 {
-    let bits = log2_strict_usize(m.len());
-    let half = bits / 2;
-    let m = reverse_chunks(m, half, bits - half);
-    let m = transpose_squares(m, bits - half, half);
-    reverse_chunks(m, half, bits - half)
+    let digits = log2_strict_usize(m.len());
+    let half = digits / 2;
+    let m = reverse_chunks(m, half, digits - half);
+    let m = transpose_squares(m, digits - half, half);
+    reverse_chunks(m, half, digits - half)
 }
 
 /// Transposes each of the squares that lie side by side in `m`. The list is `2^log_size` rows of

@@ -12,7 +12,7 @@ ghost use Rattle.std.specs.Prelude.{◌≡◌, ◌+◌, ◌<◌, ◌≤◌};
 
 use crate::places::{Cells, Source};
 use crate::transpose::regions::{Matrix, Region};
-use crate::transpose::ways::{Apart, Blocks, Columns, InCols, InRows, PutRegion};
+use crate::transpose::ways::{Blocks, Columns, InCols, InRows, Outlined, PutRegion};
 
 /// If the width of a matrix is a multiple of this, its strips are low. Parts of a call begin at
 /// multiples of it.
@@ -85,7 +85,7 @@ impl<const SIDE: usize, const ROWS: usize> PutRegion for Strips<SIDE, ROWS> {
             // A region without columns has no item, however many rows it has.
             return out;
         }
-        let apart = Apart(Columns);
+        let apart = Outlined(Columns);
         let squares = Squares::<SIDE>;
         match self {
             Strips::High => InRows::<HIGH_ROWS, _, _>(apart, apart).put(out, matrix, region),
@@ -109,7 +109,7 @@ impl<const SIDE: usize> PutRegion for Squares<SIDE> {
         matrix: Matrix<R>,
         region: Region,
     ) -> M {
-        let rest = Apart(Columns);
+        let rest = Outlined(Columns);
         match SIDE {
             0 | 1 => rest.put(out, matrix, region),
             _ => {

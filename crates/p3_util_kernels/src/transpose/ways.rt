@@ -138,9 +138,9 @@ impl<const ROWS: usize, V: PutRegion> PutRegion for Blocks<ROWS, V> {
 /// those of the caller.
 #[derive(Clone, Copy)]
 #[doc(hidden)]
-pub struct Apart<W>(pub W);
+pub struct Outlined<W>(pub W);
 
-impl<W: PutRegion> PutRegion for Apart<W> {
+impl<W: PutRegion> PutRegion for Outlined<W> {
     #[inline(never)]
     fn put<M: Cells, R: Source<Item = M::Item> + Copy>(
         self,

@@ -109,7 +109,7 @@ pub(crate) fn puts_of_part<C: Cells, R: Source<Item = C::Item> + Copy, O: PutReg
     number: usize,
     order: O,
 ) -> C
-    requires below { number < parts_in plan.cut.len plan.cut.step }
+    requires below { number < parts_in plan.cut.len plan.cut.part_len }
     requires input_fits { length (R.items source) ≡ plan.width * plan.height }
     requires output_fits { length (C.items out) ≡ plan.width * plan.height }
     ensures { (steps : List (ℕ × C.Item)) × (C.items result ≡ after_puts (C.items out) steps)
@@ -128,11 +128,11 @@ pub(crate) fn puts_of_part<C: Cells, R: Source<Item = C::Item> + Copy, O: PutReg
 /// every input, by as many puts as there are items.
 pub(crate) fn transpose_in_parts<T>(plan: TransposePlan)
     ensures stay { (number : ℕ) (blank : List ℕ) (steps : List (ℕ × ℕ))
-        → number < parts_in plan.cut.len plan.cut.step → length blank ≡ plan.width * plan.height
+        → number < parts_in plan.cut.len plan.cut.part_len → length blank ≡ plan.width * plan.height
         → NoItemInCommon (numbers_below (plan.width * plan.height)) blank
         → IsPutAlone plan number (numbers_below (plan.width * plan.height)) blank steps
         → AreOnceAmong (IsPlaceOfRegion (region_of plan number) plan.height) (places_put steps) }
-    ensures apart { (i j : ℕ) → i ≢ j → i < parts_in plan.cut.len plan.cut.step
+    ensures apart { (i j : ℕ) → i ≢ j → i < parts_in plan.cut.len plan.cut.part_len
         → NoPlaceInCommon (IsPlaceOfRegion (region_of plan i) plan.height)
         (IsPlaceOfRegion (region_of plan j) plan.height) }
     ensures whole { (input old : List T) (item : ℕ → T) (blank : List ℕ)
@@ -141,7 +141,7 @@ pub(crate) fn transpose_in_parts<T>(plan: TransposePlan)
         → ((i : ℕ) → i < length input → slice_get input i ≡ Some (item i))
         → length blank ≡ plan.width * plan.height
         → NoItemInCommon (numbers_below (plan.width * plan.height)) blank
-        → AreOfParts (parts_in plan.cut.len plan.cut.step)
+        → AreOfParts (parts_in plan.cut.len plan.cut.part_len)
         (λ k. IsPutAlone plan k (numbers_below (plan.width * plan.height)) blank) lists
         → IsInterleaved lists all
         → IsTranspose plan.width plan.height input (after_puts old (puts_of item all))
@@ -156,7 +156,8 @@ pub(crate) fn exchanges_of_part<M: Places>(m: M, plan: RowPairs, number: usize) 
     ensures { (steps : List (ℕ × ℕ)) × (M.items result ≡ after_swaps (M.items m) steps)
         × IsMadeAlone plan number (M.items m) steps }
 {
-    plan.exchange(ExchangeSteps { places: m }, number).places
+    plan.exchange_patch(ExchangeSteps { places: m }, number)
+        .places
 }
 
 /// The law for a reversal. Each part makes exchanges on the list 0, 1, 2 and so on. They are at
@@ -210,7 +211,7 @@ pub(crate) fn exchange_all_parts<M: Places>(m: M, plan: RowPairs) -> M
 {
     let mut m = m;
     for part in 0..plan.count() {
-        m = plan.exchange(m, part);
+        m = plan.exchange_patch(m, part);
     }
     m
 }
@@ -219,8 +220,8 @@ pub(crate) fn exchange_all_parts<M: Places>(m: M, plan: RowPairs) -> M
 /// right after them.
 pub(crate) fn cells_follow(plan: TransposePlan, number: usize)
     requires columns { plan.by_rows ≡ false }
-    requires below { number < parts_in plan.cut.len plan.cut.step }
+    requires below { number < parts_in plan.cut.len plan.cut.part_len }
     ensures { (p : ℕ) → IsPlaceOfRegion (region_of plan number) plan.height p
-        ↔ ((start_of plan.cut.len plan.cut.step number * plan.height ≤ p)
-        × (p < start_of plan.cut.len plan.cut.step (number + 1) * plan.height)) }
+        ↔ ((start_of plan.cut.len plan.cut.part_len number * plan.height ≤ p)
+        × (p < start_of plan.cut.len plan.cut.part_len (number + 1) * plan.height)) }
 {}

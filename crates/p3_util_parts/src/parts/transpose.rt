@@ -1,7 +1,7 @@
 //! The regions that the transpose of a matrix is cut into.
 
 ghost use Rattle.std.specs.Prelude.{◌≡◌, ℕ, ◌+◌, ◌*◌, ◌%◌, ◌^◌, ◌<◌, ◌≤◌, ◌↔◌, IsTrue, if◌then◌else◌, length, max};
-ghost use Rattle.p3_util_parts.specs.Parts.{IsLeastStep, part_of_matrix, parts_in, start_of};
+ghost use Rattle.p3_util_parts.specs.Parts.{IsLeastPartLen, part_of_matrix, parts_in, start_of};
 ghost use Rattle.p3_util_kernels.specs.Region.{IsRegionTransposed, LiesInMatrix, items_of};
 
 use crate::parts::Cut;
@@ -35,11 +35,11 @@ impl TransposePlan {
         ensures width { result.width ≡ width }
         ensures height { result.height ≡ height }
         ensures by_rows { IsTrue result.by_rows ↔ (IsTrue may_cut_rows × (width < height)) }
-        ensures empty { width * height ≡ 0 → parts_in result.cut.len result.cut.step ≡ 0 }
-        ensures few { parts_in result.cut.len result.cut.step ≤ max parts 1 }
-        ensures least { IsLeastStep parts UNIT result.cut.len result.cut.step }
-        ensures units { (k : ℕ) → k < parts_in result.cut.len result.cut.step
-            → start_of result.cut.len result.cut.step k % UNIT ≡ 0 }
+        ensures empty { width * height ≡ 0 → parts_in result.cut.len result.cut.part_len ≡ 0 }
+        ensures few { parts_in result.cut.len result.cut.part_len ≤ max parts 1 }
+        ensures least { IsLeastPartLen parts UNIT result.cut.len result.cut.part_len }
+        ensures units { (k : ℕ) → k < parts_in result.cut.len result.cut.part_len
+            → start_of result.cut.len result.cut.part_len k % UNIT ≡ 0 }
     {
         let by_rows = may_cut_rows && height > width;
         let side = if width == 0 || height == 0 {
@@ -59,16 +59,16 @@ impl TransposePlan {
 
     /// The number of regions.
     pub(crate) fn count(self) -> usize
-        ensures { result ≡ parts_in self.cut.len self.cut.step }
+        ensures { result ≡ parts_in self.cut.len self.cut.part_len }
     {
         self.cut.count()
     }
 
     /// Region `number`.
     pub(crate) fn region(self, number: usize) -> Region
-        requires { number < parts_in self.cut.len self.cut.step }
+        requires { number < parts_in self.cut.len self.cut.part_len }
         ensures region { result ≡ part_of_matrix self.width self.height self.by_rows self.cut.len
-            self.cut.step number }
+            self.cut.part_len number }
         ensures inside { LiesInMatrix result self.width self.height }
     {
         let matrix = Matrix::new((), self.width, self.height);
@@ -78,9 +78,9 @@ impl TransposePlan {
     /// The number of items of region `number`. If the columns are cut, the items of a region fill
     /// consecutive cells, right after the cells of the region before it.
     pub(crate) fn items(self, number: usize) -> usize
-        requires { number < parts_in self.cut.len self.cut.step }
+        requires { number < parts_in self.cut.len self.cut.part_len }
         ensures { result ≡ items_of (part_of_matrix self.width self.height self.by_rows self.cut.len
-            self.cut.step number) }
+            self.cut.part_len number) }
     {
         let region = self.region(number);
         region.rows() * region.cols()

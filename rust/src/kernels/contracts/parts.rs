@@ -9,49 +9,50 @@
 //! # `parts.rt`
 //!
 //! ```text
-//! struct Cut { len: usize, step: usize, pub ghost some_step: { 0 < step } }
+//! struct Cut { len: usize, part_len: usize, pub ghost some_part_len: { 0 < part_len } }
 //! fn Cut::new(len: usize, parts: usize, unit: usize) -> Cut
 //!   requires: 0 < unit
 //!   ensures len: result.len ≡ len
-//!   ensures few: parts_in result.len result.step ≤ max parts 1
-//!   ensures units: (k : ℕ) → k < parts_in result.len result.step → start_of result.len result.step k % unit ≡ 0
-//!   ensures least: IsLeastStep parts unit result.len result.step
+//!   ensures few: parts_in result.len result.part_len ≤ max parts 1
+//!   ensures units: (k : ℕ) → k < parts_in result.len result.part_len → start_of result.len result.part_len k % unit ≡
+//!       0
+//!   ensures least: IsLeastPartLen parts unit result.len result.part_len
 //! fn Cut::count(self) -> usize
-//!   ensures count: result ≡ parts_in self.len self.step
-//!   ensures parts: FollowEachOther result self.len (start_of self.len self.step)
+//!   ensures count: result ≡ parts_in self.len self.part_len
+//!   ensures parts: FollowEachOther result self.len (start_of self.len self.part_len)
 //! fn Cut::part(self, k: usize) -> (usize, usize)
-//!   requires: k < parts_in self.len self.step
-//!   ensures from: result.0 ≡ start_of self.len self.step k
-//!   ensures to: result.1 ≡ start_of self.len self.step (k + 1)
+//!   requires: k < parts_in self.len self.part_len
+//!   ensures from: result.0 ≡ start_of self.len self.part_len k
+//!   ensures to: result.1 ≡ start_of self.len self.part_len (k + 1)
 //! fn Cut::region<R>(self, matrix: &Matrix<R>, by_rows: bool, k: usize) -> Region
 //!   requires side: self.len ≡ if by_rows then matrix.now.height else matrix.now.width
-//!   requires below: k < parts_in self.len self.step
-//!   ensures region: result ≡ part_of_matrix matrix.now.width matrix.now.height by_rows self.len self.step k
+//!   requires below: k < parts_in self.len self.part_len
+//!   ensures region: result ≡ part_of_matrix matrix.now.width matrix.now.height by_rows self.len self.part_len k
 //!   ensures inside: LiesInMatrix result matrix.now.width matrix.now.height
 //! fn Cut::pairs(self) -> usize
-//!   requires: parts_in self.len self.step < 2 ^ 32
-//!   ensures: result ≡ pairs_of (parts_in self.len self.step)
+//!   requires: parts_in self.len self.part_len < 2 ^ 32
+//!   ensures: result ≡ pairs_of (parts_in self.len self.part_len)
 //! fn Cut::pair(self, number: usize) -> (usize, usize)
-//!   requires few: parts_in self.len self.step < 2 ^ 32
-//!   requires below: number < pairs_of (parts_in self.len self.step)
+//!   requires few: parts_in self.len self.part_len < 2 ^ 32
+//!   requires below: number < pairs_of (parts_in self.len self.part_len)
 //!   ensures in_order: result.0 ≤ result.1
-//!   ensures below: result.1 < parts_in self.len self.step
-//!   ensures number: number_of_pair (parts_in self.len self.step) result.0 result.1 ≡ number
+//!   ensures below: result.1 < parts_in self.len self.part_len
+//!   ensures number: number_of_pair (parts_in self.len self.part_len) result.0 result.1 ≡ number
 //! struct RowPairs { rows: RowDigits, cut: Cut, pub ghost digits: { rows.digits < 64 }, pub ghost side: { cut.len ≡ 2 ^
-//!     (rows.digits / 2) }, pub ghost few: { parts_in cut.len cut.step < 2 ^ 32 } }
+//!     (rows.digits / 2) }, pub ghost few: { parts_in cut.len cut.part_len < 2 ^ 32 } }
 //! fn RowPairs::new(len: usize, row_width: usize, parts: usize) -> RowPairs
 //!   requires: FitsRows len row_width
 //!   ensures width: result.rows.width ≡ row_width
 //!   ensures rows: 0 < len → (0 < row_width) × (len ≡ row_width * 2 ^ result.rows.digits)
-//!   ensures few: parts_in result.cut.len result.cut.step ≤ max parts 1
-//!   ensures least: IsLeastStep parts (if row_width == 1 then TILE else 1) result.cut.len result.cut.step
+//!   ensures few: parts_in result.cut.len result.cut.part_len ≤ max parts 1
+//!   ensures least: IsLeastPartLen parts (if row_width == 1 then TILE else 1) result.cut.len result.cut.part_len
 //! fn RowPairs::count(self) -> usize
-//!   ensures: result ≡ patches_of self.rows.digits self.cut.step
-//! fn RowPairs::exchange<M: Places>(self, m: M, number: usize) -> M
-//!   requires below: number < patches_of self.rows.digits self.cut.step
+//!   ensures: result ≡ patches_of self.rows.digits self.cut.part_len
+//! fn RowPairs::exchange_patch<M: Places>(self, m: M, number: usize) -> M
+//!   requires below: number < patches_of self.rows.digits self.cut.part_len
 //!   requires ready: HoldsRows self.rows.width self.rows.digits (M.items m)
-//!   ensures: IsPatchExchanged self.rows.digits self.rows.width self.cut.step number (M.items m) (M.items result) (λ n.
-//!       M.same_holder n m result)
+//!   ensures: IsPatchExchanged self.rows.digits self.rows.width self.cut.part_len number (M.items m) (M.items result)
+//!       (λ n. M.same_holder n m result)
 //! ```
 //!
 //! # `parts/laws.rt`
@@ -61,22 +62,22 @@
 //! struct ExchangeSteps<S> { places: S }
 //! fn puts_of_part<C: Cells, R: Source<Item = C::Item> + Copy, O: PutRegion>(out: C, source: R, plan: TransposePlan,
 //!     number: usize, order: O) -> C
-//!   requires below: number < parts_in plan.cut.len plan.cut.step
+//!   requires below: number < parts_in plan.cut.len plan.cut.part_len
 //!   requires input_fits: length (R.items source) ≡ plan.width * plan.height
 //!   requires output_fits: length (C.items out) ≡ plan.width * plan.height
 //!   ensures: (steps : List (ℕ × C.Item)) × (C.items result ≡ after_puts (C.items out) steps) × IsPutAlone plan number
 //!       (R.items source) (C.items out) steps
 //! fn transpose_in_parts<T>(plan: TransposePlan)
-//!   ensures stay: (number : ℕ) (blank : List ℕ) (steps : List (ℕ × ℕ)) → number < parts_in plan.cut.len plan.cut.step
-//!       → length blank ≡ plan.width * plan.height → NoItemInCommon (numbers_below (plan.width * plan.height)) blank →
-//!       IsPutAlone plan number (numbers_below (plan.width * plan.height)) blank steps → AreOnceAmong (IsPlaceOfRegion
-//!       (region_of plan number) plan.height) (places_put steps)
-//!   ensures apart: (i j : ℕ) → i ≢ j → i < parts_in plan.cut.len plan.cut.step → NoPlaceInCommon (IsPlaceOfRegion
+//!   ensures stay: (number : ℕ) (blank : List ℕ) (steps : List (ℕ × ℕ)) → number < parts_in plan.cut.len
+//!       plan.cut.part_len → length blank ≡ plan.width * plan.height → NoItemInCommon (numbers_below (plan.width *
+//!       plan.height)) blank → IsPutAlone plan number (numbers_below (plan.width * plan.height)) blank steps →
+//!       AreOnceAmong (IsPlaceOfRegion (region_of plan number) plan.height) (places_put steps)
+//!   ensures apart: (i j : ℕ) → i ≢ j → i < parts_in plan.cut.len plan.cut.part_len → NoPlaceInCommon (IsPlaceOfRegion
 //!       (region_of plan i) plan.height) (IsPlaceOfRegion (region_of plan j) plan.height)
 //!   ensures whole: (input old : List T) (item : ℕ → T) (blank : List ℕ) (lists : List (List (ℕ × ℕ))) (all : List (ℕ ×
 //!       ℕ)) → length input ≡ plan.width * plan.height → length old ≡ plan.width * plan.height → ((i : ℕ) → i < length
 //!       input → slice_get input i ≡ Some (item i)) → length blank ≡ plan.width * plan.height → NoItemInCommon
-//!       (numbers_below (plan.width * plan.height)) blank → AreOfParts (parts_in plan.cut.len plan.cut.step) (λ k.
+//!       (numbers_below (plan.width * plan.height)) blank → AreOfParts (parts_in plan.cut.len plan.cut.part_len) (λ k.
 //!       IsPutAlone plan k (numbers_below (plan.width * plan.height)) blank) lists → IsInterleaved lists all →
 //!       IsTranspose plan.width plan.height input (after_puts old (puts_of item all)) × (length all ≡ plan.width *
 //!       plan.height)
@@ -106,9 +107,10 @@
 //!   ensures holder: M.same_holder (row_swaps (length (M.items m)) plan.rows.width) m result
 //! fn cells_follow(plan: TransposePlan, number: usize)
 //!   requires columns: plan.by_rows ≡ false
-//!   requires below: number < parts_in plan.cut.len plan.cut.step
-//!   ensures: (p : ℕ) → IsPlaceOfRegion (region_of plan number) plan.height p ↔ ((start_of plan.cut.len plan.cut.step
-//!       number * plan.height ≤ p) × (p < start_of plan.cut.len plan.cut.step (number + 1) * plan.height))
+//!   requires below: number < parts_in plan.cut.len plan.cut.part_len
+//!   ensures: (p : ℕ) → IsPlaceOfRegion (region_of plan number) plan.height p ↔ ((start_of plan.cut.len
+//!       plan.cut.part_len number * plan.height ≤ p) × (p < start_of plan.cut.len plan.cut.part_len (number + 1) *
+//!       plan.height))
 //! ```
 //!
 //! # `parts/transpose.rt`
@@ -122,20 +124,21 @@
 //!   ensures width: result.width ≡ width
 //!   ensures height: result.height ≡ height
 //!   ensures by_rows: IsTrue result.by_rows ↔ (IsTrue may_cut_rows × (width < height))
-//!   ensures empty: width * height ≡ 0 → parts_in result.cut.len result.cut.step ≡ 0
-//!   ensures few: parts_in result.cut.len result.cut.step ≤ max parts 1
-//!   ensures least: IsLeastStep parts UNIT result.cut.len result.cut.step
-//!   ensures units: (k : ℕ) → k < parts_in result.cut.len result.cut.step → start_of result.cut.len result.cut.step k %
-//!       UNIT ≡ 0
+//!   ensures empty: width * height ≡ 0 → parts_in result.cut.len result.cut.part_len ≡ 0
+//!   ensures few: parts_in result.cut.len result.cut.part_len ≤ max parts 1
+//!   ensures least: IsLeastPartLen parts UNIT result.cut.len result.cut.part_len
+//!   ensures units: (k : ℕ) → k < parts_in result.cut.len result.cut.part_len → start_of result.cut.len
+//!       result.cut.part_len k % UNIT ≡ 0
 //! fn TransposePlan::count(self) -> usize
-//!   ensures: result ≡ parts_in self.cut.len self.cut.step
+//!   ensures: result ≡ parts_in self.cut.len self.cut.part_len
 //! fn TransposePlan::region(self, number: usize) -> Region
-//!   requires: number < parts_in self.cut.len self.cut.step
-//!   ensures region: result ≡ part_of_matrix self.width self.height self.by_rows self.cut.len self.cut.step number
+//!   requires: number < parts_in self.cut.len self.cut.part_len
+//!   ensures region: result ≡ part_of_matrix self.width self.height self.by_rows self.cut.len self.cut.part_len number
 //!   ensures inside: LiesInMatrix result self.width self.height
 //! fn TransposePlan::items(self, number: usize) -> usize
-//!   requires: number < parts_in self.cut.len self.cut.step
-//!   ensures: result ≡ items_of (part_of_matrix self.width self.height self.by_rows self.cut.len self.cut.step number)
+//!   requires: number < parts_in self.cut.len self.cut.part_len
+//!   ensures: result ≡ items_of (part_of_matrix self.width self.height self.by_rows self.cut.len self.cut.part_len
+//!       number)
 //! ```
 //!
 //! # Names of this package
@@ -152,10 +155,10 @@
 //! | <a id="FollowEachOther"></a>`FollowEachOther count len start` | The numbers below `len` are cut into `count` parts. Part k has the numbers from `start k` up to, but not including, `start (k + 1)`. The first part begins at 0, the last one ends at `len`, and none is empty |
 //! | <a id="HoldsRows"></a>`HoldsRows row_width digits items` | the list has `2 ^ digits` rows of `row_width` items, its length fits in a usize, and `row_width` is at least 1 |
 //! | <a id="IsInterleaved"></a>`IsInterleaved lists all` | `all` is an interleaving of the lists: each step of `all` is the first remaining step of one of the lists, and at the end no list has a step left |
-//! | <a id="IsLeastStep"></a>`IsLeastStep parts unit len step` | Parts of `step` numbers are no longer than necessary. Take any positive multiple L of `unit`. If parts of L numbers cut the numbers below `len` into at most `parts` parts, then L is at least `step`. If `parts` is 0, it counts as 1 |
+//! | <a id="IsLeastPartLen"></a>`IsLeastPartLen parts unit len part_len` | Parts of `part_len` numbers are no longer than necessary. Take any positive multiple L of `unit`. If parts of L numbers cut the numbers below `len` into at most `parts` parts, then L is at least `part_len`. If `parts` is 0, it counts as 1 |
 //! | <a id="IsMadeAlone"></a>`IsMadeAlone plan k old steps` | The exchanges `steps`, made on `old` without those of any other part, do what `IsPartMade` says about part k of the plan, and there are as many as it says |
 //! | <a id="IsPartMade"></a>`IsPartMade plan number old new Steps` | Part `number` of the plan turns `old` into `new`, and `Steps` holds for the number of its exchanges. The part exchanges the pairs of rows of a patch |
-//! | <a id="IsPatchExchanged"></a>`IsPatchExchanged digits row_width step number old new Steps` | The pairs of rows in the patch with this number are exchanged, and no other rows. `Steps` holds for the number of exchanges |
+//! | <a id="IsPatchExchanged"></a>`IsPatchExchanged digits row_width part_len number old new Steps` | The pairs of rows in the patch with this number are exchanged, and no other rows. `Steps` holds for the number of exchanges |
 //! | <a id="IsPlaceOfPart"></a>`IsPlaceOfPart plan number p` | p is a place of part `number` of the plan: a place in one of the rows that the patch with this number exchanges. A row that stays where it is counts as a pair with itself |
 //! | <a id="IsPlaceOfRegion"></a>`IsPlaceOfRegion region height p` | p is the place of an item of the region in the transpose of a matrix of `height` rows |
 //! | <a id="IsPutAlone"></a>`IsPutAlone plan k input old steps` | The writes `steps`, made on `old` without those of any other part, put the transpose of the region of part k. There is one write for each item of the region |
@@ -169,10 +172,10 @@
 //! | <a id="number_of_pair"></a>`number_of_pair n i j` | The number of the pair of parts i and j of n parts, for i ≤ j. Let the parts be numbered in a circle, so that part 0 follows part n - 1. If part j is s steps after part i, part i is n - s steps after part j. The pair is called (i, s) if 2 s ≤ n, and (j, n - s) otherwise. The number of the pair (p, s) is s n + p less than that of the last pair. So the pairs of a part with itself, which are called (p, 0), have the greatest numbers |
 //! | <a id="numbers_below"></a>`numbers_below n` | the list 0, 1, 2 and so on of n numbers, which all differ |
 //! | <a id="pairs_of"></a>`pairs_of n` | the number of pairs of n parts, if each part makes a pair with itself and with each later part: `n * (n + 1) / 2` |
-//! | <a id="part_of_matrix"></a>`part_of_matrix width height by_rows len step k` | the region of part k when a matrix of `height` rows of `width` items is cut. If `by_rows` is true, its `len` rows are cut into parts of `step` rows, and the region has all columns. Otherwise its `len` columns are cut in the same way, and the region has all rows |
-//! | <a id="parts_in"></a>`parts_in len step` | the number of parts when the numbers below `len` are cut into parts of `step` numbers. The last part may have fewer |
+//! | <a id="part_of_matrix"></a>`part_of_matrix width height by_rows len part_len k` | the region of part k when a matrix of `height` rows of `width` items is cut. If `by_rows` is true, its `len` rows are cut into parts of `part_len` rows, and the region has all columns. Otherwise its `len` columns are cut in the same way, and the region has all rows |
+//! | <a id="parts_in"></a>`parts_in len part_len` | the number of parts when the numbers below `len` are cut into parts of `part_len` numbers. The last part may have fewer |
 //! | <a id="parts_of"></a>`parts_of plan` | the number of parts of a plan |
-//! | <a id="patches_of"></a>`patches_of digits step` | the number of patches on and above the diagonals of all grids |
+//! | <a id="patches_of"></a>`patches_of digits part_len` | the number of patches on and above the diagonals of all grids |
 //! | <a id="places_put"></a>`places_put` | the places of a list of writes, in order, one for each write |
 //! | <a id="places_swapped"></a>`places_swapped` | the places of a list of exchanges, in order, two for each exchange |
 //! | <a id="put"></a>`put eq pairs k v` | the pairs after k was given the value v. If a key is already equal to k, its pair keeps its place and that key, and only the value changes. Otherwise a new pair is added at the end |
@@ -182,4 +185,4 @@
 //! | <a id="row_swaps"></a>`row_swaps items row_width` | the number of swaps for reversing `items` items in rows of `row_width` items. Each pair of rows takes `row_width` swaps, so this is `row_width * short_swaps (clog (items / row_width))` |
 //! | <a id="same_holder"></a>`same_holder n a b` | For `Places`: b is the holder a after n exchanges. What that means depends on the holder. If the holder counts, the count of b is n more than the count of a. If it does not count, it ignores n. If it borrows its items, b borrows the same slice as a, so a change to the holder is a change to that slice. A holder of your own defines `len` and `exchange`. The methods after these are only for speed. Their bodies here do the same by calls of `exchange`. For `Cells`: b is the holder a after n puts. The rest is the same as for `Places`. A holder of your own defines `len` and `put` |
 //! | <a id="short_swaps"></a>`short_swaps k` | the number of pairs of different k-bit numbers that are each other's reverse. Of the `2 ^ k` numbers, `2 ^ ceil(k / 2)` are their own reverse, so there are `(2 ^ k - 2 ^ ceil(k / 2)) / 2` pairs |
-//! | <a id="start_of"></a>`start_of len step k` | where part k begins when the numbers below `len` are cut into parts of `step` numbers: at `k * step`, or at `len` if that is less |
+//! | <a id="start_of"></a>`start_of len part_len k` | where part k begins when the numbers below `len` are cut into parts of `part_len` numbers: at `k * part_len`, or at `len` if that is less |

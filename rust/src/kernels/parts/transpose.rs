@@ -27,11 +27,11 @@ impl TransposePlan {
     /// ensures width { result.width ≡ width }
     /// ensures height { result.height ≡ height }
     /// ensures by_rows { IsTrue result.by_rows ↔ (IsTrue may_cut_rows × (width < height)) }
-    /// ensures empty { width * height ≡ 0 → parts_in result.cut.len result.cut.step ≡ 0 }
-    /// ensures few { parts_in result.cut.len result.cut.step ≤ max parts 1 }
-    /// ensures least { IsLeastStep parts UNIT result.cut.len result.cut.step }
-    /// ensures units { (k : ℕ) → k < parts_in result.cut.len result.cut.step
-    ///     → start_of result.cut.len result.cut.step k % UNIT ≡ 0 }
+    /// ensures empty { width * height ≡ 0 → parts_in result.cut.len result.cut.part_len ≡ 0 }
+    /// ensures few { parts_in result.cut.len result.cut.part_len ≤ max parts 1 }
+    /// ensures least { IsLeastPartLen parts UNIT result.cut.len result.cut.part_len }
+    /// ensures units { (k : ℕ) → k < parts_in result.cut.len result.cut.part_len
+    ///     → start_of result.cut.len result.cut.part_len k % UNIT ≡ 0 }
     /// ```
     pub(crate) fn new(
         width: usize,
@@ -60,7 +60,7 @@ impl TransposePlan {
     /// # Contract
     ///
     /// ```text
-    /// ensures { result ≡ parts_in self.cut.len self.cut.step }
+    /// ensures { result ≡ parts_in self.cut.len self.cut.part_len }
     /// ```
     pub(crate) fn count(self) -> usize {
         self.cut.count()
@@ -71,9 +71,9 @@ impl TransposePlan {
     /// # Contract
     ///
     /// ```text
-    /// requires { number < parts_in self.cut.len self.cut.step }
+    /// requires { number < parts_in self.cut.len self.cut.part_len }
     /// ensures region { result ≡ part_of_matrix self.width self.height self.by_rows self.cut.len
-    ///     self.cut.step number }
+    ///     self.cut.part_len number }
     /// ensures inside { LiesInMatrix result self.width self.height }
     /// ```
     pub(crate) fn region(self, number: usize) -> Region {
@@ -87,9 +87,9 @@ impl TransposePlan {
     /// # Contract
     ///
     /// ```text
-    /// requires { number < parts_in self.cut.len self.cut.step }
+    /// requires { number < parts_in self.cut.len self.cut.part_len }
     /// ensures { result ≡ items_of (part_of_matrix self.width self.height self.by_rows self.cut.len
-    ///     self.cut.step number) }
+    ///     self.cut.part_len number) }
     /// ```
     pub(crate) fn items(self, number: usize) -> usize {
         let region = self.region(number);

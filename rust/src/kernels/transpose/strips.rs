@@ -11,7 +11,7 @@
 
 use crate::kernels::places::{Cells, Source};
 use crate::kernels::transpose::regions::{Matrix, Region};
-use crate::kernels::transpose::ways::{Apart, Blocks, Columns, InCols, InRows, PutRegion};
+use crate::kernels::transpose::ways::{Blocks, Columns, InCols, InRows, Outlined, PutRegion};
 
 /// If the width of a matrix is a multiple of this, its strips are low. Parts of a call begin at
 /// multiples of it.
@@ -83,7 +83,7 @@ impl<const SIDE: usize, const ROWS: usize> PutRegion for Strips<SIDE, ROWS> {
             // A region without columns has no item, however many rows it has.
             return out;
         }
-        let apart = Apart(Columns);
+        let apart = Outlined(Columns);
         let squares = Squares::<SIDE>;
         match self {
             Strips::High => InRows::<HIGH_ROWS, _, _>(apart, apart).put(out, matrix, region),
@@ -107,7 +107,7 @@ impl<const SIDE: usize> PutRegion for Squares<SIDE> {
         matrix: Matrix<R>,
         region: Region,
     ) -> M {
-        let rest = Apart(Columns);
+        let rest = Outlined(Columns);
         match SIDE {
             0 | 1 => rest.put(out, matrix, region),
             _ => {

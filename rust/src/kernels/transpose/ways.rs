@@ -137,9 +137,9 @@ impl<const ROWS: usize, V: PutRegion> PutRegion for Blocks<ROWS, V> {
 /// Puts a region in this way, by a function that is not inlined. So its loops take no registers from
 /// those of the caller.
 #[derive(Clone, Copy)]
-pub(crate) struct Apart<W>(pub W);
+pub(crate) struct Outlined<W>(pub W);
 
-impl<W: PutRegion> PutRegion for Apart<W> {
+impl<W: PutRegion> PutRegion for Outlined<W> {
     #[inline(never)]
     fn put<M: Cells, R: Source<Item = M::Item> + Copy>(
         self,

@@ -207,7 +207,7 @@ fn patches_of_pairs_of_rows() {
     for ((digits, parts), (width, unit)) in cases.flat_map(|case| [(1, 8), (2, 1), (3, 1)].map(|rows| (case, rows))) {
         let len = width << digits;
         let plan = RowPairs::new(len, width, parts);
-        let exchange = |noted: &mut Noted, number| _ = plan.exchange(noted, number);
+        let exchange = |noted: &mut Noted, number| _ = plan.exchange_patch(noted, number);
         let cut = Cut::new(1 << (digits / 2), parts, unit);
         let patches: Vec<_> = (0..plan.count())
             .map(|number| {
@@ -242,7 +242,7 @@ fn long_lists() {
         let mut owners = std::vec![usize::MAX; len];
         for number in 0..plan.count() {
             noted.places.clear();
-            let _ = plan.exchange(&mut noted, number);
+            let _ = plan.exchange_patch(&mut noted, number);
             for place in &noted.places {
                 assert!([usize::MAX, number].contains(&owners[*place]));
                 owners[*place] = number;
@@ -290,7 +290,7 @@ fn count_and_share(sizes: impl IntoIterator<Item = usize>) -> (usize, usize) {
 fn shares(len: usize, plan: RowPairs) -> (usize, usize) {
     let exchanges_of = |number| {
         let mut counted = Counted { len, exchanges: 0 };
-        let _ = plan.exchange(&mut counted, number);
+        let _ = plan.exchange_patch(&mut counted, number);
         counted.exchanges
     };
     count_and_share((0..plan.count()).map(exchanges_of))
@@ -415,7 +415,7 @@ fn exchange_by_plan<const N: usize, const WIDTH: usize>(rows: &mut [[[u8; N]; WI
     fn exchange(places: impl Places, width: usize, parts: usize, is_cut: bool, number: usize) {
         let len = places.len();
         if is_cut {
-            let _ = RowPairs::new(len, width, parts).exchange(places, number);
+            let _ = RowPairs::new(len, width, parts).exchange_patch(places, number);
         } else {
             let _ = reverse_rows(places, RowDigits::of(len, width));
         }

@@ -11,11 +11,11 @@ use Rattle.p3_util_kernels.proofs.grid.exchange_diagonal_tile.Goals as goal
 -- single items
 pub turn_tile-requires : goal.turn_tile-requires
 turn_tile-requires g c =
-    IsTile-grid c.args.grid _ c.requires.ready c.args.start _ c.if-grid-eq1.true c.requires.within (c.tile_column-places.ensures c.args.start c.args.start c.requires.whole c.requires.within (omega arith))
+    IsTile-grid c.args.grid _ c.requires.ready c.args.start _ c.if-grid-eq1.true c.requires.within (c.tile_rows-places.ensures c.args.start c.args.start c.requires.whole c.requires.within (omega arith))
 
 pub returns-then-grid-eq1-clause-exchanged : goal.returns-then-grid-eq1-clause-exchanged
 returns-then-grid-eq1-clause-exchanged g c =
-    SwapsInGrid-turned c.args.grid _ c.requires.ready c.args.start _ _ _ c.if-grid-eq1.true c.requires.within (c.tile_column-places.ensures c.args.start c.args.start c.requires.whole c.requires.within (omega arith)) c.turn_tile.ensures.turned
+    SwapsInGrid-turned c.args.grid _ c.requires.ready c.args.start _ _ _ c.if-grid-eq1.true c.requires.within (c.tile_rows-places.ensures c.args.start c.args.start c.requires.whole c.requires.within (omega arith)) c.turn_tile.ensures.turned
 
 -- wider places
 pub loop-row-init : goal.loop-row-init
@@ -33,8 +33,8 @@ loop-col-preserved g c =
     let start = c.args.start in
     let row = c.loop-row.row in
     let col = c.loop-col.col in
-    let upper : slice_index c.tile_column-places.result row + col ≡ row_place c.args.grid (start + row) + (start + col) = omega (arith, c.tile_column-places.ensures c.args.start c.args.start c.requires.whole c.requires.within (omega arith) row (omega arith)) in
-    let lower : slice_index c.tile_column-places.result col + row ≡ row_place c.args.grid (start + col) + (start + row) = omega (arith, c.tile_column-places.ensures c.args.start c.args.start c.requires.whole c.requires.within (omega arith) col (omega arith)) in
+    let upper : slice_index c.tile_rows-places.result row + col ≡ row_place c.args.grid (start + row) + (start + col) = omega (arith, c.tile_rows-places.ensures c.args.start c.args.start c.requires.whole c.requires.within (omega arith) row (omega arith)) in
+    let lower : slice_index c.tile_rows-places.result col + row ≡ row_place c.args.grid (start + col) + (start + row) = omega (arith, c.tile_rows-places.ensures c.args.start c.args.start c.requires.whole c.requires.within (omega arith) col (omega arith)) in
     let next : start + (col + 1) ≡ start + col + 1 = omega arith in
     let one : col + 1 - (row + 1) ≡ col - (row + 1) + 1 = omega arith in
     let more : c.args.grid.width * (col - (row + 1)) + c.args.grid.width ≡ c.args.grid.width * (col + 1 - (row + 1)) = rw one (omega arith) in
@@ -45,20 +45,20 @@ loop-col-preserved g c =
       holder = g.met.M.Places.same_holder_trans _ _ _ _ _ _ c.loop-col.invariant.holder c.exchange_places-m.ensures.holder more;
     }
 
-pub tile_column-places-requires-clause-tile : goal.tile_column-places-requires-clause-tile
-tile_column-places-requires-clause-tile g c =
+pub tile_rows-places-requires-clause-tile : goal.tile_rows-places-requires-clause-tile
+tile_rows-places-requires-clause-tile g c =
     record { x = c.args.start; y = c.args.start; whole = c.requires.whole; x_below = c.requires.within; y_below = omega arith; is = omega arith }
 
 pub overflow_add-places : goal.overflow_add-places
 overflow_add-places g c =
     let start = c.args.start in
-    let upper = c.tile_column-places.ensures start start c.requires.whole c.requires.within (omega arith) c.loop-row.row (omega arith) in
+    let upper = c.tile_rows-places.ensures start start c.requires.whole c.requires.within (omega arith) c.loop-row.row (omega arith) in
     omega (arith, upper, (grid_fits c.args.grid _ c.requires.ready).rows (start + c.loop-row.row) (omega arith))
 
 pub overflow_add-places-in-loop-col : goal.overflow_add-places-in-loop-col
 overflow_add-places-in-loop-col g c =
     let start = c.args.start in
-    let lower = c.tile_column-places.ensures start start c.requires.whole c.requires.within (omega arith) c.loop-col.col (omega arith) in
+    let lower = c.tile_rows-places.ensures start start c.requires.whole c.requires.within (omega arith) c.loop-col.col (omega arith) in
     omega (arith, lower, (grid_fits c.args.grid _ c.requires.ready).rows (start + c.loop-col.col) (omega arith))
 
 -- the two places are in different rows
@@ -67,8 +67,8 @@ exchange_places-m-requires-clause-apart g c e =
     let start = c.args.start in
     let row = c.loop-row.row in
     let col = c.loop-col.col in
-    let upper = c.tile_column-places.ensures start start c.requires.whole c.requires.within (omega arith) row (omega arith) in
-    let lower = c.tile_column-places.ensures start start c.requires.whole c.requires.within (omega arith) col (omega arith) in
+    let upper = c.tile_rows-places.ensures start start c.requires.whole c.requires.within (omega arith) row (omega arith) in
+    let lower = c.tile_rows-places.ensures start start c.requires.whole c.requires.within (omega arith) col (omega arith) in
     let same = one_place c.args.grid _ c.requires.ready (start + row) (start + col) (start + col) (start + row) (omega arith) (omega arith) (omega arith) (omega arith)
     (omega (arith, e, upper, lower)) in
     omega (arith, same.0)
@@ -77,7 +77,7 @@ pub exchange_places-m-requires-clause-first : goal.exchange_places-m-requires-cl
 exchange_places-m-requires-clause-first g c =
     let start = c.args.start in
     let row = c.loop-row.row in
-    let upper : slice_index c.tile_column-places.result row + c.loop-col.col ≡ row_place c.args.grid (start + row) + (start + c.loop-col.col) = omega (arith, c.tile_column-places.ensures c.args.start c.args.start c.requires.whole c.requires.within (omega arith) row (omega arith)) in
+    let upper : slice_index c.tile_rows-places.result row + c.loop-col.col ≡ row_place c.args.grid (start + row) + (start + c.loop-col.col) = omega (arith, c.tile_rows-places.ensures c.args.start c.args.start c.requires.whole c.requires.within (omega arith) row (omega arith)) in
     let same = c.loop-col.invariant.exchanged.same_length ∙ c.loop-row.invariant.exchanged.same_length in
     rw (upper, same) (grid_room c.args.grid _ c.requires.ready (start + row) (start + c.loop-col.col) (omega arith) (omega arith))
 
@@ -85,7 +85,7 @@ pub exchange_places-m-requires-clause-second : goal.exchange_places-m-requires-c
 exchange_places-m-requires-clause-second g c =
     let start = c.args.start in
     let row = c.loop-row.row in
-    let lower : slice_index c.tile_column-places.result c.loop-col.col + row ≡ row_place c.args.grid (start + c.loop-col.col) + (start + row) = omega (arith, c.tile_column-places.ensures c.args.start c.args.start c.requires.whole c.requires.within (omega arith) c.loop-col.col (omega arith)) in
+    let lower : slice_index c.tile_rows-places.result c.loop-col.col + row ≡ row_place c.args.grid (start + c.loop-col.col) + (start + row) = omega (arith, c.tile_rows-places.ensures c.args.start c.args.start c.requires.whole c.requires.within (omega arith) c.loop-col.col (omega arith)) in
     let same = c.loop-col.invariant.exchanged.same_length ∙ c.loop-row.invariant.exchanged.same_length in
     rw (lower, same) (grid_room c.args.grid _ c.requires.ready (start + c.loop-col.col) (start + row) (omega arith) (omega arith))
 

@@ -9,8 +9,8 @@ use Rattle.p3_util_parts.proofs.parts.laws.cells_follow.Goals as goal
 pub returns : goal.returns
 returns c =
     let plan = c.args.plan in
-    let from : ℕ = start_of plan.cut.len plan.cut.step c.args.number in
-    let to : ℕ = start_of plan.cut.len plan.cut.step (c.args.number + 1) in
+    let from : ℕ = start_of plan.cut.len plan.cut.part_len c.args.number in
+    let to : ℕ = start_of plan.cut.len plan.cut.part_len (c.args.number + 1) in
     rw c.requires.columns
     (λ p. (
       λ (x, y, at, e).

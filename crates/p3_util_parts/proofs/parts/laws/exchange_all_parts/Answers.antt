@@ -7,8 +7,8 @@ use Rattle.p3_util_parts.proofs.parts.laws.exchange_all_parts.Goals as goal
 pub loop-part-init : goal.loop-part-init
 loop-part-init g c = record { made = made-none c.args.plan _; holder = rw (swaps-none c.args.plan) (g.met.M.Places.same_holder_refl _) }
 
-pub exchange-m-requires-clause-ready : goal.exchange-m-requires-clause-ready
-exchange-m-requires-clause-ready g c =
+pub exchange_patch-m-requires-clause-ready : goal.exchange_patch-m-requires-clause-ready
+exchange_patch-m-requires-clause-ready g c =
     let same = made-length c.args.plan c.loop-part.part _ _ c.loop-part.invariant.made in
     let ready = c.requires.ready in
     record { wide = ready.wide; few = ready.few; rows = same ∙ ready.rows; len_fits = rw same ready.len_fits }
@@ -17,7 +17,7 @@ pub loop-part-preserved : goal.loop-part-preserved
 loop-part-preserved g c =
     let plan = c.args.plan in
     let part = c.loop-part.part in
-    let (middle, region, patch, crossed, steps) = c.exchange-m.ensures in
+    let (middle, region, patch, crossed, steps) = c.exchange_patch-m.ensures in
     record {
       made = made-more plan part middle region _ _ _ patch c.loop-part.invariant.made crossed;
       holder = g.met.M.Places.same_holder_trans _ _ _ _ _ _ c.loop-part.invariant.holder steps (swaps-more plan part middle region patch);

@@ -20,10 +20,10 @@ loop-number-preserved g c =
 
 pub returns-clause-transposed : goal.returns-clause-transposed
 returns-clause-transposed g c =
-    let end : c.loop-number.number ≡ parts_in c.args.plan.cut.len c.args.plan.cut.step = omega arith in
+    let end : c.loop-number.number ≡ parts_in c.args.plan.cut.len c.args.plan.cut.part_len = omega arith in
     (put-all c.args.plan _ _ _ c.requires.output_fits (rw end at c.loop-number.invariant.put)).0
 
 pub returns-clause-holder : goal.returns-clause-holder
 returns-clause-holder g c =
-    let end : c.loop-number.number ≡ parts_in c.args.plan.cut.len c.args.plan.cut.step = omega arith in
+    let end : c.loop-number.number ≡ parts_in c.args.plan.cut.len c.args.plan.cut.part_len = omega arith in
     rw (end, (put-all c.args.plan _ _ _ c.requires.output_fits (rw end at c.loop-number.invariant.put)).1) at c.loop-number.invariant.holder

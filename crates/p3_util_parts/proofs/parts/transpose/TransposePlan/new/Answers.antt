@@ -10,7 +10,7 @@ empty width height some none = omega (arith, none, mul-pos {m = width} {n = heig
 
 pub returns-clause-empty : goal.returns-clause-empty
 returns-clause-empty c none =
-    let within = parts-within c.new.result.len c.new.result.step c.new.result.some_step in
+    let within = parts-within c.new.result.len c.new.result.part_len c.new.result.some_part_len in
     elim c.if-height-eq0.branch [
       | then-height-eq0 w ↦ omega (arith, within, c.new.ensures.len, w.side-is)
       | else-height-eq0+then-by_rows w ↦ absurd (empty _ _ w.if-height-eq0.false none)

@@ -6,11 +6,11 @@ use Rattle.p3_util_kernels.specs.Grid.{square_at}
 use Rattle.p3_util_kernels.specs.Region.{rows_of}
 use Rattle.p3_util_parts.proofs.PatchesLemmas.{patch-above}
 use Rattle.p3_util_kernels.proofs.GridLemmas.Rows.{HoldsGrid-rows}
-use Rattle.p3_util_parts.proofs.parts.RowPairs.exchange.Goals as goal
+use Rattle.p3_util_parts.proofs.parts.RowPairs.exchange_patch.Goals as goal
 
 -- the grid of a patch is one of those of the rows
-below : (digits step number middle : ℕ) (region : Region) → IsPatch digits step number middle region → middle < 2 ^ (digits - digits / 2 - digits / 2)
-below digits step number middle region patch = let rest : digits - digits / 2 - digits / 2 ≡ digits % 2 = omega arith in rw rest patch.middle_below
+below : (digits part_len number middle : ℕ) (region : Region) → IsPatch digits part_len number middle region → middle < 2 ^ (digits - digits / 2 - digits / 2)
+below digits part_len number middle region patch = let rest : digits - digits / 2 - digits / 2 ≡ digits % 2 = omega arith in rw rest patch.middle_below
 
 -- a region on the diagonal is a square
 square : (region : Region) → region.row_start ≤ region.row_end → region.row_start ≡ region.col_start → region.row_end ≡ region.col_end
@@ -35,4 +35,4 @@ exchange_region-requires-clause-ready g c =
     digits _ (omega arith) c.requires.ready)
 
 pub exchange_region-requires-clause-above : goal.exchange_region-requires-clause-above
-exchange_region-requires-clause-above g c = patch-above _ _ _ _ _ c.args.self.cut.some_step c.patch-middle.ensures c.if-region.false
+exchange_region-requires-clause-above g c = patch-above _ _ _ _ _ c.args.self.cut.some_part_len c.patch-middle.ensures c.if-region.false

@@ -2,7 +2,7 @@
 use Rattle.std.proofs.Common.{ℕ, ◌≡◌, ◌+◌, ◌<◌, arith}
 use Rattle.p3_util_kernels.specs.Grid.{row_place}
 use Rattle.p3_util_kernels.proofs.GridLemmas.Distances.{eight, last_fits}
-use Rattle.p3_util_kernels.proofs.grid.Grid.tile_column.Goals as goal
+use Rattle.p3_util_kernels.proofs.grid.Grid.tile_rows.Goals as goal
 
 pub overflow_add-middle : goal.overflow_add-middle
 overflow_add-middle c = omega (arith, last_fits c.args.self _ c.args.first c.requires.fits c.row_distances-one.ensures c.requires.tile)
