@@ -73,6 +73,9 @@ impl Lines {
     /// Tells the source that rows from `row` on, those of the next row of lines, may be read soon. Of as many neighbouring
     /// columns as a line has cells, each asks for an item of another row, to the right of these columns. Where long rows are
     /// read by blocks, the processor reads ahead by itself.
+    ///
+    /// A holder that puts one block cannot ask for these rows by itself: it does not see in which rows the lines of the
+    /// neighbouring columns begin.
     #[inline(always)]
     fn expect_rows<R: Source + Copy>(
         self,

@@ -81,6 +81,9 @@ impl Lines {
     /// columns as a line has cells, each asks for an item of another row, to the right of these columns. Where long rows are
     /// read by blocks, the processor reads ahead by itself.
     ///
+    /// A holder that puts one block cannot ask for these rows by itself: it does not see in which rows the lines of the
+    /// neighbouring columns begin.
+    ///
     /// # Contract
     ///
     /// ```text
