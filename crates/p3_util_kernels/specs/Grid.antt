@@ -34,10 +34,9 @@ AreRowDistances grid distances =
     (x t : ℕ) → x % 8 ≡ 0 → x + 8 ≤ 2 ^ grid.digits → t < 8
     → row_place grid (x + t) ≡ row_place grid x + (t % 2 * distances.one + t / 2 % 2 * distances.two + t / 4 * distances.four)
 
--- The place of row a and column b of the grid stands for `width` items. For all a and b that are
--- different and whose lesser one is a row and whose greater one is a column of the region, the items
--- of row a and column b are exchanged with those of row b and column a. All other items stay where
--- they are
+-- A place of the grid is the index of a run of `width` items. For all a and b that are different and
+-- whose lesser one is a row and whose greater one is a column of the region, the items of row a and
+-- column b are exchanged with those of row b and column a. All other items stay where they are
 abbrev pub SwapsInGrid : {A : Type 0} (grid : Grid) (region : Region) (old new : List A) → Type 0
 SwapsInGrid grid region old new =
     Mirrored {M = ℕ} (λ t a b. (row_place grid a + b) * grid.width + t)

@@ -8,8 +8,8 @@
 //!
 //! The place of row `x` and column `y` is exchanged with the place of row `y` and column `x`, for
 //! all `x < y`. If the rows are in order, this transposes the square. If they are in bit-reversed
-//! order, it reverses the list by index bits, as the module [`reverse`](crate::reverse) explains. A
-//! place can also stand for a run of `width` items.
+//! order, it reverses the list by index bits, as the module [`reverse`](crate::reverse) explains. If
+//! the list consists of runs of `width` items, such as rows, a place of the grid is the index of a run.
 //!
 //! The exchanges are made in the order of nested squares, down to *tiles* of 8 rows and columns. So
 //! the items of a tile, which lie in a few cache lines, are exchanged together.
@@ -41,7 +41,7 @@ const REVERSED_SIX: [u8; 64] = [
     19, 51, 11, 43, 27, 59, 7, 39, 23, 55, 15, 47, 31, 63,
 ];
 
-/// A square of `2^digits` rows and columns in a list. Each of its places is a run of `width` items.
+/// A square of `2^digits` rows and columns in a list of runs of `width` items.
 #[derive(Clone, Copy)]
 #[doc(hidden)]
 pub struct Grid {
@@ -127,7 +127,7 @@ impl Grid {
     }
 }
 
-/// Exchanges place `i` with place `j`. Each of them is a run of `width` items.
+/// Exchanges the runs of `width` items with the indices `i` and `j`.
 #[inline(always)]
 fn exchange_places<M: Places>(m: M, width: usize, i: usize, j: usize) -> M
     requires apart { i ≢ j }
