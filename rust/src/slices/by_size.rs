@@ -123,7 +123,7 @@ fn run_reversal_of_bytes(list: ByteList, plan: RowPlan, number: usize) {
         None => reverse_rows_of_bytes(list, plan.width * plan.bytes),
         Some(pairs) => by_size!(
             plan.bytes,
-            holder = list => _ = pairs.exchange(holder, number),
+            holder = list => _ = pairs.exchange_patch(holder, number),
             _ => unreachable!("these items have kernels of their type")
         ),
     }

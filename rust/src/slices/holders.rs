@@ -33,8 +33,8 @@ pub(super) mod registers;
 /// that another part changes is undefined behaviour, even if nothing is read through the reference.
 ///
 /// Tiles and blocks of items are transposed in registers `D`, each of which is two rows of a square, if these have more than
-/// one item. If `LAST` is true, the holder stores whole cache lines past the caches.
-pub(super) struct SliceItems<'a, T, D = Two<()>, const LAST: bool = false> {
+/// one item. If `STREAM` is true, the holder streams whole cache lines, past the caches.
+pub(super) struct SliceItems<'a, T, D = Two<()>, const STREAM: bool = false> {
     first: *mut T,
     len: usize,
     slice: PhantomData<(&'a mut [T], D)>,
@@ -268,7 +268,7 @@ impl<T: Copy, D: squares::Register<T>, const STREAM: bool> Cells for SliceItems<
         // These items are only read: the functions of `squares` have a shared reference to them.
         let items_of = |items: &[T]| SliceItems::<T, D>::of(items.as_ptr().cast_mut(), items.len());
         match source.as_slice().map(items_of) {
-            Some(items) if LAST && self.may_last(block) && inside(items.len) => {
+            Some(items) if STREAM && self.may_stream(block) && inside(items.len) => {
                 squares::line_blocks::put_by_lines::<T, D, _, _>(self, &items, block);
             }
             Some(items) if const { D::SIDE > 1 } && cols == rows && rows == const { side_of(size_of::<T>()) } => {

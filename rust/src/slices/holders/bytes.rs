@@ -60,7 +60,7 @@ unsafe fn write_registers<T>(from: *mut u8, to: *mut u8) {
         ($($at:literal)*) => {$(
             if const { $at + 16 <= size_of::<T>() } {
                 // SAFETY: the item has these 16 bytes, and the caller promises that they may be written.
-                unsafe { move_part::<registers::Register, false>(from.add($at), to.add($at), 16) };
+                unsafe { move_part::<registers::Vector, false>(from.add($at), to.add($at), 16) };
                 // Without the fence, the compiler would join two parts of an item. With AVX, two registers are one.
                 if const { size_of::<T>() >= 32 && ($at % 32 == 16 || cfg!(not(target_feature = "avx"))) } {
                     compiler_fence(Ordering::SeqCst);
