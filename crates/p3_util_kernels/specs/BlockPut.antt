@@ -1,6 +1,7 @@
 -- A block of a matrix, put where its transpose belongs.
 -- Source: new.
-use Rattle.std.specs.Prelude.{ℕ, ◌≡◌, ◌≢◌, ◌+◌, ◌*◌, ◌<◌, ◌≤◌, List, length, slice_get}
+use Rattle.std.specs.Prelude.{ℕ, ◌≡◌, ◌≢◌, ◌+◌, ◌*◌, ◌<◌, ◌≤◌, List, [], ◌∷◌, take, drop, length, slice_get}
+use Rattle.std.specs.Borrow.{Bor}
 use Rattle.p3_util_kernels.specs.declared.places.Block.{Block}
 
 -- the number of items of the block
@@ -21,3 +22,8 @@ pub record IsBlockPut {A : Type 0} (n : ℕ) (block : Block) (input old new : Li
   pub same_length : length new ≡ length old
   pub places : (r c : ℕ) → r < block.rows → block.rows * c + r < n → slice_get new (block.to + c * block.height + r) ≡ slice_get input (block.from + r * block.width + c)
   pub others : (p : ℕ) → ((r c : ℕ) → r < block.rows → block.rows * c + r < n → p ≢ block.to + c * block.height + r) → slice_get new p ≡ slice_get old p
+
+-- The lists are the rows of the block from row r on.
+unfoldable pub AreRows : {A : Type 0} → Block → ℕ → List A → List (Bor (List A)) → Type 0
+AreRows block r input [] = Unit
+AreRows block r input (row ∷ rows) = (row.now ≡ take block.cols (drop (block.from + r * block.width) input)) × AreRows block (r + 1) input rows

@@ -5,7 +5,7 @@ use core::mem::take;
 
 use super::by_type::{Input, Output};
 pub(super) use crate::kernels::places::SliceSource;
-use crate::kernels::places::{Cells, Places, SlicePlaces};
+use crate::kernels::places::{Block, Cells, Places, SliceCells, SlicePlaces, Source};
 
 /// These holders use no vector registers.
 pub(crate) const USES_REGISTERS: bool = false;
@@ -77,5 +77,11 @@ impl<T: Copy> Cells for SliceItems<'_, T> {
     #[inline(always)]
     fn put(&mut self, i: usize, v: T) {
         self.items[i - self.before] = v;
+    }
+
+    #[inline(always)]
+    fn put_block<R: Source<Item = T>>(&mut self, source: &R, block: Block) {
+        let to = block.to - self.before;
+        SliceCells::new(self.items).put_block(source, Block { to, ..block });
     }
 }

@@ -1,14 +1,45 @@
 -- A block is put item by item, and what it leaves is the transpose of a region.
-use Rattle.std.proofs.Common.{◌≡◌, ℕ, ◌+◌, ◌-◌, ◌*◌, ◌<◌, List, Some, length, slice_get, slice_set, refl, sym, ap, ◌∙◌, inl, inr, arith}
-use Rattle.std.proofs.Math.Nat.{lt_of_mul-lt-mul_left}
-use Rattle.std.proofs.lemmas.Bool.{cases_eq}
+use Rattle.std.proofs.Common.{◌≡◌, ℕ, ◌+◌, ◌-◌, ◌*◌, ◌<◌, ◌≤◌, ◌++◌, List, [], ◌∷◌, zero, suc, Bor, Some, IfSome, length, slice_get, slice_set, take, drop, length-drop, refl, sym, ap, ◌∙◌, inl, inr, arith}
+use Rattle.std.proofs.Math.Nat.{lt_of_mul-lt-mul_left, mul-le-mul_left}
+use Rattle.std.proofs.Math.ListN.{length-take}
+use Rattle.std.proofs.lemmas.Bool.{cases_eq, cases_lt}
 use Rattle.std.proofs.lemmas.List.{length-set}
 use Rattle.std.proofs.lemmas.Nat.{mul-add-lt, same_from_place}
 use Rattle.p3_util_kernels.specs.declared.places.Block.{Block}
 use Rattle.p3_util_kernels.specs.declared.transpose.regions.Region.{Region}
-use Rattle.p3_util_kernels.specs.BlockPut.{BlockFits, IsBlockPut, block_items}
+use Rattle.p3_util_kernels.specs.BlockPut.{AreRows, BlockFits, IsBlockPut, block_items}
 use Rattle.p3_util_kernels.specs.Region.{IsReady, IsRegionTransposed, cols_of, rows_of}
+use Rattle.p3_util_kernels.proofs.PlacesLemmas.ListParts.{length-spliced, slice_get-beside, slice_get-drop, slice_get-spliced, slice_get-take}
 use Rattle.p3_util_kernels.proofs.PlacesLemmas.Exchange.{slice_get-set_other, slice_get-set_same}
+
+mul-le_next : (k c n : ℕ) → c < n → k * c + k ≤ k * n
+mul-le_next k c n h = omega (arith, mul-le-mul_left k (let next : c + 1 ≤ n = omega (arith, h) in next))
+
+-- the rows of a block, as lists
+module _ {A : Type 0} (block : Block) (input : List A) where
+  -- a row has an item in each column
+  pub rows-long : (first : ℕ) (rows : List (Bor (List A))) (r start col : ℕ) → AreRows block first input rows → r < length rows
+      → start ≡ block.from + (first + r) * block.width → start + block.cols ≤ length input → col < block.cols → IfSome (slice_get rows r) (λ row. col < length row.now)
+  unfolding AreRows
+  rows-long first [] r start col are h at room hc = elim h [ ]
+  rows-long first (row ∷ rows) zero start col are h at room hc =
+      let same : start ≡ block.from + first * block.width = at ∙ ap (λ n. block.from + n * block.width) (omega arith) in
+      omega (arith, same, ap length are.0, length-take block.cols (drop (block.from + first * block.width) input), length-drop (block.from + first * block.width) input)
+  rows-long first (row ∷ rows) (suc r) start col are h at room hc =
+      rows-long (first + 1) rows r start col are.1 (omega (arith, h)) (at ∙ ap (λ n. block.from + n * block.width) (omega arith)) room hc
+
+  -- what is put of a row is the item of the block
+  pub rows-item : (first : ℕ) (rows : List (Bor (List A))) (r start col p : ℕ) (column : List A) → AreRows block first input rows → r < length rows
+      → start ≡ block.from + (first + r) * block.width → col < block.cols → IfSome (slice_get rows r) (λ row. slice_get column p ≡ slice_get row.now col)
+      → slice_get column p ≡ slice_get input (start + col)
+  unfolding AreRows
+  rows-item first [] r start col p column are h at hc put = elim h [ ]
+  rows-item first (row ∷ rows) zero start col p column are h at hc put =
+      let same : start ≡ block.from + first * block.width = at ∙ ap (λ n. block.from + n * block.width) (omega arith) in
+      put ∙ ap (λ xs. slice_get xs col) are.0 ∙ slice_get-take block.cols (drop (block.from + first * block.width) input) col hc
+      ∙ slice_get-drop (block.from + first * block.width) input col (start + col) (omega (arith, same))
+  rows-item first (row ∷ rows) (suc r) start col p column are h at hc put =
+      rows-item (first + 1) rows r start col p column are.1 (omega (arith, h)) (at ∙ ap (λ n. block.from + n * block.width) (omega arith)) hc put
 
 module _ (block : Block) (input_len output_len : ℕ) (fits : BlockFits block input_len output_len) where
   -- the cell of the item in row r and column c, and the index of this item
@@ -43,6 +74,37 @@ module _ (block : Block) (input_len output_len : ℕ) (fits : BlockFits block in
                   ∙ before.places s d hs (omega arith))
             ];
         others = λ p out. rw step (slice_get-set_other now (cell r c) p v (out r c hr (omega arith)) ∙ before.others p (λ s d hs h. out s d hs (omega arith)));
+      }
+
+  -- one more column is put, as the run of `n` cells from `at` on
+  pub IsBlockPut-column : {A : Type 0} (at n col : ℕ) (input old now column : List A) → output_len ≡ length old → 0 < n → n ≡ block.rows → col < block.cols
+      → at ≡ block.to + col * block.height → IsBlockPut (block.rows * col) block input old now → length column ≡ n → ((r : ℕ) → r < block.rows → slice_get column r ≡ slice_get input (index r col))
+      → IsBlockPut (block.rows * (col + 1)) block input old (take at now ++ (column ++ drop n (drop at now)))
+  IsBlockPut-column at n col input old now column all some rows hc begin before len filled =
+      let room : at + n ≤ length now = omega (arith, before.same_length, fits.room (n - 1) col (omega arith) hc) in
+      let left : (c : ℕ) → c < col → block.rows * c + block.rows ≤ block.rows * col = λ c h. omega (arith, mul-le_next block.rows c col h) in
+      record {
+        same_length = length-spliced at n now column len room ∙ before.same_length;
+        places = λ r c hr h.
+            elim (cases_lt c col) [
+              | inl earlier ↦
+                  let below : cell r c < at = omega (arith, hr, fits.apart, mul-le_next block.height c col earlier) in
+                  slice_get-beside at n now column (cell r c) len room (inl below) ∙ before.places r c hr (omega (arith, left c earlier))
+              | inr later ↦
+                  let same : c ≡ col = omega (arith, lt_of_mul-lt-mul_left block.rows (let less : block.rows * c < block.rows * (col + 1) = omega (arith, h) in less)) in
+                  rw same
+                  (slice_get-spliced at n now column (cell r col) r len room (omega arith) (omega arith) ∙ filled r hr)
+            ];
+        others = λ p out.
+            slice_get-beside at n now column p len room
+            (elim (cases_lt p at) [
+              | inl below ↦ inl below
+              | inr above ↦ elim (cases_lt p (at + n)) [
+                | inl inside ↦ absurd (out (p - at) col (omega arith) (omega arith) (omega arith))
+                | inr after ↦ inr after
+              ]
+            ])
+            ∙ before.others p (λ r c hr h. out r c hr (omega (arith, h)));
       }
 
 -- the last item of a block is at the end of its column

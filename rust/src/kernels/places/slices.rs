@@ -2,7 +2,7 @@
 //! The holders of slices. [`SlicePlaces`] exchanges items, [`SliceCells`] puts items into the
 //! slice, and [`SliceSource`] reads items.
 
-use crate::kernels::places::{Cells, Places, Source};
+use crate::kernels::places::{Block, Cells, Places, Source, length_fits};
 
 /// The places of a mutable slice. All changes are made in the slice itself.
 #[derive(Debug)]
@@ -93,6 +93,181 @@ impl<'a, T: Copy> Cells for SliceCells<'a, T> {
     #[inline(always)]
     fn put(&mut self, i: usize, v: T) {
         self.values[i] = v;
+    }
+
+    #[inline(always)]
+    fn put_block<R: Source<Item = T>>(&mut self, source: &R, block: Block) {
+        match source.as_slice() {
+            Some(items) if block.rows == 4 && block.cols > 0 => put_four(self.values, items, block),
+            Some(items) if block.rows == 8 && block.cols > 0 => put_eight(
+                self.values,
+                items,
+                block,
+            ),
+            Some(items) if block.rows == 16 && block.cols > 0 => {
+                put_sixteen(self.values, items, block)
+            }
+            _ => put_items(self.values, source, block),
+        }
+    }
+}
+
+/// Puts a block item by item.
+///
+/// # Contract
+///
+/// ```text
+/// requires { BlockFits block (length (R.items source.now)) (length values.old) }
+/// ensures { IsBlockPut (block_items block) block (R.items source.now) values.old values.new }
+/// ```
+#[inline(always)]
+fn put_items<R: Source>(values: &mut [R::Item], source: &R, block: Block) {
+    let Block {
+        rows,
+        cols,
+        from,
+        width,
+        to,
+        height,
+    } = block;
+    length_fits(source.len());
+    for c in 0..cols {
+        for r in 0..rows {
+            values[to + c * height + r] = source.at(from + r * width + c);
+        }
+    }
+}
+
+/// Puts a block of 4 rows.
+///
+/// # Contract
+///
+/// ```text
+/// requires rows { block.rows ≡ 4 }
+/// requires cols { 0 < block.cols }
+/// requires fits { BlockFits block (length items.now) (length values.old) }
+/// ensures { IsBlockPut (block_items block) block items.now values.old values.new }
+/// ```
+#[inline(always)]
+fn put_four<T: Copy>(values: &mut [T], items: &[T], block: Block) {
+    let rows = [
+        row_of(items, block, 0),
+        row_of(items, block, 1),
+        row_of(items, block, 2),
+        row_of(items, block, 3),
+    ];
+    put_rows(values, items, &rows, block);
+}
+
+/// Puts a block of 8 rows.
+///
+/// # Contract
+///
+/// ```text
+/// requires rows { block.rows ≡ 8 }
+/// requires cols { 0 < block.cols }
+/// requires fits { BlockFits block (length items.now) (length values.old) }
+/// ensures { IsBlockPut (block_items block) block items.now values.old values.new }
+/// ```
+#[inline(always)]
+fn put_eight<T: Copy>(values: &mut [T], items: &[T], block: Block) {
+    let rows = [
+        row_of(items, block, 0),
+        row_of(items, block, 1),
+        row_of(items, block, 2),
+        row_of(items, block, 3),
+        row_of(items, block, 4),
+        row_of(items, block, 5),
+        row_of(items, block, 6),
+        row_of(items, block, 7),
+    ];
+    put_rows(values, items, &rows, block);
+}
+
+/// Puts a block of 16 rows.
+///
+/// # Contract
+///
+/// ```text
+/// requires rows { block.rows ≡ 16 }
+/// requires cols { 0 < block.cols }
+/// requires fits { BlockFits block (length items.now) (length values.old) }
+/// ensures { IsBlockPut (block_items block) block items.now values.old values.new }
+/// ```
+#[inline(always)]
+fn put_sixteen<T: Copy>(values: &mut [T], items: &[T], block: Block) {
+    let rows = [
+        row_of(items, block, 0),
+        row_of(items, block, 1),
+        row_of(items, block, 2),
+        row_of(items, block, 3),
+        row_of(items, block, 4),
+        row_of(items, block, 5),
+        row_of(items, block, 6),
+        row_of(items, block, 7),
+        row_of(items, block, 8),
+        row_of(items, block, 9),
+        row_of(items, block, 10),
+        row_of(items, block, 11),
+        row_of(items, block, 12),
+        row_of(items, block, 13),
+        row_of(items, block, 14),
+        row_of(items, block, 15),
+    ];
+    put_rows(values, items, &rows, block);
+}
+
+/// Row `r` of a block.
+///
+/// # Contract
+///
+/// ```text
+/// requires { block.from + r * block.width + block.cols ≤ length items.now }
+/// ensures { result.now ≡ take block.cols (drop (block.from + r * block.width) items.now) }
+/// ```
+#[inline(always)]
+fn row_of<T>(items: &[T], block: Block, r: usize) -> &[T] {
+    let start = block.from + r * block.width;
+    &items[start..start + block.cols]
+}
+
+/// Puts a block that has these rows, column after column. One test is made for each column, and none
+/// for a single item.
+///
+/// # Contract
+///
+/// ```text
+/// requires some { 0 < block.rows }
+/// requires count { length rows.now ≡ block.rows }
+/// requires rows { AreRows block 0 items.now rows.now }
+/// requires fits { BlockFits block (length items.now) (length values.old) }
+/// ensures { IsBlockPut (block_items block) block items.now values.old values.new }
+/// ```
+#[inline(always)]
+fn put_rows<T: Copy>(values: &mut [T], items: &[T], rows: &[&[T]], block: Block) {
+    length_fits(items.len());
+    for col in 0..block.cols {
+        let at = block.to + col * block.height;
+        put_column(&mut values[at..at + rows.len()], rows, col);
+    }
+}
+
+/// Puts item `col` of each row.
+///
+/// # Contract
+///
+/// ```text
+/// requires count { length column.old ≡ length rows.now }
+/// requires long { (r : ℕ) → r < length rows.now → IfSome (slice_get rows.now r) (λ row. col < length row.now) }
+/// ensures same_length { length column.new ≡ length rows.now }
+/// ensures put { (r : ℕ) → r < length rows.now
+///     → IfSome (slice_get rows.now r) (λ row. slice_get column.new r ≡ slice_get row.now col) }
+/// ```
+#[inline(always)]
+fn put_column<T: Copy>(column: &mut [T], rows: &[&[T]], col: usize) {
+    for r in 0..rows.len() {
+        let row = rows[r];
+        column[r] = row[col];
     }
 }
 

@@ -1,0 +1,10 @@
+use Rattle.std.proofs.Common.{◌+◌, ◌*◌}
+use Rattle.p3_util_kernels.specs.BlockPut.{IsBlockPut}
+use Rattle.p3_util_kernels.proofs.places.slices.put_items.Given as goal
+
+-- the columns before c of the block are put, and of column c the items before row r
+abbrev pub invariant-loop-c : goal.invariant-loop-c
+invariant-loop-c g l = IsBlockPut (l.fn.block.rows * l.c) l.fn.block (g.R.Source.items l.source) l.fn.values l.values
+
+abbrev pub invariant-loop-r : goal.invariant-loop-r
+invariant-loop-r g l = IsBlockPut (l.fn.block.rows * l.c + l.r) l.fn.block (g.R.Source.items l.source) l.fn.values l.values
