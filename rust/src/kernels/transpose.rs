@@ -44,7 +44,7 @@ pub(crate) use regions::Matrix;
 pub use regions::Region;
 pub(crate) use square::transpose_square;
 pub(crate) use strips::{HIGH_ROWS, Strips};
-pub(crate) use ways::{Columns, PutRegion, put_as_block};
+pub(crate) use ways::{Blocks, Columns, PutRegion, RowBlocks, put_as_block};
 
 /// How many levels of splits a transpose is given. No matrix needs as many.
 const ENOUGH_LEVELS: u32 = 64;

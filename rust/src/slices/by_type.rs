@@ -2,10 +2,14 @@
 //! of each was checked.
 
 use super::choice::{Choice, IS_TEST, LONG_BYTES, ShortChoice, choice_of, short_choice_of, side_of, strips_of};
+#[cfg(feature = "checked")]
+use super::choice::{FEW_ITEMS, row_blocks_of};
 use super::parts::RowPlan;
 use crate::kernels::places::{Cells, Places, Source};
 use crate::kernels::reverse::{self, RowDigits, reverse_short};
-use crate::kernels::transpose::{Columns, Matrix, Order, PutRegion, Region, put_as_block};
+#[cfg(not(feature = "checked"))]
+use crate::kernels::transpose::Columns;
+use crate::kernels::transpose::{Matrix, Order, PutRegion, Region, put_as_block};
 
 /// Reverses items by index bits. Their number is zero or a power of two.
 #[inline(never)]
@@ -31,7 +35,10 @@ pub(super) fn transpose<M: Output>(source: impl Input<M::Item>, cells: M, width:
         }
         Some(ShortChoice::Columns) if const { size_of::<M::Item>() < LONG_BYTES } => {
             let matrix = Matrix::new(source, width, height);
+            #[cfg(not(feature = "checked"))]
             let _ = Columns.put(cells, matrix, matrix.whole());
+            #[cfg(feature = "checked")]
+            let _ = FEW_ITEMS.put(cells, matrix, matrix.whole());
         }
         _ => transpose_apart(source, cells, width, height),
     }
@@ -73,19 +80,31 @@ fn run<M: Output>(cells: M, matrix: Matrix<impl Input<M::Item>>, region: Option<
 #[inline(always)]
 fn run_by<const SIDE: usize, M: Output>(cells: M, matrix: Matrix<impl Input<M::Item>>, region: Option<Region>) {
     let (size, Matrix { source, width, height }) = (const { size_of::<M::Item>() }, matrix);
-    let strips = strips_of::<SIDE>(size, width, height);
     let choice = choice_of(IS_TEST, size, [width, height], region, cells.address());
     let region = region.unwrap_or(matrix.whole());
-    let order = match choice {
-        Choice::Lines => return cells.put_by_lines(matrix, region),
-        Choice::Leaves => Order::Leaves(strips),
-        Choice::Strips => Order::Strips(strips),
-    };
+    if choice == Choice::Lines {
+        return cells.put_by_lines(matrix, region);
+    }
+    let strips = strips_of::<SIDE>(size, width, height);
     if const { size_of::<M::Item>() < LONG_BYTES } {
-        let _ = order.put(cells, matrix, region);
+        #[cfg(feature = "checked")]
+        if let Some(blocks) = row_blocks_of(size, width, height) {
+            let _ = order_of(choice, blocks).put(cells, matrix, region);
+            return;
+        }
+        let _ = order_of(choice, strips).put(cells, matrix, region);
     } else {
         let indices = Matrix::new(Indices(source.len()), width, height);
-        let _ = order.put(ByIndex { cells, source }, indices, region);
+        let _ = order_of(choice, strips).put(ByIndex { cells, source }, indices, region);
+    }
+}
+
+/// The order of a choice that is not by lines.
+#[inline(always)]
+fn order_of<S: PutRegion>(choice: Choice, strips: S) -> Order<S> {
+    match choice {
+        Choice::Leaves => Order::Leaves(strips),
+        _ => Order::Strips(strips),
     }
 }
 

@@ -23,9 +23,20 @@
 //!
 //! Lines are put on x86-64, and blocks where items are transposed in registers. Elsewhere the lines of the tables that speak
 //! of them fit no matrix.
+//!
+//! With the feature `checked`, a matrix is put by blocks of several rows instead of columns and strips. The holder tests each
+//! row and each column of such a block, but not each item:
+//!
+//! | Matrix | [`RowBlocks`] | Why |
+//! |---|---|---|
+//! | fewer than 128 items: `Columns` above | none: `FEW_ITEMS`, blocks of 4 rows | such a matrix has few rows |
+//! | items of 1 KiB and more: `LONG_BYTES` | none: strips as above | they are put by their indices |
+//! | items of 16 bytes and more: `ROWS_LONG_ITEM`, more than 512 KiB: `ROWS_LONG_LIST` | none | the tests take little of the time of so many bytes |
+//! | a column of 512 bytes and more: `ROWS_LONG_COLUMN` | `Sixteen` | half as many parts of a cache line of the output are stored |
+//! | all others | `Eight` | the loop needs fewer registers |
 
 use super::holders::USES_REGISTERS;
-use crate::kernels::transpose::{HIGH_ROWS, LARGE_MATRIX, Region, Strips, TINY_MATRIX};
+use crate::kernels::transpose::{Blocks, Columns, HIGH_ROWS, LARGE_MATRIX, Region, RowBlocks, Strips, TINY_MATRIX};
 
 /// The bytes of a cache line.
 pub(super) const LINE: usize = 64;
@@ -51,6 +62,14 @@ const BLOCKS_LONG_ITEMS: usize = 1 << 15;
 
 /// The same, if the distance of two rows is a multiple of 4 KiB.
 const BLOCKS_FAR_ROWS: usize = 1 << 18;
+
+/// With the feature `checked`, items of so many bytes are put one by one if their list has more than `ROWS_LONG_LIST` bytes.
+const ROWS_LONG_ITEM: usize = 16;
+
+const ROWS_LONG_LIST: usize = 1 << 19;
+
+/// With the feature `checked`, a matrix with columns of so many bytes is put by blocks of 16 rows.
+const ROWS_LONG_COLUMN: usize = 1 << 9;
 
 const IS_AARCH64: bool = cfg!(target_arch = "aarch64");
 
@@ -124,6 +143,24 @@ pub(super) fn strips_of<const SIDE: usize>(size: usize, width: usize, height: us
         Strips::Squares
     } else {
         Strips::by_width(width)
+    }
+}
+
+/// How a matrix of few items is put with the feature `checked`.
+#[cfg_attr(not(feature = "checked"), allow(dead_code, reason = "there, columns are put"))]
+pub(super) const FEW_ITEMS: Blocks<4, Columns> = Blocks(Columns);
+
+/// The blocks of rows by which a matrix is put with the feature `checked` instead of strips, if it is.
+#[cfg_attr(not(feature = "checked"), allow(dead_code, reason = "there, strips are put"))]
+#[inline(always)]
+pub(super) fn row_blocks_of(size: usize, width: usize, height: usize) -> Option<RowBlocks> {
+    let column = height * size;
+    if size >= ROWS_LONG_ITEM && width * column > ROWS_LONG_LIST {
+        None
+    } else if column >= ROWS_LONG_COLUMN {
+        Some(RowBlocks::Sixteen)
+    } else {
+        Some(RowBlocks::Eight)
     }
 }
 

@@ -14,18 +14,18 @@ pub(crate) const TINY_MATRIX: usize = 128;
 /// The greatest number of items of a matrix that is not split.
 pub(crate) const LARGE_MATRIX: usize = 1_048_576;
 
-/// An order in which a matrix or a region of it is put.
+/// An order in which a matrix or a region of it is put. `S` is a way to put strips.
 #[derive(Clone, Copy)]
-pub(crate) enum Order<const SIDE: usize, const ROWS: usize> {
+pub(crate) enum Order<S> {
     /// Column after column, each from its first row to its last.
     Columns,
     /// Strip by strip.
-    Strips(Strips<SIDE, ROWS>),
+    Strips(S),
     /// Leaf by leaf, as the region is split, and each leaf strip by strip.
-    Leaves(Strips<SIDE, ROWS>),
+    Leaves(S),
 }
 
-impl Order<4, UNIT> {
+impl Order<Strips<4, UNIT>> {
     /// The order for a whole matrix, chosen by its shape alone. Every call in Rattle uses this
     /// choice. The plain Rust package knows the size of an item and has a choice of its own.
     ///
@@ -49,7 +49,7 @@ impl Order<4, UNIT> {
     }
 }
 
-impl<const SIDE: usize, const ROWS: usize> PutRegion for Order<SIDE, ROWS> {
+impl<S: PutRegion> PutRegion for Order<S> {
     #[inline(always)]
     fn put<M: Cells, R: Source<Item = M::Item> + Copy>(
         self,

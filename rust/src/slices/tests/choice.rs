@@ -3,10 +3,12 @@
 use core::ops::Range;
 use std::vec::Vec;
 
-use super::super::choice::{Choice, HighStrips, IS_TEST, ShortChoice, choice_of, short_choice_of, side_of, strips_of};
+use super::super::choice::{
+    Choice, HighStrips, IS_TEST, ShortChoice, choice_of, row_blocks_of, short_choice_of, side_of, strips_of,
+};
 use super::super::holders::USES_REGISTERS;
 use crate::kernels::places::{Block, Cells, SliceSource, Source};
-use crate::kernels::transpose::{Matrix, PutRegion, Region, Strips, transpose_matrix};
+use crate::kernels::transpose::{Matrix, PutRegion, Region, RowBlocks, Strips, transpose_matrix};
 
 const IS_AARCH64: bool = cfg!(target_arch = "aarch64");
 
@@ -109,6 +111,34 @@ fn strips() {
             };
             let wanted = if by_blocks { "squares" } else { by_width };
             assert_eq!(strips, wanted, "{size} {width} {height}");
+        }
+    }
+}
+
+/// The rows of the third table, without its first one.
+#[test]
+fn blocks_of_rows() {
+    for size in [1, 2, 3, 4, 8, 12, 15, 16, 24, 32, 1023] {
+        for (width, height) in [
+            (16, 8),
+            (1000, 2),
+            (2, 1000),
+            (64, 64),
+            (64, 32),
+            (1 << 15, 512),
+            (1 << 20, 40),
+        ] {
+            let column = height * size;
+            let wanted = match column {
+                _ if size >= 16 && width * column > 524_288 => None,
+                ..512 => Some("eight"),
+                _ => Some("sixteen"),
+            };
+            let found = row_blocks_of(size, width, height).map(|blocks| match blocks {
+                RowBlocks::Eight => "eight",
+                RowBlocks::Sixteen => "sixteen",
+            });
+            assert_eq!(found, wanted, "{size} {width} {height}");
         }
     }
 }
@@ -280,6 +310,34 @@ fn strips_of_blocks_in_order() {
         let order = |side| by_strips_of_blocks(width, height, side);
         check_order(HighStrips::<4>::Squares, (width, height), order(4));
         check_order(HighStrips::<8>::Squares, (width, height), order(8));
+    }
+}
+
+/// Blocks of rows are put from top to bottom, the high ones first, and then the rows that remain.
+#[test]
+fn row_blocks_in_order() {
+    for (width, height) in [
+        (1, 1),
+        (5, 3),
+        (3, 5),
+        (7, 8),
+        (4, 15),
+        (3, 16),
+        (9, 31),
+        (2, 47),
+        (20, 64),
+    ] {
+        for (blocks, sides) in [(RowBlocks::Eight, &[8, 4][..]), (RowBlocks::Sixteen, &[16, 8, 4])] {
+            let (mut order, mut top) = (Vec::new(), 0);
+            for side in sides {
+                while height - top >= *side {
+                    order.extend(by_columns(top..top + side, 0..width));
+                    top += side;
+                }
+            }
+            order.extend(by_columns(top..height, 0..width));
+            check_order(blocks, (width, height), order);
+        }
     }
 }
 

@@ -5,6 +5,8 @@ use core::cell::RefCell;
 use std::vec::Vec;
 
 use super::super::super::by_type;
+#[cfg(feature = "checked")]
+use super::super::super::choice::row_blocks_of;
 use super::super::super::choice::{side_of, strips_of};
 use super::super::super::holders::USES_REGISTERS;
 use super::super::*;
@@ -76,10 +78,15 @@ fn each_item_is_read_once() {
     }
 }
 
-/// Puts a matrix by the strips that suit the size of its items.
+/// Puts a matrix by the strips, or the blocks of rows, that suit the size of its items.
 fn put_by_strips<T: Copy>(output: &mut [T], matrix: Matrix<impl Source<Item = T> + Copy>) {
     let (size, Matrix { width, height, .. }) = (size_of::<T>(), matrix);
     let cells = SliceItems::new(output);
+    #[cfg(feature = "checked")]
+    if let Some(blocks) = row_blocks_of(size, width, height) {
+        let _ = transpose_matrix(cells, matrix, blocks);
+        return;
+    }
     let _ = match side_of(size) {
         4 => transpose_matrix(cells, matrix, strips_of::<4>(size, width, height)),
         8 => transpose_matrix(cells, matrix, strips_of::<8>(size, width, height)),
@@ -89,7 +96,7 @@ fn put_by_strips<T: Copy>(output: &mut [T], matrix: Matrix<impl Source<Item = T>
 
 /// The parts use the strips that suit the size of the items and the whole matrix. For a small matrix of large items these
 /// are not the strips that the kernels choose. Nor are they for items of up to 8 bytes, if blocks of them are transposed in
-/// registers.
+/// registers. With the feature `checked` no matrix of this test is put by strips.
 #[test]
 fn strips_of_the_parts() {
     fn check<T: Copy + Default + Send + Sync>(width: usize, height: usize) -> bool {
@@ -109,7 +116,8 @@ fn strips_of_the_parts() {
         assert!(by_parts == by_strips(true), "{width} by {height}");
         by_parts == by_strips(false)
     }
-    assert!(check::<u128>(64, 65));
+    let has_strips = cfg!(not(feature = "checked"));
+    assert_eq!(check::<u128>(64, 65), has_strips);
     assert!(!check::<[u64; 4]>(16, 64));
     let of_numbers = [
         check::<u8>(64, 65),
@@ -117,7 +125,7 @@ fn strips_of_the_parts() {
         check::<u32>(64, 65),
         check::<u64>(64, 65),
     ];
-    assert_eq!(of_numbers, [!USES_REGISTERS; 4]);
+    assert_eq!(of_numbers, [has_strips && !USES_REGISTERS; 4]);
 }
 
 /// A call on slices puts the items by the strips that suit their size.
