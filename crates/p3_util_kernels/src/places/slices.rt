@@ -6,7 +6,7 @@ ghost use Rattle.std.proofs.Common.{rules};
 ghost use Rattle.p3_util_kernels.specs.BlockPut.{AreRows, BlockFits, IsBlockPut, block_items};
 ghost use Rattle.p3_util_kernels.specs.Exchanged.{RunsExchanged};
 
-use crate::places::{Block, Cells, Places, Source, length_fits};
+use crate::places::{Block, Cells, Places, Source, len_fits};
 
 /// The places of a mutable slice. All changes are made in the slice itself.
 #[derive(Debug, Drop)]
@@ -130,7 +130,7 @@ fn put_items<R: Source>(values: &mut [R::Item], source: &R, block: Block)
         to,
         height,
     } = block;
-    length_fits(source.len());
+    len_fits(source.len());
     for c in 0..cols {
         for r in 0..rows {
             values[to + c * height + r] = source.at(from + r * width + c);
@@ -228,7 +228,7 @@ fn put_rows<T: Copy>(values: &mut [T], items: &[T], rows: &[&[T]], block: Block)
     requires fits { BlockFits block (length items.now) (length values.old) }
     ensures { IsBlockPut (block_items block) block items.now values.old values.new }
 {
-    length_fits(items.len());
+    len_fits(items.len());
     for col in 0..block.cols {
         let at = block.to + col * block.height;
         put_column(&mut values[at..at + rows.len()], rows, col);

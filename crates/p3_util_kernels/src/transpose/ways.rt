@@ -154,10 +154,10 @@ impl PutRegion for RowBlocks {
         matrix: Matrix<R>,
         region: Region,
     ) -> M {
-        let eight = Blocks::<8, _>(Apart(Blocks::<4, _>(Columns)));
+        let eight = Blocks::<8, _>(Outlined(Blocks::<4, _>(Columns)));
         match self {
-            RowBlocks::Eight => Apart(eight).put(out, matrix, region),
-            RowBlocks::Sixteen => Apart(Blocks::<16, _>(eight)).put(out, matrix, region),
+            RowBlocks::Eight => Outlined(eight).put(out, matrix, region),
+            RowBlocks::Sixteen => Outlined(Blocks::<16, _>(eight)).put(out, matrix, region),
         }
     }
 }

@@ -2,7 +2,7 @@
 //! The holders of slices. [`SlicePlaces`] exchanges items, [`SliceCells`] puts items into the
 //! slice, and [`SliceSource`] reads items.
 
-use crate::kernels::places::{Block, Cells, Places, Source, length_fits};
+use crate::kernels::places::{Block, Cells, Places, Source, len_fits};
 
 /// The places of a mutable slice. All changes are made in the slice itself.
 #[derive(Debug)]
@@ -130,7 +130,7 @@ fn put_items<R: Source>(values: &mut [R::Item], source: &R, block: Block) {
         to,
         height,
     } = block;
-    length_fits(source.len());
+    len_fits(source.len());
     for c in 0..cols {
         for r in 0..rows {
             values[to + c * height + r] = source.at(from + r * width + c);
@@ -245,7 +245,7 @@ fn row_of<T>(items: &[T], block: Block, r: usize) -> &[T] {
 /// ```
 #[inline(always)]
 fn put_rows<T: Copy>(values: &mut [T], items: &[T], rows: &[&[T]], block: Block) {
-    length_fits(items.len());
+    len_fits(items.len());
     for col in 0..block.cols {
         let at = block.to + col * block.height;
         put_column(&mut values[at..at + rows.len()], rows, col);
