@@ -65,8 +65,7 @@ static EXPONENTS_OF_THREE: [u8; 64] = [
 ///
 /// # Contract
 ///
-/// [`contracts`](crate::kernels::contracts) explains how to read this contract, and its names
-/// [`clog`](crate::kernels::contracts#clog).
+/// [`contracts`](crate::kernels::contracts) explains how to read this contract.
 ///
 /// ```text
 /// ensures enough { n ≤ 2 ^ result }
@@ -176,9 +175,7 @@ pub const fn checked_log_size_sum(a: usize, b: usize) -> Option<(usize, usize)> 
 ///
 /// # Contract
 ///
-/// [`contracts`](crate::kernels::contracts) explains how to read this contract, and its names
-/// [`clog`](crate::kernels::contracts#clog),
-/// [`HasLog2`](crate::kernels::contracts#HasLog2).
+/// [`contracts`](crate::kernels::contracts) explains how to read this contract.
 ///
 /// ```text
 /// requires { HasLog2 n }
@@ -196,8 +193,7 @@ pub(crate) const fn log2_strict_usize(n: usize) -> usize {
 ///
 /// # Contract
 ///
-/// [`contracts`](crate::kernels::contracts) explains how to read this contract, and its names
-/// [`HasLog3`](crate::kernels::contracts#HasLog3).
+/// [`contracts`](crate::kernels::contracts) explains how to read this contract.
 ///
 /// ```text
 /// requires { HasLog3 n }
@@ -215,8 +211,7 @@ pub(crate) const fn log3_strict_usize(n: usize) -> usize {
 ///
 /// # Contract
 ///
-/// [`contracts`](crate::kernels::contracts) explains how to read this contract, and its names
-/// [`IsPowerOfThree`](crate::kernels::contracts#IsPowerOfThree).
+/// [`contracts`](crate::kernels::contracts) explains how to read this contract.
 ///
 /// ```text
 /// ensures { IsTrue result ↔ IsPowerOfThree n }

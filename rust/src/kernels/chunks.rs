@@ -13,10 +13,7 @@ use core::iter::FusedIterator;
 ///
 /// # Contract
 ///
-/// [`contracts`](crate::kernels::contracts) explains how to read this contract, and its names
-/// [`CallsOnPieces`](crate::kernels::contracts#CallsOnPieces),
-/// [`flat`](crate::kernels::contracts#flat),
-/// [`pieces`](crate::kernels::contracts#pieces).
+/// [`contracts`](crate::kernels::contracts) explains how to read this contract.
 ///
 /// ```text
 /// requires fits { BUFLEN < 2 ^ 63 }
@@ -60,13 +57,7 @@ where
 ///
 /// # Contract
 ///
-/// [`contracts`](crate::kernels::contracts) explains how to read this contract, and its names
-/// [`EndsForGood`](crate::kernels::contracts#EndsForGood),
-/// [`padded_done`](crate::kernels::contracts#padded_done),
-/// [`padded_fill`](crate::kernels::contracts#padded_fill),
-/// [`padded_source`](crate::kernels::contracts#padded_source),
-/// [`padded_steps`](crate::kernels::contracts#padded_steps),
-/// [`PadsRuns`](crate::kernels::contracts#PadsRuns).
+/// [`contracts`](crate::kernels::contracts) explains how to read this contract.
 ///
 /// ```text
 /// ensures source { I.into_iter_gives iter (padded_source result) }

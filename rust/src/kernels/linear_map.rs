@@ -55,8 +55,7 @@ impl<K: Eq, V> LinearMap<K, V> {
     ///
     /// # Contract
     ///
-    /// [`contracts`](crate::kernels::contracts) explains how to read this contract, and its names
-    /// [`HasDistinctKeys`](crate::kernels::contracts#HasDistinctKeys).
+    /// [`contracts`](crate::kernels::contracts) explains how to read this contract.
     ///
     /// ```text
     /// ensures len { result ≡ length self.now }
@@ -136,8 +135,7 @@ impl<K: Eq, V> LinearMap<K, V> {
     ///
     /// # Contract
     ///
-    /// [`contracts`](crate::kernels::contracts) explains how to read this contract, and its names
-    /// [`value_at`](crate::kernels::contracts#value_at).
+    /// [`contracts`](crate::kernels::contracts) explains how to read this contract.
     ///
     /// ```text
     /// ensures { option_copied result ≡ value_at K.eq self.now k.now }
@@ -152,9 +150,7 @@ impl<K: Eq, V> LinearMap<K, V> {
     ///
     /// # Contract
     ///
-    /// [`contracts`](crate::kernels::contracts) explains how to read this contract, and its names
-    /// [`lends_value`](crate::kernels::contracts#lends_value),
-    /// [`value_at`](crate::kernels::contracts#value_at).
+    /// [`contracts`](crate::kernels::contracts) explains how to read this contract.
     ///
     /// ```text
     /// ensures* writes_back { sem 𝓛 (lends_value K.row V.row K.eq self.entry k.now result) }
@@ -175,10 +171,7 @@ impl<K: Eq, V> LinearMap<K, V> {
     ///
     /// # Contract
     ///
-    /// [`contracts`](crate::kernels::contracts) explains how to read this contract, and its names
-    /// [`HasDistinctKeys`](crate::kernels::contracts#HasDistinctKeys),
-    /// [`put`](crate::kernels::contracts#put),
-    /// [`value_at`](crate::kernels::contracts#value_at).
+    /// [`contracts`](crate::kernels::contracts) explains how to read this contract.
     ///
     /// ```text
     /// ensures old { IfOk result (λ old. old ≡ value_at K.eq self.old k) }
@@ -211,9 +204,7 @@ impl<K: Eq, V> LinearMap<K, V> {
     ///
     /// # Contract
     ///
-    /// [`contracts`](crate::kernels::contracts) explains how to read this contract, and its names
-    /// [`lends_put`](crate::kernels::contracts#lends_put),
-    /// [`value_at`](crate::kernels::contracts#value_at).
+    /// [`contracts`](crate::kernels::contracts) explains how to read this contract.
     ///
     /// ```text
     /// requires { value_at K.eq self.old k ≡ None → F.pre f }
@@ -243,9 +234,7 @@ impl<K: Eq, V> LinearMap<K, V> {
     ///
     /// # Contract
     ///
-    /// [`contracts`](crate::kernels::contracts) explains how to read this contract, and its names
-    /// [`put_all`](crate::kernels::contracts#put_all),
-    /// [`value_at`](crate::kernels::contracts#value_at).
+    /// [`contracts`](crate::kernels::contracts) explains how to read this contract.
     ///
     /// ```text
     /// requires { IsFiniteIterable I.into_iter_gives I.IntoIter.can_next I.IntoIter.remaining it }

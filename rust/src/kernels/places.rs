@@ -82,8 +82,7 @@ pub trait Places {
     ///
     /// # Contract
     ///
-    /// [`contracts`](crate::kernels::contracts) explains how to read this contract, and its names
-    /// [`same_holder`](crate::kernels::contracts#same_holder).
+    /// [`contracts`](crate::kernels::contracts) explains how to read this contract.
     ///
     /// ```text
     /// requires first { i < length (items self.old) }
@@ -101,10 +100,7 @@ pub trait Places {
     ///
     /// # Contract
     ///
-    /// [`contracts`](crate::kernels::contracts) explains how to read this contract, and its names
-    /// [`AreTiles`](crate::kernels::contracts#AreTiles),
-    /// [`same_holder`](crate::kernels::contracts#same_holder),
-    /// [`TilesExchanged`](crate::kernels::contracts#TilesExchanged).
+    /// [`contracts`](crate::kernels::contracts) explains how to read this contract.
     ///
     /// ```text
     /// requires { AreTiles x y (length (items self.old)) }
@@ -128,10 +124,7 @@ pub trait Places {
     ///
     /// # Contract
     ///
-    /// [`contracts`](crate::kernels::contracts) explains how to read this contract, and its names
-    /// [`IsTile`](crate::kernels::contracts#IsTile),
-    /// [`same_holder`](crate::kernels::contracts#same_holder),
-    /// [`TileTurned`](crate::kernels::contracts#TileTurned).
+    /// [`contracts`](crate::kernels::contracts) explains how to read this contract.
     ///
     /// ```text
     /// requires { IsTile x (length (items self.old)) }
@@ -160,9 +153,7 @@ pub trait Places {
     ///
     /// # Contract
     ///
-    /// [`contracts`](crate::kernels::contracts) explains how to read this contract, and its names
-    /// [`RunsExchanged`](crate::kernels::contracts#RunsExchanged),
-    /// [`same_holder`](crate::kernels::contracts#same_holder).
+    /// [`contracts`](crate::kernels::contracts) explains how to read this contract.
     ///
     /// ```text
     /// requires apart { (i + len ≤ j) ⊎ (j + len ≤ i) }
@@ -204,8 +195,7 @@ pub trait Cells {
     ///
     /// # Contract
     ///
-    /// [`contracts`](crate::kernels::contracts) explains how to read this contract, and its names
-    /// [`same_holder`](crate::kernels::contracts#same_holder).
+    /// [`contracts`](crate::kernels::contracts) explains how to read this contract.
     ///
     /// ```text
     /// requires { i < length (items self.old) }
@@ -221,11 +211,7 @@ pub trait Cells {
     ///
     /// # Contract
     ///
-    /// [`contracts`](crate::kernels::contracts) explains how to read this contract, and its names
-    /// [`block_items`](crate::kernels::contracts#block_items),
-    /// [`BlockFits`](crate::kernels::contracts#BlockFits),
-    /// [`IsBlockPut`](crate::kernels::contracts#IsBlockPut),
-    /// [`same_holder`](crate::kernels::contracts#same_holder).
+    /// [`contracts`](crate::kernels::contracts) explains how to read this contract.
     ///
     /// ```text
     /// requires { BlockFits block (length (R.items source.now)) (length (items self.old)) }

@@ -37,9 +37,7 @@ const SHORT_PATH_ITEMS: usize = 8192;
 ///
 /// # Contract
 ///
-/// [`contracts`](crate::kernels::contracts) explains how to read this contract, and its names
-/// [`FitsRows`](crate::kernels::contracts#FitsRows),
-/// [`IsZeroOrPowerOfTwo`](crate::kernels::contracts#IsZeroOrPowerOfTwo).
+/// [`contracts`](crate::kernels::contracts) explains how to read this contract.
 ///
 /// ```text
 /// ensures rows { IsTrue result ↔ FitsRows len row_width }
@@ -62,10 +60,7 @@ pub const fn fits_rows(len: usize, row_width: usize) -> bool {
 ///
 /// # Contract
 ///
-/// [`contracts`](crate::kernels::contracts) explains how to read this contract, and its names
-/// [`IsReversal`](crate::kernels::contracts#IsReversal),
-/// [`IsReversible`](crate::kernels::contracts#IsReversible),
-/// [`rev`](crate::kernels::contracts#rev).
+/// [`contracts`](crate::kernels::contracts) explains how to read this contract.
 ///
 /// ```text
 /// requires { IsReversible (length vals.old) }
@@ -87,12 +82,7 @@ pub(crate) fn reverse_slice_index_bits<F>(vals: &mut [F]) {
 ///
 /// # Contract
 ///
-/// [`contracts`](crate::kernels::contracts) explains how to read this contract, and its names
-/// [`IsReversal`](crate::kernels::contracts#IsReversal),
-/// [`IsReversible`](crate::kernels::contracts#IsReversible),
-/// [`rev`](crate::kernels::contracts#rev),
-/// [`reversal_swaps`](crate::kernels::contracts#reversal_swaps),
-/// [`same_holder`](crate::kernels::contracts#same_holder).
+/// [`contracts`](crate::kernels::contracts) explains how to read this contract.
 ///
 /// ```text
 /// requires { IsReversible (length (S.items places.old)) }
@@ -118,10 +108,7 @@ pub fn reverse_counted<S: Places>(places: &mut S) -> u128 {
 ///
 /// # Contract
 ///
-/// [`contracts`](crate::kernels::contracts) explains how to read this contract, and its names
-/// [`FitsRows`](crate::kernels::contracts#FitsRows),
-/// [`IsRowReversal`](crate::kernels::contracts#IsRowReversal),
-/// [`rev`](crate::kernels::contracts#rev).
+/// [`contracts`](crate::kernels::contracts) explains how to read this contract.
 ///
 /// ```text
 /// requires { FitsRows (length vals.old) row_width }
@@ -144,12 +131,7 @@ pub(crate) fn reverse_slice_row_index_bits<F>(vals: &mut [F], row_width: usize) 
 ///
 /// # Contract
 ///
-/// [`contracts`](crate::kernels::contracts) explains how to read this contract, and its names
-/// [`FitsRows`](crate::kernels::contracts#FitsRows),
-/// [`IsRowReversal`](crate::kernels::contracts#IsRowReversal),
-/// [`rev`](crate::kernels::contracts#rev),
-/// [`row_swaps`](crate::kernels::contracts#row_swaps),
-/// [`same_holder`](crate::kernels::contracts#same_holder).
+/// [`contracts`](crate::kernels::contracts) explains how to read this contract.
 ///
 /// ```text
 /// requires { FitsRows (length (S.items places.old)) row_width }
@@ -176,13 +158,7 @@ pub fn reverse_rows_counted<S: Places>(places: &mut S, row_width: usize) -> u128
 ///
 /// # Contract
 ///
-/// [`contracts`](crate::kernels::contracts) explains how to read this contract, and its names
-/// [`counted`](crate::kernels::contracts#counted),
-/// [`IsReversal`](crate::kernels::contracts#IsReversal),
-/// [`IsReversible`](crate::kernels::contracts#IsReversible),
-/// [`rev`](crate::kernels::contracts#rev),
-/// [`reversal_swaps`](crate::kernels::contracts#reversal_swaps),
-/// [`same_holder`](crate::kernels::contracts#same_holder).
+/// [`contracts`](crate::kernels::contracts) explains how to read this contract.
 ///
 /// ```text
 /// requires { IsReversible (length (S.items m.old.holder)) }
@@ -206,14 +182,7 @@ pub fn reverse_index_bits_on<S: Places>(m: &mut Swaps<S>) {
 ///
 /// # Contract
 ///
-/// [`contracts`](crate::kernels::contracts) explains how to read this contract, and its names
-/// [`clog`](crate::kernels::contracts#clog),
-/// [`counted`](crate::kernels::contracts#counted),
-/// [`IsReversal`](crate::kernels::contracts#IsReversal),
-/// [`IsReversible`](crate::kernels::contracts#IsReversible),
-/// [`rev`](crate::kernels::contracts#rev),
-/// [`same_holder`](crate::kernels::contracts#same_holder),
-/// [`short_swaps`](crate::kernels::contracts#short_swaps).
+/// [`contracts`](crate::kernels::contracts) explains how to read this contract.
 ///
 /// ```text
 /// requires { IsReversible (length (S.items m.old.holder)) }
@@ -239,14 +208,7 @@ pub fn reverse_index_bits_short<S: Places>(m: &mut Swaps<S>) {
 ///
 /// # Contract
 ///
-/// [`contracts`](crate::kernels::contracts) explains how to read this contract, and its names
-/// [`clog`](crate::kernels::contracts#clog),
-/// [`counted`](crate::kernels::contracts#counted),
-/// [`IsReversal`](crate::kernels::contracts#IsReversal),
-/// [`IsReversible`](crate::kernels::contracts#IsReversible),
-/// [`long_swaps`](crate::kernels::contracts#long_swaps),
-/// [`rev`](crate::kernels::contracts#rev),
-/// [`same_holder`](crate::kernels::contracts#same_holder).
+/// [`contracts`](crate::kernels::contracts) explains how to read this contract.
 ///
 /// ```text
 /// requires fits { IsReversible (length (S.items m.old.holder)) }
@@ -272,13 +234,7 @@ pub fn reverse_index_bits_long<S: Places>(m: &mut Swaps<S>) {
 ///
 /// # Contract
 ///
-/// [`contracts`](crate::kernels::contracts) explains how to read this contract, and its names
-/// [`counted`](crate::kernels::contracts#counted),
-/// [`FitsRows`](crate::kernels::contracts#FitsRows),
-/// [`IsRowReversal`](crate::kernels::contracts#IsRowReversal),
-/// [`rev`](crate::kernels::contracts#rev),
-/// [`row_swaps`](crate::kernels::contracts#row_swaps),
-/// [`same_holder`](crate::kernels::contracts#same_holder).
+/// [`contracts`](crate::kernels::contracts) explains how to read this contract.
 ///
 /// ```text
 /// requires { FitsRows (length (S.items m.old.holder)) row_width }
@@ -307,11 +263,7 @@ pub fn reverse_row_index_bits_on<S: Places>(m: &mut Swaps<S>, row_width: usize) 
 ///
 /// # Contract
 ///
-/// [`contracts`](crate::kernels::contracts) explains how to read this contract, and its names
-/// [`counted`](crate::kernels::contracts#counted),
-/// [`IsRowReversal`](crate::kernels::contracts#IsRowReversal),
-/// [`same_holder`](crate::kernels::contracts#same_holder),
-/// [`short_swaps`](crate::kernels::contracts#short_swaps).
+/// [`contracts`](crate::kernels::contracts) explains how to read this contract.
 ///
 /// ```text
 /// requires { length (S.items m.old.holder) ≡ 2 ^ (lb_num_chunks + lb_chunk_size) }

@@ -79,8 +79,7 @@ pub const fn fits_matrix(input_len: usize, output_len: usize, width: usize, heig
 ///
 /// # Contract
 ///
-/// [`contracts`](crate::kernels::contracts) explains how to read this contract, and its names
-/// [`IsTranspose`](crate::kernels::contracts#IsTranspose).
+/// [`contracts`](crate::kernels::contracts) explains how to read this contract.
 ///
 /// ```text
 /// requires input_fits { length input.now ≡ width * height }

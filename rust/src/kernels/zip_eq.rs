@@ -7,14 +7,7 @@ use core::iter::FusedIterator;
 ///
 /// # Contract
 ///
-/// [`contracts`](crate::kernels::contracts) explains how to read this contract, and its names
-/// [`AskedRuns`](crate::kernels::contracts#AskedRuns),
-/// [`HasTrueLength`](crate::kernels::contracts#HasTrueLength),
-/// [`PairsRuns`](crate::kernels::contracts#PairsRuns),
-/// [`zip_eq_first`](crate::kernels::contracts#zip_eq_first),
-/// [`zip_eq_left`](crate::kernels::contracts#zip_eq_left),
-/// [`zip_eq_second`](crate::kernels::contracts#zip_eq_second),
-/// [`zip_eq_steps`](crate::kernels::contracts#zip_eq_steps).
+/// [`contracts`](crate::kernels::contracts) explains how to read this contract.
 ///
 /// ```text
 /// ensures lengths { (i : A.IntoIter) × (j : B.IntoIter)
@@ -93,8 +86,7 @@ impl<A: ExactSizeIterator, B: ExactSizeIterator> Iterator for ZipEq<A, B> {
 
     /// # Contract
     ///
-    /// [`contracts`](crate::kernels::contracts) explains how to read this contract, and its names
-    /// [`zip_eq_left`](crate::kernels::contracts#zip_eq_left).
+    /// [`contracts`](crate::kernels::contracts) explains how to read this contract.
     ///
     /// ```text
     /// ensures lower { IsWithinCount result.0 (zip_eq_left A.remaining self.now) }

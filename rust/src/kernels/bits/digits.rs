@@ -13,10 +13,7 @@
 ///
 /// # Contract
 ///
-/// [`contracts`](crate::kernels::contracts) explains how to read this contract, and its names
-/// [`HasLog2`](crate::kernels::contracts#HasLog2),
-/// [`rev`](crate::kernels::contracts#rev),
-/// [`rev_word`](crate::kernels::contracts#rev_word).
+/// [`contracts`](crate::kernels::contracts) explains how to read this contract.
 ///
 /// ```text
 /// requires { HasLog2 n }
@@ -34,9 +31,7 @@ pub(crate) const fn reverse_bits(x: usize, n: usize) -> usize {
 ///
 /// # Contract
 ///
-/// [`contracts`](crate::kernels::contracts) explains how to read this contract, and its names
-/// [`rev`](crate::kernels::contracts#rev),
-/// [`rev_word`](crate::kernels::contracts#rev_word).
+/// [`contracts`](crate::kernels::contracts) explains how to read this contract.
 ///
 /// ```text
 /// requires { bit_len ≤ 64 }

@@ -17,8 +17,7 @@ use crate::memory::{AllocError, Global, String};
 ///
 /// # Contract
 ///
-/// [`contracts`](crate::kernels::contracts) explains how to read this contract, and its names
-/// [`short_name`](crate::kernels::contracts#short_name).
+/// [`contracts`](crate::kernels::contracts) explains how to read this contract.
 ///
 /// ```text
 /// ensures short { IfOk result (λ s. string_bytes s ≡ short_name name.now) }

@@ -4,7 +4,7 @@
 //! A *plan* says how a call is cut: `TransposePlan` into regions of a matrix, and `RowPairs` into patches of a grid. `put` of a
 //! region and `exchange` make the steps of one part. The functions of `laws.rt` are there only for their contracts, and are not
 //! part of this package. A clause that begins with `(steps : List ..)` holds for every list of steps. [The page
-//! above](super) explains the marks.
+//! above](super) explains the marks and the names.
 //!
 //! # `parts.rt`
 //!
@@ -140,49 +140,3 @@
 //!   ensures: result ≡ items_of (part_of_matrix self.width self.height self.by_rows self.cut.len self.cut.part_len
 //!       number)
 //! ```
-//!
-//! # Names of this package
-//!
-//! | Name | Meaning |
-//! |---|---|
-//! | <a id="after_puts"></a>`after_puts` | `after_puts xs steps` is the list xs after writes that are made one after the other. Each of the `steps` is a place and the item that is put there |
-//! | <a id="after_swaps"></a>`after_swaps` | `after_swaps xs steps` is the list xs after exchanges that are made one after the other. Each of the `steps` is a pair of places, and the items there are exchanged |
-//! | <a id="AreOfParts"></a>`AreOfParts count IsOf lists` | there is one list for each of `count` parts, and `IsOf k` holds for that of part k |
-//! | <a id="AreOnceAmong"></a>`AreOnceAmong among places` | each of these places has the property `among`, and no place is listed twice |
-//! | <a id="bit"></a>`bit x i` | bit i of x, counted from the lowest one: `x / 2 ^ i % 2` |
-//! | <a id="clog"></a>`clog n` | the least e with `n ≤ 2 ^ e`. This is the number of powers of two below n |
-//! | <a id="FitsRows"></a>`FitsRows len row_width` | `len` items fill whole rows of `row_width` items, and the number of rows is 0 or a power of two |
-//! | <a id="FollowEachOther"></a>`FollowEachOther count len start` | The numbers below `len` are cut into `count` parts. Part k has the numbers from `start k` up to, but not including, `start (k + 1)`. The first part begins at 0, the last one ends at `len`, and none is empty |
-//! | <a id="HoldsRows"></a>`HoldsRows row_width digits items` | the list has `2 ^ digits` rows of `row_width` items, its length fits in a usize, and `row_width` is at least 1 |
-//! | <a id="IsInterleaved"></a>`IsInterleaved lists all` | `all` is an interleaving of the lists: each step of `all` is the first remaining step of one of the lists, and at the end no list has a step left |
-//! | <a id="IsLeastPartLen"></a>`IsLeastPartLen parts unit len part_len` | Parts of `part_len` numbers are no longer than necessary. Take any positive multiple L of `unit`. If parts of L numbers cut the numbers below `len` into at most `parts` parts, then L is at least `part_len`. If `parts` is 0, it counts as 1 |
-//! | <a id="IsMadeAlone"></a>`IsMadeAlone plan k old steps` | The exchanges `steps`, made on `old` without those of any other part, do what `IsPartMade` says about part k of the plan, and there are as many as it says |
-//! | <a id="IsPartMade"></a>`IsPartMade plan number old new Steps` | Part `number` of the plan turns `old` into `new`, and `Steps` holds for the number of its exchanges. The part exchanges the pairs of rows of a patch |
-//! | <a id="IsPatchExchanged"></a>`IsPatchExchanged digits row_width part_len number old new Steps` | The pairs of rows in the patch with this number are exchanged, and no other rows. `Steps` holds for the number of exchanges |
-//! | <a id="IsPlaceOfPart"></a>`IsPlaceOfPart plan number p` | p is a place of part `number` of the plan: a place in one of the rows that the patch with this number exchanges. A row that stays where it is counts as a pair with itself |
-//! | <a id="IsPlaceOfRegion"></a>`IsPlaceOfRegion region height p` | p is the place of an item of the region in the transpose of a matrix of `height` rows |
-//! | <a id="IsPutAlone"></a>`IsPutAlone plan k input old steps` | The writes `steps`, made on `old` without those of any other part, put the transpose of the region of part k. There is one write for each item of the region |
-//! | <a id="IsReversalPlan"></a>`IsReversalPlan len plan` | the plan is one for a list of `len` items |
-//! | <a id="IsRowReversal"></a>`IsRowReversal row_width old new` | The two lists have the same length. If `old` has `2 ^ k` rows of `row_width` items, row r of `new` has the items of row `rev k r` of `old`, in the same order |
-//! | <a id="IsTranspose"></a>`IsTranspose width height old new` | `old` has `height` rows of `width` items. `new` is its transpose, which has `width` rows of `height` items: item `x * height + y` of `new` is item `y * width + x` of `old`, for x < width and y < height |
-//! | <a id="items_of"></a>`items_of region` | the number of items of the region |
-//! | <a id="LiesInMatrix"></a>`LiesInMatrix region width height` | The region lies in a matrix of `height` rows of `width` items. Neither its rows nor its columns end before they begin |
-//! | <a id="NoItemInCommon"></a>`NoItemInCommon xs ys` | no item of one list is equal to an item of the other |
-//! | <a id="NoPlaceInCommon"></a>`NoPlaceInCommon first second` | no place has both properties |
-//! | <a id="number_of_pair"></a>`number_of_pair n i j` | The number of the pair of parts i and j of n parts, for i ≤ j. Let the parts be numbered in a circle, so that part 0 follows part n - 1. If part j is s steps after part i, part i is n - s steps after part j. The pair is called (i, s) if 2 s ≤ n, and (j, n - s) otherwise. The number of the pair (p, s) is s n + p less than that of the last pair. So the pairs of a part with itself, which are called (p, 0), have the greatest numbers |
-//! | <a id="numbers_below"></a>`numbers_below n` | the list 0, 1, 2 and so on of n numbers, which all differ |
-//! | <a id="pairs_of"></a>`pairs_of n` | the number of pairs of n parts, if each part makes a pair with itself and with each later part: `n * (n + 1) / 2` |
-//! | <a id="part_of_matrix"></a>`part_of_matrix width height by_rows len part_len k` | the region of part k when a matrix of `height` rows of `width` items is cut. If `by_rows` is true, its `len` rows are cut into parts of `part_len` rows, and the region has all columns. Otherwise its `len` columns are cut in the same way, and the region has all rows |
-//! | <a id="parts_in"></a>`parts_in len part_len` | the number of parts when the numbers below `len` are cut into parts of `part_len` numbers. The last part may have fewer |
-//! | <a id="parts_of"></a>`parts_of plan` | the number of parts of a plan |
-//! | <a id="patches_of"></a>`patches_of digits part_len` | the number of patches on and above the diagonals of all grids |
-//! | <a id="places_put"></a>`places_put` | the places of a list of writes, in order, one for each write |
-//! | <a id="places_swapped"></a>`places_swapped` | the places of a list of exchanges, in order, two for each exchange |
-//! | <a id="put"></a>`put eq pairs k v` | the pairs after k was given the value v. If a key is already equal to k, its pair keeps its place and that key, and only the value changes. Otherwise a new pair is added at the end |
-//! | <a id="puts_of"></a>`puts_of item steps` | Writes that put numbers, which they read from the list `numbers_below`, become writes that read another list at the same places: `item i` is put in place of the number i |
-//! | <a id="region_of"></a>`region_of plan k` | the region of part k of the plan |
-//! | <a id="rev"></a>`rev k x` | the k low bits of x in reversed order: bit i of x, which is `bit x i`, becomes bit `k - 1 - i` |
-//! | <a id="row_swaps"></a>`row_swaps items row_width` | the number of swaps for reversing `items` items in rows of `row_width` items. Each pair of rows takes `row_width` swaps, so this is `row_width * short_swaps (clog (items / row_width))` |
-//! | <a id="same_holder"></a>`same_holder n a b` | For `Places`: b is the holder a after n exchanges. What that means depends on the holder. If the holder counts, the count of b is n more than the count of a. If it does not count, it ignores n. If it borrows its items, b borrows the same slice as a, so a change to the holder is a change to that slice. A holder of your own defines `len` and `exchange`. The methods after these are only for speed. Their bodies here do the same by calls of `exchange`. For `Cells`: b is the holder a after n puts. The rest is the same as for `Places`. A holder of your own defines `len` and `put` |
-//! | <a id="short_swaps"></a>`short_swaps k` | the number of pairs of different k-bit numbers that are each other's reverse. Of the `2 ^ k` numbers, `2 ^ ceil(k / 2)` are their own reverse, so there are `(2 ^ k - 2 ^ ceil(k / 2)) / 2` pairs |
-//! | <a id="start_of"></a>`start_of len part_len k` | where part k begins when the numbers below `len` are cut into parts of `part_len` numbers: at `k * part_len`, or at `len` if that is less |

@@ -64,9 +64,7 @@ impl<S: Places> Swaps<S> {
     ///
     /// # Contract
     ///
-    /// [`contracts`](crate::kernels::contracts) explains how to read this contract, and its names
-    /// [`counted`](crate::kernels::contracts#counted),
-    /// [`same_holder`](crate::kernels::contracts#same_holder).
+    /// [`contracts`](crate::kernels::contracts) explains how to read this contract.
     ///
     /// ```text
     /// requires first { i < length (S.items self.old.holder) }
@@ -164,9 +162,7 @@ impl<C: Cells> Writes<C> {
     ///
     /// # Contract
     ///
-    /// [`contracts`](crate::kernels::contracts) explains how to read this contract, and its names
-    /// [`counted`](crate::kernels::contracts#counted),
-    /// [`same_holder`](crate::kernels::contracts#same_holder).
+    /// [`contracts`](crate::kernels::contracts) explains how to read this contract.
     ///
     /// ```text
     /// requires { i < length (C.items self.old.holder) }

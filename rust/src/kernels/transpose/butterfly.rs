@@ -11,8 +11,7 @@
 ///
 /// # Contract
 ///
-/// [`contracts`](crate::kernels::contracts) explains how to read this contract, and its names
-/// [`IsBlockTransposed`](crate::kernels::contracts#IsBlockTransposed).
+/// [`contracts`](crate::kernels::contracts) explains how to read this contract.
 ///
 /// ```text
 /// ensures { IsBlockTransposed block result }
@@ -26,8 +25,7 @@ pub fn butterfly_4x4<T: Copy>(block: [[T; 4]; 4]) -> [[T; 4]; 4] {
 ///
 /// # Contract
 ///
-/// [`contracts`](crate::kernels::contracts) explains how to read this contract, and its names
-/// [`IsStageOne`](crate::kernels::contracts#IsStageOne).
+/// [`contracts`](crate::kernels::contracts) explains how to read this contract.
 ///
 /// ```text
 /// ensures { IsStageOne block result }
@@ -43,8 +41,7 @@ pub fn butterfly_stage1<T: Copy>(block: [[T; 4]; 4]) -> [[T; 4]; 4] {
 ///
 /// # Contract
 ///
-/// [`contracts`](crate::kernels::contracts) explains how to read this contract, and its names
-/// [`IsStageTwo`](crate::kernels::contracts#IsStageTwo).
+/// [`contracts`](crate::kernels::contracts) explains how to read this contract.
 ///
 /// ```text
 /// ensures { IsStageTwo block result }

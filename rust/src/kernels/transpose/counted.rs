@@ -21,9 +21,7 @@ use crate::kernels::transpose::{put_region, transpose_by_shape};
 ///
 /// # Contract
 ///
-/// [`contracts`](crate::kernels::contracts) explains how to read this contract, and its names
-/// [`IsTranspose`](crate::kernels::contracts#IsTranspose),
-/// [`same_holder`](crate::kernels::contracts#same_holder).
+/// [`contracts`](crate::kernels::contracts) explains how to read this contract.
 ///
 /// ```text
 /// requires input_fits { length input.now ≡ width * height }
@@ -48,9 +46,7 @@ pub fn transpose_counted<C: Cells>(
 ///
 /// # Contract
 ///
-/// [`contracts`](crate::kernels::contracts) explains how to read this contract, and its names
-/// [`IsTranspose`](crate::kernels::contracts#IsTranspose),
-/// [`same_holder`](crate::kernels::contracts#same_holder).
+/// [`contracts`](crate::kernels::contracts) explains how to read this contract.
 ///
 /// ```text
 /// requires input_fits { length (R.items input.now) ≡ width * height }
@@ -78,10 +74,7 @@ where
 ///
 /// # Contract
 ///
-/// [`contracts`](crate::kernels::contracts) explains how to read this contract, and its names
-/// [`counted`](crate::kernels::contracts#counted),
-/// [`IsTranspose`](crate::kernels::contracts#IsTranspose),
-/// [`same_holder`](crate::kernels::contracts#same_holder).
+/// [`contracts`](crate::kernels::contracts) explains how to read this contract.
 ///
 /// ```text
 /// requires input_fits { length input.now ≡ width * height }
@@ -101,10 +94,7 @@ pub fn transpose_on<C: Cells>(input: &[C::Item], out: &mut Writes<C>, width: usi
 ///
 /// # Contract
 ///
-/// [`contracts`](crate::kernels::contracts) explains how to read this contract, and its names
-/// [`counted`](crate::kernels::contracts#counted),
-/// [`IsTranspose`](crate::kernels::contracts#IsTranspose),
-/// [`same_holder`](crate::kernels::contracts#same_holder).
+/// [`contracts`](crate::kernels::contracts) explains how to read this contract.
 ///
 /// ```text
 /// requires input_fits { length (R.items input.now) ≡ width * height }
@@ -133,12 +123,7 @@ where
 ///
 /// # Contract
 ///
-/// [`contracts`](crate::kernels::contracts) explains how to read this contract, and its names
-/// [`counted`](crate::kernels::contracts#counted),
-/// [`IsRegionTransposed`](crate::kernels::contracts#IsRegionTransposed),
-/// [`items_of`](crate::kernels::contracts#items_of),
-/// [`LiesInMatrix`](crate::kernels::contracts#LiesInMatrix),
-/// [`same_holder`](crate::kernels::contracts#same_holder).
+/// [`contracts`](crate::kernels::contracts) explains how to read this contract.
 ///
 /// ```text
 /// requires input_fits { length input.now ≡ width * height }
@@ -173,12 +158,7 @@ pub fn transpose_region_on<C: Cells>(
 ///
 /// # Contract
 ///
-/// [`contracts`](crate::kernels::contracts) explains how to read this contract, and its names
-/// [`counted`](crate::kernels::contracts#counted),
-/// [`IsRegionTransposed`](crate::kernels::contracts#IsRegionTransposed),
-/// [`items_of`](crate::kernels::contracts#items_of),
-/// [`LiesInMatrix`](crate::kernels::contracts#LiesInMatrix),
-/// [`same_holder`](crate::kernels::contracts#same_holder).
+/// [`contracts`](crate::kernels::contracts) explains how to read this contract.
 ///
 /// ```text
 /// requires input_fits { length (R.items input.now) ≡ width * height }
@@ -221,11 +201,7 @@ where
 ///
 /// # Contract
 ///
-/// [`contracts`](crate::kernels::contracts) explains how to read this contract, and its names
-/// [`IsRegionTransposed`](crate::kernels::contracts#IsRegionTransposed),
-/// [`items_of`](crate::kernels::contracts#items_of),
-/// [`LiesInMatrix`](crate::kernels::contracts#LiesInMatrix),
-/// [`same_holder`](crate::kernels::contracts#same_holder).
+/// [`contracts`](crate::kernels::contracts) explains how to read this contract.
 ///
 /// ```text
 /// requires input_fits { length input.now ≡ width * height }
@@ -259,11 +235,7 @@ pub fn transpose_region_counted<C: Cells>(
 ///
 /// # Contract
 ///
-/// [`contracts`](crate::kernels::contracts) explains how to read this contract, and its names
-/// [`IsRegionTransposed`](crate::kernels::contracts#IsRegionTransposed),
-/// [`items_of`](crate::kernels::contracts#items_of),
-/// [`LiesInMatrix`](crate::kernels::contracts#LiesInMatrix),
-/// [`same_holder`](crate::kernels::contracts#same_holder).
+/// [`contracts`](crate::kernels::contracts) explains how to read this contract.
 ///
 /// ```text
 /// requires input_fits { length (R.items input.now) ≡ width * height }
@@ -312,16 +284,7 @@ where
 ///
 /// # Contract
 ///
-/// [`contracts`](crate::kernels::contracts) explains how to read this contract, and its names
-/// [`cols_of`](crate::kernels::contracts#cols_of),
-/// [`counted`](crate::kernels::contracts#counted),
-/// [`IsRegionTransposed`](crate::kernels::contracts#IsRegionTransposed),
-/// [`items_of`](crate::kernels::contracts#items_of),
-/// [`lev`](crate::kernels::contracts#lev),
-/// [`LiesInMatrix`](crate::kernels::contracts#LiesInMatrix),
-/// [`nest`](crate::kernels::contracts#nest),
-/// [`rows_of`](crate::kernels::contracts#rows_of),
-/// [`same_holder`](crate::kernels::contracts#same_holder).
+/// [`contracts`](crate::kernels::contracts) explains how to read this contract.
 ///
 /// ```text
 /// requires input_fits { length input.now ≡ width * height }
@@ -351,16 +314,7 @@ pub fn transpose_split_on<C: Cells>(
 ///
 /// # Contract
 ///
-/// [`contracts`](crate::kernels::contracts) explains how to read this contract, and its names
-/// [`cols_of`](crate::kernels::contracts#cols_of),
-/// [`counted`](crate::kernels::contracts#counted),
-/// [`IsRegionTransposed`](crate::kernels::contracts#IsRegionTransposed),
-/// [`items_of`](crate::kernels::contracts#items_of),
-/// [`lev`](crate::kernels::contracts#lev),
-/// [`LiesInMatrix`](crate::kernels::contracts#LiesInMatrix),
-/// [`nest`](crate::kernels::contracts#nest),
-/// [`rows_of`](crate::kernels::contracts#rows_of),
-/// [`same_holder`](crate::kernels::contracts#same_holder).
+/// [`contracts`](crate::kernels::contracts) explains how to read this contract.
 ///
 /// ```text
 /// requires input_fits { length (R.items input.now) ≡ width * height }
@@ -433,10 +387,7 @@ pub const fn fits_square(len: usize, base: usize, log_stride: usize, log_size: u
 ///
 /// # Contract
 ///
-/// [`contracts`](crate::kernels::contracts) explains how to read this contract, and its names
-/// [`counted`](crate::kernels::contracts#counted),
-/// [`IsSquareTransposed`](crate::kernels::contracts#IsSquareTransposed),
-/// [`same_holder`](crate::kernels::contracts#same_holder).
+/// [`contracts`](crate::kernels::contracts) explains how to read this contract.
 ///
 /// ```text
 /// requires rows_apart { log_size ≤ log_stride }
@@ -466,9 +417,7 @@ pub fn transpose_square_on<S: Places>(
 ///
 /// # Contract
 ///
-/// [`contracts`](crate::kernels::contracts) explains how to read this contract, and its names
-/// [`IsSquareTransposed`](crate::kernels::contracts#IsSquareTransposed),
-/// [`same_holder`](crate::kernels::contracts#same_holder).
+/// [`contracts`](crate::kernels::contracts) explains how to read this contract.
 ///
 /// ```text
 /// requires rows_apart { log_size ≤ log_stride }

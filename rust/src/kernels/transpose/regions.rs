@@ -73,8 +73,7 @@ impl Region {
     ///
     /// # Contract
     ///
-    /// [`contracts`](crate::kernels::contracts) explains how to read this contract, and its names
-    /// [`LiesInMatrix`](crate::kernels::contracts#LiesInMatrix).
+    /// [`contracts`](crate::kernels::contracts) explains how to read this contract.
     ///
     /// ```text
     /// ensures { IsTrue result ↔ LiesInMatrix self width height }
