@@ -1,6 +1,5 @@
 """For tests/agree: compares the pages with the code. It checks the functions that blocks of Rust quote, the clauses that
-MODEL names, the numbers in ARCHITECTURE's table and in sentences, lists of sizes, and each link, file and name. It also
-looks for each public function in the tests, in MODEL and in the callers. And it compares the heads of specs with the
+MODEL names, the numbers in ARCHITECTURE's table, and each link, file and name. It also looks for each public function in the tests, in MODEL and in the callers. And it compares the heads of specs with the
 contracts that use them, and the files that comments of specs and proofs name with those that are there."""
 import functools
 import itertools
@@ -23,12 +22,6 @@ ELSEWHERE = {"rust/CHANGELOG.md", "docs/TRIED.md", "docs/DIFFERENCES.md"}
 LIBRARIES = "crates/p3_util(_kernels|_c|_run)?/"
 TABLE_IS_ABOUT = "rust/|" + LIBRARIES
 TABLE_ROW = r"^\| (`[A-Z_`, ]+`) \| ([\d, ^+]+) \| `([^`]+)` \|.*$"
-# Sentences that list sizes in bytes, each with the file that has the sizes, and how they stand there.
-SIZES = {
-    "The kernels for items of {} bytes, and for rows": ("rust/src/slices/by_size.rs", r"\n +\[([\d ]+)\] \$size"),
-    "by itself if a row has {} bytes": ("rust/src/slices/by_size.rs", r"\n +\[([\d ]+)\] \$size"),
-    "is the size of an item in bytes: {}.": ("c/p3_util.h", r"\bp3_util_reverse_(\d+)\("),
-}
 FILE = r"[\w.-]+(/[\w.-]+)+/?|[\w-]+\.(md|rt|antt|sh|py|rs|h|c|tsv|svg|txt|toml)"
 
 
@@ -60,26 +53,13 @@ def in_one_line(code):
     return code.replace("( ", "(").replace(", )", ")")
 
 
-bare = {path: in_one_line(text) for path, text in sources.items()}
+bare = "\n".join(map(in_one_line, sources.values()))
 
 
-def difference(quoted, name):
-    """Where a quoted function departs from the source that agrees with it longest, or None if a source has the
-    function."""
-    one_line = in_one_line(quoted)
+def is_in_a_source(quoted):
+    """Whether a source has this function, with all its clauses."""
     has_body = re.search(r"^\{\n(.*\n)*\}$", quoted, re.M)
-    said = one_line[re.search(rf"(?<=fn ){name}\b", one_line).start():]
-    longest, departs = -1, f"no source has a function {name}"
-    for path, source in bare.items():
-        at = source.find(one_line)
-        if at >= 0 and (has_body or source[at + len(one_line):].startswith((" {", ";"))):
-            return None
-        for there in re.finditer(rf"(?<=fn ){name}\b", source):
-            same = len(os.path.commonprefix([said, source[there.start():]]))
-            if same > longest:
-                longest = same
-                departs = f"after '..{said[:same][-40:]}' {path} has '{source[there.start() + same:][:60]}..'"
-    return departs
+    return re.search(re.escape(in_one_line(quoted)) + ("" if has_body else r"( \{|;)"), bare)
 
 
 def check_quotations():
@@ -89,9 +69,8 @@ def check_quotations():
         for block in re.finditer(r"^```rust\n(.*?)^```", text, re.M | re.S):
             for part in re.split(r"\n\s*\n", block.group(1)):
                 name = re.search(r"^(?:pub )?(?:const )?fn (?!main\b)(\w+)", part, re.M)
-                departs = name and difference(part, name.group(1))
-                if departs:
-                    yield place(page, block.start(), f"{name.group(1)} is not as in the sources: {departs}")
+                if name and not is_in_a_source(part):
+                    yield place(page, block.start(), f"{name.group(1)} is not as in the sources")
 
 
 def check_edits():
@@ -118,10 +97,8 @@ def check_clauses():
 
 
 def number(text):
-    """The value of a number, or of an expression, in Rust, on a page or in a comment, or None if the text is
-    neither."""
-    text = {"two": "2", "three": "3", "four": "4", "eight": "8", "sixteen": "16"}.get(text, text).replace("_", "").replace("^", "**")
-    text = re.sub(r"\s([KMG])iB$", lambda unit: f" * 2 ** {10 * ' KMG'.index(unit[1])}", text)
+    """The value of a number or of an expression, in Rust or on a page, or None if the text is neither."""
+    text = text.replace("_", "").replace("^", "**")
     return eval(text) if re.fullmatch(r"[\d ()<*+-]+", text) else None
 
 
@@ -141,10 +118,10 @@ def constants():
         yield name, path, number(re.sub(r"[A-Z_]{2,}", lambda other: values.get(other[0], other[0]), value))
 
 
-def check_table_of_constants(known):
+def check_constants():
     """ARCHITECTURE's table has each constant of the kernels, the exports, the program, the package and its overlay,
     with its file and its value."""
-    page, listed = "docs/ARCHITECTURE.md", set()
+    page, known, listed = "docs/ARCHITECTURE.md", list(constants()), set()
     for row in re.finditer(TABLE_ROW, pages[page], re.M):
         names, values = re.findall(r"\w+", row.group(1)), row.group(2).split(", ")
         for name, value in itertools.zip_longest(names, values):
@@ -158,72 +135,6 @@ def check_table_of_constants(known):
             yield f"{path}: tests/pages.py does not know the value of {name}"
         if re.match(TABLE_IS_ABOUT, path) and (name, path) not in listed:
             yield f"{page}: its table has no row for {name}, which is {value} in {path}"
-
-
-def values_of(name, crate, known):
-    """The values of a constant of this crate, or of the code that ARCHITECTURE's table covers if no crate is given. For
-    a name of the form FUNCTION.CLAUSE these are the numbers in the clause."""
-    function, _, clause = name.partition(".")
-    if clause:
-        said = {text for path in sources if f"fn {function}" in sources[path] for _, declared in functions_of(path)
-                if declared.name() == function for title, text in declared.clauses if title.endswith(f" {clause}")}
-        return [int(digits) for digits in re.findall(r"\b\d+\b", said.pop())] if len(said) == 1 else []
-    where = f"crates/{crate}/" if crate else TABLE_IS_ABOUT
-    return sorted({value for other, path, value in known if other == name and re.match(where, path)})
-
-
-def wanted_number(expression, known, clauses):
-    """The value of an expression over names, and the names that do not have exactly one value. A clause gives its
-    numbers in order."""
-    unknown = []
-
-    def value(found):
-        values = clauses[found[2]] if found[2] in clauses else values_of(found[2], found[1], known)
-        if "." in found[2]:
-            clauses[found[2]] = values[1:]
-            values = values[:1]
-        unknown.extend([found[0]] * (len(values) != 1))
-        return str(max(values, default=0))
-
-    return number(re.sub(r"(?:(\w+)::)?([a-z]\w+\.\w+|[A-Z_]{2,})", value, expression)), unknown
-
-
-def check_constants():
-    """ARCHITECTURE's table and the sentences of tests/constants.txt state each constant with its value in the code."""
-    known = list(constants())
-    yield from check_table_of_constants(known)
-    # The texts, with blanks in place of comment marks.
-    texts = {path: re.sub(r"(?<=\s)(?://[/!]?|--)(?=\s)", lambda sign: " " * len(sign[0]), read(path)) for path in tracked
-             if re.fullmatch(r".*\.(md|rt|antt|rs|h)", path) and not re.match("rust/src/kernels/|bench/|(rust/)?CHANGELOG|docs/PERF", path)}
-    for line in (line for line in read("tests/constants.txt").splitlines() if line and not line.startswith("#")):
-        parts, clauses = re.split(r"\{([^}]*)\}", line), {}
-        literal = (re.escape(part).replace(r"\ \.\.\ ", r"[^|]{0,60}?\s").replace(r"\ ", r"\s+") for part in parts[::2])
-        pattern = r"(\d[\d_]*(?:\^\d+)?(?:\s[KMG]iB)?|\w+)".join(literal)
-        answers = [wanted_number(part, known, clauses) for part in parts[1::2]]
-        for name in (name for _, unknown in answers for name in unknown):
-            yield f"tests/constants.txt: {name} has no value, or more than one"
-        wanted = [value for value, _ in answers]
-        found = [(path, there) for path, text in texts.items() for there in re.finditer(pattern, text)]
-        if not found:
-            yield f"tests/constants.txt: no page, source or definition says '{line}'"
-        for path, there in found:
-            if [number(said) for said in there.groups()] != wanted:
-                said = f"'{' '.join(there[0].split())}', and the code has {', '.join(map(str, wanted))}: see {', '.join(parts[1::2])}"
-                yield f"{path}:{texts[path].count(chr(10), 0, there.start()) + 1}: {said}"
-
-
-def check_sizes():
-    """The sizes of items that a page lists are those of the code."""
-    for sentence, (path, pattern) in SIZES.items():
-        wanted = re.findall(r"\d+", " ".join(re.findall(pattern, read(path))))
-        before, after = (re.escape(part).replace(r"\ ", r"\s+") for part in sentence.split("{}"))
-        listing = rf"{before}((?:\d+,?\s+)+(?:and|or)\s+\d+){after}"
-        found = [(page, there) for page, text in pages.items() for there in re.finditer(listing, text)]
-        if not found:
-            yield f"tests/pages.py: no page says '{sentence}' with a list of sizes"
-        for page, there in found:
-            if re.findall(r"\d+", there[1]) != wanted:
-                yield place(page, there.start(), f"{path} has the sizes {' '.join(wanted)}")
 
 
 def anchors(page):
@@ -326,6 +237,6 @@ def check_paths_in_comments():
 
 def wrong():
     """A line for each thing that is wrong."""
-    for check in (check_quotations, check_edits, check_clauses, check_constants, check_sizes,
-                  check_links_and_names, check_functions, check_specs, check_paths_in_comments):
+    for check in (check_quotations, check_edits, check_clauses, check_constants, check_links_and_names,
+                  check_functions, check_specs, check_paths_in_comments):
         yield from check()
