@@ -1,7 +1,7 @@
 #!/usr/bin/env bash
 # Tests the program and its environment: arguments that are not text, standard streams that are closed, full or cut
-# short, and an input that never ends. Each run has to end with the right text and status, or be ended by the system,
-# and never with a wrong list. No contract says what main does with arguments and faults.
+# short, an input that never ends, and each request for memory refused in turn. Each run has to end with the right text and
+# status, or be ended by the system, and never with a wrong list. No contract says what main does with arguments and faults.
 #
 #     tests/program.sh [PROGRAM]..
 #
@@ -63,9 +63,42 @@ streams() {
     rm "$room/pipe"
 }
 
+# refusing N PROGRAM ARGUMENT..: runs the program, and refuses its Nth request for memory or, if N is 0, none. It has to give
+# back all memory that it was given. It sets `requests` to the number of requests.
+refusing() {
+    local status=0 held
+    timeout 60 env REFUSED="$1" LD_PRELOAD="$room/refuse_growth.so" "${@:2}" 9>"$room/counts" || status=$?
+    read -r requests held <"$room/counts" && ((held == 0)) || { echo "$held blocks of memory were not given back" && return 99; }
+    return "$status"
+}
+
+# out_of_memory REQUESTS INPUT STATUS OUTPUT ERROR PROGRAM ARGUMENT..: the run makes so many requests. If one of them is
+# refused, it says so and writes nothing. A run that goes on after a refusal, or that returns another fault, fails here.
+out_of_memory() {
+    local n
+    is "${*:7}" "$3" "$4" "$5" refusing 0 "${@:6}" <<<"$2"
+    ((requests == $1)) || fail "it made $requests requests, and not $1"
+    for ((n = 1; n <= $1; n++)); do
+        is "${*:7}, request $n refused" 3 '' "$no_memory" refusing "$n" "${@:6}" <<<"$2"
+    done
+}
+
+refusals() {
+    out_of_memory 10 "$list" 0 "$turned" '' "$1" revbits
+    out_of_memory 12 '[0,1,2,3,4,5,6,7]' 0 $'[0,1,4,5,2,3,6,7]\n' '' "$1" revrows 2
+    out_of_memory 14 '[1,2,3,4,5,6]' 0 $'[1,4,2,5,3,6]\n' '' "$1" transpose 3 2
+    out_of_memory 8 '[1,2,3]' 2 '' $'error: length 3 is neither zero nor a power of two\n' "$1" revbits
+    out_of_memory 9 '[1,2,3]' 2 '' $'error: length 3 is not 2 times zero or a power of two\n' "$1" revrows 2
+    out_of_memory 10 '[1,2,3]' 2 '' $'error: 2 by 2 is not the length 3\n' "$1" transpose 2 2
+}
+
+kit=$(dirname "$(rt doc)")/toolchain/bin
+"$kit/clang" -O1 -fPIC -c "$(dirname "$0")/refuse_growth.c" -o "$room/refuse_growth.o"
+"$kit/ld.lld" -shared "$room/refuse_growth.o" -o "$room/refuse_growth.so"
 for program in "$@"; do
     program=$(realpath "$program")
     echo "$program"
     words "$program"
     streams "$program"
+    refusals "$program"
 done

@@ -3,14 +3,29 @@
 # own, and those of the program and of the example p3_util_transform.
 #
 #     tests/unproved.sh [FLAG..]
+#     tests/unproved.sh --refused
 #
 # FLAGs are those of `rt try`, for example `-- views`, which runs the tests whose names contain `views`. With
 # `--fail-alloc N` the Nth request for memory is refused in each test. The variable UNPROVED may name one folder of
 # tests/unproved, whose tests are run alone.
-set -euo pipefail
+#
+# With --refused it refuses each request for memory in turn: of the requests of each test in a module `growth`, the first is
+# refused, then in another run the second, and so on. These tests count their requests and the memory they hold themselves. A
+# body that meets its contract fails here if it makes no request and does nothing, or forgets values that make no whole rows.
+. "$(dirname "$0")/harness.bash"
 cd "$(dirname "$0")/.."
-copy=$(mktemp -d)
-trap 'rm -rf "$copy"' EXIT
+copy=$room/copy
+
+if [[ ${1-} = --refused ]]; then
+    for folder in src p3_util_transform; do
+        # The largest number of requests that a test makes.
+        most=$(grep -rhoE 'makes_requests\w*\(&rt, [0-9]+' "tests/unproved/$folder" | grep -oE '[0-9]+$' | sort -n | tail -n 1)
+        for ((n = 1; n <= most; n++)); do
+            UNPROVED=$folder says "tests/unproved/$folder, request $n refused" 'growth::' tests/unproved.sh --fail-alloc "$n" -- growth::
+        done
+    done
+    exit
+fi
 
 below='p3_util_callers p3_util_kernels p3_util p3_util_vectors'
 for crate in $below p3_util_run p3_util_transform; do
@@ -36,14 +51,12 @@ tests_of() {
     local file written src=$copy/crates/$1/src
     [[ tests/unproved/${UNPROVED-${2##*/}} = "$2" ]] || return 0
     mkdir -p "$src/tests"
-    cp -a tests/unproved/c "$copy/crates/$1/"
     for file in $(cd "$2" && find . -name '*.rt.in'); do
         cp "$2/$file" "$src/${file%.in}"
     done
-    if [[ $3 != lib.rt.in ]]; then
-        cp tests/unproved/src/memory.rt.in "$src/tests/memory.rt"
-        printf '\n#[cfg(test)]\nmod tests;\n' >>"$src/$3"
-    fi
+    [[ $3 = lib.rt.in ]] || printf '\n#[cfg(test)]\nmod tests;\n' >>"$src/$3"
+    [[ $3 = main.rt ]] || cp -a tests/unproved/c "$copy/crates/$1/"
+    [[ $3 != lib.rt ]] || cp tests/unproved/src/memory.rt.in "$src/tests/memory.rt"
     written=$(find "$2" -name '*.rt.in' -exec cat {} + | grep -c '^#\[test\]$')
     (cd "$copy/crates/$1" && rt try --test "${@:4}") | tee "$copy/printed"
     grep -qx "tests: $written" "$copy/printed" || { echo "FAILED  $written tests are written in $2" && exit 1; }
