@@ -165,7 +165,7 @@ pub fn chosen(options: &Options) -> Vec<Case> {
         .collect();
     let parts = options.parts;
     let of_size = |item_size| works.iter().map(move |&work| Case { work, item_size, parts });
-    let sizes = distinct(options.items.iter().flatten().copied());
+    let sizes = distinct(options.items.iter().copied());
     let mut cases: Vec<Case> = sizes.into_iter().flat_map(of_size).filter(Case::is_whole).collect();
     cases.retain(|case| case.items() * case.item_size <= options.largest);
     cases.sort_by_key(|case| case.work.call());

@@ -2,46 +2,12 @@
 
 use std::hint::black_box;
 
-use crate::measure::{Runner, Task, measured};
-use crate::options::Options;
-
-/// Makes a call on data that it owns, and returns a number that depends on the results.
-type Pass = Box<dyn Fn() -> u64>;
-
-/// A call on a map or an iterator, for each crate that has it.
-struct Iterated {
-    name: &'static str,
-    /// How many items one pass goes over.
-    items: u64,
-    /// Takes a list of that many distinct numbers.
-    passes: &'static [fn(Vec<u64>) -> Pass],
-}
-
-/// An `Iterated` with this name. Its pass over `$list` is written once. In it, `$library` is the package or the original.
-macro_rules! iterated {
-    ($name:literal, $items:literal, |$library:ident, $list:ident| $pass:expr) => {
-        Iterated {
-            name: $name,
-            items: $items,
-            passes: &[
-                |$list| {
-                    use p3_util_proved as $library;
-                    $pass
-                },
-                #[cfg(original)]
-                |$list| {
-                    use p3_util as $library;
-                    $pass
-                },
-            ],
-        }
-    };
-}
+use crate::timed::{Timed, timed};
 
 /// `get` of each key of a map with this many keys.
 macro_rules! gets {
     ($name:literal, $items:literal) => {
-        iterated!($name, $items, |library, keys| {
+        timed!($name, $items, |library, keys| {
             let map: library::linear_map::LinearMap<u64, u64> = keys.iter().map(|&key| (key, !key)).collect();
             Box::new(move || total(keys.iter().map(|key| *map.get(black_box(key)).unwrap())))
         })
@@ -51,7 +17,7 @@ macro_rules! gets {
 /// `insert` of this many new keys into an empty map.
 macro_rules! inserts {
     ($name:literal, $items:literal) => {
-        iterated!($name, $items, |library, keys| {
+        timed!($name, $items, |library, keys| {
             Box::new(move || {
                 let mut map = library::linear_map::LinearMap::new();
                 keys.iter().for_each(|&key| assert!(map.insert(key, !key).is_none()));
@@ -64,7 +30,7 @@ macro_rules! inserts {
 /// `iter` over a map with this many keys.
 macro_rules! iters {
     ($name:literal, $items:literal) => {
-        iterated!($name, $items, |library, keys| {
+        timed!($name, $items, |library, keys| {
             let map: library::linear_map::LinearMap<u64, u64> = keys.iter().map(|&key| (key, !key)).collect();
             Box::new(move || total(black_box(&map).iter().map(|(key, value)| key ^ (value >> 1))))
         })
@@ -78,7 +44,7 @@ macro_rules! pairs {
         pairs!($name, |list| list.iter(), |$pairs| $used)
     };
     ($name:literal, |$list:ident| $each:expr, |$pairs:ident| $used:expr) => {
-        iterated!($name, 4096, |library, list| {
+        timed!($name, 4096, |library, list| {
             Box::new(move || {
                 let $list = black_box(&list);
                 let a = $each;
@@ -93,7 +59,7 @@ macro_rules! pairs {
 
 /// The calls. A program with few uses of an iterator does not show what it costs: the compiler inlines the only use of a
 /// function, and divides a program of many uses into units. So all of them are in this one.
-const ITERATED: [Iterated; 25] = [
+pub const ITERATED: [Timed; 25] = [
     gets!("LinearMap::get of 1 key", 1),
     gets!("LinearMap::get of 8 keys", 8),
     gets!("LinearMap::get of 64 keys", 64),
@@ -103,7 +69,7 @@ const ITERATED: [Iterated; 25] = [
     iters!("LinearMap::iter of 1 key", 1),
     iters!("LinearMap::iter of 8 keys", 8),
     iters!("LinearMap::iter of 64 keys", 64),
-    iterated!("apply_to_chunks of 64 bytes", 4090, |library, list| {
+    timed!("apply_to_chunks of 64 bytes", 4090, |library, list| {
         let bytes: Vec<u8> = list.iter().map(|&item| item as u8).collect();
         Box::new(move || {
             let mut sum = 0;
@@ -112,7 +78,7 @@ const ITERATED: [Iterated; 25] = [
             sum
         })
     }),
-    iterated!("iter_array_chunks_padded, 8 items", 4090, |library, list| {
+    timed!("iter_array_chunks_padded, 8 items", 4090, |library, list| {
         Box::new(move || {
             let chunks = library::iter_array_chunks_padded::<_, 8>(black_box(&list).iter().copied(), 0);
             total(chunks.map(|chunk| chunk[0] ^ chunk[7]))
@@ -183,40 +149,4 @@ const ITERATED: [Iterated; 25] = [
 
 fn total(numbers: impl Iterator<Item = u64>) -> u64 {
     numbers.fold(0, u64::wrapping_add)
-}
-
-impl Task for Iterated {
-    fn contenders(&self) -> usize {
-        self.passes.len()
-    }
-
-    fn prepare(&self) -> Runner {
-        // The factor is odd, so the numbers are distinct.
-        let list: Vec<u64> = (1..=self.items)
-            .map(|i| i.wrapping_mul(0x9e37_79b9_7f4a_7c15))
-            .collect();
-        let passes: Vec<Pass> = self.passes.iter().map(|pass| pass(list.clone())).collect();
-        let result = passes[0]();
-        assert!(passes.iter().all(|pass| pass() == result), "{}: not equal", self.name);
-        Box::new(move |contender, times| (0..times).for_each(|_| _ = black_box(passes[contender]())))
-    }
-}
-
-/// Measures all calls and prints a line for each.
-pub fn run(options: &Options) -> Result<(), String> {
-    let Some(took) = measured(&ITERATED, options)? else {
-        return Ok(());
-    };
-    println!(
-        "| call | {} an item | to the original |\n|---|---|---|",
-        options.unit().name()
-    );
-    for (call, took) in ITERATED.iter().zip(&took) {
-        let an_item = took[0] / call.items as f64;
-        let ratio = took
-            .get(1)
-            .map_or(String::new(), |original| format!("{:.2}", took[0] / original));
-        println!("| {} | {an_item:.2} | {ratio} |", call.name);
-    }
-    Ok(())
 }

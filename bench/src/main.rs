@@ -1,7 +1,6 @@
 //! Measures the proved calls, and compares them with the original's if it is linked. The calls on slices are also
 //! compared with a copy of the same bytes.
 
-mod busy;
 mod call;
 mod cases;
 mod counts;
@@ -14,12 +13,12 @@ mod options;
 #[cfg(parallel)]
 mod pairs;
 mod table;
+mod timed;
 mod timing;
 mod words;
 
 use std::process::ExitCode;
 
-use busy::Busy;
 use measure::measured;
 use options::{Mode, Options};
 use table::Row;
@@ -42,10 +41,12 @@ fn main() -> ExitCode {
 }
 
 fn run(options: &Options) -> Result<(), String> {
-    let _busy = Busy::start(options.busy)?;
     if options.words || options.iterators {
-        let run = if options.words { words::run } else { iterators::run };
-        run(options)?;
+        if options.words {
+            timed::run(&words::WORDS, "a call", options)?;
+        } else {
+            timed::run(&iterators::ITERATED, "an item", options)?;
+        }
         print_call(options);
         return Ok(());
     }
@@ -58,10 +59,9 @@ fn run(options: &Options) -> Result<(), String> {
         .zip(&took)
         .map(|(case, took)| Row::new(case, took))
         .collect();
-    let table = if options.wide { table::wide } else { table::long };
     print!(
         "{}{}{}",
-        table(&rows, options.unit()),
+        table::long(&rows, options.unit()),
         table::summaries(&rows, &options.items),
         table::slower(&rows, &options.build())
     );

@@ -21,8 +21,7 @@ pub struct Options {
     pub words: bool,
     pub iterators: bool,
     pub calls: Vec<String>,
-    /// Sets of sizes, each of which is summarized on its own.
-    pub items: Vec<Vec<usize>>,
+    pub items: Vec<usize>,
     pub sizes: Vec<u32>,
     pub rows: Vec<(usize, usize)>,
     pub shapes: Vec<(usize, usize)>,
@@ -31,10 +30,7 @@ pub struct Options {
     pub runs: usize,
     /// The most bytes that a list may have.
     pub largest: usize,
-    pub wide: bool,
     pub cpu: Option<String>,
-    /// The number of other processes that are busy during the measurement.
-    pub busy: usize,
 }
 
 /// Bytes of a row, and the number of rows. The greatest list has 256 KB.
@@ -78,16 +74,14 @@ impl Options {
             words: false,
             iterators: false,
             calls: CALLS.map(String::from).into(),
-            items: Vec::new(),
+            items: vec![1, 4, 8, 32],
             sizes: (2..=22).collect(),
             rows: list(ROWS, rows)?,
             shapes: distinct(shapes.into_iter().chain(list(WIDE_SHAPES, shape)?)),
             parts: None,
             runs: 9,
             largest: usize::MAX,
-            wide: false,
             cpu: None,
-            busy: 0,
         })
     }
 
@@ -103,16 +97,14 @@ impl Options {
                 "--words" => options.words = true,
                 "--iterators" => options.iterators = true,
                 "--calls" => options.calls = list(&value()?, call)?,
-                "--items" => options.items.push(list(&value()?, item)?),
+                "--items" => options.items = list(&value()?, item)?,
                 "--sizes" => options.sizes = sizes(&value()?)?,
                 "--rows" => options.rows = list(&value()?, rows)?,
                 "--shapes" => options.shapes = list(&value()?, shape)?,
                 "--parts" => options.parts = Some(number(&value()?)?),
                 "--runs" => options.runs = number(&value()?)?,
                 "--largest" => options.largest = number::<usize>(&value()?)? << 20,
-                "--wide" => options.wide = true,
                 "--cpu" => options.cpu = Some(value()?),
-                "--busy" => options.busy = number(&value()?)?,
                 "--count" => options.mode = Mode::Count(list(&value()?, number)?),
                 "--counted" => options.mode = Mode::Counted(value()?.into()),
                 _ => return Err(format!("unknown option {word}")),
@@ -120,9 +112,6 @@ impl Options {
         }
         if cfg!(any(library, parallel)) && options.parts.is_some() {
             return Err("--parts is for the package alone".into());
-        }
-        if options.items.is_empty() {
-            options.items.push(vec![1, 4, 8, 32]);
         }
         Ok(options)
     }

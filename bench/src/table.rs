@@ -2,7 +2,7 @@
 
 use std::fmt::Write;
 
-use crate::cases::{CALLS, Case, distinct, groups};
+use crate::cases::{Case, distinct, groups};
 use crate::items::{Contender, contenders};
 
 #[derive(Clone, Copy)]
@@ -110,74 +110,26 @@ pub fn long(rows: &[Row], unit: Unit) -> String {
     out
 }
 
-/// One table for each call, with one line for each shape. For each size of an item the line has the ratio to the
-/// original, and in brackets the cost of an item and the ratio to a copy. Without the original, the ratio to a copy
-/// comes first.
-pub fn wide(rows: &[Row], unit: Unit) -> String {
-    let mut out = String::new();
-    for call in CALLS {
-        let group: Vec<&Row> = rows.iter().filter(|row| row.call() == call).collect();
-        let sizes = distinct(group.iter().map(|row| row.case.item_size));
-        if sizes.is_empty() {
-            continue;
-        }
-        let _ = write!(out, "| {call} |");
-        for size in &sizes {
-            let _ = write!(out, " items of {size} bytes |");
-        }
-        let _ = writeln!(out, "\n|---|{}", "---|".repeat(sizes.len()));
-        for shape in distinct(group.iter().map(|row| row.case.work.shape())) {
-            let _ = write!(out, "| {shape} |");
-            for &size in &sizes {
-                let _ = write!(out, " {} |", cell(&group, &shape, size, unit));
-            }
-            out.push('\n');
-        }
-        out.push('\n');
-    }
-    out
-}
-
-/// The cell for a shape and a size, which is empty if no row has both.
-fn cell(rows: &[&Row], shape: &str, size: usize, unit: Unit) -> String {
-    let is_here = |case: Case| case.item_size == size && case.work.shape() == shape;
-    let Some(row) = rows.iter().find(|row| is_here(row.case)) else {
+/// Tables with the summary of each group of rows, in all and for each size. The first one compares the proved call with the
+/// original. Others do this for the whole call on one thread and for the package before, if these were measured, and compare
+/// the proved call with them.
+pub fn summaries(rows: &[Row], sizes: &[usize]) -> String {
+    let Some(base) = rows.first().map(Row::base) else {
         return String::new();
     };
-    let (an_item, unit, copies) = (row.an_item(), unit.name(), row.copies());
-    match row.ratio() {
-        Some(ratio) => format!("**{ratio:.2}** ({an_item:.2} {unit}, {copies:.1})"),
-        None => format!("**{copies:.2}** ({an_item:.2} {unit})"),
-    }
-}
-
-/// For each set of sizes, tables with the summary of each group of rows, in all and for each size. The first one compares
-/// the proved call with the original. Others do this for the whole call on one thread and for the package before, if
-/// these were measured, and compare the proved call with them.
-pub fn summaries(rows: &[Row], sets: &[Vec<usize>]) -> String {
-    let mut out = String::new();
-    for sizes in sets {
-        let rows: Vec<&Row> = rows.iter().filter(|row| sizes.contains(&row.case.item_size)).collect();
-        let Some(base) = rows.first().map(|row| row.base()) else {
-            continue;
-        };
-        let mut compared = vec![(Contender::Proved, base)];
-        for other in [Contender::Call, Contender::Before] {
-            if rows.iter().any(|row| row.took(other).is_some()) {
-                compared.extend([(other, base), (Contender::Proved, other)]);
-            }
-        }
-        for (a, b) in compared {
-            out += &summary(&rows, sizes, a, b);
+    let mut compared = vec![(Contender::Proved, base)];
+    for other in [Contender::Call, Contender::Before] {
+        if rows.iter().any(|row| row.took(other).is_some()) {
+            compared.extend([(other, base), (Contender::Proved, other)]);
         }
     }
-    out
+    compared.into_iter().map(|(a, b)| summary(rows, sizes, a, b)).collect()
 }
 
 /// A group's ratios, each with the row that it is of.
 type Ratios<'a> = Vec<(&'a Row, f64)>;
 
-fn summary(rows: &[&Row], sizes: &[usize], a: Contender, b: Contender) -> String {
+fn summary(rows: &[Row], sizes: &[usize], a: Contender, b: Contender) -> String {
     let mut out = format!("| {}, compared with {} | mean | worst | where |", name(a), name(b));
     for size in sizes {
         let _ = write!(out, " items of {size} bytes |");
@@ -187,7 +139,7 @@ fn summary(rows: &[&Row], sizes: &[usize], a: Contender, b: Contender) -> String
         let group = rows.iter().filter(|row| has(row.case.work));
         // Rows of several items are compared with a copy if the original was not measured.
         let ratio = |row: &Row| row.ratio_of(a, if row.took(b).is_some() { b } else { row.base() });
-        let ratios: Ratios = group.filter_map(|&row| Some((row, ratio(row)?))).collect();
+        let ratios: Ratios = group.filter_map(|row| Some((row, ratio(row)?))).collect();
         line(&mut out, name, &ratios, sizes);
     }
     out.push('\n');

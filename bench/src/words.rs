@@ -1,61 +1,34 @@
 //! The calls on integers, made by a program that is built without link-time optimization. The package and the original
 //! are crates of their own, and the compiler inlines what they allow it to inline.
 
-use std::fmt::Debug;
+use std::hash::{BuildHasher, BuildHasherDefault, DefaultHasher};
 use std::hint::black_box;
 
-use crate::measure::{Runner, Task, measured};
-use crate::options::Options;
-
-const INPUTS: u64 = 4096;
+use crate::timed::{Timed, timed};
 
 /// The arguments of a call. Some calls take only the first one.
 type Input = [usize; 2];
 
-/// A call on integers, for each crate that has it.
-struct Word {
-    name: &'static str,
-    /// An input, made from 64 random digits.
-    input: fn(u64) -> Input,
-    calls: &'static [&'static dyn Call],
-}
-
-trait Call {
-    fn answers(&self, inputs: &[Input]) -> Vec<String>;
-
-    /// Makes one call for each input. The inputs are read from memory and the results are written there one by one, so
-    /// the compiler cannot vectorize several calls.
-    fn pass(&self, inputs: &[Input]);
-}
-
-impl<A: Debug, F: Fn(Input) -> A> Call for F {
-    fn answers(&self, inputs: &[Input]) -> Vec<String> {
-        inputs.iter().map(|&input| format!("{:?}", self(input))).collect()
-    }
-
-    fn pass(&self, inputs: &[Input]) {
-        for &input in inputs {
-            black_box(self(input));
-        }
-    }
-}
-
-/// A `Word` with this name. Its call is written once, and is made with the package and with the original.
+/// A call on integers. `$input` makes an input from 64 random digits. A pass makes one call for each input. The inputs are read
+/// from memory and the results are written there one by one, so the compiler cannot vectorize several calls. It returns a
+/// number that depends on all results.
 macro_rules! word {
     ($name:literal, $call:ident $arguments:tt for $words:pat_param in $input:expr) => {
-        Word {
-            name: $name,
-            input: $input,
-            calls: &[
-                &|$words: Input| p3_util_proved::$call $arguments,
-                #[cfg(original)]
-                &|$words: Input| p3_util::$call $arguments,
-            ],
-        }
+        timed!($name, 4096, |library, list| {
+            let inputs: Vec<Input> = (0..).zip(&list).map(|(i, _)| random(i)).map($input).collect();
+            let results: Vec<_> = inputs.iter().map(|&$words| format!("{:?}", library::$call $arguments)).collect();
+            let result = BuildHasherDefault::<DefaultHasher>::default().hash_one(results);
+            Box::new(move || {
+                for &$words in &inputs {
+                    black_box(library::$call $arguments);
+                }
+                result
+            })
+        })
     };
 }
 
-const WORDS: [Word; 10] = [
+pub const WORDS: [Timed; 10] = [
     word!("log2_ceil_usize", log2_ceil_usize(n) for [n, _] in of_any_length),
     word!("log2_ceil_u64", log2_ceil_u64(n as u64) for [n, _] in of_any_length),
     word!("log2_floor_usize", log2_floor_usize(n) for [n, _] in of_any_length),
@@ -93,47 +66,10 @@ fn below_power(random: u64) -> Input {
     [(random.reverse_bits() as usize) % n, n]
 }
 
-impl Task for Word {
-    fn contenders(&self) -> usize {
-        self.calls.len()
-    }
-
-    fn prepare(&self) -> Runner {
-        let (input, calls) = (self.input, self.calls);
-        let inputs: Vec<Input> = (0..INPUTS).map(random).map(input).collect();
-        let answers = calls[0].answers(&inputs);
-        assert!(
-            calls.iter().all(|call| call.answers(&inputs) == answers),
-            "{}: not equal",
-            self.name
-        );
-        Box::new(move |contender, times| (0..times).for_each(|_| calls[contender].pass(&inputs)))
-    }
-}
-
 /// The `i`th number of a fixed list.
 fn random(i: u64) -> u64 {
     let mixed = (i + 1).wrapping_mul(0x9e37_79b9_7f4a_7c15);
     (mixed ^ (mixed >> 32))
         .wrapping_mul(0xbf58_476d_1ce4_e5b9)
         .rotate_left(32)
-}
-
-/// Measures all calls and prints a line for each.
-pub fn run(options: &Options) -> Result<(), String> {
-    let Some(took) = measured(&WORDS, options)? else {
-        return Ok(());
-    };
-    println!(
-        "| call | {} a call | to the original |\n|---|---|---|",
-        options.unit().name()
-    );
-    for (word, took) in WORDS.iter().zip(&took) {
-        let a_call = took[0] / INPUTS as f64;
-        let ratio = took
-            .get(1)
-            .map_or(String::new(), |original| format!("{:.2}", took[0] / original));
-        println!("| {} | {a_call:.2} | {ratio} |", word.name);
-    }
-    Ok(())
 }
