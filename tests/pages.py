@@ -1,14 +1,13 @@
 """For tests/agree: compares the pages with the code. It checks the functions that blocks of Rust quote, the clauses that
-MODEL names, the numbers in ARCHITECTURE's table, and each link, file and name. It also looks for each public function in the tests, in MODEL and in the callers. And it compares the heads of specs with the
-contracts that use them, and the files that comments of specs and proofs name with those that are there."""
+MODEL names, the numbers in ARCHITECTURE's table, and each link, file and name. It also looks for each public function in the tests, in MODEL and in the callers, for the comment and the source of each definition,
+and for the files that comments of specs and proofs name."""
 import functools
 import itertools
 import os
 import re
 import subprocess
 
-from contract_list import contracts
-from rattle_source import DEFINITION, comment_above, declarations, definition_texts, functions, stood_on
+from rattle_source import DEFINITION, comment_above, declarations, functions
 from rattle_source import read as read_source
 
 # Names from std, the original, the kit and the system that pages mention and that no source has.
@@ -204,13 +203,9 @@ def check_functions():
 
 
 def check_specs():
-    """If no public contract uses a file of specs/, its first lines say that it serves private ones. Otherwise they do
-    not say so. Each definition has a comment above it. In a library, this comment or the file's first lines name the source
-    of a definition, unless the file serves private contracts."""
-    files = {path: dict(definition_texts(path)) for path in tracked if re.fullmatch(r"crates/\w+/specs/[\w/]+\.antt", path)}
-    public = " ".join(said for path in sources if "/parts" not in path for said in contracts(read_source(path)))
-    used = stood_on(public, {name: text for texts in files.values() for name, text in texts.items()})
-    for path, texts in files.items():
+    """Each definition in specs/ has a comment above it. In a library, this comment or the file's first lines name the source of
+    a definition, unless these lines say that the file serves private contracts."""
+    for path in (path for path in tracked if re.fullmatch(r"crates/\w+/specs/[\w/]+\.antt", path)):
         text = read(path)
         head = re.match(r"(?:--.*\n)*", text)[0]
         says_private = "private" in head
@@ -219,9 +214,6 @@ def check_specs():
             wants_source = not says_private and re.match(LIBRARIES, path)
             if not above or wants_source and "Source: " not in head + above:
                 yield f"{path}:{text.count(chr(10), 0, found.end()) + 1}: {found[2]} has no comment, or no sentence 'Source: ..'"
-        if texts and says_private == any(name in used for name in texts):
-            yield f"{path}:1: its first lines say that it serves private contracts, and a public one uses its definitions" if says_private \
-                else f"{path}:1: no public contract uses its definitions, and its first lines do not say that it serves private ones"
 
 
 def check_paths_in_comments():

@@ -202,32 +202,6 @@ def comment_above(text, found):
     return " ".join(line.strip().removeprefix("--").strip() for line in lines)
 
 
-def definition_texts(path):
-    """For each public definition in a file of specs/, its name and its text without comments."""
-    with open(path, encoding="utf-8") as source:
-        text = source.read()
-    for found in DEFINITION.finditer(text):
-        first, *following = text[found.start():].split("\n")
-        lines = [first]
-        for line in following:
-            indent = len(line) - len(line.lstrip())
-            if line.strip() and indent <= len(found[1]) and not re.match(rf" *{found[2]}\b", line):
-                break
-            if line.strip() and not line.strip().startswith("--"):
-                lines.append(line)
-        yield found[2], "\n".join(lines)
-
-
-def stood_on(text, texts):
-    """The names of the definitions of `texts` that a text cites, directly or through other definitions."""
-    names, more = set(), {text}
-    while more:
-        cited = {name for said in more for name in re.findall(r"(?<![.\w])\w+", said) if name in texts} - names
-        names |= cited
-        more = {texts[name] for name in cited}
-    return names
-
-
 def function_at(text, number):
     """The last function that begins at or above the line of this number. An attribute belongs to the function below it."""
     lines = text.split("\n")
