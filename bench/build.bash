@@ -23,7 +23,6 @@ while [ $# -gt 0 ]; do
         ;;
     --cpu)
         cpu=${2:?--cpu CPU}
-        options+=(--cpu "$cpu")
         shift
         ;;
     --parallel)
@@ -52,7 +51,7 @@ done
 
 [ -z "$built" ] || return 0
 mkdir -p "$out"
-link=(--extern "p3_util_proved=$out/libp3_util_proved.rlib" --extern "other=$out/libother.rlib")
+link=(--extern "p3_util_proved=$out/libp3_util_proved.rlib")
 rust+=(--edition 2024 ${cpu:+-C target-cpu="$cpu"})
 # The options of the benchmark, which is the user's crate here, and of the package, as cargo gives them in this profile.
 dev=(-C codegen-units=256 -C debug-assertions -C overflow-checks)
@@ -81,7 +80,6 @@ package() {
 }
 
 package p3_util_proved "$(dirname "$here")"
-"${rust[@]}" -C opt-level=3 --crate-type lib --crate-name other -o "$out/libother.rlib" "$here/src/other.rs"
 if [ -n "$before" ]; then
     package p3_util_before "$before"
     link+=(--extern "p3_util_before=$out/libp3_util_before.rlib" --cfg before)

@@ -68,8 +68,6 @@ pub enum Contender {
     Proved,
     /// `p3-util` 0.8.0.
     Original,
-    /// A loop over all pairs of rows, on all threads, which crates write without a call for rows.
-    Pairs,
     /// The package's whole call on one thread, if parts or several threads are measured.
     Call,
     /// The package of another checkout.
@@ -85,7 +83,6 @@ pub fn contenders(case: &Case) -> Vec<Contender> {
     let is_there = [
         (Contender::Proved, true),
         (Contender::Original, cfg!(original) && !rows),
-        (Contender::Pairs, cfg!(parallel) && rows),
         (Contender::Call, cfg!(parallel) || case.parts.is_some()),
         (Contender::Before, cfg!(before)),
         (Contender::Copy, true),
@@ -218,8 +215,6 @@ impl<T: Item> Lists<T> {
                 |_, _| unreachable!("the original has no call for rows"),
                 p3_util::transpose::transpose,
             ),
-            #[cfg(parallel)]
-            Contender::Pairs => repeat(times, to, row_width, crate::pairs::reverse_rows),
             #[cfg(before)]
             Contender::Before => call_by!(p3_util_before, self.case.parts),
             Contender::Copy => repeat(times, to, from, copy),

@@ -1,7 +1,6 @@
 //! Measures the proved calls, and compares them with the original's if it is linked. The calls on slices are also
 //! compared with a copy of the same bytes.
 
-mod call;
 mod cases;
 mod counts;
 mod items;
@@ -10,8 +9,6 @@ mod iterators;
 mod library;
 mod measure;
 mod options;
-#[cfg(parallel)]
-mod pairs;
 mod table;
 mod timed;
 mod timing;
@@ -20,7 +17,7 @@ mod words;
 use std::process::ExitCode;
 
 use measure::measured;
-use options::{Mode, Options};
+use options::Options;
 use table::Row;
 
 fn main() -> ExitCode {
@@ -42,13 +39,11 @@ fn main() -> ExitCode {
 
 fn run(options: &Options) -> Result<(), String> {
     if options.words || options.iterators {
-        if options.words {
-            timed::run(&words::WORDS, "a call", options)?;
+        return if options.words {
+            timed::run(&words::WORDS, "a call", options)
         } else {
-            timed::run(&iterators::ITERATED, "an item", options)?;
-        }
-        print_call(options);
-        return Ok(());
+            timed::run(&iterators::ITERATED, "an item", options)
+        };
     }
     let cases = cases::chosen(options);
     let Some(took) = measured(&cases, options)? else {
@@ -60,20 +55,9 @@ fn run(options: &Options) -> Result<(), String> {
         .map(|(case, took)| Row::new(case, took))
         .collect();
     print!(
-        "{}{}{}",
+        "{}{}",
         table::long(&rows, options.unit()),
-        table::summaries(&rows, &options.items),
-        table::slower(&rows, &options.build())
+        table::summaries(&rows, &options.items)
     );
-    print_call(options);
     Ok(())
-}
-
-fn print_call(options: &Options) {
-    if let Mode::Time = options.mode {
-        println!(
-            "A call of another crate that does nothing takes {:.1} ns on this machine.",
-            call::of_another_crate(options.runs)
-        );
-    }
 }

@@ -5,7 +5,6 @@ use std::str::FromStr;
 
 use crate::cases::{CALLS, distinct};
 use crate::items::SIZES;
-use crate::table::Unit;
 
 pub enum Mode {
     /// Measures times.
@@ -30,7 +29,6 @@ pub struct Options {
     pub runs: usize,
     /// The most bytes that a list may have.
     pub largest: usize,
-    pub cpu: Option<String>,
 }
 
 /// Bytes of a row, and the number of rows. The greatest list has 256 KB.
@@ -81,7 +79,6 @@ impl Options {
             parts: None,
             runs: 9,
             largest: usize::MAX,
-            cpu: None,
         })
     }
 
@@ -104,7 +101,6 @@ impl Options {
                 "--parts" => options.parts = Some(number(&value()?)?),
                 "--runs" => options.runs = number(&value()?)?,
                 "--largest" => options.largest = number::<usize>(&value()?)? << 20,
-                "--cpu" => options.cpu = Some(value()?),
                 "--count" => options.mode = Mode::Count(list(&value()?, number)?),
                 "--counted" => options.mode = Mode::Counted(value()?.into()),
                 _ => return Err(format!("unknown option {word}")),
@@ -116,23 +112,11 @@ impl Options {
         Ok(options)
     }
 
-    /// How the measured code was built.
-    pub fn build(&self) -> String {
-        let cpu = self.cpu.clone().unwrap_or(std::env::consts::ARCH.replace('_', "-"));
-        if cfg!(library) {
-            format!("library for {cpu}")
-        } else if cfg!(parallel) {
-            format!("{cpu}, on all threads")
-        } else {
-            cpu
-        }
-    }
-
     /// What is measured.
-    pub fn unit(&self) -> Unit {
+    pub fn unit(&self) -> &'static str {
         match self.mode {
-            Mode::Time => Unit::Nanoseconds,
-            Mode::Count(_) | Mode::Counted(_) => Unit::Instructions,
+            Mode::Time => "ns",
+            Mode::Count(_) | Mode::Counted(_) => "instructions",
         }
     }
 }

@@ -2,14 +2,8 @@
 
 use std::fmt::Write;
 
-use crate::cases::{Case, distinct, groups};
+use crate::cases::{Case, groups};
 use crate::items::{Contender, contenders};
-
-#[derive(Clone, Copy)]
-pub enum Unit {
-    Nanoseconds,
-    Instructions,
-}
 
 /// What each contender took for one case: nanoseconds or instructions.
 pub struct Row {
@@ -49,20 +43,15 @@ impl Row {
         self.case.work.call()
     }
 
-    /// Whom calls are compared with: the original, the loop over pairs of rows, or a copy.
+    /// Whom calls are compared with: the original, or a copy.
     fn base(&self) -> Contender {
-        let bases = [Contender::Original, Contender::Pairs];
-        bases
-            .into_iter()
-            .find(|&it| self.took(it).is_some())
-            .unwrap_or(Contender::Copy)
+        let original = self.took(Contender::Original);
+        original.map_or(Contender::Copy, |_| Contender::Original)
     }
 
-    /// What the proved call took if the original's time, or that of the loop over pairs of rows, is 1.
+    /// What the proved call took if the original's time is 1.
     fn ratio(&self) -> Option<f64> {
-        let base = self.base();
-        self.ratio_of(Contender::Proved, base)
-            .filter(|_| base != Contender::Copy)
+        self.ratio_of(Contender::Proved, Contender::Original)
     }
 }
 
@@ -70,25 +59,14 @@ fn name(contender: Contender) -> &'static str {
     match contender {
         Contender::Proved => "the proved call",
         Contender::Original => "the original",
-        Contender::Pairs => "a loop over pairs of rows",
         Contender::Call => "the whole call on one thread",
         Contender::Before => "the package before",
         Contender::Copy => "a copy",
     }
 }
 
-impl Unit {
-    pub fn name(self) -> &'static str {
-        match self {
-            Unit::Nanoseconds => "ns",
-            Unit::Instructions => "instructions",
-        }
-    }
-}
-
 /// One line for each case.
-pub fn long(rows: &[Row], unit: Unit) -> String {
-    let unit = unit.name();
+pub fn long(rows: &[Row], unit: &str) -> String {
     let mut out = format!(
         "| call | item | shape | {unit} an item | copies | to the original | to the whole call | to the package before |\n\
          |---|---|---|---|---|---|---|---|\n"
@@ -144,35 +122,6 @@ fn summary(rows: &[Row], sizes: &[usize], a: Contender, b: Contender) -> String 
     }
     out.push('\n');
     out
-}
-
-/// A case is listed as slower if it takes more than this, the original's time being 1.
-const SLOWER: f64 = 1.2;
-
-/// For each call and shape, the sizes of items for which the original is faster by a fifth or more, with the ratios.
-/// Empty without the original.
-pub fn slower(rows: &[Row], build: &str) -> String {
-    let slower: Vec<(&Row, f64)> = rows
-        .iter()
-        .filter_map(|row| row.ratio().map(|ratio| (row, ratio)))
-        .filter(|&(_, ratio)| ratio > SLOWER)
-        .collect();
-    let mut out = format!("| slower than {SLOWER} | call | items of so many bytes: time |\n|---|---|---|\n");
-    for work in distinct(slower.iter().map(|(row, _)| row.case.work)) {
-        let cells: Vec<String> = slower
-            .iter()
-            .filter(|(row, _)| row.case.work == work)
-            .map(|(row, ratio)| format!("{}: {ratio:.2}", row.case.item_size))
-            .collect();
-        let _ = writeln!(
-            out,
-            "| {build} | {} of {} | {} |",
-            work.call(),
-            work.shape(),
-            cells.join(", ")
-        );
-    }
-    if slower.is_empty() { String::new() } else { out }
 }
 
 /// The mean and the worst ratio of a group, and the mean for each size.

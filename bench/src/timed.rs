@@ -61,10 +61,7 @@ pub fn run(calls: &[Timed], what: &str, options: &Options) -> Result<(), String>
     let Some(took) = measured(calls, options)? else {
         return Ok(());
     };
-    println!(
-        "| call | {} {what} | to the original |\n|---|---|---|",
-        options.unit().name()
-    );
+    println!("| call | {} {what} | to the original |\n|---|---|---|", options.unit());
     for (call, took) in calls.iter().zip(&took) {
         let each = took[0] / call.items as f64;
         let ratio = took
