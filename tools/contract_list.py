@@ -5,7 +5,6 @@
 tests/agree compares the list with the sources. So each clause or lemma for callers that is removed, that promises less or
 that requires more is a changed line of the list, and so is a definition that is removed. An axiom or a hole in a proof is
 not: `rt check` refuses both, in any file of specs/ or proofs/."""
-import functools
 import glob
 import re
 import sys
@@ -21,10 +20,9 @@ HEAD = """\
 # of examples and tests, p3_util_callers, p3_util_transform and p3_util_vectors, are not listed.
 #
 # Below the name of a source are its contracts. All structs are listed, with their private fields, since a clause or a
-# definition may name them. The lines below an implementation of a trait say what a clause sees of that type. Sources on the
-# parts of a call are listed with the contracts that only their crate sees, because what is proved of parts stands in these.
-# So is whatever the code of the package that is written by hand may name, such as the traits that its holders implement, and
-# what the lists of registers/witness.rt let the kernels on registers touch.
+# definition may name them. The lines below an implementation of a trait say what a clause sees of that type. The kernels, those
+# on registers and those on parts are listed with the contracts that only their crate sees, because the code of the package
+# that is written by hand trusts some of these, and what is proved of parts stands in them.
 # What the root of a crate re-exports, such as `p3_util::NoRoom`, is below its src/lib.rt.
 #
 # The contracts of a crate are followed by the files of its definitions, each with the names that it defines. The file has the
@@ -36,10 +34,8 @@ HEAD = """\
 CRATES = ["p3_util_kernels", "p3_util_registers", "p3_util_parts", "p3_util", "p3_util_run", "p3_util_c"]
 # No code may rely on these: examples and tests.
 EXAMPLES = {"p3_util_callers", "p3_util_transform", "p3_util_vectors"}
-# In these sources, what only the crate itself sees is listed too.
-PARTS = r"crates/p3_util_parts/"
-# In these crates, that which these files of the package name is listed too. They are written by hand, and trust its clauses.
-KERNELS, BY_HAND = ("crates/p3_util_kernels/", "crates/p3_util_registers/"), ("rust/src/*.rs", "rust/src/slices/*.rs", "rust/src/slices/holders/*.rs")
+# In the sources of these crates, what only the crate itself sees is listed too.
+INSIDE = r"crates/p3_util_(kernels|registers|parts)/"
 # A file with this name, in a crate's proofs/, names the crate's lemmas for callers.
 LEMMAS = "Callers.antt"
 # The rows of marks and names of std that are too rare for docs/CALLING.md.
@@ -69,35 +65,17 @@ def members(outer):
             yield line(4, f"{inner.head} {inner.body}")
 
 
-@functools.cache
-def named_by_hand():
-    """The names in the package's code that is written by hand, without its tests and comments."""
-    texts = [open(path, encoding="utf-8").read() for pattern in BY_HAND for path in glob.glob(pattern)]
-    return set(re.findall(r"\w+", re.sub(r"//.*", "", "\n".join(texts))))
-
-
-def is_private(head, text, named):
-    """Whether a trait is implemented for a type of this file that other crates do not see, and that is not one of these."""
-    name = re.search(r" for (?:&mut |&)?(\w+)", head)
-    return bool(name and re.search(rf"^(?:pub\(crate\) )?(?:struct|enum) {name[1]}\b", text, re.M)) and name[1] not in named
-
-
-def contracts(text, seen_by=("pub",), named=frozenset()):
-    """The contracts of a source that these see, or that have one of these names and are not private. Also all its structs and
-    enums, since a definition may use any of them."""
-
-    def is_listed(found):
-        return found.seen_by in seen_by or found.seen_by == "pub(crate)" and found.name() in named
-
+def contracts(text, seen_by=("pub",)):
+    """The contracts of a source that these see. Also all its structs and enums, since a definition may use any of them."""
     for outer in declarations(text, 0):
         if outer.kind == "impl" and " for " not in outer.head:
             for inner in declarations(outer.body, 4):
-                if inner.kind == "fn" and is_listed(inner):
+                if inner.kind == "fn" and inner.seen_by in seen_by:
                     yield from function(2, f"{outer.name()}::", inner)
         elif outer.kind == "impl":
-            if not is_private(outer.head, text, named) and (said := list(members(outer))):
+            if said := list(members(outer)):
                 yield from [line(2, outer.head), *said]
-        elif not is_listed(outer) and outer.kind not in ("struct", "enum"):
+        elif outer.seen_by not in seen_by and outer.kind not in ("struct", "enum"):
             continue
         elif outer.kind == "fn":
             yield from function(2, "", outer)
@@ -115,10 +93,7 @@ def listed(path, named=None):
     if path.endswith(".rt"):
         exported = re.findall(r"^pub use [^;]*;", source, re.M) if path.endswith("/src/lib.rt") else []
         lines = [line(2, re.sub(r"(?<={)\s+|,?\s+(?=})", "", said)) for said in exported]
-        seen_by = ("pub", "pub(crate)") if re.match(PARTS, path) else ("pub",)
-        # The private types of the witness are listed too. If one let more be touched, its proof would show less.
-        witness = re.findall(r"\w+", source) if path.endswith("/witness.rt") else ()
-        lines += contracts(source, seen_by, named_by_hand().union(witness) if path.startswith(KERNELS) else frozenset())
+        lines += contracts(source, ("pub", "pub(crate)") if re.match(INSIDE, path) else ("pub",))
     elif "/proofs/" in path:
         lines = [f"  {said}" for said in statements(source, named)]
     else:

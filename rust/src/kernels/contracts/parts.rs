@@ -59,7 +59,13 @@
 //!
 //! ```text
 //! struct PutSteps<C> { cells: C }
+//! impl<C: Cells> Cells for PutSteps<C>
+//!   ghost items = λ h. C.items h.cells
+//!   ghost same_holder = λ n a b. PutsLead n (C.items a.cells) (C.items b.cells)
 //! struct ExchangeSteps<S> { places: S }
+//! impl<S: Places> Places for ExchangeSteps<S>
+//!   ghost items = λ h. S.items h.places
+//!   ghost same_holder = λ n a b. SwapsLead n (S.items a.places) (S.items b.places)
 //! fn puts_of_part<C: Cells, R: Source<Item = C::Item> + Copy, O: PutRegion>(out: C, source: R, plan: TransposePlan,
 //!     number: usize, order: O) -> C
 //!   requires below: number < parts_in plan.cut.len plan.cut.part_len
