@@ -1,4 +1,5 @@
 // rust/erase writes this folder from the proved sources in crates/. Make changes there.
+#![warn(clippy::default_numeric_fallback)]
 
 pub mod bits;
 pub(crate) mod grid;
