@@ -1,6 +1,5 @@
-//! A crate that makes each call of the package on items and on integers. `rust/test` looks at the names in its object:
-//! which functions of the package are compiled there, and which are called there. No kernel is compiled there, for items
-//! of these sizes and for rows of any size.
+//! A crate that makes each call of the package on items and on integers. `rust/test` looks at the names of the functions
+//! of the package that are compiled there. There should be no kernel, for items of these sizes and for rows of any size.
 //!
 //! The calls are made in two modules, which are compiled apart. A function that is not `inline` is compiled in one of them
 //! and called in the other, so it has a name.
