@@ -23,12 +23,6 @@ unwritten=$'error: output cannot be written\n'
 no_memory=$'error: out of memory\n'
 
 words() {
-    is 'a list' 0 "$turned" '' "$1" revbits <<<"$list"
-    is 'a matrix' 0 $'[1,4,2,5,3,6]\n' '' "$1" transpose 3 2 <<<'[1,2,3,4,5,6]'
-    is 'rows' 0 $'[0,1,4,5,2,3,6,7]\n' '' "$1" revrows 2 <<<'[0,1,2,3,4,5,6,7]'
-    is 'a length that does not fit' 2 '' $'error: length 3 is neither zero nor a power of two\n' "$1" revbits <<<'[1,2,3]'
-    is 'a length that does not fit the rows' 2 '' $'error: length 3 is not 2 times zero or a power of two\n' "$1" revrows 2 <<<'[1,2,3]'
-    is 'a length that does not fit the sides' 2 '' $'error: 3 by 2 is not the length 4\n' "$1" transpose 3 2 <<<"$list"
     is 'no words' 2 '' "$unknown" "$1" <<<"$list"
     is 'an empty word' 2 '' "$unknown" "$1" '' <<<"$list"
     is 'a command that is no UTF-8' 2 '' "$unknown" "$1" $'\xff' <<<"$list"
@@ -89,7 +83,7 @@ refusals() {
     out_of_memory 14 '[1,2,3,4,5,6]' 0 $'[1,4,2,5,3,6]\n' '' "$1" transpose 3 2
     out_of_memory 8 '[1,2,3]' 2 '' $'error: length 3 is neither zero nor a power of two\n' "$1" revbits
     out_of_memory 9 '[1,2,3]' 2 '' $'error: length 3 is not 2 times zero or a power of two\n' "$1" revrows 2
-    out_of_memory 10 '[1,2,3]' 2 '' $'error: 2 by 2 is not the length 3\n' "$1" transpose 2 2
+    out_of_memory 10 "$list" 2 '' $'error: 3 by 2 is not the length 4\n' "$1" transpose 3 2
 }
 
 kit=$(dirname "$(rt doc)")/toolchain/bin
