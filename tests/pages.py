@@ -1,6 +1,7 @@
 """For tests/agree: compares the pages with the code. It checks the functions that blocks of Rust quote, the clauses that
-MODEL names, the numbers in ARCHITECTURE's table, and each link, file and name. It also looks for each public function in the tests, in MODEL and in the callers, for the comment and the source of each definition,
-and for the files that comments of specs and proofs name."""
+MODEL names, the numbers in ARCHITECTURE's table, and each link, file and name. It also looks for each public function in the
+tests, in MODEL and in the callers, for the comment and the source of each definition, and for the files that comments of specs
+and proofs name."""
 import functools
 import itertools
 import os
