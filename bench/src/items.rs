@@ -218,7 +218,7 @@ impl<T: Item> Lists<T> {
             #[cfg(before)]
             Contender::Before => call_by!(p3_util_before, self.case.parts),
             Contender::Copy => repeat(times, to, from, copy),
-            #[cfg(not(all(original, parallel, before)))]
+            #[cfg(not(all(original, before)))]
             _ => unreachable!("the benchmark was built without this contender"),
         }
     }
