@@ -2,7 +2,7 @@
 //! What is proved of the parts of a call: the contracts of the plans by which a call is cut, and the laws about all parts.
 //!
 //! A *plan* says how a call is cut: `TransposePlan` into regions of a matrix, and `RowPairs` into patches of a grid. `put` of a
-//! region and `exchange` make the steps of one part. The functions of `laws.rt` are there only for their contracts, and are not
+//! region and `exchange_patch` make the steps of one part. The functions of `laws.rt` are there only for their contracts, and are not
 //! part of this package. A clause that begins with `(steps : List ..)` holds for every list of steps. [The page
 //! above](super) explains the marks and the names.
 //!
