@@ -21,19 +21,8 @@
 //! | 8 bytes, up to 262144 items, if 512 divides the width: `BLOCKS_FAR_ROWS` | the same | the rows begin a multiple of 4 KiB apart. The lines of a column are in few sets of the cache, and a block uses them up before they are evicted |
 //! | all others | low if 16 divides the width, otherwise high, column after column | see `Strips::by_width` |
 //!
-//! Lines are put on x86-64, and blocks where items are transposed in registers. Elsewhere the lines of the tables that speak
-//! of them fit no matrix.
-//!
-//! With the feature `checked`, a matrix is put by blocks of several rows instead of columns and strips. The holder tests each
-//! row and each column of such a block, but not each item:
-//!
-//! | Matrix | [`RowBlocks`] | Why |
-//! |---|---|---|
-//! | fewer than 128 items: `Columns` above | none: `FEW_ITEMS`, blocks of 4 rows | such a matrix has few rows |
-//! | items of 1 KiB and more: `LONG_BYTES` | none: strips as above | they are put by their indices |
-//! | items of 16 bytes and more: `ROWS_LONG_ITEM`, more than 512 KiB: `ROWS_LONG_LIST` | none | the tests take little of the time of so many bytes |
-//! | a column of 512 bytes and more: `ROWS_LONG_COLUMN` | `Sixteen` | half as many parts of a cache line of the output are stored |
-//! | all others | `Eight` | the loop needs fewer registers |
+//! Lines are put on x86-64, and blocks where items are transposed in registers. Elsewhere these rows fit no matrix. With the
+//! feature `checked`, [`row_blocks_of`] comes before the strips.
 
 use super::holders::USES_REGISTERS;
 use crate::kernels::transpose::{Blocks, Columns, HIGH_ROWS, LARGE_MATRIX, Region, RowBlocks, Strips, TINY_MATRIX};
@@ -150,7 +139,16 @@ pub(super) fn strips_of<const SIDE: usize>(size: usize, width: usize, height: us
 #[cfg_attr(not(feature = "checked"), allow(dead_code, reason = "there, columns are put"))]
 pub(super) const FEW_ITEMS: Blocks<4, Columns> = Blocks(Columns);
 
-/// The blocks of rows by which a matrix is put with the feature `checked` instead of strips, if it is.
+/// With the feature `checked`, a matrix is put by blocks of several rows instead of columns and strips. The holder tests each
+/// row and each column of such a block, but not each item:
+///
+/// | Matrix | [`RowBlocks`] | Why |
+/// |---|---|---|
+/// | fewer than 128 items: `Columns` above | none: `FEW_ITEMS`, blocks of 4 rows | such a matrix has few rows |
+/// | items of 1 KiB and more: `LONG_BYTES` | none: strips as above | they are put by their indices |
+/// | items of 16 bytes and more: `ROWS_LONG_ITEM`, more than 512 KiB: `ROWS_LONG_LIST` | none | the tests take little of the time of so many bytes |
+/// | a column of 512 bytes and more: `ROWS_LONG_COLUMN` | `Sixteen` | half as many parts of a cache line of the output are stored |
+/// | all others | `Eight` | the loop needs fewer registers |
 #[cfg_attr(not(feature = "checked"), allow(dead_code, reason = "there, strips are put"))]
 #[inline(always)]
 pub(super) fn row_blocks_of(size: usize, width: usize, height: usize) -> Option<RowBlocks> {
