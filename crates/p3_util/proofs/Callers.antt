@@ -13,7 +13,6 @@ pub mod ReversedTables
 pub mod Rows
 pub mod Square
 pub mod Transpose
-pub mod TransposeFromParts
 pub mod Views
 pub mod ZipEq
 pub use Rattle.p3_util.proofs.Callers.Bits.{rev_below, rev_twice, rev_in_parts, rev_even, rev_odd, rev_last, rev_high, half, rev_longer, power_up, exponent_most, power_in_parts, power_too_large, exponent_below, power_over, power_step, shifted_step, row_of_place, column_of_place, product_of_powers, product_large, small_power, halved_within, halved_below, bit_set}
@@ -31,9 +30,6 @@ pub use Rattle.p3_util.proofs.Callers.Square.{square_back, whole_square}
 pub use Rattle.p3_util.proofs.Callers.Transpose.{transposed_once, transposed_back, transposed_first, one_line, line_alone, transposes_more, above_stays, below_stays, left_stays, right_stays, levels_enough, region_others}
 pub use Rattle.p3_util.proofs.Callers.Views.{flat_place}
 pub use Rattle.p3_util.proofs.Callers.ZipEq.{zip_place, length_zip, zip_swap, reduced_summed}
--- items of a square exchanged across its diagonal, with one more item of a row; a list that has the
--- last place of a square has every place of it
-pub use Rattle.p3_util.proofs.DiagonalLemmas.{SwapsAcross-item as item_across, square_place}
 -- two lists of one length with the same item at each place
 pub use Rattle.p3_util_kernels.proofs.PlacesLemmas.SameList.{same_places}
 -- a list that is counted from its end
@@ -54,5 +50,4 @@ pub use Rattle.p3_util.proofs.Callers.Reverse.{place_moved, word_moved, word_bel
 pub use Rattle.p3_util.proofs.Callers.ReversedTables.{reversed_item, reversed_item_at, reversed_item_from, reversed_some, reversed_some_from, moved_some, moved_read, bits_some, bits_read, first_some, last_some, first_read, last_read, even_index, odd_index}
 pub use Rattle.p3_util.proofs.Callers.Rows.{part_length, part_inside, part_before, part_after, part_read}
 pub use Rattle.p3_util.proofs.Callers.Transpose.{first_in_rows, first_row, one_column, one_row, column_alone, row_alone, outside_stays, reversed_by_sides}
-pub use Rattle.p3_util.proofs.Callers.TransposeFromParts.{region_of_column, rows_from_top, rows_across, twice_half, swaps_of_quadrants, last_quadrant_room, quadrants_within, square_of_quadrants}
 pub use Rattle.p3_util.proofs.Callers.ZipEq.{zip_set}

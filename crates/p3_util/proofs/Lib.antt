@@ -1,6 +1,5 @@
 -- The modules of lemmas of this crate.
 pub mod Callers
-pub mod DiagonalLemmas
 pub mod FilledChunk
 pub mod FlatLemmas
 pub mod ItemsAtLemmas

@@ -20,6 +20,5 @@ pub mod places;
 pub mod reverse;
 pub mod reversed_tables;
 pub mod transpose;
-pub mod transpose_from_parts;
 pub mod views;
 pub mod zip_eq;

@@ -12,8 +12,8 @@ use p3_util::bits::log2_ceil_usize;
 use p3_util::places::{Cells, Places, SliceCells, SlicePlaces, Source, Swaps, Writes};
 use p3_util::transpose::{
     Region, fits_matrix, fits_square, transpose, transpose_counted, transpose_region_counted,
-    transpose_region_on, transpose_source_region_on, transpose_source_split_on, transpose_split_on,
-    transpose_square_counted, transpose_square_on,
+    transpose_region_on, transpose_source_region_counted, transpose_source_region_on,
+    transpose_source_split_on, transpose_split_on, transpose_square_counted, transpose_square_on,
 };
 
 /// Transposes `matrix`, of `height` rows of `width` items, by way of `scratch`, and returns `true`,
@@ -185,6 +185,29 @@ pub fn transpose_part_where_it_fits<C: Cells>(
     }
     transpose_region_on(input, out, part, width, height);
     true
+}
+
+/// Puts a part of any source, if the part lies in the matrix, and returns the number of writes, or 0.
+pub fn put_part_of_source<R, C>(
+    input: &R,
+    cells: &mut C,
+    part: Region,
+    width: usize,
+    height: usize,
+) -> u128
+where
+    C: Cells,
+    R: Source<Item = C::Item>,
+    requires input_fits { length (R.items input.now) ≡ width * height }
+    requires output_fits { length (C.items cells.old) ≡ width * height }
+    ensures { LiesInMatrix part width height → (result ≡ items_of part)
+        × IsRegionTransposed part width height (R.items input.now) (C.items cells.old)
+        (C.items cells.new) }
+{
+    if !part.fits(width, height) {
+        return 0;
+    }
+    transpose_source_region_counted(input, cells, part, width, height)
 }
 
 /// The number of levels that the split of a region with these sides needs.
