@@ -142,14 +142,17 @@ fn transpose_by_shape<M: Cells, R: Source<Item = M::Item> + Copy>(out: M, matrix
         (M.items result) }
     ensures holder { M.same_holder (matrix.width * matrix.height) out result }
 {
-    match Order::by_shape(matrix) {
-        Order::Columns => transpose_matrix(out, matrix, Columns),
-        _ => transpose_outlined(out, matrix),
+    let items = matrix.source.len();
+    // A matrix without items may have very many columns, which have no rows.
+    if 0 < items && items < TINY_MATRIX {
+        transpose_matrix(out, matrix, Columns)
+    } else {
+        transpose_outlined(out, matrix)
     }
 }
 
-/// Does the same as [`transpose_by_shape`]. It is not inlined, so that calls for tiny matrices stay
-/// short.
+/// Does the same as [`transpose_by_shape`], in the order for a matrix that is not tiny. It is not
+/// inlined, so that calls for tiny matrices stay short.
 #[inline(never)]
 fn transpose_outlined<M: Cells, R: Source<Item = M::Item> + Copy>(out: M, matrix: Matrix<R>) -> M
     requires input_fits { length (R.items matrix.source) ≡ matrix.width * matrix.height }

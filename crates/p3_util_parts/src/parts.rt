@@ -13,14 +13,13 @@
 ghost use Rattle.std.specs.Prelude.{length, ◌≡◌, ℕ, ◌+◌, ◌-◌, ◌*◌, ◌/◌, ◌%◌, ◌^◌, ◌<◌, ◌≤◌, ◌==◌, if◌then◌else◌, max};
 ghost use Rattle.p3_util_parts.specs.Patches.{IsPatch, IsPatchExchanged, patches_of};
 ghost use Rattle.p3_util_kernels.specs.Crossing.{HoldsRows};
-ghost use Rattle.p3_util_parts.specs.Parts.{FollowEachOther, IsLeastPartLen, number_of_pair, pairs_of, part_of_matrix, parts_in, start_of};
-ghost use Rattle.p3_util_kernels.specs.Region.{LiesInMatrix};
+ghost use Rattle.p3_util_parts.specs.Parts.{FollowEachOther, IsLeastPartLen, number_of_pair, pairs_of, parts_in, start_of};
 ghost use Rattle.p3_util_kernels.specs.Reversal.{FitsRows};
 
 mod laws;
 mod transpose;
 
-use p3_util_kernels::kernel::{Matrix, RowDigits, TILE, exchange_quadrants, exchange_region, pow2};
+use p3_util_kernels::kernel::{RowDigits, TILE, exchange_quadrants, exchange_region, pow2};
 use p3_util_kernels::places::Places;
 use p3_util_kernels::transpose::Region;
 pub(crate) use transpose::TransposePlan;
@@ -68,24 +67,6 @@ impl Cut {
     {
         let from = k * self.part_len;
         (from, from + self.part_len.min(self.len - from))
-    }
-
-    /// Part `k` of a matrix. This cut divides the rows of the matrix if `by_rows` is true, and its
-    /// columns otherwise.
-    pub(crate) fn region<R>(self, matrix: &Matrix<R>, by_rows: bool, k: usize) -> Region
-        requires side { self.len ≡ if by_rows then matrix.now.height else matrix.now.width }
-        requires below { k < parts_in self.len self.part_len }
-        ensures region { result ≡ part_of_matrix matrix.now.width matrix.now.height by_rows
-            self.len self.part_len k }
-        ensures inside { LiesInMatrix result matrix.now.width matrix.now.height }
-    {
-        let whole = matrix.whole();
-        let (from, to) = self.part(k);
-        if by_rows {
-            whole.with_rows(from, to)
-        } else {
-            whole.with_cols(from, to)
-        }
     }
 
     /// The number of pairs of parts: each part with itself and with each later one.
@@ -138,6 +119,8 @@ impl RowPairs {
         ensures few { parts_in result.cut.len result.cut.part_len ≤ max parts 1 }
         ensures least { IsLeastPartLen parts (if row_width == 1 then TILE else 1) result.cut.len
             result.cut.part_len }
+        ensures units { (k : ℕ) → k < parts_in result.cut.len result.cut.part_len
+            → start_of result.cut.len result.cut.part_len k % (if row_width == 1 then TILE else 1) ≡ 0 }
     {
         let rows = RowDigits::of(len, row_width);
         let unit = if row_width == 1 { TILE } else { 1 };

@@ -27,9 +27,6 @@ module _ (side : ℕ) (block : Block) (col input_len len : ℕ) (is : IsSide sid
   in_all : (c : ℕ) → c < block.rows → c < 8
   in_all c h = elim known [ inl u ↦ omega arith | inr u ↦ omega arith ]
 
-  pub AreReached-block_from : (may : ℕ → Type 0) → RowsReached block.rows side (λ r. block.from + r * block.width) may → (from : List ℕ) → ((c : ℕ) → c < 8 → slice_index from c ≡ slice_index rows c + slice_index tops c) → AreReached 8 from may
-  AreReached-block_from may all from at j h = rw (at j h, is_top j h, at_rows j h) (all (j % block.rows) col (row_in_block block.rows j known).0 below)
-
   apart : (a b : ℕ) → a < b → b < block.rows → (slice_index cols a + block.rows ≤ slice_index cols b) ⊎ (slice_index cols b + block.rows ≤ slice_index cols a)
   apart a b h k =
       let row_a = (row_in_block block.rows a known).1 (omega arith) in

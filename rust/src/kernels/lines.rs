@@ -38,6 +38,8 @@ impl Lines {
     /// ```text
     /// requires some_cells { 0 < cells }
     /// requires few_cells { cells < 2 ^ 32 }
+    /// ensures cells { result.cells ≡ cells }
+    /// ensures before { result.before ≡ before }
     /// ```
     #[inline(always)]
     pub(crate) fn new(cells: usize, before: usize) -> Lines {
@@ -54,7 +56,7 @@ impl Lines {
     /// ensures { result ≡ limit region self.cells self.before skew rows col }
     /// ```
     #[inline(always)]
-    fn limit(self, region: Region, skew: usize, col: usize, rows: usize) -> usize {
+    fn limit(self, region: Region, skew: usize, rows: usize, col: usize) -> usize {
         let first = self.before.wrapping_add(region.row_start);
         let before = first.wrapping_add(col.wrapping_mul(skew)) & (self.cells - 1);
         region.row_start + region.rows().min(rows.saturating_sub(before))
@@ -158,13 +160,13 @@ impl PutRegion for Panel {
             if most <= done && next <= region.rows() {
                 out = put_row(out, matrix, region, lines, skew, done);
             } else if skew == 0 {
-                let from = lines.limit(region, skew, region.col_start, done);
-                let to = lines.limit(region, skew, region.col_start, next);
+                let from = lines.limit(region, skew, done, region.col_start);
+                let to = lines.limit(region, skew, next, region.col_start);
                 out = Outlined(Columns).put(out, matrix, region.with_rows(from, to));
             } else {
                 for col in region.col_start..region.col_end {
-                    let from = lines.limit(region, skew, col, done);
-                    let to = lines.limit(region, skew, col, next);
+                    let from = lines.limit(region, skew, done, col);
+                    let to = lines.limit(region, skew, next, col);
                     if from < to {
                         let part = region.with_rows(from, to).with_cols(col, col + 1);
                         out = put_as_block(out, matrix, part);
@@ -212,7 +214,7 @@ fn put_row<M: Cells, R: Source<Item = M::Item> + Copy>(
     let next = region.row_start + done + lines.cells;
     let mut col = region.col_start;
     if skew == 0 {
-        let from = lines.limit(region, skew, col, done);
+        let from = lines.limit(region, skew, done, col);
         while lines.cells <= region.col_end - col {
             let end = col + lines.cells;
             lines.expect_rows(matrix, region, next, col, end);
@@ -225,7 +227,7 @@ fn put_row<M: Cells, R: Source<Item = M::Item> + Copy>(
     }
     while col < region.col_end {
         lines.expect_row(matrix, region, next, col);
-        let from = lines.limit(region, skew, col, done);
+        let from = lines.limit(region, skew, done, col);
         let line = region
             .with_rows(from, from + lines.cells)
             .with_cols(col, col + 1);

@@ -13,7 +13,7 @@
 
 mod transpose;
 
-use crate::kernels::kernel::{Matrix, RowDigits, TILE, exchange_quadrants, exchange_region, pow2};
+use crate::kernels::kernel::{RowDigits, TILE, exchange_quadrants, exchange_region, pow2};
 use crate::kernels::places::Places;
 use crate::kernels::transpose::Region;
 pub(crate) use transpose::TransposePlan;
@@ -74,28 +74,6 @@ impl Cut {
         (from, from + self.part_len.min(self.len - from))
     }
 
-    /// Part `k` of a matrix. This cut divides the rows of the matrix if `by_rows` is true, and its
-    /// columns otherwise.
-    ///
-    /// # Contract
-    ///
-    /// ```text
-    /// requires side { self.len ≡ if by_rows then matrix.now.height else matrix.now.width }
-    /// requires below { k < parts_in self.len self.part_len }
-    /// ensures region { result ≡ part_of_matrix matrix.now.width matrix.now.height by_rows
-    ///     self.len self.part_len k }
-    /// ensures inside { LiesInMatrix result matrix.now.width matrix.now.height }
-    /// ```
-    pub(crate) fn region<R>(self, matrix: &Matrix<R>, by_rows: bool, k: usize) -> Region {
-        let whole = matrix.whole();
-        let (from, to) = self.part(k);
-        if by_rows {
-            whole.with_rows(from, to)
-        } else {
-            whole.with_cols(from, to)
-        }
-    }
-
     /// The number of pairs of parts: each part with itself and with each later one.
     ///
     /// # Contract
@@ -154,6 +132,8 @@ impl RowPairs {
     /// ensures few { parts_in result.cut.len result.cut.part_len ≤ max parts 1 }
     /// ensures least { IsLeastPartLen parts (if row_width == 1 then TILE else 1) result.cut.len
     ///     result.cut.part_len }
+    /// ensures units { (k : ℕ) → k < parts_in result.cut.len result.cut.part_len
+    ///     → start_of result.cut.len result.cut.part_len k % (if row_width == 1 then TILE else 1) ≡ 0 }
     /// ```
     pub(crate) fn new(len: usize, row_width: usize, parts: usize) -> RowPairs {
         let rows = RowDigits::of(len, row_width);

@@ -90,7 +90,7 @@ struct PartsToRun<'a, T, P> {
     numbers: Range<usize>,
 }
 
-type MatrixPlan<'a, T> = (Matrix<&'a [T]>, TransposePlan);
+type MatrixPlan<'a, T> = (&'a [T], TransposePlan);
 
 /// A reversal of rows of `width` places, of `bytes` bytes each. If it is cut, its parts are patches of `pairs`.
 #[derive(Clone, Copy)]
@@ -149,8 +149,8 @@ pub fn transpose<'a, T: Copy + Send + Sync>(
     let count = if size_of::<T>() == 0 { 0 } else { plan.count() };
     // If the columns are cut, each region fills a run of this many cells. The last region may fill fewer.
     let cells = if count == 0 { 0 } else { plan.items(0) };
-    let (items, matrix) = (SliceItems::in_shares(output, cells), Matrix::new(input, width, height));
-    let (plan, numbers) = ((matrix, plan), 0..count);
+    let items = SliceItems::in_shares(output, cells);
+    let (plan, numbers) = ((input, plan), 0..count);
     TransposeParts(PartsToRun { items, plan, numbers })
 }
 
@@ -216,8 +216,8 @@ impl<T: Copy> TransposePart<'_, T> {
     /// Writes the items of this part to the output.
     #[inline]
     pub fn run(self) {
-        let (Matrix { source, width, height }, _) = self.0.plan;
-        let (matrix, region) = (Matrix::new(SliceSource::new(source), width, height), self.region());
+        let ((input, plan), region) = (self.0.plan, self.region());
+        let matrix = Matrix::new(SliceSource::new(input), plan.width, plan.height);
         instances::transpose_region(self.0.items, matrix, region);
     }
 

@@ -13,15 +13,66 @@ use super::choice::HighStrips;
 #[cfg(not(feature = "checked"))]
 use super::holders::Bytes;
 #[cfg(not(feature = "checked"))]
-use super::holders::SliceItems;
-#[cfg(not(feature = "checked"))]
 use super::holders::{Items, USES_REGISTERS, Vector};
-use super::holders::{SliceItems as SliceCells, SliceItems as SlicePlaces, SliceSource};
+use super::holders::{SliceItems, SliceSource};
 use super::parts::{ReversalPart, TransposePart};
 use crate::kernels::places::{Block, Cells, Places, Source};
 #[cfg(not(feature = "checked"))]
-use crate::kernels::registers::{Pair, Paired, Register, Single, Two};
+use crate::kernels::registers::{Pair, Paired, Register, Runs, Single, Two};
 use crate::kernels::transpose::{Matrix, transpose_matrix, transpose_square};
+
+/// `i`, which has `digits` binary digits, with the digits in reversed order.
+pub(super) fn reversed(digits: usize, i: usize) -> usize {
+    (0..digits).fold(0, |rev, place| rev << 1 | i >> place & 1)
+}
+
+/// The index in a matrix of `width` columns and `height` rows of the item that its transpose has at `place`.
+pub(super) fn transposed(width: usize, height: usize, place: usize) -> usize {
+    place % height * width + place / height
+}
+
+/// A list of numbers that notes each place that a step changes.
+#[derive(Debug)]
+pub(super) struct Noted {
+    pub(super) items: Vec<usize>,
+    pub(super) places: Vec<usize>,
+}
+
+impl Noted {
+    /// The numbers below `len`, in order.
+    pub(super) fn numbered(len: usize) -> Self {
+        Noted {
+            items: (0..len).collect(),
+            places: Vec::new(),
+        }
+    }
+}
+
+impl Places for Noted {
+    type Item = usize;
+
+    fn len(&self) -> usize {
+        self.items.len()
+    }
+
+    fn exchange(&mut self, i: usize, j: usize) {
+        self.items.swap(i, j);
+        self.places.extend([i, j]);
+    }
+}
+
+impl Cells for Noted {
+    type Item = usize;
+
+    fn len(&self) -> usize {
+        self.items.len()
+    }
+
+    fn put(&mut self, i: usize, v: usize) {
+        self.items[i] = v;
+        self.places.push(i);
+    }
+}
 
 /// Makes the holder of a list that is tested.
 trait Hold<'a, T> {
@@ -34,10 +85,10 @@ trait Hold<'a, T> {
 struct Singly;
 
 impl<'a, T: 'a> Hold<'a, T> for Singly {
-    type Holder = SlicePlaces<'a, T>;
+    type Holder = SliceItems<'a, T>;
 
-    fn hold(list: &'a mut [T]) -> SlicePlaces<'a, T> {
-        SlicePlaces::new(list)
+    fn hold(list: &'a mut [T]) -> SliceItems<'a, T> {
+        SliceItems::new(list)
     }
 }
 
@@ -92,7 +143,7 @@ impl<'a, T: 'a, D: Register<T>> Hold<'a, T> for ByRegisters<D> {
     type Holder = SliceItems<'a, T, D>;
 
     fn hold(list: &'a mut [T]) -> SliceItems<'a, T, D> {
-        SlicePlaces::new(list).in_registers()
+        SliceItems::new(list).in_registers()
     }
 }
 
@@ -118,35 +169,11 @@ macro_rules! of_each_holder {
     };
 }
 
-/// Makes the holder of cells that is tested.
-trait HoldCells<'a, T> {
-    type Holder: Cells<Item = T>;
-
-    fn hold_cells(list: &'a mut [T]) -> Self::Holder;
-}
-
-impl<'a, T: Copy + 'a> HoldCells<'a, T> for Singly {
-    type Holder = SliceCells<'a, T>;
-
-    fn hold_cells(list: &'a mut [T]) -> SliceCells<'a, T> {
-        SliceCells::new(list)
-    }
-}
-
-#[cfg(not(feature = "checked"))]
-impl<'a, T: Copy + 'a, D: Register<T>> HoldCells<'a, T> for ByRegisters<D> {
-    type Holder = SliceItems<'a, T, D>;
-
-    fn hold_cells(list: &'a mut [T]) -> SliceItems<'a, T, D> {
-        Self::hold(list)
-    }
-}
-
 /// The result of a call on the numbers below 6, each as an item of five bytes. For items of this size, std tests that
 /// no place is borrowed twice if debug assertions are on.
-fn left(call: impl FnOnce(&mut SlicePlaces<[u8; 5]>)) -> [u8; 6] {
+fn left(call: impl FnOnce(&mut SliceItems<[u8; 5]>)) -> [u8; 6] {
     let mut list = [0, 1, 2, 3, 4, 5].map(|number| [number; 5]);
-    call(&mut SlicePlaces::new(&mut list));
+    call(&mut SliceItems::new(&mut list));
     list.map(|[first, ..]| first)
 }
 
@@ -170,7 +197,7 @@ fn lists_in_bytes() {
                 len * ITEM / N,
                 "{len} of {ITEM} by {N}"
             );
-            let places = SlicePlaces::new(&mut list).in_bytes::<N>();
+            let places = SliceItems::new(&mut list).in_bytes::<N>();
             assert_eq!(Places::len(&places), len * ITEM / N, "{len} of {ITEM} by {N}");
         }
     }
@@ -273,9 +300,8 @@ fn reverses_rows<T: Debug + PartialEq>(item: impl Fn(usize) -> T) {
         for bits in 0..=7 {
             let mut list: Vec<T> = (0..width << bits).map(&item).collect();
             super::reverse_slice_row_index_bits(&mut list, width);
-            let reversed = |row: usize| (0..bits).fold(0, |rev, bit| rev << 1 | row >> bit & 1);
             for (place, got) in list.iter().enumerate() {
-                let wanted = item(reversed(place / width) * width + place % width);
+                let wanted = item(reversed(bits, place / width) * width + place % width);
                 assert_eq!(*got, wanted, "place {place} of 2^{bits} rows of {width}");
             }
         }
@@ -371,7 +397,7 @@ fn parts<const N: usize>(number: usize) -> [u32; N] {
 fn puts<const N: usize>() {
     let mut list = [[u32::MAX; N]; 5];
     for i in [3, 1, 2] {
-        SliceCells::new(&mut list).put(i, parts(i));
+        SliceItems::new(&mut list).put(i, parts(i));
     }
     assert_eq!(list, [[u32::MAX; N], parts(1), parts(2), parts(3), [u32::MAX; N]]);
 }
@@ -388,14 +414,17 @@ fn puts_by_parts() {
 #[test]
 fn puts_and_reads() {
     let mut list = [0, 1, 2];
-    SliceCells::new(&mut list).put(2, 7);
+    SliceItems::new(&mut list).put(2, 7);
     assert_eq!(SliceSource::new(&list).at(2), 7);
     assert_eq!(list, [0, 1, 7]);
 }
 
 /// Puts a block with this number of rows, of items that `item` makes, and checks every cell. The rows of the block are
 /// three items apart in the source, and its columns two cells apart in the list.
-fn puts_block_of<T: Copy + PartialEq, H: for<'a> HoldCells<'a, T>>(side: usize, item: impl Fn(u8) -> T) {
+fn puts_block_of<T: Copy + PartialEq, H: for<'a> Hold<'a, T, Holder: Cells<Item = T>>>(
+    side: usize,
+    item: impl Fn(u8) -> T,
+) {
     let block = Block {
         rows: side,
         cols: side,
@@ -406,7 +435,7 @@ fn puts_block_of<T: Copy + PartialEq, H: for<'a> HoldCells<'a, T>>(side: usize, 
     };
     let source: Vec<T> = (1..=100).map(&item).collect();
     let mut cells = std::vec![item(0); 100];
-    H::hold_cells(&mut cells).put_block(&SliceSource::new(&source), block);
+    H::hold(&mut cells).put_block(&SliceSource::new(&source), block);
     let mut wanted = std::vec![item(0); 100];
     for (r, c) in (0..side).flat_map(|r| (0..side).map(move |c| (r, c))) {
         wanted[7 + c * (side + 2) + r] = source[5 + r * (side + 3) + c];
@@ -477,14 +506,14 @@ fn puts_near_lines<T: Copy + PartialEq>(item: impl Fn(usize) -> T, put: impl Fn(
 }
 
 /// Puts a block by a holder.
-fn put_block<T: Copy, H: for<'a> HoldCells<'a, T>>(cells: &mut [T], source: &[T], block: Block) {
-    H::hold_cells(cells).put_block(&SliceSource::new(source), block);
+fn put_block<T: Copy, H: for<'a> Hold<'a, T, Holder: Cells<Item = T>>>(cells: &mut [T], source: &[T], block: Block) {
+    H::hold(cells).put_block(&SliceSource::new(source), block);
 }
 
 /// Puts a block by a holder that stores whole lines past the caches.
 #[cfg(not(feature = "checked"))]
 fn put_past_caches<T: Copy, D: Register<T>>(cells: &mut [T], source: &[T], block: Block) {
-    let holder = SliceCells::new(cells).in_registers::<D>();
+    let holder = SliceItems::new(cells).in_registers::<D>();
     holder.past_caches(|mut cells| cells.put_block(&SliceSource::new(source), block));
 }
 
@@ -524,8 +553,8 @@ fn blocks_of_lines() {
                     height,
                 };
                 let is_line = rows == line && to % line == 0 && (cols == 1 || height % line == 0);
-                assert!(!SliceCells::new(&mut list.0).in_registers::<D>().may_stream(block));
-                let holder = SliceCells::new(&mut list.0).in_registers::<D>();
+                assert!(!SliceItems::new(&mut list.0).in_registers::<D>().may_stream(block));
+                let holder = SliceItems::new(&mut list.0).in_registers::<D>();
                 holder.past_caches(|cells| assert_eq!(cells.may_stream(block), is_line, "{rows} {cols} {to} {height}"));
             }
         }
@@ -544,13 +573,13 @@ fn is_transposed<T: Copy + PartialEq + Send + Sync + 'static>(
 ) -> bool {
     let input: Vec<T> = (0..width * height).map(&item).collect();
     let expected: Vec<T> = (0..width * height)
-        .map(|place| item(place % height * width + place / height))
+        .map(|place| item(transposed(width, height, place)))
         .collect();
     let blank = std::vec![item(usize::MAX); width * height];
     of_each_holder!(T, Holder => for side in [4, 8] {
         let mut output = blank.clone();
         let matrix = Matrix::new(SliceSource::new(&input), width, height);
-        let cells = Holder::hold_cells(&mut output);
+        let cells = Holder::hold(&mut output);
         let _ = match side {
             4 => transpose_matrix(cells, matrix, HighStrips::<4>::Squares),
             _ => transpose_matrix(cells, matrix, HighStrips::<8>::Squares),
@@ -598,7 +627,7 @@ fn is_transposed_in_parts<T: Copy + PartialEq + Send + Sync>(
     cuts.into_iter().all(|count| {
         let mut output = std::vec![item(usize::MAX); input.len()];
         super::parts::transpose(&input, &mut output, width, height, count).for_each(TransposePart::run);
-        (0..output.len()).all(|place| output[place] == input[place % height * width + place / height])
+        (0..output.len()).all(|place| output[place] == input[transposed(width, height, place)])
     })
 }
 
@@ -622,8 +651,6 @@ fn blocks_of_parts() {
 #[cfg(not(feature = "checked"))]
 #[test]
 fn shuffles() {
-    use crate::kernels::registers::{Pair, Paired, Register, Runs};
-
     fn compare<const N: usize>()
     where
         Of<N>: Paired<[u8; N]>,
@@ -729,7 +756,7 @@ mod refused {
         });
     }
 
-    fn refuses_blocks<H: for<'a> HoldCells<'a, u32>>() {
+    fn refuses_blocks<H: for<'a> Hold<'a, u32, Holder: Cells<Item = u32>>>() {
         let refused = |change: fn(&mut Block)| {
             let mut block = Block {
                 rows: 4,
@@ -740,7 +767,7 @@ mod refused {
                 height: 5,
             };
             change(&mut block);
-            panics(|| H::hold_cells(&mut [0u32; 21]).put_block(&SliceSource::new(&[0; 23]), block))
+            panics(|| H::hold(&mut [0u32; 21]).put_block(&SliceSource::new(&[0; 23]), block))
         };
         assert!(!refused(|_| ()));
         assert!(refused(|block| block.from += 1) && refused(|block| block.from = usize::MAX));
@@ -759,13 +786,11 @@ mod refused {
     #[cfg(not(feature = "checked"))]
     #[test]
     fn runs() {
-        use crate::kernels::registers::Runs;
-
         fn check<T: Copy + Default, D: Register<T>>() {
             let len = size_of::<D::Half>() / size_of::<T>();
             assert_eq!(D::SIDE, len);
             let mut list = [T::default(); 40];
-            let mut places = SlicePlaces::new(&mut list[..20]);
+            let mut places = SliceItems::new(&mut list[..20]);
             let first = Runs::<T, D>::load(&places, 0);
             for place in 0..=20 {
                 let is_outside = place + len > 20;
@@ -791,14 +816,12 @@ mod refused {
     #[cfg(all(not(feature = "checked"), target_arch = "x86_64", not(ordinary_stores), not(miri)))]
     #[test]
     fn stores_past_the_caches() {
-        use crate::kernels::registers::Runs;
-
         #[repr(align(16))]
         struct Aligned([u32; 24]);
 
         let mut list = Aligned([0; 24]);
         for len in 16..=20 {
-            let mut places = SlicePlaces::new(&mut list.0[..len]);
+            let mut places = SliceItems::new(&mut list.0[..len]);
             let run = Runs::<u32, Pair<Of<4>>>::load(&places, 0);
             for place in 0..=20 {
                 let is_wrong = place + 4 > len || place % 4 != 0;
@@ -811,7 +834,7 @@ mod refused {
     #[test]
     fn puts_and_reads() {
         for i in [3, usize::MAX] {
-            assert!(panics(|| SliceCells::new(&mut [0, 1, 2]).put(i, 7)), "{i}");
+            assert!(panics(|| SliceItems::new(&mut [0, 1, 2]).put(i, 7)), "{i}");
             assert!(panics(|| _ = SliceSource::new(&[0, 1, 2]).at(i)), "{i}");
         }
     }
@@ -821,8 +844,6 @@ mod refused {
 /// itself would take it.
 #[test]
 fn indices_of_long_items() {
-    use std::panic::{AssertUnwindSafe, catch_unwind};
-
     /// Of these items only the first ones are in the source.
     #[derive(Clone, Copy)]
     struct First(usize);
@@ -842,7 +863,7 @@ fn indices_of_long_items() {
     let put = |len| {
         let mut cells = std::vec![[9; 1024]; 6];
         let matrix = Matrix::new(First(len), 3, 2);
-        let call = || super::by_type::transpose_region(SliceCells::new(&mut cells), matrix, None);
+        let call = || super::by_type::transpose_region(SliceItems::new(&mut cells), matrix, None);
         catch_unwind(AssertUnwindSafe(call)).map(|()| cells.into_iter().map(|[first, ..]| first).collect())
     };
     assert_eq!(put(6).ok(), Some(std::vec![0, 3, 1, 4, 2, 5]));
@@ -855,14 +876,14 @@ fn indices_of_long_items() {
 #[test]
 fn shares() {
     let mut list = [0, 1, 2, 3, 4];
-    let mut items = SliceCells::in_shares(&mut list, 3);
+    let mut items = SliceItems::in_shares(&mut list, 3);
     let (mut first, mut second) = (items.share(), items.share());
     first.put(2, 7);
     first.exchange(0, 1);
     second.put(3, 8);
     second.exchange(3, 4);
     assert_eq!([Cells::len(&first), Cells::len(&second), Places::len(&second)], [5; 3]);
-    let refuses = |share: &mut SliceCells<i32>, inside: usize, outside: &[usize]| {
+    let refuses = |share: &mut SliceItems<i32>, inside: usize, outside: &[usize]| {
         for outside in outside {
             assert!(panics(|| share.put(*outside, 9)), "{outside}");
             assert!(panics(|| share.exchange(inside, *outside)), "{inside} {outside}");
@@ -900,7 +921,7 @@ fn places_of_parts() {
 /// never if it was at two places or at none.
 fn reverses<T: Debug + PartialEq + Send + Sync>(item: impl Fn(usize) -> T) {
     for (bits, width) in (0..=8).flat_map(|bits| [1, 2, 3, 5, 8].map(|width| (bits, width))) {
-        let reversed = |row: usize| (0..bits).fold(0, |rev, bit| rev << 1 | row >> bit & 1);
+        let reversed = |row| reversed(bits, row);
         let check = |list: &[T], wanted: &dyn Fn(usize) -> usize| {
             let is = |(place, got): (usize, &T)| *got == item(wanted(place / width) * width + place % width);
             assert!(list.iter().enumerate().all(is), "2^{bits} rows of {width}: {list:?}");
@@ -924,7 +945,7 @@ fn reverses<T: Debug + PartialEq + Send + Sync>(item: impl Fn(usize) -> T) {
 fn transposes<T: Copy + Debug + PartialEq + Send + Sync>(item: impl Fn(usize) -> T) {
     for (width, height) in [(2, 3), (8, 8), (5, 40), (33, 20)] {
         let input: Vec<T> = (0..width * height).map(&item).collect();
-        let wanted = |place: usize| item(place % height * width + place / height);
+        let wanted = |place| item(transposed(width, height, place));
         for parts in 0..3 {
             let mut output = std::vec![item(0); input.len()];
             match parts {

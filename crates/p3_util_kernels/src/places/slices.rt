@@ -211,7 +211,10 @@ fn put_sixteen<T: Copy>(values: &mut [T], items: &[T], block: Block)
 /// Row `r` of a block.
 #[inline(always)]
 fn row_of<T>(items: &[T], block: Block, r: usize) -> &[T]
-    requires { block.from + r * block.width + block.cols ≤ length items.now }
+    requires row { r < block.rows }
+    requires some { 0 < block.cols }
+    requires inside { (s c : ℕ) → s < block.rows → c < block.cols
+        → block.from + s * block.width + c < length items.now }
     ensures { result.now ≡ take block.cols (drop (block.from + r * block.width) items.now) }
 {
     let start = block.from + r * block.width;

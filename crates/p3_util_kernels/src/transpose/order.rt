@@ -1,4 +1,4 @@
-//! The orders in which a matrix may be put.
+//! The orders in which a matrix may be put that is not tiny.
 
 ghost use Rattle.std.specs.Prelude.{◌^◌, ◌<◌, length};
 
@@ -7,7 +7,7 @@ use crate::transpose::ENOUGH_LEVELS;
 use crate::transpose::regions::{Matrix, Region};
 use crate::transpose::split::put_split;
 use crate::transpose::strips::{Strips, UNIT};
-use crate::transpose::ways::{Columns, PutRegion};
+use crate::transpose::ways::PutRegion;
 
 /// A matrix of fewer items is put column after column.
 pub(crate) const TINY_MATRIX: usize = 128;
@@ -18,8 +18,6 @@ pub(crate) const LARGE_MATRIX: usize = 1_048_576;
 /// An order in which a matrix or a region of it is put. `S` is a way to put strips.
 #[derive(Clone, Copy)]
 pub(crate) enum Order<S> {
-    /// Column after column, each from its first row to its last.
-    Columns,
     /// Strip by strip.
     Strips(S),
     /// Leaf by leaf, as the region is split, and each leaf strip by strip.
@@ -27,18 +25,14 @@ pub(crate) enum Order<S> {
 }
 
 impl Order<Strips<4, UNIT>> {
-    /// The order for a whole matrix, chosen by its shape alone. Every call in Rattle uses this
-    /// choice. The plain Rust package knows the size of an item and has a choice of its own.
+    /// The order for a whole matrix that is not tiny, chosen by its shape alone. Every call in Rattle
+    /// uses this choice. The plain Rust package knows the size of an item and has a choice of its own.
     #[inline(always)]
     pub(crate) fn by_shape<R: Source + Copy>(matrix: Matrix<R>) -> Self
         ensures len_fits { length (R.items matrix.source) < 2 ^ 64 }
     {
         let strips = Strips::by_shape(matrix);
-        // A matrix without items may have very many columns, which have no rows.
-        let items = matrix.source.len();
-        if 0 < items && items < TINY_MATRIX {
-            Order::Columns
-        } else if items <= LARGE_MATRIX {
+        if matrix.source.len() <= LARGE_MATRIX {
             Order::Strips(strips)
         } else {
             Order::Leaves(strips)
@@ -55,7 +49,6 @@ impl<S: PutRegion> PutRegion for Order<S> {
         region: Region,
     ) -> M {
         match self {
-            Order::Columns => Columns.put(out, matrix, region),
             Order::Strips(strips) => strips.put(out, matrix, region),
             Order::Leaves(strips) => {
                 let (out, _) = put_split(out, matrix, region, ENOUGH_LEVELS, strips);

@@ -5,7 +5,7 @@ ghost use Rattle.p3_util_parts.specs.Parts.{IsLeastPartLen, part_of_matrix, part
 ghost use Rattle.p3_util_kernels.specs.Region.{IsRegionTransposed, LiesInMatrix, items_of};
 
 use crate::parts::Cut;
-use p3_util_kernels::kernel::{Matrix, UNIT};
+use p3_util_kernels::kernel::UNIT;
 use p3_util_kernels::transpose::Region;
 
 /// The transpose of a matrix of `height` rows of `width` items, cut into regions of neighbouring
@@ -71,8 +71,22 @@ impl TransposePlan {
             self.cut.part_len number }
         ensures inside { LiesInMatrix result self.width self.height }
     {
-        let matrix = Matrix::new((), self.width, self.height);
-        self.cut.region(&matrix, self.by_rows, number)
+        let (from, to) = self.cut.part(number);
+        if self.by_rows {
+            Region {
+                row_start: from,
+                row_end: to,
+                col_start: 0,
+                col_end: self.width,
+            }
+        } else {
+            Region {
+                row_start: 0,
+                row_end: self.height,
+                col_start: from,
+                col_end: to,
+            }
+        }
     }
 
     /// The number of items of region `number`. If the columns are cut, the items of a region fill

@@ -24,11 +24,6 @@
 //!   requires: k < parts_in self.len self.part_len
 //!   ensures from: result.0 ≡ start_of self.len self.part_len k
 //!   ensures to: result.1 ≡ start_of self.len self.part_len (k + 1)
-//! fn Cut::region<R>(self, matrix: &Matrix<R>, by_rows: bool, k: usize) -> Region
-//!   requires side: self.len ≡ if by_rows then matrix.now.height else matrix.now.width
-//!   requires below: k < parts_in self.len self.part_len
-//!   ensures region: result ≡ part_of_matrix matrix.now.width matrix.now.height by_rows self.len self.part_len k
-//!   ensures inside: LiesInMatrix result matrix.now.width matrix.now.height
 //! fn Cut::pairs(self) -> usize
 //!   requires: parts_in self.len self.part_len < 2 ^ 32
 //!   ensures: result ≡ pairs_of (parts_in self.len self.part_len)
@@ -46,6 +41,8 @@
 //!   ensures rows: 0 < len → (0 < row_width) × (len ≡ row_width * 2 ^ result.rows.digits)
 //!   ensures few: parts_in result.cut.len result.cut.part_len ≤ max parts 1
 //!   ensures least: IsLeastPartLen parts (if row_width == 1 then TILE else 1) result.cut.len result.cut.part_len
+//!   ensures units: (k : ℕ) → k < parts_in result.cut.len result.cut.part_len → start_of result.cut.len
+//!       result.cut.part_len k % (if row_width == 1 then TILE else 1) ≡ 0
 //! fn RowPairs::count(self) -> usize
 //!   ensures: result ≡ patches_of self.rows.digits self.cut.part_len
 //! fn RowPairs::exchange_patch<M: Places>(self, m: M, number: usize) -> M

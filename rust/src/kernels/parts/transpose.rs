@@ -2,7 +2,7 @@
 //! The regions that the transpose of a matrix is cut into.
 
 use crate::kernels::parts::Cut;
-use crate::kernels::kernel::{Matrix, UNIT};
+use crate::kernels::kernel::UNIT;
 use crate::kernels::transpose::Region;
 
 /// The transpose of a matrix of `height` rows of `width` items, cut into regions of neighbouring
@@ -77,8 +77,22 @@ impl TransposePlan {
     /// ensures inside { LiesInMatrix result self.width self.height }
     /// ```
     pub(crate) fn region(self, number: usize) -> Region {
-        let matrix = Matrix::new((), self.width, self.height);
-        self.cut.region(&matrix, self.by_rows, number)
+        let (from, to) = self.cut.part(number);
+        if self.by_rows {
+            Region {
+                row_start: from,
+                row_end: to,
+                col_start: 0,
+                col_end: self.width,
+            }
+        } else {
+            Region {
+                row_start: 0,
+                row_end: self.height,
+                col_start: from,
+                col_end: to,
+            }
+        }
     }
 
     /// The number of items of region `number`. If the columns are cut, the items of a region fill

@@ -222,7 +222,10 @@ fn put_sixteen<T: Copy>(values: &mut [T], items: &[T], block: Block) {
 /// # Contract
 ///
 /// ```text
-/// requires { block.from + r * block.width + block.cols ≤ length items.now }
+/// requires row { r < block.rows }
+/// requires some { 0 < block.cols }
+/// requires inside { (s c : ℕ) → s < block.rows → c < block.cols
+///     → block.from + s * block.width + c < length items.now }
 /// ensures { result.now ≡ take block.cols (drop (block.from + r * block.width) items.now) }
 /// ```
 #[inline(always)]

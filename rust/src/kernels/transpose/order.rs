@@ -1,12 +1,12 @@
 // rust/erase writes this file from crates/p3_util_kernels/src/transpose/order.rt. Make changes there.
-//! The orders in which a matrix may be put.
+//! The orders in which a matrix may be put that is not tiny.
 
 use crate::kernels::places::{Cells, Source};
 use crate::kernels::transpose::ENOUGH_LEVELS;
 use crate::kernels::transpose::regions::{Matrix, Region};
 use crate::kernels::transpose::split::put_split;
 use crate::kernels::transpose::strips::{Strips, UNIT};
-use crate::kernels::transpose::ways::{Columns, PutRegion};
+use crate::kernels::transpose::ways::PutRegion;
 
 /// A matrix of fewer items is put column after column.
 pub(crate) const TINY_MATRIX: usize = 128;
@@ -17,8 +17,6 @@ pub(crate) const LARGE_MATRIX: usize = 1_048_576;
 /// An order in which a matrix or a region of it is put. `S` is a way to put strips.
 #[derive(Clone, Copy)]
 pub(crate) enum Order<S> {
-    /// Column after column, each from its first row to its last.
-    Columns,
     /// Strip by strip.
     Strips(S),
     /// Leaf by leaf, as the region is split, and each leaf strip by strip.
@@ -26,8 +24,8 @@ pub(crate) enum Order<S> {
 }
 
 impl Order<Strips<4, UNIT>> {
-    /// The order for a whole matrix, chosen by its shape alone. Every call in Rattle uses this
-    /// choice. The plain Rust package knows the size of an item and has a choice of its own.
+    /// The order for a whole matrix that is not tiny, chosen by its shape alone. Every call in Rattle
+    /// uses this choice. The plain Rust package knows the size of an item and has a choice of its own.
     ///
     /// # Contract
     ///
@@ -37,11 +35,7 @@ impl Order<Strips<4, UNIT>> {
     #[inline(always)]
     pub(crate) fn by_shape<R: Source + Copy>(matrix: Matrix<R>) -> Self {
         let strips = Strips::by_shape(matrix);
-        // A matrix without items may have very many columns, which have no rows.
-        let items = matrix.source.len();
-        if 0 < items && items < TINY_MATRIX {
-            Order::Columns
-        } else if items <= LARGE_MATRIX {
+        if matrix.source.len() <= LARGE_MATRIX {
             Order::Strips(strips)
         } else {
             Order::Leaves(strips)
@@ -58,7 +52,6 @@ impl<S: PutRegion> PutRegion for Order<S> {
         region: Region,
     ) -> M {
         match self {
-            Order::Columns => Columns.put(out, matrix, region),
             Order::Strips(strips) => strips.put(out, matrix, region),
             Order::Leaves(strips) => {
                 let (out, _) = put_split(out, matrix, region, ENOUGH_LEVELS, strips);

@@ -10,50 +10,8 @@ use crate::kernels::lines::Lines;
 use crate::kernels::parts::{Cut, RowPairs, TransposePlan};
 use crate::kernels::places::{Cells, Places, SliceCells, SlicePlaces, SliceSource, Source};
 use crate::kernels::reverse::{RowDigits, reverse_rows};
-use crate::kernels::transpose::{Matrix, Order, PutRegion, Strips};
-
-/// A list of numbers that notes each place that a step changes.
-#[derive(Debug)]
-struct Noted {
-    items: Vec<usize>,
-    places: Vec<usize>,
-}
-
-impl Noted {
-    /// The numbers below `len`, in order.
-    fn numbered(len: usize) -> Self {
-        Noted {
-            items: (0..len).collect(),
-            places: Vec::new(),
-        }
-    }
-}
-
-impl Places for &mut Noted {
-    type Item = usize;
-
-    fn len(&self) -> usize {
-        self.items.len()
-    }
-
-    fn exchange(&mut self, i: usize, j: usize) {
-        self.items.swap(i, j);
-        self.places.extend([i, j]);
-    }
-}
-
-impl Cells for &mut Noted {
-    type Item = usize;
-
-    fn len(&self) -> usize {
-        self.items.len()
-    }
-
-    fn put(&mut self, i: usize, v: usize) {
-        self.items[i] = v;
-        self.places.push(i);
-    }
-}
+use crate::kernels::transpose::{Columns, Matrix, Order, PutRegion, Strips};
+use crate::slices::tests::{Noted, reversed};
 
 /// Runs each part on its own list, which has the numbers below `len`. Checks that part `number` leaves
 /// `wanted(number, place)` at each place, and that no place is changed twice. Returns how many places are changed.
@@ -96,7 +54,8 @@ fn check_matrix(width: usize, height: usize, parts: usize, may_cut_rows: bool) {
         let puts = check(len, plan.count(), put, wanted);
         assert_eq!(puts, len, "{width} by {height} in {parts} parts");
     };
-    for order in [Order::Columns, Order::Strips(strips), Order::Leaves(strips)] {
+    count(&|noted, number| _ = Columns.put(noted, Matrix::new(source, width, height), plan.region(number)));
+    for order in [Order::Strips(strips), Order::Leaves(strips)] {
         count(&|noted, number| _ = order.put(noted, Matrix::new(source, width, height), plan.region(number)));
     }
     let lines = Lines::new(8, width % 8);
@@ -176,11 +135,6 @@ fn regions_of_long_matrices() {
         let plan = TransposePlan::new(width, height, asked, false);
         assert_eq!((plan.count(), plan.items(0)), (1, height));
     }
-}
-
-/// `i`, which has `digits` binary digits, with the digits in reversed order.
-fn reversed(digits: usize, i: usize) -> usize {
-    (0..digits).fold(0, |rev, place| rev << 1 | i >> place & 1)
 }
 
 /// The three parts of the index of a row, which has `digits` digits: the middle digit, the high half in reversed order,

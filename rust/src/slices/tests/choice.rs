@@ -7,6 +7,7 @@ use super::super::choice::{
     Choice, HighStrips, IS_TEST, ShortChoice, choice_of, row_blocks_of, short_choice_of, side_of, strips_of,
 };
 use super::super::holders::USES_REGISTERS;
+use super::{Noted, transposed};
 use crate::kernels::places::{Block, Cells, SliceSource, Source};
 use crate::kernels::transpose::{Matrix, PutRegion, Region, RowBlocks, Strips, transpose_matrix};
 
@@ -233,25 +234,6 @@ fn lines_of_users() {
     );
 }
 
-/// The cells of a transpose, which note the order of the puts.
-struct Noted {
-    items: Vec<usize>,
-    puts: Vec<usize>,
-}
-
-impl Cells for Noted {
-    type Item = usize;
-
-    fn len(&self) -> usize {
-        self.items.len()
-    }
-
-    fn put(&mut self, i: usize, v: usize) {
-        self.items[i] = v;
-        self.puts.push(i);
-    }
-}
-
 /// The column and the row of each item of a region, column after column.
 fn by_columns(rows: Range<usize>, cols: Range<usize>) -> impl Iterator<Item = (usize, usize)> {
     cols.flat_map(move |x| rows.clone().map(move |y| (x, y)))
@@ -279,16 +261,13 @@ fn by_strips_of_blocks(width: usize, height: usize, side: usize) -> Vec<(usize, 
 /// Checks that a transpose by these strips puts the items in this order of their columns and rows.
 fn check_order(strips: impl PutRegion, (width, height): (usize, usize), order: Vec<(usize, usize)>) {
     let input: Vec<usize> = (0..width * height).collect();
-    let blank = Noted {
-        items: input.clone(),
-        puts: Vec::new(),
-    };
+    let blank = Noted::numbered(input.len());
     let matrix = Matrix::new(SliceSource::new(&input), width, height);
-    let Noted { items, puts } = transpose_matrix(blank, matrix, strips);
-    let places = puts.iter().map(|place| (place / height, place % height));
+    let Noted { items, places } = transpose_matrix(blank, matrix, strips);
+    let places = places.iter().map(|place| (place / height, place % height));
     assert!(places.eq(order), "{width} by {height}");
-    let transposed = |place: usize| place % height * width + place / height;
-    assert!(items.into_iter().eq((0..input.len()).map(transposed)));
+    let wanted = |place| transposed(width, height, place);
+    assert!(items.into_iter().eq((0..input.len()).map(wanted)));
 }
 
 #[test]
@@ -400,7 +379,7 @@ fn put_by_blocks(width: usize, height: usize, side: usize, changed: bool) -> ByB
 fn blocks_by_a_holder_of_ones_own() {
     let small = (1..40).flat_map(|width| (1..40).map(move |height| (width, height)));
     for (width, height) in small.chain([(20, 133), (133, 20)]) {
-        let transposed = |place: usize| place % height * width + place / height;
+        let transposed = |place| transposed(width, height, place);
         for side in [4, 8] {
             let right = put_by_blocks(width, height, side, false);
             assert!(right.items.into_iter().eq((0..width * height).map(transposed)));

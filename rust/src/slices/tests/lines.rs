@@ -4,6 +4,7 @@ use std::boxed::Box;
 use std::fmt::Debug;
 use std::vec::Vec;
 
+use super::transposed;
 use crate::slices::parts::{TransposePart, transpose};
 
 /// Transposes a matrix in some parts, and compares each item of the output with that of the definition. `input` and
@@ -24,7 +25,7 @@ fn transposes<T: Copy + Debug + PartialEq + Send + Sync>(
         all.swap_remove((7 * width + 3 * height) % all.len()).run();
     }
     let wanted = |place: usize| match place.checked_sub(output) {
-        Some(place) if place < len => list[input + place % height * width + place / height],
+        Some(place) if place < len => list[input + transposed(width, height, place)],
         _ => beside,
     };
     assert!(
@@ -103,7 +104,7 @@ fn whole_calls() {
         let input: Vec<u32> = (0..width as u32 * height as u32).collect();
         let mut output = std::vec![0; input.len()];
         crate::slices::transpose(&input, &mut output, width, height);
-        let wanted = |place: usize| input[place % height * width + place / height];
+        let wanted = |place| input[transposed(width, height, place)];
         assert!(output.iter().enumerate().all(|(place, got)| *got == wanted(place)));
     }
 }

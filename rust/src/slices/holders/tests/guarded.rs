@@ -103,19 +103,19 @@ impl<const N: usize> Drop for Runs<N> {
 fn steps<const N: usize>() {
     for ends_with_page in [false, true] {
         let mut two = Runs::<N>::new(2, 1, ends_with_page);
-        SlicePlaces::new(two.list()).exchange(0, GAP);
+        SliceItems::new(two.list()).exchange(0, GAP);
         two.check(|run, k| (1 - run, k));
-        SlicePlaces::new(two.list()).exchange(GAP, 0);
+        SliceItems::new(two.list()).exchange(GAP, 0);
         two.check(|run, k| (run, k));
         let put = SliceSource::new(two.list()).at(GAP);
-        SliceCells::new(two.list()).put(0, put);
+        SliceItems::new(two.list()).put(0, put);
         two.check(|_, k| (1, k));
 
         for len in (1..=17).chain([33, 100]) {
             let mut runs = Runs::<N>::new(2, len, ends_with_page);
-            SlicePlaces::new(runs.list()).exchange_runs(0, GAP, len);
+            SliceItems::new(runs.list()).exchange_runs(0, GAP, len);
             runs.check(|run, k| (1 - run, k));
-            SlicePlaces::new(runs.list())
+            SliceItems::new(runs.list())
                 .in_bytes::<1>()
                 .exchange_runs(GAP * N, 0, len * N);
             runs.check(|run, k| (run, k));
@@ -128,7 +128,7 @@ fn steps<const N: usize>() {
 /// Exchanges and transposes tiles, and puts blocks.
 fn squares<const N: usize, H>(ends_with_page: bool)
 where
-    H: for<'a> Hold<'a, [u8; N]> + for<'a> HoldCells<'a, [u8; N]>,
+    H: for<'a> Hold<'a, [u8; N], Holder: Cells<Item = [u8; N]>>,
 {
     let mut tiles = Runs::<N>::new(16, 8, ends_with_page);
     let row = |number: usize| number * 7 % 16;
@@ -162,7 +162,7 @@ where
             to,
             height,
         };
-        H::hold_cells(cells.list()).put_block(&SliceSource::new(source.list()), block);
+        H::hold(cells.list()).put_block(&SliceSource::new(source.list()), block);
         cells.check(|run, k| (k, run));
         source.check(|run, k| (run, k));
     }
@@ -246,7 +246,7 @@ fn transposes_touch_their_lists_alone() {
                     0 => crate::slices::transpose(source.list(), cells.list(), width, height),
                     _ => transpose(source.list(), cells.list(), width, height, 2 * parts).for_each(TransposePart::run),
                 }
-                cells.check(|_, k| (0, k % height * width + k / height));
+                cells.check(|_, k| (0, transposed(width, height, k)));
             }
         }
     }

@@ -7,6 +7,7 @@ use std::thread::scope;
 use std::vec::Vec;
 
 use super::super::*;
+use crate::slices::tests::{reversed, transposed};
 
 /// Runs each share on its own thread.
 fn run_all<P: Send>(shares: impl IntoIterator<Item = Vec<P>>, run: fn(P)) {
@@ -55,17 +56,16 @@ fn transposes<T: Number>(width: usize, height: usize, parts: usize, threads: usi
         transpose(&input, &mut output, width, height, parts),
         TransposePart::run,
     );
-    let transposed = |place| T::of(place % height * width + place / height);
-    assert!(output.into_iter().eq((0..input.len()).map(transposed)));
+    let wanted = |place| T::of(transposed(width, height, place));
+    assert!(output.into_iter().eq((0..input.len()).map(wanted)));
 }
 
 /// Reverses 2^`digits` rows of numbers, in parts. The sides of the squares are cut into at most `parts` pieces.
-fn reverses<T: Number>(digits: u32, row_width: usize, parts: usize, threads: usize) {
+fn reverses<T: Number>(digits: usize, row_width: usize, parts: usize, threads: usize) {
     let mut list: Vec<T> = (0..row_width << digits).map(T::of).collect();
     let parts = cut(&mut list, row_width, parts, true);
     run_on(threads, parts, ReversalPart::run);
-    let reversed = |row: usize| (0..digits).fold(0, |rev, place| rev << 1 | row >> place & 1);
-    let item = |place| T::of(reversed(place / row_width) * row_width + place % row_width);
+    let item = |place| T::of(reversed(digits, place / row_width) * row_width + place % row_width);
     assert!(list.into_iter().eq((0..row_width << digits).map(item)));
 }
 
@@ -77,9 +77,9 @@ fn parts_on_threads() {
         transposes::<usize>(1 + round * 13 % 89, 1 + round * 7 % 97, parts, threads);
         // These are put by cache lines.
         transposes::<u32>(1 + round * 7 % 97, 16 + round % 5 * 16, parts, threads);
-        reverses::<u32>(round as u32 % 13, 1, parts, threads);
-        reverses::<usize>(round as u32 % 12, 1, parts, threads);
-        reverses::<usize>(round as u32 % 8, 2 + round % 3, parts, threads);
+        reverses::<u32>(round % 13, 1, parts, threads);
+        reverses::<usize>(round % 12, 1, parts, threads);
+        reverses::<usize>(round % 8, 2 + round % 3, parts, threads);
     }
 }
 

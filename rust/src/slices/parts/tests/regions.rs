@@ -48,8 +48,8 @@ fn reads<T: Copy + Default + Send + Sync>(len: usize, call: impl FnOnce(&[T], &m
 
 /// Runs a part, with its items from `source`.
 fn run_from<T: Copy>(part: TransposePart<T>, source: impl Source<Item = T> + Copy) {
-    let (region, (matrix, _)) = (part.region(), part.0.plan);
-    let matrix = Matrix::new(source, matrix.width, matrix.height);
+    let (region, (_, plan)) = (part.region(), part.0.plan);
+    let matrix = Matrix::new(source, plan.width, plan.height);
     by_type::transpose_region(part.0.items, matrix, region);
 }
 

@@ -1,16 +1,43 @@
 -- Each turn of the loop puts one more block. Then follow the rows that remain.
-use Rattle.std.proofs.Common.{◌≡◌, ◌+◌, ◌-◌, ◌*◌, ◌/◌, ◌≤◌, arith}
+use Rattle.std.proofs.Common.{◌≡◌, ℕ, ◌+◌, ◌-◌, ◌*◌, ◌/◌, ◌<◌, ◌≤◌, refl, arith}
 use Rattle.std.proofs.Math.Nat.{div-mul-le_self, mul-le-mul_right}
+use Rattle.p3_util_kernels.specs.Region.{cols_of}
 use Rattle.p3_util_kernels.proofs.TransposeLemmas.Region.{IsCut-rows, IsRegionTransposed-rows}
 use Rattle.p3_util_kernels.proofs.transpose.ways.BlocksPutRegion.put.Goals as goal
+
+-- a part is inside the region
+part_inside : (part rows all : ℕ) → part < all / rows → part * rows + rows ≤ all
+part_inside part rows all h = omega (arith, mul-le-mul_right rows (let next : part + 1 ≤ all / rows = omega (arith, h) in next), div-mul-le_self all rows)
+
+pub overflow_mul-row : goal.overflow_mul-row
+overflow_mul-row g c = omega (arith, part_inside c.loop-part.part c.max-rows.result c.rows.result (omega arith), c.rows.ensures)
+
+pub overflow_add-row : goal.overflow_add-row
+overflow_add-row g c = omega (arith, part_inside c.loop-part.part c.max-rows.result c.rows.result (omega arith), c.rows.ensures)
+
+pub overflow_add-row-in-loop-part : goal.overflow_add-row-in-loop-part
+overflow_add-row-in-loop-part g c = omega (arith, part_inside c.loop-part.part c.max-rows.result c.rows.result (omega arith), c.rows.ensures)
+
+pub overflow_mul-row-2 : goal.overflow_mul-row-2
+overflow_mul-row-2 g c = omega (arith, div-mul-le_self c.rows.result c.max-rows.result, c.rows.ensures)
+
+pub overflow_add-row-2 : goal.overflow_add-row-2
+overflow_add-row-2 g c = omega (arith, div-mul-le_self c.rows.result c.max-rows.result, c.rows.ensures)
+
+pub loop-part-init : goal.loop-part-init
+loop-part-init g c =
+    let none : 0 * c.max-rows.result * cols_of c.args.region ≡ 0 = omega arith in
+    record {
+      transposed = record { same_length = refl; places = λ x y h. absurd (omega (arith, h.row_from, h.row_to)); others = λ p out. refl };
+      holder = rw none (g.met.M.Cells.same_holder_refl _);
+    }
 
 pub loop-part-preserved : goal.loop-part-preserved
 loop-part-preserved g c =
     let rows = c.max-rows.result in
     let row = c.args.region.row_start + c.loop-part.part * rows in
     let more : c.args.region.row_start + (c.loop-part.part + 1) * rows ≡ row + rows = omega arith in
-    let next : (c.loop-part.part + 1) * rows ≤ c.rows.result / rows * rows = mul-le-mul_right rows (omega arith) in
-    let inside : row + rows ≤ c.args.region.row_end = omega (arith, next, c.rows.ensures, div-mul-le_self c.rows.result rows) in
+    let inside : row + rows ≤ c.args.region.row_end = omega (arith, part_inside c.loop-part.part rows c.rows.result (omega arith), c.rows.ensures) in
     let cut = IsCut-rows (record c.args.region { row_end = row + rows }) row (omega arith) (omega arith) in
     let before : row - c.args.region.row_start ≡ c.loop-part.part * rows = omega arith in
     let after : row + rows - c.args.region.row_start ≡ (c.loop-part.part + 1) * rows = omega arith in

@@ -1,16 +1,43 @@
 -- Each turn of the loop puts one more part. Then follow the columns that remain.
-use Rattle.std.proofs.Common.{◌≡◌, ◌+◌, ◌-◌, ◌*◌, ◌/◌, ◌≤◌, arith}
+use Rattle.std.proofs.Common.{◌≡◌, ℕ, ◌+◌, ◌-◌, ◌*◌, ◌/◌, ◌<◌, ◌≤◌, refl, arith}
 use Rattle.std.proofs.Math.Nat.{div-mul-le_self, mul-le-mul_right}
+use Rattle.p3_util_kernels.specs.Region.{rows_of}
 use Rattle.p3_util_kernels.proofs.TransposeLemmas.Region.{IsCut-cols, IsRegionTransposed-cols}
 use Rattle.p3_util_kernels.proofs.transpose.ways.InColsPutRegion.put.Goals as goal
+
+-- a part is inside the region
+part_inside : (part cols all : ℕ) → part < all / cols → part * cols + cols ≤ all
+part_inside part cols all h = omega (arith, mul-le-mul_right cols (let next : part + 1 ≤ all / cols = omega (arith, h) in next), div-mul-le_self all cols)
+
+pub overflow_mul-col : goal.overflow_mul-col
+overflow_mul-col g c = omega (arith, part_inside c.loop-part.part c.max-cols.result c.cols.result (omega arith), c.cols.ensures)
+
+pub overflow_add-col : goal.overflow_add-col
+overflow_add-col g c = omega (arith, part_inside c.loop-part.part c.max-cols.result c.cols.result (omega arith), c.cols.ensures)
+
+pub overflow_add-col-in-loop-part : goal.overflow_add-col-in-loop-part
+overflow_add-col-in-loop-part g c = omega (arith, part_inside c.loop-part.part c.max-cols.result c.cols.result (omega arith), c.cols.ensures)
+
+pub overflow_mul-col-2 : goal.overflow_mul-col-2
+overflow_mul-col-2 g c = omega (arith, div-mul-le_self c.cols.result c.max-cols.result, c.cols.ensures)
+
+pub overflow_add-col-2 : goal.overflow_add-col-2
+overflow_add-col-2 g c = omega (arith, div-mul-le_self c.cols.result c.max-cols.result, c.cols.ensures)
+
+pub loop-part-init : goal.loop-part-init
+loop-part-init g c =
+    let none : rows_of c.args.region * (0 * c.max-cols.result) ≡ 0 = omega arith in
+    record {
+      transposed = record { same_length = refl; places = λ x y h. absurd (omega (arith, h.col_from, h.col_to)); others = λ p out. refl };
+      holder = rw none (g.met.M.Cells.same_holder_refl _);
+    }
 
 pub loop-part-preserved : goal.loop-part-preserved
 loop-part-preserved g c =
     let cols = c.max-cols.result in
     let col = c.args.region.col_start + c.loop-part.part * cols in
     let more : c.args.region.col_start + (c.loop-part.part + 1) * cols ≡ col + cols = omega arith in
-    let next : (c.loop-part.part + 1) * cols ≤ c.cols.result / cols * cols = mul-le-mul_right cols (omega arith) in
-    let inside : col + cols ≤ c.args.region.col_end = omega (arith, next, c.cols.ensures, div-mul-le_self c.cols.result cols) in
+    let inside : col + cols ≤ c.args.region.col_end = omega (arith, part_inside c.loop-part.part cols c.cols.result (omega arith), c.cols.ensures) in
     let cut = IsCut-cols (record c.args.region { col_end = col + cols }) col (omega arith) (omega arith) in
     let before : col - c.args.region.col_start ≡ c.loop-part.part * cols = omega arith in
     let after : col + cols - c.args.region.col_start ≡ (c.loop-part.part + 1) * cols = omega arith in
