@@ -704,6 +704,7 @@ mod choice;
 
 #[cfg(any(debug_assertions, feature = "checked"))]
 mod refused {
+    use super::super::by_type::Output;
     use super::*;
 
     #[test]
@@ -836,6 +837,14 @@ mod refused {
         for i in [3, usize::MAX] {
             assert!(panics(|| SliceItems::new(&mut [0, 1, 2]).put(i, 7)), "{i}");
             assert!(panics(|| _ = SliceSource::new(&[0, 1, 2]).at(i)), "{i}");
+        }
+    }
+
+    #[test]
+    fn copies_of_another_length() {
+        for len in 0..6 {
+            let copy = || SliceItems::new(&mut [0; 3]).copy(SliceSource::new(&[7; 6][..len]));
+            assert_eq!(panics(copy), len != 3, "{len}");
         }
     }
 }

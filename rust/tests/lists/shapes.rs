@@ -52,11 +52,11 @@ const SHAPES: [(usize, usize); 13] = [
     (60, 300),
 ];
 
-/// Every pair of sides up to 70, a single row and a single column of up to 200 items, `SHAPES`, and a large matrix that
-/// is split.
+/// Every pair of sides up to 70, a single row and a single column of up to 200 items and of about 4096, `SHAPES`, and a large
+/// matrix that is split.
 fn check_shapes<T: Copy + PartialEq + Send + Sync>(item: impl Fn(usize) -> T) {
     let pairs = (1..=70).flat_map(|width| (1..=70).map(move |height| (width, height)));
-    let lines = (71..=200).flat_map(|len| [(len, 1), (1, len)]);
+    let lines = (71..=200).chain(4095..=4097).flat_map(|len| [(len, 1), (1, len)]);
     pairs
         .chain(lines)
         .chain(SHAPES)
@@ -99,8 +99,9 @@ fn shapes_of_four_words() {
     check_shapes(|i| [i as u64, 1, i as u64, 3]);
 }
 
-/// The large shapes of the original's tests, more that the benchmark measures, and the smallest matrix that is split.
-const LARGE_SHAPES: [(usize, usize); 22] = [
+/// The large shapes of the original's tests, more that the benchmark measures, the smallest matrix that is split, and single rows
+/// and columns.
+const LARGE_SHAPES: [(usize, usize); 28] = [
     (1024, 1024),
     (1025, 1024),
     (1024, 1025),
@@ -123,6 +124,12 @@ const LARGE_SHAPES: [(usize, usize); 22] = [
     (262_144, 12),
     (17, 61_681),
     (61_681, 17),
+    (1_048_575, 1),
+    (1_048_576, 1),
+    (1_048_577, 1),
+    (1, 1_048_575),
+    (1, 1_048_576),
+    (1, 1_048_577),
 ];
 
 /// A build without optimization takes half a minute for these shapes, so it has them of one type.
