@@ -150,8 +150,11 @@ impl<F, D: squares::Register<F>> Places for SliceItems<'_, F, D> {
                 write_item(x, of_y);
             } else if MOVES_BYTES && cfg!(not(debug_assertions)) {
                 move_bytes::<true>(x.cast(), y.cast(), 0, size_of::<F>());
-            } else {
+            } else if cfg!(debug_assertions) {
                 ptr::swap(x, y);
+            } else if x != y {
+                // This needs no room for an item on the stack, unlike `ptr::swap`.
+                ptr::swap_nonoverlapping(x, y, 1);
             }
         }
         // Without this fence, which has no effect on the processor, the compiler would make one permutation in vector registers
