@@ -124,7 +124,7 @@ pub fn transpose<T: Copy + Send + Sync>(input: &[T], output: &mut [T], width: us
         crate::transpose::refuse(input.len(), output.len(), width, height);
     }
     if size_of::<T>() > 0 {
-        instances::transpose(SliceSource::new(input), SliceItems::new(output), width, height);
+        instances::transpose(SliceItems::new(output), SliceSource::new(input), width, height);
     }
 }
 

@@ -62,11 +62,11 @@ pub(super) fn reverse_rows<F>(items: SliceItems<F>, row_width: usize) {
 }
 
 #[inline(always)]
-pub(super) fn transpose<T: Copy>(source: SliceSource<T>, cells: SliceItems<T>, width: usize, height: usize) {
+pub(super) fn transpose<T: Copy>(cells: SliceItems<T>, source: SliceSource<T>, width: usize, height: usize) {
     by_size!(
         const { size_of::<T>() },
-        holder = cells => by_type::transpose(source.in_bytes(), holder, width, height),
-        _ => by_type::transpose(source, cells, width, height)
+        holder = cells => by_type::transpose(holder, source.in_bytes(), width, height),
+        _ => by_type::transpose(cells, source, width, height)
     );
 }
 

@@ -1,7 +1,7 @@
 //! Kernels on holders of slices, compiled for each type of item. This file calls kernels, and trusts that the precondition
 //! of each was checked.
 
-use super::choice::{Choice, IS_TEST, LONG_BYTES, ShortChoice, choice_of, short_choice_of, side_of, strips_of};
+use super::choice::{Choice, LIMITS, LONG_BYTES, ShortChoice, choice_of, short_choice_of, side_of, strips_of};
 #[cfg(feature = "checked")]
 use super::choice::{FEW_ITEMS, row_blocks_of};
 use super::parts::RowPlan;
@@ -23,15 +23,15 @@ pub(super) fn reverse_rows(items: impl Places, row_width: usize) {
     let _ = reverse::reverse_rows(items, rows);
 }
 
-/// Puts a matrix. A user's crate has this, and puts columns itself, since a call would take as long. The arguments of the calls
-/// are those of the user's own, and in the same registers, so that they need no room on the stack.
+/// Puts a matrix. A user's crate has this, and puts columns itself, since a call would take as long. The calls have single
+/// arguments and no matrix, so that all are in registers and need no room on the stack.
 #[inline(always)]
-pub(super) fn transpose<M: Output>(source: impl Input<M::Item>, cells: M, width: usize, height: usize) {
+pub(super) fn transpose<M: Output>(cells: M, source: impl Input<M::Item>, width: usize, height: usize) {
     let size = const { size_of::<M::Item>() };
     match short_choice_of(size, width, height) {
         Some(ShortChoice::Copied) => cells.copy(source),
         Some(ShortChoice::Block) if const { side_of(size_of::<M::Item>()) > 1 } => {
-            transpose_block(source, cells, width, height)
+            transpose_block(cells, source, width, height)
         }
         Some(ShortChoice::Columns) if const { size_of::<M::Item>() < LONG_BYTES } => {
             let matrix = Matrix::new(source, width, height);
@@ -40,18 +40,18 @@ pub(super) fn transpose<M: Output>(source: impl Input<M::Item>, cells: M, width:
             #[cfg(feature = "checked")]
             let _ = FEW_ITEMS.put(cells, matrix, matrix.whole());
         }
-        _ => transpose_apart(source, cells, width, height),
+        _ => transpose_apart(cells, source, width, height),
     }
 }
 
 #[inline(never)]
-fn transpose_block<M: Output>(source: impl Input<M::Item>, cells: M, width: usize, height: usize) {
+fn transpose_block<M: Output>(cells: M, source: impl Input<M::Item>, width: usize, height: usize) {
     let matrix = Matrix::new(source, width, height);
     let _ = put_as_block(cells, matrix, matrix.whole());
 }
 
 #[inline(never)]
-fn transpose_apart<M: Output>(source: impl Input<M::Item>, cells: M, width: usize, height: usize) {
+fn transpose_apart<M: Output>(cells: M, source: impl Input<M::Item>, width: usize, height: usize) {
     let matrix = Matrix::new(source, width, height);
     run(cells, matrix, None);
 }
@@ -60,7 +60,7 @@ fn transpose_apart<M: Output>(source: impl Input<M::Item>, cells: M, width: usiz
 #[inline(never)]
 pub(super) fn transpose_region<M: Output>(cells: M, matrix: Matrix<impl Input<M::Item>>, region: Option<Region>) {
     match region {
-        None => transpose(matrix.source, cells, matrix.width, matrix.height),
+        None => transpose(cells, matrix.source, matrix.width, matrix.height),
         Some(_) => run(cells, matrix, region),
     }
 }
@@ -80,7 +80,7 @@ fn run<M: Output>(cells: M, matrix: Matrix<impl Input<M::Item>>, region: Option<
 #[inline(always)]
 fn run_by<const SIDE: usize, M: Output>(cells: M, matrix: Matrix<impl Input<M::Item>>, region: Option<Region>) {
     let (size, Matrix { source, width, height }) = (const { size_of::<M::Item>() }, matrix);
-    let choice = choice_of(IS_TEST, size, [width, height], region, cells.address());
+    let choice = choice_of(LIMITS, size, [width, height], region, cells.address());
     let region = region.unwrap_or(matrix.whole());
     if choice == Choice::Lines {
         return cells.put_by_lines(matrix, region);
@@ -146,7 +146,7 @@ impl<R: Source, C: Cells<Item = R::Item>> Cells for ByIndex<C, R> {
     }
 }
 
-/// The items of a slice.
+/// Stands for `Source<Item = T> + Copy`.
 pub(super) trait Input<T>: Source<Item = T> + Copy {}
 
 impl<R: Source + Copy> Input<R::Item> for R {}

@@ -46,7 +46,7 @@ impl<'a, T> SliceItems<'a, T> {
 
 impl<T: Copy> Output for SliceItems<'_, T> {
     fn copy(self, source: impl Input<T>) {
-        self.items.copy_from_slice(source.as_slice().unwrap_or_default());
+        self.items.copy_from_slice(source.as_slice().expect("a whole slice"));
     }
 }
 

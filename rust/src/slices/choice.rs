@@ -43,8 +43,17 @@ const LINE_COLS_OF_FOUR: usize = 16;
 const LINE_ROWS_OF_FOUR: usize = 128;
 const LONG_COLUMN: usize = 768;
 
-/// Most tests have lower limits, by which short lists are put by lines too.
-pub(super) const IS_TEST: bool = cfg!(test);
+// These limits: bytes of the list, columns, columns and rows of 4 bytes, and bytes of a column.
+pub(super) const OF_USERS: [usize; 5] = [
+    PAST_CACHES,
+    LINE_COLS,
+    LINE_COLS_OF_FOUR,
+    LINE_ROWS_OF_FOUR,
+    LONG_COLUMN,
+];
+
+/// In most tests, short lists are put by lines too.
+pub(super) const LIMITS: [usize; 5] = if cfg!(test) { [1 << 10, 1, 1, 1, 1] } else { OF_USERS };
 
 /// On x86-64, a matrix of more items of 8 bytes is not put by blocks in registers.
 const BLOCKS_LONG_ITEMS: usize = 1 << 15;
@@ -93,36 +102,36 @@ pub(super) fn short_choice_of(size: usize, width: usize, height: usize) -> Optio
     }
 }
 
-/// How a matrix of this width and height is put that has no short choice, or a region of it. `first` is the address of the
+/// How a matrix of this width and height is put that has no short choice, or a part of it. `at` is the address of the
 /// first cell of the output.
 #[inline(always)]
-pub(super) fn choice_of(is_test: bool, size: usize, sides: [usize; 2], region: Option<Region>, first: usize) -> Choice {
+pub(super) fn choice_of(limits: [usize; 5], size: usize, sides: [usize; 2], part: Option<Region>, at: usize) -> Choice {
     let [width, height] = sides;
-    let (rows, cols) = match region {
+    let (rows, cols) = match part {
         None if width * height <= LARGE_MATRIX => return Choice::Strips,
         None => (height, width),
         Some(region) => (region.rows(), region.cols()),
     };
-    let limit = |of_users: usize, of_tests: usize| if is_test { of_tests } else { of_users };
+    let [large, some_cols, cols_of_four, rows_of_four, long] = limits;
     let column = height * size;
     // In a part of few rows, a column has hardly a whole line, and at both of its ends a part of one.
-    let fits_4 = cols >= limit(LINE_COLS_OF_FOUR, 1) && (rows >= limit(LINE_ROWS_OF_FOUR, 1) || column % LINE == 0);
-    let has_columns = cols >= limit(LINE_COLS, 1) && (size != 4 || fits_4);
-    let is_large = width * column >= limit(PAST_CACHES, 1 << 10) && has_columns;
-    let is_long = column >= limit(LONG_COLUMN, 1) || size < 16 && column % LINE == 0;
-    if HAS_LINES && matches!(size, 4 | 8 | 16) && first % size == 0 && is_large && is_long {
+    let fits_4 = cols >= cols_of_four && (rows >= rows_of_four || column % LINE == 0);
+    let has_columns = cols >= some_cols && (size != 4 || fits_4);
+    let is_large = width * column >= large && has_columns;
+    let is_long = column >= long || size < 16 && column % LINE == 0;
+    if HAS_LINES && matches!(size, 4 | 8 | 16) && at % size == 0 && is_large && is_long {
         Choice::Lines
     } else {
         Choice::Leaves
     }
 }
 
-/// The strips of the package, which are high if they are put by squares of `SIDE` by `SIDE` items.
-pub(super) type HighStrips<const SIDE: usize> = Strips<SIDE, HIGH_ROWS>;
+/// The strips of the package. If they are put by squares, these have `SIDE` by `SIDE` items.
+pub(super) type SliceStrips<const SIDE: usize> = Strips<SIDE, HIGH_ROWS>;
 
 /// The strips of a matrix, and of the leaves of its parts. `SIDE` is `side_of` these items.
 #[inline(always)]
-pub(super) fn strips_of<const SIDE: usize>(size: usize, width: usize, height: usize) -> HighStrips<SIDE> {
+pub(super) fn strips_of<const SIDE: usize>(size: usize, width: usize, height: usize) -> SliceStrips<SIDE> {
     let long_items = if width % 512 == 0 {
         BLOCKS_FAR_ROWS
     } else {

@@ -113,7 +113,7 @@ impl<T: Copy, D: squares::Register<T>> Output for SliceItems<'_, T, D> {
 
     #[inline]
     fn copy(self, source: impl Input<T>) {
-        let items = source.as_slice().unwrap_or_default();
+        let items = source.as_slice().expect("a whole slice");
         debug_assert!(self.len == items.len());
         // SAFETY: both lists have this length, and the source is borrowed as long as it is read.
         unsafe { ptr::copy_nonoverlapping(items.as_ptr(), self.first, items.len()) }

@@ -104,7 +104,7 @@ pub(super) struct RowPlan {
 impl RowPlan {
     /// The plan for `len` items of `size` bytes, and the number of its parts. See [`cut`].
     #[track_caller]
-    fn new(len: usize, size: usize, row_width: usize, ranges: usize, is_cut: bool) -> (RowPlan, usize) {
+    fn new(len: usize, size: usize, row_width: usize, ranges: Option<usize>) -> (RowPlan, usize) {
         if !fits_rows(len, row_width) {
             crate::refuse_rows(len, row_width);
         }
@@ -112,7 +112,9 @@ impl RowPlan {
         let bytes = instances::bytes_of_place(size, row);
         // A row consists of whole places, so the rows fit in these too.
         let (places, width) = (len * size / bytes, row / bytes);
-        let pairs = (is_cut && row > 0).then(|| RowPairs::new(places, width, ranges));
+        let pairs = ranges
+            .filter(|_| row > 0)
+            .map(|ranges| RowPairs::new(places, width, ranges));
         let count = pairs.map_or(usize::from(row > 0), RowPairs::count);
         (RowPlan { bytes, width, pairs }, count)
     }
@@ -190,14 +192,14 @@ pub fn reversal<F: Send>(vals: &mut [F], parts: usize) -> ReversalParts<'_, F> {
 #[must_use = "the list is reversed by the parts, and none has run yet"]
 pub fn row_reversal<F: Send>(vals: &mut [F], row_width: usize, parts: usize) -> ReversalParts<'_, F> {
     let is_cut = vals.len() > one_part_reversal::<F>();
-    cut(vals, row_width, parts_of_side(parts), is_cut)
+    cut(vals, row_width, is_cut.then(|| parts_of_side(parts)))
 }
 
-/// The parts of a reversal. Each side of a square is cut into at most `ranges` ranges, or the list is one part.
+/// The parts of a reversal. Each side of a square is cut into at most so many `ranges`. With `None` the list is one part.
 #[track_caller]
-pub(super) fn cut<F>(vals: &mut [F], row_width: usize, ranges: usize, is_cut: bool) -> ReversalParts<'_, F> {
+pub(super) fn cut<F>(vals: &mut [F], row_width: usize, ranges: Option<usize>) -> ReversalParts<'_, F> {
     let len = vals.len();
-    let (plan, count) = RowPlan::new(len, size_of::<F>(), row_width, ranges, is_cut);
+    let (plan, count) = RowPlan::new(len, size_of::<F>(), row_width, ranges);
     let (items, numbers) = (SliceItems::in_shares(vals, len), 0..count);
     ReversalParts(PartsToRun { items, plan, numbers })
 }

@@ -9,7 +9,7 @@ use std::num::NonZero;
 use std::panic::{AssertUnwindSafe, catch_unwind};
 use std::vec::Vec;
 
-use super::choice::HighStrips;
+use super::choice::SliceStrips;
 #[cfg(not(feature = "checked"))]
 use super::holders::Bytes;
 #[cfg(not(feature = "checked"))]
@@ -581,8 +581,8 @@ fn is_transposed<T: Copy + PartialEq + Send + Sync + 'static>(
         let matrix = Matrix::new(SliceSource::new(&input), width, height);
         let cells = Holder::hold(&mut output);
         let _ = match side {
-            4 => transpose_matrix(cells, matrix, HighStrips::<4>::Squares),
-            _ => transpose_matrix(cells, matrix, HighStrips::<8>::Squares),
+            4 => transpose_matrix(cells, matrix, SliceStrips::<4>::Squares),
+            _ => transpose_matrix(cells, matrix, SliceStrips::<8>::Squares),
         };
         assert!(output == expected, "{width} by {height}, by blocks of {side} by {side}");
     });
@@ -939,9 +939,9 @@ fn reverses<T: Debug + PartialEq + Send + Sync>(item: impl Fn(usize) -> T) {
         super::reverse_slice_row_index_bits(&mut list, width);
         check(&list, &reversed);
         // With the feature `checked` each reversal is one part.
-        super::parts::cut(&mut list, width, 2, cfg!(not(feature = "checked"))).for_each(ReversalPart::run);
+        super::parts::cut(&mut list, width, cfg!(not(feature = "checked")).then_some(2)).for_each(ReversalPart::run);
         check(&list, &|row| row);
-        super::parts::cut(&mut list, width, 1, false).for_each(ReversalPart::run);
+        super::parts::cut(&mut list, width, None).for_each(ReversalPart::run);
         check(&list, &reversed);
         if width == 1 {
             super::reverse_slice_index_bits(&mut list);

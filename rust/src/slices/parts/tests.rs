@@ -321,13 +321,13 @@ fn shares_of_transposes() {
 /// A list of rows is one part if it is not cut, as up to a given number of items.
 #[test]
 fn lists_up_to_one_part() {
-    let count = |len, row_width, is_cut| {
-        let mut list = std::vec![0u8; len];
-        cut(&mut list, row_width, 5, is_cut).len()
-    };
-    assert_eq!([count(0, 1, true), count(0, 1, false), count(0, 0, true)], [0, 0, 0]);
-    assert_eq!([count(1 << 12, 1, true), count(1 << 12, 1, false)], [10, 1]);
-    assert_eq!([count(3 << 9, 3, true), count(3 << 9, 3, false)], [20, 1]);
+    let count = |len, row_width, ranges| cut(&mut std::vec![0u8; len], row_width, ranges).len();
+    assert_eq!(
+        [count(0, 1, Some(5)), count(0, 1, None), count(0, 0, Some(5))],
+        [0, 0, 0]
+    );
+    assert_eq!([count(1 << 12, 1, Some(5)), count(1 << 12, 1, None)], [10, 1]);
+    assert_eq!([count(3 << 9, 3, Some(5)), count(3 << 9, 3, None)], [20, 1]);
     let are_cut = [1 << 16, 1 << 17].map(|len| row_reversal(&mut std::vec![0u8; len], 4, 5).len() > 1);
     assert_eq!(are_cut, [false, cfg!(not(feature = "checked"))]);
 }

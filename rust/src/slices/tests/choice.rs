@@ -4,7 +4,7 @@ use core::ops::Range;
 use std::vec::Vec;
 
 use super::super::choice::{
-    Choice, HighStrips, IS_TEST, ShortChoice, choice_of, row_blocks_of, short_choice_of, side_of, strips_of,
+    Choice, LIMITS, OF_USERS, ShortChoice, SliceStrips, choice_of, row_blocks_of, short_choice_of, side_of, strips_of,
 };
 use super::super::holders::USES_REGISTERS;
 use super::{Noted, transposed};
@@ -16,19 +16,25 @@ const IS_AARCH64: bool = cfg!(target_arch = "aarch64");
 const HAS_LINES: bool = USES_REGISTERS && cfg!(target_arch = "x86_64");
 
 /// How some rows and columns of a matrix are put, as a part of a call that is cut.
-fn choice_of_part(is_test: bool, size: usize, sides: [usize; 2], [rows, cols]: [usize; 2], first: usize) -> Choice {
+fn choice_of_part(
+    limits: [usize; 5],
+    size: usize,
+    sides: [usize; 2],
+    [rows, cols]: [usize; 2],
+    first: usize,
+) -> Choice {
     let region = Region {
         row_start: 1,
         row_end: 1 + rows,
         col_start: 5,
         col_end: 5 + cols,
     };
-    choice_of(is_test, size, sides, Some(region), first)
+    choice_of(limits, size, sides, Some(region), first)
 }
 
 /// The same for all rows and columns, by the limits of these tests.
 fn choice_of_all(size: usize, width: usize, height: usize, first: usize) -> Choice {
-    choice_of_part(IS_TEST, size, [width, height], [height, width], first)
+    choice_of_part(LIMITS, size, [width, height], [height, width], first)
 }
 
 /// Each row of the first table, by the limits of these tests. With them a list of 1024 bytes is long, and so is every column.
@@ -59,7 +65,7 @@ fn choices() {
                 _ => None,
             };
             assert_eq!(short(width, height), wanted, "{size} {width} {height}");
-            assert_eq!(choice_of(IS_TEST, size, [width, height], None, 1), Choice::Strips);
+            assert_eq!(choice_of(LIMITS, size, [width, height], None, 1), Choice::Strips);
             assert_eq!(choice_of_all(size, width, height, 1), Choice::Leaves);
         }
     }
@@ -69,7 +75,7 @@ fn choices() {
         assert_eq!(choice_of_all(size, 64, 64, 0), Choice::Leaves);
     }
     for size in [1, 3, 12, 1023, 1024] {
-        let whole = |width, height| choice_of(IS_TEST, size, [width, height], None, 1);
+        let whole = |width, height| choice_of(LIMITS, size, [width, height], None, 1);
         assert_eq!([whole(2, 2), whole(1024, 1024)], [Choice::Strips; 2]);
         assert_eq!([whole(1025, 1024), whole(2, 524_289)], [Choice::Leaves; 2]);
     }
@@ -144,7 +150,7 @@ fn blocks_of_rows() {
     }
 }
 
-fn name<const SIDE: usize>(strips: HighStrips<SIDE>) -> &'static str {
+fn name<const SIDE: usize>(strips: SliceStrips<SIDE>) -> &'static str {
     match strips {
         Strips::High => "high",
         Strips::Low => "low",
@@ -170,7 +176,7 @@ fn lines_of_long_lists() {
                     "{size} {width} by {height} at {first}"
                 );
                 if width * height > 1 << 20 {
-                    assert_eq!(choice_of(IS_TEST, size, [width, height], None, first), wanted);
+                    assert_eq!(choice_of(LIMITS, size, [width, height], None, first), wanted);
                 }
             }
         }
@@ -219,11 +225,11 @@ fn lines_of_users() {
         .into_iter()
         .chain(not_by_lines.map(|case| (case, Choice::Leaves)));
     for ((size, sides, part), wanted) in wanted {
-        let of_part = |first| choice_of_part(false, size, sides, part, first);
+        let of_part = |first| choice_of_part(OF_USERS, size, sides, part, first);
         assert_eq!([0, size, 4096].map(of_part), [wanted; 3], "{size} {sides:?} {part:?}");
         assert_eq!([1, size / 2, size + 1].map(of_part), [Choice::Leaves; 3]);
     }
-    let of_call = |size, sides| choice_of(false, size, sides, None, 0);
+    let of_call = |size, sides| choice_of(OF_USERS, size, sides, None, 0);
     assert_eq!(
         [of_call(16, [1024, 1024]), of_call(16, [1024, 1025])],
         [Choice::Strips, lines]
@@ -287,8 +293,8 @@ fn strips_of_blocks_in_order() {
         (7, 263),
     ] {
         let order = |side| by_strips_of_blocks(width, height, side);
-        check_order(HighStrips::<4>::Squares, (width, height), order(4));
-        check_order(HighStrips::<8>::Squares, (width, height), order(8));
+        check_order(SliceStrips::<4>::Squares, (width, height), order(4));
+        check_order(SliceStrips::<8>::Squares, (width, height), order(8));
     }
 }
 
@@ -370,8 +376,8 @@ fn put_by_blocks(width: usize, height: usize, side: usize, changed: bool) -> ByB
     };
     let matrix = Matrix::new(SliceSource::new(&input), width, height);
     match side {
-        4 => transpose_matrix(blank, matrix, HighStrips::<4>::Squares),
-        _ => transpose_matrix(blank, matrix, HighStrips::<8>::Squares),
+        4 => transpose_matrix(blank, matrix, SliceStrips::<4>::Squares),
+        _ => transpose_matrix(blank, matrix, SliceStrips::<8>::Squares),
     }
 }
 

@@ -63,7 +63,7 @@ fn transposes<T: Number>(width: usize, height: usize, parts: usize, threads: usi
 /// Reverses 2^`digits` rows of numbers, in parts. The sides of the squares are cut into at most `parts` pieces.
 fn reverses<T: Number>(digits: usize, row_width: usize, parts: usize, threads: usize) {
     let mut list: Vec<T> = (0..row_width << digits).map(T::of).collect();
-    let parts = cut(&mut list, row_width, parts, true);
+    let parts = cut(&mut list, row_width, Some(parts));
     run_on(threads, parts, ReversalPart::run);
     let item = |place| T::of(reversed(digits, place / row_width) * row_width + place % row_width);
     assert!(list.into_iter().eq((0..row_width << digits).map(item)));
@@ -95,8 +95,8 @@ fn of_both<'a, T, P: Copy>(mut parts: PartsToRun<'a, T, P>, plans: [(P, usize); 
 /// and the whole square.
 fn exchanges_both(len: usize, row_width: usize) {
     let mut list: Vec<usize> = (0..len).collect();
-    let ReversalParts(parts) = cut(&mut list, row_width, 1, true);
-    let plans = [1, 2].map(|ranges| RowPlan::new(len, size_of::<usize>(), row_width, ranges, true));
+    let ReversalParts(parts) = cut(&mut list, row_width, Some(1));
+    let plans = [1, 2].map(|ranges| RowPlan::new(len, size_of::<usize>(), row_width, Some(ranges)));
     assert_eq!(plans.map(|(_, count)| count), [1, 3]);
     let both = of_both(parts, plans.map(|(plan, _)| (plan, 0)));
     run_all(both.map(|part| std::vec![ReversalPart(part)]), ReversalPart::run);
